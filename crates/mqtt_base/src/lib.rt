@@ -1,0 +1,14 @@
+//! The values that packets are made of.
+#![tactic(auto)]
+
+mod fault;
+mod owned;
+mod read;
+mod reason;
+mod write;
+
+pub use fault::ReadFault;
+pub use owned::Text;
+pub use read::{blob_read, u8_read, u32_read, text_read, u16_read, varint_read};
+pub use reason::{CodeSet, Reason};
+pub use write::{blob_push, u16_push, varint_len, varint_push, varint_write};
