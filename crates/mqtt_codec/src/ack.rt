@@ -1,0 +1,107 @@
+//! PUBACK, PUBREC, PUBREL and PUBCOMP: the packets of the handshakes (3.4 to 3.7).
+
+ghost use Rattle.std.specs.Prelude.{◌≡◌, ◌<◌, ◌^◌, ◌++◌, IfOk, OnOk, IsTrue, ◌↔◌, length};
+ghost use Rattle.mqtt_props.specs.Props.{AreProps};
+ghost use Rattle.mqtt_codec.specs.Reading.{Gives};
+ghost use Rattle.mqtt_codec.specs.Ack.{ack_at, ack_of, ack_body, FitsAck, lawful_ack};
+
+use crate::fault::Fault;
+use crate::tail::{tail_len, tail_push, tail_read};
+use mqtt_base::{CodeSet, Reason, u16_push, u16_read};
+use mqtt_props::{Place, PropList, PropsRef};
+use std::alloc::{AllocError, Global};
+
+/// A packet of a handshake (3.4 to 3.7).
+#[derive(Drop)]
+pub struct Ack {
+    pub identifier: u16,
+    pub reason: Reason,
+    pub properties: PropList,
+}
+
+/// A packet of a handshake that stands in a frame.
+#[derive(Drop)]
+pub struct AckRef<'a> {
+    pub identifier: u16,
+    pub reason: Reason,
+    pub properties: PropsRef<'a>,
+}
+
+#[tactic(auto, unfolding(crate::specs::Ack::ack_at))]
+pub(crate) fn ack_read(kind: CodeSet, place: Place, body: &[u8]) -> Result<AckRef<'_>, Fault>
+    ensures { Gives ack_of result (ack_at kind place body.now) }
+{
+    let (identifier, taken) = u16_read(body)?;
+    let (_, rest) = body.split_at(taken);
+    let (code, properties) = tail_read(place, rest)?;
+    let reason = Reason(code);
+    if !reason.allowed(kind) {
+        return Err(Fault::Malformed);
+    }
+    Ok(AckRef {
+        identifier,
+        reason,
+        properties,
+    })
+}
+
+impl AckRef<'_> {
+    /// Whether the laws hold.
+    pub(crate) fn is_lawful(&self, place: Place) -> bool
+        ensures { result ≡ lawful_ack place (ack_of self.now) }
+    {
+        self.properties.once(place) && self.properties.good() && self.identifier > 0
+    }
+
+    /// Writes the shortest body at the end.
+    #[tactic(auto, using(std::proofs::lemmas::List::append_assoc))]
+    pub(crate) fn push(&self, out: &mut Vec<u8>) -> Result<(), AllocError>
+        requires { AreProps self.now.properties }
+        ensures { OnOk result (out.new.items ≡ out.old.items ++ ack_body (ack_of self.now)) }
+    {
+        u16_push(out, self.identifier)?;
+        tail_push(out, self.reason.0, &self.properties)
+    }
+
+    /// How many bytes the shortest body takes.
+    pub(crate) fn len(&self) -> usize
+        requires { AreProps self.now.properties }
+        ensures value { result ≡ length (ack_body (ack_of self.now)) }
+        ensures bound { result < 2 ^ 31 }
+    {
+        2 + tail_len(self.reason.0, &self.properties)
+    }
+
+    /// An owned copy.
+    pub(crate) fn to_ack(&self, alloc: Global) -> Result<Ack, AllocError>
+        ensures { IfOk result (λ a. a ≡ ack_of self.now) }
+    {
+        Ok(Ack {
+            identifier: self.identifier,
+            reason: self.reason,
+            properties: self.properties.to_list(alloc)?,
+        })
+    }
+}
+
+impl Ack {
+    /// The same, lent.
+    pub(crate) fn lend(&self) -> AckRef<'_>
+        ensures { ack_of result ≡ self.now }
+    {
+        AckRef {
+            identifier: self.identifier,
+            reason: self.reason,
+            properties: self.properties.lend(),
+        }
+    }
+
+    /// Whether its parts have a spelling.
+    pub(crate) fn fits(&self, kind: CodeSet, place: Place) -> bool
+        ensures { IsTrue result ↔ FitsAck kind place self.now }
+    {
+        let _identifier = self.identifier;
+        let lent = self.properties.lend();
+        self.reason.allowed(kind) && lent.stands(place)
+    }
+}

@@ -1,0 +1,127 @@
+//! CONNACK: the answer to CONNECT (3.2).
+
+ghost use Rattle.std.specs.Prelude.{◌≡◌, ◌<◌, ◌^◌, ◌++◌, IfOk, OnOk, IsTrue, ◌↔◌, length};
+ghost use Rattle.mqtt_props.specs.Props.{AreProps};
+ghost use Rattle.mqtt_codec.specs.Reading.{Gives};
+ghost use Rattle.mqtt_codec.specs.Connack.{connack_at, connack_of, connack_body, session_present_of, FitsConnack, lawful_connack};
+
+use crate::fault::Fault;
+use mqtt_base::{CodeSet, Reason, u8_read};
+use mqtt_props::{Place, PropList, PropsRef, layout_read};
+use std::alloc::{AllocError, Global};
+
+/// The answer to a CONNECT (3.2).
+#[derive(Drop)]
+pub struct Connack {
+    /// Whether the session was resumed (3.2.2.1.1).
+    pub session_present: bool,
+    pub reason: Reason,
+    pub properties: PropList,
+}
+
+/// A CONNACK that stands in a frame.
+#[derive(Drop)]
+pub struct ConnackRef<'a> {
+    /// Whether the session was resumed (3.2.2.1.1).
+    pub session_present: bool,
+    pub reason: Reason,
+    pub properties: PropsRef<'a>,
+}
+
+fn session_present_read(flags: u8) -> Option<bool>
+    ensures { result ≡ session_present_of flags }
+{
+    match flags {
+        0 => Some(false),
+        1 => Some(true),
+        _ => None,
+    }
+}
+
+#[tactic(auto, unfolding(crate::specs::Connack::connack_at))]
+pub(crate) fn connack_read(body: &[u8]) -> Result<ConnackRef<'_>, Fault>
+    ensures { Gives connack_of result (connack_at body.now) }
+{
+    let (flags, taken) = u8_read(body)?;
+    let (_, rest) = body.split_at(taken);
+    let Some(session_present) = session_present_read(flags) else {
+        return Err(Fault::Malformed);
+    };
+    let (code, taken) = u8_read(rest)?;
+    let (_, rest) = rest.split_at(taken);
+    let Ok((properties, taken)) = layout_read(rest, Place::Connack) else {
+        return Err(Fault::Malformed);
+    };
+    let reason = Reason(code);
+    if taken != rest.len() || !reason.allowed(CodeSet::Connack) {
+        return Err(Fault::Malformed);
+    }
+    Ok(ConnackRef {
+        session_present,
+        reason,
+        properties,
+    })
+}
+
+impl ConnackRef<'_> {
+    /// Whether the laws hold.
+    pub(crate) fn is_lawful(&self) -> bool
+        ensures { result ≡ lawful_connack (connack_of self.now) }
+    {
+        self.properties.once(Place::Connack)
+            && self.properties.good()
+            && (self.reason.0 == 0 || !self.session_present)
+    }
+
+    /// Writes the body at the end.
+    #[tactic(auto, using(std::proofs::lemmas::List::append_assoc))]
+    pub(crate) fn push(&self, out: &mut Vec<u8>) -> Result<(), AllocError>
+        requires { AreProps self.now.properties }
+        ensures { OnOk result (out.new.items ≡ out.old.items ++ connack_body (connack_of self.now)) }
+    {
+        out.push(u8::from(self.session_present))?;
+        out.push(self.reason.0)?;
+        self.properties.push(out)
+    }
+
+    /// How many bytes the body takes.
+    pub(crate) fn len(&self) -> usize
+        requires { AreProps self.now.properties }
+        ensures value { result ≡ length (connack_body (connack_of self.now)) }
+        ensures bound { result < 2 ^ 31 }
+    {
+        2 + self.properties.block_len()
+    }
+
+    /// An owned copy.
+    pub(crate) fn to_connack(&self, alloc: Global) -> Result<Connack, AllocError>
+        ensures { IfOk result (λ c. c ≡ connack_of self.now) }
+    {
+        Ok(Connack {
+            session_present: self.session_present,
+            reason: self.reason,
+            properties: self.properties.to_list(alloc)?,
+        })
+    }
+}
+
+impl Connack {
+    /// The same, lent.
+    pub(crate) fn lend(&self) -> ConnackRef<'_>
+        ensures { connack_of result ≡ self.now }
+    {
+        ConnackRef {
+            session_present: self.session_present,
+            reason: self.reason,
+            properties: self.properties.lend(),
+        }
+    }
+
+    /// Whether its parts have a spelling.
+    pub(crate) fn fits(&self) -> bool
+        ensures { IsTrue result ↔ FitsConnack self.now }
+    {
+        let lent = self.properties.lend();
+        self.reason.allowed(CodeSet::Connack) && lent.stands(Place::Connack)
+    }
+}

@@ -1,0 +1,17 @@
+//! The fifteen control packets: what they are, their spellings and their laws (2, 3.1 to 3.15).
+#![tactic(auto)]
+
+mod ack;
+mod connack;
+mod fault;
+mod head;
+mod notice;
+mod publish;
+mod tail;
+
+pub use ack::{Ack, AckRef};
+pub use connack::{Connack, ConnackRef};
+pub use fault::Fault;
+pub use head::Head;
+pub use notice::{Notice, NoticeRef};
+pub use publish::{Delivery, Publish, PublishRef};

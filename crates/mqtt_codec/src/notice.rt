@@ -1,0 +1,153 @@
+//! DISCONNECT and AUTH: a reason code and properties (3.14, 3.15).
+
+ghost use Rattle.std.specs.Prelude.{◌≡◌, ◌<◌, ◌^◌, ◌++◌, IfOk, OnOk, IsTrue, ◌↔◌, length};
+ghost use Rattle.mqtt_props.specs.Props.{AreProps};
+ghost use Rattle.mqtt_codec.specs.Blocks.{keeps_laws};
+ghost use Rattle.mqtt_codec.specs.Reading.{Gives};
+ghost use Rattle.mqtt_codec.specs.Notice.{disconnect_at, disconnect_body, auth_at, auth_body, notice_of, FitsNotice, lawful_auth};
+
+use crate::fault::Fault;
+use crate::tail::{tail_len, tail_push, tail_read};
+use mqtt_base::{CodeSet, Reason};
+use mqtt_props::{Place, PropList, PropName, PropsRef, layout_read};
+use std::alloc::{AllocError, Global};
+
+/// A DISCONNECT or an AUTH (3.14, 3.15).
+#[derive(Drop)]
+pub struct Notice {
+    pub reason: Reason,
+    pub properties: PropList,
+}
+
+/// A DISCONNECT or an AUTH that stands in a frame.
+#[derive(Drop)]
+pub struct NoticeRef<'a> {
+    pub reason: Reason,
+    pub properties: PropsRef<'a>,
+}
+
+#[tactic(auto, unfolding(crate::specs::Notice::disconnect_at))]
+pub(crate) fn disconnect_read(body: &[u8]) -> Result<NoticeRef<'_>, Fault>
+    ensures { Gives notice_of result (disconnect_at body.now) }
+{
+    let (code, properties) = tail_read(Place::Disconnect, body)?;
+    let reason = Reason(code);
+    if !reason.allowed(CodeSet::Disconnect) {
+        return Err(Fault::Malformed);
+    }
+    Ok(NoticeRef { reason, properties })
+}
+
+#[tactic(auto, unfolding(crate::specs::Notice::auth_at))]
+pub(crate) fn auth_read(body: &[u8]) -> Result<NoticeRef<'_>, Fault>
+    ensures { Gives notice_of result (auth_at body.now) }
+{
+    match body {
+        [] => Ok(NoticeRef {
+            reason: Reason(0),
+            properties: PropsRef::none(),
+        }),
+        [code, rest @ ..] => {
+            let Ok((properties, taken)) = layout_read(rest, Place::Auth) else {
+                return Err(Fault::Malformed);
+            };
+            let reason = Reason(*code);
+            if taken != rest.len() || !reason.allowed(CodeSet::Auth) {
+                return Err(Fault::Malformed);
+            }
+            Ok(NoticeRef { reason, properties })
+        }
+    }
+}
+
+impl NoticeRef<'_> {
+    /// Whether the laws of DISCONNECT hold: those of its block.
+    pub(crate) fn is_lawful_disconnect(&self) -> bool
+        ensures { result ≡ keeps_laws Place.Disconnect self.now.properties }
+    {
+        self.properties.once(Place::Disconnect) && self.properties.good()
+    }
+
+    /// Whether the laws of AUTH hold.
+    pub(crate) fn is_lawful_auth(&self) -> bool
+        ensures { result ≡ lawful_auth (notice_of self.now) }
+    {
+        self.properties.once(Place::Auth)
+            && self.properties.good()
+            && (self.reason.0 == 0 && self.properties.is_empty()
+                || self.properties.has(PropName::AuthMethod))
+    }
+
+    /// Writes the shortest body of DISCONNECT at the end.
+    pub(crate) fn push_disconnect(&self, out: &mut Vec<u8>) -> Result<(), AllocError>
+        requires { AreProps self.now.properties }
+        ensures { OnOk result (out.new.items ≡ out.old.items ++ disconnect_body (notice_of self.now)) }
+    {
+        tail_push(out, self.reason.0, &self.properties)
+    }
+
+    /// Writes the shortest body of AUTH at the end.
+    #[tactic(auto, using(std::proofs::lemmas::List::append_assoc))]
+    pub(crate) fn push_auth(&self, out: &mut Vec<u8>) -> Result<(), AllocError>
+        requires { AreProps self.now.properties }
+        ensures { OnOk result (out.new.items ≡ out.old.items ++ auth_body (notice_of self.now)) }
+    {
+        if self.reason.0 == 0 && self.properties.is_empty() {
+            return Ok(());
+        }
+        out.push(self.reason.0)?;
+        self.properties.push(out)
+    }
+
+    /// How many bytes the shortest body of DISCONNECT takes.
+    pub(crate) fn disconnect_len(&self) -> usize
+        requires { AreProps self.now.properties }
+        ensures value { result ≡ length (disconnect_body (notice_of self.now)) }
+        ensures bound { result < 2 ^ 31 }
+    {
+        tail_len(self.reason.0, &self.properties)
+    }
+
+    /// How many bytes the shortest body of AUTH takes.
+    pub(crate) fn auth_len(&self) -> usize
+        requires { AreProps self.now.properties }
+        ensures value { result ≡ length (auth_body (notice_of self.now)) }
+        ensures bound { result < 2 ^ 31 }
+    {
+        if self.reason.0 == 0 && self.properties.is_empty() {
+            0
+        } else {
+            1 + self.properties.block_len()
+        }
+    }
+
+    /// An owned copy.
+    pub(crate) fn to_notice(&self, alloc: Global) -> Result<Notice, AllocError>
+        ensures { IfOk result (λ n. n ≡ notice_of self.now) }
+    {
+        Ok(Notice {
+            reason: self.reason,
+            properties: self.properties.to_list(alloc)?,
+        })
+    }
+}
+
+impl Notice {
+    /// The same, lent.
+    pub(crate) fn lend(&self) -> NoticeRef<'_>
+        ensures { notice_of result ≡ self.now }
+    {
+        NoticeRef {
+            reason: self.reason,
+            properties: self.properties.lend(),
+        }
+    }
+
+    /// Whether its parts have a spelling.
+    pub(crate) fn fits(&self, kind: CodeSet, place: Place) -> bool
+        ensures { IsTrue result ↔ FitsNotice kind place self.now }
+    {
+        let lent = self.properties.lend();
+        self.reason.allowed(kind) && lent.stands(place)
+    }
+}

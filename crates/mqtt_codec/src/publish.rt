@@ -1,0 +1,175 @@
+//! PUBLISH: a message of a client, or a copy of one for a client (3.3).
+
+ghost use Rattle.std.specs.Prelude.{◌≡◌, ◌<◌, ◌++◌, IfOk, OnOk, IsTrue, ◌↔◌, length};
+ghost use Rattle.mqtt_base.specs.Reading.{Reads};
+ghost use Rattle.mqtt_codec.specs.Reading.{Gives};
+ghost use Rattle.mqtt_codec.specs.Publish.{delivery_at, publish_at, publish_of, publish_body, identifier_field, FitsPublish, FitsDelivery, lawful_identifier, lawful_publish};
+
+use crate::fault::Fault;
+use bytes::Bytes;
+use mqtt_base::{Qos, ReadFault, Text, blob_push, text_read, u16_push, u16_read};
+use mqtt_props::{Place, PropList, PropName, PropsRef, layout_read};
+use std::alloc::{AllocError, Global};
+
+/// The QoS of a PUBLISH, with its packet identifier where it has one (3.3.1.2, 3.3.2.2).
+#[derive(Clone, Copy, Debug, PartialEq, Eq)]
+pub enum Delivery {
+    /// QoS 0: no handshake, no DUP.
+    AtMostOnce,
+    /// QoS 1: answered by PUBACK.
+    AtLeastOnce { dup: bool, identifier: u16 },
+    /// QoS 2: answered by PUBREC.
+    ExactlyOnce { dup: bool, identifier: u16 },
+}
+
+/// A PUBLISH (3.3).
+#[derive(Drop)]
+pub struct Publish {
+    pub delivery: Delivery,
+    pub retain: bool,
+    /// Empty where a Topic Alias stands for it.
+    pub topic: Text,
+    pub properties: PropList,
+    pub payload: Bytes,
+}
+
+/// A PUBLISH that stands in a frame.
+#[derive(Drop)]
+pub struct PublishRef<'a> {
+    pub delivery: Delivery,
+    pub retain: bool,
+    /// Empty where a Topic Alias stands for it.
+    pub topic: &'a str,
+    pub properties: PropsRef<'a>,
+    pub payload: &'a [u8],
+}
+
+#[tactic(auto, unfolding(crate::specs::Publish::delivery_at))]
+fn delivery_read(dup: bool, qos: Qos, bytes: &[u8]) -> Result<(Delivery, usize), ReadFault>
+    ensures { Reads (λ d. d) result bytes.now (delivery_at dup qos bytes.now) }
+{
+    match qos {
+        Qos::AtMostOnce => Ok((Delivery::AtMostOnce, 0)),
+        Qos::AtLeastOnce => {
+            let (identifier, taken) = u16_read(bytes)?;
+            Ok((Delivery::AtLeastOnce { dup, identifier }, taken))
+        }
+        Qos::ExactlyOnce => {
+            let (identifier, taken) = u16_read(bytes)?;
+            Ok((Delivery::ExactlyOnce { dup, identifier }, taken))
+        }
+    }
+}
+
+#[tactic(auto, unfolding(crate::specs::Publish::publish_at))]
+pub(crate) fn publish_read(
+    dup: bool,
+    qos: Qos,
+    retain: bool,
+    body: &[u8],
+) -> Result<PublishRef<'_>, Fault>
+    ensures { Gives publish_of result (publish_at dup qos retain body.now) }
+{
+    let (topic, taken) = text_read(body)?;
+    let (_, rest) = body.split_at(taken);
+    let (delivery, taken) = delivery_read(dup, qos, rest)?;
+    let (_, rest) = rest.split_at(taken);
+    let Ok((properties, taken)) = layout_read(rest, Place::Publish) else {
+        return Err(Fault::Malformed);
+    };
+    let (_, payload) = rest.split_at(taken);
+    Ok(PublishRef {
+        delivery,
+        retain,
+        topic,
+        properties,
+        payload,
+    })
+}
+
+impl Delivery {
+    fn has_lawful_identifier(self) -> bool
+        ensures { result ≡ lawful_identifier self }
+    {
+        match self {
+            Delivery::AtMostOnce => true,
+            Delivery::AtLeastOnce { identifier, .. } | Delivery::ExactlyOnce { identifier, .. } =>
+                identifier > 0,
+        }
+    }
+
+    fn push(self, out: &mut Vec<u8>) -> Result<(), AllocError>
+        ensures { OnOk result (out.new.items ≡ out.old.items ++ identifier_field self) }
+    {
+        match self {
+            Delivery::AtMostOnce => Ok(()),
+            Delivery::AtLeastOnce { identifier, .. } | Delivery::ExactlyOnce { identifier, .. } =>
+                u16_push(out, identifier),
+        }
+    }
+}
+
+impl PublishRef<'_> {
+    /// Whether the laws of PUBLISH hold.
+    pub(crate) fn is_lawful(&self) -> bool
+        ensures { result ≡ lawful_publish (publish_of self.now) }
+    {
+        self.properties.once(Place::Publish)
+            && self.properties.good()
+            && self.delivery.has_lawful_identifier()
+            && (!self.topic.is_empty() || self.properties.has(PropName::TopicAlias))
+    }
+
+    /// Writes the body at the end.
+    #[tactic(auto, using(std::proofs::lemmas::List::append_assoc))]
+    pub(crate) fn push(&self, out: &mut Vec<u8>) -> Result<(), AllocError>
+        requires { FitsPublish (publish_of self.now) }
+        ensures { OnOk result (out.new.items ≡ out.old.items ++ publish_body (publish_of self.now)) }
+    {
+        blob_push(out, self.topic.as_bytes())?;
+        self.delivery.push(out)?;
+        self.properties.push(out)?;
+        out.extend_from_slice(self.payload)
+    }
+
+    /// How many bytes the body takes.
+    pub(crate) fn len(&self) -> usize
+        requires { FitsPublish (publish_of self.now) }
+        ensures { result ≡ length (publish_body (publish_of self.now)) }
+    {
+        let identifier = match self.delivery {
+            Delivery::AtMostOnce => 0,
+            _ => 2,
+        };
+        2 + self.topic.len() + (identifier + (self.properties.block_len() + self.payload.len()))
+    }
+
+    /// An owned copy.
+    pub(crate) fn to_publish(&self, alloc: Global) -> Result<Publish, AllocError>
+        requires { FitsPublish (publish_of self.now) }
+        ensures { IfOk result (λ p. p ≡ publish_of self.now) }
+    {
+        Ok(Publish {
+            delivery: self.delivery,
+            retain: self.retain,
+            topic: Text::new(alloc, self.topic)?,
+            properties: self.properties.to_list(alloc)?,
+            payload: Bytes::copy_from_slice(alloc, self.payload)?,
+        })
+    }
+}
+
+impl Publish {
+    /// The same, lent.
+    pub(crate) fn lend(&self) -> PublishRef<'_>
+        ensures { publish_of result ≡ self.now }
+    {
+        PublishRef {
+            delivery: self.delivery,
+            retain: self.retain,
+            topic: self.topic.as_str(),
+            properties: self.properties.lend(),
+            payload: self.payload.as_slice(),
+        }
+    }
+}

@@ -1,0 +1,66 @@
+//! A reason code and properties at the end of a packet, of which the last parts may be left out
+//! (3.4.2, 3.14.2, 3.15.2).
+
+ghost use Rattle.std.specs.Prelude.{◌≡◌, ◌∷◌, ◌<◌, ◌^◌, ◌++◌, OnOk, length};
+ghost use Rattle.mqtt_codec.specs.Reading.{Gives};
+ghost use Rattle.mqtt_codec.specs.Tails.{tail_at, tail};
+ghost use Rattle.mqtt_props.specs.Props.{AreProps};
+
+use crate::fault::Fault;
+use mqtt_props::{Place, PropsRef, layout_read};
+use std::alloc::AllocError;
+
+#[tactic(auto, unfolding(crate::specs::Tails::tail_at))]
+pub(crate) fn tail_read(place: Place, bytes: &[u8]) -> Result<(u8, PropsRef<'_>), Fault>
+    ensures { Gives (λ x. x) result (tail_at place bytes.now) }
+{
+    match bytes {
+        [] => Ok((0, PropsRef::none())),
+        [code] => Ok((*code, PropsRef::none())),
+        [code, rest @ ..] => {
+            let Ok((properties, taken)) = layout_read(rest, place) else {
+                return Err(Fault::Malformed);
+            };
+            if taken != rest.len() {
+                return Err(Fault::Malformed);
+            }
+            Ok((*code, properties))
+        }
+    }
+}
+
+/// Writes the shortest tail at the end.
+#[tactic(auto, using(std::proofs::lemmas::List::append_assoc))]
+pub(crate) fn tail_push(
+    out: &mut Vec<u8>,
+    code: u8,
+    properties: &PropsRef<'_>,
+) -> Result<(), AllocError>
+    requires { AreProps properties.now }
+    ensures { OnOk result (out.new.items ≡ out.old.items ++ tail code properties.now) }
+{
+    if !properties.is_empty() {
+        out.push(code)?;
+        properties.push(out)
+    } else if code != 0 {
+        out.push(code)?;
+        Ok(())
+    } else {
+        Ok(())
+    }
+}
+
+/// How many bytes the shortest tail takes.
+pub(crate) fn tail_len(code: u8, properties: &PropsRef<'_>) -> usize
+    requires { AreProps properties.now }
+    ensures value { result ≡ length (tail code properties.now) }
+    ensures bound { result < 2 ^ 30 }
+{
+    if !properties.is_empty() {
+        1 + properties.block_len()
+    } else if code != 0 {
+        1
+    } else {
+        0
+    }
+}
