@@ -6,3 +6,7 @@ pub mod Publish
 pub mod Ack
 pub mod Connack
 pub mod Notice
+pub mod Subscriptions
+pub mod SubscriptionViews
+pub mod Subscribe
+pub mod Suback

@@ -7,6 +7,9 @@ mod fault;
 mod head;
 mod notice;
 mod publish;
+mod suback;
+mod subscribe;
+mod subscriptions;
 mod tail;
 
 pub use ack::{Ack, AckRef};
@@ -15,3 +18,6 @@ pub use fault::Fault;
 pub use head::Head;
 pub use notice::{Notice, NoticeRef};
 pub use publish::{Delivery, Publish, PublishRef};
+pub use suback::{Suback, SubackRef};
+pub use subscribe::{Subscribe, SubscribeRef};
+pub use subscriptions::{SubscriptionRef, Subscriptions, SubscriptionsRef};

@@ -1,0 +1,120 @@
+//! SUBACK and UNSUBACK: a code for each filter (3.9, 3.11).
+
+ghost use Rattle.std.specs.Prelude.{◌≡◌, ◌<◌, ◌^◌, ◌++◌, IfOk, OnOk, IsTrue, ◌↔◌, length};
+ghost use Rattle.mqtt_props.specs.Props.{AreProps};
+ghost use Rattle.mqtt_codec.specs.Reading.{Gives};
+ghost use Rattle.mqtt_codec.specs.Suback.{are_codes, suback_at, suback_of, suback_body, FitsSuback, lawful_suback};
+
+use crate::fault::Fault;
+use bytes::Bytes;
+use mqtt_base::{CodeSet, Reason, u16_push, u16_read};
+use mqtt_props::{Place, PropList, PropsRef, layout_read};
+use std::alloc::{AllocError, Global};
+
+/// A SUBACK or an UNSUBACK (3.9, 3.11).
+#[derive(Drop)]
+pub struct Suback {
+    pub identifier: u16,
+    pub properties: PropList,
+    /// A reason code for each filter, in their order.
+    pub codes: Bytes,
+}
+
+/// A SUBACK or an UNSUBACK that stands in a frame.
+#[derive(Drop)]
+pub struct SubackRef<'a> {
+    pub identifier: u16,
+    pub properties: PropsRef<'a>,
+    /// A reason code for each filter, in their order.
+    pub codes: &'a [u8],
+}
+
+fn are_codes(kind: CodeSet, codes: &[u8]) -> bool
+    ensures { result ≡ are_codes kind codes.now }
+{
+    codes.iter().all(|code| Reason(*code).allowed(kind))
+}
+
+#[tactic(auto, unfolding(crate::specs::Suback::suback_at))]
+pub(crate) fn suback_read(kind: CodeSet, place: Place, body: &[u8]) -> Result<SubackRef<'_>, Fault>
+    ensures { Gives suback_of result (suback_at kind place body.now) }
+{
+    let (identifier, taken) = u16_read(body)?;
+    let (_, rest) = body.split_at(taken);
+    let Ok((properties, taken)) = layout_read(rest, place) else {
+        return Err(Fault::Malformed);
+    };
+    let (_, codes) = rest.split_at(taken);
+    if !are_codes(kind, codes) {
+        return Err(Fault::Malformed);
+    }
+    Ok(SubackRef {
+        identifier,
+        properties,
+        codes,
+    })
+}
+
+impl SubackRef<'_> {
+    /// Whether the laws hold.
+    pub(crate) fn is_lawful(&self, place: Place) -> bool
+        ensures { result ≡ lawful_suback place (suback_of self.now) }
+    {
+        self.properties.once(place)
+            && self.properties.good()
+            && self.identifier > 0
+            && !self.codes.is_empty()
+    }
+
+    /// Writes the body at the end.
+    #[tactic(auto, using(std::proofs::lemmas::List::append_assoc))]
+    pub(crate) fn push(&self, out: &mut Vec<u8>) -> Result<(), AllocError>
+        requires { AreProps self.now.properties }
+        ensures { OnOk result (out.new.items ≡ out.old.items ++ suback_body (suback_of self.now)) }
+    {
+        u16_push(out, self.identifier)?;
+        self.properties.push(out)?;
+        out.extend_from_slice(self.codes)
+    }
+
+    /// How many bytes the body takes.
+    pub(crate) fn len(&self) -> usize
+        requires { AreProps self.now.properties }
+        ensures { result ≡ length (suback_body (suback_of self.now)) }
+    {
+        2 + (self.properties.block_len() + self.codes.len())
+    }
+
+    /// An owned copy.
+    pub(crate) fn to_suback(&self, alloc: Global) -> Result<Suback, AllocError>
+        ensures { IfOk result (λ s. s ≡ suback_of self.now) }
+    {
+        Ok(Suback {
+            identifier: self.identifier,
+            properties: self.properties.to_list(alloc)?,
+            codes: Bytes::copy_from_slice(alloc, self.codes)?,
+        })
+    }
+}
+
+impl Suback {
+    /// The same, lent.
+    pub(crate) fn lend(&self) -> SubackRef<'_>
+        ensures { suback_of result ≡ self.now }
+    {
+        SubackRef {
+            identifier: self.identifier,
+            properties: self.properties.lend(),
+            codes: self.codes.as_slice(),
+        }
+    }
+
+    /// Whether its parts have a spelling.
+    pub(crate) fn fits(&self, kind: CodeSet, place: Place) -> bool
+        ensures { IsTrue result ↔ FitsSuback kind place self.now }
+    {
+        let _identifier = self.identifier;
+        let lent = self.properties.lend();
+        lent.stands(place) && are_codes(kind, self.codes.as_slice())
+    }
+}

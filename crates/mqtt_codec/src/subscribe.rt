@@ -1,0 +1,113 @@
+//! SUBSCRIBE (3.8).
+
+ghost use Rattle.std.specs.Prelude.{◌≡◌, ◌<◌, ◌^◌, ◌++◌, IfOk, OnOk, IsTrue, ◌↔◌, length};
+ghost use Rattle.mqtt_props.specs.Props.{AreProps};
+ghost use Rattle.mqtt_codec.specs.Reading.{Gives};
+ghost use Rattle.mqtt_codec.specs.Subscribe.{subscribe_at, subscribe_of, subscribe_body, FitsSubscribe, lawful_subscribe};
+
+use crate::fault::Fault;
+use crate::subscriptions::{Subscriptions, SubscriptionsRef, subscriptions_read};
+use mqtt_base::{u16_push, u16_read};
+use mqtt_props::{Place, PropList, PropsRef, layout_read};
+use std::alloc::{AllocError, Global};
+
+/// A SUBSCRIBE (3.8).
+#[derive(Drop)]
+pub struct Subscribe {
+    pub identifier: u16,
+    pub properties: PropList,
+    pub subscriptions: Subscriptions,
+}
+
+/// A SUBSCRIBE that stands in a frame.
+#[derive(Drop)]
+pub struct SubscribeRef<'a> {
+    pub identifier: u16,
+    pub properties: PropsRef<'a>,
+    pub subscriptions: SubscriptionsRef<'a>,
+}
+
+#[tactic(auto, unfolding(crate::specs::Subscribe::subscribe_at))]
+pub(crate) fn subscribe_read(body: &[u8]) -> Result<SubscribeRef<'_>, Fault>
+    ensures { Gives subscribe_of result (subscribe_at body.now) }
+{
+    let (identifier, taken) = u16_read(body)?;
+    let (_, rest) = body.split_at(taken);
+    let Ok((properties, taken)) = layout_read(rest, Place::Subscribe) else {
+        return Err(Fault::Malformed);
+    };
+    let (_, rest) = rest.split_at(taken);
+    let subscriptions = subscriptions_read(rest)?;
+    Ok(SubscribeRef {
+        identifier,
+        properties,
+        subscriptions,
+    })
+}
+
+impl SubscribeRef<'_> {
+    /// Whether the laws hold.
+    pub(crate) fn is_lawful(&self) -> bool
+        ensures { result ≡ lawful_subscribe (subscribe_of self.now) }
+    {
+        self.properties.once(Place::Subscribe)
+            && self.properties.good()
+            && self.identifier > 0
+            && !self.subscriptions.is_empty()
+            && self.subscriptions.all_lawful()
+    }
+
+    /// Writes the body at the end.
+    #[tactic(auto, using(std::proofs::lemmas::List::append_assoc))]
+    pub(crate) fn push(&self, out: &mut Vec<u8>) -> Result<(), AllocError>
+        requires { AreProps self.now.properties }
+        ensures { OnOk result (out.new.items ≡ out.old.items ++ subscribe_body (subscribe_of self.now)) }
+    {
+        u16_push(out, self.identifier)?;
+        self.properties.push(out)?;
+        self.subscriptions.push(out)
+    }
+
+    /// How many bytes the body takes.
+    pub(crate) fn len(&self) -> usize
+        requires { AreProps self.now.properties }
+        ensures { result ≡ length (subscribe_body (subscribe_of self.now)) }
+    {
+        2 + (self.properties.block_len() + self.subscriptions.len())
+    }
+
+    /// An owned copy.
+    pub(crate) fn to_subscribe(&self, alloc: Global) -> Result<Subscribe, AllocError>
+        ensures { IfOk result (λ s. s ≡ subscribe_of self.now) }
+    {
+        Ok(Subscribe {
+            identifier: self.identifier,
+            properties: self.properties.to_list(alloc)?,
+            subscriptions: self.subscriptions.to_list(alloc)?,
+        })
+    }
+}
+
+impl Subscribe {
+    /// The same, lent.
+    pub(crate) fn lend(&self) -> SubscribeRef<'_>
+        ensures { subscribe_of result ≡ self.now }
+    {
+        SubscribeRef {
+            identifier: self.identifier,
+            properties: self.properties.lend(),
+            subscriptions: self.subscriptions.lend(),
+        }
+    }
+
+    /// Whether its parts have a spelling.
+    pub(crate) fn fits(&self) -> bool
+        ensures { IsTrue result ↔ FitsSubscribe self.now }
+    {
+        let _identifier = self.identifier;
+        let subscriptions = self.subscriptions.lend();
+        let _len = subscriptions.len();
+        let lent = self.properties.lend();
+        lent.stands(Place::Subscribe)
+    }
+}
