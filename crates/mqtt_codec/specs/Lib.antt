@@ -10,3 +10,5 @@ pub mod Subscriptions
 pub mod SubscriptionViews
 pub mod Subscribe
 pub mod Suback
+pub mod Filters
+pub mod Unsubscribe

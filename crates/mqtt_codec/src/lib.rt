@@ -4,6 +4,7 @@
 mod ack;
 mod connack;
 mod fault;
+mod filters;
 mod head;
 mod notice;
 mod publish;
@@ -11,13 +12,16 @@ mod suback;
 mod subscribe;
 mod subscriptions;
 mod tail;
+mod unsubscribe;
 
 pub use ack::{Ack, AckRef};
 pub use connack::{Connack, ConnackRef};
 pub use fault::Fault;
+pub use filters::{Filters, FiltersRef};
 pub use head::Head;
 pub use notice::{Notice, NoticeRef};
 pub use publish::{Delivery, Publish, PublishRef};
 pub use suback::{Suback, SubackRef};
 pub use subscribe::{Subscribe, SubscribeRef};
 pub use subscriptions::{SubscriptionRef, Subscriptions, SubscriptionsRef};
+pub use unsubscribe::{Unsubscribe, UnsubscribeRef};

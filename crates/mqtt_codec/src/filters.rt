@@ -1,0 +1,151 @@
+//! Filters one after the other, as an UNSUBSCRIBE has them (3.10.3).
+
+ghost use Rattle.std.specs.Prelude.{◌≡◌, ◌==◌, ◌<◌, ◌^◌, ◌∷◌, ◌++◌, [], length, MatchOption, IfOk, OnOk};
+ghost use Rattle.std.specs.List.{flat_map, AllByRecursion};
+ghost use Rattle.mqtt_base.specs.Values.{blob, FitsText};
+ghost use Rattle.mqtt_base.specs.Reading.{Reads};
+ghost use Rattle.mqtt_base.specs.Items.{items_at, Answers};
+ghost use Rattle.mqtt_codec.specs.declared.fault.Fault.TheVariants.{Malformed};
+ghost use Rattle.mqtt_codec.specs.Reading.{Gives};
+ghost use Rattle.mqtt_codec.specs.Filters.{filter_at};
+
+use crate::fault::Fault;
+use mqtt_base::text_read;
+use std::alloc::{AllocError, Global};
+use std::marker::Model;
+
+/// Filters that stand in a frame, one after the other.
+#[derive(Drop)]
+pub struct FiltersRef<'a> {
+    bytes: &'a [u8],
+}
+
+impl<'a> Model for FiltersRef<'a> {
+    ghost use Rattle.std.specs.Prelude.{List, ℕ};
+    ghost use Rattle.mqtt_base.specs.Items.{items_of, AreItems};
+    ghost use Rattle.mqtt_codec.specs.declared.fault.Fault.TheVariants.{Malformed};
+    ghost use Rattle.mqtt_codec.specs.Filters.{filter_at};
+
+    ghost Value = { List (List ℕ) };
+
+    ghost view = { λ a. items_of Malformed filter_at a.bytes.now };
+
+    ghost invariant = { λ a. AreItems Malformed filter_at a.bytes.now };
+}
+
+/// The filter at the front, and how many bytes it takes.
+#[tactic(auto, unfolding(crate::specs::Filters::filter_at))]
+fn filter_read(bytes: &[u8]) -> Result<(&str, usize), Fault>
+    ensures exact { Reads (λ t. t.now) result bytes.now (filter_at bytes.now) }
+    ensures progress { IfOk result (λ x. 0 < x.1) }
+{
+    let (filter, taken) = text_read(bytes)?;
+    Ok((filter, taken))
+}
+
+/// Whether the bytes are filters.
+fn walk(bytes: &[u8]) -> Result<(), Fault>
+    ensures { Answers result (items_at Malformed filter_at bytes.now) }
+{
+    let mut rest = bytes;
+    while !rest.is_empty() {
+        let (_, taken) = filter_read(rest)?;
+        rest = &rest[taken..];
+    }
+    Ok(())
+}
+
+/// The filters that are the bytes.
+pub(crate) fn filters_read(bytes: &[u8]) -> Result<FiltersRef<'_>, Fault>
+    ensures { Gives (λ fs. fs) result (items_at Malformed filter_at bytes.now) }
+{
+    walk(bytes)?;
+    Ok(FiltersRef { bytes })
+}
+
+impl<'a> FiltersRef<'a> {
+    /// The same once more.
+    pub fn again(&self) -> FiltersRef<'a>
+        ensures { result ≡ self.now }
+    {
+        FiltersRef { bytes: self.bytes }
+    }
+
+    /// The first and those after it.
+    pub fn split_first(&self) -> Option<(&'a str, FiltersRef<'a>)>
+        ensures { MatchOption result (self.now ≡ []) (λ x. self.now ≡ x.0.now ∷ x.1) }
+    {
+        match filter_read(self.bytes) {
+            Ok((first, taken)) => Some((
+                first,
+                FiltersRef {
+                    bytes: &self.bytes[taken..],
+                },
+            )),
+            Err(_) => None,
+        }
+    }
+
+    /// Whether there is none.
+    pub fn is_empty(&self) -> bool
+        ensures { result ≡ (length self.now == 0) }
+    {
+        self.split_first().is_none()
+    }
+
+    /// How many bytes they take.
+    pub(crate) fn len(&self) -> usize
+        ensures value { result ≡ length (flat_map blob self.now) }
+        ensures bound { result < 2 ^ 63 }
+        // They have a spelling.
+        ensures each { AllByRecursion FitsText self.now }
+    {
+        self.bytes.len()
+    }
+
+    /// Writes them at the end.
+    pub(crate) fn push(&self, out: &mut Vec<u8>) -> Result<(), AllocError>
+        ensures { OnOk result (out.new.items ≡ out.old.items ++ flat_map blob self.now) }
+    {
+        out.extend_from_slice(self.bytes)
+    }
+
+    /// An owned copy.
+    pub(crate) fn to_list(&self, alloc: Global) -> Result<Filters, AllocError>
+        ensures { IfOk result (λ list. list ≡ self.now) }
+    {
+        Ok(Filters {
+            bytes: Vec::from_slice(alloc, self.bytes)?,
+        })
+    }
+}
+
+/// Filters, owned.
+#[derive(Drop)]
+pub struct Filters {
+    bytes: Vec<u8>,
+}
+
+impl Model for Filters {
+    ghost use Rattle.std.specs.Prelude.{List, ℕ};
+    ghost use Rattle.mqtt_base.specs.Items.{items_of, AreItems};
+    ghost use Rattle.mqtt_codec.specs.declared.fault.Fault.TheVariants.{Malformed};
+    ghost use Rattle.mqtt_codec.specs.Filters.{filter_at};
+
+    ghost Value = { List (List ℕ) };
+
+    ghost view = { λ a. items_of Malformed filter_at a.bytes.items };
+
+    ghost invariant = { λ a. AreItems Malformed filter_at a.bytes.items };
+}
+
+impl Filters {
+    /// The same, lent.
+    pub fn lend(&self) -> FiltersRef<'_>
+        ensures { result ≡ self.now }
+    {
+        FiltersRef {
+            bytes: self.bytes.as_slice(),
+        }
+    }
+}

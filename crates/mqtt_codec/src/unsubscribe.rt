@@ -1,0 +1,112 @@
+//! UNSUBSCRIBE (3.10).
+
+ghost use Rattle.std.specs.Prelude.{◌≡◌, ◌<◌, ◌^◌, ◌++◌, IfOk, OnOk, IsTrue, ◌↔◌, length};
+ghost use Rattle.mqtt_props.specs.Props.{AreProps};
+ghost use Rattle.mqtt_codec.specs.Reading.{Gives};
+ghost use Rattle.mqtt_codec.specs.Unsubscribe.{unsubscribe_at, unsubscribe_of, unsubscribe_body, FitsUnsubscribe, lawful_unsubscribe};
+
+use crate::fault::Fault;
+use crate::filters::{Filters, FiltersRef, filters_read};
+use mqtt_base::{u16_push, u16_read};
+use mqtt_props::{Place, PropList, PropsRef, layout_read};
+use std::alloc::{AllocError, Global};
+
+/// A UNSUBSCRIBE (3.10).
+#[derive(Drop)]
+pub struct Unsubscribe {
+    pub identifier: u16,
+    pub properties: PropList,
+    pub filters: Filters,
+}
+
+/// An UNSUBSCRIBE that stands in a frame.
+#[derive(Drop)]
+pub struct UnsubscribeRef<'a> {
+    pub identifier: u16,
+    pub properties: PropsRef<'a>,
+    pub filters: FiltersRef<'a>,
+}
+
+#[tactic(auto, unfolding(crate::specs::Unsubscribe::unsubscribe_at))]
+pub(crate) fn unsubscribe_read(body: &[u8]) -> Result<UnsubscribeRef<'_>, Fault>
+    ensures { Gives unsubscribe_of result (unsubscribe_at body.now) }
+{
+    let (identifier, taken) = u16_read(body)?;
+    let (_, rest) = body.split_at(taken);
+    let Ok((properties, taken)) = layout_read(rest, Place::Unsubscribe) else {
+        return Err(Fault::Malformed);
+    };
+    let (_, rest) = rest.split_at(taken);
+    let filters = filters_read(rest)?;
+    Ok(UnsubscribeRef {
+        identifier,
+        properties,
+        filters,
+    })
+}
+
+impl UnsubscribeRef<'_> {
+    /// Whether the laws hold.
+    pub(crate) fn is_lawful(&self) -> bool
+        ensures { result ≡ lawful_unsubscribe (unsubscribe_of self.now) }
+    {
+        self.properties.once(Place::Unsubscribe)
+            && self.properties.good()
+            && self.identifier > 0
+            && !self.filters.is_empty()
+    }
+
+    /// Writes the body at the end.
+    #[tactic(auto, using(std::proofs::lemmas::List::append_assoc))]
+    pub(crate) fn push(&self, out: &mut Vec<u8>) -> Result<(), AllocError>
+        requires { AreProps self.now.properties }
+        ensures { OnOk result (out.new.items ≡ out.old.items ++ unsubscribe_body (unsubscribe_of self.now)) }
+    {
+        u16_push(out, self.identifier)?;
+        self.properties.push(out)?;
+        self.filters.push(out)
+    }
+
+    /// How many bytes the body takes.
+    pub(crate) fn len(&self) -> usize
+        requires { AreProps self.now.properties }
+        ensures { result ≡ length (unsubscribe_body (unsubscribe_of self.now)) }
+    {
+        2 + (self.properties.block_len() + self.filters.len())
+    }
+
+    /// An owned copy.
+    pub(crate) fn to_unsubscribe(&self, alloc: Global) -> Result<Unsubscribe, AllocError>
+        ensures { IfOk result (λ s. s ≡ unsubscribe_of self.now) }
+    {
+        Ok(Unsubscribe {
+            identifier: self.identifier,
+            properties: self.properties.to_list(alloc)?,
+            filters: self.filters.to_list(alloc)?,
+        })
+    }
+}
+
+impl Unsubscribe {
+    /// The same, lent.
+    pub(crate) fn lend(&self) -> UnsubscribeRef<'_>
+        ensures { unsubscribe_of result ≡ self.now }
+    {
+        UnsubscribeRef {
+            identifier: self.identifier,
+            properties: self.properties.lend(),
+            filters: self.filters.lend(),
+        }
+    }
+
+    /// Whether its parts have a spelling.
+    pub(crate) fn fits(&self) -> bool
+        ensures { IsTrue result ↔ FitsUnsubscribe self.now }
+    {
+        let _identifier = self.identifier;
+        let filters = self.filters.lend();
+        let _len = filters.len();
+        let lent = self.properties.lend();
+        lent.stands(Place::Unsubscribe)
+    }
+}
