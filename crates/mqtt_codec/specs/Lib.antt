@@ -12,3 +12,6 @@ pub mod Subscribe
 pub mod Suback
 pub mod Filters
 pub mod Unsubscribe
+pub mod Fields
+pub mod ConnectFlags
+pub mod Connect

@@ -3,6 +3,8 @@
 
 mod ack;
 mod connack;
+mod connect;
+mod connect_flags;
 mod fault;
 mod filters;
 mod head;
@@ -16,6 +18,7 @@ mod unsubscribe;
 
 pub use ack::{Ack, AckRef};
 pub use connack::{Connack, ConnackRef};
+pub use connect::{Connect, ConnectRef, Will, WillRef};
 pub use fault::Fault;
 pub use filters::{Filters, FiltersRef};
 pub use head::Head;
