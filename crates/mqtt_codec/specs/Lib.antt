@@ -15,3 +15,5 @@ pub mod Unsubscribe
 pub mod Fields
 pub mod ConnectFlags
 pub mod Connect
+pub mod Packets
+pub mod Frames

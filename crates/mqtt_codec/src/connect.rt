@@ -142,7 +142,7 @@ fn fields_read(flags: Flags, bytes: &[u8]) -> Result<ConnectRef<'_>, Fault>
     })
 }
 
-fn is_version_5(protocol: &str, version: u8) -> bool
+pub(crate) fn is_version_5(protocol: &str, version: u8) -> bool
     ensures { result ≡ is_version_5 protocol.now version }
 {
     protocol == "MQTT" && version == 5

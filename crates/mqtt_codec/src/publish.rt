@@ -3,7 +3,8 @@
 ghost use Rattle.std.specs.Prelude.{◌≡◌, ◌<◌, ◌++◌, IfOk, OnOk, IsTrue, ◌↔◌, length};
 ghost use Rattle.mqtt_base.specs.Reading.{Reads};
 ghost use Rattle.mqtt_codec.specs.Reading.{Gives};
-ghost use Rattle.mqtt_codec.specs.Publish.{delivery_at, publish_at, publish_of, publish_body, identifier_field, FitsPublish, FitsDelivery, lawful_identifier, lawful_publish};
+ghost use Rattle.mqtt_codec.specs.Heads.{first};
+ghost use Rattle.mqtt_codec.specs.Publish.{delivery_head, delivery_at, publish_at, publish_of, publish_body, identifier_field, FitsPublish, FitsDelivery, lawful_identifier, lawful_publish};
 
 use crate::fault::Fault;
 use bytes::Bytes;
@@ -159,7 +160,46 @@ impl PublishRef<'_> {
     }
 }
 
+impl PublishRef<'_> {
+    /// The first byte.
+    pub(crate) fn first_byte(&self) -> u8
+        ensures { result ≡ first (delivery_head self.now.delivery self.now.retain) }
+    {
+        let retain = if self.retain { 1 } else { 0 };
+        match self.delivery {
+            Delivery::AtMostOnce => 0x30 + retain,
+            Delivery::AtLeastOnce { dup: false, .. } => 0x32 + retain,
+            Delivery::AtLeastOnce { dup: true, .. } => 0x3a + retain,
+            Delivery::ExactlyOnce { dup: false, .. } => 0x34 + retain,
+            Delivery::ExactlyOnce { dup: true, .. } => 0x3c + retain,
+        }
+    }
+}
+
+impl Delivery {
+    fn fits(self) -> bool
+        ensures { IsTrue result ↔ FitsDelivery self }
+    {
+        match self {
+            Delivery::AtMostOnce => true,
+            Delivery::AtLeastOnce { identifier, .. } | Delivery::ExactlyOnce { identifier, .. } => {
+                let _identifier = identifier;
+                true
+            }
+        }
+    }
+}
+
 impl Publish {
+    /// Whether its parts have a spelling.
+    pub(crate) fn fits(&self) -> bool
+        ensures { IsTrue result ↔ FitsPublish self.now }
+    {
+        let _ = self.topic.as_str();
+        let lent = self.properties.lend();
+        self.delivery.fits() && lent.stands(Place::Publish)
+    }
+
     /// The same, lent.
     pub(crate) fn lend(&self) -> PublishRef<'_>
         ensures { publish_of result ≡ self.now }
