@@ -1,6 +1,6 @@
 //! What session state speaks of: service, subscriptions, copies and their ends (3.8.3.1, 4.1, 4.3).
 
-use crate::owned::Text;
+use crate::text::Text;
 
 /// The quality of service of a message or a subscription (4.3).
 #[derive(Clone, Copy, Debug, PartialEq, Eq)]
