@@ -1,41 +1,42 @@
--- What stands at the front of the bytes and what follows it, or why no property or block does.
-use Rattle.std.specs.Prelude.{◌≡◌, ℕ, zero, suc, Bool, true, false, List, [], ◌∷◌, ◌++◌, length, take, drop, slice_index, ◌<◌, Option, Some, None, Result, Ok, Err, nat_lt, if◌then◌else◌}
+-- The reader of blocks: what stands at the front of the bytes and what follows it, or why nothing does (MQTT 5.0, 2.2.2).
+use Rattle.std.specs.Prelude.{◌≡◌, ℕ, ◌<◌, ◌^◌, Bool, true, false, List, [], ◌∷◌, length, take, drop, Option, Some, None, Result, Ok, Err, nat_lt, if◌then◌else◌}
 use Rattle.std.specs.Int.{w16, w32}
 use Rattle.mqtt_base.specs.declared.fault.ReadFault.{ReadFault}
 use Rattle.mqtt_base.specs.Reading.{◌>>=◌, u8_at, number_at, varint_at, blob_at, text_at}
+use Rattle.mqtt_base.specs.Items.{items_at, items_of, AreItems}
 use Rattle.mqtt_props.specs.declared.fault.PropFault.{PropFault}
 use Rattle.mqtt_props.specs.declared.fault.PropFault.TheVariants.{Malformed}
 use Rattle.mqtt_props.specs.declared.table.PropName.{PropName}
-use Rattle.mqtt_props.specs.declared.table.PropType.{PropType}
-use Rattle.mqtt_props.specs.declared.table.PropType.TheVariants as types
-use Rattle.mqtt_props.specs.Table.{row, name_of}
-use Rattle.mqtt_props.specs.Props.{Value, Byte, Two, Four, Varint, Text, Binary, Pair, Prop}
+use Rattle.mqtt_props.specs.declared.value.ValueKind.{ValueKind}
+use Rattle.mqtt_props.specs.declared.value.ValueKind.TheVariants as kinds
+use Rattle.mqtt_props.specs.Table.{property_row, name_of}
+use Rattle.mqtt_props.specs.Properties.{Value, Byte, U16, U32, VarInt, Text, Binary, Pair, Prop}
 
--- no value is read: the block is malformed
+-- no value is read: the block has no layout
 abbrev pub malformed : {A E : Type 0} → Result A E → Result A PropFault
 malformed (Ok x) = Ok x
 malformed (Err e) = Err Malformed
 
-unfoldable pub value_at : PropType → List ℕ → Result (Value × List ℕ) ReadFault
-value_at types.Byte bytes = do
+unfoldable pub value_at : ValueKind → List ℕ → Result (Value × List ℕ) ReadFault
+value_at kinds.Byte bytes = do
   n ← u8_at bytes
   Ok (Byte n.0, n.1)
-value_at types.Two bytes = do
+value_at kinds.U16 bytes = do
   n ← number_at w16 bytes
-  Ok (Two n.0, n.1)
-value_at types.Four bytes = do
+  Ok (U16 n.0, n.1)
+value_at kinds.U32 bytes = do
   n ← number_at w32 bytes
-  Ok (Four n.0, n.1)
-value_at types.Varint bytes = do
+  Ok (U32 n.0, n.1)
+value_at kinds.VarInt bytes = do
   n ← varint_at bytes
-  Ok (Varint n.0, n.1)
-value_at types.Text bytes = do
+  Ok (VarInt n.0, n.1)
+value_at kinds.Text bytes = do
   t ← text_at bytes
   Ok (Text t.0, t.1)
-value_at types.Binary bytes = do
+value_at kinds.Binary bytes = do
   b ← blob_at bytes
   Ok (Binary b.0, b.1)
-value_at types.Pair bytes = do
+value_at kinds.Pair bytes = do
   k ← text_at bytes
   t ← text_at k.1
   Ok (Pair k.0 t.0, t.1)
@@ -44,24 +45,17 @@ abbrev pub known : Option PropName → Result PropName PropFault
 known None = Err Malformed
 known (Some n) = Ok n
 
+-- a first byte of 128 or more begins no identifier of the table
 unfoldable pub prop_at : List ℕ → Result (Prop × List ℕ) PropFault
 prop_at [] = Err Malformed
 prop_at (id ∷ rest) = do
   name ← known (name_of id)
-  v ← malformed (value_at (row name).kind rest)
+  v ← malformed (value_at (property_row name).kind rest)
   Ok (record { name = name; value = v.0 }, v.1)
 
--- all of the bytes; k is at least their count
-unfoldable pub props_in : ℕ → List ℕ → Result (List Prop) PropFault
-props_in k [] = Ok []
-props_in zero (b ∷ bytes) = Err Malformed
-props_in (suc k) (b ∷ bytes) = do
-  p ← prop_at (b ∷ bytes)
-  ps ← props_in k p.1
-  Ok (p.0 ∷ ps)
-
-unfoldable pub props_at : List ℕ → Result (List Prop) PropFault
-props_at bytes = props_in (length bytes) bytes
+-- the properties that fill the bytes
+abbrev pub props_at : List ℕ → Result (List Prop) PropFault
+props_at bytes = items_at Malformed prop_at bytes
 
 unfoldable pub block_at : List ℕ → Result (List Prop × List ℕ) PropFault
 block_at bytes = do
@@ -70,24 +64,12 @@ block_at bytes = do
     ps ← props_at (take n.0 n.1)
     Ok (ps, drop n.0 n.1)
 
--- the properties, where they are read
-abbrev pub or_none : {X : Type 0} → Result (List X) PropFault → List X
-or_none (Ok xs) = xs
-or_none (Err e) = []
+-- ---- bytes that are the pairs of a block
 
-unfoldable pub props_of : List ℕ → List Prop
-props_of bytes = or_none (props_at bytes)
+-- the properties, where the bytes are such
+abbrev pub props_of : List ℕ → List Prop
+props_of bytes = items_of Malformed prop_at bytes
 
-abbrev pub IsOk : {X : Type 0} → Result X PropFault → Type 0
-IsOk (Ok x) = Unit {0}
-IsOk (Err e) = ⊥
-
--- What a test of the bytes answered is whether reading them gives a value, and else why not.
-abbrev pub Answers : {X : Type 0} → Result (Unit {0}) PropFault → Result X PropFault → Type 0
-Answers (Ok u) read = IsOk read
-Answers (Err e) read = read ≡ Err e
-
--- the bytes are pairs of identifiers and values
 pub record ArePairs (bytes : List ℕ) : Type 0 where
-  pub each : (i : ℕ) → slice_index bytes i < 256
-  pub read : IsOk (props_at bytes)
+  pub pairs : AreItems Malformed prop_at bytes
+  pub short : length bytes < 2 ^ 28
