@@ -1,11 +1,11 @@
 -- The layout of PUBACK, PUBREC, PUBREL and PUBCOMP (MQTT 5.0, 3.4 to 3.7).
 use Rattle.std.specs.Prelude.{◌≡◌, ℕ, ◌<◌, ◌^◌, Bool, true, ◌&&◌, nat_lt, List, ◌++◌, Result, Ok, Err, if◌then◌else◌}
 use Rattle.std.specs.Int.{w16}
-use Rattle.mqtt_base.specs.declared.reason.CodeSet.{CodeSet}
+use Rattle.mqtt_base.specs.declared.kind.Kind.{Kind}
 use Rattle.mqtt_base.specs.Values.{two_bytes}
 use Rattle.mqtt_base.specs.Reading.{◌>>=◌, number_at}
 use Rattle.mqtt_base.specs.Reasons.{is_code}
-use Rattle.mqtt_props.specs.declared.table.Place.{Place}
+use Rattle.mqtt_props.specs.declared.place.Place.{Place}
 use Rattle.mqtt_codec.specs.declared.ack.Ack.{Ack}
 use Rattle.mqtt_codec.specs.declared.ack.AckRef.{AckRef}
 use Rattle.mqtt_codec.specs.declared.fault.Fault.{Fault}
@@ -15,7 +15,7 @@ use Rattle.mqtt_codec.specs.Blocks.{Stands, keeps_laws}
 use Rattle.mqtt_codec.specs.Tails.{IsTail, tail, tail_at}
 
 -- its parts have a spelling, with the codes and the properties of its packet
-abbrev pub FitsAck : CodeSet → Place → Ack → Type 0
+abbrev pub FitsAck : Kind → Place → Ack → Type 0
 FitsAck kind place a = (a.identifier < 2 ^ 16) × (is_code kind a.reason.0 ≡ true) × Stands place a.properties
 
 -- the bytes are a body of it: the identifier and a tail
@@ -30,7 +30,7 @@ ack_body a = two_bytes a.identifier ++ tail a.reason.0 a.properties
 abbrev pub lawful_ack : Place → Ack → Bool
 lawful_ack place a = keeps_laws place a.properties && nat_lt 0 a.identifier
 
-unfoldable pub ack_at : CodeSet → Place → List ℕ → Result Ack Fault
+unfoldable pub ack_at : Kind → Place → List ℕ → Result Ack Fault
 ack_at kind place body = do
   id ← malformed (number_at w16 body)
   t ← tail_at place id.1

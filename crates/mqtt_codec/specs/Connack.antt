@@ -1,10 +1,10 @@
 -- The layout of CONNACK (MQTT 5.0, 3.2).
 use Rattle.std.specs.Prelude.{◌≡◌, ℕ, zero, suc, Bool, true, false, ◌&&◌, ◌||◌, not, List, ◌∷◌, length, Option, Some, None, Result, Ok, Err, ◌==◌, if◌then◌else◌}
-use Rattle.mqtt_base.specs.declared.reason.CodeSet.TheVariants as kinds
+use Rattle.mqtt_base.specs.declared.kind.Kind.TheVariants as kinds
 use Rattle.mqtt_base.specs.Reading.{◌>>=◌, u8_at}
 use Rattle.mqtt_base.specs.Reasons.{is_code}
-use Rattle.mqtt_props.specs.declared.table.Place.TheVariants as places
-use Rattle.mqtt_props.specs.Props.{block}
+use Rattle.mqtt_props.specs.declared.place.Place.TheVariants as places
+use Rattle.mqtt_props.specs.Properties.{block}
 use Rattle.mqtt_props.specs.Laws.{layout_at}
 use Rattle.mqtt_codec.specs.declared.connack.Connack.{Connack}
 use Rattle.mqtt_codec.specs.declared.connack.ConnackRef.{ConnackRef}

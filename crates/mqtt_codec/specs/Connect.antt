@@ -4,8 +4,8 @@ use Rattle.std.specs.Int.{w16}
 use Rattle.std.specs.Option.{option_map}
 use Rattle.mqtt_base.specs.Values.{two_bytes, blob, FitsText}
 use Rattle.mqtt_base.specs.Reading.{◌>>=◌, number_at, u8_at, text_at, blob_at}
-use Rattle.mqtt_props.specs.declared.table.Place.TheVariants as places
-use Rattle.mqtt_props.specs.Props.{Prop, block}
+use Rattle.mqtt_props.specs.declared.place.Place.TheVariants as places
+use Rattle.mqtt_props.specs.Properties.{Prop, block}
 use Rattle.mqtt_props.specs.Laws.{layout_at}
 use Rattle.mqtt_codec.specs.declared.connect.Connect.{Connect}
 use Rattle.mqtt_codec.specs.declared.connect.ConnectRef.{ConnectRef}

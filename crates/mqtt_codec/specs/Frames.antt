@@ -1,9 +1,9 @@
 -- The packet that a frame spells, or why it spells none (MQTT 5.0, 2.1, 4.13).
 use Rattle.std.specs.Prelude.{◌≡◌, ℕ, Bool, true, false, List, [], ◌∷◌, length, Result, Ok, Err, ◌==◌, if◌then◌else◌}
 use Rattle.mqtt_base.specs.declared.fault.ReadFault.{ReadFault}
-use Rattle.mqtt_base.specs.declared.reason.CodeSet.TheVariants as kinds
+use Rattle.mqtt_base.specs.declared.kind.Kind.TheVariants as kinds
 use Rattle.mqtt_base.specs.Reading.{◌>>=◌, varint_at, text_at, u8_at}
-use Rattle.mqtt_props.specs.declared.table.Place.TheVariants as places
+use Rattle.mqtt_props.specs.declared.place.Place.TheVariants as places
 use Rattle.mqtt_codec.specs.declared.fault.Fault.{Fault}
 use Rattle.mqtt_codec.specs.declared.fault.Fault.TheVariants.{Malformed, Protocol, Version}
 use Rattle.mqtt_codec.specs.declared.head.Head.{Head}
@@ -32,9 +32,9 @@ frame_at (b ∷ bytes) = do
   n ← malformed (varint_at bytes)
   if length n.1 == n.0 then Ok (h, n.1) else Err Malformed
 
-unfoldable pub empty_at : Packet → List ℕ → Result Packet Fault
-empty_at p [] = Ok p
-empty_at p (b ∷ bytes) = Err Malformed
+unfoldable pub empty_at : List ℕ → Result (Unit {0}) Fault
+empty_at [] = Ok tt
+empty_at (b ∷ bytes) = Err Malformed
 
 abbrev pub made_by : {A : Type 0} → (A → Packet) → Result A Fault → Result Packet Fault
 made_by make (Ok x) = Ok (make x)
@@ -45,15 +45,15 @@ body_at heads.Connect body = made_by Connect (connect_at body)
 body_at heads.Connack body = made_by Connack (connack_at body)
 body_at (heads.Publish dup q retain) body = made_by Publish (publish_at dup q retain body)
 body_at heads.Puback body = made_by Puback (ack_at kinds.Puback places.Puback body)
-body_at heads.Pubrec body = made_by Pubrec (ack_at kinds.Puback places.Pubrec body)
+body_at heads.Pubrec body = made_by Pubrec (ack_at kinds.Pubrec places.Pubrec body)
 body_at heads.Pubrel body = made_by Pubrel (ack_at kinds.Pubrel places.Pubrel body)
-body_at heads.Pubcomp body = made_by Pubcomp (ack_at kinds.Pubrel places.Pubcomp body)
+body_at heads.Pubcomp body = made_by Pubcomp (ack_at kinds.Pubcomp places.Pubcomp body)
 body_at heads.Subscribe body = made_by Subscribe (subscribe_at body)
 body_at heads.Suback body = made_by Suback (suback_at kinds.Suback places.Suback body)
 body_at heads.Unsubscribe body = made_by Unsubscribe (unsubscribe_at body)
 body_at heads.Unsuback body = made_by Unsuback (suback_at kinds.Unsuback places.Unsuback body)
-body_at heads.Pingreq body = empty_at Pingreq body
-body_at heads.Pingresp body = empty_at Pingresp body
+body_at heads.Pingreq body = made_by (λ u. Pingreq) (empty_at body)
+body_at heads.Pingresp body = made_by (λ u. Pingresp) (empty_at body)
 body_at heads.Disconnect body = made_by Disconnect (disconnect_at body)
 body_at heads.Auth body = made_by Auth (auth_at body)
 

@@ -1,13 +1,13 @@
 -- The layouts of DISCONNECT and AUTH (MQTT 5.0, 3.14, 3.15).
 use Rattle.std.specs.Prelude.{◌≡◌, ℕ, Bool, true, ◌&&◌, ◌||◌, not, List, [], ◌∷◌, length, Result, Ok, Err, ◌==◌, if◌then◌else◌, ◌⊎◌}
-use Rattle.mqtt_base.specs.declared.reason.CodeSet.{CodeSet}
-use Rattle.mqtt_base.specs.declared.reason.CodeSet.TheVariants as kinds
+use Rattle.mqtt_base.specs.declared.kind.Kind.{Kind}
+use Rattle.mqtt_base.specs.declared.kind.Kind.TheVariants as kinds
 use Rattle.mqtt_base.specs.Reading.{◌>>=◌}
 use Rattle.mqtt_base.specs.Reasons.{is_code}
-use Rattle.mqtt_props.specs.declared.table.Place.{Place}
-use Rattle.mqtt_props.specs.declared.table.Place.TheVariants as places
-use Rattle.mqtt_props.specs.declared.table.PropName.TheVariants.{AuthMethod}
-use Rattle.mqtt_props.specs.Props.{Prop, block}
+use Rattle.mqtt_props.specs.declared.place.Place.{Place}
+use Rattle.mqtt_props.specs.declared.place.Place.TheVariants as places
+use Rattle.mqtt_props.specs.declared.table.PropName.TheVariants.{AuthenticationMethod}
+use Rattle.mqtt_props.specs.Properties.{Prop, block}
 use Rattle.mqtt_props.specs.Laws.{layout_at, has}
 use Rattle.mqtt_codec.specs.declared.notice.Notice.{Notice}
 use Rattle.mqtt_codec.specs.declared.notice.NoticeRef.{NoticeRef}
@@ -18,7 +18,7 @@ use Rattle.mqtt_codec.specs.Blocks.{Stands, keeps_laws}
 use Rattle.mqtt_codec.specs.Tails.{IsTail, tail, tail_at}
 
 -- its parts have a spelling, with the codes and the properties of its packet
-abbrev pub FitsNotice : CodeSet → Place → Notice → Type 0
+abbrev pub FitsNotice : Kind → Place → Notice → Type 0
 FitsNotice kind place n = (is_code kind n.reason.0 ≡ true) × Stands place n.properties
 
 -- ---- DISCONNECT: a tail alone (3.14.2)
@@ -48,7 +48,7 @@ auth_body n = auth_body_of n.reason.0 n.properties
 abbrev pub lawful_auth : Notice → Bool
 lawful_auth n =
     keeps_laws places.Auth n.properties
-    && ((n.reason.0 == 0 && length n.properties == 0) || has AuthMethod n.properties)
+    && ((n.reason.0 == 0 && length n.properties == 0) || has AuthenticationMethod n.properties)
 
 unfoldable pub auth_at : List ℕ → Result Notice Fault
 auth_at [] = Ok (record { reason = record { 0 = 0 }; properties = [] })

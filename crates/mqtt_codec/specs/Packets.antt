@@ -1,8 +1,8 @@
 -- Packets and the bytes that spell them (MQTT 5.0, 2.1, 3.1 to 3.15).
 use Rattle.std.specs.Prelude.{◌≡◌, ℕ, ◌<◌, ◌≤◌, ◌^◌, Bool, true, false, List, [], ◌∷◌, ◌++◌, length}
-use Rattle.mqtt_base.specs.declared.reason.CodeSet.TheVariants as kinds
+use Rattle.mqtt_base.specs.declared.kind.Kind.TheVariants as kinds
 use Rattle.mqtt_base.specs.Values.{varint, blob, FitsText}
-use Rattle.mqtt_props.specs.declared.table.Place.TheVariants as places
+use Rattle.mqtt_props.specs.declared.place.Place.TheVariants as places
 use Rattle.mqtt_codec.specs.declared.fault.Fault.{Fault}
 use Rattle.mqtt_codec.specs.declared.fault.Fault.TheVariants as faults
 use Rattle.mqtt_codec.specs.declared.head.Head.{Head}
@@ -44,9 +44,9 @@ Fits (Connect c) = FitsConnect c
 Fits (Connack c) = FitsConnack c
 Fits (Publish p) = FitsPublish p
 Fits (Puback a) = FitsAck kinds.Puback places.Puback a
-Fits (Pubrec a) = FitsAck kinds.Puback places.Pubrec a
+Fits (Pubrec a) = FitsAck kinds.Pubrec places.Pubrec a
 Fits (Pubrel a) = FitsAck kinds.Pubrel places.Pubrel a
-Fits (Pubcomp a) = FitsAck kinds.Pubrel places.Pubcomp a
+Fits (Pubcomp a) = FitsAck kinds.Pubcomp places.Pubcomp a
 Fits (Subscribe s) = FitsSubscribe s
 Fits (Suback s) = FitsSuback kinds.Suback places.Suback s
 Fits (Unsubscribe u) = FitsUnsubscribe u

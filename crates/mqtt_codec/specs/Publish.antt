@@ -6,9 +6,9 @@ use Rattle.mqtt_base.specs.declared.session.Qos.{Qos}
 use Rattle.mqtt_base.specs.declared.session.Qos.TheVariants as qos
 use Rattle.mqtt_base.specs.Values.{blob, two_bytes, FitsText}
 use Rattle.mqtt_base.specs.Reading.{◌>>=◌, number_at, text_at}
-use Rattle.mqtt_props.specs.declared.table.Place.TheVariants as places
+use Rattle.mqtt_props.specs.declared.place.Place.TheVariants as places
 use Rattle.mqtt_props.specs.declared.table.PropName.TheVariants.{TopicAlias}
-use Rattle.mqtt_props.specs.Props.{block}
+use Rattle.mqtt_props.specs.Properties.{block}
 use Rattle.mqtt_props.specs.Laws.{layout_at, has}
 use Rattle.mqtt_codec.specs.declared.fault.Fault.{Fault}
 use Rattle.mqtt_codec.specs.declared.head.Head.{Head}

@@ -2,12 +2,12 @@
 use Rattle.std.specs.Prelude.{◌≡◌, ℕ, ◌<◌, ◌^◌, Bool, true, ◌&&◌, not, nat_lt, List, ◌++◌, length, Result, Ok, Err, ◌==◌, if◌then◌else◌}
 use Rattle.std.specs.Int.{w16}
 use Rattle.std.specs.List.{list_all}
-use Rattle.mqtt_base.specs.declared.reason.CodeSet.{CodeSet}
+use Rattle.mqtt_base.specs.declared.kind.Kind.{Kind}
 use Rattle.mqtt_base.specs.Values.{two_bytes}
 use Rattle.mqtt_base.specs.Reading.{◌>>=◌, number_at}
 use Rattle.mqtt_base.specs.Reasons.{is_code}
-use Rattle.mqtt_props.specs.declared.table.Place.{Place}
-use Rattle.mqtt_props.specs.Props.{block}
+use Rattle.mqtt_props.specs.declared.place.Place.{Place}
+use Rattle.mqtt_props.specs.Properties.{block}
 use Rattle.mqtt_props.specs.Laws.{layout_at}
 use Rattle.mqtt_codec.specs.declared.fault.Fault.{Fault}
 use Rattle.mqtt_codec.specs.declared.fault.Fault.TheVariants.{Malformed}
@@ -16,11 +16,11 @@ use Rattle.mqtt_codec.specs.declared.suback.SubackRef.{SubackRef}
 use Rattle.mqtt_codec.specs.Reading.{malformed}
 use Rattle.mqtt_codec.specs.Blocks.{Stands, keeps_laws}
 
-abbrev pub are_codes : CodeSet → List ℕ → Bool
+abbrev pub are_codes : Kind → List ℕ → Bool
 are_codes kind codes = list_all (is_code kind) codes
 
 -- its parts have a spelling, with the codes and the properties of its packet
-abbrev pub FitsSuback : CodeSet → Place → Suback → Type 0
+abbrev pub FitsSuback : Kind → Place → Suback → Type 0
 FitsSuback kind place s = (s.identifier < 2 ^ 16) × Stands place s.properties × (are_codes kind s.codes ≡ true)
 
 -- its body: identifier, properties, and a code for each filter to the end (3.9.2, 3.9.3)
@@ -31,7 +31,7 @@ suback_body s = two_bytes s.identifier ++ (block s.properties ++ s.codes)
 abbrev pub lawful_suback : Place → Suback → Bool
 lawful_suback place s = keeps_laws place s.properties && (nat_lt 0 s.identifier && not (length s.codes == 0))
 
-unfoldable pub suback_at : CodeSet → Place → List ℕ → Result Suback Fault
+unfoldable pub suback_at : Kind → Place → List ℕ → Result Suback Fault
 suback_at kind place body = do
   id ← malformed (number_at w16 body)
   ps ← malformed (layout_at place id.1)

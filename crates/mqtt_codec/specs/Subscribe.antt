@@ -5,8 +5,8 @@ use Rattle.std.specs.List.{list_all, flat_map, AllByRecursion}
 use Rattle.mqtt_base.specs.Values.{two_bytes, blob, FitsText}
 use Rattle.mqtt_base.specs.Reading.{◌>>=◌, number_at, text_at, u8_at}
 use Rattle.mqtt_base.specs.Items.{items_at}
-use Rattle.mqtt_props.specs.declared.table.Place.TheVariants as places
-use Rattle.mqtt_props.specs.Props.{block}
+use Rattle.mqtt_props.specs.declared.place.Place.TheVariants as places
+use Rattle.mqtt_props.specs.Properties.{block}
 use Rattle.mqtt_props.specs.Laws.{layout_at}
 use Rattle.mqtt_codec.specs.declared.fault.Fault.{Fault}
 use Rattle.mqtt_codec.specs.declared.fault.Fault.TheVariants.{Malformed}

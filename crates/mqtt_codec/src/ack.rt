@@ -1,13 +1,13 @@
 //! PUBACK, PUBREC, PUBREL and PUBCOMP: the packets of the handshakes (3.4 to 3.7).
 
 ghost use Rattle.std.specs.Prelude.{◌≡◌, ◌<◌, ◌^◌, ◌++◌, IfOk, OnOk, IsTrue, ◌↔◌, length};
-ghost use Rattle.mqtt_props.specs.Props.{AreProps};
 ghost use Rattle.mqtt_codec.specs.Reading.{Gives};
 ghost use Rattle.mqtt_codec.specs.Ack.{ack_at, ack_of, ack_body, FitsAck, lawful_ack};
 
+use crate::blocks::stands;
 use crate::fault::Fault;
 use crate::tail::{tail_len, tail_push, tail_read};
-use mqtt_base::{CodeSet, Reason, u16_push, u16_read};
+use mqtt_base::{Kind, Reason, u16_push, u16_read};
 use mqtt_props::{Place, PropList, PropsRef};
 use std::alloc::{AllocError, Global};
 
@@ -28,7 +28,7 @@ pub struct AckRef<'a> {
 }
 
 #[tactic(auto, unfolding(crate::specs::Ack::ack_at))]
-pub(crate) fn ack_read(kind: CodeSet, place: Place, body: &[u8]) -> Result<AckRef<'_>, Fault>
+pub(crate) fn ack_read(kind: Kind, place: Place, body: &[u8]) -> Result<AckRef<'_>, Fault>
     ensures { Gives ack_of result (ack_at kind place body.now) }
 {
     let (identifier, taken) = u16_read(body)?;
@@ -50,13 +50,12 @@ impl AckRef<'_> {
     pub(crate) fn is_lawful(&self, place: Place) -> bool
         ensures { result ≡ lawful_ack place (ack_of self.now) }
     {
-        self.properties.once(place) && self.properties.good() && self.identifier > 0
+        self.properties.is_lawful(place) && self.identifier > 0
     }
 
     /// Writes the shortest body at the end.
     #[tactic(auto, using(std::proofs::lemmas::List::append_assoc))]
     pub(crate) fn push(&self, out: &mut Vec<u8>) -> Result<(), AllocError>
-        requires { AreProps self.now.properties }
         ensures { OnOk result (out.new.items ≡ out.old.items ++ ack_body (ack_of self.now)) }
     {
         u16_push(out, self.identifier)?;
@@ -65,7 +64,6 @@ impl AckRef<'_> {
 
     /// How many bytes the shortest body takes.
     pub(crate) fn len(&self) -> usize
-        requires { AreProps self.now.properties }
         ensures value { result ≡ length (ack_body (ack_of self.now)) }
         ensures bound { result < 2 ^ 31 }
     {
@@ -97,11 +95,11 @@ impl Ack {
     }
 
     /// Whether its parts have a spelling.
-    pub(crate) fn fits(&self, kind: CodeSet, place: Place) -> bool
+    pub(crate) fn fits(&self, kind: Kind, place: Place) -> bool
         ensures { IsTrue result ↔ FitsAck kind place self.now }
     {
         let _identifier = self.identifier;
         let lent = self.properties.lend();
-        self.reason.allowed(kind) && lent.stands(place)
+        self.reason.allowed(kind) && stands(&lent, place)
     }
 }

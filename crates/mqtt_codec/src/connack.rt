@@ -1,12 +1,12 @@
 //! CONNACK: the answer to CONNECT (3.2).
 
 ghost use Rattle.std.specs.Prelude.{◌≡◌, ◌<◌, ◌^◌, ◌++◌, IfOk, OnOk, IsTrue, ◌↔◌, length};
-ghost use Rattle.mqtt_props.specs.Props.{AreProps};
 ghost use Rattle.mqtt_codec.specs.Reading.{Gives};
 ghost use Rattle.mqtt_codec.specs.Connack.{connack_at, connack_of, connack_body, session_present_of, FitsConnack, lawful_connack};
 
+use crate::blocks::stands;
 use crate::fault::Fault;
-use mqtt_base::{CodeSet, Reason, u8_read};
+use mqtt_base::{Kind, Reason, u8_read};
 use mqtt_props::{Place, PropList, PropsRef, layout_read};
 use std::alloc::{AllocError, Global};
 
@@ -53,7 +53,7 @@ pub(crate) fn connack_read(body: &[u8]) -> Result<ConnackRef<'_>, Fault>
         return Err(Fault::Malformed);
     };
     let reason = Reason(code);
-    if taken != rest.len() || !reason.allowed(CodeSet::Connack) {
+    if taken != rest.len() || !reason.allowed(Kind::Connack) {
         return Err(Fault::Malformed);
     }
     Ok(ConnackRef {
@@ -68,25 +68,21 @@ impl ConnackRef<'_> {
     pub(crate) fn is_lawful(&self) -> bool
         ensures { result ≡ lawful_connack (connack_of self.now) }
     {
-        self.properties.once(Place::Connack)
-            && self.properties.good()
-            && (self.reason.0 == 0 || !self.session_present)
+        self.properties.is_lawful(Place::Connack) && (self.reason.0 == 0 || !self.session_present)
     }
 
     /// Writes the body at the end.
     #[tactic(auto, using(std::proofs::lemmas::List::append_assoc))]
     pub(crate) fn push(&self, out: &mut Vec<u8>) -> Result<(), AllocError>
-        requires { AreProps self.now.properties }
         ensures { OnOk result (out.new.items ≡ out.old.items ++ connack_body (connack_of self.now)) }
     {
         out.push(u8::from(self.session_present))?;
         out.push(self.reason.0)?;
-        self.properties.push(out)
+        self.properties.push_block(out)
     }
 
     /// How many bytes the body takes.
     pub(crate) fn len(&self) -> usize
-        requires { AreProps self.now.properties }
         ensures value { result ≡ length (connack_body (connack_of self.now)) }
         ensures bound { result < 2 ^ 31 }
     {
@@ -122,6 +118,6 @@ impl Connack {
         ensures { IsTrue result ↔ FitsConnack self.now }
     {
         let lent = self.properties.lend();
-        self.reason.allowed(CodeSet::Connack) && lent.stands(Place::Connack)
+        self.reason.allowed(Kind::Connack) && stands(&lent, Place::Connack)
     }
 }

@@ -8,10 +8,10 @@ ghost use Rattle.mqtt_codec.specs.Fields.{optional, FitsOptional};
 ghost use Rattle.mqtt_codec.specs.Reading.{Gives};
 ghost use Rattle.mqtt_codec.specs.Connect.{will_at, will_of, will_field, user_name_at, password_at, fields_at, connect_at, connect_of, connect_body, connect_fields, FitsConnect, FitsWill, lawful_connect, lawful_will, flags_of_connect, will_flags_of, is_version_5, mqtt};
 
+use crate::blocks::stands;
 use crate::connect_flags::{Flags, WillFlags, flags_read};
 use crate::fault::Fault;
-use bytes::Bytes;
-use mqtt_base::{Qos, Text, blob_push, blob_read, text_read, u8_read, u16_push, u16_read};
+use mqtt_base::{Blob, Qos, Text, blob_push, blob_read, text_read, u8_read, u16_push, u16_read};
 use mqtt_props::{Place, PropList, PropsRef, layout_read};
 use std::alloc::{AllocError, Global};
 
@@ -23,7 +23,7 @@ pub struct Will {
     pub properties: PropList,
     pub topic: Text,
     /// At most 65,535 bytes.
-    pub payload: Bytes,
+    pub payload: Blob,
 }
 
 /// A Will that stands in a frame.
@@ -48,7 +48,7 @@ pub struct Connect {
     pub will: Option<Will>,
     pub user_name: Option<Text>,
     /// At most 65,535 bytes.
-    pub password: Option<Bytes>,
+    pub password: Option<Blob>,
 }
 
 /// A CONNECT that stands in a frame.
@@ -174,7 +174,7 @@ impl WillRef<'_> {
         requires { FitsWill (will_of self.now) }
         ensures { OnOk result (out.new.items ≡ out.old.items ++ will_field (will_of self.now)) }
     {
-        self.properties.push(out)?;
+        self.properties.push_block(out)?;
         blob_push(out, self.topic.as_bytes())?;
         blob_push(out, self.payload)
     }
@@ -198,7 +198,7 @@ impl WillRef<'_> {
             retain: self.retain,
             properties: self.properties.to_list(alloc)?,
             topic: Text::new(alloc, self.topic)?,
-            payload: Bytes::copy_from_slice(alloc, self.payload)?,
+            payload: Blob::new(alloc, self.payload)?,
         })
     }
 }
@@ -222,8 +222,8 @@ impl Will {
         ensures { IsTrue result ↔ FitsWill self.now }
     {
         let _ = self.topic.as_str();
-        let lent = self.properties.lend();
-        lent.stands(Place::Will) && self.payload.len() < 65_536
+        let _ = self.payload.as_slice();
+        stands(&self.properties.lend(), Place::Will)
     }
 }
 
@@ -277,10 +277,9 @@ impl ConnectRef<'_> {
     pub(crate) fn is_lawful(&self) -> bool
         ensures { result ≡ lawful_connect (connect_of self.now) }
     {
-        self.properties.once(Place::Connect)
-            && self.properties.good()
+        self.properties.is_lawful(Place::Connect)
             && match &self.will {
-                Some(will) => will.properties.once(Place::Will) && will.properties.good(),
+                Some(will) => will.properties.is_lawful(Place::Will),
                 None => true,
             }
     }
@@ -304,7 +303,7 @@ impl ConnectRef<'_> {
         ensures { OnOk result (out.new.items ≡ out.old.items ++ connect_fields (connect_of self.now)) }
     {
         u16_push(out, self.keep_alive)?;
-        self.properties.push(out)?;
+        self.properties.push_block(out)?;
         blob_push(out, self.client_identifier.as_bytes())?;
         will_push(out, &self.will)?;
         text_push_some(out, self.user_name)?;
@@ -352,7 +351,7 @@ impl ConnectRef<'_> {
                 None => None,
             },
             password: match self.password {
-                Some(password) => Some(Bytes::copy_from_slice(alloc, password)?),
+                Some(password) => Some(Blob::new(alloc, password)?),
                 None => None,
             },
         })
@@ -391,7 +390,7 @@ impl Connect {
         let _keep_alive = self.keep_alive;
         let _ = self.client_identifier.as_str();
         let lent = self.properties.lend();
-        lent.stands(Place::Connect)
+        stands(&lent, Place::Connect)
             && will_fits(&self.will)
             && user_name_fits(&self.user_name)
             && password_fits(&self.password)
@@ -419,11 +418,14 @@ fn user_name_fits(name: &Option<Text>) -> bool
     }
 }
 
-fn password_fits(password: &Option<Bytes>) -> bool
+fn password_fits(password: &Option<Blob>) -> bool
     ensures { IsTrue result ↔ FitsOptional (λ p. length p < 2 ^ 16) password.now }
 {
     match password {
-        Some(password) => password.len() < 65_536,
+        Some(password) => {
+            let _ = password.as_slice();
+            true
+        }
         None => true,
     }
 }

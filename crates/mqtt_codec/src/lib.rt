@@ -2,6 +2,7 @@
 #![tactic(auto)]
 
 mod ack;
+mod blocks;
 mod connack;
 mod connect;
 mod connect_flags;

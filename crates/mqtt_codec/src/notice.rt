@@ -1,14 +1,14 @@
 //! DISCONNECT and AUTH: a reason code and properties (3.14, 3.15).
 
 ghost use Rattle.std.specs.Prelude.{◌≡◌, ◌<◌, ◌^◌, ◌++◌, IfOk, OnOk, IsTrue, ◌↔◌, length};
-ghost use Rattle.mqtt_props.specs.Props.{AreProps};
 ghost use Rattle.mqtt_codec.specs.Blocks.{keeps_laws};
 ghost use Rattle.mqtt_codec.specs.Reading.{Gives};
 ghost use Rattle.mqtt_codec.specs.Notice.{disconnect_at, disconnect_body, auth_at, auth_body, notice_of, FitsNotice, lawful_auth};
 
+use crate::blocks::stands;
 use crate::fault::Fault;
 use crate::tail::{tail_len, tail_push, tail_read};
-use mqtt_base::{CodeSet, Reason};
+use mqtt_base::{Kind, Reason};
 use mqtt_props::{Place, PropList, PropName, PropsRef, layout_read};
 use std::alloc::{AllocError, Global};
 
@@ -32,7 +32,7 @@ pub(crate) fn disconnect_read(body: &[u8]) -> Result<NoticeRef<'_>, Fault>
 {
     let (code, properties) = tail_read(Place::Disconnect, body)?;
     let reason = Reason(code);
-    if !reason.allowed(CodeSet::Disconnect) {
+    if !reason.allowed(Kind::Disconnect) {
         return Err(Fault::Malformed);
     }
     Ok(NoticeRef { reason, properties })
@@ -45,14 +45,14 @@ pub(crate) fn auth_read(body: &[u8]) -> Result<NoticeRef<'_>, Fault>
     match body {
         [] => Ok(NoticeRef {
             reason: Reason(0),
-            properties: PropsRef::none(),
+            properties: PropsRef::empty(),
         }),
         [code, rest @ ..] => {
             let Ok((properties, taken)) = layout_read(rest, Place::Auth) else {
                 return Err(Fault::Malformed);
             };
             let reason = Reason(*code);
-            if taken != rest.len() || !reason.allowed(CodeSet::Auth) {
+            if taken != rest.len() || !reason.allowed(Kind::Auth) {
                 return Err(Fault::Malformed);
             }
             Ok(NoticeRef { reason, properties })
@@ -65,22 +65,20 @@ impl NoticeRef<'_> {
     pub(crate) fn is_lawful_disconnect(&self) -> bool
         ensures { result ≡ keeps_laws Place.Disconnect self.now.properties }
     {
-        self.properties.once(Place::Disconnect) && self.properties.good()
+        self.properties.is_lawful(Place::Disconnect)
     }
 
     /// Whether the laws of AUTH hold.
     pub(crate) fn is_lawful_auth(&self) -> bool
         ensures { result ≡ lawful_auth (notice_of self.now) }
     {
-        self.properties.once(Place::Auth)
-            && self.properties.good()
+        self.properties.is_lawful(Place::Auth)
             && (self.reason.0 == 0 && self.properties.is_empty()
-                || self.properties.has(PropName::AuthMethod))
+                || self.properties.has(PropName::AuthenticationMethod))
     }
 
     /// Writes the shortest body of DISCONNECT at the end.
     pub(crate) fn push_disconnect(&self, out: &mut Vec<u8>) -> Result<(), AllocError>
-        requires { AreProps self.now.properties }
         ensures { OnOk result (out.new.items ≡ out.old.items ++ disconnect_body (notice_of self.now)) }
     {
         tail_push(out, self.reason.0, &self.properties)
@@ -89,19 +87,17 @@ impl NoticeRef<'_> {
     /// Writes the shortest body of AUTH at the end.
     #[tactic(auto, using(std::proofs::lemmas::List::append_assoc))]
     pub(crate) fn push_auth(&self, out: &mut Vec<u8>) -> Result<(), AllocError>
-        requires { AreProps self.now.properties }
         ensures { OnOk result (out.new.items ≡ out.old.items ++ auth_body (notice_of self.now)) }
     {
         if self.reason.0 == 0 && self.properties.is_empty() {
             return Ok(());
         }
         out.push(self.reason.0)?;
-        self.properties.push(out)
+        self.properties.push_block(out)
     }
 
     /// How many bytes the shortest body of DISCONNECT takes.
     pub(crate) fn disconnect_len(&self) -> usize
-        requires { AreProps self.now.properties }
         ensures value { result ≡ length (disconnect_body (notice_of self.now)) }
         ensures bound { result < 2 ^ 31 }
     {
@@ -110,7 +106,6 @@ impl NoticeRef<'_> {
 
     /// How many bytes the shortest body of AUTH takes.
     pub(crate) fn auth_len(&self) -> usize
-        requires { AreProps self.now.properties }
         ensures value { result ≡ length (auth_body (notice_of self.now)) }
         ensures bound { result < 2 ^ 31 }
     {
@@ -144,10 +139,10 @@ impl Notice {
     }
 
     /// Whether its parts have a spelling.
-    pub(crate) fn fits(&self, kind: CodeSet, place: Place) -> bool
+    pub(crate) fn fits(&self, kind: Kind, place: Place) -> bool
         ensures { IsTrue result ↔ FitsNotice kind place self.now }
     {
         let lent = self.properties.lend();
-        self.reason.allowed(kind) && lent.stands(place)
+        self.reason.allowed(kind) && stands(&lent, place)
     }
 }

@@ -18,7 +18,7 @@ use crate::publish::{Delivery, Publish, PublishRef, publish_read};
 use crate::suback::{Suback, SubackRef, suback_read};
 use crate::subscribe::{Subscribe, SubscribeRef, subscribe_read};
 use crate::unsubscribe::{Unsubscribe, UnsubscribeRef, unsubscribe_read};
-use mqtt_base::{CodeSet, Qos, ReadFault, text_read, u8_read, varint_push, varint_read};
+use mqtt_base::{Kind, Qos, ReadFault, text_read, u8_read, varint_push, varint_read};
 use mqtt_props::Place;
 use std::alloc::{AllocError, Global};
 
@@ -111,13 +111,12 @@ fn frame_read(frame: &[u8]) -> Result<(Head, &[u8]), Fault>
 }
 
 #[tactic(auto, unfolding(crate::specs::Frames::empty_at))]
-fn empty_read<'a>(packet: PacketRef<'a>, body: &[u8]) -> Result<PacketRef<'a>, Fault>
-    ensures { Gives packet_of result (empty_at (packet_of packet) body.now) }
+fn empty_read(body: &[u8]) -> Result<(), Fault>
+    ensures { Gives (λ u. u) result (empty_at body.now) }
 {
-    if body.is_empty() {
-        Ok(packet)
-    } else {
-        Err(Fault::Malformed)
+    match body {
+        [] => Ok(()),
+        _ => Err(Fault::Malformed),
     }
 }
 
@@ -131,20 +130,22 @@ fn body_read(head: Head, body: &[u8]) -> Result<PacketRef<'_>, Fault>
         Head::Publish { dup, qos, retain } => PacketRef::Publish(publish_read(
             dup, qos, retain, body,
         )?),
-        Head::Puback => PacketRef::Puback(ack_read(CodeSet::Puback, Place::Puback, body)?),
-        Head::Pubrec => PacketRef::Pubrec(ack_read(CodeSet::Puback, Place::Pubrec, body)?),
-        Head::Pubrel => PacketRef::Pubrel(ack_read(CodeSet::Pubrel, Place::Pubrel, body)?),
-        Head::Pubcomp => PacketRef::Pubcomp(ack_read(CodeSet::Pubrel, Place::Pubcomp, body)?),
+        Head::Puback => PacketRef::Puback(ack_read(Kind::Puback, Place::Puback, body)?),
+        Head::Pubrec => PacketRef::Pubrec(ack_read(Kind::Pubrec, Place::Pubrec, body)?),
+        Head::Pubrel => PacketRef::Pubrel(ack_read(Kind::Pubrel, Place::Pubrel, body)?),
+        Head::Pubcomp => PacketRef::Pubcomp(ack_read(Kind::Pubcomp, Place::Pubcomp, body)?),
         Head::Subscribe => PacketRef::Subscribe(subscribe_read(body)?),
-        Head::Suback => PacketRef::Suback(suback_read(CodeSet::Suback, Place::Suback, body)?),
+        Head::Suback => PacketRef::Suback(suback_read(Kind::Suback, Place::Suback, body)?),
         Head::Unsubscribe => PacketRef::Unsubscribe(unsubscribe_read(body)?),
-        Head::Unsuback => PacketRef::Unsuback(suback_read(
-            CodeSet::Unsuback,
-            Place::Unsuback,
-            body,
-        )?),
-        Head::Pingreq => return empty_read(PacketRef::Pingreq, body),
-        Head::Pingresp => return empty_read(PacketRef::Pingresp, body),
+        Head::Unsuback => PacketRef::Unsuback(suback_read(Kind::Unsuback, Place::Unsuback, body)?),
+        Head::Pingreq => {
+            empty_read(body)?;
+            PacketRef::Pingreq
+        }
+        Head::Pingresp => {
+            empty_read(body)?;
+            PacketRef::Pingresp
+        }
         Head::Disconnect => PacketRef::Disconnect(disconnect_read(body)?),
         Head::Auth => PacketRef::Auth(auth_read(body)?),
     })
@@ -364,18 +365,18 @@ impl Packet {
             Packet::Connect(connect) => connect.fits(),
             Packet::Connack(connack) => connack.fits(),
             Packet::Publish(publish) => publish.fits(),
-            Packet::Puback(ack) => ack.fits(CodeSet::Puback, Place::Puback),
-            Packet::Pubrec(ack) => ack.fits(CodeSet::Puback, Place::Pubrec),
-            Packet::Pubrel(ack) => ack.fits(CodeSet::Pubrel, Place::Pubrel),
-            Packet::Pubcomp(ack) => ack.fits(CodeSet::Pubrel, Place::Pubcomp),
+            Packet::Puback(ack) => ack.fits(Kind::Puback, Place::Puback),
+            Packet::Pubrec(ack) => ack.fits(Kind::Pubrec, Place::Pubrec),
+            Packet::Pubrel(ack) => ack.fits(Kind::Pubrel, Place::Pubrel),
+            Packet::Pubcomp(ack) => ack.fits(Kind::Pubcomp, Place::Pubcomp),
             Packet::Subscribe(subscribe) => subscribe.fits(),
-            Packet::Suback(suback) => suback.fits(CodeSet::Suback, Place::Suback),
+            Packet::Suback(suback) => suback.fits(Kind::Suback, Place::Suback),
             Packet::Unsubscribe(unsubscribe) => unsubscribe.fits(),
-            Packet::Unsuback(suback) => suback.fits(CodeSet::Unsuback, Place::Unsuback),
+            Packet::Unsuback(suback) => suback.fits(Kind::Unsuback, Place::Unsuback),
             Packet::Pingreq => true,
             Packet::Pingresp => true,
-            Packet::Disconnect(notice) => notice.fits(CodeSet::Disconnect, Place::Disconnect),
-            Packet::Auth(notice) => notice.fits(CodeSet::Auth, Place::Auth),
+            Packet::Disconnect(notice) => notice.fits(Kind::Disconnect, Place::Disconnect),
+            Packet::Auth(notice) => notice.fits(Kind::Auth, Place::Auth),
         }
     }
 }

@@ -6,6 +6,7 @@ ghost use Rattle.mqtt_codec.specs.Reading.{Gives};
 ghost use Rattle.mqtt_codec.specs.Heads.{first};
 ghost use Rattle.mqtt_codec.specs.Publish.{delivery_head, delivery_at, publish_at, publish_of, publish_body, identifier_field, FitsPublish, FitsDelivery, lawful_identifier, lawful_publish};
 
+use crate::blocks::stands;
 use crate::fault::Fault;
 use bytes::Bytes;
 use mqtt_base::{Qos, ReadFault, Text, blob_push, text_read, u16_push, u16_read};
@@ -115,8 +116,7 @@ impl PublishRef<'_> {
     pub(crate) fn is_lawful(&self) -> bool
         ensures { result ≡ lawful_publish (publish_of self.now) }
     {
-        self.properties.once(Place::Publish)
-            && self.properties.good()
+        self.properties.is_lawful(Place::Publish)
             && self.delivery.has_lawful_identifier()
             && (!self.topic.is_empty() || self.properties.has(PropName::TopicAlias))
     }
@@ -129,7 +129,7 @@ impl PublishRef<'_> {
     {
         blob_push(out, self.topic.as_bytes())?;
         self.delivery.push(out)?;
-        self.properties.push(out)?;
+        self.properties.push_block(out)?;
         out.extend_from_slice(self.payload)
     }
 
@@ -197,7 +197,7 @@ impl Publish {
     {
         let _ = self.topic.as_str();
         let lent = self.properties.lend();
-        self.delivery.fits() && lent.stands(Place::Publish)
+        self.delivery.fits() && stands(&lent, Place::Publish)
     }
 
     /// The same, lent.

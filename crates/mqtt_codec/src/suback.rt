@@ -1,13 +1,13 @@
 //! SUBACK and UNSUBACK: a code for each filter (3.9, 3.11).
 
 ghost use Rattle.std.specs.Prelude.{◌≡◌, ◌<◌, ◌^◌, ◌++◌, IfOk, OnOk, IsTrue, ◌↔◌, length};
-ghost use Rattle.mqtt_props.specs.Props.{AreProps};
 ghost use Rattle.mqtt_codec.specs.Reading.{Gives};
 ghost use Rattle.mqtt_codec.specs.Suback.{are_codes, suback_at, suback_of, suback_body, FitsSuback, lawful_suback};
 
+use crate::blocks::stands;
 use crate::fault::Fault;
 use bytes::Bytes;
-use mqtt_base::{CodeSet, Reason, u16_push, u16_read};
+use mqtt_base::{Kind, Reason, u16_push, u16_read};
 use mqtt_props::{Place, PropList, PropsRef, layout_read};
 use std::alloc::{AllocError, Global};
 
@@ -29,14 +29,14 @@ pub struct SubackRef<'a> {
     pub codes: &'a [u8],
 }
 
-fn are_codes(kind: CodeSet, codes: &[u8]) -> bool
+fn are_codes(kind: Kind, codes: &[u8]) -> bool
     ensures { result ≡ are_codes kind codes.now }
 {
     codes.iter().all(|code| Reason(*code).allowed(kind))
 }
 
 #[tactic(auto, unfolding(crate::specs::Suback::suback_at))]
-pub(crate) fn suback_read(kind: CodeSet, place: Place, body: &[u8]) -> Result<SubackRef<'_>, Fault>
+pub(crate) fn suback_read(kind: Kind, place: Place, body: &[u8]) -> Result<SubackRef<'_>, Fault>
     ensures { Gives suback_of result (suback_at kind place body.now) }
 {
     let (identifier, taken) = u16_read(body)?;
@@ -60,26 +60,21 @@ impl SubackRef<'_> {
     pub(crate) fn is_lawful(&self, place: Place) -> bool
         ensures { result ≡ lawful_suback place (suback_of self.now) }
     {
-        self.properties.once(place)
-            && self.properties.good()
-            && self.identifier > 0
-            && !self.codes.is_empty()
+        self.properties.is_lawful(place) && self.identifier > 0 && !self.codes.is_empty()
     }
 
     /// Writes the body at the end.
     #[tactic(auto, using(std::proofs::lemmas::List::append_assoc))]
     pub(crate) fn push(&self, out: &mut Vec<u8>) -> Result<(), AllocError>
-        requires { AreProps self.now.properties }
         ensures { OnOk result (out.new.items ≡ out.old.items ++ suback_body (suback_of self.now)) }
     {
         u16_push(out, self.identifier)?;
-        self.properties.push(out)?;
+        self.properties.push_block(out)?;
         out.extend_from_slice(self.codes)
     }
 
     /// How many bytes the body takes.
     pub(crate) fn len(&self) -> usize
-        requires { AreProps self.now.properties }
         ensures { result ≡ length (suback_body (suback_of self.now)) }
     {
         2 + (self.properties.block_len() + self.codes.len())
@@ -110,11 +105,11 @@ impl Suback {
     }
 
     /// Whether its parts have a spelling.
-    pub(crate) fn fits(&self, kind: CodeSet, place: Place) -> bool
+    pub(crate) fn fits(&self, kind: Kind, place: Place) -> bool
         ensures { IsTrue result ↔ FitsSuback kind place self.now }
     {
         let _identifier = self.identifier;
         let lent = self.properties.lend();
-        lent.stands(place) && are_codes(kind, self.codes.as_slice())
+        stands(&lent, place) && are_codes(kind, self.codes.as_slice())
     }
 }

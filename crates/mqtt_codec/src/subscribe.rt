@@ -1,10 +1,10 @@
 //! SUBSCRIBE (3.8).
 
 ghost use Rattle.std.specs.Prelude.{◌≡◌, ◌<◌, ◌^◌, ◌++◌, IfOk, OnOk, IsTrue, ◌↔◌, length};
-ghost use Rattle.mqtt_props.specs.Props.{AreProps};
 ghost use Rattle.mqtt_codec.specs.Reading.{Gives};
 ghost use Rattle.mqtt_codec.specs.Subscribe.{subscribe_at, subscribe_of, subscribe_body, FitsSubscribe, lawful_subscribe};
 
+use crate::blocks::stands;
 use crate::fault::Fault;
 use crate::subscriptions::{Subscriptions, SubscriptionsRef, subscriptions_read};
 use mqtt_base::{u16_push, u16_read};
@@ -50,8 +50,7 @@ impl SubscribeRef<'_> {
     pub(crate) fn is_lawful(&self) -> bool
         ensures { result ≡ lawful_subscribe (subscribe_of self.now) }
     {
-        self.properties.once(Place::Subscribe)
-            && self.properties.good()
+        self.properties.is_lawful(Place::Subscribe)
             && self.identifier > 0
             && !self.subscriptions.is_empty()
             && self.subscriptions.all_lawful()
@@ -60,17 +59,15 @@ impl SubscribeRef<'_> {
     /// Writes the body at the end.
     #[tactic(auto, using(std::proofs::lemmas::List::append_assoc))]
     pub(crate) fn push(&self, out: &mut Vec<u8>) -> Result<(), AllocError>
-        requires { AreProps self.now.properties }
         ensures { OnOk result (out.new.items ≡ out.old.items ++ subscribe_body (subscribe_of self.now)) }
     {
         u16_push(out, self.identifier)?;
-        self.properties.push(out)?;
+        self.properties.push_block(out)?;
         self.subscriptions.push(out)
     }
 
     /// How many bytes the body takes.
     pub(crate) fn len(&self) -> usize
-        requires { AreProps self.now.properties }
         ensures { result ≡ length (subscribe_body (subscribe_of self.now)) }
     {
         2 + (self.properties.block_len() + self.subscriptions.len())
@@ -108,6 +105,6 @@ impl Subscribe {
         let subscriptions = self.subscriptions.lend();
         let _len = subscriptions.len();
         let lent = self.properties.lend();
-        lent.stands(Place::Subscribe)
+        stands(&lent, Place::Subscribe)
     }
 }

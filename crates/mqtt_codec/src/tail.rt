@@ -4,7 +4,6 @@
 ghost use Rattle.std.specs.Prelude.{◌≡◌, ◌∷◌, ◌<◌, ◌^◌, ◌++◌, OnOk, length};
 ghost use Rattle.mqtt_codec.specs.Reading.{Gives};
 ghost use Rattle.mqtt_codec.specs.Tails.{tail_at, tail};
-ghost use Rattle.mqtt_props.specs.Props.{AreProps};
 
 use crate::fault::Fault;
 use mqtt_props::{Place, PropsRef, layout_read};
@@ -15,8 +14,8 @@ pub(crate) fn tail_read(place: Place, bytes: &[u8]) -> Result<(u8, PropsRef<'_>)
     ensures { Gives (λ x. x) result (tail_at place bytes.now) }
 {
     match bytes {
-        [] => Ok((0, PropsRef::none())),
-        [code] => Ok((*code, PropsRef::none())),
+        [] => Ok((0, PropsRef::empty())),
+        [code] => Ok((*code, PropsRef::empty())),
         [code, rest @ ..] => {
             let Ok((properties, taken)) = layout_read(rest, place) else {
                 return Err(Fault::Malformed);
@@ -36,12 +35,11 @@ pub(crate) fn tail_push(
     code: u8,
     properties: &PropsRef<'_>,
 ) -> Result<(), AllocError>
-    requires { AreProps properties.now }
     ensures { OnOk result (out.new.items ≡ out.old.items ++ tail code properties.now) }
 {
     if !properties.is_empty() {
         out.push(code)?;
-        properties.push(out)
+        properties.push_block(out)
     } else if code != 0 {
         out.push(code)?;
         Ok(())
@@ -52,7 +50,6 @@ pub(crate) fn tail_push(
 
 /// How many bytes the shortest tail takes.
 pub(crate) fn tail_len(code: u8, properties: &PropsRef<'_>) -> usize
-    requires { AreProps properties.now }
     ensures value { result ≡ length (tail code properties.now) }
     ensures bound { result < 2 ^ 30 }
 {

@@ -1,10 +1,10 @@
 //! UNSUBSCRIBE (3.10).
 
 ghost use Rattle.std.specs.Prelude.{◌≡◌, ◌<◌, ◌^◌, ◌++◌, IfOk, OnOk, IsTrue, ◌↔◌, length};
-ghost use Rattle.mqtt_props.specs.Props.{AreProps};
 ghost use Rattle.mqtt_codec.specs.Reading.{Gives};
 ghost use Rattle.mqtt_codec.specs.Unsubscribe.{unsubscribe_at, unsubscribe_of, unsubscribe_body, FitsUnsubscribe, lawful_unsubscribe};
 
+use crate::blocks::stands;
 use crate::fault::Fault;
 use crate::filters::{Filters, FiltersRef, filters_read};
 use mqtt_base::{u16_push, u16_read};
@@ -50,8 +50,7 @@ impl UnsubscribeRef<'_> {
     pub(crate) fn is_lawful(&self) -> bool
         ensures { result ≡ lawful_unsubscribe (unsubscribe_of self.now) }
     {
-        self.properties.once(Place::Unsubscribe)
-            && self.properties.good()
+        self.properties.is_lawful(Place::Unsubscribe)
             && self.identifier > 0
             && !self.filters.is_empty()
     }
@@ -59,17 +58,15 @@ impl UnsubscribeRef<'_> {
     /// Writes the body at the end.
     #[tactic(auto, using(std::proofs::lemmas::List::append_assoc))]
     pub(crate) fn push(&self, out: &mut Vec<u8>) -> Result<(), AllocError>
-        requires { AreProps self.now.properties }
         ensures { OnOk result (out.new.items ≡ out.old.items ++ unsubscribe_body (unsubscribe_of self.now)) }
     {
         u16_push(out, self.identifier)?;
-        self.properties.push(out)?;
+        self.properties.push_block(out)?;
         self.filters.push(out)
     }
 
     /// How many bytes the body takes.
     pub(crate) fn len(&self) -> usize
-        requires { AreProps self.now.properties }
         ensures { result ≡ length (unsubscribe_body (unsubscribe_of self.now)) }
     {
         2 + (self.properties.block_len() + self.filters.len())
@@ -107,6 +104,6 @@ impl Unsubscribe {
         let filters = self.filters.lend();
         let _len = filters.len();
         let lent = self.properties.lend();
-        lent.stands(Place::Unsubscribe)
+        stands(&lent, Place::Unsubscribe)
     }
 }
