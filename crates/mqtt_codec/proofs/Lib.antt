@@ -1,3 +1,13 @@
 pub mod Parts
+pub mod Readers
+pub mod TailLemmas
+pub mod AckLemmas
+pub mod ConnackLemmas
+pub mod NoticeLemmas
 pub mod SubscriptionLemmas
 pub mod FilterLemmas
+pub mod HeadLemmas
+pub mod PublishLemmas
+pub mod SubscribeLemmas
+pub mod UnsubscribeLemmas
+pub mod SubackLemmas
