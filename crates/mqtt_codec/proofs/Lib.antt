@@ -11,3 +11,8 @@ pub mod PublishLemmas
 pub mod SubscribeLemmas
 pub mod UnsubscribeLemmas
 pub mod SubackLemmas
+pub mod FlagLemmas
+pub mod ConnectLemmas
+pub mod BodyLemmas
+pub mod FrameLemmas
+pub mod ShortestLemmas

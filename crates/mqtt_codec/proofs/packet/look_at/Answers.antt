@@ -1,12 +1,14 @@
-use Rattle.mqtt_codec.proofs.AckLemmas.{ack_reads}
-use Rattle.mqtt_codec.proofs.ConnackLemmas.{connack_reads}
-use Rattle.mqtt_codec.proofs.NoticeLemmas.{auth_reads, disconnect_reads, auth_is_least, auth_is_body}
-use Rattle.mqtt_codec.proofs.HeadLemmas.{is_head}
-use Rattle.mqtt_codec.proofs.PublishLemmas.{publish_takes}
-use Rattle.mqtt_codec.proofs.SubscribeLemmas.{subscribe_reads}
-use Rattle.mqtt_codec.proofs.UnsubscribeLemmas.{unsubscribe_reads}
-use Rattle.mqtt_codec.proofs.SubackLemmas.{suback_reads}
+use Rattle.std.proofs.Common.{arith}
+use Rattle.mqtt_codec.specs.Frames.{packet_of}
+use Rattle.mqtt_codec.proofs.FrameLemmas.{packet_found, packet_only, packet_refused}
+use Rattle.mqtt_codec.proofs.ShortestLemmas.{shortest_is}
 use Rattle.mqtt_codec.proofs.packet.look_at.Goals as goal
 
 pub returns-clause-found : goal.returns-clause-found
-returns-clause-found c = ?
+returns-clause-found c = packet_found packet_of c.args.frame.now c.packet_read.result (λ i. omega (arith, c.type_inv.frame i)) c.packet_read.ensures
+
+pub returns-clause-only : goal.returns-clause-only
+returns-clause-only c = packet_only packet_of c.args.frame.now c.packet_read.result c.packet_read.ensures
+
+pub returns-clause-refused : goal.returns-clause-refused
+returns-clause-refused c = packet_refused packet_of c.args.frame.now c.packet_read.result (λ i. omega (arith, c.type_inv.frame i)) c.packet_read.ensures
