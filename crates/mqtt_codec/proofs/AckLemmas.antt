@@ -1,5 +1,5 @@
 -- A body of PUBACK, PUBREC, PUBREL or PUBCOMP that is read was spelled so, and what is spelled is read.
-use Rattle.std.proofs.Common.{◌≡◌, ℕ, ◌<◌, ◌^◌, Bool, true, cond, List, ◌++◌, Result, Ok, Err, refl, subst}
+use Rattle.std.proofs.Common.{◌≡◌, ℕ, ◌^◌, cond, List, Ok, Err, refl, subst}
 use Rattle.std.specs.Int.{w16}
 use Rattle.mqtt_base.specs.declared.kind.Kind.{Kind}
 use Rattle.mqtt_base.specs.Reading.{◌>>=◌, number_at}

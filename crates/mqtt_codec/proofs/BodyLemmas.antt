@@ -1,7 +1,6 @@
 -- A body that is read is a body of its packet, and each body of a packet is read again.
-use Rattle.std.proofs.Common.{◌≡◌, ℕ, Bool, false, List, [], ◌∷◌, Result, Ok, Err, refl, ap, subst}
+use Rattle.std.proofs.Common.{◌≡◌, ℕ, false, List, [], ◌∷◌, Result, Ok, Err, refl, ap, subst}
 use Rattle.mqtt_base.specs.declared.kind.Kind.TheVariants as kinds
-use Rattle.mqtt_base.specs.declared.session.Qos.{Qos}
 use Rattle.mqtt_base.specs.declared.session.Qos.TheVariants as qos
 use Rattle.mqtt_base.proofs.Steps.{IsBytes, ok_is}
 use Rattle.mqtt_props.specs.declared.place.Place.TheVariants as places
@@ -23,11 +22,10 @@ use Rattle.mqtt_codec.specs.Unsubscribe.{unsubscribe_at}
 use Rattle.mqtt_codec.specs.Notice.{disconnect_at, auth_at}
 use Rattle.mqtt_codec.specs.Packets.{head, Fits, IsBody}
 use Rattle.mqtt_codec.specs.Frames.{made_by, empty_at, body_at}
-use Rattle.mqtt_codec.proofs.Readers.{IsReader}
 use Rattle.mqtt_codec.proofs.HeadLemmas.{IsHead}
 use Rattle.mqtt_codec.proofs.ConnectLemmas.{connect_reads}
 use Rattle.mqtt_codec.proofs.ConnackLemmas.{connack_reads}
-use Rattle.mqtt_codec.proofs.PublishLemmas.{Published, publish_takes, publish_again}
+use Rattle.mqtt_codec.proofs.PublishLemmas.{publish_takes, publish_again}
 use Rattle.mqtt_codec.proofs.AckLemmas.{ack_reads}
 use Rattle.mqtt_codec.proofs.SubscribeLemmas.{subscribe_reads}
 use Rattle.mqtt_codec.proofs.SubackLemmas.{suback_reads}

@@ -1,15 +1,14 @@
 -- A body of CONNACK that is read was spelled so, and what is spelled is read.
-use Rattle.std.proofs.Common.{◌≡◌, ℕ, zero, suc, Bool, true, false, ◌&&◌, cond, eqb, List, [], ◌∷◌, ◌++◌, length, Option, Some, None, Result, Ok, Err, refl, sym, ap, subst, ◌∙◌}
+use Rattle.std.proofs.Common.{◌≡◌, ℕ, zero, suc, Bool, true, false, ◌&&◌, cond, eqb, List, ◌∷◌, length, Some, Ok, Err, refl, ap, subst, ◌∙◌}
 use Rattle.mqtt_base.specs.declared.kind.Kind.TheVariants as kinds
 use Rattle.mqtt_base.specs.Reading.{◌>>=◌, u8_at}
 use Rattle.mqtt_base.specs.Reasons.{is_code}
-use Rattle.mqtt_base.proofs.Steps.{IsBytes, IsBytes-rest, bind_ok, when_ok, ok_is, Takes}
+use Rattle.mqtt_base.proofs.Steps.{IsBytes, bind_ok, when_ok, ok_is}
 use Rattle.mqtt_base.proofs.Fields.{byte_takes}
 use Rattle.mqtt_props.specs.declared.place.Place.TheVariants as places
 use Rattle.mqtt_props.specs.Properties.{block}
 use Rattle.mqtt_props.specs.Laws.{layout_at}
 use Rattle.mqtt_codec.specs.declared.connack.Connack.{Connack}
-use Rattle.mqtt_codec.specs.declared.fault.Fault.{Fault}
 use Rattle.mqtt_codec.specs.declared.fault.Fault.TheVariants.{Malformed}
 use Rattle.mqtt_codec.specs.Heads.{bit}
 use Rattle.mqtt_codec.specs.Reading.{malformed, known}

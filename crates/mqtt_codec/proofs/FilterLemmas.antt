@@ -1,13 +1,11 @@
 -- A filter that is read is the filter that was written, and what was written is read again.
-use Rattle.std.proofs.Common.{◌≡◌, ℕ, ◌≤◌, List, ◌++◌, length, Result, Ok, Err, ap, ◌∙◌, arith}
+use Rattle.std.proofs.Common.{◌≡◌, ℕ, List, ◌++◌, length, Ok, ap, arith}
 use Rattle.std.proofs.lemmas.List.{length-append}
-use Rattle.std.specs.Int.{w16}
 use Rattle.mqtt_base.specs.Values.{two_bytes, blob, FitsText}
 use Rattle.mqtt_base.specs.Reading.{text_at}
 use Rattle.mqtt_base.proofs.Steps.{IsBytes, Takes}
 use Rattle.mqtt_base.proofs.Fields.{text_takes, text_again}
 use Rattle.mqtt_base.proofs.Items.{Reads}
-use Rattle.mqtt_codec.specs.declared.fault.Fault.{Fault}
 use Rattle.mqtt_codec.specs.Reading.{malformed}
 use Rattle.mqtt_codec.specs.Filters.{filter_at}
 use Rattle.mqtt_codec.proofs.Parts.{malformed_ok}

@@ -1,5 +1,5 @@
 -- A frame that is read spells the packet, each spelling is read again, and a refusal is due.
-use Rattle.std.proofs.Common.{◌≡◌, ℕ, ◌^◌, ◌<◌, Bool, true, false, cond, eqb, List, [], ◌∷◌, ◌++◌, length, Option, Some, None, Result, Ok, Err, IfOk, IfErr, inl, inr, refl, sym, ap, subst, ◌∙◌, arith}
+use Rattle.std.proofs.Common.{◌≡◌, ℕ, ◌^◌, ◌<◌, Bool, true, false, cond, eqb, List, [], ◌∷◌, ◌++◌, length, Result, Ok, Err, IfOk, IfErr, inl, inr, refl, sym, ap, subst, ◌∙◌, arith}
 use Rattle.std.proofs.lemmas.Bool.{eqb-true}
 use Rattle.mqtt_base.specs.declared.fault.ReadFault.{ReadFault}
 use Rattle.mqtt_base.specs.Values.{varint, blob, FitsText}
@@ -25,7 +25,7 @@ use Rattle.mqtt_codec.specs.Frames.{frame_at, body_at, versioned_at, version_by,
 use Rattle.mqtt_codec.proofs.Parts.{malformed_ok, known_ok}
 use Rattle.mqtt_codec.proofs.HeadLemmas.{head_is, IsHead, is_head}
 use Rattle.mqtt_codec.proofs.ConnectLemmas.{mqtt_is_text}
-use Rattle.mqtt_codec.proofs.BodyLemmas.{Bodies, body_takes, body_again}
+use Rattle.mqtt_codec.proofs.BodyLemmas.{body_takes, body_again}
 
 -- ---- frames
 

@@ -1,7 +1,6 @@
 -- A body of DISCONNECT or AUTH that is read was spelled so, and what is spelled is read.
-use Rattle.std.proofs.Common.{◌≡◌, ℕ, zero, suc, ◌+◌, ◌≤◌, Bool, true, false, ◌&&◌, cond, eqb, List, [], ◌∷◌, ◌++◌, length, Result, Ok, Err, refl, sym, ap, subst, ◌∙◌, arith}
+use Rattle.std.proofs.Common.{◌≡◌, ℕ, zero, suc, ◌+◌, ◌≤◌, false, ◌&&◌, cond, eqb, List, [], ◌∷◌, length, Ok, Err, refl, sym, ap, subst, ◌∙◌, arith}
 use Rattle.mqtt_base.specs.declared.kind.Kind.TheVariants as kinds
-use Rattle.mqtt_base.specs.Reading.{◌>>=◌}
 use Rattle.mqtt_base.specs.Reasons.{is_code}
 use Rattle.mqtt_base.proofs.Steps.{IsBytes, IsBytes-rest, bind_ok, when_ok, ok_is}
 use Rattle.mqtt_props.specs.declared.place.Place.TheVariants as places
@@ -14,7 +13,7 @@ use Rattle.mqtt_codec.specs.Tails.{IsTail, tail_at}
 use Rattle.mqtt_codec.specs.Notice.{FitsNotice, disconnect_at, IsAuthBody, auth_body_of, auth_body, auth_at}
 use Rattle.mqtt_codec.proofs.Parts.{malformed_ok, both_true}
 use Rattle.mqtt_codec.proofs.Readers.{IsReader}
-use Rattle.mqtt_codec.proofs.TailLemmas.{tail_takes, tail_again, block_ends, block_again_end, some_block}
+use Rattle.mqtt_codec.proofs.TailLemmas.{tail_takes, tail_again, block_ends, block_again_end}
 
 disconnect_takes : (body : List ℕ) (n : Notice) → IsBytes body → disconnect_at body ≡ Ok n → FitsNotice kinds.Disconnect places.Disconnect n × IsTail n.reason.0 n.properties body
 unfolding disconnect_at

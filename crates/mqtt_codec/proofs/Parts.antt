@@ -1,7 +1,6 @@
 -- A step that did not fail.
 use Rattle.std.proofs.Common.{◌≡◌, Bool, true, false, ◌&&◌, Option, Some, None, Result, Ok, Err, refl, ap}
 use Rattle.mqtt_base.proofs.Steps.{ok_is}
-use Rattle.mqtt_codec.specs.declared.fault.Fault.{Fault}
 use Rattle.mqtt_codec.specs.Reading.{malformed, known}
 
 pub malformed_ok : {A E : Type 0} (r : Result A E) (x : A) → malformed r ≡ Ok x → r ≡ Ok x

@@ -1,5 +1,5 @@
 -- A body of PUBLISH that is read was spelled so, and what is spelled is read.
-use Rattle.std.proofs.Common.{◌≡◌, ℕ, ◌<◌, ◌^◌, Bool, true, false, List, ◌++◌, Result, Ok, Err, refl, ap, subst, ◌∙◌}
+use Rattle.std.proofs.Common.{◌≡◌, ℕ, ◌^◌, Bool, List, ◌++◌, Ok, refl, ap, subst, ◌∙◌}
 use Rattle.std.specs.Int.{w16}
 use Rattle.mqtt_base.specs.declared.session.Qos.{Qos}
 use Rattle.mqtt_base.specs.declared.session.Qos.TheVariants as qos
@@ -11,7 +11,6 @@ use Rattle.mqtt_props.specs.declared.place.Place.TheVariants as places
 use Rattle.mqtt_props.specs.Properties.{block}
 use Rattle.mqtt_props.specs.Laws.{layout_at}
 use Rattle.mqtt_props.proofs.Blocks.{layout_takes, layout_again}
-use Rattle.mqtt_codec.specs.declared.head.Head.{Head}
 use Rattle.mqtt_codec.specs.declared.head.Head.TheVariants as heads
 use Rattle.mqtt_codec.specs.declared.publish.Delivery.{Delivery}
 use Rattle.mqtt_codec.specs.declared.publish.Delivery.TheVariants.{AtMostOnce, AtLeastOnce, ExactlyOnce}

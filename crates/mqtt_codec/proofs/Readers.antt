@@ -1,5 +1,5 @@
 -- What it means that a reader of bodies reads a kind of packet: what is read was spelled so, and what is spelled is read.
-use Rattle.std.proofs.Common.{◌≡◌, ℕ, List, Result, Ok, Err}
+use Rattle.std.proofs.Common.{◌≡◌, ℕ, List, Result, Ok}
 use Rattle.mqtt_base.proofs.Steps.{IsBytes}
 use Rattle.mqtt_codec.specs.declared.fault.Fault.{Fault}
 

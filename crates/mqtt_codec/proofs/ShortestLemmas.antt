@@ -1,15 +1,14 @@
 -- The shortest spelling is a spelling, and none is shorter.
-use Rattle.std.proofs.Common.{◌≡◌, ℕ, ◌+◌, ◌^◌, ◌<◌, ◌≤◌, List, [], ◌∷◌, ◌++◌, length, Result, Ok, Err, IfOk, refl, sym, ap, subst, ◌∙◌, arith}
+use Rattle.std.proofs.Common.{◌≡◌, ℕ, ◌≤◌, List, length, Result, Ok, Err, IfOk, refl, sym, ap, subst, arith}
 use Rattle.std.proofs.lemmas.List.{length-append}
 use Rattle.mqtt_base.specs.Values.{varint, two_bytes}
 use Rattle.mqtt_base.proofs.Varints.{varint_sizes}
 use Rattle.mqtt_codec.specs.declared.ack.Ack.{Ack}
 use Rattle.mqtt_codec.specs.declared.packet.Packet.{Packet}
 use Rattle.mqtt_codec.specs.declared.packet.Packet.TheVariants.{Connect, Connack, Publish, Puback, Pubrec, Pubrel, Pubcomp, Subscribe, Suback, Unsubscribe, Unsuback, Pingreq, Pingresp, Disconnect, Auth}
-use Rattle.mqtt_codec.specs.Heads.{first}
 use Rattle.mqtt_codec.specs.Tails.{tail}
 use Rattle.mqtt_codec.specs.Ack.{IsAckBody, ack_body}
-use Rattle.mqtt_codec.specs.Packets.{head, IsBody, framed, HasLayout, Spells, shortest_body, shortest_of, HasSpelling, IsShortest}
+use Rattle.mqtt_codec.specs.Packets.{head, IsBody, framed, HasLayout, shortest_body, shortest_of, HasSpelling, IsShortest}
 use Rattle.mqtt_codec.proofs.TailLemmas.{tail_is_tail, tail_is_least}
 use Rattle.mqtt_codec.proofs.NoticeLemmas.{auth_is_body, auth_is_least}
 

@@ -1,5 +1,5 @@
 -- A subscription that is read is the subscription that was written, and what was written is read again.
-use Rattle.std.proofs.Common.{◌≡◌, ℕ, ◌+◌, ◌^◌, ◌<◌, ◌≤◌, Bool, true, cond, ltb, List, [], ◌∷◌, ◌++◌, length, Result, Ok, Err, refl, sym, ap, subst, ◌∙◌, append_assoc, arith}
+use Rattle.std.proofs.Common.{◌≡◌, ℕ, cond, ltb, List, [], ◌∷◌, ◌++◌, Ok, Err, refl, ap, subst, ◌∙◌, append_assoc, arith}
 use Rattle.std.proofs.lemmas.Bool.{ltb-true, lt-ltb}
 use Rattle.std.proofs.lemmas.List.{length-append}
 use Rattle.mqtt_base.specs.Values.{blob}
@@ -7,7 +7,6 @@ use Rattle.mqtt_base.specs.Reading.{◌>>=◌, u8_at, text_at}
 use Rattle.mqtt_base.proofs.Steps.{IsBytes, bind_ok, when_ok, ok_is, Takes, Takes-then}
 use Rattle.mqtt_base.proofs.Fields.{byte_takes, text_takes, text_again}
 use Rattle.mqtt_base.proofs.Items.{Reads}
-use Rattle.mqtt_codec.specs.declared.fault.Fault.{Fault}
 use Rattle.mqtt_codec.specs.declared.fault.Fault.TheVariants.{Malformed}
 use Rattle.mqtt_codec.specs.Subscriptions.{Subscription, subscription, IsSubscription}
 use Rattle.mqtt_codec.specs.Reading.{malformed}

@@ -1,16 +1,14 @@
 -- A tail that is read is the tail that was written, and what was written is read again.
-use Rattle.std.proofs.Common.{◌≡◌, ℕ, zero, suc, ◌<◌, ◌≤◌, ◌^◌, Bool, true, false, cond, eqb, List, [], ◌∷◌, ◌++◌, length, Result, Ok, Err, refl, sym, ap, subst, ◌∙◌, arith}
+use Rattle.std.proofs.Common.{◌≡◌, ℕ, zero, suc, ◌≤◌, true, false, cond, eqb, List, [], ◌∷◌, ◌++◌, length, Ok, Err, refl, sym, ap, subst, ◌∙◌, arith}
 use Rattle.std.proofs.lemmas.Bool.{eqb-true}
 use Rattle.std.proofs.lemmas.List.{append-nil, nil_from_length, length-append}
 use Rattle.mqtt_base.specs.Values.{varint}
-use Rattle.mqtt_base.specs.Reading.{◌>>=◌}
-use Rattle.mqtt_base.proofs.Steps.{IsBytes, IsBytes-rest, bind_ok, when_ok, ok_is, Takes}
+use Rattle.mqtt_base.proofs.Steps.{IsBytes, IsBytes-rest, bind_ok, when_ok, ok_is}
 use Rattle.mqtt_base.proofs.Varints.{varint_size}
 use Rattle.mqtt_props.specs.declared.place.Place.{Place}
 use Rattle.mqtt_props.specs.Properties.{Prop, props, block}
-use Rattle.mqtt_props.specs.Laws.{layout_at, all_may_stand}
+use Rattle.mqtt_props.specs.Laws.{layout_at}
 use Rattle.mqtt_props.proofs.Blocks.{layout_takes, layout_again}
-use Rattle.mqtt_codec.specs.declared.fault.Fault.{Fault}
 use Rattle.mqtt_codec.specs.declared.fault.Fault.TheVariants.{Malformed}
 use Rattle.mqtt_codec.specs.Reading.{malformed}
 use Rattle.mqtt_codec.specs.Blocks.{Stands}

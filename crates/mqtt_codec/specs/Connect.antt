@@ -1,11 +1,11 @@
 -- The layout of CONNECT (MQTT 5.0, 3.1).
-use Rattle.std.specs.Prelude.{◌≡◌, ℕ, ◌<◌, ◌^◌, Bool, true, ◌&&◌, not, List, ◌∷◌, ◌++◌, length, codes, bytes_eq, Option, Some, None, is_some, Result, Ok, Err, ◌==◌, if◌then◌else◌}
+use Rattle.std.specs.Prelude.{ℕ, ◌<◌, ◌^◌, Bool, true, ◌&&◌, List, ◌∷◌, ◌++◌, length, codes, bytes_eq, Option, Some, None, is_some, Result, Ok, Err, ◌==◌, if◌then◌else◌}
 use Rattle.std.specs.Int.{w16}
 use Rattle.std.specs.Option.{option_map}
 use Rattle.mqtt_base.specs.Values.{two_bytes, blob, FitsText}
 use Rattle.mqtt_base.specs.Reading.{◌>>=◌, number_at, u8_at, text_at, blob_at}
 use Rattle.mqtt_props.specs.declared.place.Place.TheVariants as places
-use Rattle.mqtt_props.specs.Properties.{Prop, block}
+use Rattle.mqtt_props.specs.Properties.{block}
 use Rattle.mqtt_props.specs.Laws.{layout_at}
 use Rattle.mqtt_codec.specs.declared.connect.Connect.{Connect}
 use Rattle.mqtt_codec.specs.declared.connect.ConnectRef.{ConnectRef}
@@ -14,9 +14,9 @@ use Rattle.mqtt_codec.specs.declared.connect.WillRef.{WillRef}
 use Rattle.mqtt_codec.specs.declared.connect_flags.Flags.{Flags}
 use Rattle.mqtt_codec.specs.declared.connect_flags.WillFlags.{WillFlags}
 use Rattle.mqtt_codec.specs.declared.fault.Fault.{Fault}
-use Rattle.mqtt_codec.specs.declared.fault.Fault.TheVariants.{Malformed, Version}
+use Rattle.mqtt_codec.specs.declared.fault.Fault.TheVariants.{Malformed}
 use Rattle.mqtt_codec.specs.Reading.{malformed, known}
-use Rattle.mqtt_codec.specs.Fields.{both_at, optional_at, field_at, optional, FitsOptional}
+use Rattle.mqtt_codec.specs.Fields.{optional_at, field_at, optional, FitsOptional}
 use Rattle.mqtt_codec.specs.ConnectFlags.{flags_of, flags_byte}
 use Rattle.mqtt_codec.specs.Blocks.{Stands, keeps_laws}
 

@@ -1,5 +1,5 @@
 -- The layouts of DISCONNECT and AUTH (MQTT 5.0, 3.14, 3.15).
-use Rattle.std.specs.Prelude.{◌≡◌, ℕ, Bool, true, ◌&&◌, ◌||◌, not, List, [], ◌∷◌, length, Result, Ok, Err, ◌==◌, if◌then◌else◌, ◌⊎◌}
+use Rattle.std.specs.Prelude.{◌≡◌, ℕ, Bool, true, ◌&&◌, ◌||◌, List, [], ◌∷◌, length, Result, Ok, Err, ◌==◌, if◌then◌else◌}
 use Rattle.mqtt_base.specs.declared.kind.Kind.{Kind}
 use Rattle.mqtt_base.specs.declared.kind.Kind.TheVariants as kinds
 use Rattle.mqtt_base.specs.Reading.{◌>>=◌}
@@ -15,7 +15,7 @@ use Rattle.mqtt_codec.specs.declared.fault.Fault.{Fault}
 use Rattle.mqtt_codec.specs.declared.fault.Fault.TheVariants.{Malformed}
 use Rattle.mqtt_codec.specs.Reading.{malformed}
 use Rattle.mqtt_codec.specs.Blocks.{Stands, keeps_laws}
-use Rattle.mqtt_codec.specs.Tails.{IsTail, tail, tail_at}
+use Rattle.mqtt_codec.specs.Tails.{tail, tail_at}
 
 -- its parts have a spelling, with the codes and the properties of its packet
 abbrev pub FitsNotice : Kind → Place → Notice → Type 0

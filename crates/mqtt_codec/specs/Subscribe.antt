@@ -1,9 +1,9 @@
 -- The layout of SUBSCRIBE (MQTT 5.0, 3.8).
-use Rattle.std.specs.Prelude.{◌≡◌, ℕ, ◌/◌, ◌%◌, ◌<◌, ◌^◌, Bool, true, false, ◌&&◌, ◌||◌, not, nat_lt, List, [], ◌∷◌, ◌++◌, length, Result, Ok, Err, ◌==◌, if◌then◌else◌}
+use Rattle.std.specs.Prelude.{ℕ, ◌<◌, ◌^◌, Bool, ◌&&◌, not, nat_lt, List, ◌++◌, length, Result, Ok, ◌==◌}
 use Rattle.std.specs.Int.{w16}
 use Rattle.std.specs.List.{list_all, flat_map, AllByRecursion}
-use Rattle.mqtt_base.specs.Values.{two_bytes, blob, FitsText}
-use Rattle.mqtt_base.specs.Reading.{◌>>=◌, number_at, text_at, u8_at}
+use Rattle.mqtt_base.specs.Values.{two_bytes}
+use Rattle.mqtt_base.specs.Reading.{◌>>=◌, number_at}
 use Rattle.mqtt_base.specs.Items.{items_at}
 use Rattle.mqtt_props.specs.declared.place.Place.TheVariants as places
 use Rattle.mqtt_props.specs.Properties.{block}
@@ -13,7 +13,7 @@ use Rattle.mqtt_codec.specs.declared.fault.Fault.TheVariants.{Malformed}
 use Rattle.mqtt_codec.specs.declared.subscribe.Subscribe.{Subscribe}
 use Rattle.mqtt_codec.specs.declared.subscribe.SubscribeRef.{SubscribeRef}
 use Rattle.mqtt_codec.specs.Reading.{malformed}
-use Rattle.mqtt_codec.specs.Subscriptions.{Subscription, subscription, IsSubscription, lawful_subscription, subscription_at}
+use Rattle.mqtt_codec.specs.Subscriptions.{subscription, IsSubscription, lawful_subscription, subscription_at}
 use Rattle.mqtt_codec.specs.Blocks.{Stands, keeps_laws}
 
 -- its parts have a spelling

@@ -1,5 +1,5 @@
 -- Filters with their options, as a SUBSCRIBE has them (MQTT 5.0, 3.8.3).
-use Rattle.std.specs.Prelude.{◌≡◌, ℕ, ◌/◌, ◌%◌, ◌<◌, Bool, true, ◌&&◌, ◌||◌, not, nat_lt, nat_eq, List, [], ◌∷◌, ◌++◌, codes, Result, Ok, Err, ◌==◌, if◌then◌else◌}
+use Rattle.std.specs.Prelude.{ℕ, ◌/◌, ◌%◌, ◌<◌, Bool, ◌&&◌, ◌||◌, not, nat_lt, nat_eq, List, [], ◌∷◌, ◌++◌, codes, Result, Ok, Err, ◌==◌, if◌then◌else◌}
 use Rattle.std.specs.List.{starts_with}
 use Rattle.mqtt_base.specs.Values.{blob, FitsText}
 use Rattle.mqtt_base.specs.Reading.{◌>>=◌, text_at, u8_at}

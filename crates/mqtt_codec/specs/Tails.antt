@@ -1,5 +1,5 @@
 -- A reason code and properties at the end of a packet, of which the last parts may be left out (MQTT 5.0, 3.4.2, 3.14.2, 3.15.2).
-use Rattle.std.specs.Prelude.{◌≡◌, ℕ, List, [], ◌∷◌, ◌++◌, length, Result, Ok, Err, ◌==◌, if◌then◌else◌}
+use Rattle.std.specs.Prelude.{◌≡◌, ℕ, List, [], ◌∷◌, length, Result, Ok, Err, ◌==◌, if◌then◌else◌}
 use Rattle.mqtt_base.specs.Reading.{◌>>=◌}
 use Rattle.mqtt_props.specs.declared.place.Place.{Place}
 use Rattle.mqtt_props.specs.Properties.{Prop, block}

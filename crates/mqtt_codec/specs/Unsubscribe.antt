@@ -1,5 +1,5 @@
 -- The layout of UNSUBSCRIBE (MQTT 5.0, 3.10).
-use Rattle.std.specs.Prelude.{◌≡◌, ℕ, ◌<◌, ◌^◌, Bool, true, ◌&&◌, not, nat_lt, List, ◌++◌, length, Result, Ok, Err, ◌==◌}
+use Rattle.std.specs.Prelude.{ℕ, ◌<◌, ◌^◌, Bool, ◌&&◌, not, nat_lt, List, ◌++◌, length, Result, Ok, ◌==◌}
 use Rattle.std.specs.Int.{w16}
 use Rattle.std.specs.List.{flat_map, AllByRecursion}
 use Rattle.mqtt_base.specs.Values.{two_bytes, blob, FitsText}

@@ -1,7 +1,6 @@
 use Rattle.std.proofs.Common.{arith}
 use Rattle.mqtt_codec.specs.Frames.{packet_of}
 use Rattle.mqtt_codec.proofs.FrameLemmas.{packet_found, packet_only, packet_refused}
-use Rattle.mqtt_codec.proofs.ShortestLemmas.{shortest_is}
 use Rattle.mqtt_codec.proofs.packet.look_at.Goals as goal
 
 pub returns-clause-found : goal.returns-clause-found
