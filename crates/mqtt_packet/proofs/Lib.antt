@@ -1,0 +1,5 @@
+pub mod Bodies
+pub mod Frames
+pub mod Fronts
+pub mod Cuts
+pub mod Runs
