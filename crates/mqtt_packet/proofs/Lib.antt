@@ -3,3 +3,4 @@ pub mod Frames
 pub mod Fronts
 pub mod Cuts
 pub mod Runs
+pub mod Wholes

@@ -1,8 +1,10 @@
 -- The cut of a stream of bytes into packets, and what cuts it (MQTT 5.0, 2.1).
-use Rattle.std.specs.Prelude.{◌≡◌, ◌≢◌, ℕ, ◌+◌, ◌%◌, ◌^◌, List, [], ◌∷◌, ◌++◌, drop, Option, None, Some, Ok, Err}
+use Rattle.std.specs.Prelude.{◌≡◌, ◌≢◌, ℕ, ◌+◌, ◌%◌, ◌^◌, ◌≤◌, List, [], length, ◌∷◌, ◌++◌, drop, Option, None, Some, Ok, Err}
 use Rattle.mqtt_packet.specs.declared.fault.Fault.{Fault}
 use Rattle.mqtt_packet.specs.declared.fault.Fault.TheVariants.{Memory}
 use Rattle.mqtt_packet.specs.declared.packet.Packet.{Packet}
+use Rattle.mqtt_packet.specs.declared.front.TheConstants.{MAX_SIZE}
+use Rattle.mqtt_packet.specs.Packets.{Spells}
 use Rattle.mqtt_packet.specs.Front.{first_of}
 
 -- a packet of a stream, the place of its first byte, and its size in bytes
@@ -34,6 +36,28 @@ EndsAs end rest (fault_at place fault) = (place ≡ end) × (first_of rest ≡ E
 -- the stream is these packets, and ends so
 abbrev pub IsStream : List ℕ → List Item → Ending → Type 0
 IsStream stream items ending = (end : ℕ) × (rest : List ℕ) × IsCut 0 stream items end rest × EndsAs end rest ending
+
+-- ---- packets one after the other
+
+-- each of the packets with a spelling, of at most MAX_SIZE bytes
+abbrev pub AreSpelled : List (Packet × List ℕ) → Type 0
+AreSpelled [] = Unit {0}
+AreSpelled (x ∷ xs) = Spells x.0 x.1 × (length x.1 ≤ MAX_SIZE) × AreSpelled xs
+
+-- the spellings, one after the other
+abbrev pub joined : List (Packet × List ℕ) → List ℕ
+joined [] = []
+joined (x ∷ xs) = x.1 ++ joined xs
+
+-- the packets, from this place on
+abbrev pub items_from : ℕ → List (Packet × List ℕ) → List Item
+items_from place [] = []
+items_from place (x ∷ xs) = record { place = place; size = length x.1; packet = x.0 } ∷ items_from (place_after place (length x.1)) xs
+
+-- the place behind them
+abbrev pub end_from : ℕ → List (Packet × List ℕ) → ℕ
+end_from place [] = place
+end_from place (x ∷ xs) = end_from (place_after place (length x.1)) xs
 
 -- ---- a framer
 

@@ -1,15 +1,40 @@
 //! What holds of every stream, and of every framer (2.1).
 
-ghost use Rattle.std.specs.Prelude.{◌≡◌, ℕ, ◌+◌, ◌<◌, ◌∷◌, [], ◌++◌, ◌⊎◌, List, length, Ok, Err, Some, None, true, false};
+ghost use Rattle.std.specs.Prelude.{◌≡◌, ◌≢◌, ℕ, ◌+◌, ◌<◌, ◌≤◌, take, slice_index, ◌∷◌, [], ◌++◌, ◌⊎◌, List, length, Ok, Err, Some, None, true, false};
 ghost use Rattle.mqtt_base.specs.Reading.{varint_at};
 ghost use Rattle.mqtt_base.specs.declared.fault.ReadFault.TheVariants.{Overlong};
 ghost use Rattle.mqtt_packet.specs.declared.fault.Fault.{Fault};
 ghost use Rattle.mqtt_packet.specs.declared.fault.Fault.TheVariants.{Malformed, TooLarge, Other};
 ghost use Rattle.mqtt_packet.specs.declared.front.TheConstants.{MAX_SIZE};
 ghost use Rattle.mqtt_packet.specs.declared.head.Head.{Head};
+ghost use Rattle.mqtt_packet.specs.declared.packet.Packet.{Packet};
+ghost use Rattle.mqtt_packet.specs.Packets.{HasLayout, Spells};
 ghost use Rattle.mqtt_packet.specs.Heads.{head_of, is_read};
 ghost use Rattle.mqtt_packet.specs.Front.{first_of};
-ghost use Rattle.mqtt_packet.specs.Stream.{Item, Ending, short_at, fault_at, IsCut, IsStream, Framing, Call, IsRun, taken_of, given_of, empty};
+ghost use Rattle.mqtt_packet.specs.Stream.{AreSpelled, joined, items_from, end_from, Item, Ending, short_at, fault_at, IsCut, IsStream, Framing, Call, IsRun, taken_of, given_of, empty};
+
+/// No bytes are laid out as two packets.
+pub fn one_packet()
+    ensures { (bytes : List ℕ) (packet other : Packet) → HasLayout packet bytes → HasLayout other bytes
+        → packet ≡ other }
+{}
+
+/// What a stream begins with is a packet's spelling, or else no stream that goes on so begins with one.
+pub fn first_spelled()
+    ensures whole { (packet : Packet) (bytes more : List ℕ) → Spells packet bytes → length bytes ≤ MAX_SIZE
+        → first_of (bytes ++ more) ≡ Ok (Some (packet, length bytes)) }
+    ensures found { (bytes : List ℕ) (packet : Packet) (n : ℕ) → ((i : ℕ) → slice_index bytes i < 256)
+        → first_of bytes ≡ Ok (Some (packet, n)) → Spells packet (take n bytes) × (n ≤ MAX_SIZE) }
+    ensures fault { (bytes later : List ℕ) (fault : Fault) (packet : Packet) (spelling more : List ℕ)
+        → first_of bytes ≡ Err fault → Spells packet spelling → length spelling ≤ MAX_SIZE
+        → bytes ++ later ≢ spelling ++ more }
+{}
+
+/// The spellings of packets, one after the other, are cut into these packets.
+pub fn joined_cut()
+    ensures { (packets : List (Packet × List ℕ)) → AreSpelled packets
+        → IsStream (joined packets) (items_from 0 packets) (short_at (end_from 0 packets) []) }
+{}
 
 /// Each stream is cut in one way.
 pub fn one_cut()
