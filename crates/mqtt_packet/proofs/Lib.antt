@@ -4,3 +4,4 @@ pub mod Fronts
 pub mod Cuts
 pub mod Runs
 pub mod Wholes
+mod Examples

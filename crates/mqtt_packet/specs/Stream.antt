@@ -73,7 +73,11 @@ empty = record { held = []; place = 0 }
 abbrev pub after : ℕ → Framing → Framing
 after n f = record { held = drop n f.held; place = place_after f.place n }
 
--- a fault, with its place: the one that the held bytes begin with, or want of memory
+-- the fault that the held bytes begin with, and its place
+abbrev pub Stands : Framing → Fault × ℕ → Type 0
+Stands f e = (e.1 ≡ f.place) × (first_of f.held ≡ Err e.0)
+
+-- the same, or want of memory
 abbrev pub Refuses : Framing → Fault × ℕ → Type 0
 Refuses f e = (e.1 ≡ f.place) × (e.0 ≢ Memory → first_of f.held ≡ Err e.0)
 
