@@ -9,6 +9,8 @@ mod laws;
 mod look;
 mod packet;
 mod publish;
+#[cfg(test)]
+mod tests;
 
 pub use fault::Fault;
 pub use framer::Framer;
