@@ -18,7 +18,7 @@ use Rattle.mqtt_packet.specs.Heads.{first, head_of, IsHead, is_read}
 use Rattle.mqtt_packet.specs.Packets.{head, framed, Spells}
 use Rattle.mqtt_packet.specs.Reading.{packet_at}
 use Rattle.mqtt_packet.specs.Front.{size_by, size_behind, size_at, with_size, first_by, first_of}
-use Rattle.mqtt_packet.specs.Stream.{place_after, IsCut, IsStream, short_at, AreSpelled, joined, items_from, end_from}
+use Rattle.mqtt_packet.specs.Stream.{place_after, IsCut, IsStream, short_at, AreSpelled, joined_bytes, items_from, end_from}
 use Rattle.mqtt_packet.proofs.Bodies.{head_again, is_head}
 use Rattle.mqtt_packet.proofs.Frames.{packet_takes, packet_again}
 use Rattle.mqtt_packet.proofs.Fronts.{found_size, found_packet}
@@ -115,16 +115,16 @@ fault_final bytes later f p spelling more e s small = λ same.
 
 -- ---- packets one after the other
 
-joined_from : (place : ℕ) (packets : List (Packet × List ℕ)) → AreSpelled packets → IsCut place (joined packets) (items_from place packets) (end_from place packets) []
+joined_from : (place : ℕ) (packets : List (Packet × List ℕ)) → AreSpelled packets → IsCut place (joined_bytes packets) (items_from place packets) (end_from place packets) []
 joined_from place [] s = (refl, refl)
 joined_from place (x ∷ xs) s =
     let next = place_after place (length x.1) in
-    let rest : drop (length x.1) (x.1 ++ joined xs) ≡ joined xs = drop_at x.1 (joined xs) (length x.1) refl in
-    (refl, first_whole x.0 x.1 (joined xs) s.0 s.1, rw rest (joined_from next xs s.2))
+    let rest : drop (length x.1) (x.1 ++ joined_bytes xs) ≡ joined_bytes xs = drop_at x.1 (joined_bytes xs) (length x.1) refl in
+    (refl, first_whole x.0 x.1 (joined_bytes xs) s.0 s.1, rw rest (joined_from next xs s.2))
 
 first_none : first_of [] ≡ Ok None
 unfolding first_of size_at
 first_none = refl
 
-pub joined_stream : (packets : List (Packet × List ℕ)) → AreSpelled packets → IsStream (joined packets) (items_from 0 packets) (short_at (end_from 0 packets) [])
+pub joined_stream : (packets : List (Packet × List ℕ)) → AreSpelled packets → IsStream (joined_bytes packets) (items_from 0 packets) (short_at (end_from 0 packets) [])
 joined_stream packets s = (end_from 0 packets, [], joined_from 0 packets s, (refl, refl, first_none))

@@ -4,7 +4,7 @@ ghost use Rattle.std.specs.Prelude.{◌≡◌, ◌-◌, ◌<◌, ◌≤◌, ◌+
 ghost use Rattle.mqtt_packet.specs.declared.fault.Fault.{Fault};
 ghost use Rattle.mqtt_packet.specs.declared.front.TheConstants.{MAX_SIZE};
 ghost use Rattle.mqtt_packet.specs.Front.{first_of};
-ghost use Rattle.mqtt_packet.specs.Stream.{Framing, empty, Stands, Refuses, Finds, Gives};
+ghost use Rattle.mqtt_packet.specs.Stream.{Framing, empty, without_last, Stands, Refuses, Finds, Gives};
 ghost use Rattle.mqtt_packet.specs.Views.{packet_of};
 
 use crate::fault::Fault;
@@ -122,7 +122,7 @@ impl Framer {
     /// Takes the last `count` held bytes away. Takes no memory.
     pub fn give_back(&mut self, count: usize)
         requires { count ≤ length self.old.held }
-        ensures { self.new ≡ record self.old { held = take (length self.old.held - count) self.old.held } }
+        ensures { self.new ≡ record self.old { held = without_last count self.old.held } }
     {
         let len = self.bytes.len();
         self.bytes.truncate(len - count);

@@ -11,7 +11,7 @@ ghost use Rattle.mqtt_packet.specs.declared.packet.Packet.{Packet};
 ghost use Rattle.mqtt_packet.specs.Packets.{HasLayout, Spells};
 ghost use Rattle.mqtt_packet.specs.Heads.{head_of, is_read};
 ghost use Rattle.mqtt_packet.specs.Front.{first_of};
-ghost use Rattle.mqtt_packet.specs.Stream.{AreSpelled, joined, items_from, end_from, Item, Ending, short_at, fault_at, IsCut, IsStream, Framing, Call, IsRun, taken_of, given_of, empty};
+ghost use Rattle.mqtt_packet.specs.Stream.{AreSpelled, joined_bytes, items_from, end_from, Item, Ending, short_at, fault_at, IsCut, IsStream, Framing, Call, IsRun, taken_of, given_of, empty};
 
 /// No bytes are laid out as two packets.
 pub fn one_packet()
@@ -33,7 +33,7 @@ pub fn first_spelled()
 /// The spellings of packets, one after the other, are cut into these packets.
 pub fn joined_cut()
     ensures { (packets : List (Packet × List ℕ)) → AreSpelled packets
-        → IsStream (joined packets) (items_from 0 packets) (short_at (end_from 0 packets) []) }
+        → IsStream (joined_bytes packets) (items_from 0 packets) (short_at (end_from 0 packets) []) }
 {}
 
 /// Each stream is cut in one way.
@@ -44,7 +44,8 @@ pub fn one_cut()
         → (items ≡ others) × (ending ≡ other) }
 {}
 
-/// A fault stands with the byte that decides it, and nothing that follows changes what stands.
+/// A fault stands with the byte that decides it, a packet with its last, and nothing that follows
+/// changes what stands.
 pub fn moments()
     ensures first_byte { (b : ℕ) → head_of b ≡ None → first_of (b ∷ []) ≡ Err Malformed }
     ensures kind { (b : ℕ) (head : Head) → head_of b ≡ Some head → is_read head ≡ false
@@ -54,12 +55,15 @@ pub fn moments()
     ensures too_large { (b n : ℕ) (head : Head) (len : List ℕ) → head_of b ≡ Some head
         → is_read head ≡ true → varint_at len ≡ Ok (n, []) → MAX_SIZE < 1 + length len + n
         → first_of (b ∷ len) ≡ Err TooLarge }
+    ensures last_byte { (front : List ℕ) (packet : Packet) (n more : ℕ)
+        → first_of front ≡ Ok (Some (packet, n)) → n ≤ more
+        → first_of (take more front) ≡ Ok (Some (packet, n)) }
     ensures stays { (front more : List ℕ)
         → (first_of front ≡ Ok None) ⊎ (first_of (front ++ more) ≡ first_of front) }
 {}
 
-/// However a stream comes, the bytes that were taken are those of the packets given and then those
-/// held, and what the held bytes begin with ends the stream.
+/// However a stream comes, the bytes that were taken, and not given back, are those of the packets
+/// given and then those held, and what the held bytes begin with ends the stream.
 pub fn any_pieces()
     ensures cut { (calls : List Call) (f : Framing) → IsRun empty calls f
         → IsCut 0 (taken_of calls) (given_of calls) f.place f.held }
