@@ -1,5 +1,5 @@
 -- Bytes of packets and of streams, cut by computing.
-use Rattle.std.proofs.Common.{◌≡◌, ℕ, zero, suc, true, false, List, [], ◌∷◌, Option, None, Some, Result, Ok, Err, refl, arith}
+use Rattle.std.proofs.Common.{◌≡◌, zero, suc, true, false, [], ◌∷◌, None, Some, Ok, Err, refl, arith}
 use Rattle.std.specs.Str.{IsAscii}
 use Rattle.std.proofs.lemmas.Str.{IsUtf8-from_ascii, IsUtf8-nil}
 use Rattle.mqtt_base.specs.Values.{varint, is_text}

@@ -1,7 +1,7 @@
 -- A packet that the bytes begin with stands as soon as its last byte has come.
-use Rattle.std.proofs.Common.{◌≡◌, ℕ, zero, suc, ◌+◌, ◌-◌, ◌<◌, ◌≤◌, Bool, true, false, cond, ltb, eqb, List, [], ◌∷◌, ◌++◌, length, take, drop, min, Option, None, Some, Result, Ok, Err, refl, sym, ap, ◌∙◌, subst, inl, inr, ◌⊎◌, arith, length-append, length-drop}
-use Rattle.std.proofs.lemmas.Bool.{cases_lt, ltb-true}
-use Rattle.std.proofs.lemmas.List.{take-append-drop, take-append-le, drop-take, length-take-le, length-take}
+use Rattle.std.proofs.Common.{◌≡◌, ℕ, zero, suc, ◌+◌, ◌-◌, ◌<◌, ◌≤◌, Bool, true, false, cond, ltb, eqb, List, [], ◌∷◌, ◌++◌, length, take, drop, Option, None, Some, Result, Ok, Err, refl, sym, ap, ◌∙◌, inl, inr, arith, length-append, length-drop}
+use Rattle.std.proofs.lemmas.Bool.{ltb-true}
+use Rattle.std.proofs.lemmas.List.{take-append-drop, take-append-le, drop-take, length-take}
 use Rattle.mqtt_base.specs.declared.fault.ReadFault.TheVariants.{Short, Overlong, BadText}
 use Rattle.mqtt_base.specs.Reading.{groups_at, varint_at}
 use Rattle.mqtt_packet.specs.declared.fault.Fault.{Fault}
@@ -13,7 +13,7 @@ use Rattle.mqtt_packet.specs.Heads.{head_of, is_read}
 use Rattle.mqtt_packet.specs.Reading.{packet_at}
 use Rattle.mqtt_packet.specs.Front.{size_by, size_behind, size_at, with_size, first_by, first_of}
 use Rattle.mqtt_packet.specs.Stream.{Item, place_after, IsCut}
-use Rattle.mqtt_packet.proofs.Fronts.{Read, with_more, LeavesMore, next_group, varint_more, Within, groups_within, varint_within, size_stays, size_within, found_size, found_packet, first_within}
+use Rattle.mqtt_packet.proofs.Fronts.{Read, LeavesMore, next_group, varint_more, Within, groups_within, varint_within, size_stays, size_within, found_size, first_within}
 
 -- ---- where a number wants more bytes, it ends among those that follow
 

@@ -6,7 +6,7 @@ use Rattle.mqtt_base.specs.declared.fault.ReadFault.{ReadFault}
 use Rattle.mqtt_base.specs.declared.fault.ReadFault.TheVariants.{Short, Overlong, BadText}
 use Rattle.mqtt_base.specs.Values.{varint}
 use Rattle.mqtt_base.specs.Reading.{varint_at}
-use Rattle.mqtt_base.proofs.Steps.{IsBytes, IsBytes-take, ok_is}
+use Rattle.mqtt_base.proofs.Steps.{IsBytes, IsBytes-take}
 use Rattle.mqtt_base.proofs.Varints.{varint_rereads}
 use Rattle.mqtt_packet.specs.declared.fault.Fault.{Fault}
 use Rattle.mqtt_packet.specs.declared.fault.Fault.TheVariants.{TooLarge, Other}
@@ -14,7 +14,7 @@ use Rattle.mqtt_packet.specs.declared.front.TheConstants.{MAX_SIZE}
 use Rattle.mqtt_packet.specs.declared.head.Head.{Head}
 use Rattle.mqtt_packet.specs.declared.packet.Packet.{Packet}
 use Rattle.mqtt_packet.specs.declared.packet.Packet.TheVariants.{Publish, Pingreq}
-use Rattle.mqtt_packet.specs.Heads.{first, head_of, IsHead, is_read}
+use Rattle.mqtt_packet.specs.Heads.{head_of, IsHead, is_read}
 use Rattle.mqtt_packet.specs.Packets.{head, framed, Spells}
 use Rattle.mqtt_packet.specs.Reading.{packet_at}
 use Rattle.mqtt_packet.specs.Front.{size_by, size_behind, size_at, with_size, first_by, first_of}

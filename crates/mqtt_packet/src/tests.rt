@@ -184,7 +184,7 @@ fn after_want_of_memory_the_framer_is_as_it_was(rt: HostRuntime) -> Result<(), F
             }
         }
     }
-    let mut given = 0;
+    let mut is_given = false;
     for _ in 0..4 {
         let (held, place) = (framer.held(), framer.place());
         match framer.next() {
@@ -194,7 +194,7 @@ fn after_want_of_memory_the_framer_is_as_it_was(rt: HostRuntime) -> Result<(), F
                     assert_eq!(rt; place, 2);
                     assert_eq!(rt; publish.topic.as_str(), "a/b");
                     assert_eq!(rt; publish.payload.as_slice(), b"!".as_slice());
-                    given += 1;
+                    is_given = true;
                 }
             },
             Ok(None) => break,
@@ -205,7 +205,7 @@ fn after_want_of_memory_the_framer_is_as_it_was(rt: HostRuntime) -> Result<(), F
             }
         }
     }
-    assert_eq!(rt; given, 1);
+    assert!(rt; is_given);
     Ok(())
 }
 
