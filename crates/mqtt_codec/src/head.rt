@@ -26,7 +26,7 @@ pub enum Head {
 }
 
 /// What the first byte says, if its type and flags are lawful.
-pub(crate) fn head_read(first: u8) -> Option<Head>
+pub fn head_read(first: u8) -> Option<Head>
     ensures { result ≡ head_of first }
 {
     let head = match first {

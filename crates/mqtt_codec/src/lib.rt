@@ -24,7 +24,7 @@ pub use connack::{Connack, ConnackRef};
 pub use connect::{Connect, ConnectRef, Will, WillRef};
 pub use fault::Fault;
 pub use filters::{Filters, FiltersRef};
-pub use head::Head;
+pub use head::{Head, head_read};
 pub use laws::{one_packet, round_trip};
 pub use notice::{Notice, NoticeRef};
 pub use packet::{Packet, PacketRef, decode, encode, lawful, look_at};

@@ -5,13 +5,13 @@ use Rattle.std.proofs.lemmas.List.{take-append-le}
 use Rattle.mqtt_base.specs.declared.fault.ReadFault.TheVariants.{Short, Overlong, BadText}
 use Rattle.mqtt_base.specs.declared.fault.ReadFault.{ReadFault}
 use Rattle.mqtt_base.specs.Reading.{◌>>=◌, groups_at, varint_at}
-use Rattle.mqtt_packet.specs.declared.fault.Fault.{Fault}
-use Rattle.mqtt_packet.specs.declared.fault.Fault.TheVariants.{TooLarge, Other}
+use Rattle.mqtt_codec.specs.declared.fault.Fault.{Fault}
+use Rattle.mqtt_codec.specs.declared.fault.Fault.TheVariants.{TooLarge}
 use Rattle.mqtt_packet.specs.declared.front.TheConstants.{MAX_SIZE}
-use Rattle.mqtt_packet.specs.declared.head.Head.{Head}
-use Rattle.mqtt_packet.specs.declared.packet.Packet.{Packet}
-use Rattle.mqtt_packet.specs.Heads.{head_of, is_read}
-use Rattle.mqtt_packet.specs.Reading.{packet_at}
+use Rattle.mqtt_codec.specs.declared.head.Head.{Head}
+use Rattle.mqtt_codec.specs.declared.packet.Packet.{Packet}
+use Rattle.mqtt_codec.specs.Heads.{head_of}
+use Rattle.mqtt_codec.specs.Frames.{packet_at}
 use Rattle.mqtt_packet.specs.Front.{size_by, size_behind, size_at, with_size, first_by, first_of}
 
 -- ---- variable byte integers
@@ -168,14 +168,9 @@ size_stays_by : (bytes t : List ℕ) → LeavesMore t (varint_at bytes) (varint_
 size_stays_by bytes t (inl e) = inl (ap (size_by (length bytes)) e)
 size_stays_by bytes t (inr e) = rw e (size_by_stays bytes t (varint_at bytes) (varint_within bytes))
 
-read_stays : {A : Type 0} (none : A) (c : Bool) (x y z : A) → Stays none y z → Stays none (cond c y x) (cond c z x)
-read_stays none true x y z h = h
-read_stays none false x y z h = inr refl
-
 behind_stays : (head : Option Head) (bytes t : List ℕ) → Stays Waiting (size_behind head bytes) (size_behind head (bytes ++ t))
 behind_stays None bytes t = inr refl
-behind_stays (Some h) bytes t =
-    read_stays Waiting (is_read h) (Err Other) (size_by (length bytes) (varint_at bytes)) (size_by (length (bytes ++ t)) (varint_at (bytes ++ t))) (size_stays_by bytes t (varint_more bytes t))
+behind_stays (Some h) bytes t = size_stays_by bytes t (varint_more bytes t)
 
 pub size_stays : (h t : List ℕ) → Stays Waiting (size_at h) (size_at (h ++ t))
 unfolding size_at
@@ -197,13 +192,9 @@ size_by_within count n (Err Overlong) l e = absurd cc
 size_by_within count n (Err BadText) l e = absurd cc
 size_by_within count n (Ok x) l e = whole_within (ltb MAX_SIZE (1 + (count - length x.1) + x.0)) (ltb (length x.1) x.0) count (length x.1) x.0 n l refl e
 
-read_within : (c : Bool) (count n : ℕ) (r : Read) → Within count r → cond c (size_by count r) (Err Other) ≡ Ok (Some n) → (n ≤ 1 + count) × (0 < n)
-read_within true count n r l e = size_by_within count n r l e
-read_within false count n r l e = absurd cc
-
 behind_within : (head : Option Head) (bytes : List ℕ) (n : ℕ) → size_behind head bytes ≡ Ok (Some n) → (n ≤ 1 + length bytes) × (0 < n)
 behind_within None bytes n e = absurd cc
-behind_within (Some h) bytes n e = read_within (is_read h) (length bytes) n (varint_at bytes) (varint_within bytes) e
+behind_within (Some h) bytes n e = size_by_within (length bytes) n (varint_at bytes) (varint_within bytes) e
 
 -- a whole packet lies within the bytes, and is not empty
 pub size_within : (h : List ℕ) (n : ℕ) → size_at h ≡ Ok (Some n) → (n ≤ length h) × (0 < n)

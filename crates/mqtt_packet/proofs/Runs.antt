@@ -3,11 +3,11 @@ use Rattle.std.proofs.Common.{◌≡◌, ℕ, ◌+◌, ◌-◌, ◌<◌, true, f
 use Rattle.std.proofs.lemmas.Bool.{lt-ltb}
 use Rattle.mqtt_base.specs.declared.fault.ReadFault.TheVariants.{Overlong}
 use Rattle.mqtt_base.specs.Reading.{varint_at}
-use Rattle.mqtt_packet.specs.declared.fault.Fault.{Fault}
-use Rattle.mqtt_packet.specs.declared.fault.Fault.TheVariants.{Malformed, TooLarge, Other}
+use Rattle.mqtt_codec.specs.declared.fault.Fault.{Fault}
+use Rattle.mqtt_codec.specs.declared.fault.Fault.TheVariants.{Malformed, TooLarge}
 use Rattle.mqtt_packet.specs.declared.front.TheConstants.{MAX_SIZE}
-use Rattle.mqtt_packet.specs.declared.head.Head.{Head}
-use Rattle.mqtt_packet.specs.Heads.{head_of, is_read}
+use Rattle.mqtt_codec.specs.declared.head.Head.{Head}
+use Rattle.mqtt_codec.specs.Heads.{head_of}
 use Rattle.mqtt_packet.specs.Front.{size_at, first_of}
 use Rattle.mqtt_packet.specs.Stream.{Item, IsCut, IsStream, short_at, fault_at, Framing, after, Call, took, gave_back, gave, without_last, IsRun, taken_after, taken_of, given_of, empty}
 use Rattle.mqtt_packet.proofs.Shorter.{cut_less}
@@ -47,19 +47,15 @@ pub at_first_byte : (b : ℕ) → head_of b ≡ None → first_of (b ∷ []) ≡
 unfolding first_of size_at
 at_first_byte b e = rw e refl
 
-pub at_kind : (b : ℕ) (head : Head) → head_of b ≡ Some head → is_read head ≡ false → first_of (b ∷ []) ≡ Err Other
-unfolding first_of size_at
-at_kind b head e r = rw (e, r) refl
-
-pub at_overlong : (b : ℕ) (head : Head) (length : List ℕ) → head_of b ≡ Some head → is_read head ≡ true → varint_at length ≡ Err Overlong
+pub at_overlong : (b : ℕ) (head : Head) (length : List ℕ) → head_of b ≡ Some head → varint_at length ≡ Err Overlong
     → first_of (b ∷ length) ≡ Err Malformed
 unfolding first_of size_at
-at_overlong b head length e r o = rw (e, r, o) refl
+at_overlong b head length e o = rw (e, o) refl
 
-pub at_length : (b n : ℕ) (head : Head) (bytes : List ℕ) → head_of b ≡ Some head → is_read head ≡ true → varint_at bytes ≡ Ok (n, [])
+pub at_length : (b n : ℕ) (head : Head) (bytes : List ℕ) → head_of b ≡ Some head → varint_at bytes ≡ Ok (n, [])
     → MAX_SIZE < 1 + length bytes + n → first_of (b ∷ bytes) ≡ Err TooLarge
 unfolding first_of size_at
-at_length b n head bytes e r v l =
+at_length b n head bytes e v l =
     let none : List ℕ = [] in
     let above : MAX_SIZE < 1 + (length bytes - length none) + n = omega (arith, l) in
-    rw (e, r, v, lt-ltb MAX_SIZE (1 + (length bytes - length none) + n) above) refl
+    rw (e, v, lt-ltb MAX_SIZE (1 + (length bytes - length none) + n) above) refl

@@ -4,13 +4,13 @@ use Rattle.std.proofs.lemmas.Bool.{ltb-true}
 use Rattle.std.proofs.lemmas.List.{take-append-drop, take-append-le, drop-take, length-take}
 use Rattle.mqtt_base.specs.declared.fault.ReadFault.TheVariants.{Short, Overlong, BadText}
 use Rattle.mqtt_base.specs.Reading.{groups_at, varint_at}
-use Rattle.mqtt_packet.specs.declared.fault.Fault.{Fault}
-use Rattle.mqtt_packet.specs.declared.fault.Fault.TheVariants.{TooLarge, Other}
+use Rattle.mqtt_codec.specs.declared.fault.Fault.{Fault}
+use Rattle.mqtt_codec.specs.declared.fault.Fault.TheVariants.{TooLarge}
 use Rattle.mqtt_packet.specs.declared.front.TheConstants.{MAX_SIZE}
-use Rattle.mqtt_packet.specs.declared.head.Head.{Head}
-use Rattle.mqtt_packet.specs.declared.packet.Packet.{Packet}
-use Rattle.mqtt_packet.specs.Heads.{head_of, is_read}
-use Rattle.mqtt_packet.specs.Reading.{packet_at}
+use Rattle.mqtt_codec.specs.declared.head.Head.{Head}
+use Rattle.mqtt_codec.specs.declared.packet.Packet.{Packet}
+use Rattle.mqtt_codec.specs.Heads.{head_of}
+use Rattle.mqtt_codec.specs.Frames.{packet_at}
 use Rattle.mqtt_packet.specs.Front.{size_by, size_behind, size_at, with_size, first_by, first_of}
 use Rattle.mqtt_packet.specs.Stream.{Item, place_after, IsCut}
 use Rattle.mqtt_packet.proofs.Fronts.{Read, LeavesMore, next_group, varint_more, Within, groups_within, varint_within, size_stays, size_within, found_size, first_within}
@@ -85,14 +85,9 @@ longer_by bytes t n (Ok x) s w short (inr same) e f =
     let whole : size_by (length (bytes ++ t)) (Ok (x.0, x.1 ++ t)) ≡ Ok (Some n) = ap (size_by (length (bytes ++ t))) (sym same) ∙ f in
     omega (arith, size_is (length (bytes ++ t)) n (x.0, x.1 ++ t) whole, few, w, length-append bytes t, length-append x.1 t)
 
-read_longer : (c : Bool) (bytes t : List ℕ) (n : ℕ) → cond c (size_by (length bytes) (varint_at bytes)) (Err Other) ≡ Ok None
-    → cond c (size_by (length (bytes ++ t)) (varint_at (bytes ++ t))) (Err Other) ≡ Ok (Some n) → 1 + length bytes < n
-read_longer true bytes t n e f = longer_by bytes t n (varint_at bytes) (varint_at (bytes ++ t)) (varint_within bytes) (λ s. varint_end bytes t s) (varint_more bytes t) e f
-read_longer false bytes t n e f = absurd cc
-
 behind_longer : (h : Option Head) (bytes t : List ℕ) (n : ℕ) → size_behind h bytes ≡ Ok None → size_behind h (bytes ++ t) ≡ Ok (Some n) → 1 + length bytes < n
 behind_longer None bytes t n e f = absurd cc
-behind_longer (Some h) bytes t n e f = read_longer (is_read h) bytes t n e f
+behind_longer (Some h) bytes t n e f = longer_by bytes t n (varint_at bytes) (varint_at (bytes ++ t)) (varint_within bytes) (λ s. varint_end bytes t s) (varint_more bytes t) e f
 
 size_longer : (bytes t : List ℕ) (n : ℕ) → size_at bytes ≡ Ok None → size_at (bytes ++ t) ≡ Ok (Some n) → length bytes < n
 unfolding size_at

@@ -8,55 +8,51 @@ use Rattle.mqtt_base.specs.Values.{varint}
 use Rattle.mqtt_base.specs.Reading.{varint_at}
 use Rattle.mqtt_base.proofs.Steps.{IsBytes, IsBytes-take}
 use Rattle.mqtt_base.proofs.Varints.{varint_rereads}
-use Rattle.mqtt_packet.specs.declared.fault.Fault.{Fault}
-use Rattle.mqtt_packet.specs.declared.fault.Fault.TheVariants.{TooLarge, Other}
+use Rattle.mqtt_codec.specs.declared.fault.Fault.{Fault}
+use Rattle.mqtt_codec.specs.declared.fault.Fault.TheVariants.{TooLarge}
 use Rattle.mqtt_packet.specs.declared.front.TheConstants.{MAX_SIZE}
-use Rattle.mqtt_packet.specs.declared.head.Head.{Head}
-use Rattle.mqtt_packet.specs.declared.packet.Packet.{Packet}
-use Rattle.mqtt_packet.specs.declared.packet.Packet.TheVariants.{Publish, Pingreq}
-use Rattle.mqtt_packet.specs.Heads.{head_of, IsHead, is_read}
-use Rattle.mqtt_packet.specs.Packets.{head, frame_of, Spells}
-use Rattle.mqtt_packet.specs.Reading.{packet_at}
+use Rattle.mqtt_codec.specs.declared.head.Head.{Head}
+use Rattle.mqtt_codec.specs.declared.packet.Packet.{Packet}
+use Rattle.mqtt_codec.specs.Heads.{head_of}
+use Rattle.mqtt_codec.specs.Packets.{head, framed, Spells}
+use Rattle.mqtt_codec.specs.Frames.{packet_at}
 use Rattle.mqtt_packet.specs.Front.{size_by, size_behind, size_at, with_size, first_by, first_of}
 use Rattle.mqtt_packet.specs.Stream.{place_after, IsCut, IsStream, short_at, AreSpelled, joined_bytes, items_from, end_from}
-use Rattle.mqtt_packet.proofs.Bodies.{head_again, is_head}
-use Rattle.mqtt_packet.proofs.Frames.{packet_takes, packet_again}
+use Rattle.mqtt_codec.proofs.HeadLemmas.{IsHead, is_head}
+use Rattle.mqtt_codec.proofs.FrameLemmas.{packet_takes, packet_again}
 use Rattle.mqtt_packet.proofs.Fronts.{found_size, found_packet}
 use Rattle.mqtt_packet.proofs.Cuts.{fault_stays}
 
-is_read_again : (p : Packet) → is_read (head p) ≡ true
-is_read_again (Publish p) = refl
-is_read_again Pingreq = refl
+framed_size : (h : Head) (body : List ℕ) → length (framed h body) ≡ 1 + length (varint (length body)) + length body
+framed_size h body = omega (arith, length-append (varint (length body)) body)
 
-frame_of_size : (h : Head) (body : List ℕ) → length (frame_of h body) ≡ 1 + length (varint (length body)) + length body
-frame_of_size h body = omega (arith, length-append (varint (length body)) body)
-
-size_whole : (h : Head) (body more : List ℕ) → IsHead h → is_read h ≡ true → length body < 2 ^ 28 → length (frame_of h body) ≤ MAX_SIZE
-    → size_at (frame_of h body ++ more) ≡ Ok (Some (length (frame_of h body)))
+size_whole : (h : Head) (body more : List ℕ) → IsHead h → length body < 2 ^ 28 → length (framed h body) ≤ MAX_SIZE
+    → size_at (framed h body ++ more) ≡ Ok (Some (length (framed h body)))
 unfolding size_at
-size_whole h body more is r lt small =
+size_whole h body more is lt small =
     let v = varint (length body) in
     let read : varint_at ((v ++ body) ++ more) ≡ Ok (length body, body ++ more) = ap varint_at (append_assoc v body more) ∙ varint_rereads (length body) (body ++ more) lt in
-    let size = frame_of_size h body in
+    let size = framed_size h body in
     let taken : length ((v ++ body) ++ more) - length (body ++ more) ≡ length v = omega (arith, length-append (v ++ body) more, length-append v body, length-append body more) in
     let below : 1 + length v + length body ≤ MAX_SIZE = omega (arith, size, small) in
     let here : length body ≤ length (body ++ more) = omega (arith, length-append body more) in
-    rw (head_again h is, r, read, taken, le-ltb MAX_SIZE (1 + length v + length body) below, le-ltb (length (body ++ more)) (length body) here, size) refl
+    rw (is, read, taken, le-ltb MAX_SIZE (1 + length v + length body) below, le-ltb (length (body ++ more)) (length body) here, size) refl
 
-frame_of_whole : (p : Packet) (body more : List ℕ) → length body < 2 ^ 28 → length (frame_of (head p) body) ≤ MAX_SIZE → packet_at (frame_of (head p) body) ≡ Ok p
-    → first_of (frame_of (head p) body ++ more) ≡ Ok (Some (p, length (frame_of (head p) body)))
+framed_whole : (p : Packet) (body more : List ℕ) → length body < 2 ^ 28 → length (framed (head p) body) ≤ MAX_SIZE → packet_at (framed (head p) body) ≡ Ok p
+    → first_of (framed (head p) body ++ more) ≡ Ok (Some (p, length (framed (head p) body)))
 unfolding first_of
-frame_of_whole p body more lt small read =
-    let bytes = frame_of (head p) body in
-    rw (size_whole (head p) body more (is_head p) (is_read_again p) lt small, take_at bytes more (length bytes) refl, read) refl
+framed_whole p body more lt small read =
+    let bytes = framed (head p) body in
+    rw (size_whole (head p) body more (is_head p) lt small, take_at bytes more (length bytes) refl, read) refl
 
 pub first_whole : (p : Packet) (bytes more : List ℕ) → Spells p bytes → length bytes ≤ MAX_SIZE → first_of (bytes ++ more) ≡ Ok (Some (p, length bytes))
 first_whole p bytes more s small =
     let body = s.0.1.0 in
-    let frame = s.0.1.2 in
-    let small2 : length (frame_of (head p) body) ≤ MAX_SIZE = omega (arith, small, ap length frame.1) in
-    let read : packet_at (frame_of (head p) body) ≡ Ok p = ap packet_at (sym frame.1) ∙ packet_again bytes p s in
-    subst (λ (bs : List ℕ). first_of (bs ++ more) ≡ Ok (Some (p, length bs))) (sym frame.1) (frame_of_whole p body more frame.0 small2 read)
+    let lt = s.0.1.2 in
+    let frame = s.0.1.3 in
+    let small2 : length (framed (head p) body) ≤ MAX_SIZE = omega (arith, small, ap length frame) in
+    let read : packet_at (framed (head p) body) ≡ Ok p = ap packet_at (sym frame) ∙ packet_again bytes p s in
+    subst (λ (bs : List ℕ). first_of (bs ++ more) ≡ Ok (Some (p, length bs))) (sym frame) (framed_whole p body more lt small2 read)
 
 -- ---- and nothing else is
 
@@ -74,13 +70,9 @@ size_by_below count n (Err Overlong) e = absurd cc
 size_by_below count n (Err BadText) e = absurd cc
 size_by_below count n (Ok x) e = below_by (ltb MAX_SIZE (1 + (count - length x.1) + x.0)) (ltb (length x.1) x.0) (1 + (count - length x.1) + x.0) n refl e
 
-read_below : (c : Bool) (count n : ℕ) (r : Result (ℕ × List ℕ) ReadFault) → cond c (size_by count r) (Err Other) ≡ Ok (Some n) → n ≤ MAX_SIZE
-read_below true count n r e = size_by_below count n r e
-read_below false count n r e = absurd cc
-
 behind_below : (h : Option Head) (bytes : List ℕ) (n : ℕ) → size_behind h bytes ≡ Ok (Some n) → n ≤ MAX_SIZE
 behind_below None bytes n e = absurd cc
-behind_below (Some h) bytes n e = read_below (is_read h) (length bytes) n (varint_at bytes) e
+behind_below (Some h) bytes n e = size_by_below (length bytes) n (varint_at bytes) e
 
 size_below : (bytes : List ℕ) (n : ℕ) → size_at bytes ≡ Ok (Some n) → n ≤ MAX_SIZE
 unfolding size_at

@@ -3,13 +3,13 @@ use Rattle.std.specs.Prelude.{◌≡◌, ℕ, ◌+◌, ◌-◌, nat_lt, if◌the
 use Rattle.mqtt_base.specs.declared.fault.ReadFault.{ReadFault}
 use Rattle.mqtt_base.specs.declared.fault.ReadFault.TheVariants.{Short, Overlong, BadText}
 use Rattle.mqtt_base.specs.Reading.{varint_at}
-use Rattle.mqtt_packet.specs.declared.fault.Fault.{Fault}
-use Rattle.mqtt_packet.specs.declared.fault.Fault.TheVariants.{Malformed, TooLarge, Other}
+use Rattle.mqtt_codec.specs.declared.fault.Fault.{Fault}
+use Rattle.mqtt_codec.specs.declared.fault.Fault.TheVariants.{Malformed, TooLarge}
 use Rattle.mqtt_packet.specs.declared.front.TheConstants.{MAX_SIZE}
-use Rattle.mqtt_packet.specs.declared.head.Head.{Head}
-use Rattle.mqtt_packet.specs.declared.packet.Packet.{Packet}
-use Rattle.mqtt_packet.specs.Heads.{head_of, is_read}
-use Rattle.mqtt_packet.specs.Reading.{packet_at}
+use Rattle.mqtt_codec.specs.declared.head.Head.{Head}
+use Rattle.mqtt_codec.specs.declared.packet.Packet.{Packet}
+use Rattle.mqtt_codec.specs.Heads.{head_of}
+use Rattle.mqtt_codec.specs.Frames.{packet_at}
 
 -- Behind a first byte, of count bytes: the Remaining Length and what follows it. A packet above
 -- MAX_SIZE is refused as soon as its length is known.
@@ -25,7 +25,7 @@ size_by count (Ok x) =
 -- a first byte that is wrong is refused at once
 abbrev pub size_behind : Option Head → List ℕ → Result (Option ℕ) Fault
 size_behind None bytes = Err Malformed
-size_behind (Some h) bytes = if is_read h then size_by (length bytes) (varint_at bytes) else Err Other
+size_behind (Some h) bytes = size_by (length bytes) (varint_at bytes)
 
 -- the size of the whole packet at the front
 unfoldable pub size_at : List ℕ → Result (Option ℕ) Fault

@@ -1,10 +1,10 @@
 -- The cut of a stream of bytes into packets, and what cuts it (MQTT 5.0, 2.1).
 use Rattle.std.specs.Prelude.{◌≡◌, ◌≢◌, ℕ, ◌+◌, ◌-◌, ◌%◌, ◌^◌, ◌≤◌, List, [], ◌∷◌, ◌++◌, length, take, drop, Option, None, Some, Ok, Err}
-use Rattle.mqtt_packet.specs.declared.fault.Fault.{Fault}
-use Rattle.mqtt_packet.specs.declared.fault.Fault.TheVariants.{Memory}
-use Rattle.mqtt_packet.specs.declared.packet.Packet.{Packet}
+use Rattle.mqtt_codec.specs.declared.fault.Fault.{Fault}
+use Rattle.mqtt_codec.specs.declared.fault.Fault.TheVariants.{Memory}
+use Rattle.mqtt_codec.specs.declared.packet.Packet.{Packet}
 use Rattle.mqtt_packet.specs.declared.front.TheConstants.{MAX_SIZE}
-use Rattle.mqtt_packet.specs.Packets.{Spells}
+use Rattle.mqtt_codec.specs.Packets.{Spells}
 use Rattle.mqtt_packet.specs.Front.{first_of}
 
 -- a packet of a stream, the place of its first byte, and its size in bytes

@@ -1,16 +1,15 @@
 //! The cut of a stream of bytes into packets, however it comes (2.1).
 
 ghost use Rattle.std.specs.Prelude.{◌≡◌, ◌-◌, ◌<◌, ◌≤◌, ◌++◌, length, take, min, IfOk, IfErr, IfNone, OnErr, OnOk, OnSome, IsOk};
-ghost use Rattle.mqtt_packet.specs.declared.fault.Fault.{Fault};
+ghost use Rattle.mqtt_codec.specs.declared.fault.Fault.{Fault};
 ghost use Rattle.mqtt_packet.specs.declared.front.TheConstants.{MAX_SIZE};
 ghost use Rattle.mqtt_packet.specs.Front.{first_of};
 ghost use Rattle.mqtt_packet.specs.Stream.{Framing, empty, without_last, Stands, Refuses, Finds, Gives};
-ghost use Rattle.mqtt_packet.specs.Views.{packet_of};
+ghost use Rattle.mqtt_codec.specs.Frames.{packet_of};
 
-use crate::fault::Fault;
 use crate::front::{MAX_SIZE, first_read};
-use crate::packet::{Packet, PacketRef};
 use bytes::BytesMut;
+use mqtt_codec::{Fault, Packet, PacketRef};
 use std::alloc::Global;
 use std::marker::Model;
 

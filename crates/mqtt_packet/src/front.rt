@@ -2,14 +2,11 @@
 
 ghost use Rattle.std.specs.Prelude.{◌≡◌, ◌<◌, ◌≤◌, IfOk, IfSome, IfNone, length};
 ghost use Rattle.mqtt_packet.specs.Front.{size_at, first_of, GivesFirst};
-ghost use Rattle.mqtt_packet.specs.Packets.{Fits};
-ghost use Rattle.mqtt_packet.specs.Views.{packet_of};
+ghost use Rattle.mqtt_codec.specs.Packets.{Fits};
+ghost use Rattle.mqtt_codec.specs.Frames.{packet_of};
 
-use crate::fault::Fault;
-use crate::head::{head_read, is_read};
-use crate::look::packet_read;
-use crate::packet::PacketRef;
 use mqtt_base::{ReadFault, varint_read};
+use mqtt_codec::{Fault, PacketRef, head_read, look_at};
 
 /// The greatest size of a packet, in bytes, fixed header included (ours; 3.1.2.11.4).
 pub const MAX_SIZE: usize = 65_536;
@@ -24,12 +21,9 @@ fn size_read(bytes: &[u8]) -> Result<Option<usize>, Fault>
     let Some((first, rest)) = bytes.split_first() else {
         return Ok(None);
     };
-    let Some(head) = head_read(*first) else {
+    let Some(_) = head_read(*first) else {
         return Err(Fault::Malformed);
     };
-    if !is_read(head) {
-        return Err(Fault::Other);
-    }
     match varint_read(rest) {
         Err(ReadFault::Short) => Ok(None),
         Err(ReadFault::Overlong | ReadFault::BadText) => Err(Fault::Malformed),
@@ -57,6 +51,6 @@ pub(crate) fn first_read(bytes: &[u8]) -> Result<Option<(PacketRef<'_>, usize)>,
     let Some(size) = size_read(bytes)? else {
         return Ok(None);
     };
-    let packet = packet_read(&bytes[..size])?;
+    let packet = look_at(&bytes[..size])?;
     Ok(Some((packet, size)))
 }

@@ -3,21 +3,15 @@
 ghost use Rattle.std.specs.Prelude.{◌≡◌, ◌≢◌, ℕ, ◌+◌, ◌<◌, ◌≤◌, take, slice_index, ◌∷◌, [], ◌++◌, ◌⊎◌, List, length, Ok, Err, Some, None, true, false};
 ghost use Rattle.mqtt_base.specs.Reading.{varint_at};
 ghost use Rattle.mqtt_base.specs.declared.fault.ReadFault.TheVariants.{Overlong};
-ghost use Rattle.mqtt_packet.specs.declared.fault.Fault.{Fault};
-ghost use Rattle.mqtt_packet.specs.declared.fault.Fault.TheVariants.{Malformed, TooLarge, Other};
+ghost use Rattle.mqtt_codec.specs.declared.fault.Fault.{Fault};
+ghost use Rattle.mqtt_codec.specs.declared.fault.Fault.TheVariants.{Malformed, TooLarge};
 ghost use Rattle.mqtt_packet.specs.declared.front.TheConstants.{MAX_SIZE};
-ghost use Rattle.mqtt_packet.specs.declared.head.Head.{Head};
-ghost use Rattle.mqtt_packet.specs.declared.packet.Packet.{Packet};
-ghost use Rattle.mqtt_packet.specs.Packets.{HasLayout, Spells};
-ghost use Rattle.mqtt_packet.specs.Heads.{head_of, is_read};
+ghost use Rattle.mqtt_codec.specs.declared.head.Head.{Head};
+ghost use Rattle.mqtt_codec.specs.declared.packet.Packet.{Packet};
+ghost use Rattle.mqtt_codec.specs.Packets.{Spells};
+ghost use Rattle.mqtt_codec.specs.Heads.{head_of};
 ghost use Rattle.mqtt_packet.specs.Front.{first_of};
 ghost use Rattle.mqtt_packet.specs.Stream.{AreSpelled, joined_bytes, items_from, end_from, Item, Ending, short_at, fault_at, IsCut, IsStream, Framing, Call, IsRun, taken_of, given_of, empty};
-
-/// No bytes are laid out as two packets.
-pub fn one_packet()
-    ensures { (bytes : List ℕ) (packet other : Packet) → HasLayout packet bytes → HasLayout other bytes
-        → packet ≡ other }
-{}
 
 /// What a stream begins with is a packet's spelling, or else no stream that goes on so begins with one.
 pub fn first_spelled()
@@ -48,12 +42,10 @@ pub fn one_cut()
 /// changes what stands.
 pub fn moments()
     ensures first_byte { (b : ℕ) → head_of b ≡ None → first_of (b ∷ []) ≡ Err Malformed }
-    ensures kind { (b : ℕ) (head : Head) → head_of b ≡ Some head → is_read head ≡ false
-        → first_of (b ∷ []) ≡ Err Other }
     ensures overlong { (b : ℕ) (head : Head) (len : List ℕ) → head_of b ≡ Some head
-        → is_read head ≡ true → varint_at len ≡ Err Overlong → first_of (b ∷ len) ≡ Err Malformed }
+        → varint_at len ≡ Err Overlong → first_of (b ∷ len) ≡ Err Malformed }
     ensures too_large { (b n : ℕ) (head : Head) (len : List ℕ) → head_of b ≡ Some head
-        → is_read head ≡ true → varint_at len ≡ Ok (n, []) → MAX_SIZE < 1 + length len + n
+        → varint_at len ≡ Ok (n, []) → MAX_SIZE < 1 + length len + n
         → first_of (b ∷ len) ≡ Err TooLarge }
     ensures last_byte { (front : List ℕ) (packet : Packet) (n more : ℕ)
         → first_of front ≡ Ok (Some (packet, n)) → n ≤ more

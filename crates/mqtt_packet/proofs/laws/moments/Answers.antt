@@ -1,13 +1,10 @@
 use Rattle.mqtt_packet.proofs.Fronts.{first_stays}
 use Rattle.mqtt_packet.proofs.Shorter.{first_less}
-use Rattle.mqtt_packet.proofs.Runs.{at_first_byte, at_kind, at_overlong, at_length}
+use Rattle.mqtt_packet.proofs.Runs.{at_first_byte, at_overlong, at_length}
 use Rattle.mqtt_packet.proofs.laws.moments.Goals as goal
 
 pub returns-clause-first_byte : goal.returns-clause-first_byte
 returns-clause-first_byte c = at_first_byte
-
-pub returns-clause-kind : goal.returns-clause-kind
-returns-clause-kind c = at_kind
 
 pub returns-clause-overlong : goal.returns-clause-overlong
 returns-clause-overlong c = at_overlong
