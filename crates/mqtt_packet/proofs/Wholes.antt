@@ -1,10 +1,10 @@
 -- A spelling at the front of the bytes is the packet that they begin with.
-use Rattle.std.proofs.Common.{◌≡◌, ◌≢◌, ℕ, ◌+◌, ◌-◌, ◌^◌, ◌<◌, ◌≤◌, Bool, true, false, cond, ltb, List, [], ◌∷◌, ◌++◌, length, take, drop, Option, None, Some, Result, Ok, Err, refl, sym, ap, subst, ◌∙◌, append_assoc, arith, length-append}
+use Rattle.std.proofs.Common.{◌≡◌, ◌≢◌, ℕ, ◌+◌, ◌-◌, ◌^◌, ◌<◌, ◌≤◌, Bool, true, false, cond, ltb, List, [], ◌∷◌, ◌++◌, length, take, drop, Option, None, Some, Result, Ok, Err, IfOk, IfSome, refl, sym, ap, subst, ◌∙◌, append_assoc, arith, length-append}
 use Rattle.std.proofs.lemmas.Bool.{ltb-false, le-ltb}
-use Rattle.std.proofs.lemmas.List.{take_at, drop_at}
+use Rattle.std.proofs.lemmas.List.{take_at, drop_at, length-take-le}
 use Rattle.mqtt_base.specs.declared.fault.ReadFault.{ReadFault}
 use Rattle.mqtt_base.specs.declared.fault.ReadFault.TheVariants.{Short, Overlong, BadText}
-use Rattle.mqtt_base.specs.Values.{varint}
+use Rattle.mqtt_base.specs.Values.{varint, blob}
 use Rattle.mqtt_base.specs.Reading.{varint_at}
 use Rattle.mqtt_base.proofs.Steps.{IsBytes, IsBytes-take}
 use Rattle.mqtt_base.proofs.Varints.{varint_rereads}
@@ -13,14 +13,18 @@ use Rattle.mqtt_codec.specs.declared.fault.Fault.TheVariants.{TooLarge}
 use Rattle.mqtt_packet.specs.declared.front.TheConstants.{MAX_SIZE}
 use Rattle.mqtt_codec.specs.declared.head.Head.{Head}
 use Rattle.mqtt_codec.specs.declared.packet.Packet.{Packet}
-use Rattle.mqtt_codec.specs.Heads.{head_of}
-use Rattle.mqtt_codec.specs.Packets.{head, framed, Spells}
+use Rattle.mqtt_codec.specs.declared.packet.Packet.TheVariants as packets
+use Rattle.mqtt_codec.specs.declared.publish.Publish.{Publish}
+use Rattle.mqtt_codec.specs.Publish.{identifier_field}
+use Rattle.mqtt_props.specs.Properties.{block}
+use Rattle.mqtt_codec.specs.Heads.{first, head_of}
+use Rattle.mqtt_codec.specs.Packets.{head, framed, HasLayout, Spells}
 use Rattle.mqtt_codec.specs.Frames.{packet_at}
-use Rattle.mqtt_packet.specs.Front.{size_by, size_behind, size_at, with_size, first_by, first_of}
+use Rattle.mqtt_packet.specs.Front.{size_by, size_behind, size_at, with_size, first_by, first_of, GivesFirst, EndsWithPayload}
 use Rattle.mqtt_packet.specs.Stream.{place_after, IsCut, IsStream, short_at, AreSpelled, joined_bytes, items_from, end_from}
 use Rattle.mqtt_codec.proofs.HeadLemmas.{IsHead, is_head}
 use Rattle.mqtt_codec.proofs.FrameLemmas.{packet_takes, packet_again}
-use Rattle.mqtt_packet.proofs.Fronts.{found_size, found_packet}
+use Rattle.mqtt_packet.proofs.Fronts.{found_size, found_packet, first_within}
 use Rattle.mqtt_packet.proofs.Cuts.{fault_stays}
 
 framed_size : (h : Head) (body : List ℕ) → length (framed h body) ≡ 1 + length (varint (length body)) + length body
@@ -97,6 +101,54 @@ first_by_spells bytes p n (Ok (Some m)) fits s e = sized_spells bytes p n m (pac
 pub first_spells : (bytes : List ℕ) (p : Packet) (n : ℕ) → IsBytes bytes → first_of bytes ≡ Ok (Some (p, n)) → Spells p (take n bytes) × (n ≤ MAX_SIZE)
 unfolding first_of
 first_spells bytes p n fits e = first_by_spells bytes p n (size_at bytes) fits refl e
+
+-- ---- the payload stands at the end
+
+end_of : (bytes front back : List ℕ) → bytes ≡ front ++ back → (length back ≤ length bytes) × (back ≡ drop (length bytes - length back) bytes)
+end_of bytes front back e =
+    let len : length bytes - length back ≡ length front = omega (arith, ap length e, length-append front back) in
+    (omega (arith, ap length e, length-append front back), sym (ap (drop (length bytes - length back)) e ∙ ap (λ (k : ℕ). drop k (front ++ back)) len ∙ drop_at front back (length front) refl))
+
+publish_end : (p : Publish) (bytes : List ℕ) → HasLayout (packets.Publish p) bytes → (length p.payload ≤ length bytes) × (p.payload ≡ drop (length bytes - length p.payload) bytes)
+publish_end p bytes (fits, (body, is, lt, e)) =
+    let top = first (head (packets.Publish p)) in
+    let v = varint (length body) in
+    let fields = blob p.topic ++ (identifier_field p.delivery ++ block p.properties) in
+    let split : body ≡ fields ++ p.payload =
+    is
+    ∙ ap (λ (b : List ℕ). blob p.topic ++ b) (sym (append_assoc (identifier_field p.delivery) (block p.properties) p.payload))
+    ∙ sym (append_assoc (blob p.topic) (identifier_field p.delivery ++ block p.properties) p.payload) in
+    let parts : bytes ≡ (top ∷ (v ++ fields)) ++ p.payload =
+    e ∙ ap (λ (b : List ℕ). top ∷ (v ++ b)) split ∙ ap (λ (b : List ℕ). top ∷ b) (sym (append_assoc v fields p.payload)) in
+    end_of bytes (top ∷ (v ++ fields)) p.payload parts
+
+pub first_ends : (bytes : List ℕ) (p : Packet) (n : ℕ) → IsBytes bytes → first_of bytes ≡ Ok (Some (p, n)) → EndsWithPayload p n bytes
+first_ends bytes (packets.Publish p) n fits e =
+    let s = first_spells bytes (packets.Publish p) n fits e in
+    let within = first_within bytes (packets.Publish p) n e in
+    let len : length (take n bytes) ≡ n = length-take-le n bytes within.0 in
+    let ends = publish_end p (take n bytes) s.0.0 in
+    (omega (arith, ends.0, len), ends.1 ∙ ap (λ (k : ℕ). drop (k - length p.payload) (take n bytes)) len)
+first_ends bytes (packets.Connect c) n fits e = tt
+first_ends bytes (packets.Connack c) n fits e = tt
+first_ends bytes (packets.Puback a) n fits e = tt
+first_ends bytes (packets.Pubrec a) n fits e = tt
+first_ends bytes (packets.Pubrel a) n fits e = tt
+first_ends bytes (packets.Pubcomp a) n fits e = tt
+first_ends bytes (packets.Subscribe s) n fits e = tt
+first_ends bytes (packets.Suback s) n fits e = tt
+first_ends bytes (packets.Unsubscribe u) n fits e = tt
+first_ends bytes (packets.Unsuback u) n fits e = tt
+first_ends bytes packets.Pingreq n fits e = tt
+first_ends bytes packets.Pingresp n fits e = tt
+first_ends bytes (packets.Disconnect m) n fits e = tt
+first_ends bytes (packets.Auth m) n fits e = tt
+
+pub found_ends : {X : Type 0} (view : X → Packet) (bytes : List ℕ) (r : Result (Option (X × ℕ)) Fault) → IsBytes bytes → GivesFirst view r (first_of bytes)
+    → IfOk r (λ found. IfSome found (λ x. EndsWithPayload (view x.0) x.1 bytes))
+found_ends {X} view bytes (Ok None) fits given = tt
+found_ends {X} view bytes (Ok (Some x)) fits given = first_ends bytes (view x.0) x.1 fits given
+found_ends {X} view bytes (Err f) fits given = tt
 
 -- where a fault stands, no stream that goes on so begins with a packet
 pub fault_final : (bytes later : List ℕ) (f : Fault) (p : Packet) (spelling more : List ℕ) → first_of bytes ≡ Err f → Spells p spelling → length spelling ≤ MAX_SIZE
