@@ -1,0 +1,180 @@
+//! Values from the standard's tables and sections (1.5), and each call once.
+
+use crate::{
+    ReadFault, blob_push, blob_read, text_read, u8_read, u16_push, u32_read, varint_len,
+    varint_push, varint_read, varint_write,
+};
+use std::test::Fail;
+
+#[test]
+fn varints_are_those_of_table_1_1(rt: HostRuntime) {
+    // The least and the greatest number of each length (Table 1-1 of 1.5.5).
+    let rows: [(u32, &[u8]); 9] = [
+        (0, &[0x00]),
+        (127, &[0x7f]),
+        (128, &[0x80, 0x01]),
+        (16_383, &[0xff, 0x7f]),
+        (16_384, &[0x80, 0x80, 0x01]),
+        (2_097_151, &[0xff, 0xff, 0x7f]),
+        (2_097_152, &[0x80, 0x80, 0x80, 0x01]),
+        (268_435_455, &[0xff, 0xff, 0xff, 0x7f]),
+        (321, &[0xc1, 0x02]),
+    ];
+    for (value, bytes) in rows {
+        assert_eq!(rt;
+            varint_read(bytes),
+            Ok((value, bytes.len())),
+            "reading {value}"
+        );
+        let mut out = [0xee; 4];
+        assert!(rt; value < 268_435_456);
+        assert_eq!(rt; varint_len(value), bytes.len(), "length of {value}");
+        let len = varint_write(value, &mut out);
+        assert_eq!(rt; len, bytes.len(), "writing {value}");
+        assert!(rt; len <= 4);
+        assert_eq!(rt; &out[..len], bytes, "writing {value}");
+    }
+}
+
+#[test]
+fn varints_that_end_early_or_are_too_long_are_refused(rt: HostRuntime) {
+    let rows: [(&[u8], ReadFault); 9] = [
+        (&[], ReadFault::Short),
+        (&[0x80], ReadFault::Short),
+        (&[0xff, 0xff], ReadFault::Short),
+        (&[0xff, 0xff, 0xff], ReadFault::Short),
+        (&[0x80, 0x00], ReadFault::Overlong),
+        (&[0x80, 0x80, 0x00], ReadFault::Overlong),
+        (&[0xff, 0xff, 0xff, 0x00], ReadFault::Overlong),
+        (&[0xff, 0xff, 0xff, 0xff, 0x01], ReadFault::Overlong),
+        (&[0xff, 0xff, 0xff, 0x80], ReadFault::Overlong),
+    ];
+    for (bytes, fault) in rows {
+        assert_eq!(rt; varint_read(bytes), Err(fault), "at {bytes:?}");
+    }
+}
+
+#[test]
+fn what_follows_a_value_is_left(rt: HostRuntime) {
+    assert_eq!(rt; varint_read(&[0x7f, 0x00, 0xff]), Ok((127, 1)));
+    assert_eq!(rt; text_read(&[0, 1, 0x41, 0x42]), Ok(("A", 3)));
+    assert_eq!(rt; blob_read(&[0, 1, 0x00, 0x42]), Ok(([0x00].as_slice(), 3)));
+    assert_eq!(rt; u8_read(&[0xff, 1]), Ok((255, 1)));
+    assert_eq!(rt; u32_read(&[0, 1, 0, 2, 9]), Ok((65_538, 4)));
+}
+
+#[test]
+fn texts_are_utf8_without_null(rt: HostRuntime) {
+    let rows: [(&[u8], &str); 8] = [
+        (&[0, 0], ""),
+        // The example of 1.5.4: U+0041, then U+2A6D4.
+        (&[0, 5, 0x41, 0xf0, 0xaa, 0x9b, 0x94], "A\u{2a6d4}"),
+        // U+FEFF is kept (1.5.4), first or not.
+        (&[0, 3, 0xef, 0xbb, 0xbf], "\u{feff}"),
+        (&[0, 4, 0x41, 0xef, 0xbb, 0xbf], "A\u{feff}"),
+        // Control characters and noncharacters are accepted (ours).
+        (&[0, 2, 0x01, 0x1f], "\u{1}\u{1f}"),
+        (&[0, 3, 0x7f, 0xc2, 0x9f], "\u{7f}\u{9f}"),
+        (&[0, 3, 0xef, 0xbf, 0xbf], "\u{ffff}"),
+        (&[0, 4, 0xf4, 0x8f, 0xbf, 0xbf], "\u{10ffff}"),
+    ];
+    for (bytes, text) in rows {
+        assert_eq!(rt; text_read(bytes), Ok((text, bytes.len())), "at {bytes:?}");
+    }
+}
+
+#[test]
+fn bad_texts_are_refused_once_all_bytes_are_there(rt: HostRuntime) {
+    let rows: [(&[u8], ReadFault); 13] = [
+        (&[], ReadFault::Short),
+        (&[0], ReadFault::Short),
+        (&[0, 1], ReadFault::Short),
+        // Bad bytes that are not all there: the input ends first.
+        (&[0, 2, 0x00], ReadFault::Short),
+        (&[1, 0, 0xff], ReadFault::Short),
+        // U+0000, alone and between others.
+        (&[0, 1, 0x00], ReadFault::BadText),
+        (&[0, 3, 0x41, 0x00, 0x42], ReadFault::BadText),
+        // U+D800 and U+DFFF, surrogates.
+        (&[0, 3, 0xed, 0xa0, 0x80], ReadFault::BadText),
+        (&[0, 3, 0xed, 0xbf, 0xbf], ReadFault::BadText),
+        // Overlong UTF-8 of U+0000 and of '/'.
+        (&[0, 2, 0xc0, 0x80], ReadFault::BadText),
+        (&[0, 2, 0xc0, 0xaf], ReadFault::BadText),
+        // Above U+10FFFF, and a character that the text cuts off.
+        (&[0, 4, 0xf4, 0x90, 0x80, 0x80], ReadFault::BadText),
+        (&[0, 2, 0xe2, 0x82, 0xac], ReadFault::BadText),
+    ];
+    for (bytes, fault) in rows {
+        assert_eq!(rt; text_read(bytes), Err(fault), "at {bytes:?}");
+    }
+}
+
+#[test]
+fn binary_data_may_hold_any_byte(rt: HostRuntime) {
+    assert_eq!(rt; blob_read(&[0, 0]), Ok(([].as_slice(), 2)));
+    assert_eq!(rt;
+        blob_read(&[0, 3, 0, 0xff, 0xed]),
+        Ok(([0, 0xff, 0xed].as_slice(), 5))
+    );
+    assert_eq!(rt;
+        blob_read(&[0, 3, 0, 0xff]),
+        Err(ReadFault::Short),
+        "a byte is missing"
+    );
+    assert_eq!(rt; blob_read(&[0]), Err(ReadFault::Short), "half a length");
+    assert_eq!(rt; u8_read(&[]), Err(ReadFault::Short));
+    assert_eq!(rt; u32_read(&[0, 1, 0]), Err(ReadFault::Short));
+}
+
+#[test]
+fn values_are_written_at_the_end(rt: HostRuntime) -> Result<(), Fail> {
+    let mut out = Vec::new(rt.alloc());
+    varint_push(&mut out, 321)?;
+    u16_push(&mut out, 10)?;
+    blob_push(&mut out, b"a/b")?;
+    assert_eq!(rt;
+        out.as_slice(),
+        [0xc1, 0x02, 0, 10, 0, 3, b'a', b'/', b'b'].as_slice()
+    );
+    Ok(())
+}
+
+#[test]
+fn a_refused_growth_leaves_what_stood(rt: HostRuntime) -> Result<(), Fail> {
+    // Room for one byte: whatever of the rest is refused, nothing of it is written.
+    let mut out = Vec::with_capacity(rt.alloc(), 1)?;
+    out.push(0xaa)?;
+    if blob_push(&mut out, b"a/b").is_err() {
+        assert_eq!(rt; out.as_slice(), [0xaa].as_slice(), "binary data");
+    }
+    let before = out.len();
+    if varint_push(&mut out, 268_435_455).is_err() {
+        assert_eq!(rt; out.len(), before, "a variable byte integer");
+    }
+    Ok(())
+}
+
+#[test]
+fn faults_say_what_they_mean(rt: HostRuntime) -> Result<(), Fail> {
+    let texts = [
+        (ReadFault::Short, 1, "the input ends inside the value"),
+        (
+            ReadFault::Overlong,
+            2,
+            "the variable byte integer is too long",
+        ),
+        (
+            ReadFault::BadText,
+            3,
+            "the text is not UTF-8, or holds U+0000",
+        ),
+    ];
+    for (fault, number, text) in texts {
+        assert_eq!(rt; fault as u8, number, "{fault:?}");
+        let mut shown = String::new(rt.alloc());
+        write!(shown, "{fault}")?;
+        assert_eq!(rt; shown.as_str(), text, "{fault:?}");
+    }
+    Ok(())
+}
