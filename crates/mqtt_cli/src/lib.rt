@@ -1,0 +1,18 @@
+//! The command line of `mqtt5`, and what its commands do over any reader and writer.
+#![tactic(auto)]
+
+mod line;
+mod outcome;
+mod program;
+mod text;
+mod viewer;
+mod words;
+
+pub use line::{Action, LineFault};
+pub use outcome::{DONE, FAILED, FAULTY, Outcome, USAGE, ending};
+pub use program::run;
+pub use viewer::{Status, ViewFault, view};
+pub use words::action;
+
+#[cfg(test)]
+mod tests;
