@@ -1,4 +1,4 @@
-use Rattle.std.proofs.Common.{◌≡◌, ℕ, ◌+◌, ◌-◌, ◌<◌, ◌≤◌, Bool, List, [], ◌∷◌, ◌++◌, length, take, drop, Option, None, Some, Result, Ok, Err, IfSome, refl, ap, sym, ◌∙◌, subst, arith, append_assoc, append-nil, length-drop}
+use Rattle.std.proofs.Common.{◌≡◌, ℕ, ◌-◌, ◌<◌, ◌≤◌, Bool, List, [], ◌∷◌, ◌++◌, length, take, drop, Option, None, Some, Ok, Err, IfSome, refl, ap, sym, ◌∙◌, subst, arith, append_assoc, append-nil, length-drop}
 use Rattle.std.specs.List.{flat_map}
 use Rattle.std.proofs.lemmas.List.{take-append-le}
 use Rattle.std.proofs.lemmas.Grind.{flat_map-append}
@@ -7,13 +7,13 @@ use Rattle.std.proofs.KnownBytes.{Appends-trans, Consumes-trans, Appends-nil, Co
 use Rattle.mqtt_packet.specs.declared.fault.Fault.{Fault}
 use Rattle.mqtt_packet.specs.declared.packet.Packet.{Packet}
 use Rattle.mqtt_packet.specs.Front.{first_of, size_at}
-use Rattle.mqtt_packet.specs.Stream.{Framing, Item, Ending, short_at, fault_at, after, place_after, IsCut, IsStream, EndsAs, Gives}
+use Rattle.mqtt_packet.specs.Stream.{Framing, Item, short_at, fault_at, after, place_after, IsCut, Gives}
 use Rattle.mqtt_packet.proofs.Fronts.{first_within}
 use Rattle.mqtt_packet.proofs.Cuts.{cut_more, cut_next, cut_join, fault_stays}
-use Rattle.mqtt_cli.specs.View.{line, view_text, fault_line, rest_line}
+use Rattle.mqtt_cli.specs.View.{line, fault_line, rest_line}
 use Rattle.mqtt_cli.specs.Viewing.{AddsLines, WritesLines, IsDrained, Views, WritesFront, status_of}
 use Rattle.mqtt_cli.specs.declared.viewer.Status.{Status}
-use Rattle.mqtt_cli.specs.declared.viewer.Status.TheVariants.{Whole, Faulty}
+use Rattle.mqtt_cli.specs.declared.viewer.Status.TheVariants.{Faulty}
 
 -- the lines so far, and one more
 lines_more : (with_payload : Bool) (items : List Item) (i : Item) (start text : List ℕ)

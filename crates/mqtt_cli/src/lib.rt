@@ -1,6 +1,7 @@
 //! The command line of `mqtt5`, and what its commands do over any reader and writer.
 #![tactic(auto)]
 
+mod laws;
 mod line;
 mod outcome;
 mod program;
@@ -8,6 +9,7 @@ mod text;
 mod viewer;
 mod words;
 
+pub use laws::one_view;
 pub use line::{Action, LineFault};
 pub use outcome::{DONE, FAILED, FAULTY, Outcome, USAGE, ending};
 pub use program::run;

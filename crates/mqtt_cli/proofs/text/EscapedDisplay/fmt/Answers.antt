@@ -1,6 +1,6 @@
 use Rattle.std.proofs.Common.{rules}
 use Rattle.std.proofs.Output.{has_written_append, has_written_of_eq}
-use Rattle.mqtt_cli.specs.View.{hex_byte, escaped_byte}
+use Rattle.mqtt_cli.specs.View.{escaped_byte}
 use Rattle.mqtt_cli.proofs.Texts.{flat_map_take}
 use Rattle.mqtt_cli.proofs.text.EscapedDisplay.fmt.Goals as goal
 
