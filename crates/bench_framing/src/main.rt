@@ -82,7 +82,12 @@ fn looked(alloc: Global, stream: &[u8]) -> Result<Tally, Fault> {
 }
 
 /// Prints a tally on standard output, and the seconds that it took on standard error.
-fn report(rt: &(impl Print + Eprint), name: &str, tally: Tally, time: Duration) -> anyhow::Result<()> {
+fn report(
+    rt: &(impl Print + Eprint),
+    name: &str,
+    tally: Tally,
+    time: Duration,
+) -> anyhow::Result<()> {
     println!(rt; "{name} packets={} sum={}", tally.packets, tally.sum)?;
     eprintln!(rt; "{name} {}.{:09}", time.as_secs(), time.subsec_nanos())?;
     Ok(())

@@ -71,14 +71,23 @@ impl Write for Brittle {
     }
 }
 
+/// Why there is no view. Where an allocation is refused, nothing but want of memory may be told.
+fn why(fault: ViewFault) -> &'static str {
+    match fault {
+        ViewFault::Read => "a failed read",
+        ViewFault::Write => "a failed write",
+        ViewFault::Memory => "want of memory",
+    }
+}
+
 /// The view of an input that comes whole, which has to be that of the input a byte a read.
 fn shown(alloc: Global, input: &[u8], payload: bool) -> Result<(String, Status), Fail> {
     let mut whole: Vec<u8> = Vec::new(alloc);
     let mut reader = input;
-    let status = view(alloc, &mut reader, &mut whole, payload).map_err(|_| "no view")?;
+    let status = view(alloc, &mut reader, &mut whole, payload).map_err(why)?;
     let mut drips: Vec<u8> = Vec::new(alloc);
     let mut reader = Drip::new(input, usize::MAX);
-    let again = view(alloc, &mut reader, &mut drips, payload).map_err(|_| "no view of drips")?;
+    let again = view(alloc, &mut reader, &mut drips, payload).map_err(why)?;
     if again != status || whole.as_slice() != drips.as_slice() {
         return Err(Fail::from("the view depends on the reads"));
     }
@@ -284,8 +293,11 @@ fn a_lawful_command_line_is_its_action(rt: HostRuntime) -> Result<(), Fail> {
         ),
     ];
     for (words, wanted) in rows {
-        let found = action(rt.alloc(), words).map_err(|_| "no action")?;
-        assert!(rt; found == wanted, "{wanted:?}");
+        match action(rt.alloc(), words) {
+            Ok(found) => assert!(rt; found == wanted, "{wanted:?}"),
+            Err(LineFault::Memory) => return Err(Fail::from("want of memory")),
+            Err(LineFault::Usage(_)) => return Err(Fail::from("not taken")),
+        }
     }
     Ok(())
 }
@@ -324,7 +336,8 @@ fn any_other_command_line_is_usage(rt: HostRuntime) -> Result<(), Fail> {
             Err(LineFault::Usage(text)) => {
                 assert!(rt; text.as_str().ends_with("\n"), "{wrong}");
             }
-            _ => return Err(Fail::from(wrong)),
+            Err(LineFault::Memory) => return Err(Fail::from("want of memory")),
+            Ok(_) => return Err(Fail::from(wrong)),
         }
     }
     Ok(())
