@@ -16,15 +16,15 @@ use Rattle.mqtt_packet.specs.declared.packet.Packet.{Packet}
 use Rattle.mqtt_packet.specs.declared.packet.Packet.TheVariants.{Publish, Pingreq}
 use Rattle.mqtt_packet.specs.Heads.{first, all_heads, head_among, head_of, IsHead, is_read}
 use Rattle.mqtt_packet.specs.Packets.{head, Fits, IsBody, HasProperties, IsLawful}
-use Rattle.mqtt_packet.specs.Reading.{malformed, no_properties_at, publish_at, body_at, is_lawful}
+use Rattle.mqtt_packet.specs.Reading.{or_malformed, no_properties_at, publish_at, body_at, is_lawful}
 
 -- ---- steps
 
-pub malformed_ok : {A E : Type 0} (r : Result A E) (x : A) → malformed r ≡ Ok x → r ≡ Ok x
+pub malformed_ok : {A E : Type 0} (r : Result A E) (x : A) → or_malformed r ≡ Ok x → r ≡ Ok x
 malformed_ok {A} {E} (Ok y) x e = ap (λ (z : A). Ok z) (ok_is y x e)
 malformed_ok {A} {E} (Err d) x e = absurd cc
 
-pub malformed_err : {A E : Type 0} (r : Result A E) (f : Fault) → malformed r ≡ Err f → f ≡ Malformed
+pub malformed_err : {A E : Type 0} (r : Result A E) (f : Fault) → or_malformed r ≡ Err f → f ≡ Malformed
 malformed_err {A} {E} (Ok y) f e = absurd cc
 malformed_err {A} {E} (Err d) f e = cc
 
@@ -94,7 +94,7 @@ no_properties_ok (len ∷ bytes) rest e =
 publish_takes : (retain : Bool) (body : List ℕ) (p : Publication) → IsBytes body → publish_at retain body ≡ Ok p → Bodies (heads.Publish false qos.AtMostOnce retain) body (Publish p)
 unfolding publish_at
 publish_takes retain body p fits e =
-    let a = bind_ok (malformed (text_at body)) (λ topic. no_properties_at topic.1 >>= λ payload. Ok (record { retain = retain; topic = topic.0; payload = payload })) p e in
+    let a = bind_ok (or_malformed (text_at body)) (λ topic. no_properties_at topic.1 >>= λ payload. Ok (record { retain = retain; topic = topic.0; payload = payload })) p e in
     let b = bind_ok (no_properties_at a.0.1) (λ payload. Ok (record { retain = retain; topic = a.0.0; payload = payload })) p a.2 in
     let t = text_takes body a.0 fits (malformed_ok (text_at body) a.0 a.1) in
     let made : Publication = record { retain = retain; topic = a.0.0; payload = b.0 } in
@@ -140,7 +140,7 @@ properties_other_again len rest n = rw (ne_eqb len 0 n) refl
 publish_other : (retain : Bool) (body : List ℕ) → IsBytes body → publish_at retain body ≡ Err Other → HasProperties (heads.Publish false qos.AtMostOnce retain) body
 unfolding publish_at
 publish_other retain body fits e =
-    elim (bind_err (malformed (text_at body)) (λ topic. no_properties_at topic.1 >>= λ payload. Ok (record { retain = retain; topic = topic.0; payload = payload })) Other e) [
+    elim (bind_err (or_malformed (text_at body)) (λ topic. no_properties_at topic.1 >>= λ payload. Ok (record { retain = retain; topic = topic.0; payload = payload })) Other e) [
       | inl bad ↦
           let clash : Other ≡ Malformed = malformed_err (text_at body) Other bad in
           absurd (cc clash)
@@ -195,7 +195,7 @@ properties_err (len ∷ rest) f e =
 publish_err : (retain : Bool) (body : List ℕ) (f : Fault) → publish_at retain body ≡ Err f → IsLayoutFault f
 unfolding publish_at
 publish_err retain body f e =
-    elim (bind_err (malformed (text_at body)) (λ topic. no_properties_at topic.1 >>= λ payload. Ok (record { retain = retain; topic = topic.0; payload = payload })) f e) [
+    elim (bind_err (or_malformed (text_at body)) (λ topic. no_properties_at topic.1 >>= λ payload. Ok (record { retain = retain; topic = topic.0; payload = payload })) f e) [
       | inl bad ↦ inl (malformed_err (text_at body) f bad)
       | inr a ↦ elim (bind_err (no_properties_at a.0.1) (λ payload. Ok (record { retain = retain; topic = a.0.0; payload = payload })) f a.2) [
         | inl other ↦ properties_err a.0.1 f other

@@ -10,17 +10,17 @@ use Rattle.mqtt_packet.specs.declared.fault.Fault.TheVariants.{Malformed, Protoc
 use Rattle.mqtt_packet.specs.declared.head.Head.{Head}
 use Rattle.mqtt_packet.specs.declared.packet.Packet.{Packet}
 use Rattle.mqtt_packet.specs.Heads.{first, head_of, IsHead}
-use Rattle.mqtt_packet.specs.Packets.{head, framed, IsFrame, HasLayout, IsLawful, Spells, IsOther, Refusal}
-use Rattle.mqtt_packet.specs.Reading.{Gives, GivesOwned, malformed, known, frame_at, body_at, layout_at, is_lawful, packet_at}
+use Rattle.mqtt_packet.specs.Packets.{head, frame_of, IsFrame, HasLayout, IsLawful, Spells, IsOther, Refusal}
+use Rattle.mqtt_packet.specs.Reading.{Gives, GivesOwned, or_malformed, head_or_malformed, frame_at, body_at, layout_at, is_lawful, packet_at}
 use Rattle.mqtt_packet.proofs.Bodies.{malformed_ok, malformed_err, bind_err, head_is, head_again, head_lawful, is_head, body_takes, body_again, body_other, body_other_again, IsLayoutFault, body_err, lawful_is, is_lawful_again}
 
 -- ---- frames
 
-known_ok : (o : Option Head) (h : Head) → known o ≡ Ok h → o ≡ Some h
+known_ok : (o : Option Head) (h : Head) → head_or_malformed o ≡ Ok h → o ≡ Some h
 known_ok None h e = absurd cc
 known_ok (Some g) h e = ap (λ (k : Head). Some k) (ok_is g h e)
 
-known_err : (o : Option Head) (f : Fault) → known o ≡ Err f → f ≡ Malformed
+known_err : (o : Option Head) (f : Fault) → head_or_malformed o ≡ Err f → f ≡ Malformed
 known_err None f e = cc
 known_err (Some g) f e = absurd cc
 
@@ -33,21 +33,21 @@ frame_takes : (bytes : List ℕ) (x : Head × List ℕ) → IsBytes bytes → fr
 unfolding frame_at
 frame_takes [] x fits e = absurd cc
 frame_takes (b ∷ bytes) x fits e =
-    let a = bind_ok (known (head_of b)) (λ h. malformed (varint_at bytes) >>= λ n. cond (eqb (length n.1) n.0) (Ok (h, n.1)) (Err Malformed)) x e in
-    let c = bind_ok (malformed (varint_at bytes)) (λ n. cond (eqb (length n.1) n.0) (Ok (a.0, n.1)) (Err Malformed)) x a.2 in
+    let a = bind_ok (head_or_malformed (head_of b)) (λ h. or_malformed (varint_at bytes) >>= λ n. cond (eqb (length n.1) n.0) (Ok (h, n.1)) (Err Malformed)) x e in
+    let c = bind_ok (or_malformed (varint_at bytes)) (λ n. cond (eqb (length n.1) n.0) (Ok (a.0, n.1)) (Err Malformed)) x a.2 in
     let n = c.0 in
     let g = when_ok (eqb (length n.1) n.0) Malformed (Ok (a.0, n.1)) x c.2 in
     let is : first a.0 ≡ b = head_is b a.0 (known_ok (head_of b) a.0 a.1) in
     let len : length n.1 ≡ n.0 = eqb-true _ _ g.0 in
     let t = varint_reads bytes n (IsBytes-rest b bytes fits) (malformed_ok (varint_at bytes) n c.1) in
-    let parts : (b ∷ bytes) ≡ framed a.0 n.1 = ap (λ (w : List ℕ). b ∷ w) t.0.parts ∙ ap (λ (i : ℕ). i ∷ (varint n.0 ++ n.1)) (sym is) ∙ ap (λ (k : ℕ). first a.0 ∷ (varint k ++ n.1)) (sym len) in
+    let parts : (b ∷ bytes) ≡ frame_of a.0 n.1 = ap (λ (w : List ℕ). b ∷ w) t.0.parts ∙ ap (λ (i : ℕ). i ∷ (varint n.0 ++ n.1)) (sym is) ∙ ap (λ (k : ℕ). first a.0 ∷ (varint k ++ n.1)) (sym len) in
     subst (λ (y : Head × List ℕ). Frames (b ∷ bytes) y.0 y.1) (ok_is (a.0, n.1) x g.1)
     (record { is = (omega (arith, len, t.1), parts); is_head = head_lawful a.0 (ap head_of is ∙ known_ok (head_of b) a.0 a.1); fits = t.0.rest_fits })
 
 same_length : (n : ℕ) → eqb n n ≡ true
 same_length n = grind arith
 
-frame_again : (h : Head) (body : List ℕ) → IsHead h → length body < 2 ^ 28 → frame_at (framed h body) ≡ Ok (h, body)
+frame_again : (h : Head) (body : List ℕ) → IsHead h → length body < 2 ^ 28 → frame_at (frame_of h body) ≡ Ok (h, body)
 unfolding frame_at
 frame_again h body is lt = rw (head_again h is, varint_rereads (length body) body lt, same_length (length body)) refl
 
@@ -55,9 +55,9 @@ frame_err : (bytes : List ℕ) (f : Fault) → frame_at bytes ≡ Err f → f �
 unfolding frame_at
 frame_err [] f e = cc
 frame_err (b ∷ bytes) f e =
-    elim (bind_err (known (head_of b)) (λ h. malformed (varint_at bytes) >>= λ n. cond (eqb (length n.1) n.0) (Ok (h, n.1)) (Err Malformed)) f e) [
+    elim (bind_err (head_or_malformed (head_of b)) (λ h. or_malformed (varint_at bytes) >>= λ n. cond (eqb (length n.1) n.0) (Ok (h, n.1)) (Err Malformed)) f e) [
       | inl bad ↦ known_err (head_of b) f bad
-      | inr a ↦ elim (bind_err (malformed (varint_at bytes)) (λ n. cond (eqb (length n.1) n.0) (Ok (a.0, n.1)) (Err Malformed)) f a.2) [
+      | inr a ↦ elim (bind_err (or_malformed (varint_at bytes)) (λ n. cond (eqb (length n.1) n.0) (Ok (a.0, n.1)) (Err Malformed)) f a.2) [
         | inl bad ↦ malformed_err (varint_at bytes) f bad
         | inr c ↦ elim (chosen (eqb (length c.0.1) c.0.0) (Ok (a.0, c.0.1)) (Err Malformed) (Err f) c.2) [
           | inl t ↦ absurd (cc t.1)
@@ -74,7 +74,7 @@ layout_takes bytes p fits e =
     let a = bind_ok (frame_at bytes) (λ f. body_at f.0 f.1) p e in
     let f = frame_takes bytes a.0 fits a.1 in
     let b = body_takes a.0.0 a.0.1 p f.fits a.2 in
-    (b.fits, (a.0.1, b.is, (f.is.0, f.is.1 ∙ ap (λ (h : Head). framed h a.0.1) (sym b.heads))))
+    (b.fits, (a.0.1, b.is, (f.is.0, f.is.1 ∙ ap (λ (h : Head). frame_of h a.0.1) (sym b.heads))))
 
 pub layout_again : (bytes : List ℕ) (p : Packet) → HasLayout p bytes → layout_at bytes ≡ Ok p
 unfolding layout_at

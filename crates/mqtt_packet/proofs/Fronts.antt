@@ -16,11 +16,11 @@ use Rattle.mqtt_packet.specs.Front.{size_by, size_behind, size_at, with_size, fi
 
 -- ---- variable byte integers
 
-abbrev Read : Type 0
+abbrev pub Read : Type 0
 Read = Result (ℕ × List ℕ) ReadFault
 
 -- the same value with more bytes behind it
-abbrev with_more : List ℕ → Read → Read
+abbrev pub with_more : List ℕ → Read → Read
 with_more t (Ok x) = Ok (x.0, x.1 ++ t)
 with_more t (Err e) = Err e
 
@@ -28,7 +28,7 @@ with_more t (Err e) = Err e
 abbrev pub LeavesMore : List ℕ → Read → Read → Type 0
 LeavesMore t before after = (before ≡ Err Short) ⊎ (after ≡ with_more t before)
 
-abbrev next_group : ℕ → Read → Read
+abbrev pub next_group : ℕ → Read → Read
 next_group a r = r >>= λ high. Ok (a - 128 + 128 * high.0, high.1)
 
 group_more : (a : ℕ) (t : List ℕ) (y z : Read) → LeavesMore t y z → LeavesMore t (next_group a y) (next_group a z)
@@ -68,9 +68,9 @@ varint_more (a ∷ bytes) t =
     either_more (ltb a 128) a bytes t (next_group a (groups_at 2 bytes)) (next_group a (groups_at 2 (bytes ++ t)))
     (group_more a t (groups_at 2 bytes) (groups_at 2 (bytes ++ t)) (groups_more 2 bytes t))
 
--- what is left lies within the bytes
-abbrev Within : ℕ → Read → Type 0
-Within n (Ok x) = length x.1 ≤ n
+-- a number takes a byte at least
+abbrev pub Within : ℕ → Read → Type 0
+Within n (Ok x) = length x.1 < n
 Within n (Err e) = Unit {0}
 
 group_within : (n a : ℕ) (r : Read) → Within n r → Within (suc n) (next_group a r)
@@ -85,7 +85,7 @@ step_within : (n : ℕ) (c : Bool) (r : Read) → Within n r → Within n (cond 
 step_within n true r h = tt
 step_within n false r h = h
 
-groups_within : (k : ℕ) (bytes : List ℕ) → Within (length bytes) (groups_at k bytes)
+pub groups_within : (k : ℕ) (bytes : List ℕ) → Within (length bytes) (groups_at k bytes)
 unfolding groups_at
 groups_within zero [] = tt
 groups_within (suc k) [] = tt
@@ -152,7 +152,7 @@ large_stays : (large : Bool) (m n len size : ℕ) → m ≤ n
 large_stays true m n len size l = inr refl
 large_stays false m n len size l = come_stays m n len size (ltb m len) l refl
 
-taken_same : (bytes rest t : List ℕ) → length rest ≤ length bytes → length (bytes ++ t) - length (rest ++ t) ≡ length bytes - length rest
+taken_same : (bytes rest t : List ℕ) → length rest < length bytes → length (bytes ++ t) - length (rest ++ t) ≡ length bytes - length rest
 taken_same bytes rest t l = omega (arith, length-append bytes t, length-append rest t)
 
 size_by_stays : (bytes t : List ℕ) (r : Read) → Within (length bytes) r → Stays Waiting (size_by (length bytes) r) (size_by (length (bytes ++ t)) (with_more t r))
@@ -182,7 +182,7 @@ unfolding size_at
 size_stays [] t = inl refl
 size_stays (b ∷ bytes) t = behind_stays (head_of b) bytes t
 
-whole_within : (large few : Bool) (count left len n : ℕ) → left ≤ count → ltb left len ≡ few
+whole_within : (large few : Bool) (count left len n : ℕ) → left < count → ltb left len ≡ few
     → cond large (Err TooLarge) (cond few Waiting (Ok (Some (1 + (count - left) + len)))) ≡ Ok (Some n) → (n ≤ 1 + count) × (0 < n)
 whole_within true few count left len n l t e = absurd cc
 whole_within false true count left len n l t e = absurd cc

@@ -3,3 +3,6 @@ pub mod Frames
 pub mod Fronts
 pub mod Cuts
 pub mod Runs
+pub mod Shorter
+pub mod Wholes
+mod Examples

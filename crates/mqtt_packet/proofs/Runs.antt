@@ -9,24 +9,26 @@ use Rattle.mqtt_packet.specs.declared.front.TheConstants.{MAX_SIZE}
 use Rattle.mqtt_packet.specs.declared.head.Head.{Head}
 use Rattle.mqtt_packet.specs.Heads.{head_of, is_read}
 use Rattle.mqtt_packet.specs.Front.{size_at, first_of}
-use Rattle.mqtt_packet.specs.Stream.{Item, IsCut, IsStream, short_at, fault_at, Framing, after, Call, took, gave, IsRun, taken_of, given_of, empty}
+use Rattle.mqtt_packet.specs.Stream.{Item, IsCut, IsStream, short_at, fault_at, Framing, after, Call, took, gave_back, gave, without_last, IsRun, taken_after, taken_of, given_of, empty}
+use Rattle.mqtt_packet.proofs.Shorter.{cut_less}
 use Rattle.mqtt_packet.proofs.Cuts.{cut_more, cut_next, fault_stays}
 
 run_from : (taken : List ℕ) (items : List Item) (f : Framing) (calls : List Call) (g : Framing) → IsCut 0 taken items f.place f.held → IsRun f calls g
-    → IsCut 0 (taken ++ taken_of calls) (items ++ given_of calls) g.place g.held
+    → IsCut 0 (taken_after taken calls) (items ++ given_of calls) g.place g.held
 run_from taken items f [] g c r =
     let here = subst (λ (h : Framing). IsCut 0 taken items h.place h.held) (sym r) c in
-    rw (append-nil taken, append-nil items) here
+    subst (λ (xs : List Item). IsCut 0 taken xs g.place g.held) (sym (append-nil items)) here
 run_from taken items f (took piece ∷ calls) g c r =
-    let more = run_from (taken ++ piece) items (record { held = f.held ++ piece; place = f.place }) calls g (cut_more 0 taken items f.place f.held piece c) r in
-    subst (λ (s : List ℕ). IsCut 0 s (items ++ given_of calls) g.place g.held) (append_assoc taken piece (taken_of calls)) more
+    run_from (taken ++ piece) items (record { held = f.held ++ piece; place = f.place }) calls g (cut_more 0 taken items f.place f.held piece c) r
+run_from taken items f (gave_back n ∷ calls) g c r =
+    run_from (without_last n taken) items (record { held = without_last n f.held; place = f.place }) calls g (cut_less n 0 taken items f.place f.held c r.0) r.1
 run_from taken items f (gave i ∷ calls) g c r =
     let next = cut_next 0 taken items f.place f.held i.packet i.size c r.1 in
     let at : record { place = f.place; size = i.size; packet = i.packet } ≡ i =
     ap (λ (p : ℕ). let j : Item = record { place = p; size = i.size; packet = i.packet } in j) (sym r.0) in
     let same = subst (λ (j : Item). IsCut 0 taken (items ++ j ∷ []) (after i.size f).place (after i.size f).held) at next in
     let more = run_from taken (items ++ i ∷ []) (after i.size f) calls g same r.2 in
-    subst (λ (xs : List Item). IsCut 0 (taken ++ taken_of calls) xs g.place g.held) (append_assoc items (i ∷ []) (given_of calls)) more
+    subst (λ (xs : List Item). IsCut 0 (taken_after taken calls) xs g.place g.held) (append_assoc items (i ∷ []) (given_of calls)) more
 
 pub run_cut : (calls : List Call) (f : Framing) → IsRun empty calls f → IsCut 0 (taken_of calls) (given_of calls) f.place f.held
 run_cut calls f r = run_from [] [] empty calls f (refl, refl) r

@@ -28,12 +28,12 @@ IsBody (Publish p) body = body ≡ blob p.topic ++ (0 ∷ p.payload)
 IsBody Pingreq body = body ≡ []
 
 -- a first byte, the count of the bytes that follow, and these (2.1.4)
-abbrev pub framed : Head → List ℕ → List ℕ
-framed h body = first h ∷ varint (length body) ++ body
+abbrev pub frame_of : Head → List ℕ → List ℕ
+frame_of h body = first h ∷ varint (length body) ++ body
 
 -- the bytes are a packet with this first byte and body
 abbrev pub IsFrame : Head → List ℕ → List ℕ → Type 0
-IsFrame h body bytes = (length body < 2 ^ 28) × (bytes ≡ framed h body)
+IsFrame h body bytes = (length body < 2 ^ 28) × (bytes ≡ frame_of h body)
 
 -- the bytes spell the packet, in one of its spellings, whether or not it keeps the laws
 abbrev pub HasLayout : Packet → List ℕ → Type 0

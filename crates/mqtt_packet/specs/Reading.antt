@@ -22,20 +22,20 @@ GivesOwned memory (Ok x) read = read ≡ Ok x
 GivesOwned memory (Err e) read = (e ≡ memory) ⊎ (read ≡ Err e)
 
 -- any fault below makes the packet malformed
-abbrev pub malformed : {A E : Type 0} → Result A E → Result A Fault
-malformed (Ok x) = Ok x
-malformed (Err e) = Err Malformed
+abbrev pub or_malformed : {A E : Type 0} → Result A E → Result A Fault
+or_malformed (Ok x) = Ok x
+or_malformed (Err e) = Err Malformed
 
-abbrev pub known : Option Head → Result Head Fault
-known None = Err Malformed
-known (Some h) = Ok h
+abbrev pub head_or_malformed : Option Head → Result Head Fault
+head_or_malformed None = Err Malformed
+head_or_malformed (Some h) = Ok h
 
 -- what the first byte says, and the body
 unfoldable pub frame_at : List ℕ → Result (Head × List ℕ) Fault
 frame_at [] = Err Malformed
 frame_at (b ∷ bytes) = do
-  h ← known (head_of b)
-  n ← malformed (varint_at bytes)
+  h ← head_or_malformed (head_of b)
+  n ← or_malformed (varint_at bytes)
   if length n.1 == n.0 then Ok (h, n.1) else Err Malformed
 
 -- the properties, of which none are read yet
@@ -45,7 +45,7 @@ no_properties_at (len ∷ rest) = if len == 0 then Ok rest else Err Other
 
 unfoldable pub publish_at : Bool → List ℕ → Result Publish Fault
 publish_at retain body = do
-  topic ← malformed (text_at body)
+  topic ← or_malformed (text_at body)
   payload ← no_properties_at topic.1
   Ok (record { retain = retain; topic = topic.0; payload = payload })
 

@@ -1,9 +1,10 @@
 //! The cut of a stream of bytes into packets, however it comes (2.1).
 
 ghost use Rattle.std.specs.Prelude.{◌≡◌, ◌-◌, ◌<◌, ◌≤◌, ◌++◌, length, take, min, IfOk, IfErr, IfNone, OnErr, OnOk, OnSome, IsOk};
+ghost use Rattle.mqtt_packet.specs.declared.fault.Fault.{Fault};
 ghost use Rattle.mqtt_packet.specs.declared.front.TheConstants.{MAX_SIZE};
 ghost use Rattle.mqtt_packet.specs.Front.{first_of};
-ghost use Rattle.mqtt_packet.specs.Stream.{Framing, empty, Refuses, Finds, Gives};
+ghost use Rattle.mqtt_packet.specs.Stream.{Framing, empty, without_last, Stands, Refuses, Finds, Gives};
 ghost use Rattle.mqtt_packet.specs.Views.{packet_of};
 
 use crate::fault::Fault;
@@ -63,8 +64,10 @@ impl Framer {
         ensures ok { IfOk result (λ n.
             self.new ≡ record self.old { held = self.old.held ++ take n piece.now }) }
 
-        // Where a fault stands first, nothing is taken.
+        // Where a fault stands first, it is answered, and nothing is taken.
         ensures clear { OnOk result (IsOk (first_of self.old.held)) }
+        ensures stands { (fault : Fault) → first_of self.old.held ≡ Err fault
+            → result ≡ Err (fault, self.old.place) }
         ensures refused { IfErr result (Refuses self.old) }
         ensures err { OnErr result (self.new ≡ self.old) }
     {
@@ -81,7 +84,7 @@ impl Framer {
     /// The first whole packet and its place, if it has come. Takes no memory.
     pub fn look(&self) -> Result<Option<(PacketRef<'_>, u64)>, (Fault, u64)>
         ensures found { IfOk result (Finds packet_of self.now) }
-        ensures refused { IfErr result (Refuses self.now) }
+        ensures refused { IfErr result (Stands self.now) }
     {
         match first_read(self.bytes.as_slice()) {
             Err(fault) => Err((fault, self.place)),
@@ -97,6 +100,8 @@ impl Framer {
         // Where no packet is whole, at least one more byte fits. With a packet there is less to hold.
         ensures partial { IfOk result (λ found. IfNone found (length self.new.held < MAX_SIZE)) }
         ensures shorter { IfOk result (λ found. OnSome found (length self.new.held < length self.old.held)) }
+        ensures stands { (fault : Fault) → first_of self.old.held ≡ Err fault
+            → result ≡ Err (fault, self.old.place) }
         ensures refused { IfErr result (Refuses self.old) }
         ensures err { OnErr result (self.new ≡ self.old) }
     {
@@ -117,7 +122,7 @@ impl Framer {
     /// Takes the last `count` held bytes away. Takes no memory.
     pub fn give_back(&mut self, count: usize)
         requires { count ≤ length self.old.held }
-        ensures { self.new ≡ record self.old { held = take (length self.old.held - count) self.old.held } }
+        ensures { self.new ≡ record self.old { held = without_last count self.old.held } }
     {
         let len = self.bytes.len();
         self.bytes.truncate(len - count);

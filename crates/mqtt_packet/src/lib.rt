@@ -9,11 +9,13 @@ mod laws;
 mod look;
 mod packet;
 mod publish;
+#[cfg(test)]
+mod tests;
 
 pub use fault::Fault;
 pub use framer::Framer;
 pub use front::MAX_SIZE;
-pub use laws::{any_pieces, moments, one_cut};
+pub use laws::{any_pieces, first_spelled, joined_cut, moments, one_cut, one_packet};
 pub use look::{decode, look_at};
 pub use packet::{Packet, PacketRef};
 pub use publish::{Publish, PublishRef};

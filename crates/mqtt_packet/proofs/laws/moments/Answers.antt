@@ -1,4 +1,5 @@
 use Rattle.mqtt_packet.proofs.Fronts.{first_stays}
+use Rattle.mqtt_packet.proofs.Shorter.{first_less}
 use Rattle.mqtt_packet.proofs.Runs.{at_first_byte, at_kind, at_overlong, at_length}
 use Rattle.mqtt_packet.proofs.laws.moments.Goals as goal
 
@@ -16,3 +17,6 @@ returns-clause-too_large c = at_length
 
 pub returns-clause-stays : goal.returns-clause-stays
 returns-clause-stays c = first_stays
+
+pub returns-clause-last_byte : goal.returns-clause-last_byte
+returns-clause-last_byte c = first_less
