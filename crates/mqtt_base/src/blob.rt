@@ -9,7 +9,9 @@ ghost use Rattle.mqtt_base.specs.Refusals.{BinaryRefused};
 
 use crate::fault::ReadFault;
 use crate::number::u16_read;
-use std::alloc::AllocError;
+use bytes::Bytes;
+use std::alloc::{AllocError, Global};
+use std::marker::Model;
 
 /// Reads the binary data at the front, without the two bytes of its length, and how many bytes it
 /// takes with them (1.5.6). `Short` (1) is its only refusal. Takes no memory.
@@ -51,4 +53,60 @@ pub fn blob_push(out: &mut Vec<u8>, bytes: &[u8]) -> Result<(), AllocError>
     out.reserve(2 + bytes.len())?;
     out.extend_from_slice(&(bytes.len() as u16).to_be_bytes())?;
     out.extend_from_slice(bytes)
+}
+
+/// Owned binary data that has a spelling (1.5.6): at most 65,535 bytes. Clones share the bytes.
+#[derive(Debug, PartialEq, Eq, Hash, Drop)]
+pub struct Blob {
+    bytes: Bytes,
+}
+
+impl Model for Blob {
+    ghost use Rattle.std.specs.Prelude.{◌<◌, ◌^◌, List, ℕ, length};
+
+    ghost Value = { List ℕ };
+
+    ghost view = { λ a. a.bytes };
+
+    ghost invariant = { λ a. length a.bytes < 2 ^ 16 };
+
+    ghost inverse = { λ b. record { bytes = b } };
+}
+
+impl Blob {
+    /// Copies the bytes.
+    pub fn new(alloc: Global, bytes: &[u8]) -> Result<Blob, AllocError>
+        requires { length bytes.now < 2 ^ 16 }
+        ensures { IfOk result (λ b. b ≡ bytes.now) }
+    {
+        Ok(Blob {
+            bytes: Bytes::copy_from_slice(alloc, bytes)?,
+        })
+    }
+
+    /// Lends the bytes.
+    pub fn as_slice(&self) -> &[u8]
+        ensures value { result.now ≡ self.now }
+        ensures good { length self.now < 2 ^ 16 }
+    {
+        self.bytes.as_slice()
+    }
+
+    /// Another owner of the same bytes.
+    pub fn share(&self) -> Result<Bytes, AllocError>
+        ensures { IfOk result (λ b. b ≡ self.now) }
+    {
+        self.bytes.clone()
+    }
+}
+
+impl Clone for Blob {
+    ghost is_clone = { λ blob copy. copy ≡ blob };
+
+    /// Another owner of the same bytes.
+    fn clone(&self) -> Result<Blob, AllocError> {
+        Ok(Blob {
+            bytes: self.bytes.clone()?,
+        })
+    }
 }

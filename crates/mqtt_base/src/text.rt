@@ -1,6 +1,6 @@
 //! Text: UTF-8 encoded strings (1.5.4).
 
-ghost use Rattle.std.specs.Prelude.{◌≡◌, ◌++◌, ◌↔◌, List, ℕ, Ok, length, take, IfOk, IsErrOf};
+ghost use Rattle.std.specs.Prelude.{◌≡◌, ◌++◌, ◌↔◌, List, ℕ, Ok, take, IfOk, IsErrOf, IsTrue};
 ghost use Rattle.mqtt_base.specs.declared.fault.ReadFault.{ReadFault};
 ghost use Rattle.mqtt_base.specs.Values.{FitsText, IsText};
 ghost use Rattle.mqtt_base.specs.Reading.{Reads, text_at};
@@ -8,6 +8,7 @@ ghost use Rattle.mqtt_base.specs.Refusals.{TextRefused};
 
 use crate::blob::blob_read;
 use crate::fault::ReadFault;
+use bytes::ByteStr;
 use std::alloc::{AllocError, Global};
 use std::marker::Model;
 
@@ -47,37 +48,60 @@ fn text_by_blob(bytes: &[u8]) -> Result<(&str, usize), ReadFault>
     }
 }
 
-/// A text that has a spelling: at most 65,535 bytes, none of them 0.
-#[derive(Drop)]
+/// An owned text that has a spelling (1.5.4): at most 65,535 bytes of UTF-8 without U+0000. Clones
+/// share the bytes.
+#[derive(Debug, PartialEq, Eq, Hash, Drop)]
 pub struct Text {
-    text: String,
+    text: ByteStr,
 }
 
 impl Model for Text {
-    ghost use Rattle.std.specs.Prelude.{List, ℕ, string_bytes};
+    ghost use Rattle.std.specs.Prelude.{List, ℕ};
     ghost use Rattle.mqtt_base.specs.Values.{FitsText};
 
     ghost Value = { List ℕ };
 
-    ghost view = { λ a. string_bytes a.text };
+    ghost view = { λ a. a.text };
 
-    ghost invariant = { λ a. FitsText (string_bytes a.text) };
+    ghost invariant = { λ a. FitsText a.text };
+
+    ghost inverse = { λ t. record { text = t } };
 }
 
 impl Text {
+    /// Whether `new` takes the text: at most 65,535 bytes and no U+0000. Takes no memory.
+    pub fn may_hold(text: &str) -> bool
+        ensures { IsTrue result ↔ FitsText text.now }
+    {
+        text.len() <= 65_535 && !text.as_bytes().contains(&0)
+    }
+
+    /// Copies the text.
     pub fn new(alloc: Global, text: &str) -> Result<Text, AllocError>
         requires { FitsText text.now }
         ensures { IfOk result (λ t. t ≡ text.now) }
     {
         Ok(Text {
-            text: String::from_str(alloc, text)?,
+            text: ByteStr::copy_from_str(alloc, text)?,
         })
     }
 
+    /// Lends the text.
     pub fn as_str(&self) -> &str
         ensures value { result.now ≡ self.now }
         ensures good { FitsText self.now }
     {
         self.text.as_str()
+    }
+}
+
+impl Clone for Text {
+    ghost is_clone = { λ text copy. copy ≡ text };
+
+    /// Another owner of the same bytes.
+    fn clone(&self) -> Result<Text, AllocError> {
+        Ok(Text {
+            text: self.text.clone()?,
+        })
     }
 }
