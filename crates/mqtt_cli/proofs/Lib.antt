@@ -1,0 +1,5 @@
+pub mod Commands
+mod Examples
+pub mod Lines
+pub mod OneView
+pub mod Texts

@@ -1,0 +1,4 @@
+pub mod Line
+pub mod Outcome
+pub mod View
+pub mod Viewing
