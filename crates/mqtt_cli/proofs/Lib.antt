@@ -1,5 +1,4 @@
 pub mod Commands
-mod Examples
 pub mod Lines
 pub mod OneView
 pub mod Texts

@@ -1,4 +1,5 @@
 pub mod Line
 pub mod Outcome
+pub mod PacketText
 pub mod View
 pub mod Viewing

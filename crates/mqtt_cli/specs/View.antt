@@ -1,56 +1,14 @@
 -- The text of the viewer: what `view` prints of a stream of packets (ours).
-use Rattle.std.specs.Prelude.{ℕ, ◌/◌, ◌%◌, ◌==◌, nat_le, Bool, true, false, not, ◌&&◌, if◌then◌else◌, List, [], ◌∷◌, ◌++◌, length, take, codes}
+use Rattle.std.specs.Prelude.{ℕ, ◌==◌, Bool, if◌then◌else◌, List, [], ◌∷◌, ◌++◌, length, codes}
 use Rattle.std.specs.List.{flat_map}
-use Rattle.std.specs.Fmt.{decimal, digit_glyph}
-use Rattle.hex.specs.Hex.{encode_lower}
-use Rattle.mqtt_packet.specs.declared.fault.Fault.{Fault}
-use Rattle.mqtt_packet.specs.declared.fault.Fault.TheVariants.{Malformed, Protocol, TooLarge, Version, Memory, Other}
-use Rattle.mqtt_packet.specs.declared.packet.Packet.{Packet}
-use Rattle.mqtt_packet.specs.declared.packet.Packet.TheVariants.{Publish, Pingreq}
+use Rattle.std.specs.Fmt.{decimal}
+use Rattle.mqtt_codec.specs.declared.fault.Fault.{Fault}
+use Rattle.mqtt_codec.specs.declared.fault.Fault.TheVariants.{Malformed, Protocol, TooLarge, Version, Memory}
 use Rattle.mqtt_packet.specs.Stream.{Item, Ending, short_at, fault_at}
-use Rattle.mqtt_cli.specs.declared.text.TheConstants.{HEAD_SIZE}
-
-abbrev pub percent : ℕ
-percent = 0x25
+use Rattle.mqtt_cli.specs.PacketText.{packet_text}
 
 abbrev pub line_feed : ℕ
 line_feed = 0x0a
-
--- ---- texts of packets
-
--- a byte in two lower-case hexadecimal digits
-abbrev pub hex_byte : ℕ → List ℕ
-hex_byte b = digit_glyph false (b / 16) ∷ digit_glyph false (b % 16) ∷ []
-
--- printable ASCII, but for the space and %
-abbrev pub is_plain : ℕ → Bool
-is_plain b = nat_le 0x21 b && nat_le b 0x7e && not (b == percent)
-
--- a plain byte stands for itself, any other is % and two digits
-abbrev pub escaped_byte : ℕ → List ℕ
-escaped_byte b = if is_plain b then b ∷ [] else percent ∷ hex_byte b
-
--- a text of a packet, in one word
-abbrev pub escaped : List ℕ → List ℕ
-escaped text = flat_map escaped_byte text
-
--- ---- lines
-
--- the first bytes of a payload, in hexadecimal, where they are asked for
-abbrev pub head_text : Bool → List ℕ → List ℕ
-head_text false payload = []
-head_text true payload = codes " head=" ++ encode_lower (take HEAD_SIZE payload)
-
-abbrev pub retain_text : Bool → List ℕ
-retain_text false = []
-retain_text true = codes " retain"
-
--- a packet of this size, without its place
-abbrev pub packet_text : Bool → ℕ → Packet → List ℕ
-packet_text with_payload size (Publish p) =
-    codes " PUBLISH " ++ decimal size ++ codes " qos=0" ++ retain_text p.retain ++ codes " topic=" ++ escaped p.topic
-    ++ codes " payload=" ++ decimal (length p.payload) ++ head_text with_payload p.payload
-packet_text with_payload size Pingreq = codes " PINGREQ " ++ decimal size
 
 -- the line of a packet
 abbrev pub line : Bool → Item → List ℕ
@@ -63,7 +21,6 @@ fault_text Protocol = codes " fault Protocol"
 fault_text TooLarge = codes " fault TooLarge"
 fault_text Version = codes " fault Version"
 fault_text Memory = []
-fault_text Other = codes " other"
 
 -- the line of a fault at this place
 abbrev pub fault_line : ℕ → Fault → List ℕ

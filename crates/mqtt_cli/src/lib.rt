@@ -4,6 +4,7 @@
 mod laws;
 mod line;
 mod outcome;
+mod packet_text;
 mod program;
 mod text;
 mod viewer;
@@ -15,6 +16,3 @@ pub use outcome::{DONE, FAILED, FAULTY, Outcome, USAGE, ending};
 pub use program::run;
 pub use viewer::{Status, ViewFault, view};
 pub use words::action;
-
-#[cfg(test)]
-mod tests;

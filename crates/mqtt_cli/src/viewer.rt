@@ -1,14 +1,14 @@
 //! The view of a stream of packets, a line each (ours).
 
-ghost use Rattle.std.specs.Prelude.{◌≡◌, ◌≢◌, ◌==◌, if◌then◌else◌, ◌+◌, ◌<◌, ◌≤◌, [], length, OnOk, IfOk, IfErr, IfSome, Ok};
+ghost use Rattle.std.specs.Prelude.{◌≡◌, ◌≢◌, ◌==◌, if◌then◌else◌, ◌+◌, ◌<◌, ◌≤◌, ◌++◌, [], length, OnOk, IfOk, IfErr, IfSome, Ok};
 ghost use Rattle.std.specs.String.{string_bytes};
 ghost use Rattle.std.specs.Io.KnownBytes.{Appends, Keeps};
 ghost use Rattle.mqtt_packet.specs.Front.{first_of};
-ghost use Rattle.mqtt_cli.specs.View.{fault_line, rest_line};
+ghost use Rattle.mqtt_cli.specs.View.{line, fault_line, rest_line};
 ghost use Rattle.mqtt_cli.specs.Viewing.{IsDrained, AddsLines, WritesLines, Views, WritesFront};
 
 use crate::text::{push_fault, push_packet, push_rest};
-use mqtt_packet::{Fault, Framer, MAX_SIZE};
+use mqtt_packet::{Fault, Framer, MAX_SIZE, Packet};
 use std::alloc::{AllocError, Global};
 use std::io::{ErrorKind, Read, Write};
 use thiserror::Error;
@@ -149,12 +149,27 @@ fn push_packets(
             Ok(None) => return Ok(None),
             Ok(Some((packet, place))) => {
                 let size = before - framer.held();
-                push_packet(alloc, text, payload, place, size, &packet)?;
+                push_given(alloc, text, payload, place, size, packet)?;
             }
             Err((Fault::Memory, _)) => return Err(AllocError),
             Err(fault) => return Ok(Some(fault)),
         }
     }
+}
+
+/// Adds the line of a packet, which is needed no longer.
+fn push_given(
+    alloc: Global,
+    text: &mut String,
+    payload: bool,
+    place: u64,
+    size: usize,
+    packet: Packet,
+) -> Result<(), AllocError>
+    ensures { OnOk result (string_bytes text.new ≡ string_bytes text.old ++ line payload
+        (record { place = place; size = size; packet = packet })) }
+{
+    push_packet(alloc, text, payload, place, size, &packet)
 }
 
 /// Writes the line of a fault.

@@ -1,8 +1,8 @@
 use Rattle.std.proofs.Common.{rules}
 use Rattle.std.proofs.Output.{has_written_append, has_written_of_eq}
-use Rattle.mqtt_cli.specs.View.{escaped_byte}
+use Rattle.mqtt_cli.specs.PacketText.{escaped_byte}
 use Rattle.mqtt_cli.proofs.Texts.{flat_map_take}
-use Rattle.mqtt_cli.proofs.text.EscapedDisplay.fmt.Goals as goal
+use Rattle.mqtt_cli.proofs.packet_text.EscapedDisplay.fmt.Goals as goal
 
 pub loop-byte-preserved : goal.loop-byte-preserved
 loop-byte-preserved g c = λ p.

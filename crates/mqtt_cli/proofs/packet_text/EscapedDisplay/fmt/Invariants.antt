@@ -1,7 +1,7 @@
 use Rattle.std.proofs.Common.{take}
 use Rattle.std.specs.Fmt.{HasWritten, IsPlainFormatter}
-use Rattle.mqtt_cli.specs.View.{escaped}
-use Rattle.mqtt_cli.proofs.text.EscapedDisplay.fmt.Given as goal
+use Rattle.mqtt_cli.specs.PacketText.{escaped}
+use Rattle.mqtt_cli.proofs.packet_text.EscapedDisplay.fmt.Given as goal
 
 abbrev pub invariant-loop-byte : goal.invariant-loop-byte
 invariant-loop-byte g l =

@@ -1,7 +1,7 @@
 use Rattle.std.proofs.Common.{ℕ, take, ap, ◌∙◌}
 use Rattle.std.proofs.lemmas.List.{take_min}
 use Rattle.hex.specs.Hex.{encode_lower}
-use Rattle.mqtt_cli.proofs.text.push_head.Goals as goal
+use Rattle.mqtt_cli.proofs.packet_text.push_head.Goals as goal
 
 pub returns : goal.returns
 returns c =
