@@ -1,9 +1,11 @@
--- Worked examples of the definitions, computed (MQTT 5.0, 1.5.4 and 1.5.5).
+-- Worked examples of the definitions, computed (MQTT 5.0, 1.5.4, 1.5.5 and 2.4).
 use Rattle.std.proofs.Common.{◌≡◌, [], ◌∷◌, true, false, Ok, Err, refl}
 use Rattle.std.specs.Str.{is_utf8, chars}
 use Rattle.std.proofs.Math.Utf8.{encode}
 use Rattle.mqtt_base.specs.declared.fault.ReadFault.TheVariants.{Short, Overlong, BadText}
+use Rattle.mqtt_base.specs.declared.kind.Kind.TheVariants.{Connack, Publish, Puback, Disconnect}
 use Rattle.mqtt_base.specs.Values.{varint, sevens, is_text}
+use Rattle.mqtt_base.specs.Reasons.{is_code}
 use Rattle.mqtt_base.specs.Reading.{groups_at, varint_at, blob_at, text_at}
 
 -- Table 1-1 of 1.5.5, by the groups and by the function
@@ -86,3 +88,22 @@ bad_text = refl
 short_text : text_at (0 ∷ 2 ∷ 0x00 ∷ []) ≡ Err Short
 unfolding text_at blob_at is_utf8 chars encode
 short_text = refl
+
+-- one code that a packet may have, and one that it may not
+connack_takes : is_code Connack 0x8A ≡ true
+connack_takes = refl
+
+connack_refuses : is_code Connack 0x8B ≡ false
+connack_refuses = refl
+
+puback_refuses : is_code Puback 0x11 ≡ false
+puback_refuses = refl
+
+disconnect_takes : is_code Disconnect 0x95 ≡ true
+disconnect_takes = refl
+
+disconnect_refuses : is_code Disconnect 0x91 ≡ false
+disconnect_refuses = refl
+
+publish_refuses : is_code Publish 0x00 ≡ false
+publish_refuses = refl

@@ -33,6 +33,10 @@ IsContinued (a ∷ b ∷ rest) = (128 ≤ a) × (a < 256) × IsContinued (b ∷ 
 abbrev pub Encodes : ℕ → List ℕ → Type 0
 Encodes n bytes = (length bytes ≤ 4) × IsContinued bytes × (n ≡ sevens bytes)
 
+-- no encoding of n has fewer bytes
+abbrev pub Fewest : ℕ → List ℕ → Type 0
+Fewest n bytes = (others : List ℕ) → Encodes n others → length bytes ≤ length others
+
 -- the variable byte integer as a function
 unfoldable pub varint : ℕ → List ℕ
 varint n =

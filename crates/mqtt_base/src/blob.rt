@@ -56,7 +56,7 @@ pub fn blob_push(out: &mut Vec<u8>, bytes: &[u8]) -> Result<(), AllocError>
 }
 
 /// Owned binary data that has a spelling (1.5.6): at most 65,535 bytes. Clones share the bytes.
-#[derive(Drop)]
+#[derive(Debug, PartialEq, Eq, Hash, Drop)]
 pub struct Blob {
     bytes: Bytes,
 }
@@ -69,6 +69,8 @@ impl Model for Blob {
     ghost view = { λ a. a.bytes };
 
     ghost invariant = { λ a. length a.bytes < 2 ^ 16 };
+
+    ghost inverse = { λ b. record { bytes = b } };
 }
 
 impl Blob {

@@ -17,7 +17,7 @@ mod varint;
 pub use blob::{Blob, blob_push, blob_read};
 pub use fault::ReadFault;
 pub use kind::Kind;
-pub use laws::{no_shorter, one_spelling, text_is_characters};
+pub use laws::{fewest_bytes, one_spelling, text_is_characters};
 pub use number::{u8_read, u16_push, u16_read, u32_read};
 pub use pair::Pair;
 pub use reason::Reason;

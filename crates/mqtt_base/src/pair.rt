@@ -7,7 +7,7 @@ use crate::text::Text;
 use std::alloc::{AllocError, Global};
 
 /// An owned pair of texts (1.5.7): a User Property. Clones share the bytes.
-#[derive(Drop)]
+#[derive(Debug, PartialEq, Eq, Hash, Drop)]
 pub struct Pair {
     /// The name.
     pub name: Text,

@@ -1,8 +1,8 @@
-//! Values from the standard's tables and sections (1.5), and each call once.
+//! Values from the standard's tables and sections (1.5, 2.1.2, 2.4), and each call once.
 
 use crate::{
-    ReadFault, blob_push, blob_read, text_read, u8_read, u16_push, u32_read, varint_len,
-    varint_push, varint_read, varint_write,
+    Blob, Kind, Pair, ReadFault, Reason, Text, blob_push, blob_read, text_read, u8_read, u16_push,
+    u32_read, varint_len, varint_push, varint_read, varint_write,
 };
 use std::test::Fail;
 
@@ -176,5 +176,130 @@ fn faults_say_what_they_mean(rt: HostRuntime) -> Result<(), Fail> {
         write!(shown, "{fault}")?;
         assert_eq!(rt; shown.as_str(), text, "{fault:?}");
     }
+    Ok(())
+}
+
+#[test]
+fn reason_codes_stand_in_the_packets_of_the_table(rt: HostRuntime) {
+    // The sets of 3.2 to 3.15 that this project chose, packet by packet.
+    let acks: &[u8] = &[0x00, 0x10, 0x80, 0x83, 0x87, 0x90, 0x91, 0x97, 0x99];
+    let steps: &[u8] = &[0x00, 0x92];
+    let none: &[u8] = &[];
+    let rows: [(Kind, &[u8]); 15] = [
+        (Kind::Connect, none),
+        (
+            Kind::Connack,
+            &[
+                0x00, 0x80, 0x81, 0x82, 0x83, 0x84, 0x85, 0x86, 0x87, 0x88, 0x89, 0x8a, 0x8c, 0x90,
+                0x95, 0x97, 0x99, 0x9a, 0x9b, 0x9c, 0x9d, 0x9f,
+            ],
+        ),
+        (Kind::Publish, none),
+        (Kind::Puback, acks),
+        (Kind::Pubrec, acks),
+        (Kind::Pubrel, steps),
+        (Kind::Pubcomp, steps),
+        (Kind::Subscribe, none),
+        (
+            Kind::Suback,
+            &[
+                0x00, 0x01, 0x02, 0x80, 0x83, 0x87, 0x8f, 0x91, 0x97, 0x9e, 0xa1, 0xa2,
+            ],
+        ),
+        (Kind::Unsubscribe, none),
+        (Kind::Unsuback, &[0x00, 0x11, 0x80, 0x83, 0x87, 0x8f, 0x91]),
+        (Kind::Pingreq, none),
+        (Kind::Pingresp, none),
+        (
+            Kind::Disconnect,
+            &[
+                0x00, 0x04, 0x80, 0x81, 0x82, 0x83, 0x87, 0x89, 0x8b, 0x8d, 0x8e, 0x8f, 0x90, 0x93,
+                0x94, 0x95, 0x96, 0x97, 0x98, 0x99, 0x9a, 0x9b, 0x9c, 0x9d, 0x9e, 0x9f, 0xa0, 0xa1,
+                0xa2,
+            ],
+        ),
+        (Kind::Auth, &[0x00, 0x18, 0x19]),
+    ];
+    for (kind, codes) in rows {
+        for code in 0..=255 {
+            assert_eq!(rt;
+                Reason(code).allowed(kind),
+                codes.contains(&code),
+                "{kind:?} {code}"
+            );
+        }
+    }
+}
+
+#[test]
+fn reason_codes_have_the_names_of_table_2_6(rt: HostRuntime) {
+    let rows = [
+        (Reason::SUCCESS, 0x00, false),
+        (Reason::GRANTED_QOS_2, 0x02, false),
+        (Reason::DISCONNECT_WITH_WILL_MESSAGE, 0x04, false),
+        (Reason::NO_MATCHING_SUBSCRIBERS, 0x10, false),
+        (Reason::NO_SUBSCRIPTION_EXISTED, 0x11, false),
+        (Reason::CONTINUE_AUTHENTICATION, 0x18, false),
+        (Reason::RE_AUTHENTICATE, 0x19, false),
+        (Reason::UNSPECIFIED_ERROR, 0x80, true),
+        (Reason::MALFORMED_PACKET, 0x81, true),
+        (Reason::PROTOCOL_ERROR, 0x82, true),
+        (Reason::UNSUPPORTED_PROTOCOL_VERSION, 0x84, true),
+        (Reason::NOT_AUTHORIZED, 0x87, true),
+        (Reason::BAD_AUTHENTICATION_METHOD, 0x8c, true),
+        (Reason::SESSION_TAKEN_OVER, 0x8e, true),
+        (Reason::TOPIC_NAME_INVALID, 0x90, true),
+        (Reason::PACKET_IDENTIFIER_NOT_FOUND, 0x92, true),
+        (Reason::RECEIVE_MAXIMUM_EXCEEDED, 0x93, true),
+        (Reason::TOPIC_ALIAS_INVALID, 0x94, true),
+        (Reason::PACKET_TOO_LARGE, 0x95, true),
+        (Reason::QUOTA_EXCEEDED, 0x97, true),
+        (Reason::PAYLOAD_FORMAT_INVALID, 0x99, true),
+        (Reason::SHARED_SUBSCRIPTIONS_NOT_SUPPORTED, 0x9e, true),
+        (Reason::WILDCARD_SUBSCRIPTIONS_NOT_SUPPORTED, 0xa2, true),
+    ];
+    for (reason, code, error) in rows {
+        assert_eq!(rt; reason, Reason(code), "{reason:?}");
+        assert_eq!(rt; reason.is_error(), error, "{reason:?}");
+    }
+}
+
+#[test]
+fn packet_types_have_the_numbers_of_table_2_1(rt: HostRuntime) {
+    let rows = [
+        (Kind::Connect, 1),
+        (Kind::Publish, 3),
+        (Kind::Subscribe, 8),
+        (Kind::Auth, 15),
+    ];
+    for (kind, number) in rows {
+        assert_eq!(rt; kind as u8, number, "{kind:?}");
+    }
+}
+
+#[test]
+fn owned_values_are_what_they_were_made_of(rt: HostRuntime) -> Result<(), Fail> {
+    let alloc = rt.alloc();
+    for (text, holds) in [("", true), ("\u{feff}a\u{1}", true), ("a\0b", false)] {
+        assert_eq!(rt; Text::may_hold(text), holds, "at {text:?}");
+    }
+    let name = "caf\u{e9}";
+    assert!(rt; Text::may_hold(name) && Text::may_hold("drink"));
+    let text = Text::new(alloc, name)?;
+    let copy = text.clone()?;
+    drop(text);
+    assert_eq!(rt; copy.as_str(), name, "a clone outlives its source");
+
+    let blob = Blob::new(alloc, &[0, 0xff])?;
+    let other = blob.clone()?;
+    assert!(rt; blob == other);
+    assert_eq!(rt; blob.share()?.as_slice(), [0, 0xff].as_slice());
+    assert_eq!(rt; other.as_slice(), [0, 0xff].as_slice());
+
+    let pair = Pair::new(alloc, "drink", name)?;
+    let other = pair.clone()?;
+    assert!(rt; pair == other);
+    assert_eq!(rt; other.name.as_str(), "drink");
+    assert!(rt; other.value == copy);
     Ok(())
 }

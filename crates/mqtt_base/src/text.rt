@@ -50,7 +50,7 @@ fn text_by_blob(bytes: &[u8]) -> Result<(&str, usize), ReadFault>
 
 /// An owned text that has a spelling (1.5.4): at most 65,535 bytes of UTF-8 without U+0000. Clones
 /// share the bytes.
-#[derive(Drop)]
+#[derive(Debug, PartialEq, Eq, Hash, Drop)]
 pub struct Text {
     text: ByteStr,
 }
@@ -64,6 +64,8 @@ impl Model for Text {
     ghost view = { λ a. a.text };
 
     ghost invariant = { λ a. FitsText a.text };
+
+    ghost inverse = { λ t. record { text = t } };
 }
 
 impl Text {
