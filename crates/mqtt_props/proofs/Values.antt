@@ -94,10 +94,3 @@ prop_again p rest h =
 -- the reader of properties, for the theory of items
 pub prop_reads : Reads prop_at prop IsProp
 prop_reads = record { takes = prop_takes; again = prop_again; some = λ p. omega arith }
-
--- ---- texts
-
--- what a test of the bytes says of a text
-pub fits_text-is : (found : Bool) (t : List ℕ) → found ≡ list_any (λ b. eqb b 0) t → length t < 2 ^ 16 → IsUtf8 t → (not found ≡ true → FitsText t) × (FitsText t → not found ≡ true)
-fits_text-is true t e lt u = (λ h. absurd (cc h), λ f. let bad : false ≡ true = rw (← e) at f.1 in absurd (cc bad))
-fits_text-is false t e lt u = (λ h. (lt, is_text-utf8 t (sym e) u), λ f. refl)

@@ -42,11 +42,23 @@ fn lawful_read(bytes: &[u8], place: Place) -> Result<(PropsRef<'_>, usize), Prop
 
 /// Lends the block at the front whose properties may stand there, be it lawful or not, and how many
 /// bytes it takes. Takes no memory.
-#[tactic(auto, unfolding(crate::specs::Laws::layout_at))]
 pub fn layout_read(bytes: &[u8], place: Place) -> Result<(PropsRef<'_>, usize), PropFault>
+    ensures exact { Reads (λ ps. ps) result bytes.now (layout_at place bytes.now) }
+    ensures found { IfOk result (λ x. Begins place x.0 (drop x.1 bytes.now) bytes.now) }
+    ensures only { (ps : List Prop) (rest : List ℕ) → Begins place ps rest bytes.now
+        → Reads (λ ps. ps) result bytes.now (Ok (ps, rest)) }
+    ensures refused { IfErr result (λ fault. (fault ≡ PropFault.Malformed) × Refuses place bytes.now fault) }
+{
+    placed_read(bytes, place)
+}
+
+#[tactic(auto, unfolding(crate::specs::Laws::layout_at))]
+fn placed_read(bytes: &[u8], place: Place) -> Result<(PropsRef<'_>, usize), PropFault>
     ensures { Reads (λ ps. ps) result bytes.now (layout_at place bytes.now) }
 {
-    let (props, taken) = block_read(bytes)?;
+    let Ok((props, taken)) = block_read(bytes) else {
+        return Err(PropFault::Malformed);
+    };
     if !props.may_stand_in(place) {
         return Err(PropFault::Malformed);
     }
