@@ -10,7 +10,7 @@ use mqtt_base::{Blob, Pair, Text};
 use std::alloc::{AllocError, Global};
 
 /// A value of one's own.
-#[derive(Debug, Drop)]
+#[derive(Debug, PartialEq, Eq, Drop)]
 pub enum Value {
     /// One byte.
     Byte(u8),
@@ -29,7 +29,7 @@ pub enum Value {
 }
 
 /// A property of one's own: its name, and a value.
-#[derive(Debug, Drop)]
+#[derive(Debug, PartialEq, Eq, Drop)]
 pub struct Prop {
     /// Its name.
     pub name: PropName,
