@@ -525,6 +525,31 @@ fn a_list_tells_its_properties(rt: HostRuntime) -> Result<(), Fail> {
 }
 
 #[test]
+fn a_fault_has_its_number_and_its_text(rt: HostRuntime) -> Result<(), Fail> {
+    let rows = [
+        (
+            PropFault::Malformed,
+            1,
+            "the block of properties has no layout",
+        ),
+        (PropFault::Twice, 2, "a property stands twice"),
+        (
+            PropFault::BadValue,
+            3,
+            "the value of a property is not allowed",
+        ),
+        (PropFault::Memory, 4, "want of memory"),
+    ];
+    for (fault, number, text) in rows {
+        assert_eq!(rt; fault as u8, number, "{fault:?}");
+        let mut shown = String::new(rt.alloc());
+        write!(shown, "{fault}")?;
+        assert_eq!(rt; shown.as_str(), text);
+    }
+    Ok(())
+}
+
+#[test]
 fn a_list_is_made_from_others(rt: HostRuntime) -> Result<(), Fail> {
     let (props, _) = look_at(&PUBLISH, Place::Publish).expect(&rt, "it is read");
     let mut list = props
@@ -594,7 +619,10 @@ fn a_property_without_spelling_is_not_added(rt: HostRuntime) -> Result<(), Fail>
     ];
     for (name, value) in values {
         let prop = PropRef { name, value };
-        assert_eq!(rt; list.push(rt.alloc(), prop), Ok(()), "{name:?}");
+        assert!(rt; prop.fits(), "{name:?}");
+        let own = prop.to_prop(rt.alloc()).expect(&rt, "there is memory");
+        assert_eq!(rt; own.lend(), prop, "{name:?}");
+        assert_eq!(rt; list.push(rt.alloc(), own.lend()), Ok(()), "{name:?}");
         assert_eq!(rt; list.lend().get(name), Some(prop), "{name:?}");
     }
     assert_eq!(rt; list.lend().len(), 7);
