@@ -3,10 +3,10 @@ use Rattle.std.proofs.Common.{◌≡◌, inl, inr, ⊎_elim, ℕ, ◌+◌, Bool,
 use Rattle.std.specs.List.{list_any}
 use Rattle.std.proofs.lemmas.List.Elements.{filter-append}
 use Rattle.std.proofs.lemmas.Grind.{common_steps}
-use Rattle.mqtt_flow.specs.declared.Published.{Published}
-use Rattle.mqtt_flow.specs.declared.Published.TheVariants.{New, Again, Over}
-use Rattle.mqtt_flow.specs.declared.Released.{Released}
-use Rattle.mqtt_flow.specs.declared.Released.TheVariants.{Known, Unknown}
+use Rattle.mqtt_flow.specs.declared.inflow.Published.{Published}
+use Rattle.mqtt_flow.specs.declared.inflow.Published.TheVariants.{New, Again, Over}
+use Rattle.mqtt_flow.specs.declared.inflow.Released.{Released}
+use Rattle.mqtt_flow.specs.declared.inflow.Released.TheVariants.{Known, Unknown}
 use Rattle.mqtt_flow.specs.Inbound.{is_open, answer_to, open_after, answer_to_release, ids_without}
 use Rattle.mqtt_flow.specs.World.{Fate, sent, released, completed, refused, forgotten, FromPublisher, CONNECT, PUBLISH, PUBREL, ToPublisher, CONNACK, PUBREC, PUBCOMP, DISCONNECT, Link, away, asked, live, World, count_of, is_connect, Verdict, accept, refuse, repeat, shut, judged, answer_pubrel, after_publish, after_old_publish, broker_reads, broker_reads_old}
 use Rattle.mqtt_flow.proofs.Ids.{is_full, test_cases, same_id, is_open-open_after_same, is_open-open_after_other, length-open_after, is_open-ids_without_same, is_open-ids_without_other, length-ids_without}

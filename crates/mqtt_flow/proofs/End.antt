@@ -4,6 +4,7 @@ use Rattle.std.specs.List.{list_any}
 use Rattle.std.proofs.lemmas.List.Elements.{filter-append}
 use Rattle.std.proofs.lemmas.Option.{slice_get-map}
 use Rattle.std.proofs.lemmas.List.Folds.{list_any-append}
+use Rattle.mqtt_flow.specs.declared.inflow.TheConstants.{OPEN_LIMIT}
 use Rattle.mqtt_flow.specs.Inbound.{is_open}
 use Rattle.mqtt_flow.specs.World.{Fate, sent, released, completed, refused, forgotten, FromPublisher, PUBLISH, PUBREL, ToPublisher, CONNACK, PUBREC, PUBCOMP, DISCONNECT, Link, away, asked, live, World, count_of, in_flight, free_identifier, sent_on, send_one, send_all, go_out_on, go_out, resent, on_pubrec, on_pubcomp, is_sent, pubrel_for, after_connack, publisher_reads, is_connect, on_new_session}
 use Rattle.mqtt_flow.proofs.Ids.{test_cases, same_id, free_is_free}
@@ -322,7 +323,7 @@ abbrev forgot : World → World
 forgot w = record w { link = live; clean = false; fates = map on_new_session w.fates; down = [] }
 
 -- with nothing under way and nothing open, all may be on_new_session
-forgets : (w : World) → w.up ≡ [] → w.old ≡ [] → w.stands ≡ true → ((i : ℕ) → is_open i w.ids ≡ false) → length w.ids ≤ 20 → ((n : ℕ) → Weak (count_of n w.accepted) (slice_get w.fates n)) → Norm (forgot w)
+forgets : (w : World) → w.up ≡ [] → w.old ≡ [] → w.stands ≡ true → ((i : ℕ) → is_open i w.ids ≡ false) → length w.ids ≤ OPEN_LIMIT → ((n : ℕ) → Weak (count_of n w.accepted) (slice_get w.fates n)) → Norm (forgot w)
 forgets w u o s none few weak = record {
   each = λ j. (free, record { holds = held-on_new_session j 0 w.fates; of_old = inl (rw o refl); of_up = inl (rw u refl); of_down = inl refl; open_is = none j });
   told = λ m. rw slice_get-map (told_forgotten w.ids (count_of m w.accepted) (slice_get w.fates m) (weak m));

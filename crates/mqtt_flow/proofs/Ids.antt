@@ -3,9 +3,10 @@ use Rattle.std.proofs.Common.{◌≡◌, ◌⊎◌, inl, inr, ⊎_elim, ℕ, zer
 use Rattle.std.proofs.lemmas.List.Sums.{length-filter, count_by-le-length}
 use Rattle.std.proofs.lemmas.Bool.Decides.{nat_tests}
 use Rattle.std.proofs.lemmas.Grind.{common_steps}
-use Rattle.mqtt_flow.specs.declared.Published.{Published}
-use Rattle.mqtt_flow.specs.declared.Published.TheVariants.{New, Again, Over}
-use Rattle.mqtt_flow.specs.Inbound.{is_open, answer_to, open_after, ids_without}
+use Rattle.mqtt_flow.specs.declared.inflow.Published.{Published}
+use Rattle.mqtt_flow.specs.declared.inflow.Published.TheVariants.{New, Again, Over}
+use Rattle.mqtt_flow.specs.declared.inflow.TheConstants.{OPEN_LIMIT}
+use Rattle.mqtt_flow.specs.Inbound.{is_open, answer_to, ids_on, open_after, ids_with, ids_without}
 use Rattle.mqtt_flow.specs.World.{lowest, free_identifier}
 
 -- not again, and no room
@@ -21,18 +22,37 @@ test_cases false = inr refl
 pub same_id : (i : ℕ) → nat_eq i i ≡ true
 same_id i = eq-eqb i i refl
 
-pub is_open-push : (i j : ℕ) (ids : List ℕ) → is_open i (ids ++ j ∷ []) ≡ (is_open i ids || nat_eq i j)
-is_open-push i j [] = grind (arith, nat_tests)
-is_open-push i j (x ∷ xs) = let h = is_open-push i j xs in grind (arith, nat_tests, h)
+pub is_open-ids_with : (i j : ℕ) (ids : List ℕ) → is_open i (ids_with j ids) ≡ (is_open i ids || nat_eq i j)
+is_open-ids_with i j [] = grind (arith, nat_tests)
+is_open-ids_with i j (x ∷ xs) = let h = is_open-ids_with i j xs in grind (arith, nat_tests, h)
+
+pub length-ids_with : (i : ℕ) (ids : List ℕ) → length (ids_with i ids) ≡ suc (length ids)
+length-ids_with i [] = refl
+length-ids_with i (x ∷ xs) = let h = length-ids_with i xs in grind (arith, nat_tests, h)
+
+is_open-ids_on_same : (d : Published) (i : ℕ) (ids : List ℕ) → answer_to i ids ≡ d → is_full d ≡ false → is_open i (ids_on d i ids) ≡ true
+is_open-ids_on_same New i ids e h = let s = same_id i in grind (arith, nat_tests, is_open-ids_with)
+is_open-ids_on_same Again i ids e h = grind (arith, nat_tests)
+is_open-ids_on_same Over i ids e h = absurd (cc)
 
 pub is_open-open_after_same : (i : ℕ) (ids : List ℕ) → is_full (answer_to i ids) ≡ false → is_open i (open_after i ids) ≡ true
-is_open-open_after_same i ids e = let s = same_id i in grind (arith, nat_tests, is_open-push)
+is_open-open_after_same i ids e = is_open-ids_on_same (answer_to i ids) i ids refl e
+
+is_open-ids_on_other : (d : Published) (i j : ℕ) (ids : List ℕ) → nat_eq i j ≡ false → is_open i (ids_on d j ids) ≡ is_open i ids
+is_open-ids_on_other New i j ids e = grind (arith, nat_tests, is_open-ids_with)
+is_open-ids_on_other Again i j ids e = refl
+is_open-ids_on_other Over i j ids e = refl
 
 pub is_open-open_after_other : (i j : ℕ) (ids : List ℕ) → nat_eq i j ≡ false → is_open i (open_after j ids) ≡ is_open i ids
-is_open-open_after_other i j ids e = grind (arith, nat_tests, is_open-push)
+is_open-open_after_other i j ids e = is_open-ids_on_other (answer_to j ids) i j ids e
 
-pub length-open_after : (i : ℕ) (ids : List ℕ) → length ids ≤ 20 → length (open_after i ids) ≤ 20
-length-open_after i ids h = grind (arith, nat_tests, common_steps)
+length-ids_on : (d : Published) (i : ℕ) (ids : List ℕ) → answer_to i ids ≡ d → length ids ≤ OPEN_LIMIT → length (ids_on d i ids) ≤ OPEN_LIMIT
+length-ids_on New i ids e h = grind (arith, nat_tests, length-ids_with)
+length-ids_on Again i ids e h = h
+length-ids_on Over i ids e h = h
+
+pub length-open_after : (i : ℕ) (ids : List ℕ) → length ids ≤ OPEN_LIMIT → length (open_after i ids) ≤ OPEN_LIMIT
+length-open_after i ids h = length-ids_on (answer_to i ids) i ids refl h
 
 pub is_open-ids_without_same : (i : ℕ) (ids : List ℕ) → is_open i (ids_without i ids) ≡ false
 is_open-ids_without_same i [] = refl
@@ -42,7 +62,7 @@ pub is_open-ids_without_other : (i j : ℕ) (ids : List ℕ) → nat_eq i j ≡ 
 is_open-ids_without_other i j [] e = refl
 is_open-ids_without_other i j (x ∷ xs) e = let h = is_open-ids_without_other i j xs e in grind (arith, nat_tests, h)
 
-pub length-ids_without : (i : ℕ) (ids : List ℕ) → length ids ≤ 20 → length (ids_without i ids) ≤ 20
+pub length-ids_without : (i : ℕ) (ids : List ℕ) → length ids ≤ OPEN_LIMIT → length (ids_without i ids) ≤ OPEN_LIMIT
 length-ids_without i ids h = omega (arith, length-filter (λ j. not (nat_eq j i)) ids, count_by-le-length (λ j. not (nat_eq j i)) ids)
 
 -- the lowest free identifier is free

@@ -1,6 +1,7 @@
 -- Each event keeps the invariant.
 use Rattle.std.proofs.Common.{◌≡◌, ◌⊎◌, inl, inr, ℕ, suc, ◌≤◌, Bool, true, false, ◌||◌, ◌&&◌, not, List, [], ◌∷◌, length, refl, sym, ◌∙◌, subst, arith, Option, Some, None, slice_get}
 use Rattle.std.specs.List.{list_any}
+use Rattle.mqtt_flow.specs.declared.inflow.TheConstants.{OPEN_LIMIT}
 use Rattle.mqtt_flow.specs.World.{Fate, sent, released, completed, refused, forgotten, FromPublisher, CONNECT, PUBLISH, PUBREL, ToPublisher, DISCONNECT, Link, away, asked, live, World, Event, publish, to_broker, to_end, old_to_broker, give_up, break, connect, close, restart, after_give_up, after_break, after_connect, after_close, step, start, run, count_of, is_connect, broker_reads, broker_reads_old, go_out_on}
 use Rattle.mqtt_flow.proofs.Stages.{Stage, free, AtMost, At, Told, Weak, Calm, Blank, Norm, Fresh, Good, is_clean, same_stage}
 use Rattle.mqtt_flow.proofs.Broker.{downs-other, reads_up, reads_old}
@@ -193,6 +194,6 @@ pub refused_none : (w : World) (n : ℕ) → slice_get w.fates n ≡ Some refuse
 refused_none w n e (inl h) = subst (Told w.ids (count_of n w.accepted)) e (h.told n)
 refused_none w n e (inr h) = subst (Weak (count_of n w.accepted)) e (h.weak n)
 
-pub few : (w : World) → Good w → length w.ids ≤ 20
+pub few : (w : World) → Good w → length w.ids ≤ OPEN_LIMIT
 few w (inl h) = h.within
 few w (inr h) = rw h.of_opens (omega arith)

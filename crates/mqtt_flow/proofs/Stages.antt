@@ -1,6 +1,7 @@
 -- Where the handshake of one identifier stands: the packets about it that may be under way, its message, whether it is open.
 use Rattle.std.proofs.Common.{◌≡◌, ◌⊎◌, inl, inr, ⊎_elim, ℕ, suc, ◌≤◌, Bool, true, false, cond, List, [], ◌∷◌, ◌++◌, length, nat_eq, if◌then◌else◌, filter, sym, ◌∙◌, subst, Option, Some, None, slice_get, eqb-true}
 use Rattle.std.specs.List.{list_any}
+use Rattle.mqtt_flow.specs.declared.inflow.TheConstants.{OPEN_LIMIT}
 use Rattle.mqtt_flow.specs.Inbound.{is_open}
 use Rattle.mqtt_flow.specs.World.{Fate, sent, released, completed, refused, forgotten, FromPublisher, CONNECT, PUBLISH, PUBREL, ToPublisher, CONNACK, PUBREC, PUBCOMP, DISCONNECT, Link, away, asked, live, World, count_of, in_flight, is_connect}
 use Rattle.mqtt_flow.proofs.Ids.{test_cases, same_id}
@@ -111,7 +112,7 @@ pub record Norm (w : World) : Type 0 where
   pub each : (i : ℕ) → (s : Stage) × At i w.fates w.old w.up w.down w.ids s
   pub told : (n : ℕ) → Told w.ids (count_of n w.accepted) (slice_get w.fates n)
   pub calm : Calm w.link w.clean w.stands w.up w.down w.old w.fates
-  pub within : length w.ids ≤ 20
+  pub within : length w.ids ≤ OPEN_LIMIT
   pub begun : w.stands ≡ false → (in_flight w.fates ≡ []) × (w.ids ≡ [])
   pub unclean : list_any is_clean w.old ≡ false
 

@@ -1,10 +1,10 @@
 -- A publisher, one session, the line between them and the line that was given up last.
 use Rattle.std.specs.Prelude.{ℕ, zero, suc, pred, Bool, true, false, ◌||◌, ◌&&◌, not, List, [], ◌∷◌, ◌++◌, length, map, nat_eq, nat_lt, if◌then◌else◌, count_by}
 use Rattle.std.specs.List.{list_any}
-use Rattle.mqtt_flow.specs.declared.Published.{Published}
-use Rattle.mqtt_flow.specs.declared.Published.TheVariants.{New, Again, Over}
-use Rattle.mqtt_flow.specs.declared.Released.{Released}
-use Rattle.mqtt_flow.specs.declared.Released.TheVariants.{Known, Unknown}
+use Rattle.mqtt_flow.specs.declared.inflow.Published.{Published}
+use Rattle.mqtt_flow.specs.declared.inflow.Published.TheVariants.{New, Again, Over}
+use Rattle.mqtt_flow.specs.declared.inflow.Released.{Released}
+use Rattle.mqtt_flow.specs.declared.inflow.Released.TheVariants.{Known, Unknown}
 use Rattle.mqtt_flow.specs.Inbound.{is_open, answer_to, open_after, answer_to_release, ids_without}
 
 -- what became of a message that went out. `sent` and `released` have its identifier

@@ -1,6 +1,6 @@
 use Rattle.mqtt_flow.specs.World.{run, start}
 use Rattle.mqtt_flow.proofs.Run.{begins, runs, once, done, refused_none, few}
-use Rattle.mqtt_flow.proofs.inbound_once.Goals as goal
+use Rattle.mqtt_flow.proofs.laws.inbound_once.Goals as goal
 
 pub returns-clause-once : goal.returns-clause-once
 returns-clause-once c = λ events n. once (run events start) n (runs events start begins)
