@@ -60,8 +60,20 @@ impl Inflow {
         }
     }
 
+    /// Makes the flow of a session that has these identifiers open, as a store keeps them (4.1).
+    pub fn from_ids(alloc: Global, ids: &[u16]) -> Result<Self, FlowFault>
+        requires { IsOpenList ids.now }
+        ensures ok { IfOk result (λ flow. flow.ids ≡ ids.now) }
+        ensures fault { IfErr result (λ fault. fault ≡ FlowFault.Memory) }
+    {
+        match Vec::from_slice(alloc, ids) {
+            Ok(ids) => Ok(Inflow { ids }),
+            Err(_) => Err(FlowFault::Memory),
+        }
+    }
+
     /// What a PUBLISH with this identifier would be. Takes no memory.
-    pub fn look(&self, id: u16) -> Published
+    pub fn would_publish(&self, id: u16) -> Published
         ensures { result ≡ answer_to id self.now.ids }
     {
         match self.place(id) {
@@ -88,8 +100,9 @@ impl Inflow {
         ensures answer { IfOk result (λ answer. answer ≡ answer_to id self.old.ids) }
         ensures ok { OnOk result (self.new.ids ≡ open_after id self.old.ids) }
 
-        // Want of memory is the only refusal, only where there was no room, and changes nothing.
+        // Want of memory is the only refusal, only of a new one without room, and changes nothing.
         ensures fault { IfErr result (λ fault. fault ≡ FlowFault.Memory) }
+        ensures only { OnErr result (answer_to id self.old.ids ≡ Published.New) }
         ensures memory { OnErr result (self.old.room ≡ 0) }
         ensures err { OnErr result (self.new.ids ≡ self.old.ids) }
     {
