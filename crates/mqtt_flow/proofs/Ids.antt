@@ -7,7 +7,7 @@ use Rattle.mqtt_flow.specs.declared.inflow.Published.{Published}
 use Rattle.mqtt_flow.specs.declared.inflow.Published.TheVariants.{New, Again, Over}
 use Rattle.mqtt_flow.specs.declared.inflow.TheConstants.{OPEN_LIMIT}
 use Rattle.mqtt_flow.specs.Inbound.{is_open, answer_to, ids_on, open_after, ids_with, ids_without}
-use Rattle.mqtt_flow.specs.World.{lowest, free_identifier}
+use Rattle.mqtt_flow.specs.Publisher.{lowest_from, free_identifier}
 
 -- not again, and no room
 abbrev pub is_full : Published → Bool
@@ -86,7 +86,7 @@ fewer_from : (i : ℕ) (used : List ℕ) → is_open i used ≡ true → at_leas
 fewer_from i [] h = absurd (cc)
 fewer_from i (x ∷ xs) h = let r = fewer_from i xs in let q = fewer_ids i xs in grind (arith, nat_tests, r, q)
 
-pub lowest_free : (k i : ℕ) (used : List ℕ) → at_least i used ≤ k → is_open (lowest k i used) used ≡ false
+pub lowest_free : (k i : ℕ) (used : List ℕ) → at_least i used ≤ k → is_open (lowest_from k i used) used ≡ false
 lowest_free zero i used h = none_from i used h
 lowest_free (suc k) i used h =
     ⊎_elim
