@@ -5,7 +5,9 @@ use Rattle.std.specs.List.Sorted.{IsStrictlyIncreasing}
 use Rattle.std.proofs.lemmas.List.Kept.{IsStrictlyIncreasing-filter}
 use Rattle.std.proofs.lemmas.Bool.Decides.{nat_tests}
 use Rattle.mqtt_flow.specs.declared.inflow.TheConstants.{OPEN_LIMIT}
-use Rattle.mqtt_flow.specs.Inbound.{is_open, ids_with, ids_without, IsOpenList}
+use Rattle.mqtt_flow.specs.declared.inflow.Published.{Published}
+use Rattle.mqtt_flow.specs.declared.inflow.Published.TheVariants.{New, Again, Over}
+use Rattle.mqtt_flow.specs.Inbound.{is_open, answer_to, ids_on, open_after, ids_with, ids_without, IsOpenList}
 use Rattle.mqtt_flow.specs.Inflow.{BelongsAt}
 use Rattle.mqtt_flow.proofs.Ids.{test_cases, length-ids_with, length-ids_without}
 
@@ -60,3 +62,14 @@ lawful-ids_without id ids h = record {
   ascending = IsStrictlyIncreasing-filter (λ other. not (nat_eq other id)) ids h.ascending;
   within = length-ids_without id ids h.within;
 }
+
+lawful-ids_on : (d : Published) (id : ℕ) (ids : List ℕ) → answer_to id ids ≡ d → IsOpenList ids → IsOpenList (ids_on d id ids)
+lawful-ids_on New id ids e h =
+    let missing : is_open id ids ≡ false = grind arith in
+    let room : length ids < OPEN_LIMIT = grind (arith, nat_tests) in
+    lawful-ids_with id ids missing room h
+lawful-ids_on Again id ids e h = h
+lawful-ids_on Over id ids e h = h
+
+pub lawful-open_after : (id : ℕ) (ids : List ℕ) → IsOpenList ids → IsOpenList (open_after id ids)
+lawful-open_after id ids h = lawful-ids_on (answer_to id ids) id ids refl h

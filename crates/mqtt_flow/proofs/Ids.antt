@@ -1,5 +1,5 @@
 -- The open identifiers after a step.
-use Rattle.std.proofs.Common.{◌≡◌, ◌⊎◌, inl, inr, ⊎_elim, ℕ, zero, suc, ◌<◌, ◌≤◌, Bool, true, false, cond, not, ◌||◌, List, [], ◌∷◌, ◌++◌, length, nat_eq, refl, arith, eq-eqb, nat_le}
+use Rattle.std.proofs.Common.{◌≡◌, ◌⊎◌, inl, inr, ⊎_elim, ℕ, zero, suc, ◌<◌, ◌≤◌, Bool, true, false, cond, not, ◌||◌, List, [], ◌∷◌, ◌++◌, length, nat_eq, refl, arith, eq-eqb, eqb-true, ◌≢◌, nat_le}
 use Rattle.std.proofs.lemmas.List.Sums.{length-filter, count_by-le-length}
 use Rattle.std.proofs.lemmas.Bool.Decides.{nat_tests}
 use Rattle.std.proofs.lemmas.Grind.{common_steps}
@@ -21,6 +21,9 @@ test_cases false = inr refl
 
 pub same_id : (i : ℕ) → nat_eq i i ≡ true
 same_id i = eq-eqb i i refl
+
+pub not_same : (i j : ℕ) → i ≢ j → nat_eq i j ≡ false
+not_same i j h = ⊎_elim (λ (e : nat_eq i j ≡ true). absurd (h (eqb-true i j e))) (λ (e : nat_eq i j ≡ false). e) (test_cases (nat_eq i j))
 
 pub is_open-ids_with : (i j : ℕ) (ids : List ℕ) → is_open i (ids_with j ids) ≡ (is_open i ids || nat_eq i j)
 is_open-ids_with i j [] = grind (arith, nat_tests)

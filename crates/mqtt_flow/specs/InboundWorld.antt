@@ -268,6 +268,10 @@ abbrev pub run : List Event → World → World
 run [] w = w
 run (event ∷ events) w = run events (step w event)
 
+-- the world after these events
+abbrev pub after : List Event → World
+after events = run events start
+
 -- what became of a message, and how often it was accepted
 abbrev pub fate_of : ℕ → World → Option Fate
 fate_of n w = slice_get w.fates n

@@ -1,5 +1,5 @@
 -- A conforming publisher: what becomes of its messages, and what it sends for them (4.3.2, 4.3.3, 4.4, 4.9).
-use Rattle.std.specs.Prelude.{ℕ, zero, suc, Bool, true, false, ◌&&◌, List, [], ◌∷◌, length, nat_eq, if◌then◌else◌}
+use Rattle.std.specs.Prelude.{ℕ, zero, suc, Bool, true, false, ◌&&◌, List, [], ◌∷◌, length, nat_eq, if◌then◌else◌, Option, Some, None, ⊤}
 use Rattle.std.specs.List.{list_any}
 use Rattle.mqtt_flow.specs.Codes.{is_success}
 use Rattle.mqtt_flow.specs.Inbound.{is_open}
@@ -130,3 +130,12 @@ pubrel_if false id = []
 
 abbrev pub pubrel_for : ℕ → ℕ → List Fate → List FromPublisher
 pubrel_for id code fates = pubrel_if (list_any (is_sent id) fates && is_success code) id
+
+-- a message of QoS 2, or one that has not gone out
+abbrev pub IsExactlyOnce : Option Fate → Type 0
+IsExactlyOnce None = ⊤
+IsExactlyOnce (Some (sent_1 id)) = ⊥
+IsExactlyOnce (Some (ended_1 by)) = ⊥
+IsExactlyOnce (Some (sent id)) = ⊤
+IsExactlyOnce (Some (released id)) = ⊤
+IsExactlyOnce (Some (ended by)) = ⊤

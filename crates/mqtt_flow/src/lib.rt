@@ -3,7 +3,7 @@
 
 pub use fault::FlowFault;
 pub use inflow::{Inflow, OPEN_LIMIT, Published, Released};
-pub use laws::inbound_once;
+pub use laws::{inbound_once, own_identifier_alone};
 
 mod fault;
 mod inflow;

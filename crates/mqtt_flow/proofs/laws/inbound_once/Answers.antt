@@ -1,9 +1,22 @@
-use Rattle.mqtt_flow.proofs.InboundFates.{only}
-use Rattle.mqtt_flow.proofs.InboundBroker.{reads_up}
-use Rattle.mqtt_flow.proofs.InboundLines.{joins}
-use Rattle.mqtt_flow.proofs.InboundExamples.{one_message}
-use Rattle.mqtt_flow.proofs.InboundStages.{pubcomp_came}
+use Rattle.mqtt_flow.specs.Publisher.{completed, refused}
+use Rattle.mqtt_flow.specs.InboundWorld.{after}
+use Rattle.mqtt_flow.proofs.InboundRun.{is_good, once, unsent_is, ended_is, ended_1_is, few}
 use Rattle.mqtt_flow.proofs.laws.inbound_once.Goals as goal
 
-pub returns : goal.returns
-returns c = ?
+pub returns-clause-once : goal.returns-clause-once
+returns-clause-once c = λ events n of_qos_2. once (after events) n (is_good events) of_qos_2
+
+pub returns-clause-unsent : goal.returns-clause-unsent
+returns-clause-unsent c = λ events n fate. unsent_is (after events) n (is_good events) fate
+
+pub returns-clause-completed : goal.returns-clause-completed
+returns-clause-completed c = λ events n fate. ended_is (after events) n completed (is_good events) fate
+
+pub returns-clause-refused : goal.returns-clause-refused
+returns-clause-refused c = λ events n fate. ended_is (after events) n refused (is_good events) fate
+
+pub returns-clause-acknowledged : goal.returns-clause-acknowledged
+returns-clause-acknowledged c = λ events n fate. ended_1_is (after events) n completed (is_good events) fate
+
+pub returns-clause-within : goal.returns-clause-within
+returns-clause-within c = λ events. few (after events) (is_good events)
