@@ -14,7 +14,8 @@ use Rattle.mqtt_flow.specs.Line.{Link, away, asked, live, sent_on}
 use Rattle.mqtt_flow.specs.Publisher.{Finish, completed, refused, forgotten, Fate, sent_1, ended_1, sent, released, ended, FromPublisher, CONNECT, PUBLISH_1, PUBLISH_2, PUBREL, ToPublisher, CONNACK, CONNACK_REFUSED, PUBACK, PUBREC, PUBCOMP, DISCONNECT, in_flight}
 use Rattle.mqtt_flow.specs.InboundWorld.{World, count_of, Choice, takes, takes_unheard, refuses, Verdict, accept, refuse, repeat, shut, verdict_on, accepted_by, ids_by, answer_1, answer_2, answer_to_pubrel, left_by, linked_by, on_publish_1, on_publish_2, on_old_publish_1, on_old_publish_2, spared, on_connect, on_old_connect, taken_over, closed_by, broker_reads, broker_reads_old}
 use Rattle.mqtt_flow.proofs.Ids.{is_full, test_cases, same_id, is_open-open_after_same, is_open-open_after_other, length-open_after, is_open-ids_without_same, is_open-ids_without_other, length-ids_without}
-use Rattle.mqtt_flow.proofs.InboundStages.{Mark, for_puback, for_pubrec, for_pubcomp, Stage, acknowledging, receiving, completing, held, ups, downs, down_about, AtMost, At, Told, Weak, EndTold, EndTold_1, Calm, is_away, is_asking, is_shut, is_turned, is_answered, is_live, IsOld, IsLate, IsQuiet, is_connect, Norm, Fresh, Good, Blank, blank_away, blank_asking, blank_shut, blank_answered, IsMore, same_stage, more_accepted, by_id, publish_1_came, publish_2_came, pubrel_came}
+use Rattle.mqtt_flow.proofs.InboundCame.{publish_1_came, publish_2_came, pubrel_came}
+use Rattle.mqtt_flow.proofs.InboundStages.{Mark, for_puback, for_pubrec, for_pubcomp, Stage, acknowledging, receiving, completing, held, ups, downs, down_about, AtMost, At, Told, Weak, EndTold, EndTold_1, Calm, is_away, is_asking, is_shut, is_turned, is_answered, is_live, IsOld, IsLate, IsQuiet, is_connect, Norm, Fresh, Good, Blank, blank_away, blank_asking, blank_shut, blank_answered, IsMore, same_stage, more_accepted, by_id}
 use Rattle.mqtt_flow.proofs.InboundFates.{not_held, holder, only, made, Same}
 
 pub count_of-push : (m n : ℕ) (accepted : List ℕ) → count_of m (accepted ++ n ∷ []) ≡ count_of m accepted + cond (nat_eq m n) 1 0

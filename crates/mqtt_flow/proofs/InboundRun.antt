@@ -9,7 +9,8 @@ use Rattle.mqtt_flow.specs.InboundWorld.{World, Choice, Event, publish, to_broke
 use Rattle.mqtt_flow.proofs.InboundStages.{free, Told, Weak, EndTold, EndTold_1, Blank, blank_away, blank_asking, blank_shut, blank_answered, IsOld, IsLate, IsQuiet, is_away, is_connect, Norm, Fresh, Good, same_stage}
 use Rattle.mqtt_flow.proofs.InboundBroker.{late_is_old, late_spared, reads_up}
 use Rattle.mqtt_flow.proofs.InboundLines.{quiet_push, closes, drops_old, reads_old, leaves, gives_up, joins}
-use Rattle.mqtt_flow.proofs.InboundPublisher.{goes_out, reads_down, reads_anew}
+use Rattle.mqtt_flow.proofs.InboundSends.{goes_out}
+use Rattle.mqtt_flow.proofs.InboundPublisher.{reads_down, reads_anew}
 
 restarts : (w : World) → Norm w → Norm (record w { link = away; linked = false; up = []; down = []; old = [] })
 restarts w inv = record {
@@ -40,16 +41,16 @@ keeps w restart inv = inl (restarts w inv)
 fresh_lines : (w : World) (link' : Link) (linked' : Bool) (up' old' : List FromPublisher) (down' : List ToPublisher) → IsLate old' → Blank link' linked' up' down' → Fresh w → Fresh (record w { link = link'; linked = linked'; up = up'; down = down'; old = old' })
 fresh_lines w link' linked' up' old' down' late lines h = record { of_ids = h.of_ids; late = late; lines = lines; weak = h.weak; pending = h.pending; begun = h.begun }
 
+not_live : {A : Type 0} {l : Link} {b : Bool} {up : List FromPublisher} {down : List ToPublisher} → Blank l b up down → l ≡ live → A
+not_live (blank_away l b u d) e = let x = sym l ∙ e in absurd (cc)
+not_live (blank_asking l b u d) e = let x = sym l ∙ e in absurd (cc)
+not_live (blank_shut l b u d) e = let x = sym l ∙ e in absurd (cc)
+not_live (blank_answered rest l u d q) e = let x = sym l ∙ e in absurd (cc)
+
 fresh_waits : (l : Link) (qos : Qos) (w : World) → w.link ≡ l → Fresh w → Fresh (send_unsent l (record w { unsent = w.unsent ++ qos ∷ [] }))
 fresh_waits away qos w e h = record { of_ids = h.of_ids; late = h.late; lines = h.lines; weak = h.weak; pending = h.pending; begun = h.begun }
 fresh_waits asked qos w e h = record { of_ids = h.of_ids; late = h.late; lines = h.lines; weak = h.weak; pending = h.pending; begun = h.begun }
 fresh_waits live qos w e h = not_live h.lines e
-  where
-    not_live : {A : Type 0} {l : Link} {b : Bool} {up : List FromPublisher} {down : List ToPublisher} → Blank l b up down → l ≡ live → A
-    not_live (blank_away l b u d) e = let x = sym l ∙ e in absurd (cc)
-    not_live (blank_asking l b u d) e = let x = sym l ∙ e in absurd (cc)
-    not_live (blank_shut l b u d) e = let x = sym l ∙ e in absurd (cc)
-    not_live (blank_answered rest l u d q) e = let x = sym l ∙ e in absurd (cc)
 
 -- its CONNECT comes
 fresh_connect : (choice : Choice) (w : World) → w.link ≡ asked → w.down ≡ [] → Fresh w → Fresh (broker_reads choice (CONNECT true ∷ []) w)
@@ -100,12 +101,6 @@ fresh_gives away c w l e h = h
 fresh_gives asked true w l e h = h
 fresh_gives asked false w l e h = absurd (cc)
 fresh_gives live c w l e h = not_live h.lines l
-  where
-    not_live : {A : Type 0} {l : Link} {b : Bool} {up : List FromPublisher} {down : List ToPublisher} → Blank l b up down → l ≡ live → A
-    not_live (blank_away l b u d) e = let x = sym l ∙ e in absurd (cc)
-    not_live (blank_asking l b u d) e = let x = sym l ∙ e in absurd (cc)
-    not_live (blank_shut l b u d) e = let x = sym l ∙ e in absurd (cc)
-    not_live (blank_answered rest l u d q) e = let x = sym l ∙ e in absurd (cc)
 
 fresh_joins : (l : Link) (c : Bool) (w : World) → Fresh w → Fresh (on_join l c w)
 fresh_joins away c w h =

@@ -10,12 +10,20 @@ fn a_repeat_is_not_new(rt: HostRuntime) -> Result<(), FlowFault> {
     assert_eq!(rt; flow.would_publish(7), Published::New, "before the first");
     assert_eq!(rt; flow.publish(7)?, Published::New, "the first");
     assert_eq!(rt; flow.publish(7)?, Published::Again, "its repeat");
-    assert_eq!(rt; flow.would_publish(7), Published::Again, "before a second repeat");
+    assert_eq!(rt;
+        flow.would_publish(7),
+        Published::Again,
+        "before a second repeat"
+    );
     assert!(rt; flow.is_open(7), "open until PUBREL");
     assert_eq!(rt; flow.release(7), Released::Known, "the first PUBREL");
     assert!(rt; !flow.is_open(7), "closed by PUBREL");
     assert_eq!(rt; flow.release(7), Released::Unknown, "its repeat");
-    assert_eq!(rt; flow.publish(7)?, Published::New, "another message under the same identifier");
+    assert_eq!(rt;
+        flow.publish(7)?,
+        Published::New,
+        "another message under the same identifier"
+    );
     Ok(())
 }
 
@@ -25,17 +33,37 @@ fn the_twenty_first_is_over(rt: HostRuntime) -> Result<(), FlowFault> {
     let mut flow = Inflow::new(rt.alloc());
     // From the greatest down, so that each goes to the front.
     for id in 1..=20 {
-        assert_eq!(rt; flow.publish(65535 - 3 * id)?, Published::New, "identifier {id} of 20");
+        assert_eq!(rt;
+            flow.publish(65535 - 3 * id)?,
+            Published::New,
+            "identifier {id} of 20"
+        );
     }
-    assert_eq!(rt; flow.publish(65535 - 30)?, Published::Again, "one of the 20");
+    assert_eq!(rt;
+        flow.publish(65535 - 30)?,
+        Published::Again,
+        "one of the 20"
+    );
     for id in [1, 65535, 65535 - 31] {
-        assert_eq!(rt; flow.would_publish(id), Published::Over, "{id} would be the 21st");
+        assert_eq!(rt;
+            flow.would_publish(id),
+            Published::Over,
+            "{id} would be the 21st"
+        );
         assert_eq!(rt; flow.publish(id)?, Published::Over, "{id} is the 21st");
         assert_eq!(rt; flow.release(id), Released::Unknown, "{id} did not open");
         assert_eq!(rt; flow.ids().len(), 20, "{id} changed nothing");
     }
-    assert_eq!(rt; flow.release(65535 - 30), Released::Known, "one of the 20 is released");
-    assert_eq!(rt; flow.publish(1)?, Published::New, "there is room for another");
+    assert_eq!(rt;
+        flow.release(65535 - 30),
+        Released::Known,
+        "one of the 20 is released"
+    );
+    assert_eq!(rt;
+        flow.publish(1)?,
+        Published::New,
+        "there is room for another"
+    );
     Ok(())
 }
 
@@ -46,12 +74,24 @@ fn a_stored_session_goes_on(rt: HostRuntime) -> Result<(), FlowFault> {
     for id in [9, 65535, 1, 300] {
         flow.publish(id)?;
     }
-    assert_eq!(rt; flow.ids(), [1, 9, 300, 65535].as_slice(), "whatever the order of PUBLISH");
+    assert_eq!(rt;
+        flow.ids(),
+        [1, 9, 300, 65535].as_slice(),
+        "whatever the order of PUBLISH"
+    );
     flow.release(9);
     let mut again = Inflow::from_ids(rt.alloc(), flow.ids())?;
     assert_eq!(rt; again.ids(), [1, 300, 65535].as_slice(), "as it was kept");
-    assert_eq!(rt; again.publish(300)?, Published::Again, "open before the restart");
-    assert_eq!(rt; again.publish(9)?, Published::New, "released before the restart");
+    assert_eq!(rt;
+        again.publish(300)?,
+        Published::Again,
+        "open before the restart"
+    );
+    assert_eq!(rt;
+        again.publish(9)?,
+        Published::New,
+        "released before the restart"
+    );
     Ok(())
 }
 
@@ -86,9 +126,17 @@ fn a_publish_after_make_room_succeeds(rt: HostRuntime) {
     let mut flow = Inflow::new(rt.alloc());
     for id in 1..=20 {
         if flow.make_room().is_err() {
-            assert_eq!(rt; flow.ids().len() + 1, id as usize, "want of memory changes nothing");
+            assert_eq!(rt;
+                flow.ids().len() + 1,
+                id as usize,
+                "want of memory changes nothing"
+            );
             assert!(rt; flow.make_room().is_ok(), "one growth alone is refused");
         }
-        assert_eq!(rt; flow.publish(id).ok(), Some(Published::New), "identifier {id}");
+        assert_eq!(rt;
+            flow.publish(id).ok(),
+            Some(Published::New),
+            "identifier {id}"
+        );
     }
 }
