@@ -1,18 +1,17 @@
 -- What the broker reads keeps the invariant.
-use Rattle.std.proofs.Common.{◌≡◌, ◌⊎◌, inl, inr, ⊎_elim, ℕ, ◌≤◌, Bool, true, false, ◌||◌, List, [], ◌∷◌, ◌++◌, length, refl, sym, ◌∙◌, subst, arith, Option, Some, None, slice_get, true≢false}
+use Rattle.std.proofs.Common.{◌≡◌, inl, inr, ℕ, Bool, true, false, List, [], ◌∷◌, ◌++◌, refl, sym, ◌∙◌, subst, arith, Option, Some, None, slice_get, true≢false}
 use Rattle.std.specs.List.{list_any}
-use Rattle.mqtt_flow.specs.Codes.{success, session_taken_over, identifier_in_use, identifier_not_found, receive_maximum_exceeded, quota_exceeded, is_success}
+use Rattle.mqtt_flow.specs.Codes.{success, identifier_in_use, identifier_not_found, receive_maximum_exceeded, quota_exceeded, is_success}
 use Rattle.mqtt_flow.specs.declared.inflow.Released.{Released}
 use Rattle.mqtt_flow.specs.declared.inflow.Released.TheVariants.{Known, Unknown}
-use Rattle.mqtt_flow.specs.Inbound.{is_open, answer_to, open_after, answer_to_release, ids_without}
-use Rattle.mqtt_flow.specs.Line.{Link, away, asked, live, sent_on}
-use Rattle.mqtt_flow.specs.Publisher.{Fate, sent_1, ended_1, sent, released, ended, FromPublisher, CONNECT, PUBLISH_1, PUBLISH_2, PUBREL, ToPublisher, CONNACK, CONNACK_REFUSED, PUBACK, PUBREC, PUBCOMP, DISCONNECT, in_flight}
-use Rattle.mqtt_flow.specs.InboundWorld.{World, count_of, Choice, takes, takes_unheard, refuses, Verdict, accept, refuse, repeat, shut, verdict_on, answer_to_pubrel, on_publish_1, on_publish_2, on_old_publish_1, on_old_publish_2, spared, on_connect, on_old_connect, taken_over, closed_by, broker_reads, broker_reads_old}
+use Rattle.mqtt_flow.specs.Inbound.{answer_to, open_after, answer_to_release, ids_without}
+use Rattle.mqtt_flow.specs.Line.{Link, asked, live, sent_on}
+use Rattle.mqtt_flow.specs.Publisher.{Fate, sent_1, ended_1, sent, released, ended, FromPublisher, CONNECT, PUBLISH_1, PUBLISH_2, PUBREL, ToPublisher, CONNACK, PUBACK, PUBREC, PUBCOMP, DISCONNECT}
+use Rattle.mqtt_flow.specs.InboundWorld.{World, count_of, Choice, takes, takes_unheard, refuses, Verdict, accept, refuse, repeat, shut, verdict_on, answer_to_pubrel, on_publish_1, on_publish_2, spared, on_connect, broker_reads}
 use Rattle.mqtt_flow.proofs.Ids.{same_id, is_open-open_after_same, is_open-open_after_other, length-open_after, length-ids_without}
 use Rattle.mqtt_flow.proofs.InboundCame.{publish_1_came, publish_2_came, pubrel_came}
-use Rattle.mqtt_flow.proofs.InboundStages.{Mark, Stage, held, ups, AtMost, At, Told, Weak, Calm, is_away, is_asking, is_shut, is_turned, is_answered, is_live, IsOld, IsLate, IsQuiet, is_connect, Norm, Fresh, Good, blank_answered, same_stage}
-use Rattle.mqtt_flow.proofs.InboundFates.{not_held}
-use Rattle.mqtt_flow.proofs.InboundMessages.{Each, more_push, one_push, new_is, again_is, over_is, downs-other, downs-same, swap, publish_1_each, publish_2_each, pubrel_each, drop_each, told_new_1, told_new_2, told_release, accept_is, refuse_is, repeat_is, shut_is}
+use Rattle.mqtt_flow.proofs.InboundStages.{ups, AtMost, Told, Weak, Calm, is_away, is_asking, is_shut, is_turned, is_answered, is_live, IsOld, IsLate, is_connect, Norm, Good, blank_answered, same_stage}
+use Rattle.mqtt_flow.proofs.InboundMessages.{Each, more_push, one_push, new_is, again_is, over_is, downs-other, downs-same, publish_1_each, publish_2_each, pubrel_each, drop_each, told_new_1, told_new_2, told_release, accept_is, refuse_is, repeat_is, shut_is}
 
 -- what holds of a session that stands
 pub absent : {A : Type 0} {t : Bool} → t ≡ true → t ≡ false → A

@@ -1,14 +1,11 @@
 -- A packet that comes tells the stage of its identifier.
-use Rattle.std.proofs.Common.{◌≡◌, ◌⊎◌, inl, inr, ⊎_elim, ℕ, suc, ◌≤◌, Bool, true, false, cond, List, [], ◌∷◌, ◌++◌, length, nat_eq, if◌then◌else◌, filter, refl, sym, ◌∙◌, subst, Option, Some, None, slice_get, eqb-true, arith}
-use Rattle.std.specs.List.{list_any}
-use Rattle.mqtt_flow.specs.declared.inflow.TheConstants.{OPEN_LIMIT}
+use Rattle.std.proofs.Common.{◌≡◌, ℕ, ◌≤◌, Bool, true, false, List, [], ◌∷◌, refl, ◌∙◌}
 use Rattle.mqtt_flow.specs.Codes.{is_success}
 use Rattle.mqtt_flow.specs.Inbound.{is_open}
-use Rattle.mqtt_flow.specs.Line.{Link, away, asked, live}
-use Rattle.mqtt_flow.specs.Publisher.{Finish, completed, refused, forgotten, Fate, sent_1, ended_1, sent, released, ended, FromPublisher, CONNECT, PUBLISH_1, PUBLISH_2, PUBREL, ToPublisher, CONNACK, CONNACK_REFUSED, PUBACK, PUBREC, PUBCOMP, DISCONNECT, in_flight}
-use Rattle.mqtt_flow.specs.InboundWorld.{World, count_of}
-use Rattle.mqtt_flow.proofs.Ids.{test_cases, same_id}
-use Rattle.mqtt_flow.proofs.InboundStages.{up_about, down_about, ups, downs, Mark, holding, held, Stage, held_of, up_of, down_of, open_of, Fits, AtMost, At, EndTold_1, EndTold, Told, is_connect, IsOld, IsLate, IsQuiet, Calm, Norm, Weak, Blank, Fresh, Good, at_most_none, at_most_more, at_head, same_stage, IsMore, more_accepted, by_id, for_puback, for_pubrec, for_pubcomp, free, publishing_1, acknowledging, publishing, receiving, releasing, completing}
+use Rattle.mqtt_flow.specs.Publisher.{Fate, FromPublisher, PUBLISH_1, PUBLISH_2, PUBREL, ToPublisher, PUBACK, PUBREC, PUBCOMP}
+use Rattle.mqtt_flow.specs.InboundWorld.{count_of}
+use Rattle.mqtt_flow.proofs.Ids.{same_id}
+use Rattle.mqtt_flow.proofs.InboundStages.{ups, downs, Mark, held, Stage, held_of, up_of, down_of, open_of, Fits, AtMost, At, at_most_none, at_head, for_puback, for_pubrec, for_pubcomp, free, publishing_1, acknowledging, publishing, receiving, releasing, completing}
 
 -- a packet of the publisher comes: one stage has it, and no other packet about i is under way
 pub record UpCame (i n : ℕ) (mark : Mark) (fates : List Fate) (rest : List FromPublisher) (down : List ToPublisher) : Type 0 where

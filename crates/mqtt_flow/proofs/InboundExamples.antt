@@ -1,12 +1,11 @@
 -- Worked runs of an inbound hop, computed (4.3.2, 4.3.3, 4.4, 4.9).
-use Rattle.std.proofs.Common.{◌≡◌, ℕ, Bool, true, false, List, [], ◌∷◌, ◌++◌, refl}
-use Rattle.mqtt_flow.specs.declared.inflow.Published.{Published}
+use Rattle.std.proofs.Common.{◌≡◌, ℕ, true, false, List, [], ◌∷◌, ◌++◌, refl}
 use Rattle.mqtt_flow.specs.declared.inflow.Published.TheVariants.{New, Again, Over}
-use Rattle.mqtt_flow.specs.declared.inflow.Released.TheVariants.{Known, Unknown}
+use Rattle.mqtt_flow.specs.declared.inflow.Released.TheVariants.{Unknown}
 use Rattle.mqtt_flow.specs.Inbound.{answer_to, open_after, answer_to_release, ids_without}
 use Rattle.mqtt_flow.specs.Line.{live}
-use Rattle.mqtt_flow.specs.Publisher.{qos_1, qos_2, completed, refused, forgotten, Fate, sent_1, ended_1, sent, released, ended, PUBLISH_2, CONNACK, PUBREC, DISCONNECT}
-use Rattle.mqtt_flow.specs.InboundWorld.{World, Event, publish, to_broker, old_to_broker, to_end, give_up, break, connect, close, restart, takes, takes_unheard, refuses, step, start, after}
+use Rattle.mqtt_flow.specs.Publisher.{qos_1, qos_2, completed, refused, forgotten, Fate, ended_1, sent, ended, PUBLISH_2, PUBREC, DISCONNECT}
+use Rattle.mqtt_flow.specs.InboundWorld.{World, Event, publish, to_broker, old_to_broker, to_end, give_up, break, connect, restart, takes, takes_unheard, refuses, step, start, after}
 
 -- a PUBLISH and a PUBREL, by the open identifiers
 pub first_is_new : answer_to 7 [] ≡ New

@@ -1,16 +1,15 @@
 -- What happens to the lines, and what the broker reads of the one that was given up, keeps the invariant.
-use Rattle.std.proofs.Common.{◌≡◌, ◌⊎◌, inl, inr, ⊎_elim, ℕ, ◌≤◌, Bool, true, false, ◌||◌, List, [], ◌∷◌, ◌++◌, length, refl, sym, ◌∙◌, subst, arith, Option, Some, None, slice_get, true≢false}
-use Rattle.std.specs.List.{list_any}
+use Rattle.std.proofs.Common.{◌≡◌, inl, inr, ℕ, Bool, true, false, List, [], ◌∷◌, ◌++◌, refl, sym, ◌∙◌, subst, arith, true≢false}
 use Rattle.mqtt_flow.specs.Codes.{success, session_taken_over, identifier_in_use, quota_exceeded, is_success}
-use Rattle.mqtt_flow.specs.Inbound.{is_open, answer_to, open_after, ids_without}
+use Rattle.mqtt_flow.specs.Inbound.{answer_to, open_after, ids_without}
 use Rattle.mqtt_flow.specs.Line.{Link, away, asked, live, sent_on}
-use Rattle.mqtt_flow.specs.Publisher.{Fate, FromPublisher, CONNECT, PUBLISH_1, PUBLISH_2, PUBREL, ToPublisher, CONNACK, CONNACK_REFUSED, PUBACK, PUBREC, PUBCOMP, DISCONNECT, in_flight}
+use Rattle.mqtt_flow.specs.Publisher.{Fate, FromPublisher, CONNECT, PUBLISH_1, PUBLISH_2, PUBREL, ToPublisher, CONNACK, CONNACK_REFUSED, PUBACK, PUBREC, PUBCOMP, DISCONNECT}
 use Rattle.mqtt_flow.specs.InboundWorld.{World, Choice, takes, takes_unheard, refuses, Verdict, accept, refuse, repeat, shut, verdict_on, on_old_publish_1, on_old_publish_2, on_old_connect, taken_over, closed_by, broker_reads_old, without_line, on_give_up, on_join}
 use Rattle.mqtt_flow.proofs.Ids.{is_open-open_after_same, is_open-open_after_other, length-open_after, length-ids_without}
 use Rattle.mqtt_flow.proofs.InboundCame.{publish_1_came, publish_2_came, pubrel_came}
-use Rattle.mqtt_flow.proofs.InboundStages.{Mark, Stage, held, ups, AtMost, At, Calm, is_away, is_asking, is_shut, is_turned, is_answered, is_live, IsOld, IsLate, IsQuiet, is_connect, Norm, same_stage}
+use Rattle.mqtt_flow.proofs.InboundStages.{Mark, held, ups, Calm, is_away, is_asking, is_shut, is_turned, is_answered, is_live, IsOld, IsQuiet, is_connect, Norm, same_stage}
 use Rattle.mqtt_flow.proofs.InboundFates.{not_held}
-use Rattle.mqtt_flow.proofs.InboundMessages.{Each, more_push, one_push, new_is, again_is, over_is, downs-other, swap, publish_1_each, publish_2_each, pubrel_each, drop_each, told_new_1, told_new_2, told_release, accept_is, refuse_is, repeat_is, shut_is}
+use Rattle.mqtt_flow.proofs.InboundMessages.{Each, more_push, one_push, new_is, again_is, over_is, swap, publish_1_each, publish_2_each, pubrel_each, drop_each, told_new_1, told_new_2, told_release, accept_is, refuse_is, repeat_is, shut_is}
 use Rattle.mqtt_flow.proofs.InboundBroker.{no_connect, old_rest, old_connect}
 
 -- DISCONNECT after CONNACK

@@ -1,22 +1,18 @@
 -- What a packet that the broker reads changes for each identifier and each message.
-use Rattle.std.proofs.Common.{◌≡◌, ◌⊎◌, inl, inr, ⊎_elim, ℕ, ◌+◌, ◌≤◌, Bool, true, false, cond, not, ◌||◌, List, [], ◌∷◌, ◌++◌, length, nat_eq, if◌then◌else◌, refl, sym, ap, ◌∙◌, subst, arith, Option, Some, None, slice_get, append-nil, add-zero, zero-add, eqb-true, eq-eqb, true≢false}
-use Rattle.std.specs.List.{list_any}
+use Rattle.std.proofs.Common.{◌≡◌, inl, inr, ⊎_elim, ℕ, ◌+◌, ◌≤◌, Bool, true, false, cond, List, [], ◌∷◌, ◌++◌, nat_eq, refl, sym, ap, ◌∙◌, subst, arith, Option, Some, None, slice_get, append-nil, add-zero, zero-add, eqb-true, eq-eqb, true≢false}
 use Rattle.std.proofs.lemmas.List.Elements.{filter-append}
 use Rattle.std.proofs.lemmas.Grind.{common_steps}
-use Rattle.mqtt_flow.specs.declared.inflow.TheConstants.{OPEN_LIMIT}
 use Rattle.mqtt_flow.specs.declared.inflow.Published.{Published}
 use Rattle.mqtt_flow.specs.declared.inflow.Published.TheVariants.{New, Again, Over}
-use Rattle.mqtt_flow.specs.declared.inflow.Released.{Released}
-use Rattle.mqtt_flow.specs.declared.inflow.Released.TheVariants.{Known, Unknown}
-use Rattle.mqtt_flow.specs.Codes.{success, no_matching_subscribers, session_taken_over, identifier_in_use, identifier_not_found, receive_maximum_exceeded, quota_exceeded, is_success}
-use Rattle.mqtt_flow.specs.Inbound.{is_open, answer_to, open_after, answer_to_release, ids_without}
-use Rattle.mqtt_flow.specs.Line.{Link, away, asked, live, sent_on}
-use Rattle.mqtt_flow.specs.Publisher.{Finish, completed, refused, forgotten, Fate, sent_1, ended_1, sent, released, ended, FromPublisher, CONNECT, PUBLISH_1, PUBLISH_2, PUBREL, ToPublisher, CONNACK, CONNACK_REFUSED, PUBACK, PUBREC, PUBCOMP, DISCONNECT, in_flight}
-use Rattle.mqtt_flow.specs.InboundWorld.{World, count_of, Choice, takes, takes_unheard, refuses, Verdict, accept, refuse, repeat, shut, verdict_on, accepted_by, ids_by, answer_1, answer_2, answer_to_pubrel, left_by, linked_by, on_publish_1, on_publish_2, on_old_publish_1, on_old_publish_2, spared, on_connect, on_old_connect, taken_over, closed_by, broker_reads, broker_reads_old}
-use Rattle.mqtt_flow.proofs.Ids.{is_full, test_cases, same_id, is_open-open_after_same, is_open-open_after_other, length-open_after, is_open-ids_without_same, is_open-ids_without_other, length-ids_without}
+use Rattle.mqtt_flow.specs.Codes.{is_success}
+use Rattle.mqtt_flow.specs.Inbound.{is_open, answer_to, open_after, ids_without}
+use Rattle.mqtt_flow.specs.Line.{sent_on}
+use Rattle.mqtt_flow.specs.Publisher.{Fate, sent_1, ended_1, sent, released, ended, FromPublisher, PUBLISH_1, PUBLISH_2, PUBREL, ToPublisher, PUBACK, PUBREC, PUBCOMP}
+use Rattle.mqtt_flow.specs.InboundWorld.{count_of, Choice, takes, takes_unheard, refuses, accept, refuse, repeat, shut, verdict_on}
+use Rattle.mqtt_flow.proofs.Ids.{test_cases, same_id, is_open-open_after_same, is_open-open_after_other, is_open-ids_without_same, is_open-ids_without_other}
 use Rattle.mqtt_flow.proofs.InboundCame.{publish_1_came, publish_2_came, pubrel_came}
-use Rattle.mqtt_flow.proofs.InboundStages.{Mark, for_puback, for_pubrec, for_pubcomp, Stage, acknowledging, receiving, completing, held, ups, downs, down_about, AtMost, At, Told, Weak, EndTold, EndTold_1, Calm, is_away, is_asking, is_shut, is_turned, is_answered, is_live, IsOld, IsLate, IsQuiet, is_connect, Norm, Fresh, Good, Blank, blank_away, blank_asking, blank_shut, blank_answered, IsMore, same_stage, more_accepted, by_id}
-use Rattle.mqtt_flow.proofs.InboundFates.{not_held, holder, only, made, Same}
+use Rattle.mqtt_flow.proofs.InboundStages.{Mark, for_puback, for_pubrec, for_pubcomp, Stage, acknowledging, receiving, completing, held, ups, downs, down_about, AtMost, At, Told, IsMore, same_stage, more_accepted, by_id}
+use Rattle.mqtt_flow.proofs.InboundFates.{holder, only, made, Same}
 
 pub count_of-push : (m n : ℕ) (accepted : List ℕ) → count_of m (accepted ++ n ∷ []) ≡ count_of m accepted + cond (nat_eq m n) 1 0
 count_of-push m n accepted = grind (arith, common_steps)

@@ -1,12 +1,11 @@
 -- Each event keeps the invariant, and what it says of a message.
-use Rattle.std.proofs.Common.{◌≡◌, ◌⊎◌, inl, inr, ℕ, ◌≤◌, Bool, true, false, ◌||◌, List, [], ◌∷◌, ◌++◌, length, refl, sym, ◌∙◌, subst, arith, Option, Some, None, slice_get}
-use Rattle.std.specs.List.{list_any}
+use Rattle.std.proofs.Common.{◌≡◌, inl, inr, ℕ, ◌≤◌, Bool, true, false, ◌||◌, List, [], ◌∷◌, ◌++◌, length, refl, sym, ◌∙◌, subst, arith, Option, Some, None}
 use Rattle.mqtt_flow.specs.declared.inflow.TheConstants.{OPEN_LIMIT}
 use Rattle.mqtt_flow.specs.Codes.{session_taken_over}
 use Rattle.mqtt_flow.specs.Line.{Link, away, asked, live, sent_on}
-use Rattle.mqtt_flow.specs.Publisher.{Qos, Finish, completed, refused, forgotten, Fate, sent_1, ended_1, sent, released, ended, FromPublisher, CONNECT, PUBLISH_1, PUBLISH_2, PUBREL, ToPublisher, CONNACK, DISCONNECT, IsExactlyOnce}
-use Rattle.mqtt_flow.specs.InboundWorld.{World, Choice, Event, publish, to_broker, old_to_broker, to_end, give_up, break, connect, close, close_old, restart, send_unsent, without_line, spared, closed_by, taken_over, on_connect, on_old_connect, on_give_up, on_join, broker_reads, broker_reads_old, step, start, run, fate_of, accepted_count}
-use Rattle.mqtt_flow.proofs.InboundStages.{free, Told, Weak, EndTold, EndTold_1, Blank, blank_away, blank_asking, blank_shut, blank_answered, IsOld, IsLate, IsQuiet, is_away, is_connect, Norm, Fresh, Good, same_stage}
+use Rattle.mqtt_flow.specs.Publisher.{Qos, Finish, completed, refused, forgotten, Fate, sent_1, ended_1, sent, released, ended, FromPublisher, CONNECT, ToPublisher, DISCONNECT, IsExactlyOnce}
+use Rattle.mqtt_flow.specs.InboundWorld.{World, Choice, Event, publish, to_broker, old_to_broker, to_end, give_up, break, connect, close, close_old, restart, send_unsent, closed_by, taken_over, on_connect, on_old_connect, on_give_up, on_join, broker_reads, broker_reads_old, step, start, run, fate_of, accepted_count}
+use Rattle.mqtt_flow.proofs.InboundStages.{free, Told, Weak, EndTold, EndTold_1, Blank, blank_away, blank_asking, blank_shut, blank_answered, IsLate, is_away, Norm, Fresh, Good, same_stage}
 use Rattle.mqtt_flow.proofs.InboundBroker.{late_is_old, late_spared, reads_up}
 use Rattle.mqtt_flow.proofs.InboundLines.{quiet_push, closes, drops_old, reads_old, leaves, gives_up, joins}
 use Rattle.mqtt_flow.proofs.InboundSends.{goes_out}

@@ -1,22 +1,17 @@
 -- What a publisher sends keeps the invariant.
-use Rattle.std.proofs.Common.{◌≡◌, ◌⊎◌, arith, inl, inr, ⊎_elim, ℕ, zero, suc, ◌≤◌, Bool, true, false, ◌&&◌, List, [], ◌∷◌, ◌++◌, length, map, nat_eq, nat_lt, if◌then◌else◌, refl, sym, ap, ◌∙◌, subst, Option, Some, None, option_map, slice_get, append-nil, zero-add, eqb-true, true≢false}
+use Rattle.std.proofs.Common.{◌≡◌, inl, inr, ℕ, zero, suc, Bool, true, false, List, [], ◌∷◌, ◌++◌, length, nat_eq, nat_lt, if◌then◌else◌, refl, sym, ap, ◌∙◌, subst, Some, slice_get, append-nil, zero-add, true≢false}
 use Rattle.std.specs.List.{list_any}
 use Rattle.std.proofs.lemmas.List.Elements.{filter-append}
-use Rattle.std.proofs.lemmas.Option.{slice_get-map}
 use Rattle.std.proofs.lemmas.List.Folds.{list_any-append}
 use Rattle.mqtt_flow.specs.declared.inflow.TheConstants.{OPEN_LIMIT}
-use Rattle.mqtt_flow.specs.Codes.{is_success}
 use Rattle.mqtt_flow.specs.Inbound.{is_open}
 use Rattle.mqtt_flow.specs.Line.{Link, away, asked, live, sent_on}
-use Rattle.mqtt_flow.specs.Publisher.{Qos, qos_1, qos_2, Finish, completed, refused, forgotten, Fate, sent_1, ended_1, sent, released, ended, FromPublisher, CONNECT, PUBLISH_1, PUBLISH_2, PUBREL, ToPublisher, CONNACK, CONNACK_REFUSED, PUBACK, PUBREC, PUBCOMP, DISCONNECT, in_flight, free_identifier, first_fate, first_packet, resent_from, acknowledged, received, on_new_session, on_puback, on_pubrec, on_pubcomp, is_sent, pubrel_if, pubrel_for}
-use Rattle.mqtt_flow.specs.InboundWorld.{World, count_of, send_one, send_all, send_unsent, without_line, on_connack, publisher_reads}
-use Rattle.mqtt_flow.proofs.Ids.{test_cases, same_id, free_is_free}
-use Rattle.mqtt_flow.proofs.InboundCame.{puback_came, pubrec_came, pubcomp_came}
-use Rattle.mqtt_flow.proofs.InboundStages.{Mark, for_puback, for_pubrec, for_pubcomp, Stage, free, publishing_1, acknowledging, publishing, receiving, releasing, completing, held_of, up_of, open_of, held, ups, downs, up_about, Fits, AtMost, at_most_more, at_most_none, At, EndTold, EndTold_1, Told, Weak, Calm, is_away, is_asking, is_shut, is_turned, is_answered, is_live, IsOld, IsLate, IsQuiet, is_connect, Norm, Fresh, Good, Blank, blank_away, blank_asking, blank_shut, blank_answered, same_stage, by_id}
-use Rattle.mqtt_flow.proofs.InboundFates.{held-push, not_held, made, Same, only, unacknowledged, received_marks, uncompleted, held-on_puback_same, held-on_puback_other, held-on_pubrec_same, held-on_pubrec_other, held-on_pubcomp_same, held-on_pubcomp_other, held-on_new_session, renewed, ups-resent_from}
-use Rattle.mqtt_flow.proofs.InboundMessages.{same_number}
-use Rattle.mqtt_flow.proofs.InboundBroker.{absent, late_ups, late_is_old, weaken}
-use Rattle.mqtt_flow.proofs.InboundLines.{leaves}
+use Rattle.mqtt_flow.specs.Publisher.{Qos, qos_1, qos_2, Fate, sent_1, ended_1, sent, released, ended, FromPublisher, PUBLISH_1, PUBLISH_2, ToPublisher, CONNACK, CONNACK_REFUSED, PUBACK, PUBREC, PUBCOMP, DISCONNECT, in_flight, free_identifier, first_fate, first_packet, resent_from, pubrel_if}
+use Rattle.mqtt_flow.specs.InboundWorld.{World, count_of, send_one, send_all, send_unsent}
+use Rattle.mqtt_flow.proofs.Ids.{same_id, free_is_free}
+use Rattle.mqtt_flow.proofs.InboundStages.{Stage, free, publishing_1, acknowledging, publishing, receiving, releasing, completing, held, ups, downs, up_about, AtMost, at_most_more, at_most_none, At, Told, Calm, is_away, is_asking, is_shut, is_turned, is_answered, is_live, IsLate, is_connect, Norm, same_stage, by_id}
+use Rattle.mqtt_flow.proofs.InboundFates.{held-push, not_held}
+use Rattle.mqtt_flow.proofs.InboundBroker.{absent}
 
 -- what is sent is on the line, or lost
 pub sent_at_most : (i : ℕ) (b : Bool) (up ps : List FromPublisher) → ups i up ≡ [] → AtMost (ups i (sent_on b up ps)) (ups i ps)

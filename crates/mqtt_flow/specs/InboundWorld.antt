@@ -1,5 +1,5 @@
 -- One inbound hop: a publisher, a session, the line between them and the line that was given up last (4.3, 4.4).
-use Rattle.std.specs.Prelude.{ℕ, zero, suc, Bool, true, false, ◌||◌, List, [], ◌∷◌, ◌++◌, length, map, nat_eq, nat_lt, if◌then◌else◌, count_by, Option, slice_get}
+use Rattle.std.specs.Prelude.{ℕ, Bool, true, false, ◌||◌, List, [], ◌∷◌, ◌++◌, length, map, nat_eq, nat_lt, if◌then◌else◌, count_by, Option, slice_get}
 use Rattle.mqtt_flow.specs.declared.inflow.TheConstants.{OPEN_LIMIT}
 use Rattle.mqtt_flow.specs.declared.inflow.Published.{Published}
 use Rattle.mqtt_flow.specs.declared.inflow.Published.TheVariants.{New, Again, Over}

@@ -105,7 +105,11 @@ fn want_of_memory_changes_nothing(rt: HostRuntime) {
             assert_eq!(rt; fault, FlowFault::Memory, "identifier {id}");
             assert!(rt; !flow.is_open(id), "identifier {id} is not open");
             assert_eq!(rt; flow.ids().len(), open, "no other was closed");
-            assert_eq!(rt; flow.publish(id).ok(), Some(Published::New), "identifier {id}, tried again");
+            assert_eq!(rt;
+                flow.publish(id).ok(),
+                Some(Published::New),
+                "identifier {id}, tried again"
+            );
         }
         assert!(rt; flow.is_open(id), "identifier {id}");
     }

@@ -1,4 +1,4 @@
-use Rattle.std.proofs.Common.{◌≡◌, List, ℕ, ap, Result, ◌∙◌, subst}
+use Rattle.std.proofs.Common.{ap, ◌∙◌, subst}
 use Rattle.mqtt_flow.proofs.Places.{placed, OfPlace, found, missed}
 use Rattle.mqtt_flow.proofs.inflow.Inflow.place.Goals as goal
 
