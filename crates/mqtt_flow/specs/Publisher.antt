@@ -139,3 +139,12 @@ IsExactlyOnce (Some (ended_1 by)) = ⊥
 IsExactlyOnce (Some (sent id)) = ⊤
 IsExactlyOnce (Some (released id)) = ⊤
 IsExactlyOnce (Some (ended by)) = ⊤
+
+-- a message whose handshake has ended
+abbrev pub IsEnded : Option Fate → Type 0
+IsEnded None = ⊥
+IsEnded (Some (sent_1 id)) = ⊥
+IsEnded (Some (ended_1 by)) = ⊤
+IsEnded (Some (sent id)) = ⊥
+IsEnded (Some (released id)) = ⊥
+IsEnded (Some (ended by)) = ⊤

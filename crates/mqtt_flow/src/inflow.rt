@@ -1,6 +1,6 @@
 //! The identifiers of QoS 2 PUBLISH packets that a session has open (4.3.3, 4.4, 4.9).
 
-ghost use Rattle.std.specs.Prelude.{◌≡◌, ◌<◌, ◌≤◌, ◌+◌, ◌↔◌, [], IsTrue, length, IfErr, IfOk, OnErr, OnOk};
+ghost use Rattle.std.specs.Prelude.{◌≡◌, ◌<◌, ◌≤◌, [], IfErr, IfOk, OnErr, OnOk};
 ghost use Rattle.mqtt_flow.specs.Inbound.{is_open, answer_to, open_after, answer_to_release, ids_without, IsOpenList};
 ghost use Rattle.mqtt_flow.specs.Inflow.{StandsAt, BelongsAt};
 

@@ -1,8 +1,8 @@
 //! Laws of the definitions: of open identifiers, and of every run of an inbound hop (4.3.2, 4.3.3, 4.9).
 
-ghost use Rattle.std.specs.Prelude.{◌≡◌, ◌≢◌, ℕ, ◌≤◌, true, false, List, length, Some, None};
+ghost use Rattle.std.specs.Prelude.{◌≡◌, ◌≢◌, ℕ, ◌≤◌, true, false, List, ◌++◌, length, Some, None};
 ghost use Rattle.mqtt_flow.specs.Inbound.{is_open, answer_to, open_after, ids_without, IsOpenList};
-ghost use Rattle.mqtt_flow.specs.Publisher.{IsExactlyOnce, completed, refused, ended_1, ended};
+ghost use Rattle.mqtt_flow.specs.Publisher.{IsExactlyOnce, IsEnded, completed, refused, ended_1, ended};
 ghost use Rattle.mqtt_flow.specs.InboundWorld.{Event, after, fate_of, accepted_count};
 ghost use Rattle.mqtt_flow.specs.declared.inflow.Published.TheVariants.{New};
 
@@ -37,6 +37,10 @@ pub fn inbound_once()
     // One of QoS 1 is accepted at least once (4.3.2).
     ensures acknowledged { (events : List Event) (n : ℕ) →
         fate_of n (after events) ≡ Some (ended_1 completed) → 1 ≤ accepted_count n (after events) }
+
+    // What has ended stays so.
+    ensures for_good { (earlier later : List Event) (n : ℕ) → IsEnded (fate_of n (after earlier)) →
+        fate_of n (after (earlier ++ later)) ≡ fate_of n (after earlier) }
 
     // The session never has more identifiers open than its Receive Maximum (4.9).
     ensures within { (events : List Event) → length (after events).ids ≤ OPEN_LIMIT }

@@ -3,27 +3,19 @@
 use super::*;
 use std::test::*;
 
-/// The steps of one identifier's handshake, and what it answers.
+/// The life of one identifier (4.3.3).
 #[test]
 fn a_repeat_is_not_new(rt: HostRuntime) -> Result<(), FlowFault> {
     let mut flow = Inflow::new(rt.alloc());
-    assert_eq!(rt; flow.would_publish(7), Published::New, "before the first");
+    assert_eq!(rt; flow.would_publish(7), Published::New, "before it");
     assert_eq!(rt; flow.publish(7)?, Published::New, "the first");
-    assert_eq!(rt; flow.publish(7)?, Published::Again, "its repeat");
-    assert_eq!(rt;
-        flow.would_publish(7),
-        Published::Again,
-        "before a second repeat"
-    );
     assert!(rt; flow.is_open(7), "open until PUBREL");
+    assert_eq!(rt; flow.would_publish(7), Published::Again, "after it");
+    assert_eq!(rt; flow.publish(7)?, Published::Again, "its repeat");
     assert_eq!(rt; flow.release(7), Released::Known, "the first PUBREL");
     assert!(rt; !flow.is_open(7), "closed by PUBREL");
     assert_eq!(rt; flow.release(7), Released::Unknown, "its repeat");
-    assert_eq!(rt;
-        flow.publish(7)?,
-        Published::New,
-        "another message under the same identifier"
-    );
+    assert_eq!(rt; flow.publish(7)?, Published::New, "another message");
     Ok(())
 }
 
@@ -31,67 +23,39 @@ fn a_repeat_is_not_new(rt: HostRuntime) -> Result<(), FlowFault> {
 #[test]
 fn the_twenty_first_is_over(rt: HostRuntime) -> Result<(), FlowFault> {
     let mut flow = Inflow::new(rt.alloc());
-    // From the greatest down, so that each goes to the front.
-    for id in 1..=20 {
-        assert_eq!(rt;
-            flow.publish(65535 - 3 * id)?,
-            Published::New,
-            "identifier {id} of 20"
-        );
+    // From the greatest down, so that each goes to the front: 60, 57, .. 3.
+    for step in 0..20 {
+        let id = 60 - 3 * step;
+        assert_eq!(rt; flow.publish(id)?, Published::New, "{id} is one of 20");
     }
-    assert_eq!(rt;
-        flow.publish(65535 - 30)?,
-        Published::Again,
-        "one of the 20"
-    );
-    for id in [1, 65535, 65535 - 31] {
-        assert_eq!(rt;
-            flow.would_publish(id),
-            Published::Over,
-            "{id} would be the 21st"
-        );
+    assert_eq!(rt; flow.publish(30)?, Published::Again, "30 is open");
+    for id in [1, 31, 65535] {
+        assert_eq!(rt; flow.would_publish(id), Published::Over, "{id} would be");
         assert_eq!(rt; flow.publish(id)?, Published::Over, "{id} is the 21st");
         assert_eq!(rt; flow.release(id), Released::Unknown, "{id} did not open");
         assert_eq!(rt; flow.ids().len(), 20, "{id} changed nothing");
     }
-    assert_eq!(rt;
-        flow.release(65535 - 30),
-        Released::Known,
-        "one of the 20 is released"
-    );
-    assert_eq!(rt;
-        flow.publish(1)?,
-        Published::New,
-        "there is room for another"
-    );
+    assert_eq!(rt; flow.release(30), Released::Known, "30 is released");
+    assert_eq!(rt; flow.publish(1)?, Published::New, "there is room for 1");
     Ok(())
 }
 
-/// A store keeps the identifiers alone, in ascending order.
+/// A store keeps the identifiers alone, in ascending order (4.1).
 #[test]
 fn a_stored_session_goes_on(rt: HostRuntime) -> Result<(), FlowFault> {
     let mut flow = Inflow::new(rt.alloc());
     for id in [9, 65535, 1, 300] {
         flow.publish(id)?;
     }
-    assert_eq!(rt;
-        flow.ids(),
-        [1, 9, 300, 65535].as_slice(),
-        "whatever the order of PUBLISH"
-    );
+    let ascending = [1, 9, 300, 65535];
+    assert_eq!(rt; flow.ids(), ascending.as_slice(), "as they are kept");
     flow.release(9);
+
     let mut again = Inflow::from_ids(rt.alloc(), flow.ids())?;
-    assert_eq!(rt; again.ids(), [1, 300, 65535].as_slice(), "as it was kept");
-    assert_eq!(rt;
-        again.publish(300)?,
-        Published::Again,
-        "open before the restart"
-    );
-    assert_eq!(rt;
-        again.publish(9)?,
-        Published::New,
-        "released before the restart"
-    );
+    let left = [1, 300, 65535];
+    assert_eq!(rt; again.ids(), left.as_slice(), "as they were kept");
+    assert_eq!(rt; again.publish(300)?, Published::Again, "300 was open");
+    assert_eq!(rt; again.publish(9)?, Published::New, "9 was released");
     Ok(())
 }
 
@@ -102,16 +66,13 @@ fn want_of_memory_changes_nothing(rt: HostRuntime) {
     for id in 1..=20 {
         let open = flow.ids().len();
         if let Err(fault) = flow.publish(id) {
-            assert_eq!(rt; fault, FlowFault::Memory, "identifier {id}");
-            assert!(rt; !flow.is_open(id), "identifier {id} is not open");
+            assert_eq!(rt; fault, FlowFault::Memory, "{id} is refused");
+            assert!(rt; !flow.is_open(id), "{id} is not open");
             assert_eq!(rt; flow.ids().len(), open, "no other was closed");
-            assert_eq!(rt;
-                flow.publish(id).ok(),
-                Some(Published::New),
-                "identifier {id}, tried again"
-            );
+            let again = flow.publish(id).ok();
+            assert_eq!(rt; again, Some(Published::New), "{id}, tried again");
         }
-        assert!(rt; flow.is_open(id), "identifier {id}");
+        assert!(rt; flow.is_open(id), "{id} is open");
     }
 }
 
@@ -121,13 +82,10 @@ fn a_publish_after_make_room_succeeds(rt: HostRuntime) {
     let mut flow = Inflow::new(rt.alloc());
     for id in 1..=20 {
         if flow.make_room().is_err() {
-            assert!(rt; !flow.is_open(id), "identifier {id} is not open");
-            assert!(rt; flow.make_room().is_ok(), "one growth alone is refused");
+            assert!(rt; !flow.is_open(id), "{id} is not open");
+            assert!(rt; flow.make_room().is_ok(), "one growth is refused");
         }
-        assert_eq!(rt;
-            flow.publish(id).ok(),
-            Some(Published::New),
-            "identifier {id}"
-        );
+        let published = flow.publish(id).ok();
+        assert_eq!(rt; published, Some(Published::New), "{id} has room");
     }
 }

@@ -1,6 +1,7 @@
 use Rattle.mqtt_flow.specs.Publisher.{completed, refused}
 use Rattle.mqtt_flow.specs.InboundWorld.{after}
 use Rattle.mqtt_flow.proofs.InboundRun.{is_good, once, unsent_is, ended_is, ended_1_is, few}
+use Rattle.mqtt_flow.proofs.InboundForGood.{for_good}
 use Rattle.mqtt_flow.proofs.laws.inbound_once.Goals as goal
 
 pub returns-clause-once : goal.returns-clause-once
@@ -20,3 +21,6 @@ returns-clause-acknowledged c = λ events n fate. ended_1_is (after events) n co
 
 pub returns-clause-within : goal.returns-clause-within
 returns-clause-within c = λ events. few (after events) (is_good events)
+
+pub returns-clause-for_good : goal.returns-clause-for_good
+returns-clause-for_good c = for_good
