@@ -1,7 +1,7 @@
 //! What the bytes that have come begin with (2.1.4).
 
 ghost use Rattle.std.specs.Prelude.{◌≡◌, ◌<◌, ◌≤◌, IfOk, IfSome, IfNone, length};
-ghost use Rattle.mqtt_packet.specs.Front.{size_at, first_of, GivesFirst};
+ghost use Rattle.mqtt_packet.specs.Front.{size_at, first_of, GivesFirst, EndsWithPayload};
 ghost use Rattle.mqtt_packet.specs.Packets.{Fits};
 ghost use Rattle.mqtt_packet.specs.Views.{packet_of};
 
@@ -46,9 +46,8 @@ fn size_read(bytes: &[u8]) -> Result<Option<usize>, Fault>
     }
 }
 
-/// The first whole packet and its size, if it has come, or the fault that the bytes decide.
 #[tactic(auto, unfolding(crate::specs::Front::first_of))]
-pub(crate) fn first_read(bytes: &[u8]) -> Result<Option<(PacketRef<'_>, usize)>, Fault>
+fn front_read(bytes: &[u8]) -> Result<Option<(PacketRef<'_>, usize)>, Fault>
     ensures exact { GivesFirst packet_of result (first_of bytes.now) }
     ensures fits { IfOk result (λ found. IfSome found (λ x. Fits (packet_of x.0))) }
     ensures within { IfOk result (λ found. IfSome found (λ x. (0 < x.1) × (x.1 ≤ length bytes.now))) }
@@ -59,4 +58,15 @@ pub(crate) fn first_read(bytes: &[u8]) -> Result<Option<(PacketRef<'_>, usize)>,
     };
     let packet = packet_read(&bytes[..size])?;
     Ok(Some((packet, size)))
+}
+
+/// The first whole packet and its size, if it has come, or the fault that the bytes decide.
+pub(crate) fn first_read(bytes: &[u8]) -> Result<Option<(PacketRef<'_>, usize)>, Fault>
+    ensures exact { GivesFirst packet_of result (first_of bytes.now) }
+    ensures fits { IfOk result (λ found. IfSome found (λ x. Fits (packet_of x.0))) }
+    ensures within { IfOk result (λ found. IfSome found (λ x. (0 < x.1) × (x.1 ≤ length bytes.now))) }
+    ensures partial { IfOk result (λ found. IfNone found (length bytes.now < MAX_SIZE)) }
+    ensures payload { IfOk result (λ found. IfSome found (λ x. EndsWithPayload (packet_of x.0) x.1 bytes.now)) }
+{
+    front_read(bytes)
 }
