@@ -95,7 +95,8 @@ impl Framer {
         }
     }
 
-    /// Gives the first whole packet and its place, if it has come, and holds it no longer.
+    /// Gives the first whole packet and its place, if it has come, and holds it no longer. A payload
+    /// shares the memory that the framer has read it into.
     pub fn next(&mut self) -> Result<Option<(Packet, u64)>, (Fault, u64)>
         ensures found { IfOk result (λ found. Gives self.old found self.new) }
 
