@@ -62,7 +62,8 @@ impl Framer {
 
     /// Takes as many bytes as fit, from the front of the piece, and answers how many.
     pub fn feed(&mut self, piece: &[u8]) -> Result<usize, (Fault, u64)>
-        ensures answer { IfOk result (λ n. n ≡ min (length piece.now) (MAX_SIZE - length self.old.held)) }
+        ensures answer { IfOk result (λ n.
+            n ≡ min (length piece.now) (MAX_SIZE - length self.old.held)) }
         ensures ok { IfOk result (λ n.
             self.new ≡ record self.old { held = self.old.held ++ take n piece.now }) }
 
@@ -95,14 +96,15 @@ impl Framer {
         }
     }
 
-    /// Gives the first whole packet and its place, if it has come, and holds it no longer. A payload
-    /// shares the memory that the framer has read it into.
+    /// Gives the first whole packet and its place, if it has come, and holds it no longer.
+    /// A payload shares the memory that the framer has read it into.
     pub fn next(&mut self) -> Result<Option<(Packet, u64)>, (Fault, u64)>
         ensures found { IfOk result (λ found. Gives self.old found self.new) }
 
-        // Where no packet is whole, at least one more byte fits. With a packet there is less to hold.
+        // Where no packet is whole, one more byte fits. With a packet there is less to hold.
         ensures partial { IfOk result (λ found. IfNone found (length self.new.held < MAX_SIZE)) }
-        ensures shorter { IfOk result (λ found. OnSome found (length self.new.held < length self.old.held)) }
+        ensures shorter { IfOk result (λ found.
+            OnSome found (length self.new.held < length self.old.held)) }
         ensures stands { (fault : Fault) → first_of self.old.held ≡ Err fault
             → result ≡ Err (fault, self.old.place) }
         ensures refused { IfErr result (Refuses self.old) }
@@ -133,9 +135,11 @@ impl Framer {
 fn first_cut(bytes: &mut BytesMut, alloc: Global) -> Result<Option<(Packet, usize)>, Fault>
     ensures found { IfOk result (λ found. CutsFirst bytes.old.items found bytes.new.items) }
     ensures partial { IfOk result (λ found. IfNone found (length bytes.old.items < MAX_SIZE)) }
-    ensures within { IfOk result (λ found. IfSome found (λ x. (0 < x.1) × (x.1 ≤ length bytes.old.items))) }
+    ensures within { IfOk result (λ found.
+        IfSome found (λ x. (0 < x.1) × (x.1 ≤ length bytes.old.items))) }
     ensures stands { (fault : Fault) → first_of bytes.old.items ≡ Err fault → result ≡ Err fault }
-    ensures refused { IfErr result (λ fault. fault ≢ Fault.Memory → first_of bytes.old.items ≡ Err fault) }
+    ensures refused { IfErr result (λ fault.
+        fault ≢ Fault.Memory → first_of bytes.old.items ≡ Err fault) }
     ensures err { OnErr result (bytes.new.items ≡ bytes.old.items) }
 {
     let Some((packet, size)) = first_read(bytes.as_slice())? else {

@@ -18,7 +18,8 @@ pub const MAX_SIZE: usize = 65_536;
 #[tactic(auto, using(crate::proofs::Fronts::varint_wants), unfolding(crate::specs::Front::size_at))]
 fn size_read(bytes: &[u8]) -> Result<Option<usize>, Fault>
     ensures exact { result ≡ size_at bytes.now }
-    ensures within { IfOk result (λ found. IfSome found (λ size. (0 < size) × (size ≤ length bytes.now))) }
+    ensures within { IfOk result (λ found.
+        IfSome found (λ size. (0 < size) × (size ≤ length bytes.now))) }
     ensures partial { IfOk result (λ found. IfNone found (length bytes.now < MAX_SIZE)) }
 {
     let Some((first, rest)) = bytes.split_first() else {
@@ -50,7 +51,8 @@ fn size_read(bytes: &[u8]) -> Result<Option<usize>, Fault>
 fn front_read(bytes: &[u8]) -> Result<Option<(PacketRef<'_>, usize)>, Fault>
     ensures exact { GivesFirst packet_of result (first_of bytes.now) }
     ensures fits { IfOk result (λ found. IfSome found (λ x. Fits (packet_of x.0))) }
-    ensures within { IfOk result (λ found. IfSome found (λ x. (0 < x.1) × (x.1 ≤ length bytes.now))) }
+    ensures within { IfOk result (λ found.
+        IfSome found (λ x. (0 < x.1) × (x.1 ≤ length bytes.now))) }
     ensures partial { IfOk result (λ found. IfNone found (length bytes.now < MAX_SIZE)) }
 {
     let Some(size) = size_read(bytes)? else {
@@ -64,9 +66,11 @@ fn front_read(bytes: &[u8]) -> Result<Option<(PacketRef<'_>, usize)>, Fault>
 pub(crate) fn first_read(bytes: &[u8]) -> Result<Option<(PacketRef<'_>, usize)>, Fault>
     ensures exact { GivesFirst packet_of result (first_of bytes.now) }
     ensures fits { IfOk result (λ found. IfSome found (λ x. Fits (packet_of x.0))) }
-    ensures within { IfOk result (λ found. IfSome found (λ x. (0 < x.1) × (x.1 ≤ length bytes.now))) }
+    ensures within { IfOk result (λ found.
+        IfSome found (λ x. (0 < x.1) × (x.1 ≤ length bytes.now))) }
     ensures partial { IfOk result (λ found. IfNone found (length bytes.now < MAX_SIZE)) }
-    ensures payload { IfOk result (λ found. IfSome found (λ x. EndsWithPayload (packet_of x.0) x.1 bytes.now)) }
+    ensures payload { IfOk result (λ found.
+        IfSome found (λ x. EndsWithPayload (packet_of x.0) x.1 bytes.now)) }
 {
     front_read(bytes)
 }
