@@ -1,0 +1,22 @@
+use Rattle.mqtt_packet.proofs.Fronts.{first_stays}
+use Rattle.mqtt_packet.proofs.Shorter.{first_less}
+use Rattle.mqtt_packet.proofs.Runs.{at_first_byte, at_kind, at_overlong, at_length}
+use Rattle.mqtt_packet.proofs.laws.moments.Goals as goal
+
+pub returns-clause-first_byte : goal.returns-clause-first_byte
+returns-clause-first_byte c = at_first_byte
+
+pub returns-clause-kind : goal.returns-clause-kind
+returns-clause-kind c = at_kind
+
+pub returns-clause-overlong : goal.returns-clause-overlong
+returns-clause-overlong c = at_overlong
+
+pub returns-clause-too_large : goal.returns-clause-too_large
+returns-clause-too_large c = at_length
+
+pub returns-clause-stays : goal.returns-clause-stays
+returns-clause-stays c = first_stays
+
+pub returns-clause-last_byte : goal.returns-clause-last_byte
+returns-clause-last_byte c = first_less

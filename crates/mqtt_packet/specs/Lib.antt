@@ -1,0 +1,6 @@
+pub mod Heads
+pub mod Packets
+pub mod Reading
+pub mod Views
+pub mod Front
+pub mod Stream
