@@ -1,4 +1,5 @@
 pub mod Commands
+pub mod Escapes
 mod Examples
 pub mod Lines
 pub mod OneView
