@@ -1,3 +1,4 @@
+-- Lemmas on views and command lines.
 pub mod Commands
 pub mod Escapes
 mod Examples
