@@ -1,0 +1,7 @@
+-- Lemmas on views and command lines.
+pub mod Commands
+pub mod Escapes
+mod Examples
+pub mod Lines
+pub mod OneView
+pub mod Texts

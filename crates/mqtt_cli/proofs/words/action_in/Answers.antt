@@ -1,0 +1,28 @@
+use Rattle.std.proofs.Common.{codes, sym, ◌∙◌}
+use Rattle.clap.specs.Words.{found_of}
+use Rattle.clap.proofs.WalkLemmas.{first_value-rows, one_text-rows}
+use Rattle.mqtt_cli.proofs.Commands.{rows_in-view}
+use Rattle.mqtt_cli.proofs.words.action_in.Goals as goal
+
+pub returns-in_err-file : goal.returns-in_err-file
+returns-in_err-file c =
+    let met = c.in_ok-name.ensures in
+    let found = found_of c.in_ok-name.view.now in
+    let rows_are = rows_in-view c.args.matches.now _ found met.name met.rows c.if-ne.ensures in
+    rw (rows_are, c.from_residual-in_err-file.ensures) (sym (c.in_err-file.ensures ∙ first_value-rows found (codes "file")))
+
+pub returns : goal.returns
+returns c =
+    let met = c.in_ok-name.ensures in
+    let found = found_of c.in_ok-name.view.now in
+    let rows_are = rows_in-view c.args.matches.now _ found met.name met.rows c.if-ne.ensures in
+    let flag = c.get_flag-payload.ensures in
+    let value_is = one_text-rows found (codes "payload") in
+    rw rows_are (
+      sym (c.in_ok-file.ensures ∙ first_value-rows found (codes "file")),
+      record {
+        none = λ e. flag.none (value_is ∙ e);
+        is_true = λ e. flag.value (value_is ∙ e);
+        is_false = λ e. flag.other (value_is ∙ e);
+      },
+    )

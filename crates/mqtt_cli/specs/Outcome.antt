@@ -1,0 +1,33 @@
+-- How the program ends (ours): 0 done, 1 a fault in the input, 2 a wrong command line, 3 a file or
+-- memory that failed.
+use Rattle.std.specs.Prelude.{ℕ, List, [], ◌++◌, ◌∷◌, codes}
+use Rattle.std.specs.String.{string_bytes}
+use Rattle.mqtt_cli.specs.declared.outcome.TheConstants.{DONE, FAULTY, USAGE, FAILED}
+use Rattle.mqtt_cli.specs.declared.line.LineFault.TheVariants as line
+use Rattle.mqtt_cli.specs.declared.outcome.Outcome.{Outcome}
+use Rattle.mqtt_cli.specs.declared.outcome.Outcome.TheVariants.{Done, Line, NoFile, View}
+use Rattle.mqtt_cli.specs.declared.viewer.Status.TheVariants.{Whole, Faulty}
+use Rattle.mqtt_cli.specs.declared.viewer.ViewFault.TheVariants.{Read, Write, Memory}
+
+abbrev pub exit_status : Outcome → ℕ
+exit_status (Done Whole) = DONE
+exit_status (Done Faulty) = FAULTY
+exit_status (Line (line.Usage text)) = USAGE
+exit_status (Line line.Memory) = FAILED
+exit_status NoFile = FAILED
+exit_status (View Read) = FAILED
+exit_status (View Write) = FAILED
+exit_status (View Memory) = FAILED
+
+-- `mqtt5: ` and why, and a line feed
+abbrev pub failure_line : List ℕ → List ℕ
+failure_line why = codes "mqtt5: " ++ why ++ 10 ∷ []
+
+abbrev pub error_text : Outcome → List ℕ
+error_text (Done status) = []
+error_text (Line (line.Usage text)) = string_bytes text
+error_text (Line line.Memory) = failure_line (codes "memory")
+error_text NoFile = failure_line (codes "file")
+error_text (View Read) = failure_line (codes "file")
+error_text (View Write) = failure_line (codes "file")
+error_text (View Memory) = failure_line (codes "memory")

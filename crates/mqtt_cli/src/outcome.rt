@@ -1,0 +1,50 @@
+//! How the program ends: its exit status, and its line on standard error (ours).
+
+ghost use Rattle.std.specs.Prelude.{◌≡◌};
+ghost use Rattle.mqtt_cli.specs.Outcome.{exit_status, error_text};
+
+use crate::line::LineFault;
+use crate::viewer::{Status, ViewFault};
+
+/// The exit status of a command that is done.
+pub const DONE: u8 = 0;
+
+/// The exit status where the input has a fault, or ends inside a packet.
+pub const FAULTY: u8 = 1;
+
+/// The exit status of a wrong command line.
+pub const USAGE: u8 = 2;
+
+/// The exit status where a file failed or memory was wanting.
+pub const FAILED: u8 = 3;
+
+/// What came of the program's work.
+#[derive(Debug, Drop)]
+pub enum Outcome {
+    /// The input was read to its end.
+    Done(Status),
+    /// The command line asks for nothing.
+    Line(LineFault),
+    /// The file did not open.
+    NoFile,
+    /// The view stopped early.
+    View(ViewFault),
+}
+
+/// The exit status, and the text for standard error. Takes no memory.
+pub fn ending(outcome: &Outcome) -> (u8, &str)
+    ensures status { result.0 ≡ exit_status outcome.now }
+    ensures text { result.1.now ≡ error_text outcome.now }
+{
+    match outcome {
+        Outcome::Done(Status::Whole) => (DONE, ""),
+        Outcome::Done(Status::Faulty) => (FAULTY, ""),
+        Outcome::Line(LineFault::Usage(text)) => (USAGE, text.as_str()),
+        Outcome::Line(LineFault::Memory) | Outcome::View(ViewFault::Memory) => {
+            (FAILED, "mqtt5: memory\n")
+        }
+        Outcome::NoFile | Outcome::View(ViewFault::Read) | Outcome::View(ViewFault::Write) => {
+            (FAILED, "mqtt5: file\n")
+        }
+    }
+}

@@ -1,0 +1,57 @@
+//! The program over a runtime: its arguments, its files and its streams (ours).
+
+use crate::line::{Action, LineFault};
+use crate::outcome::Outcome;
+use crate::viewer::{ViewFault, view};
+use crate::words::action;
+use std::alloc::{AllocError, Global};
+use std::io::{self, ErrorKind, Read};
+use std::rt::{Env, Files};
+use std::{env, fs};
+
+/// Why the process's arguments cannot be had: memory is wanting, or one of them is no text.
+fn no_words(alloc: Global, error: io::Error) -> LineFault {
+    if error.kind() == ErrorKind::OutOfMemory {
+        return LineFault::Memory;
+    }
+    match String::from_str(alloc, "mqtt5: an argument is no text\n") {
+        Ok(text) => LineFault::Usage(text),
+        Err(AllocError) => LineFault::Memory,
+    }
+}
+
+/// Writes the view of what a reader gives to standard output.
+fn run_view<R: Print + AllocGlobal, I: Read + Drop>(
+    rt: &R,
+    mut reader: I,
+    payload: bool,
+) -> Outcome {
+    match view(rt.alloc(), &mut reader, &mut io::writer(rt), payload) {
+        Ok(status) => Outcome::Done(status),
+        Err(fault) => Outcome::View(fault),
+    }
+}
+
+/// Does what the process's arguments ask for. The command line is looked at first, then the file.
+/// What files, standard input and standard output hold no contract can say; `action` and `view`
+/// say the rest.
+pub fn run<R: Print + Input + Files + Env + AllocGlobal>(rt: &R) -> Outcome {
+    let words = match env::args(rt) {
+        Ok(words) => words.collect::<Vec<String>>(rt.alloc()),
+        Err(error) => return Outcome::Line(no_words(rt.alloc(), error)),
+    };
+    let Ok(words) = words else {
+        return Outcome::Line(LineFault::Memory);
+    };
+    match action(rt.alloc(), words.as_slice()) {
+        Err(fault) => Outcome::Line(fault),
+        Ok(Action::View { file: "-", payload }) => run_view(rt, rt.reader(), payload),
+        Ok(Action::View { file, payload }) => match fs::open(rt, file) {
+            Ok(file) => run_view(rt, file, payload),
+            Err(error) if error.kind() == ErrorKind::OutOfMemory => {
+                Outcome::View(ViewFault::Memory)
+            }
+            Err(_) => Outcome::NoFile,
+        },
+    }
+}
