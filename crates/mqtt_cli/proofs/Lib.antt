@@ -1,4 +1,6 @@
+-- Lemmas on views and command lines.
 pub mod Commands
+pub mod Escapes
 pub mod Lines
 pub mod OneView
 pub mod Texts

@@ -1,3 +1,4 @@
+-- What a view has read and written so far, from one step to the next.
 use Rattle.std.proofs.Common.{◌≡◌, ℕ, ◌-◌, ◌<◌, ◌≤◌, Bool, List, [], ◌∷◌, ◌++◌, length, take, drop, Option, None, Some, Ok, Err, IfSome, refl, ap, sym, ◌∙◌, subst, arith, append_assoc, append-nil, length-drop}
 use Rattle.std.specs.List.{flat_map}
 use Rattle.std.proofs.lemmas.List.{take-append-le}
@@ -55,10 +56,12 @@ pub record ViewsSoFar (with_payload : Bool) (f : Framing) (input left : Option (
   pub waits : first_of f.held ≡ Ok None
   pub room : length f.held < 65536
 
+-- no byte decides nothing
 nothing_first : first_of [] ≡ Ok None
 unfolding first_of size_at
 nothing_first = refl
 
+-- nothing has been read
 pub views_start : (with_payload : Bool) (f : Framing) (input before : Option (List ℕ)) → f ≡ record { held = []; place = 0 } → ViewsSoFar with_payload f input input before before
 views_start with_payload f input before e =
     let held : f.held ≡ [] = ap (λ (g : Framing). g.held) e in
@@ -86,6 +89,7 @@ fed_next with_payload f g input left less before after longer piece so took w =
       wrote = rw flat_map-append (Appends-trans before after longer _ _ so.wrote w.wrote);
     }
 
+-- a piece was read, its lines were written, and no packet is left whole
 pub views_next : (with_payload : Bool) (f g : Framing) (input left less before after longer : Option (List ℕ)) (piece : List ℕ)
     → ViewsSoFar with_payload f input left before after → Consumes left less piece → WritesLines with_payload f piece g after longer → IsDrained g None → ViewsSoFar with_payload g input less before longer
 views_next with_payload f g input left less before after longer piece v took w d =

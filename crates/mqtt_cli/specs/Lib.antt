@@ -1,3 +1,4 @@
+-- The text of the viewer, what a command line asks for, and how the program ends.
 pub mod Line
 pub mod Outcome
 pub mod PacketText

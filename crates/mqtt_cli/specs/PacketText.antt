@@ -1,5 +1,5 @@
 -- What the viewer shows of a packet: its name, its size, its fields and how many properties it has (ours).
-use Rattle.std.specs.Prelude.{ℕ, ◌/◌, ◌%◌, ◌==◌, nat_le, Bool, true, false, not, ◌&&◌, if◌then◌else◌, List, [], ◌∷◌, ◌++◌, length, take, codes, is_some}
+use Rattle.std.specs.Prelude.{ℕ, ◌<◌, ◌≤◌, ◌/◌, ◌%◌, ◌==◌, nat_le, Bool, true, false, not, ◌&&◌, if◌then◌else◌, List, [], ◌∷◌, ◌++◌, length, take, codes, is_some}
 use Rattle.std.specs.List.{flat_map}
 use Rattle.std.specs.Fmt.{decimal, digit_glyph}
 use Rattle.hex.specs.Hex.{encode_lower}
@@ -40,6 +40,15 @@ escaped_byte b = if is_plain b then b ∷ [] else percent ∷ hex_byte b
 -- a text of a packet, in one word
 abbrev pub escaped : List ℕ → List ℕ
 escaped text = flat_map escaped_byte text
+
+-- one word: printable ASCII and no space
+abbrev pub IsWord : List ℕ → Type 0
+IsWord [] = Unit {0}
+IsWord (b ∷ text) = (0x21 ≤ b) × (b ≤ 0x7e) × IsWord text
+
+abbrev pub AreBytes : List ℕ → Type 0
+AreBytes [] = Unit {0}
+AreBytes (b ∷ bytes) = (b < 256) × AreBytes bytes
 
 -- 0 or 1
 abbrev pub digit_text : Bool → List ℕ

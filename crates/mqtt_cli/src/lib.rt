@@ -10,7 +10,7 @@ mod text;
 mod viewer;
 mod words;
 
-pub use laws::one_view;
+pub use laws::{one_view, one_word};
 pub use line::{Action, LineFault};
 pub use outcome::{DONE, FAILED, FAULTY, Outcome, USAGE, ending};
 pub use program::run;

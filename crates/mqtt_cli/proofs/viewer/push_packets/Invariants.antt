@@ -1,3 +1,4 @@
+-- The lines of a text grow by those of the packets that a framer gives, each of which leaves less to hold.
 use Rattle.std.proofs.Common.{[], length}
 use Rattle.std.specs.String.{string_bytes}
 use Rattle.mqtt_cli.specs.Viewing.{AddsLines}
