@@ -151,9 +151,9 @@ found_ends {X} view bytes (Ok (Some x)) fits given = first_ends bytes (view x.0)
 found_ends {X} view bytes (Err f) fits given = tt
 
 -- where a fault stands, no stream that goes on so begins with a packet
-pub fault_final : (bytes later : List ℕ) (f : Fault) (p : Packet) (spelling more : List ℕ) → first_of bytes ≡ Err f → Spells p spelling → length spelling ≤ MAX_SIZE
+pub fault_final : (bytes later spelling more : List ℕ) (f : Fault) (p : Packet) → first_of bytes ≡ Err f → Spells p spelling → length spelling ≤ MAX_SIZE
     → bytes ++ later ≢ spelling ++ more
-fault_final bytes later f p spelling more e s small = λ same.
+fault_final bytes later spelling more f p e s small = λ same.
     let clash = sym (fault_stays bytes later f e) ∙ ap first_of same ∙ first_whole p spelling more s small in
     cc clash
 
