@@ -1,5 +1,5 @@
 -- Lemmas on the table of topic aliases (MQTT 5.0, 3.3.2.3.4).
-use Rattle.std.proofs.Common.{◌≡◌, ℕ, Bool, true, false, cond, List, [], ◌∷◌, length, refl, sym, ap, subst, ◌∙◌, eqb, nat_eq, Option, Some, Result, Ok, Err, is_ok, OnOk, IfOk, IfErr}
+use Rattle.std.proofs.Common.{◌≡◌, ℕ, true, false, cond, List, [], ◌∷◌, length, refl, sym, ap, subst, ◌∙◌, eqb, nat_eq, Option, Some, Result, Ok, Err, is_ok, OnOk, IfOk, IfErr}
 use Rattle.std.specs.Map.{lookup}
 use Rattle.indexmap.specs.IndexMap.{insert_entry}
 use Rattle.mqtt_topic.specs.declared.fault.TopicFault.{TopicFault}

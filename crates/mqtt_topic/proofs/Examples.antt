@@ -1,7 +1,7 @@
 -- Worked rows of names, filters and matching, by computing (MQTT 5.0, 4.7 and 4.8.2).
-use Rattle.std.proofs.Common.{◌≡◌, true, false, refl, codes, [], ◌∷◌, Some, None}
+use Rattle.std.proofs.Common.{◌≡◌, true, false, refl, codes, [], ◌∷◌, Some}
 use Rattle.mqtt_topic.specs.Levels.{levels}
-use Rattle.mqtt_topic.specs.Filters.{is_filter, begins_share, group_of, share_name_of, shared_part_of, matching_part_of}
+use Rattle.mqtt_topic.specs.Filters.{is_filter, group_of, share_name_of, matching_part_of}
 use Rattle.mqtt_topic.specs.Matching.{is_match}
 use Rattle.mqtt_topic.specs.Aliases.{topic_of, with_topic}
 

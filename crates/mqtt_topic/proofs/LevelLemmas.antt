@@ -1,6 +1,6 @@
 -- Lemmas on the levels of a text (MQTT 5.0, 4.7.1.1).
-use Rattle.std.proofs.Common.{◌≡◌, ℕ, ◌<◌, Bool, true, false, cond, List, [], ◌∷◌, ◌++◌, length, get_or, refl, sym, ap, subst, ◌∙◌, eqb, lit<, Option, Some, None, MatchOption, Bor}
-use Rattle.std.specs.List.{All, slice_split, onto_first}
+use Rattle.std.proofs.Common.{◌≡◌, ℕ, ◌<◌, Bool, true, false, cond, List, [], ◌∷◌, ◌++◌, length, get_or, refl, ap, subst, ◌∙◌, eqb, lit<, Option, Some, None, MatchOption, Bor}
+use Rattle.std.specs.List.{All, onto_first}
 use Rattle.std.proofs.lemmas.Bool.{ne_eqb}
 use Rattle.std.proofs.lemmas.List.{get_or_default}
 use Rattle.std.proofs.lemmas.List.Splits.{slice_split_none, slice_split_at}

@@ -1,7 +1,7 @@
 -- Topic aliases (MQTT 5.0, 3.3.2.3.4).
-use Rattle.std.specs.Prelude.{◌≡◌, ◌≢◌, ℕ, ◌<◌, ◌≤◌, Bool, cond, not, ◌&&◌, ◌||◌, List, [], ◌∷◌, nat_eq, nat_lt, Option, Some, None}
+use Rattle.std.specs.Prelude.{◌≡◌, ℕ, ◌<◌, ◌≤◌, cond, List, [], ◌∷◌, nat_eq, Option, Some, None}
 use Rattle.mqtt_topic.specs.declared.fault.TopicFault.{TopicFault}
-use Rattle.mqtt_topic.specs.declared.fault.TopicFault.TheVariants.{Empty, WildcardInName, WildcardPlace, Share, AliasRange, AliasUnknown, Memory}
+use Rattle.mqtt_topic.specs.declared.fault.TopicFault.TheVariants.{AliasRange, AliasUnknown, Memory}
 use Rattle.mqtt_topic.specs.Names.{IsTopicName, RefusesName}
 
 -- the greatest alias, and the topics that aliases stand for, in the order in which they came

@@ -172,6 +172,12 @@ fn a_filter_has_its_wildcards_in_their_places(rt: HostRuntime) {
     }
 }
 
+/// Whether a shared filter has these parts.
+fn has_parts(alloc: Global, text: &str, name: &str, filter: &str) -> Result<bool, TopicFault> {
+    let shared = Shared::parse(alloc, text)?;
+    Ok(shared.as_str() == text && shared.name() == name && shared.filter() == filter)
+}
+
 #[test]
 fn a_shared_filter_has_a_name_and_a_filter(rt: HostRuntime) -> Result<(), Fail> {
     for text in [
@@ -194,64 +200,80 @@ fn a_shared_filter_has_a_name_and_a_filter(rt: HostRuntime) -> Result<(), Fail> 
         ("$share/ü/+/#", "ü", "+/#"),
         ("$share/g//", "g", "/"),
     ] {
-        let shared = Shared::parse(rt.alloc(), text)?;
-        assert_eq!(rt; shared.as_str(), text);
-        assert_eq!(rt; shared.name(), name, "{text}");
-        assert_eq!(rt; shared.filter(), filter, "{text}");
+        assert!(rt; has_parts(rt.alloc(), text, name, filter)?, "{text}");
     }
     Ok(())
+}
+
+/// Whether a subscription has these parts, and whether it matches a name.
+fn is_subscribed(
+    alloc: Global,
+    (text, group, filter): (&str, &str, &str),
+    name: &str,
+) -> Result<(bool, bool), TopicFault> {
+    let sub = SubFilter::parse(alloc, text)?;
+    let name = TopicName::parse(alloc, name)?;
+    let is_group = match sub.group() {
+        Some(text) => sub.is_shared() && text == group,
+        None => !sub.is_shared() && group.is_empty(),
+    };
+    let has_parts = is_group && sub.as_str() == text && sub.filter() == filter;
+    Ok((has_parts, sub.matches(&name)))
 }
 
 #[test]
 fn a_subscription_matches_by_its_filter(rt: HostRuntime) -> Result<(), Fail> {
-    for (text, group, filter, name, expected) in [
-        ("a/+", None, "a/+", "a/b", true),
-        ("$share/g/a/+", Some("g/a/+"), "a/+", "a/b", true),
-        ("$share/g/a/+", Some("g/a/+"), "a/+", "$share/g/a/b", false),
-        ("$share/g/#", Some("g/#"), "#", "$SYS/x", false),
+    for (parts, name, expected) in [
+        (("a/+", "", "a/+"), "a/b", true),
+        (("$share/g/a/+", "g/a/+", "a/+"), "a/b", true),
+        (("$share/g/a/+", "g/a/+", "a/+"), "$share/g/a/b", false),
+        (("$share/g/#", "g/#", "#"), "$SYS/x", false),
         (
-            "$share/g/$share/h/a",
-            Some("g/$share/h/a"),
-            "$share/h/a",
+            ("$share/g/$share/h/a", "g/$share/h/a", "$share/h/a"),
             "$share/h/a",
             true,
         ),
     ] {
-        let sub = SubFilter::parse(rt.alloc(), text)?;
-        let name = TopicName::parse(rt.alloc(), name)?;
-        assert_eq!(rt; sub.as_str(), text);
-        assert_eq!(rt; sub.is_shared(), group.is_some(), "{text}");
-        assert_eq!(rt; sub.group(), group, "{text}");
-        assert_eq!(rt; sub.filter(), filter, "{text}");
-        assert_eq!(rt; sub.matches(&name), expected, "{text}");
+        assert_eq!(rt;
+            is_subscribed(rt.alloc(), parts, name)?,
+            (true, expected),
+            "{name}"
+        );
     }
     Ok(())
 }
 
-#[test]
-fn an_alias_stands_for_its_last_topic(rt: HostRuntime) -> Result<(), Fail> {
-    let mut aliases = Aliases::new(rt.alloc(), 10);
-    for (topic, alias, expected) in [
-        ("a/b", Some(3), Ok("a/b")),
-        ("", Some(3), Ok("a/b")),
-        ("", Some(4), Err(TopicFault::AliasUnknown)),
-        ("x", Some(11), Err(TopicFault::AliasRange)),
-        ("a/+", Some(0), Err(TopicFault::AliasRange)),
-        ("", None, Err(TopicFault::Empty)),
-        ("a/+", Some(3), Err(TopicFault::WildcardInName)),
-        ("", Some(3), Ok("a/b")),
-        ("c", Some(3), Ok("c")),
-        ("d", Some(10), Ok("d")),
-        ("e", None, Ok("e")),
-        ("", Some(3), Ok("c")),
-        ("", Some(10), Ok("d")),
-    ] {
-        let found = aliases.resolve(topic, alias);
-        assert_eq!(rt;
-            found.as_ref().map(|name| name.as_str()),
-            expected.as_ref().copied(),
-            "{topic}"
-        );
+/// Whether an alias and a topic are answered by this text, or by this fault.
+fn resolves_to(
+    aliases: &mut Aliases,
+    (topic, alias): (&str, Option<u16>),
+    text: &str,
+    fault: Option<TopicFault>,
+) -> bool {
+    match aliases.resolve(topic, alias) {
+        Ok(name) => fault.is_none() && name.as_str() == text,
+        Err(other) => fault == Some(other),
     }
-    Ok(())
+}
+
+#[test]
+fn an_alias_stands_for_its_last_topic(rt: HostRuntime) {
+    let mut aliases = Aliases::new(rt.alloc(), 10);
+    for (call, text, fault) in [
+        (("a/b", Some(3)), "a/b", None),
+        (("", Some(3)), "a/b", None),
+        (("", Some(4)), "", Some(TopicFault::AliasUnknown)),
+        (("x", Some(11)), "", Some(TopicFault::AliasRange)),
+        (("a/+", Some(0)), "", Some(TopicFault::AliasRange)),
+        (("", None), "", Some(TopicFault::Empty)),
+        (("a/+", Some(3)), "", Some(TopicFault::WildcardInName)),
+        (("", Some(3)), "a/b", None),
+        (("c", Some(3)), "c", None),
+        (("d", Some(10)), "d", None),
+        (("e", None), "e", None),
+        (("", Some(3)), "c", None),
+        (("", Some(10)), "d", None),
+    ] {
+        assert!(rt; resolves_to(&mut aliases, call, text, fault), "{text}");
+    }
 }

@@ -1,4 +1,4 @@
-use Rattle.std.proofs.Common.{sym, ◌∙◌, ap}
+use Rattle.std.proofs.Common.{sym, ◌∙◌}
 use Rattle.mqtt_topic.proofs.LevelLemmas.{levels_cut_some, levels_cut_none}
 use Rattle.mqtt_topic.proofs.FilterLemmas.{begins_share-one, begins_share-cut}
 use Rattle.mqtt_topic.proofs.filter.group_of.Goals as goal

@@ -1,4 +1,4 @@
-use Rattle.std.proofs.Common.{rules, ◌≡◌, sym, ◌∙◌, ap, ◌&&◌, not}
+use Rattle.std.proofs.Common.{rules, sym, ◌∙◌, ap, ◌&&◌, not}
 use Rattle.mqtt_topic.specs.Levels.{levels}
 use Rattle.mqtt_topic.specs.Filters.{is_filter, are_filter_levels}
 use Rattle.mqtt_topic.proofs.LevelLemmas.{levels_cut_some, levels_cut_none}

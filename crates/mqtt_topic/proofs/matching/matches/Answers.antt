@@ -1,4 +1,4 @@
-use Rattle.std.proofs.Common.{sym, ◌∙◌, ap}
+use Rattle.std.proofs.Common.{◌∙◌, ap}
 use Rattle.mqtt_topic.specs.Matching.{is_match}
 use Rattle.mqtt_topic.proofs.MatchLemmas.{exact}
 use Rattle.mqtt_topic.proofs.matching.matches.Goals as goal

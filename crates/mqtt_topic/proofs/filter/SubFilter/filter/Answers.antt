@@ -1,6 +1,6 @@
 use Rattle.std.proofs.Common.{sym, ◌∙◌, ap}
-use Rattle.mqtt_topic.specs.Filters.{begins_share, is_filter, is_shared_filter, matching_part_of}
-use Rattle.mqtt_topic.proofs.FilterLemmas.{begins_share-unshared, matching_part_of-unshared, matching_part_of-shared}
+use Rattle.mqtt_topic.specs.Filters.{is_filter, matching_part_of}
+use Rattle.mqtt_topic.proofs.FilterLemmas.{begins_share-unshared, matching_part_of-unshared}
 use Rattle.mqtt_topic.proofs.filter.SubFilter.filter.Goals as goal
 
 pub returns-in-None-clause-value : goal.returns-in-None-clause-value

@@ -1,0 +1,104 @@
+//! The subscriptions of one session (MQTT 5.0, 3.8, 3.10).
+ghost use Rattle.std.specs.Prelude.{◌≡◌, [], OnErr, OnOk, IfErr};
+ghost use Rattle.mqtt_routes.specs.Subscriptions.{has_filter, place_in, put, without, RefusesPut};
+
+use crate::fault::RoutesFault;
+use crate::subscription::{SUBSCRIPTION_LIMIT, Subscription};
+use std::alloc::Global;
+use std::marker::Model;
+
+/// A subscription in the table.
+#[derive(Drop)]
+pub(crate) struct Row {
+    pub(crate) subscription: Subscription,
+    /// For a shared one the place of the member that its group chose last; 0 before the first.
+    pub(crate) turn: u64,
+}
+
+impl Model for Row {
+    ghost use Rattle.mqtt_routes.specs.declared.subscription.Subscription.{Subscription};
+
+    ghost Value = { Subscription };
+
+    ghost view = { λ row. row.subscription };
+}
+
+/// The subscriptions of a session, in the order subscribed.
+#[derive(Drop)]
+pub(crate) struct Subscriptions {
+    rows: Vec<Row>,
+}
+
+impl Model for Subscriptions {
+    ghost use Rattle.std.specs.Prelude.{List, ◌≤◌, vec_len};
+    ghost use Rattle.mqtt_routes.specs.declared.subscription.TheConstants.{SUBSCRIPTION_LIMIT};
+    ghost use Rattle.mqtt_routes.specs.declared.subscription.Subscription.{Subscription};
+
+    ghost Value = { List Subscription };
+
+    ghost view = { λ s. s.rows.items };
+
+    ghost invariant = { λ s. vec_len s.rows ≤ SUBSCRIPTION_LIMIT };
+}
+
+impl Subscriptions {
+    /// No subscription.
+    pub(crate) fn new(alloc: Global) -> Subscriptions
+        ensures { result ≡ [] }
+    {
+        Subscriptions {
+            rows: Vec::new(alloc),
+        }
+    }
+
+    /// Where the subscription to a filter stands; the count of all where there is none.
+    fn position(&self, filter: &str) -> usize
+        ensures { result ≡ place_in filter.now self.now }
+    {
+        for (i, row) in self.rows.iter().enumerate() {
+            if row.subscription.filter.as_str() == filter {
+                return i;
+            }
+        }
+        self.rows.len()
+    }
+
+    /// Puts a subscription in place of the one to the same filter, or as the last.
+    pub(crate) fn put(&mut self, subscription: Subscription) -> Result<(), RoutesFault>
+        ensures ok { OnOk result (self.new ≡ put subscription self.old) }
+        ensures err { OnErr result (self.new ≡ self.old) }
+        ensures refused { IfErr result (RefusesPut subscription self.old) }
+    {
+        let i = self.position(subscription.filter.as_str());
+        if i < self.rows.len() {
+            let row = &mut self.rows[i];
+            let place = row.subscription.place;
+            row.subscription = Subscription {
+                place,
+                ..subscription
+            };
+            return Ok(());
+        }
+        if i >= SUBSCRIPTION_LIMIT {
+            return Err(RoutesFault::Full);
+        }
+        self.rows.push(Row {
+            subscription,
+            turn: 0,
+        })?;
+        Ok(())
+    }
+
+    /// Removes the subscription to a filter, if there is one. Takes no memory.
+    pub(crate) fn remove(&mut self, filter: &str) -> bool
+        ensures found { result ≡ has_filter filter.now self.old }
+        ensures after { self.new ≡ without filter.now self.old }
+    {
+        let i = self.position(filter);
+        let found = i < self.rows.len();
+        if found {
+            let _row = self.rows.remove(i);
+        }
+        found
+    }
+}
