@@ -2,6 +2,7 @@
 #![tactic(auto)]
 
 mod fault;
+mod sessions;
 mod subscriber;
 mod subscription;
 
