@@ -2,7 +2,7 @@
 use Rattle.std.proofs.Common.{◌≡◌, ℕ, Bool, true, false, cond, not, refl, codes, List, [], ◌∷◌, Option, Some, None, nat_eq, bytes_eq}
 use Rattle.mqtt_routes.specs.declared.subscription.Subscription.{Subscription}
 use Rattle.mqtt_routes.specs.Subscriptions.{Subscriber, put, without, with_subs}
-use Rattle.mqtt_routes.specs.Intended.{Publication, Sessions, Copy}
+use Rattle.mqtt_routes.specs.Intended.{Publication, Answers, Copy}
 use Rattle.mqtt_routes.specs.Acceptance.{Served, Routed, routed}
 use Rattle.mqtt_routes.specs.Retained.{Kept, keep, forget, kept_for}
 
@@ -41,7 +41,7 @@ is_none_of (b ∷ bs) birth = cond (nat_eq b birth) false (is_none_of bs birth)
 abbrev room_but : List ℕ → ℕ → ℕ
 room_but full birth = cond (is_none_of full birth) 1000 0
 
-abbrev all_but : List ℕ → List ℕ → Sessions
+abbrev all_but : List ℕ → List ℕ → Answers
 all_but full away = record { room = room_but full; is_connected = is_none_of away; is_named = λ birth client. nat_eq birth 1 }
 
 abbrev copy : ℕ → ℕ → List ℕ → Copy
@@ -100,7 +100,7 @@ retain_is_passed_on : routed (all_but [] []) (at_qos 2) [] passes_retain
 retain_is_passed_on = refl
 
 -- two groups with one member, whose queue has room for one copy: the older group gets it
-abbrev one_room : Sessions
+abbrev one_room : Answers
 one_room = record { room = λ birth. 1; is_connected = λ birth. true; is_named = λ birth client. false }
 
 abbrev in_two_groups : List Subscriber

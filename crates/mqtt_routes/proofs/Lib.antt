@@ -1,3 +1,5 @@
 pub mod PlaceLemmas
 pub mod SpotLemmas
+pub mod CopyLemmas
+pub mod MemberLemmas
 mod Examples

@@ -4,7 +4,7 @@ use Rattle.std.specs.List.{list_any, list_all, count_by}
 use Rattle.std.specs.Option.{option_and_then}
 use Rattle.mqtt_topic.specs.Filters.{group_of}
 use Rattle.mqtt_routes.specs.Subscriptions.{Subscriber}
-use Rattle.mqtt_routes.specs.Intended.{Publication, Sessions, Copy, Member, granted, copy_for, directs, members, in_group, groups}
+use Rattle.mqtt_routes.specs.Intended.{Publication, Answers, Copy, Member, granted, copy_for, directs, members, in_group, groups}
 
 -- what becomes of a group: NAME/FILTER, and the copy of its chosen member, if one was eligible
 pub record Served : Type 0 where
@@ -38,7 +38,7 @@ abbrev pub needs_room : Publication → Member → Bool
 needs_room p m = nat_lt 0 (granted p m.sub)
 
 -- beside the copies before it a member lacks nothing: its queue has room, or for QoS 0 it is connected
-abbrev pub is_eligible : Sessions → Publication → List Copy → Member → Bool
+abbrev pub is_eligible : Answers → Publication → List Copy → Member → Bool
 is_eligible at p before m = cond (needs_room p m) (nat_lt (uses m.birth before) (at.room m.birth)) (at.is_connected m.birth)
 
 -- the free choice: for each group in order, the number of a member among the eligible ones, counted from 0;
@@ -65,30 +65,30 @@ abbrev pub outcome : Publication → List ℕ → List Member → Option Member 
 outcome p text all (Some m) = Some (record { group = group_of text; copy = Some (shared_copy p m) })
 outcome p text all None = cond (list_any (needs_room p) all) None (Some (record { group = group_of text; copy = None }))
 
-abbrev pub serve_one : Sessions → Publication → List Copy → ℕ → List ℕ → List Member → Option Served
+abbrev pub serve_one : Answers → Publication → List Copy → ℕ → List ℕ → List Member → Option Served
 serve_one at p before n text all = outcome p text all (chosen n (filter (is_eligible at p before) all))
 
 -- the groups one after another: room is counted as they are served, after the direct copies
-abbrev pub serve : Sessions → Publication → List Member → List Copy → List ℕ → List (List ℕ) → List Served → Option (List Served)
+abbrev pub serve : Answers → Publication → List Member → List Copy → List ℕ → List (List ℕ) → List Served → Option (List Served)
 serve at p all direct choices [] served = Some served
 serve at p all direct choices (f ∷ fs) served =
     option_and_then (λ (s : Served). serve at p all direct (later_choices choices) fs (served ++ s ∷ []))
     (serve_one at p (direct ++ copies_of served) (first_choice choices) f (in_group f all))
 
 -- each session's queue has room for its direct copy
-abbrev pub has_room : Sessions → Copy → Bool
+abbrev pub has_room : Answers → Copy → Bool
 has_room at c = not (is_queued c) || nat_lt 0 (at.room c.birth)
 
 -- a routing with its direct copies
 abbrev pub with_direct : List Copy → List Served → Routed
 with_direct direct served = record { direct = direct; served = served }
 
-abbrev pub routed_beside : Bool → Sessions → Publication → List Member → List Copy → List ℕ → Option Routed
+abbrev pub routed_beside : Bool → Answers → Publication → List Member → List Copy → List ℕ → Option Routed
 routed_beside false at p all direct choices = None
 routed_beside true at p all direct choices = option_map (with_direct direct) (serve at p all direct choices (groups all) [])
 
 -- where a publication goes, if the queues that it needs have room
-abbrev pub routed : Sessions → Publication → List ℕ → List Subscriber → Option Routed
+abbrev pub routed : Answers → Publication → List ℕ → List Subscriber → Option Routed
 routed at p choices sessions =
     let direct = directs at p sessions in
     routed_beside (list_all (has_room at) direct) at p (members p sessions) direct choices

@@ -1,6 +1,7 @@
 -- Which copies a publication is to make (MQTT 5.0, 3.3.4, 3.8.3.1, 4.8.2).
-use Rattle.std.specs.Prelude.{ℕ, min, max, Bool, true, false, cond, not, ◌&&◌, ◌||◌, List, [], ◌∷◌, ◌++◌, filter, map, flat_map, nat_lt, bytes_eq, Option, Some, None}
+use Rattle.std.specs.Prelude.{ℕ, suc, min, max, Bool, true, false, cond, not, ◌&&◌, ◌||◌, List, [], ◌∷◌, ◌++◌, filter, map, flat_map, nat_lt, bytes_eq, Option, Some, None}
 use Rattle.std.specs.List.{list_any, filter_map}
+use Rattle.std.specs.Option.{option_to_list}
 use Rattle.mqtt_topic.specs.Filters.{begins_share, group_of, matching_part_of}
 use Rattle.mqtt_topic.specs.Matching.{is_match}
 use Rattle.mqtt_routes.specs.declared.subscription.Subscription.{Subscription}
@@ -15,7 +16,7 @@ pub record Publication : Type 0 where
 
 -- what sessions answer, by their births: how many copies their queues have room for, whether they are
 -- connected, and whether they have this client identifier
-pub record Sessions : Type 0 where
+pub record Answers : Type 0 where
   pub room : ℕ → ℕ
   pub is_connected : ℕ → Bool
   pub is_named : ℕ → List ℕ → Bool
@@ -32,7 +33,7 @@ abbrev pub granted : Publication → Subscription → ℕ
 granted p s = min p.qos s.qos
 
 -- No Local bars a client's own messages (3.8.3.1)
-abbrev pub is_barred : Sessions → Publication → ℕ → Subscription → Bool
+abbrev pub is_barred : Answers → Publication → ℕ → Subscription → Bool
 is_barred at p birth s = s.no_local && at.is_named birth p.sender
 
 abbrev pub is_shared : Subscription → Bool
@@ -42,11 +43,11 @@ abbrev pub matches_topic : Publication → Subscription → Bool
 matches_topic p s = is_match (matching_part_of s.filter) p.topic
 
 -- an unshared subscription that matches and isn't barred
-abbrev pub is_hit : Sessions → Publication → ℕ → Subscription → Bool
+abbrev pub is_hit : Answers → Publication → ℕ → Subscription → Bool
 is_hit at p birth s = not (is_shared s) && (matches_topic p s && not (is_barred at p birth s))
 
-abbrev pub hits : Sessions → Publication → Subscriber → List Subscription
-hits at p x = filter (is_hit at p x.birth) x.subs
+abbrev pub hits_of : Answers → Publication → ℕ → List Subscription → List Subscription
+hits_of at p birth subs = filter (is_hit at p birth) subs
 
 abbrev pub greatest : List ℕ → ℕ
 greatest [] = 0
@@ -62,15 +63,27 @@ copy_for p birth subs = record {
   identifiers = filter_map (λ s. s.identifier) subs;
 }
 
+-- a copy that serves no subscription, and one that serves one more than before
+abbrev pub empty_copy : ℕ → Copy
+empty_copy birth = record { birth = birth; qos = 0; retain = false; identifiers = [] }
+
+abbrev pub add_to : Publication → Copy → Subscription → Copy
+add_to p c s = record {
+  birth = c.birth;
+  qos = max c.qos (granted p s);
+  retain = c.retain || (p.retain && s.retain_as_published);
+  identifiers = c.identifiers ++ option_to_list s.identifier;
+}
+
 -- at most one direct copy for a session (ours; 3.3.4 leaves one for each subscription too)
 abbrev pub copies_for : Publication → ℕ → List Subscription → List Copy
 copies_for p birth [] = []
 copies_for p birth (s ∷ ss) = copy_for p birth (s ∷ ss) ∷ []
 
 -- the direct copies, by session birth
-abbrev pub directs : Sessions → Publication → List Subscriber → List Copy
+abbrev pub directs : Answers → Publication → List Subscriber → List Copy
 directs at p [] = []
-directs at p (x ∷ xs) = copies_for p x.birth (hits at p x) ++ directs at p xs
+directs at p (x ∷ xs) = copies_for p x.birth (hits_of at p x.birth x.subs) ++ directs at p xs
 
 -- a member of a group: a session and its shared subscription
 pub record Member : Type 0 where
@@ -81,6 +94,10 @@ pub record Member : Type 0 where
 abbrev pub insert_member : Member → List Member → List Member
 insert_member m [] = m ∷ []
 insert_member m (x ∷ xs) = cond (nat_lt m.sub.place x.sub.place) (m ∷ x ∷ xs) (x ∷ insert_member m xs)
+
+abbrev pub insertion_spot : ℕ → List Member → ℕ
+insertion_spot place [] = 0
+insertion_spot place (x ∷ xs) = cond (nat_lt place x.sub.place) 0 (suc (insertion_spot place xs))
 
 -- the members that a session adds to those before
 abbrev pub members_with : Publication → ℕ → List Subscription → List Member → List Member
@@ -116,5 +133,5 @@ is_none [] = true
 is_none (x ∷ xs) = false
 
 -- somebody is there for a publication
-abbrev pub is_wanted : Sessions → Publication → List Subscriber → Bool
+abbrev pub is_wanted : Answers → Publication → List Subscriber → Bool
 is_wanted at p sessions = not (is_none (directs at p sessions)) || not (is_none (members p sessions))

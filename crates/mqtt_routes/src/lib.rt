@@ -1,10 +1,16 @@
 //! Subscriptions, groups of shared ones, and who gets a publication (MQTT 5.0, 3.3.4, 4.7, 4.8).
 #![tactic(auto)]
 
+mod answers;
+mod copy;
 mod fault;
+mod member;
+mod publication;
 mod sessions;
 mod subscriber;
 mod subscription;
 
+pub use answers::Sessions;
+pub use copy::RoutedCopy;
 pub use fault::RoutesFault;
 pub use subscription::{SUBSCRIPTION_LIMIT, Subscription};

@@ -1,8 +1,14 @@
 //! The subscriptions of one session (MQTT 5.0, 3.8, 3.10).
-ghost use Rattle.std.specs.Prelude.{◌≡◌, [], OnErr, OnOk, IfErr};
+ghost use Rattle.std.specs.Prelude.{◌≡◌, [], IfErr, IfOk, OnErr, OnOk};
+ghost use Rattle.std.specs.Option.{option_to_list};
+ghost use Rattle.mqtt_routes.specs.Intended.{copies_for, hits_of, members_with};
 ghost use Rattle.mqtt_routes.specs.Subscriptions.{has_filter, place_in, put, without, RefusesPut};
 
+use crate::answers::Sessions;
+use crate::copy::RoutedCopy;
 use crate::fault::RoutesFault;
+use crate::member::{Member, insert_member};
+use crate::publication::Publication;
 use crate::subscription::{SUBSCRIPTION_LIMIT, Subscription};
 use std::alloc::Global;
 use std::marker::Model;
@@ -100,5 +106,47 @@ impl Subscriptions {
             let _row = self.rows.remove(i);
         }
         found
+    }
+
+    /// The direct copy of a publication for the session, if a subscription is for it.
+    pub(crate) fn direct_copy<S: Sessions>(
+        &self,
+        alloc: Global,
+        publication: &Publication<'_>,
+        at: &S,
+        birth: u64,
+    ) -> Result<Option<RoutedCopy>, RoutesFault>
+        ensures { IfOk result (λ copy. option_to_list copy
+            ≡ copies_for publication.now birth (hits_of (S.answers at.now) publication.now birth self.now)) }
+    {
+        let mut copy = RoutedCopy::new(alloc, birth);
+        let mut is_for = false;
+        for row in &self.rows {
+            let subscription = &row.subscription;
+            if publication.is_hit(at, birth, subscription) {
+                copy.add(publication, subscription)?;
+                is_for = true;
+            }
+        }
+        Ok(if is_for { Some(copy) } else { None })
+    }
+
+    /// Adds the shared subscriptions that are to the topic of a publication.
+    pub(crate) fn add_members<'a>(
+        &'a self,
+        publication: &Publication<'_>,
+        birth: u64,
+        members: &mut Vec<Member<'a>>,
+    ) -> Result<(), RoutesFault>
+        ensures { OnOk result (members.new.items
+            ≡ members_with publication.now birth self.now members.old.items) }
+    {
+        for row in &self.rows {
+            let subscription = &row.subscription;
+            if subscription.filter.is_shared() && publication.matches_topic(subscription) {
+                insert_member(members, Member { birth, row })?;
+            }
+        }
+        Ok(())
     }
 }
