@@ -6,11 +6,13 @@ mod copy;
 mod fault;
 mod member;
 mod publication;
-mod sessions;
+mod routed;
 mod subscriber;
+mod subscribers;
 mod subscription;
 
 pub use answers::Sessions;
 pub use copy::RoutedCopy;
 pub use fault::RoutesFault;
+pub use routed::{Routed, Served};
 pub use subscription::{SUBSCRIPTION_LIMIT, Subscription};

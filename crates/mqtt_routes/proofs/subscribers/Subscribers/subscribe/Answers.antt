@@ -3,7 +3,7 @@ use Rattle.std.proofs.lemmas.List.{get_or_default}
 use Rattle.std.proofs.lemmas.Result.{err_from_is_err_and, on_ok_weaker}
 use Rattle.mqtt_routes.specs.Subscriptions.{Subscriber, is_at, spot_of, subs_of, put, subscribed, RefusesPut}
 use Rattle.mqtt_routes.proofs.SpotLemmas.{at_spot, is_at-below, spot_of-most, row_subs, subs_of-none, subscribed-there, subscribed-new}
-use Rattle.mqtt_routes.proofs.sessions.Sessions.subscribe.Goals as goal
+use Rattle.mqtt_routes.proofs.subscribers.Subscribers.subscribe.Goals as goal
 
 pub index_mut-session-requires : goal.index_mut-session-requires
 index_mut-session-requires c =

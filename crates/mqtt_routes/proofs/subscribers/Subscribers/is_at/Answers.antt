@@ -3,7 +3,7 @@ use Rattle.std.proofs.lemmas.Bool.Decides.{nat_tests}
 use Rattle.std.proofs.lemmas.List.{get_or_default}
 use Rattle.mqtt_routes.specs.Subscriptions.{Subscriber, is_at}
 use Rattle.mqtt_routes.proofs.SpotLemmas.{is_at-index, is_at-beyond}
-use Rattle.mqtt_routes.proofs.sessions.Sessions.is_at.Goals as goal
+use Rattle.mqtt_routes.proofs.subscribers.Subscribers.is_at.Goals as goal
 
 pub returns-then-i-len : goal.returns-then-i-len
 returns-then-i-len c =

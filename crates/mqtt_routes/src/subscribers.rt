@@ -1,8 +1,13 @@
 //! The subscriptions of all sessions, by birth (MQTT 5.0, 3.8, 3.10).
-ghost use Rattle.std.specs.Prelude.{◌≡◌, [], IfErr, OnErr, OnOk};
+ghost use Rattle.std.specs.Prelude.{◌≡◌, [], IfErr, IfOk, OnErr, OnOk};
+ghost use Rattle.mqtt_routes.specs.Intended.{directs, members};
 ghost use Rattle.mqtt_routes.specs.Subscriptions.{Subscriber, has_filter, spot_of, subs_of, subscribed, unsubscribed, without_session, RefusesPut, is_at};
 
+use crate::answers::Sessions;
+use crate::copy::RoutedCopy;
 use crate::fault::RoutesFault;
+use crate::member::Member;
+use crate::publication::Publication;
 use crate::subscriber::Subscriptions;
 use crate::subscription::Subscription;
 use std::alloc::Global;
@@ -25,12 +30,12 @@ impl Model for Session {
 
 /// All sessions that have subscribed, in the order of births.
 #[derive(Drop)]
-pub(crate) struct Sessions {
+pub(crate) struct Subscribers {
     alloc: Global,
     sessions: Vec<Session>,
 }
 
-impl Model for Sessions {
+impl Model for Subscribers {
     ghost use Rattle.std.specs.Prelude.{List};
     ghost use Rattle.mqtt_routes.specs.Subscriptions.{Subscriber};
 
@@ -39,12 +44,12 @@ impl Model for Sessions {
     ghost view = { λ s. s.sessions.items };
 }
 
-impl Sessions {
+impl Subscribers {
     /// No session.
-    pub(crate) fn new(alloc: Global) -> Sessions
+    pub(crate) fn new(alloc: Global) -> Subscribers
         ensures { result ≡ [] }
     {
-        Sessions {
+        Subscribers {
             alloc,
             sessions: Vec::new(alloc),
         }
@@ -116,5 +121,40 @@ impl Sessions {
         if self.is_at(birth, i) {
             let _session = self.sessions.remove(i);
         }
+    }
+
+    /// The direct copies of a publication, by session birth.
+    pub(crate) fn directs<S: Sessions>(
+        &self,
+        publication: &Publication<'_>,
+        at: &S,
+    ) -> Result<Vec<RoutedCopy>, RoutesFault>
+        ensures { IfOk result (λ copies. copies.items
+            ≡ directs (S.answers at.now) publication.now self.now) }
+    {
+        let mut copies = Vec::new(self.alloc);
+        for session in &self.sessions {
+            let birth = session.birth;
+            let subscriptions = &session.subscriptions;
+            if let Some(copy) = subscriptions.direct_copy(self.alloc, publication, at, birth)? {
+                copies.push(copy)?;
+            }
+        }
+        Ok(copies)
+    }
+
+    /// The members of all groups that match the topic of a publication, as they joined.
+    pub(crate) fn members<'a>(
+        &'a self,
+        publication: &Publication<'_>,
+    ) -> Result<Vec<Member<'a>>, RoutesFault>
+        ensures { IfOk result (λ found. found.items ≡ members publication.now self.now) }
+    {
+        let mut found = Vec::new(self.alloc);
+        for session in &self.sessions {
+            let subscriptions = &session.subscriptions;
+            subscriptions.add_members(publication, session.birth, &mut found)?;
+        }
+        Ok(found)
     }
 }

@@ -2,7 +2,7 @@ use Rattle.std.proofs.Common.{◌≡◌, ◌<◌, ◌≤◌, true, false, length
 use Rattle.std.proofs.lemmas.List.{get_or_default}
 use Rattle.mqtt_routes.specs.Subscriptions.{Subscriber, has_filter, is_at, spot_of, subs_of, unsubscribed}
 use Rattle.mqtt_routes.proofs.SpotLemmas.{at_spot, is_at-below, row_subs, subs_of-none, unsubscribed-there, unsubscribed-none}
-use Rattle.mqtt_routes.proofs.sessions.Sessions.unsubscribe.Goals as goal
+use Rattle.mqtt_routes.proofs.subscribers.Subscribers.unsubscribe.Goals as goal
 
 pub index_mut-session-requires : goal.index_mut-session-requires
 index_mut-session-requires c =
