@@ -67,3 +67,7 @@ copies_for-found p birth (s ∷ ss) e = refl
 pub copies_for-none : (p : Publication) (birth : ℕ) (subs : List Subscription) → not (is_none subs) ≡ false → copies_for p birth subs ≡ []
 copies_for-none p birth [] e = refl
 copies_for-none p birth (s ∷ ss) e = cc
+
+-- a copy that serves one subscription
+pub add_to-empty : (p : Publication) (birth : ℕ) (s : Subscription) → add_to p (empty_copy birth) s ≡ copy_for p birth (s ∷ [])
+add_to-empty p birth s = sym (with_all-nil p (add_to p (empty_copy birth) s)) ∙ sym (with_all-cons p (empty_copy birth) s []) ∙ with_all-empty p birth (s ∷ [])

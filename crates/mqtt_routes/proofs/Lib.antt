@@ -2,4 +2,5 @@ pub mod PlaceLemmas
 pub mod SpotLemmas
 pub mod CopyLemmas
 pub mod MemberLemmas
+pub mod ServeLemmas
 mod Examples

@@ -117,11 +117,14 @@ members p sessions = members_after p sessions []
 abbrev pub in_group : List ℕ → List Member → List Member
 in_group text all = filter (λ m. bytes_eq m.sub.filter text) all
 
+abbrev pub has_filter_among : List ℕ → List Member → Bool
+has_filter_among text ms = list_any (λ x. bytes_eq x.sub.filter text) ms
+
 -- each group once, named by its filter, in the order of their oldest members; `before` are members before those
 abbrev pub groups_after : List Member → List Member → List (List ℕ)
 groups_after before [] = []
 groups_after before (m ∷ ms) =
-    cond (list_any (λ x. bytes_eq x.sub.filter m.sub.filter) before)
+    cond (has_filter_among m.sub.filter before)
     (groups_after (before ++ m ∷ []) ms)
     (m.sub.filter ∷ groups_after (before ++ m ∷ []) ms)
 

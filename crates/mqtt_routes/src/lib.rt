@@ -7,6 +7,7 @@ mod fault;
 mod member;
 mod publication;
 mod routed;
+mod serve;
 mod subscriber;
 mod subscribers;
 mod subscription;
