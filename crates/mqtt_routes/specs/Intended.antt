@@ -14,6 +14,9 @@ pub record Publication : Type 0 where
   pub qos : ℕ
   pub retain : Bool
 
+abbrev pub published : List ℕ → List ℕ → ℕ → Bool → Publication
+published sender topic qos retain = record { sender = sender; topic = topic; qos = qos; retain = retain }
+
 -- what sessions answer, by their births: how many copies their queues have room for, whether they are
 -- connected, and whether they have this client identifier
 pub record Answers : Type 0 where

@@ -1,5 +1,5 @@
 //! Copies of a publication (MQTT 5.0, 3.3.4, 3.8.4).
-ghost use Rattle.std.specs.Prelude.{◌≡◌, OnOk};
+ghost use Rattle.std.specs.Prelude.{◌≡◌, IfErr, OnOk};
 ghost use Rattle.mqtt_routes.specs.Intended.{add_to, empty_copy};
 
 use crate::fault::RoutesFault;
@@ -44,7 +44,8 @@ impl RoutedCopy {
         publication: &Publication<'_>,
         subscription: &Subscription,
     ) -> Result<(), RoutesFault>
-        ensures { OnOk result (self.new ≡ add_to publication.now self.old subscription.now) }
+        ensures ok { OnOk result (self.new ≡ add_to publication.now self.old subscription.now) }
+        ensures fault { IfErr result (λ fault. fault ≡ RoutesFault.Memory) }
     {
         self.qos = self.qos.max(publication.granted(subscription));
         self.retain = self.retain || (publication.retain && subscription.retain_as_published);

@@ -1,5 +1,5 @@
 //! Members of groups of shared subscriptions, in the order in which they joined (MQTT 5.0, 4.8.2).
-ghost use Rattle.std.specs.Prelude.{◌≡◌, OnOk};
+ghost use Rattle.std.specs.Prelude.{◌≡◌, IfErr, OnOk};
 ghost use Rattle.mqtt_routes.specs.Intended.{insert_member, insertion_spot};
 
 use crate::fault::RoutesFault;
@@ -39,7 +39,8 @@ pub(crate) fn insert_member<'a>(
     members: &mut Vec<Member<'a>>,
     member: Member<'a>,
 ) -> Result<(), RoutesFault>
-    ensures { OnOk result (members.new.items ≡ insert_member member.entry members.old.items) }
+    ensures ok { OnOk result (members.new.items ≡ insert_member member.entry members.old.items) }
+    ensures fault { IfErr result (λ fault. fault ≡ RoutesFault.Memory) }
 {
     let row = member.row;
     let i = insertion_spot(members, row.subscription.place);

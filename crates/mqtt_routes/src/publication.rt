@@ -8,6 +8,7 @@ use mqtt_topic::TopicName;
 use std::marker::Model;
 
 /// A publication, as far as it decides who gets it.
+#[derive(Drop)]
 pub(crate) struct Publication<'a> {
     pub(crate) sender: &'a str,
     pub(crate) topic: &'a TopicName,

@@ -122,7 +122,8 @@ fn shared_copy(
     publication: &Publication<'_>,
     member: &Member<'_>,
 ) -> Result<RoutedCopy, RoutesFault>
-    ensures { IfOk result (λ copy. copy ≡ shared_copy publication.now member.now) }
+    ensures copy { IfOk result (λ copy. copy ≡ shared_copy publication.now member.now) }
+    ensures fault { IfErr result (λ fault. fault ≡ RoutesFault.Memory) }
 {
     let mut copy = RoutedCopy::new(alloc, member.birth);
     let row = member.row;
@@ -205,4 +206,98 @@ fn group_needs_room(publication: &Publication<'_>, filter: &str, members: &[Memb
         }
     }
     false
+}
+
+/// Where a member of a group stands that lacks nothing: the next after the one chosen last, or
+/// else the first.
+fn candidate<S: Sessions>(
+    at: &S,
+    publication: &Publication<'_>,
+    direct: &[RoutedCopy],
+    served: &[Served],
+    filter: &str,
+    members: &[Member<'_>],
+    turn: u64,
+) -> Option<usize>
+    ensures some { IfSome result (IsCandidateAt (S.answers at.now) publication.now direct.now
+        served.now filter.now members.now) }
+    ensures none { IfNone result (eligible_of (S.answers at.now) publication.now direct.now
+        served.now filter.now members.now ≡ []) }
+{
+    match next_candidate(at, publication, direct, served, filter, members, turn) {
+        Some(i) => Some(i),
+        None => first_candidate(at, publication, direct, served, filter, members),
+    }
+}
+
+/// Serves one group, named by its filter.
+fn serve_one<S: Sessions>(
+    alloc: Global,
+    at: &S,
+    publication: &Publication<'_>,
+    direct: &[RoutedCopy],
+    served: &[Served],
+    members: &[Member<'_>],
+    filter: &str,
+    turn: u64,
+) -> Result<Served, RoutesFault>
+    ensures served { IfOk result (IsServed (S.answers at.now) publication.now direct.now served.now
+        filter.now members.now) }
+    ensures refused { IfErr result (RefusesOne (S.answers at.now) publication.now direct.now
+        served.now filter.now members.now) }
+{
+    let group = String::from_str(alloc, group_of(filter))?;
+    let Some(i) = candidate(at, publication, direct, served, filter, members, turn) else {
+        if group_needs_room(publication, filter, members) {
+            return Err(RoutesFault::Full);
+        }
+        return Ok(Served {
+            group,
+            copy: None,
+            turn: 0,
+        });
+    };
+    let member = &members[i];
+    let copy = shared_copy(alloc, publication, member)?;
+    let row = member.row;
+    let turn = row.subscription.place;
+    Ok(Served {
+        group,
+        copy: Some(copy),
+        turn,
+    })
+}
+
+/// Serves the groups in the order of their oldest members.
+pub(crate) fn serve<S: Sessions>(
+    alloc: Global,
+    at: &S,
+    publication: &Publication<'_>,
+    direct: &[RoutedCopy],
+    members: &[Member<'_>],
+) -> Result<Vec<Served>, RoutesFault>
+    ensures served { IfOk result (λ served. IsServing (S.answers at.now) publication.now
+        members.now direct.now served.items) }
+    ensures refused { IfErr result (RefusesServing (S.answers at.now) publication.now members.now
+        direct.now) }
+{
+    let mut served = Vec::new(alloc);
+    for (i, member) in members.iter().enumerate() {
+        let row = member.row;
+        let filter = row.subscription.filter.as_str();
+        if !has_filter_among(&members[..i], filter) {
+            let one = serve_one(
+                alloc,
+                at,
+                publication,
+                direct,
+                served.as_slice(),
+                members,
+                filter,
+                row.turn,
+            )?;
+            served.push(one)?;
+        }
+    }
+    Ok(served)
 }

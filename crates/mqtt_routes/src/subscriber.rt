@@ -116,8 +116,9 @@ impl Subscriptions {
         at: &S,
         birth: u64,
     ) -> Result<Option<RoutedCopy>, RoutesFault>
-        ensures { IfOk result (λ copy. option_to_list copy
+        ensures copy { IfOk result (λ copy. option_to_list copy
             ≡ copies_for publication.now birth (hits_of (S.answers at.now) publication.now birth self.now)) }
+        ensures fault { IfErr result (λ fault. fault ≡ RoutesFault.Memory) }
     {
         let mut copy = RoutedCopy::new(alloc, birth);
         let mut is_for = false;
@@ -138,8 +139,9 @@ impl Subscriptions {
         birth: u64,
         members: &mut Vec<Member<'a>>,
     ) -> Result<(), RoutesFault>
-        ensures { OnOk result (members.new.items
+        ensures ok { OnOk result (members.new.items
             ≡ members_with publication.now birth self.now members.old.items) }
+        ensures fault { IfErr result (λ fault. fault ≡ RoutesFault.Memory) }
     {
         for row in &self.rows {
             let subscription = &row.subscription;

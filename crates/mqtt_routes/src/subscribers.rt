@@ -129,8 +129,9 @@ impl Subscribers {
         publication: &Publication<'_>,
         at: &S,
     ) -> Result<Vec<RoutedCopy>, RoutesFault>
-        ensures { IfOk result (λ copies. copies.items
+        ensures copies { IfOk result (λ copies. copies.items
             ≡ directs (S.answers at.now) publication.now self.now) }
+        ensures fault { IfErr result (λ fault. fault ≡ RoutesFault.Memory) }
     {
         let mut copies = Vec::new(self.alloc);
         for session in &self.sessions {
@@ -148,7 +149,8 @@ impl Subscribers {
         &'a self,
         publication: &Publication<'_>,
     ) -> Result<Vec<Member<'a>>, RoutesFault>
-        ensures { IfOk result (λ found. found.items ≡ members publication.now self.now) }
+        ensures members { IfOk result (λ found. found.items ≡ members publication.now self.now) }
+        ensures fault { IfErr result (λ fault. fault ≡ RoutesFault.Memory) }
     {
         let mut found = Vec::new(self.alloc);
         for session in &self.sessions {

@@ -1,0 +1,106 @@
+//! The table of subscriptions, and where a publication goes (MQTT 5.0, 3.3.4, 3.8, 3.10, 4.8).
+ghost use Rattle.std.specs.Prelude.{◌≡◌, [], IfErr, IfOk, OnErr, OnOk};
+ghost use Rattle.mqtt_routes.specs.Intended.{published};
+ghost use Rattle.mqtt_routes.specs.Subscriptions.{has_filter, subs_of, subscribed, unsubscribed, without_session, RefusesPut};
+ghost use Rattle.mqtt_routes.specs.Acceptance.{IsRouting, RefusesRoute};
+
+use crate::answers::Sessions;
+use crate::fault::RoutesFault;
+use crate::publication::Publication;
+use crate::routed::Routed;
+use crate::serve::{has_room, serve};
+use crate::subscribers::Subscribers;
+use crate::subscription::Subscription;
+use mqtt_topic::TopicName;
+use std::alloc::Global;
+use std::marker::Model;
+
+/// The subscriptions of all sessions.
+#[derive(Drop)]
+pub struct Routes {
+    alloc: Global,
+    subscribers: Subscribers,
+}
+
+impl Model for Routes {
+    ghost use Rattle.std.specs.Prelude.{List};
+    ghost use Rattle.mqtt_routes.specs.Subscriptions.{Subscriber};
+
+    ghost Value = { List Subscriber };
+
+    ghost view = { λ r. r.subscribers };
+}
+
+impl Routes {
+    /// A table without subscriptions.
+    pub fn new(alloc: Global) -> Routes
+        ensures { result ≡ [] }
+    {
+        Routes {
+            alloc,
+            subscribers: Subscribers::new(alloc),
+        }
+    }
+
+    /// Puts a subscription of a session: one to the same filter is replaced and keeps its place
+    /// (3.8.4). 1 (Full) where `SUBSCRIPTION_LIMIT` stand and this one is new.
+    pub fn subscribe(&mut self, birth: u64, subscription: Subscription) -> Result<(), RoutesFault>
+        ensures ok { OnOk result (self.new ≡ subscribed birth subscription self.old) }
+        ensures err { OnErr result (self.new ≡ self.old) }
+        ensures refused { IfErr result (RefusesPut subscription (subs_of birth self.old)) }
+    {
+        self.subscribers.subscribe(birth, subscription)
+    }
+
+    /// Removes the subscription of a session to a filter, and says whether there was one (3.10.4).
+    /// Takes no memory.
+    pub fn unsubscribe(&mut self, birth: u64, filter: &str) -> bool
+        ensures found { result ≡ has_filter filter.now (subs_of birth self.old) }
+        ensures after { self.new ≡ unsubscribed birth filter.now self.old }
+    {
+        self.subscribers.unsubscribe(birth, filter)
+    }
+
+    /// Removes the subscriptions of a session that ended. Takes no memory.
+    pub fn drop_session(&mut self, birth: u64)
+        ensures { self.new ≡ without_session birth self.old }
+    {
+        self.subscribers.drop_session(birth);
+    }
+
+    /// Where a publication of a client goes (3.3.4, 4.8.2). 1 (Full) where a queue that it needs
+    /// has no room.
+    pub fn route<S: Sessions>(
+        &self,
+        sender: &str,
+        topic: &TopicName,
+        qos: u8,
+        retain: bool,
+        at: &S,
+    ) -> Result<Routed, RoutesFault>
+        ensures routed { IfOk result (IsRouting (S.answers at.now)
+            (published sender.now topic.now qos retain) self.now) }
+        ensures refused { IfErr result (RefusesRoute (S.answers at.now)
+            (published sender.now topic.now qos retain) self.now) }
+    {
+        let publication = Publication {
+            sender,
+            topic,
+            qos,
+            retain,
+        };
+        let direct = self.subscribers.directs(&publication, at)?;
+        if !has_room(at, direct.as_slice()) {
+            return Err(RoutesFault::Full);
+        }
+        let members = self.subscribers.members(&publication)?;
+        let served = serve(
+            self.alloc,
+            at,
+            &publication,
+            direct.as_slice(),
+            members.as_slice(),
+        )?;
+        Ok(Routed { direct, served })
+    }
+}
