@@ -103,4 +103,16 @@ impl Routes {
         )?;
         Ok(Routed { direct, served })
     }
+
+    /// Notes the members that a publication chose, so that each group's next one comes after it in
+    /// the order joined (ours). Call it once the publication is accepted. Takes no memory.
+    pub fn chose(&mut self, routed: &Routed)
+        ensures { self.new ≡ self.old }
+    {
+        for served in &routed.served {
+            if served.copy().is_some() {
+                self.subscribers.note_turn(served.group(), served.turn);
+            }
+        }
+    }
 }

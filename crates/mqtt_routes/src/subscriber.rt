@@ -29,6 +29,17 @@ impl Model for Row {
     ghost view = { λ row. row.subscription };
 }
 
+impl Row {
+    /// Notes which member its group chose last. Takes no memory.
+    fn note_turn(&mut self, group: &str, turn: u64)
+        ensures { self.new ≡ self.old }
+    {
+        if self.subscription.filter.group() == Some(group) {
+            self.turn = turn;
+        }
+    }
+}
+
 /// The subscriptions of a session, in the order subscribed.
 #[derive(Drop)]
 pub(crate) struct Subscriptions {
@@ -150,5 +161,14 @@ impl Subscriptions {
             }
         }
         Ok(())
+    }
+
+    /// Notes which member a group chose last. Takes no memory.
+    pub(crate) fn note_turn(&mut self, group: &str, turn: u64)
+        ensures { self.new ≡ self.old }
+    {
+        for row in self.rows.iter_mut() {
+            row.note_turn(group, turn);
+        }
     }
 }

@@ -28,6 +28,15 @@ impl Model for Session {
     ghost view = { λ s. record { birth = s.birth; subs = s.subscriptions } };
 }
 
+impl Session {
+    /// Notes which member a group chose last. Takes no memory.
+    fn note_turn(&mut self, group: &str, turn: u64)
+        ensures { self.new ≡ self.old }
+    {
+        self.subscriptions.note_turn(group, turn);
+    }
+}
+
 /// All sessions that have subscribed, in the order of births.
 #[derive(Drop)]
 pub(crate) struct Subscribers {
@@ -158,5 +167,14 @@ impl Subscribers {
             subscriptions.add_members(publication, session.birth, &mut found)?;
         }
         Ok(found)
+    }
+
+    /// Notes which member a group chose last. Takes no memory.
+    pub(crate) fn note_turn(&mut self, group: &str, turn: u64)
+        ensures { self.new ≡ self.old }
+    {
+        for session in self.sessions.iter_mut() {
+            session.note_turn(group, turn);
+        }
     }
 }
