@@ -4,7 +4,7 @@ use Rattle.mqtt_routes.specs.declared.subscription.Subscription.{Subscription}
 use Rattle.mqtt_routes.specs.Subscriptions.{Subscriber, put, without, with_subs}
 use Rattle.mqtt_routes.specs.Intended.{Publication, Answers, Copy}
 use Rattle.mqtt_routes.specs.Acceptance.{Served, Routed, routed}
-use Rattle.mqtt_routes.specs.Retained.{Kept, keep, forget, kept_for}
+use Rattle.mqtt_routes.specs.Retained.{keep}
 
 abbrev sub : List ℕ → ℕ → ℕ → Option ℕ → Subscription
 sub text place qos identifier = record { filter = text; place = place; qos = qos; no_local = false; retain_as_published = false; identifier = identifier }

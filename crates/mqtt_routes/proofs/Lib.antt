@@ -3,4 +3,5 @@ pub mod SpotLemmas
 pub mod CopyLemmas
 pub mod MemberLemmas
 pub mod ServeLemmas
+pub mod KeptLemmas
 mod Examples

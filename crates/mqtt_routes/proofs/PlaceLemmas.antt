@@ -11,11 +11,11 @@ use Rattle.mqtt_routes.specs.Subscriptions.{is_to, has_filter, place_in, put, wi
 ltb-suc : (p n : ℕ) → ltb (suc p) (suc n) ≡ ltb p n
 ltb-suc p n = grind (arith, nat_tests)
 
-has_by : (b : Bool) (p n : ℕ) (h : Bool) → ltb p n ≡ h → ltb (cond b 0 (suc p)) (suc n) ≡ (b || h)
+pub has_by : (b : Bool) (p n : ℕ) (h : Bool) → ltb p n ≡ h → ltb (cond b 0 (suc p)) (suc n) ≡ (b || h)
 has_by true p n h e = grind (arith, nat_tests)
 has_by false p n h e = ltb-suc p n ∙ e
 
-not_below : (p n : ℕ) → n ≤ p → nat_lt p n ≡ false
+pub not_below : (p n : ℕ) → n ≤ p → nat_lt p n ≡ false
 not_below p n l = grind (arith, nat_tests)
 
 -- there is a subscription to a filter where its place is below the count

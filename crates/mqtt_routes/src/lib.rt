@@ -6,16 +6,20 @@ mod copy;
 mod fault;
 mod member;
 mod publication;
+mod retained;
 mod routed;
 mod routes;
 mod serve;
 mod subscriber;
 mod subscribers;
 mod subscription;
+#[cfg(test)]
+mod tests;
 
 pub use answers::Sessions;
 pub use copy::RoutedCopy;
 pub use fault::RoutesFault;
+pub use retained::{Kept, RETAINED_LIMIT};
 pub use routed::{Routed, Served};
 pub use routes::Routes;
 pub use subscription::{SUBSCRIPTION_LIMIT, Subscription};
