@@ -1,0 +1,73 @@
+-- Lemmas on copies of a publication (MQTT 5.0, 3.3.4).
+use Rattle.std.proofs.Common.{◌≡◌, ℕ, max, Bool, true, false, cond, not, ◌&&◌, ◌||◌, List, [], ◌∷◌, ◌++◌, map, refl, sym, ap, ◌∙◌, arith, append_assoc, append-nil, Option, Some, None}
+use Rattle.std.specs.List.{list_any, filter_map, cons_option}
+use Rattle.std.specs.Option.{option_to_list}
+use Rattle.mqtt_routes.specs.declared.subscription.Subscription.{Subscription}
+use Rattle.mqtt_routes.specs.Intended.{Publication, Copy, granted, greatest, copy_for, copies_for, add_to, empty_copy, is_none}
+
+max_one : (a b c : ℕ) → max a (max b c) ≡ max (max a b) c
+max_one a b c = omega arith
+
+max_none : (n : ℕ) → max 0 n ≡ n
+max_none n = omega arith
+
+max_last : (n : ℕ) → max n 0 ≡ n
+max_last n = omega arith
+
+-- a copy that serves further subscriptions
+abbrev pub with_all : Publication → Copy → List Subscription → Copy
+with_all p c subs = record {
+  birth = c.birth;
+  qos = max c.qos (greatest (map (granted p) subs));
+  retain = c.retain || (p.retain && list_any (λ s. s.retain_as_published) subs);
+  identifiers = c.identifiers ++ filter_map (λ s. s.identifier) subs;
+}
+
+retain_one : (a r b c : Bool) → (a || (r && (b || c))) ≡ ((a || (r && b)) || (r && c))
+retain_one true r b c = refl
+retain_one false true b c = refl
+retain_one false false b c = refl
+
+cons_is : (o : Option ℕ) (xs : List ℕ) → cons_option o xs ≡ option_to_list o ++ xs
+cons_is None xs = refl
+cons_is (Some x) xs = refl
+
+or_and_false : (a r : Bool) → (a || (r && false)) ≡ a
+or_and_false true r = refl
+or_and_false false true = refl
+or_and_false false false = refl
+
+same_copy : (birth : ℕ) (q1 q2 : ℕ) (r1 r2 : Bool) (d1 d2 : List ℕ) → q1 ≡ q2 → r1 ≡ r2 → d1 ≡ d2
+    → (let x : Copy = record { birth = birth; qos = q1; retain = r1; identifiers = d1 } in x) ≡ record { birth = birth; qos = q2; retain = r2; identifiers = d2 }
+same_copy birth q1 q2 r1 r2 d1 d2 q r d = λ i. record { birth = birth; qos = q i; retain = r i; identifiers = d i }
+
+pub with_all-cons : (p : Publication) (c : Copy) (s : Subscription) (ss : List Subscription) → with_all p c (s ∷ ss) ≡ with_all p (add_to p c s) ss
+with_all-cons p c s ss =
+    same_copy c.birth _ _ _ _ _ _
+    (max_one c.qos (granted p s) (greatest (map (granted p) ss)))
+    (retain_one c.retain p.retain s.retain_as_published (list_any (λ (x : Subscription). x.retain_as_published) ss))
+    (ap (λ xs. c.identifiers ++ xs) (cons_is s.identifier (filter_map (λ (x : Subscription). x.identifier) ss)) ∙ sym (append_assoc c.identifiers (option_to_list s.identifier) (filter_map (λ (x : Subscription). x.identifier) ss)))
+
+pub with_all-empty : (p : Publication) (birth : ℕ) (subs : List Subscription) → with_all p (empty_copy birth) subs ≡ copy_for p birth subs
+with_all-empty p birth subs = same_copy birth _ _ _ _ _ _ (max_none (greatest (map (granted p) subs))) refl refl
+
+pub with_all-nil : (p : Publication) (c : Copy) → with_all p c [] ≡ c
+with_all-nil p c = same_copy c.birth _ _ _ _ _ _ (max_last c.qos) (or_and_false c.retain p.retain) (append-nil c.identifiers)
+
+-- one more subscription, if it is a hit
+pub hit_step : (b : Bool) (p : Publication) (c : Copy) (s : Subscription) (ss : List Subscription) → with_all p c (cond b (s ∷ ss) ss) ≡ with_all p (cond b (add_to p c s) c) ss
+hit_step true p c s ss = with_all-cons p c s ss
+hit_step false p c s ss = refl
+
+-- the copy of a session that has one
+pub copies_for-found : (p : Publication) (birth : ℕ) (subs : List Subscription) → not (is_none subs) ≡ true → copies_for p birth subs ≡ copy_for p birth subs ∷ []
+copies_for-found p birth [] e = cc
+copies_for-found p birth (s ∷ ss) e = refl
+
+pub copies_for-none : (p : Publication) (birth : ℕ) (subs : List Subscription) → not (is_none subs) ≡ false → copies_for p birth subs ≡ []
+copies_for-none p birth [] e = refl
+copies_for-none p birth (s ∷ ss) e = cc
+
+-- a copy that serves one subscription
+pub add_to-empty : (p : Publication) (birth : ℕ) (s : Subscription) → add_to p (empty_copy birth) s ≡ copy_for p birth (s ∷ [])
+add_to-empty p birth s = sym (with_all-nil p (add_to p (empty_copy birth) s)) ∙ sym (with_all-cons p (empty_copy birth) s []) ∙ with_all-empty p birth (s ∷ [])

@@ -1,0 +1,7 @@
+pub mod PlaceLemmas
+pub mod SpotLemmas
+pub mod CopyLemmas
+pub mod MemberLemmas
+pub mod ServeLemmas
+pub mod KeptLemmas
+mod Examples

@@ -1,0 +1,4 @@
+pub mod Subscriptions
+pub mod Intended
+pub mod Acceptance
+pub mod Retained

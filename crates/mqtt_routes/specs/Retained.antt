@@ -1,0 +1,55 @@
+-- Retained messages (MQTT 5.0, 3.3.1.3).
+use Rattle.std.specs.Prelude.{◌≡◌, ℕ, suc, ◌<◌, Bool, true, false, cond, List, [], ◌∷◌, length, filter, bytes_eq, Option, Some, None}
+use Rattle.std.specs.List.{list_any}
+use Rattle.mqtt_topic.specs.Matching.{is_match}
+use Rattle.mqtt_routes.specs.declared.fault.RoutesFault.{RoutesFault}
+use Rattle.mqtt_routes.specs.declared.fault.RoutesFault.TheVariants.{Full, Memory}
+use Rattle.mqtt_routes.specs.declared.retained.TheConstants.{RETAINED_LIMIT}
+use Rattle.mqtt_routes.specs.declared.retained.Kept.{Kept}
+use Rattle.mqtt_routes.specs.Subscriptions.{Subscriber}
+
+-- the message is of this topic
+abbrev pub is_of : {M : Type 0} → List ℕ → Kept M → Bool
+is_of topic k = bytes_eq k.topic topic
+
+abbrev pub has_topic : {M : Type 0} → List ℕ → List (Kept M) → Bool
+has_topic topic ks = list_any (is_of topic) ks
+
+-- where a topic stands, or how many there are
+abbrev pub topic_place : {M : Type 0} → List ℕ → List (Kept M) → ℕ
+topic_place topic [] = 0
+topic_place topic (k ∷ ks) = cond (is_of topic k) 0 (suc (topic_place topic ks))
+
+-- a message replaces its topic's, or comes last: topics stand in the order in which they were first retained
+abbrev pub keep : {M : Type 0} → List ℕ → M → List (Kept M) → List (Kept M)
+keep topic message [] = record { topic = topic; message = message } ∷ []
+keep topic message (k ∷ ks) = cond (is_of topic k) (record { topic = k.topic; message = message } ∷ ks) (k ∷ keep topic message ks)
+
+-- a topic without a message
+abbrev pub forget : {M : Type 0} → List ℕ → List (Kept M) → List (Kept M)
+forget topic [] = []
+forget topic (k ∷ ks) = cond (is_of topic k) ks (k ∷ forget topic ks)
+
+-- why a message isn't kept: only one of a new topic is refused
+abbrev pub RefusesKeep : {M : Type 0} → List ℕ → List (Kept M) → RoutesFault → Type 0
+RefusesKeep topic ks Full = (has_topic topic ks ≡ false) × (length ks ≡ RETAINED_LIMIT)
+RefusesKeep topic ks Memory = (has_topic topic ks ≡ false) × (length ks < RETAINED_LIMIT)
+
+-- those that a filter matches, in order
+abbrev pub kept_for : {M : Type 0} → List ℕ → List (Kept M) → List (Kept M)
+kept_for text ks = filter (λ k. is_match text k.topic) ks
+
+-- ---- the whole table
+
+pub record Table (M : Type 0) : Type 0 where
+  pub sessions : List Subscriber
+  pub retained : List (Kept M)
+
+-- RETAIN 1: a message replaces its topic's, an empty one removes it
+abbrev pub retain : {M : Type 0} → List ℕ → Option M → List (Kept M) → List (Kept M)
+retain topic None ks = forget topic ks
+retain topic (Some message) ks = keep topic message ks
+
+abbrev pub RefusesRetain : {M : Type 0} → List ℕ → Option M → List (Kept M) → RoutesFault → Type 0
+RefusesRetain topic None ks fault = ⊥
+RefusesRetain topic (Some message) ks fault = RefusesKeep topic ks fault

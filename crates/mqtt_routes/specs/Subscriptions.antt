@@ -1,0 +1,84 @@
+-- The subscriptions of sessions (MQTT 5.0, 3.8).
+use Rattle.std.specs.Prelude.{◌≡◌, ℕ, zero, suc, ◌<◌, Bool, true, false, cond, not, List, [], ◌∷◌, length, filter, find, nat_eq, nat_lt, bytes_eq, Option, Some, None}
+use Rattle.std.specs.List.{list_any}
+use Rattle.mqtt_routes.specs.declared.fault.RoutesFault.{RoutesFault}
+use Rattle.mqtt_routes.specs.declared.fault.RoutesFault.TheVariants.{Full, Memory}
+use Rattle.mqtt_routes.specs.declared.subscription.TheConstants.{SUBSCRIPTION_LIMIT}
+use Rattle.mqtt_routes.specs.declared.subscription.Subscription.{Subscription}
+
+-- a session with its subscriptions, in the order subscribed
+pub record Subscriber : Type 0 where
+  pub birth : ℕ
+  pub subs : List Subscription
+
+-- the subscription is to this filter
+abbrev pub is_to : List ℕ → Subscription → Bool
+is_to text s = bytes_eq s.filter text
+
+-- a session has a subscription to this filter
+abbrev pub has_filter : List ℕ → List Subscription → Bool
+has_filter text subs = list_any (is_to text) subs
+
+-- a subscription replaces the one to the same filter and takes its place, or comes last (3.8.4)
+abbrev pub put : Subscription → List Subscription → List Subscription
+put new [] = new ∷ []
+put new (s ∷ ss) = cond (is_to new.filter s) (record new { place = s.place } ∷ ss) (s ∷ put new ss)
+
+-- no subscription to this filter (3.10.4)
+abbrev pub without : List ℕ → List Subscription → List Subscription
+without text [] = []
+without text (s ∷ ss) = cond (is_to text s) ss (s ∷ without text ss)
+
+-- where the subscription to a filter stands, or how many there are
+abbrev pub place_in : List ℕ → List Subscription → ℕ
+place_in text [] = 0
+place_in text (s ∷ ss) = cond (is_to text s) 0 (suc (place_in text ss))
+
+-- why a subscription isn't put: only a new one is refused
+abbrev pub RefusesPut : Subscription → List Subscription → RoutesFault → Type 0
+RefusesPut new subs Full = (has_filter new.filter subs ≡ false) × (length subs ≡ SUBSCRIPTION_LIMIT)
+RefusesPut new subs Memory = (has_filter new.filter subs ≡ false) × (length subs < SUBSCRIPTION_LIMIT)
+
+-- ---- sessions, in the order of their births
+
+-- where a session of this birth stands, or would stand
+abbrev pub spot_of : ℕ → List Subscriber → ℕ
+spot_of birth [] = 0
+spot_of birth (x ∷ xs) = cond (nat_lt x.birth birth) (suc (spot_of birth xs)) 0
+
+-- whether a session of this birth stands at a place
+abbrev pub is_at : ℕ → ℕ → List Subscriber → Bool
+is_at birth i [] = false
+is_at birth zero (x ∷ xs) = nat_eq x.birth birth
+is_at birth (suc i) (x ∷ xs) = is_at birth i xs
+
+-- the subscriptions of a session
+abbrev pub subs_of : ℕ → List Subscriber → List Subscription
+subs_of birth [] = []
+subs_of birth (x ∷ xs) = cond (nat_lt x.birth birth) (subs_of birth xs) (cond (nat_eq x.birth birth) x.subs [])
+
+-- a session's subscriptions are these
+abbrev pub with_subs : ℕ → List Subscription → List Subscriber → List Subscriber
+with_subs birth subs [] = record { birth = birth; subs = subs } ∷ []
+with_subs birth subs (x ∷ xs) =
+    cond (nat_lt x.birth birth)
+    (x ∷ with_subs birth subs xs)
+    (cond (nat_eq x.birth birth) (record { birth = birth; subs = subs } ∷ xs) (record { birth = birth; subs = subs } ∷ x ∷ xs))
+
+-- a session gets a subscription (3.8.4)
+abbrev pub subscribed : ℕ → Subscription → List Subscriber → List Subscriber
+subscribed birth new xs = with_subs birth (put new (subs_of birth xs)) xs
+
+-- a session loses the subscription to a filter, if it has one (3.10.4)
+abbrev pub unsubscribed : ℕ → List ℕ → List Subscriber → List Subscriber
+unsubscribed birth text [] = []
+unsubscribed birth text (x ∷ xs) =
+    cond (nat_lt x.birth birth)
+    (x ∷ unsubscribed birth text xs)
+    (cond (nat_eq x.birth birth) (record { birth = birth; subs = without text x.subs } ∷ xs) (x ∷ xs))
+
+-- a session that ended has none (3.1.2.11.2)
+abbrev pub without_session : ℕ → List Subscriber → List Subscriber
+without_session birth [] = []
+without_session birth (x ∷ xs) =
+    cond (nat_lt x.birth birth) (x ∷ without_session birth xs) (cond (nat_eq x.birth birth) xs (x ∷ xs))

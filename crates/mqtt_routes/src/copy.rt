@@ -1,0 +1,85 @@
+//! Copies of a publication (MQTT 5.0, 3.3.4, 3.8.4).
+ghost use Rattle.std.specs.Prelude.{◌≡◌, IfErr, OnOk};
+ghost use Rattle.mqtt_routes.specs.Intended.{add_to, empty_copy};
+
+use crate::fault::RoutesFault;
+use crate::publication::Publication;
+use crate::subscription::Subscription;
+use std::alloc::Global;
+use std::marker::Model;
+
+/// A copy of a publication for one session.
+#[derive(Debug, Drop)]
+pub struct RoutedCopy {
+    birth: u64,
+    qos: u8,
+    retain: bool,
+    identifiers: Vec<u32>,
+}
+
+impl Model for RoutedCopy {
+    ghost use Rattle.mqtt_routes.specs.Intended.{Copy};
+
+    ghost Value = { Copy };
+
+    ghost view = { λ c. record { birth = c.birth; qos = c.qos; retain = c.retain; identifiers = c.identifiers.items } };
+}
+
+impl RoutedCopy {
+    /// A copy for no subscription yet.
+    pub(crate) fn new(alloc: Global, birth: u64) -> RoutedCopy
+        ensures { result ≡ empty_copy birth }
+    {
+        RoutedCopy {
+            birth,
+            qos: 0,
+            retain: false,
+            identifiers: Vec::new(alloc),
+        }
+    }
+
+    /// Makes the copy serve one more subscription of the session.
+    pub(crate) fn add(
+        &mut self,
+        publication: &Publication<'_>,
+        subscription: &Subscription,
+    ) -> Result<(), RoutesFault>
+        ensures ok { OnOk result (self.new ≡ add_to publication.now self.old subscription.now) }
+        ensures fault { IfErr result (λ fault. fault ≡ RoutesFault.Memory) }
+    {
+        self.qos = self.qos.max(publication.granted(subscription));
+        self.retain = self.retain || (publication.retain && subscription.retain_as_published);
+        if let Some(identifier) = subscription.identifier {
+            self.identifiers.push(identifier)?;
+        }
+        Ok(())
+    }
+
+    /// The session's birth. Takes no memory.
+    pub fn birth(&self) -> u64
+        ensures { result ≡ self.now.birth }
+    {
+        self.birth
+    }
+
+    /// The granted QoS, from 0 to 2. Takes no memory.
+    pub fn qos(&self) -> u8
+        ensures { result ≡ self.now.qos }
+    {
+        self.qos
+    }
+
+    /// RETAIN, as it is sent. Takes no memory.
+    pub fn retain(&self) -> bool
+        ensures { result ≡ self.now.retain }
+    {
+        self.retain
+    }
+
+    /// The Subscription Identifiers, in the order subscribed. Takes no memory.
+    pub fn identifiers(&self) -> &[u32]
+        ensures { result.now ≡ self.now.identifiers }
+    {
+        self.identifiers.as_slice()
+    }
+}

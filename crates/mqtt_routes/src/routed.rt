@@ -1,0 +1,70 @@
+//! Where a publication goes (MQTT 5.0, 3.3.4, 4.8.2).
+ghost use Rattle.std.specs.Prelude.{◌≡◌, option_copied};
+
+use crate::copy::RoutedCopy;
+use std::marker::Model;
+
+/// What becomes of a group of shared subscriptions.
+#[derive(Drop)]
+pub struct Served {
+    pub(crate) group: String,
+    pub(crate) copy: Option<RoutedCopy>,
+    /// The place of the chosen member; 0 where there is none.
+    pub(crate) turn: u64,
+}
+
+impl Model for Served {
+    ghost use Rattle.std.specs.Prelude.{string_bytes};
+    ghost use Rattle.mqtt_routes.specs.Acceptance.{Served};
+
+    ghost Value = { Served };
+
+    ghost view = { λ s. record { group = string_bytes s.group; copy = s.copy } };
+}
+
+impl Served {
+    /// NAME/FILTER. Takes no memory.
+    pub fn group(&self) -> &str
+        ensures { result.now ≡ self.now.group }
+    {
+        self.group.as_str()
+    }
+
+    /// The chosen member's copy, if there was an eligible member. Takes no memory.
+    pub fn copy(&self) -> Option<&RoutedCopy>
+        ensures { option_copied result ≡ self.now.copy }
+    {
+        self.copy.as_ref()
+    }
+}
+
+/// Where a publication goes.
+#[derive(Drop)]
+pub struct Routed {
+    pub(crate) direct: Vec<RoutedCopy>,
+    pub(crate) served: Vec<Served>,
+}
+
+impl Model for Routed {
+    ghost use Rattle.mqtt_routes.specs.Acceptance.{Routed};
+
+    ghost Value = { Routed };
+
+    ghost view = { λ r. record { direct = r.direct.items; served = r.served.items } };
+}
+
+impl Routed {
+    /// The direct copies, by session birth. Takes no memory.
+    pub fn direct(&self) -> &[RoutedCopy]
+        ensures { result.now ≡ self.now.direct }
+    {
+        self.direct.as_slice()
+    }
+
+    /// The groups that match, by their oldest members. Takes no memory.
+    pub fn served(&self) -> &[Served]
+        ensures { result.now ≡ self.now.served }
+    {
+        self.served.as_slice()
+    }
+}

@@ -1,0 +1,153 @@
+//! The table of subscriptions, and where a publication goes (MQTT 5.0, 3.3.4, 3.8, 3.10, 4.8).
+ghost use Rattle.std.specs.Prelude.{◌≡◌, [], map, IfErr, IfOk, OnErr, OnOk};
+ghost use Rattle.mqtt_routes.specs.Intended.{published};
+ghost use Rattle.mqtt_routes.specs.Subscriptions.{has_filter, subs_of, subscribed, unsubscribed, without_session, RefusesPut};
+ghost use Rattle.mqtt_topic.specs.Filters.{matching_part_of};
+ghost use Rattle.mqtt_routes.specs.Retained.{retain, kept_for, RefusesRetain};
+ghost use Rattle.mqtt_routes.specs.Acceptance.{IsRouting, RefusesRoute};
+
+use crate::answers::Sessions;
+use crate::fault::RoutesFault;
+use crate::publication::Publication;
+use crate::retained::{Kept, Retained};
+use crate::routed::Routed;
+use crate::serve::{has_room, serve};
+use crate::subscribers::Subscribers;
+use crate::subscription::Subscription;
+use mqtt_topic::{SubFilter, TopicName};
+use std::alloc::Global;
+use std::marker::Model;
+
+/// The subscriptions of all sessions, and the retained messages, each of which is an `M`.
+#[derive(Drop)]
+pub struct Routes<M> {
+    alloc: Global,
+    subscribers: Subscribers,
+    retained: Retained<M>,
+}
+
+impl<M> Model for Routes<M> {
+    ghost use Rattle.mqtt_routes.specs.Retained.{Table};
+
+    ghost Value = { Table M };
+
+    ghost view = { λ r. record { sessions = r.subscribers; retained = r.retained } };
+}
+
+impl<M: Drop> Routes<M> {
+    /// A table without subscriptions and messages.
+    pub fn new(alloc: Global) -> Routes<M>
+        ensures sessions { result.sessions ≡ [] }
+        ensures retained { result.retained ≡ [] }
+    {
+        Routes {
+            alloc,
+            subscribers: Subscribers::new(alloc),
+            retained: Retained::new(alloc),
+        }
+    }
+
+    /// Puts a subscription of a session: one to the same filter is replaced and keeps its place
+    /// (3.8.4). 1 (Full) where `SUBSCRIPTION_LIMIT` stand and this one is new.
+    pub fn subscribe(&mut self, birth: u64, subscription: Subscription) -> Result<(), RoutesFault>
+        ensures ok { OnOk result (self.new
+            ≡ record self.old { sessions = subscribed birth subscription self.old.sessions }) }
+        ensures err { OnErr result (self.new ≡ self.old) }
+        ensures refused { IfErr result (RefusesPut subscription (subs_of birth self.old.sessions)) }
+    {
+        self.subscribers.subscribe(birth, subscription)
+    }
+
+    /// Removes the subscription of a session to a filter, and says whether there was one (3.10.4).
+    /// Takes no memory.
+    pub fn unsubscribe(&mut self, birth: u64, filter: &str) -> bool
+        ensures found { result ≡ has_filter filter.now (subs_of birth self.old.sessions) }
+        ensures after { self.new
+            ≡ record self.old { sessions = unsubscribed birth filter.now self.old.sessions } }
+    {
+        self.subscribers.unsubscribe(birth, filter)
+    }
+
+    /// Removes the subscriptions of a session that ended. Takes no memory.
+    pub fn drop_session(&mut self, birth: u64)
+        ensures { self.new
+            ≡ record self.old { sessions = without_session birth self.old.sessions } }
+    {
+        self.subscribers.drop_session(birth);
+    }
+
+    /// Where a publication of a client goes (3.3.4, 4.8.2). 1 (Full) where a queue that it needs
+    /// has no room.
+    pub fn route<S: Sessions>(
+        &self,
+        sender: &str,
+        topic: &TopicName,
+        qos: u8,
+        retain: bool,
+        at: &S,
+    ) -> Result<Routed, RoutesFault>
+        ensures routed { IfOk result (IsRouting (S.answers at.now)
+            (published sender.now topic.now qos retain) self.now.sessions) }
+        ensures refused { IfErr result (RefusesRoute (S.answers at.now)
+            (published sender.now topic.now qos retain) self.now.sessions) }
+    {
+        let publication = Publication {
+            sender,
+            topic,
+            qos,
+            retain,
+        };
+        let direct = self.subscribers.directs(&publication, at)?;
+        if !has_room(at, direct.as_slice()) {
+            return Err(RoutesFault::Full);
+        }
+        let members = self.subscribers.members(&publication)?;
+        let served = serve(
+            self.alloc,
+            at,
+            &publication,
+            direct.as_slice(),
+            members.as_slice(),
+        )?;
+        Ok(Routed { direct, served })
+    }
+
+    /// Notes the members that a publication chose, so that each group's next one comes after it in
+    /// the order joined (ours). Call it once the publication is accepted. Takes no memory.
+    pub fn chose(&mut self, routed: &Routed)
+        ensures { self.new ≡ self.old }
+    {
+        for served in &routed.served {
+            if served.copy().is_some() {
+                self.subscribers.note_turn(served.group(), served.turn);
+            }
+        }
+    }
+
+    /// Retains a message for a topic in place of the one before, or with none removes that one
+    /// (3.3.1.3). 1 (Full) where `RETAINED_LIMIT` topics have one and this topic hasn't.
+    pub fn retain(&mut self, topic: TopicName, message: Option<M>) -> Result<(), RoutesFault>
+        ensures ok { OnOk result (self.new
+            ≡ record self.old { retained = retain topic message self.old.retained }) }
+        ensures err { OnErr result (self.new ≡ self.old) }
+        ensures refused { IfErr result (RefusesRetain topic message self.old.retained) }
+    {
+        match message {
+            Some(message) => self.retained.keep(topic, message),
+            None => {
+                self.retained.forget(topic.as_str());
+                Ok(())
+            }
+        }
+    }
+
+    /// The retained messages that a subscription's filter matches, in the order in which their
+    /// topics were first retained (3.3.1.3). Its only fault is 2 (Memory).
+    pub fn retained_for(&self, filter: &SubFilter) -> Result<Vec<&Kept<M>>, RoutesFault>
+        ensures kept { IfOk result (λ found. map (λ k. k.now) found.items
+            ≡ kept_for (matching_part_of filter.now) self.now.retained) }
+        ensures fault { IfErr result (λ fault. fault ≡ RoutesFault.Memory) }
+    {
+        self.retained.kept_for(filter)
+    }
+}

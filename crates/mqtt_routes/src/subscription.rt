@@ -1,0 +1,22 @@
+//! What a client asked for (MQTT 5.0, 3.8.2.1.2, 3.8.3.1).
+use mqtt_topic::SubFilter;
+
+/// How many subscriptions a session has at most (ours).
+pub const SUBSCRIPTION_LIMIT: usize = 100;
+
+/// A subscription of a session (3.8).
+#[derive(Debug, Drop)]
+pub struct Subscription {
+    /// Which topics it is for. A session has each filter once.
+    pub filter: SubFilter,
+    /// The number of the grant that first brought the filter, from 1 in the order of grants.
+    pub place: u64,
+    /// Maximum QoS, from 0 to 2.
+    pub qos: u8,
+    /// No Local: not for the client's own messages.
+    pub no_local: bool,
+    /// Retain As Published: RETAIN is passed on.
+    pub retain_as_published: bool,
+    /// Subscription Identifier, from 1; none where there was none.
+    pub identifier: Option<u32>,
+}

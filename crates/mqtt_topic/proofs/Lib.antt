@@ -1,0 +1,5 @@
+pub mod LevelLemmas
+pub mod FilterLemmas
+pub mod MatchLemmas
+pub mod AliasLemmas
+mod Examples

@@ -1,0 +1,17 @@
+//! Topic names, topic filters, shared filters and topic aliases (MQTT 5.0, 3.3.2.3.4, 4.7, 4.8.2).
+#![tactic(auto)]
+
+mod aliases;
+mod fault;
+mod filter;
+mod levels;
+mod matching;
+mod name;
+#[cfg(test)]
+mod tests;
+
+pub use aliases::Aliases;
+pub use fault::TopicFault;
+pub use filter::{Filter, Shared, SubFilter};
+pub use matching::matches;
+pub use name::TopicName;
