@@ -1,6 +1,8 @@
 //! What session state speaks of: service, subscriptions, copies and their ends (3.8.3.1, 4.1, 4.3).
+ghost use Rattle.std.specs.Prelude.{◌≡◌, IfOk};
 
 use crate::owned::Text;
+use std::alloc::{AllocError, Global};
 
 /// The quality of service of a message or a subscription (4.3).
 #[derive(Clone, Copy, Debug, PartialEq, Eq)]
@@ -107,4 +109,35 @@ pub enum Ending {
     SessionEnded,
     /// It was the oldest that waited in a full queue (ours).
     Dropped,
+}
+
+impl Cause {
+    /// Another of the same value.
+    pub fn copy(&self, alloc: Global) -> Result<Cause, AllocError>
+        ensures { IfOk result (λ cause. cause ≡ self.now) }
+    {
+        match self {
+            Cause::Direct => Ok(Cause::Direct),
+            Cause::Share { group } => {
+                let group = Text::new(alloc, group.as_str())?;
+                Ok(Cause::Share { group })
+            }
+            Cause::Retained { subscribe } => Ok(Cause::Retained {
+                subscribe: *subscribe,
+            }),
+        }
+    }
+}
+
+impl CopyId {
+    /// Another of the same value.
+    pub fn copy(&self, alloc: Global) -> Result<CopyId, AllocError>
+        ensures { IfOk result (λ id. id ≡ self.now) }
+    {
+        Ok(CopyId {
+            publication: self.publication,
+            birth: self.birth,
+            cause: self.cause.copy(alloc)?,
+        })
+    }
 }
