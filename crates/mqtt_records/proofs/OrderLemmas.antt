@@ -221,19 +221,22 @@ module _ {X : Type 0} (key : X → ℕ) where
     ]
   ]
 
-  remove-above_above : (n k : ℕ) (xs : List X) → IsAbove key n xs → IsAbove key n (remove_row key k xs)
-  remove-above_above n k [] up = tt
-  remove-above_above n k (y ∷ ys) up = elim (cases_Bool (nat_eq (key y) k)) [
-    | inl same ↦ rw same (remove-above_above n k ys up.1)
-    | inr other ↦ rw other (up.0, remove-above_above n k ys up.1)
+  filter-above : (n : ℕ) (keep : X → Bool) (xs : List X) → IsAbove key n xs → IsAbove key n (filter keep xs)
+  filter-above n keep [] up = tt
+  filter-above n keep (y ∷ ys) up = elim (cases_Bool (keep y)) [
+    | inl stays ↦ rw stays (up.0, filter-above n keep ys up.1)
+    | inr goes ↦ rw goes (filter-above n keep ys up.1)
+  ]
+
+  pub filter-ascending : (keep : X → Bool) (xs : List X) → IsAscending key xs → IsAscending key (filter keep xs)
+  filter-ascending keep [] up = tt
+  filter-ascending keep (y ∷ ys) up = elim (cases_Bool (keep y)) [
+    | inl stays ↦ rw stays (filter-above (key y) keep ys up.0, filter-ascending keep ys up.1)
+    | inr goes ↦ rw goes (filter-ascending keep ys up.1)
   ]
 
   pub remove-ascending : (k : ℕ) (xs : List X) → IsAscending key xs → IsAscending key (remove_row key k xs)
-  remove-ascending k [] up = tt
-  remove-ascending k (y ∷ ys) up = elim (cases_Bool (nat_eq (key y) k)) [
-    | inl same ↦ rw same (remove-ascending k ys up.1)
-    | inr other ↦ rw other (remove-above_above (key y) k ys up.0, remove-ascending k ys up.1)
-  ]
+  remove-ascending k xs up = filter-ascending (λ x. not (nat_eq (key x) k)) xs up
 
   change-above : (n k : ℕ) (f : X → X) (xs : List X) → ((x : X) → key (f x) ≡ key x) → IsAbove key n xs → IsAbove key n (change_row key k f xs)
   change-above n k f [] kept up = tt

@@ -129,7 +129,7 @@ fn put_in<R: Row>(rows: &mut Vec<R>, limit: usize, row: R)
 /// At most `LIMIT` rows in the order of their keys. All the memory of the list is taken when it is made.
 #[derive(Drop)]
 pub struct Rows<R: Row, const LIMIT: usize> {
-    rows: Vec<R>,
+    pub(crate) rows: Vec<R>,
 }
 
 impl<R: Row, const LIMIT: usize> Model for Rows<R, LIMIT> {

@@ -1,0 +1,217 @@
+//! What is kept of a session: its row, Will, subscriptions, open identifiers and queue (4.1).
+ghost use Rattle.std.specs.Prelude.{◌≡◌, IfOk, filter, not, bytes_eq};
+ghost use Rattle.mqtt_records.specs.Session.{without_filter, put_subscription};
+
+use crate::message::{MessageCopy, Share, Will};
+use crate::rows::{Boxed, Editable, Row, Rows};
+use mqtt_base::{Phase, SubscriptionOptions, Text};
+use std::alloc::{AllocError, Global};
+use std::marker::Model;
+
+/// How many subscriptions a session has at most (ours).
+pub const SUBSCRIPTION_LIMIT: usize = 100;
+/// How many identifiers of QoS 2 publications from the client are open at most: our Receive Maximum (4.9).
+pub const INBOUND_LIMIT: usize = 20;
+/// How many copies a queue has at most (ours).
+pub const QUEUE_LIMIT: usize = 1000;
+
+/// A subscription (3.8).
+#[derive(Drop)]
+pub struct Subscription {
+    /// The topic filter, or `$share/NAME/FILTER` (4.7, 4.8.2). A session has it once.
+    pub filter: Text,
+    /// Its place: the number of the subscribe that first brought the filter, from 1.
+    pub place: u64,
+    /// Its options.
+    pub options: SubscriptionOptions,
+    /// Its Subscription Identifier, from 1.
+    pub identifier: Option<u32>,
+}
+
+impl Row for Subscription {
+    ghost key_of = { λ subscription. subscription.place };
+
+    fn key(&self) -> u64 {
+        self.place
+    }
+}
+
+impl Share for Subscription {
+    fn share(&self, alloc: Global) -> Result<Subscription, AllocError> {
+        Ok(Subscription {
+            filter: self.filter.share(alloc)?,
+            place: self.place,
+            options: self.options,
+            identifier: self.identifier,
+        })
+    }
+}
+
+/// A copy in a session's queue (4.3, 4.6).
+#[derive(Drop)]
+pub struct Entry {
+    /// Its place in the queue, from 1: copies are sent in this order.
+    pub place: u64,
+    /// How far it has come.
+    pub phase: Phase,
+    /// What is sent.
+    pub copy: MessageCopy,
+}
+
+impl Row for Entry {
+    ghost key_of = { λ entry. entry.place };
+
+    fn key(&self) -> u64 {
+        self.place
+    }
+}
+
+impl Editable for Entry {
+    type Part = Phase;
+
+    ghost edited = { λ phase entry. record entry { phase = phase } };
+
+    fn edit(&mut self, phase: Phase) {
+        self.phase = phase;
+    }
+
+    ghost use Rattle.std.proofs.Common.{refl};
+
+    ghost key_kept = { λ phase entry. refl };
+}
+
+impl Share for Entry {
+    fn share(&self, alloc: Global) -> Result<Entry, AllocError> {
+        Ok(Entry {
+            place: self.place,
+            phase: self.phase,
+            copy: self.copy.share(alloc)?,
+        })
+    }
+}
+
+impl Row for u16 {
+    ghost key_of = { λ identifier. identifier };
+
+    fn key(&self) -> u64 {
+        u64::from(*self)
+    }
+}
+
+/// A session (4.1).
+#[derive(Drop)]
+pub struct Session {
+    /// Its number, from 1 in the order of births.
+    pub birth: u64,
+    /// The client identifier: no two sessions have the same.
+    pub client: Text,
+    /// Session Expiry Interval, in seconds; 0xFFFFFFFF: it doesn't expire (3.1.2.11.2).
+    pub expiry: u32,
+    /// When its connection closed: a moment in milliseconds; none while it is connected.
+    pub closed: Option<u64>,
+    /// The Will that may yet be published.
+    pub will: Option<Will>,
+    /// The subscriptions, by place.
+    pub subscriptions: Rows<Boxed<Subscription>, SUBSCRIPTION_LIMIT>,
+    /// The open identifiers of QoS 2 publications from the client, ascending (4.3.3).
+    pub inbound: Rows<u16, INBOUND_LIMIT>,
+    /// The copies that haven't ended, by place.
+    pub queue: Rows<Boxed<Entry>, QUEUE_LIMIT>,
+}
+
+impl Row for Session {
+    ghost key_of = { λ session. session.birth };
+
+    fn key(&self) -> u64 {
+        self.birth
+    }
+}
+
+/// What a session's own row says, its Will, subscriptions, identifiers and copies left out.
+#[derive(Drop)]
+pub struct Columns {
+    /// Its number, from 1 in the order of births.
+    pub birth: u64,
+    /// The client identifier.
+    pub client: Text,
+    /// Session Expiry Interval, in seconds.
+    pub expiry: u32,
+    /// When its connection closed: a moment in milliseconds; none while it is connected.
+    pub closed: Option<u64>,
+}
+
+/// A change of a part of a session.
+#[derive(Drop)]
+pub enum SessionPart {
+    /// Its own row is this one.
+    SetColumns { row: Columns },
+    /// The Will is this one.
+    PutWill { will: Will },
+    /// There is no Will.
+    RemoveWill,
+    /// A subscription is put by its filter.
+    PutSubscription { subscription: Boxed<Subscription> },
+    /// The subscription to a filter is removed.
+    RemoveSubscription { filter: Text },
+    /// An identifier is opened.
+    PutInbound { identifier: u16 },
+    /// An identifier is closed.
+    RemoveInbound { identifier: u16 },
+    /// A copy is put by its place.
+    PutCopy { entry: Boxed<Entry> },
+    /// The copy at a place comes into a phase.
+    SetCopy { place: u64, phase: Phase },
+    /// The copy at a place is removed.
+    RemoveCopy { place: u64 },
+}
+
+impl Editable for Session {
+    type Part = SessionPart;
+
+    ghost use Rattle.mqtt_records.specs.Session.{part_changed};
+
+    ghost edited = { part_changed };
+
+    fn edit(&mut self, part: SessionPart) {
+        match part {
+            SessionPart::SetColumns { row } => {
+                self.client = row.client;
+                self.expiry = row.expiry;
+                self.closed = row.closed;
+            }
+            SessionPart::PutWill { will } => self.will = Some(will),
+            SessionPart::RemoveWill => self.will = None,
+            SessionPart::PutSubscription { subscription } => {
+                self.subscriptions.put_by_filter(subscription);
+            }
+            SessionPart::RemoveSubscription { filter } => self.subscriptions.remove_filter(&filter),
+            SessionPart::PutInbound { identifier } => self.inbound.put(identifier),
+            SessionPart::RemoveInbound { identifier } => self.inbound.remove(u64::from(identifier)),
+            SessionPart::PutCopy { entry } => self.queue.put(entry),
+            SessionPart::SetCopy { place, phase } => self.queue.edit(place, phase),
+            SessionPart::RemoveCopy { place } => self.queue.remove(place),
+        }
+    }
+
+    ghost use Rattle.mqtt_records.specs.Session.{birth_of-part_changed};
+
+    ghost key_kept = { birth_of-part_changed };
+}
+
+impl Rows<Boxed<Subscription>, SUBSCRIPTION_LIMIT> {
+    /// Removes the subscription to a filter, if there is one. Takes no memory.
+    pub fn remove_filter(&mut self, filter: &Text)
+        ensures { self.new ≡ without_filter filter.now self.old }
+    {
+        self.rows
+            .retain(|row| row.get().filter.as_str() != filter.as_str());
+    }
+
+    /// Puts a subscription in place of one to the same filter. Takes no memory.
+    pub fn put_by_filter(&mut self, subscription: Boxed<Subscription>)
+        ensures { self.new ≡ put_subscription subscription self.old }
+    {
+        self.remove_filter(&subscription.get().filter);
+        self.put(subscription);
+    }
+}
