@@ -40,6 +40,9 @@ fresh row = record {
   queue = [];
 }
 
+abbrev pub columns_of : Session → Columns
+columns_of session = record { birth = session.birth; client = session.client; expiry = session.expiry; closed = session.closed }
+
 abbrev pub with_columns : Columns → Session → Session
 with_columns row session = record session { client = row.client; expiry = row.expiry; closed = row.closed }
 

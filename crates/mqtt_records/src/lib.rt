@@ -1,10 +1,17 @@
 //! What a broker keeps of its sessions and messages, and what any store of it promises (4.1).
 #![tactic(auto)]
 
+mod change;
 mod message;
+mod records;
 mod rows;
 mod session;
 
+pub use change::{Change, Counter};
 pub use message::{Content, MessageCopy, Retained, Share, SubscriptionIdentifiers, Will};
+pub use records::{RETAINED_LIMIT, Records, SESSION_LIMIT};
 pub use rows::{Boxed, Editable, Row, Rows};
-pub use session::{Entry, INBOUND_LIMIT, QUEUE_LIMIT, SUBSCRIPTION_LIMIT, Session, Subscription};
+pub use session::{
+    Columns, Entry, INBOUND_LIMIT, QUEUE_LIMIT, SUBSCRIPTION_LIMIT, Session, SessionPart,
+    SessionRow, Subscription,
+};

@@ -2,6 +2,7 @@
 ghost use Rattle.std.specs.Prelude.{◌≡◌, ◌<◌, ◌≤◌, ℕ, List, [], Option, IfOk, length, option_copied, slice_get, insert, vec_len, vec_capacity};
 ghost use Rattle.mqtt_records.specs.Order.{IsAscending, IsFound, row_at, has_row, put_row, remove_row, change_row, front_len};
 
+use crate::message::Share;
 use std::alloc::{AllocError, Global};
 use std::marker::Model;
 
@@ -55,6 +56,19 @@ impl<R: Drop> Boxed<R> {
         ensures { result.now ≡ self.now }
     {
         &self.row
+    }
+
+    /// Takes the row out of its box. Takes no memory.
+    pub fn into_row(self) -> R
+        ensures { result ≡ self }
+    {
+        Box::into_inner(self.row)
+    }
+}
+
+impl<R: Share> Share for Boxed<R> {
+    fn share(&self, alloc: Global) -> Result<Self, AllocError> {
+        Boxed::new(alloc, self.row.share(alloc)?)
     }
 }
 
@@ -198,6 +212,16 @@ impl<R: Row, const LIMIT: usize> Rows<R, LIMIT> {
         if let Ok(place) = search(&self.rows, key) {
             let _row = self.rows.remove(place);
         }
+    }
+}
+
+impl<R: Row + Share, const LIMIT: usize> Share for Rows<R, LIMIT> {
+    fn share(&self, alloc: Global) -> Result<Self, AllocError> {
+        let mut rows = Vec::with_capacity(alloc, LIMIT)?;
+        for row in &self.rows {
+            rows.push(row.share(alloc)?)?;
+        }
+        Ok(Rows { rows })
     }
 }
 

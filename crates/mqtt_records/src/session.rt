@@ -1,6 +1,6 @@
 //! What is kept of a session: its row, Will, subscriptions, open identifiers and queue (4.1).
 ghost use Rattle.std.specs.Prelude.{◌≡◌, IfOk, filter, not, bytes_eq};
-ghost use Rattle.mqtt_records.specs.Session.{without_filter, put_subscription};
+ghost use Rattle.mqtt_records.specs.Session.{fresh, without_filter, put_subscription};
 
 use crate::message::{MessageCopy, Share, Will};
 use crate::rows::{Boxed, Editable, Row, Rows};
@@ -127,6 +127,25 @@ impl Row for Session {
     }
 }
 
+impl Share for Session {
+    fn share(&self, alloc: Global) -> Result<Session, AllocError> {
+        let will = match &self.will {
+            Some(will) => Some(will.share(alloc)?),
+            None => None,
+        };
+        Ok(Session {
+            birth: self.birth,
+            client: self.client.share(alloc)?,
+            expiry: self.expiry,
+            closed: self.closed,
+            will,
+            subscriptions: self.subscriptions.share(alloc)?,
+            inbound: self.inbound.share(alloc)?,
+            queue: self.queue.share(alloc)?,
+        })
+    }
+}
+
 /// What a session's own row says, its Will, subscriptions, identifiers and copies left out.
 #[derive(Drop)]
 pub struct Columns {
@@ -138,6 +157,84 @@ pub struct Columns {
     pub expiry: u32,
     /// When its connection closed: a moment in milliseconds; none while it is connected.
     pub closed: Option<u64>,
+}
+
+/// A session's own row, with all the memory that a new session takes.
+#[derive(Drop)]
+pub struct SessionRow {
+    session: Boxed<Session>,
+}
+
+impl Model for SessionRow {
+    ghost use Rattle.std.specs.Prelude.{◌≡◌};
+    ghost use Rattle.mqtt_records.specs.declared.session.Columns.{Columns};
+    ghost use Rattle.mqtt_records.specs.Session.{columns_of, fresh};
+
+    ghost Value = { Columns };
+
+    ghost view = { λ a. columns_of a.session };
+
+    ghost invariant = { λ a. a.session ≡ fresh (columns_of a.session) };
+}
+
+impl SessionRow {
+    /// Takes the memory of a new session with these columns.
+    pub fn new(alloc: Global, columns: Columns) -> Result<SessionRow, AllocError>
+        ensures { IfOk result (λ row. row ≡ columns) }
+    {
+        let session = Session {
+            birth: columns.birth,
+            client: columns.client,
+            expiry: columns.expiry,
+            closed: columns.closed,
+            will: None,
+            subscriptions: Rows::new(alloc)?,
+            inbound: Rows::new(alloc)?,
+            queue: Rows::new(alloc)?,
+        };
+        let session = Boxed::new(alloc, session)?;
+        Ok(SessionRow { session })
+    }
+
+    /// The birth. Takes no memory.
+    pub fn birth(&self) -> u64
+        ensures { result ≡ self.now.birth }
+    {
+        self.session.get().birth
+    }
+
+    /// The new session. Takes no memory.
+    pub fn into_session(self) -> Boxed<Session>
+        ensures { result ≡ fresh self }
+    {
+        self.session
+    }
+
+    /// The columns. Takes no memory.
+    pub fn into_columns(self) -> Columns
+        ensures { result ≡ self }
+    {
+        let session = self.session.into_row();
+        Columns {
+            birth: session.birth,
+            client: session.client,
+            expiry: session.expiry,
+            closed: session.closed,
+        }
+    }
+}
+
+impl Share for SessionRow {
+    fn share(&self, alloc: Global) -> Result<SessionRow, AllocError> {
+        let session = self.session.get();
+        let columns = Columns {
+            birth: session.birth,
+            client: session.client.share(alloc)?,
+            expiry: session.expiry,
+            closed: session.closed,
+        };
+        SessionRow::new(alloc, columns)
+    }
 }
 
 /// A change of a part of a session.
