@@ -152,3 +152,14 @@ impl Share for Change {
         })
     }
 }
+
+/// Others of the same values, in order.
+pub fn share_all(alloc: Global, changes: &[Change]) -> Result<Vec<Change>, AllocError>
+    ensures { IfOk result (λ others. others.items ≡ changes.now) }
+{
+    let mut others = Vec::with_capacity(alloc, changes.len())?;
+    for change in changes {
+        others.push(change.share(alloc)?)?;
+    }
+    Ok(others)
+}

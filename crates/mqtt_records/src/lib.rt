@@ -2,12 +2,17 @@
 #![tactic(auto)]
 
 mod change;
+pub mod faulty;
+mod keep;
+mod memory;
 mod message;
 mod records;
 mod rows;
 mod session;
 
-pub use change::{Change, Counter};
+pub use change::{Change, Counter, share_all};
+pub use keep::{Keep, KeepError};
+pub use memory::MemKeep;
 pub use message::{Content, MessageCopy, Retained, Share, SubscriptionIdentifiers, Will};
 pub use records::{RETAINED_LIMIT, Records, SESSION_LIMIT};
 pub use rows::{Boxed, Editable, Row, Rows};
