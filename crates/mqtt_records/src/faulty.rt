@@ -23,7 +23,8 @@ pub enum Failure {
 pub struct FaultyKeep {
     records: Records,
     alloc: Global,
-    until: u64,
+    /// How many calls of `apply` are made before the one that fails; none: no further call fails.
+    until: Option<u64>,
     failure: Failure,
     failures: u64,
 }
@@ -37,14 +38,14 @@ impl Model for FaultyKeep {
 }
 
 impl FaultyKeep {
-    /// A store that has nothing yet. `until` calls of `apply` are made, each later one fails.
+    /// A store that has nothing yet. `until` calls of `apply` are made, the next fails, later ones are made again.
     pub fn new(alloc: Global, until: u64, failure: Failure) -> Result<FaultyKeep, AllocError>
         ensures { IfOk result (λ keep. keep.records ≡ nothing) }
     {
         Ok(FaultyKeep {
             records: Records::new(alloc)?,
             alloc,
-            until,
+            until: Some(until),
             failure,
             failures: 0,
         })
@@ -55,12 +56,17 @@ impl FaultyKeep {
         ensures same { self.new.records ≡ self.old.records }
         ensures counted { IsTrue result → self.new.failures ≢ self.old.failures }
     {
-        if self.until == 0 {
-            self.failures = self.failures.wrapping_add(1);
-            true
-        } else {
-            self.until -= 1;
-            false
+        match self.until {
+            Some(0) => {
+                self.until = None;
+                self.failures = self.failures.wrapping_add(1);
+                true
+            }
+            Some(until) => {
+                self.until = Some(until - 1);
+                false
+            }
+            None => false,
         }
     }
 }

@@ -1,6 +1,6 @@
 //! The store in memory.
-ghost use Rattle.std.specs.Prelude.{◌≡◌, IfOk};
-ghost use Rattle.mqtt_records.specs.Records.{nothing};
+ghost use Rattle.std.specs.Prelude.{◌≡◌, IfOk, OnOk, OnErr};
+ghost use Rattle.mqtt_records.specs.Records.{nothing, changed_all};
 
 use crate::change::{Change, share_all};
 use crate::keep::{Keep, KeepError};
@@ -39,6 +39,16 @@ impl MemKeep {
     {
         MemKeep { records, alloc }
     }
+
+    /// Makes all changes, in order, or none for want of memory.
+    pub fn change_all(&mut self, changes: &[Change]) -> Result<(), AllocError>
+        ensures ok { OnOk result (self.new ≡ changed_all changes.now self.old) }
+        ensures err { OnErr result (self.new ≡ self.old) }
+    {
+        let changes = share_all(self.alloc, changes)?;
+        self.records.change_all(changes);
+        Ok(())
+    }
 }
 
 impl Keep for MemKeep {
@@ -63,9 +73,7 @@ impl Keep for MemKeep {
     }
 
     fn apply(&mut self, changes: &[Change]) -> Result<(), KeepError> {
-        let changes = share_all(self.alloc, changes)?;
-        self.records.change_all(changes);
-        Ok(())
+        Ok(self.change_all(changes)?)
     }
 
     fn failures(&self) -> u64 {

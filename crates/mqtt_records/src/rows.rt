@@ -174,6 +174,14 @@ impl<R: Row, const LIMIT: usize> Rows<R, LIMIT> {
         self.rows.len()
     }
 
+    /// The rows in order. Takes no memory.
+    pub fn as_slice(&self) -> &[R]
+        ensures order { IsAscending R.key_of self.now }
+        ensures rows { result.now ≡ self.now }
+    {
+        self.rows.as_slice()
+    }
+
     /// The row with the key. Takes no memory.
     pub fn get(&self, key: u64) -> Option<&R>
         ensures { option_copied result ≡ row_at R.key_of key self.now }
