@@ -9,7 +9,7 @@ use Rattle.std.proofs.lemmas.Option.{slice_get_read, slice_get_within, get_or_fr
 use Rattle.mqtt_records.specs.Order.{IsAbove, IsAscending, row_at, has_row, insert_row, put_row, remove_row, change_row, front_len, IsFound}
 
 -- two numbers that differ
-apart : (m n : ℕ) → (m ≡ n → ⊥) → nat_eq m n ≡ false
+pub apart : (m n : ℕ) → (m ≡ n → ⊥) → nat_eq m n ≡ false
 apart m n differ = elim (cases_Bool (nat_eq m n)) [ inl same ↦ absurd (differ (eqb-true m n same)) | inr other ↦ other ]
 
 module _ {X : Type 0} (key : X → ℕ) where
@@ -40,11 +40,11 @@ module _ {X : Type 0} (key : X → ℕ) where
 
   -- ---- what stands where a search ends
 
-  above_less : (k n : ℕ) (xs : List X) → k < n → IsAbove key n xs → IsAbove key k xs
+  pub above_less : (k n : ℕ) (xs : List X) → k < n → IsAbove key n xs → IsAbove key k xs
   above_less k n [] less up = tt
   above_less k n (x ∷ xs) less up = let more = up.0 in (omega (arith, less, more), above_less k n xs less up.1)
 
-  above_none : (k : ℕ) (xs : List X) → IsAbove key k xs → row_at key k xs ≡ None
+  pub above_none : (k : ℕ) (xs : List X) → IsAbove key k xs → row_at key k xs ≡ None
   above_none k [] up = refl
   above_none k (x ∷ xs) up =
       let more = up.0 in

@@ -12,6 +12,11 @@ module _ {X : Type 0} (key : X → ℕ) where
   IsAscending [] = Unit {0}
   IsAscending (x ∷ xs) = IsAbove (key x) xs × IsAscending xs
 
+  -- each key is below n
+  abbrev pub IsBelow : ℕ → List X → Type 0
+  IsBelow n [] = Unit {0}
+  IsBelow n (x ∷ xs) = (key x < n) × IsBelow n xs
+
   -- the row with the key k
   abbrev pub row_at : ℕ → List X → Option X
   row_at k [] = None
@@ -30,6 +35,10 @@ module _ {X : Type 0} (key : X → ℕ) where
   -- the row put by its key; a list with `limit` rows takes no further key
   abbrev pub put_row : ℕ → X → List X → List X
   put_row limit row xs = cond (has_row (key row) xs || nat_lt (length xs) limit) (insert_row row xs) xs
+
+  -- there is a row with the key k, or room for one
+  abbrev pub HasRoomFor : ℕ → ℕ → List X → Type 0
+  HasRoomFor limit k xs = (has_row k xs || nat_lt (length xs) limit) ≡ true
 
   -- the rows without that of the key k
   abbrev pub remove_row : ℕ → List X → List X

@@ -1,5 +1,5 @@
 -- All that is kept, what a change makes of it, and which changes fit (4.1).
-use Rattle.std.specs.Prelude.{◌≡◌, ℕ, ◌<◌, ◌≤◌, Bool, true, cond, ◌||◌, List, [], ◌∷◌, length, nat_lt, Option, Some, None}
+use Rattle.std.specs.Prelude.{◌≡◌, ℕ, ◌<◌, ◌≤◌, true, cond, List, [], ◌∷◌, length, Option, Some, None}
 use Rattle.std.specs.List.{All}
 use Rattle.mqtt_records.specs.declared.session.TheConstants.{SUBSCRIPTION_LIMIT, INBOUND_LIMIT, QUEUE_LIMIT}
 use Rattle.mqtt_records.specs.declared.records.TheConstants.{SESSION_LIMIT, RETAINED_LIMIT}
@@ -11,7 +11,7 @@ use Rattle.mqtt_records.specs.declared.change.Counter.{Counter}
 use Rattle.mqtt_records.specs.declared.change.Counter.TheVariants.{Births, Publications, Subscribes, Autos, Moment}
 use Rattle.mqtt_records.specs.declared.change.Change.{Change}
 use Rattle.mqtt_records.specs.declared.change.Change.TheVariants.{SetCounter, PutSession, RemoveSession, PutWill, RemoveWill, PutSubscription, RemoveSubscription, PutInbound, RemoveInbound, PutCopy, SetCopy, RemoveCopy, PutRetained, RemoveRetained}
-use Rattle.mqtt_records.specs.Order.{row_at, has_row, put_row, remove_row, change_row}
+use Rattle.mqtt_records.specs.Order.{HasRoomFor, row_at, has_row, put_row, remove_row, change_row}
 use Rattle.mqtt_records.specs.Session.{birth_of, place_of, number_of, entry_place, fresh, with_columns, with_will, without_filter, with_subscription, without_subscription, with_open, without_open, with_copy, with_phase, without_copy}
 
 abbrev pub kept_place : Retained → ℕ
@@ -79,10 +79,6 @@ HasSome (Some x) P = P x
 -- the session stands, and has P
 abbrev pub HasSession : ℕ → (Session → Type 0) → Records → Type 0
 HasSession birth P r = HasSome (row_at birth_of birth r.sessions) P
-
--- there is a row with the key k, or room for one
-abbrev pub HasRoomFor : {X : Type 0} → (X → ℕ) → ℕ → ℕ → List X → Type 0
-HasRoomFor key limit k xs = (has_row key k xs || nat_lt (length xs) limit) ≡ true
 
 -- no number falls, no list outgrows its limit, what a row refers to stands, and no two rows have the same client
 -- identifier, place of a subscription or retained topic

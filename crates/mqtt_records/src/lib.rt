@@ -4,6 +4,7 @@
 mod change;
 pub mod faulty;
 mod keep;
+mod laws;
 mod memory;
 mod message;
 mod records;
@@ -12,6 +13,10 @@ mod session;
 
 pub use change::{Change, Counter, share_all};
 pub use keep::{Keep, KeepError};
+pub use laws::{
+    ended_session_leaves_nothing, newest_comes_last, numbers_never_fall, rows_are_determined,
+    rows_are_found,
+};
 pub use memory::MemKeep;
 pub use message::{Content, MessageCopy, Retained, Share, SubscriptionIdentifiers, Will};
 pub use records::{RETAINED_LIMIT, Records, SESSION_LIMIT};
