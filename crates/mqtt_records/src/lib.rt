@@ -25,3 +25,6 @@ pub use session::{
     Columns, Entry, INBOUND_LIMIT, QUEUE_LIMIT, SUBSCRIPTION_LIMIT, Session, SessionPart,
     SessionRow, Subscription,
 };
+
+#[cfg(test)]
+mod tests;
