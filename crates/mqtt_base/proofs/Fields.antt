@@ -1,13 +1,13 @@
 -- A field that is read is the field that was written, and what was written is read again.
-use Rattle.std.proofs.Common.{◌≡◌, ℕ, ◌+◌, ◌^◌, ◌<◌, ◌≤◌, Bool, true, false, cond, ltb, List, [], ◌∷◌, ◌++◌, length, take, drop, Result, Ok, Err, IfOk, refl, sym, ap, subst, ◌∙◌, append_assoc, arith}
+use Rattle.std.proofs.Common.{◌≡◌, ℕ, ◌^◌, ◌<◌, ◌≤◌, true, false, cond, ltb, List, [], ◌∷◌, ◌++◌, length, take, drop, Result, Ok, Err, IfOk, refl, sym, ap, subst, ◌∙◌, arith}
 use Rattle.std.specs.Int.{Width, w16, w32, byte_len, from_be_bytes, to_be_bytes}
 use Rattle.std.proofs.lemmas.Bool.{ltb-false, le-ltb}
 use Rattle.std.proofs.lemmas.List.{take_at, drop_at, take-append-drop, length-append, length-take}
 use Rattle.std.proofs.lemmas.Nat.{be_bytes_2, be_bytes_4, from_be_bytes-to_be_bytes_2, from_be_bytes-to_be_bytes_4}
 use Rattle.mqtt_base.specs.declared.fault.ReadFault.{ReadFault}
 use Rattle.mqtt_base.specs.declared.fault.ReadFault.TheVariants.{Short, BadText}
-use Rattle.mqtt_base.specs.Values.{two_bytes, blob, is_text, FitsText}
-use Rattle.mqtt_base.specs.Reading.{◌>>=◌, Reads, u8_at, number_at, blob_at, text_at}
+use Rattle.mqtt_base.specs.Values.{two_bytes, blob, is_text, FitsText, IsBinary, IsText}
+use Rattle.mqtt_base.specs.Reading.{Reads, u8_at, number_at, blob_at, text_at}
 use Rattle.mqtt_base.proofs.Steps.{IsBytes, IsBytes-drop, IsBytes-take, IsBytes-rest, bind_ok, unless_ok, when_ok, ok_is, Takes, Takes-then, front_is}
 
 pub record IsWide (w : Width) (limit : ℕ) : Type 0 where
@@ -98,3 +98,16 @@ text_is bytes text n fits le e =
 pub text_was : {X : Type 0} (view : X → List ℕ) (bytes : List ℕ) (r : Result (X × ℕ) ReadFault) → IsBytes bytes → Reads view r bytes (text_at bytes) → IfOk r (λ x. FitsText (view x.0) × (take x.1 bytes ≡ blob (view x.0)))
 text_was {X} view bytes (Ok x) fits read = text_is bytes (view x.0) x.1 fits read.0 read.1
 text_was {X} view bytes (Err e) fits read = tt
+
+pub blob_was : {X : Type 0} (view : X → List ℕ) (bytes : List ℕ) (r : Result (X × ℕ) ReadFault) → IsBytes bytes → Reads view r bytes (blob_at bytes) → IfOk r (λ x. IsBinary (view x.0) (take x.1 bytes))
+blob_was {X} view bytes (Ok x) fits read =
+    let t = blob_takes bytes (view x.0, drop x.1 bytes) fits read.1 in
+    (t.1, sym (front_is bytes (blob (view x.0)) x.1 read.0 t.0.parts))
+blob_was {X} view bytes (Err e) fits read = tt
+
+-- what is spelled so is read
+pub binary_again : (d v rest : List ℕ) → IsBinary d v → blob_at (v ++ rest) ≡ Ok (d, rest)
+binary_again d v rest is = ap (λ (b : List ℕ). blob_at (b ++ rest)) is.1 ∙ blob_again d rest is.0
+
+pub spelled_again : (t v rest : List ℕ) → IsText t v → text_at (v ++ rest) ≡ Ok (t, rest)
+spelled_again t v rest is = ap (λ (b : List ℕ). text_at (b ++ rest)) is.1 ∙ text_again t rest is.0.0 is.0.1

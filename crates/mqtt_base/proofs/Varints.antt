@@ -1,8 +1,9 @@
 -- A varint that is read is the varint that was written, and what was written is read again.
-use Rattle.std.proofs.Common.{◌≡◌, ℕ, zero, suc, ◌+◌, ◌-◌, ◌*◌, ◌/◌, ◌%◌, ◌^◌, ◌<◌, ◌≤◌, Bool, true, false, cond, ltb, eqb, List, [], ◌∷◌, ◌++◌, length, take, drop, IfOk, Result, Ok, Err, refl, sym, ap, subst, ◌∙◌, arith, inl, inr}
+use Rattle.std.proofs.Common.{◌≡◌, ℕ, zero, suc, ◌+◌, ◌-◌, ◌*◌, ◌/◌, ◌%◌, ◌^◌, ◌<◌, ◌≤◌, true, false, cond, ltb, eqb, List, [], ◌∷◌, ◌++◌, length, take, drop, IfOk, Result, Ok, Err, refl, ap, subst, arith, inl, inr}
 use Rattle.std.proofs.lemmas.Bool.{cases_lt, ltb-false, ltb-true, le-ltb, lt-ltb}
+use Rattle.std.proofs.lemmas.List.{length-take}
 use Rattle.mqtt_base.specs.declared.fault.ReadFault.{ReadFault}
-use Rattle.mqtt_base.specs.declared.fault.ReadFault.TheVariants.{Short, Overlong}
+use Rattle.mqtt_base.specs.declared.fault.ReadFault.TheVariants.{Overlong}
 use Rattle.mqtt_base.specs.Values.{sevens, IsGroups, IsVarInt, varint}
 use Rattle.mqtt_base.specs.Reading.{◌>>=◌, Reads, groups_at, varint_at}
 use Rattle.mqtt_base.proofs.Steps.{IsBytes, IsBytes-rest, bind_ok, unless_ok, when_ok, chosen, ok_is, Takes, front_is}
@@ -195,6 +196,16 @@ varint_found bytes (Ok x) fits read =
     let t = varint_takes bytes (x.0, drop x.1 bytes) fits read.1 in
     subst (λ (v : List ℕ). IsVarInt x.0 v) (front_is bytes t.0 x.1 read.0 t.1.parts) t.2
 varint_found bytes (Err e) fits read = tt
+
+pub varint_below : (bytes : List ℕ) (r : Result (ℕ × ℕ) ReadFault) → IsBytes bytes → Reads (λ n. n) r bytes (varint_at bytes) → IfOk r (λ x. x.0 < 2 ^ 28)
+varint_below bytes (Ok x) fits read = (varint_only x.0 (take x.1 bytes) (varint_found bytes (Ok x) fits read)).1
+varint_below bytes (Err e) fits read = tt
+
+pub varint_few : (bytes : List ℕ) (r : Result (ℕ × ℕ) ReadFault) → IsBytes bytes → Reads (λ n. n) r bytes (varint_at bytes) → IfOk r (λ x. x.1 ≤ 4)
+varint_few bytes (Ok x) fits read =
+    let is = varint_found bytes (Ok x) fits read in
+    omega (arith, is.0, read.0, length-take x.1 bytes)
+varint_few bytes (Err e) fits read = tt
 
 -- the same by the one spelling
 pub varint_reads : (bytes : List ℕ) (x : ℕ × List ℕ) → IsBytes bytes → varint_at bytes ≡ Ok x → Takes bytes (varint x.0) x.1 × (x.0 < 2 ^ 28)

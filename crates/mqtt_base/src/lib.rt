@@ -1,16 +1,26 @@
-//! The values that packets are made of.
+//! The values that packets are made of (MQTT 5.0, 1.5 and 2.4).
 #![tactic(auto)]
 
+mod blob;
 mod fault;
-mod owned;
-mod read;
+mod kind;
+mod laws;
+mod number;
+mod pair;
 mod reason;
 mod session;
-mod write;
+#[cfg(test)]
+mod tests;
+mod text;
+mod varint;
 
+pub use blob::{Blob, blob_push, blob_read};
 pub use fault::ReadFault;
-pub use owned::Text;
-pub use read::{blob_read, text_read, u8_read, u16_read, u32_read, varint_read};
-pub use reason::{CodeSet, Reason};
+pub use kind::Kind;
+pub use laws::{fewest_bytes, one_spelling, text_is_characters};
+pub use number::{u8_read, u16_push, u16_read, u32_read};
+pub use pair::Pair;
+pub use reason::Reason;
 pub use session::{Cause, CopyId, Ending, Phase, Qos, RetainHandling, SubscriptionOptions};
-pub use write::{blob_push, u16_push, varint_len, varint_push, varint_write};
+pub use text::{Text, text_read};
+pub use varint::{varint_len, varint_push, varint_read, varint_write};

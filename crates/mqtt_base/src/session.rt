@@ -1,8 +1,8 @@
 //! What session state speaks of: service, subscriptions, copies and their ends (3.8.3.1, 4.1, 4.3).
-ghost use Rattle.std.specs.Prelude.{◌≡◌, IfOk};
+ghost use Rattle.std.specs.Prelude.{◌≡◌};
 
-use crate::owned::Text;
-use std::alloc::{AllocError, Global};
+use crate::text::Text;
+use std::alloc::AllocError;
 
 /// The quality of service of a message or a subscription (4.3).
 #[derive(Clone, Copy, Debug, PartialEq, Eq)]
@@ -40,7 +40,7 @@ pub struct SubscriptionOptions {
 }
 
 /// Why a session got a copy of a publication (3.3.4, 4.8).
-#[derive(Drop)]
+#[derive(Debug, PartialEq, Eq, Hash, Drop)]
 pub enum Cause {
     /// One or more of its subscriptions that aren't shared match the topic.
     Direct,
@@ -57,7 +57,7 @@ pub enum Cause {
 }
 
 /// What tells a copy of a publication from all others (4.8).
-#[derive(Drop)]
+#[derive(Debug, PartialEq, Eq, Hash, Drop)]
 pub struct CopyId {
     /// The number of the publication, from 1 in the order of acceptance.
     pub publication: u64,
@@ -111,17 +111,16 @@ pub enum Ending {
     Dropped,
 }
 
-impl Cause {
-    /// Another of the same value.
-    pub fn copy(&self, alloc: Global) -> Result<Cause, AllocError>
-        ensures { IfOk result (λ cause. cause ≡ self.now) }
-    {
+impl Clone for Cause {
+    ghost is_clone = { λ cause copy. copy ≡ cause };
+
+    /// Another of the same value; a group's bytes are shared.
+    fn clone(&self) -> Result<Cause, AllocError> {
         match self {
             Cause::Direct => Ok(Cause::Direct),
-            Cause::Share { group } => {
-                let group = Text::new(alloc, group.as_str())?;
-                Ok(Cause::Share { group })
-            }
+            Cause::Share { group } => Ok(Cause::Share {
+                group: group.clone()?,
+            }),
             Cause::Retained { subscribe } => Ok(Cause::Retained {
                 subscribe: *subscribe,
             }),
@@ -129,15 +128,15 @@ impl Cause {
     }
 }
 
-impl CopyId {
-    /// Another of the same value.
-    pub fn copy(&self, alloc: Global) -> Result<CopyId, AllocError>
-        ensures { IfOk result (λ id. id ≡ self.now) }
-    {
+impl Clone for CopyId {
+    ghost is_clone = { λ id copy. copy ≡ id };
+
+    /// Another of the same value; a group's bytes are shared.
+    fn clone(&self) -> Result<CopyId, AllocError> {
         Ok(CopyId {
             publication: self.publication,
             birth: self.birth,
-            cause: self.cause.copy(alloc)?,
+            cause: self.cause.clone()?,
         })
     }
 }

@@ -1,7 +1,7 @@
 //! Changes of what is kept: a row put by its key, a row removed, a copy's phase set (4.1).
 ghost use Rattle.std.specs.Prelude.{◌≡◌, IfOk};
 
-use crate::message::{Retained, Share, Will};
+use crate::message::{Retained, Will};
 use crate::rows::Boxed;
 use crate::session::{Entry, SessionRow, Subscription};
 use mqtt_base::{Phase, Text};
@@ -93,20 +93,20 @@ pub enum Change {
     },
 }
 
-impl Share for Change {
-    fn share(&self, alloc: Global) -> Result<Change, AllocError> {
+impl Clone for Change {
+    ghost is_clone = { λ value copy. copy ≡ value };
+
+    fn clone(&self) -> Result<Change, AllocError> {
         Ok(match self {
             Change::SetCounter { counter, value } => Change::SetCounter {
                 counter: *counter,
                 value: *value,
             },
-            Change::PutSession { row } => Change::PutSession {
-                row: row.share(alloc)?,
-            },
+            Change::PutSession { row } => Change::PutSession { row: row.clone()? },
             Change::RemoveSession { birth } => Change::RemoveSession { birth: *birth },
             Change::PutWill { birth, will } => Change::PutWill {
                 birth: *birth,
-                will: will.share(alloc)?,
+                will: will.clone()?,
             },
             Change::RemoveWill { birth } => Change::RemoveWill { birth: *birth },
             Change::PutSubscription {
@@ -114,11 +114,11 @@ impl Share for Change {
                 subscription,
             } => Change::PutSubscription {
                 birth: *birth,
-                subscription: subscription.share(alloc)?,
+                subscription: subscription.clone()?,
             },
             Change::RemoveSubscription { birth, filter } => Change::RemoveSubscription {
                 birth: *birth,
-                filter: filter.share(alloc)?,
+                filter: filter.clone()?,
             },
             Change::PutInbound { birth, identifier } => Change::PutInbound {
                 birth: *birth,
@@ -130,7 +130,7 @@ impl Share for Change {
             },
             Change::PutCopy { birth, entry } => Change::PutCopy {
                 birth: *birth,
-                entry: entry.share(alloc)?,
+                entry: entry.clone()?,
             },
             Change::SetCopy {
                 birth,
@@ -146,20 +146,20 @@ impl Share for Change {
                 place: *place,
             },
             Change::PutRetained { kept } => Change::PutRetained {
-                kept: kept.share(alloc)?,
+                kept: kept.clone()?,
             },
             Change::RemoveRetained { place } => Change::RemoveRetained { place: *place },
         })
     }
 }
 
-/// Others of the same values, in order.
-pub fn share_all(alloc: Global, changes: &[Change]) -> Result<Vec<Change>, AllocError>
-    ensures { IfOk result (λ others. others.items ≡ changes.now) }
+/// Clones of changes, in order.
+pub fn clone_all(alloc: Global, changes: &[Change]) -> Result<Vec<Change>, AllocError>
+    ensures { IfOk result (λ clones. clones.items ≡ changes.now) }
 {
-    let mut others = Vec::with_capacity(alloc, changes.len())?;
+    let mut clones = Vec::with_capacity(alloc, changes.len())?;
     for change in changes {
-        others.push(change.share(alloc)?)?;
+        clones.push(change.clone()?)?;
     }
-    Ok(others)
+    Ok(clones)
 }

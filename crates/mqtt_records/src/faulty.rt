@@ -2,9 +2,8 @@
 ghost use Rattle.std.specs.Prelude.{◌≡◌, ◌≢◌, IfOk, IsTrue};
 ghost use Rattle.mqtt_records.specs.Records.{nothing};
 
-use crate::change::{Change, share_all};
+use crate::change::{Change, clone_all};
 use crate::keep::{Keep, KeepError};
-use crate::message::Share;
 use crate::records::Records;
 use std::alloc::{AllocError, Global};
 use std::marker::Model;
@@ -88,12 +87,12 @@ impl Keep for FaultyKeep {
 
     ghost refuses = { λ _ fault. fault ≡ Memory };
 
-    fn load(&mut self, alloc: Global) -> Result<Records, KeepError> {
-        Ok(self.records.share(alloc)?)
+    fn load(&mut self, _: Global) -> Result<Records, KeepError> {
+        Ok(self.records.clone()?)
     }
 
     fn apply(&mut self, changes: &[Change]) -> Result<(), KeepError> {
-        let changes = share_all(self.alloc, changes)?;
+        let changes = clone_all(self.alloc, changes)?;
         if !self.fails() {
             self.records.change_all(changes);
             return Ok(());

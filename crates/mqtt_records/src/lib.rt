@@ -11,14 +11,14 @@ mod records;
 mod rows;
 mod session;
 
-pub use change::{Change, Counter, share_all};
+pub use change::{Change, Counter, clone_all};
 pub use keep::{Keep, KeepError};
 pub use laws::{
     ended_session_leaves_nothing, newest_comes_last, numbers_never_fall, rows_are_determined,
     rows_are_found,
 };
 pub use memory::MemKeep;
-pub use message::{Content, MessageCopy, Retained, Share, SubscriptionIdentifiers, Will};
+pub use message::{Content, MessageCopy, Retained, SubscriptionIdentifiers, Will};
 pub use records::{RETAINED_LIMIT, Records, SESSION_LIMIT};
 pub use rows::{Boxed, Editable, Row, Rows};
 pub use session::{

@@ -2,9 +2,8 @@
 ghost use Rattle.std.specs.Prelude.{◌≡◌, IfOk, OnOk, OnErr};
 ghost use Rattle.mqtt_records.specs.Records.{nothing, changed_all};
 
-use crate::change::{Change, share_all};
+use crate::change::{Change, clone_all};
 use crate::keep::{Keep, KeepError};
-use crate::message::Share;
 use crate::records::Records;
 use std::alloc::{AllocError, Global};
 use std::marker::Model;
@@ -45,7 +44,7 @@ impl MemKeep {
         ensures ok { OnOk result (self.new ≡ changed_all changes.now self.old) }
         ensures err { OnErr result (self.new ≡ self.old) }
     {
-        let changes = share_all(self.alloc, changes)?;
+        let changes = clone_all(self.alloc, changes)?;
         self.records.change_all(changes);
         Ok(())
     }
@@ -68,8 +67,8 @@ impl Keep for MemKeep {
 
     ghost refuses = { λ _ fault. fault ≡ Memory };
 
-    fn load(&mut self, alloc: Global) -> Result<Records, KeepError> {
-        Ok(self.records.share(alloc)?)
+    fn load(&mut self, _: Global) -> Result<Records, KeepError> {
+        Ok(self.records.clone()?)
     }
 
     fn apply(&mut self, changes: &[Change]) -> Result<(), KeepError> {

@@ -7,25 +7,6 @@ use mqtt_base::{Cause, Qos, Text};
 use std::alloc::{AllocError, Global};
 use std::marker::Model;
 
-/// A value of which another can be made: long blocks of bytes are shared, the rest is copied.
-pub trait Share: Drop {
-    /// Another of the same value.
-    fn share(&self, alloc: Global) -> Result<Self, AllocError>
-        ensures { IfOk result (λ other. other ≡ self.now) };
-}
-
-impl Share for u16 {
-    fn share(&self, _: Global) -> Result<u16, AllocError> {
-        Ok(*self)
-    }
-}
-
-impl Share for Text {
-    fn share(&self, alloc: Global) -> Result<Text, AllocError> {
-        Text::new(alloc, self.as_str())
-    }
-}
-
 /// Subscription Identifiers, in the order in which a copy carries them (3.3.2.3.8).
 #[derive(Drop)]
 pub struct SubscriptionIdentifiers {
@@ -66,9 +47,11 @@ impl SubscriptionIdentifiers {
     }
 }
 
-impl Share for SubscriptionIdentifiers {
-    fn share(&self, alloc: Global) -> Result<SubscriptionIdentifiers, AllocError> {
-        let all = Vec::from_slice(alloc, &self.all)?;
+impl Clone for SubscriptionIdentifiers {
+    ghost is_clone = { λ value copy. copy ≡ value };
+
+    fn clone(&self) -> Result<SubscriptionIdentifiers, AllocError> {
+        let all = Vec::from_slice(*self.all.allocator(), &self.all)?;
         Ok(SubscriptionIdentifiers { all })
     }
 }
@@ -77,7 +60,7 @@ impl Share for SubscriptionIdentifiers {
 #[derive(Drop)]
 pub struct Content {
     /// The topic name.
-    pub topic: Bytes,
+    pub topic: Text,
     /// Properties as they are sent, without length, Subscription Identifiers and Topic Alias.
     pub properties: Bytes,
     /// The payload.
@@ -86,8 +69,10 @@ pub struct Content {
     pub arrived: u64,
 }
 
-impl Share for Content {
-    fn share(&self, _: Global) -> Result<Content, AllocError> {
+impl Clone for Content {
+    ghost is_clone = { λ value copy. copy ≡ value };
+
+    fn clone(&self) -> Result<Content, AllocError> {
         Ok(Content {
             topic: self.topic.clone()?,
             properties: self.properties.clone()?,
@@ -107,15 +92,17 @@ pub struct Will {
     /// Whether it is to be retained.
     pub retain: bool,
     /// The Will Topic.
-    pub topic: Bytes,
+    pub topic: Text,
     /// The Will Properties as received, without length.
     pub properties: Bytes,
     /// The Will Payload.
     pub payload: Bytes,
 }
 
-impl Share for Will {
-    fn share(&self, _: Global) -> Result<Will, AllocError> {
+impl Clone for Will {
+    ghost is_clone = { λ value copy. copy ≡ value };
+
+    fn clone(&self) -> Result<Will, AllocError> {
         Ok(Will {
             delay: self.delay,
             qos: self.qos,
@@ -144,15 +131,17 @@ pub struct MessageCopy {
     pub content: Content,
 }
 
-impl Share for MessageCopy {
-    fn share(&self, alloc: Global) -> Result<MessageCopy, AllocError> {
+impl Clone for MessageCopy {
+    ghost is_clone = { λ value copy. copy ≡ value };
+
+    fn clone(&self) -> Result<MessageCopy, AllocError> {
         Ok(MessageCopy {
             publication: self.publication,
-            cause: self.cause.copy(alloc)?,
+            cause: self.cause.clone()?,
             qos: self.qos,
             retain: self.retain,
-            identifiers: self.identifiers.share(alloc)?,
-            content: self.content.share(alloc)?,
+            identifiers: self.identifiers.clone()?,
+            content: self.content.clone()?,
         })
     }
 }
@@ -178,16 +167,20 @@ impl Row for Retained {
     fn key(&self) -> u64 {
         self.place
     }
+
+    ghost clone_is = { λ value copy same. same };
 }
 
-impl Share for Retained {
-    fn share(&self, alloc: Global) -> Result<Retained, AllocError> {
+impl Clone for Retained {
+    ghost is_clone = { λ value copy. copy ≡ value };
+
+    fn clone(&self) -> Result<Retained, AllocError> {
         Ok(Retained {
             place: self.place,
-            sender: self.sender.share(alloc)?,
+            sender: self.sender.clone()?,
             publication: self.publication,
             qos: self.qos,
-            content: self.content.share(alloc)?,
+            content: self.content.clone()?,
         })
     }
 }

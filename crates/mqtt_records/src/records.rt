@@ -3,7 +3,7 @@ ghost use Rattle.std.specs.Prelude.{◌≡◌, IfOk};
 ghost use Rattle.mqtt_records.specs.Records.{nothing, changed, changed_all, with_counter, put_session};
 
 use crate::change::{Change, Counter};
-use crate::message::{Retained, Share};
+use crate::message::Retained;
 use crate::rows::{Boxed, Rows};
 use crate::session::{Session, SessionPart, SessionRow};
 use std::alloc::{AllocError, Global};
@@ -134,16 +134,18 @@ impl Records {
     }
 }
 
-impl Share for Records {
-    fn share(&self, alloc: Global) -> Result<Records, AllocError> {
+impl Clone for Records {
+    ghost is_clone = { λ value copy. copy ≡ value };
+
+    fn clone(&self) -> Result<Records, AllocError> {
         Ok(Records {
             births: self.births,
             publications: self.publications,
             subscribes: self.subscribes,
             autos: self.autos,
             moment: self.moment,
-            sessions: self.sessions.share(alloc)?,
-            retained: self.retained.share(alloc)?,
+            sessions: self.sessions.clone()?,
+            retained: self.retained.clone()?,
         })
     }
 }

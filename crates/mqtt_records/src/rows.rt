@@ -2,17 +2,19 @@
 ghost use Rattle.std.specs.Prelude.{◌≡◌, ◌<◌, ◌≤◌, ℕ, List, [], Option, IfOk, length, option_copied, slice_get, insert, vec_len, vec_capacity};
 ghost use Rattle.mqtt_records.specs.Order.{IsAscending, IsFound, row_at, has_row, put_row, remove_row, change_row, front_len};
 
-use crate::message::Share;
 use std::alloc::{AllocError, Global};
 use std::marker::Model;
 
 /// A row of a list that is ordered by key.
-pub trait Row: Drop {
+pub trait Row: Clone + Drop {
     ghost key_of: { Self → ℕ };
 
     /// The key: no two rows of a list have the same. Takes no memory.
     fn key(&self) -> u64
         ensures { result ≡ key_of self.now };
+
+    // A clone is the same row.
+    ghost clone_is: { (row copy : Self) → Self.is_clone row copy → copy ≡ row };
 }
 
 /// A row of which a part can be changed.
@@ -58,6 +60,11 @@ impl<R: Drop> Boxed<R> {
         &self.row
     }
 
+    /// Where its memory is from. Takes no memory.
+    pub fn allocator(&self) -> Global {
+        *Box::allocator(&self.row)
+    }
+
     /// Takes the row out of its box. Takes no memory.
     pub fn into_row(self) -> R
         ensures { result ≡ self }
@@ -66,9 +73,13 @@ impl<R: Drop> Boxed<R> {
     }
 }
 
-impl<R: Share> Share for Boxed<R> {
-    fn share(&self, alloc: Global) -> Result<Self, AllocError> {
-        Boxed::new(alloc, self.row.share(alloc)?)
+impl<R: Clone> Clone for Boxed<R> {
+    ghost is_clone = { λ row copy. R.is_clone row copy };
+
+    fn clone(&self) -> Result<Self, AllocError> {
+        Ok(Boxed {
+            row: self.row.clone()?,
+        })
     }
 }
 
@@ -78,6 +89,8 @@ impl<R: Row> Row for Boxed<R> {
     fn key(&self) -> u64 {
         self.row.key()
     }
+
+    ghost clone_is = { λ row copy same. R.clone_is row copy same };
 }
 
 impl<R: Editable> Editable for Boxed<R> {
@@ -223,11 +236,13 @@ impl<R: Row, const LIMIT: usize> Rows<R, LIMIT> {
     }
 }
 
-impl<R: Row + Share, const LIMIT: usize> Share for Rows<R, LIMIT> {
-    fn share(&self, alloc: Global) -> Result<Self, AllocError> {
-        let mut rows = Vec::with_capacity(alloc, LIMIT)?;
+impl<R: Row, const LIMIT: usize> Clone for Rows<R, LIMIT> {
+    ghost is_clone = { λ rows copy. copy ≡ rows };
+
+    fn clone(&self) -> Result<Self, AllocError> {
+        let mut rows = Vec::with_capacity(*self.rows.allocator(), LIMIT)?;
         for row in &self.rows {
-            rows.push(row.share(alloc)?)?;
+            rows.push(row.clone()?)?;
         }
         Ok(Rows { rows })
     }

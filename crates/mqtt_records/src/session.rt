@@ -2,7 +2,7 @@
 ghost use Rattle.std.specs.Prelude.{◌≡◌, IfOk, filter, not, bytes_eq};
 ghost use Rattle.mqtt_records.specs.Session.{fresh, without_filter, put_subscription};
 
-use crate::message::{MessageCopy, Share, Will};
+use crate::message::{MessageCopy, Will};
 use crate::rows::{Boxed, Editable, Row, Rows};
 use mqtt_base::{Phase, SubscriptionOptions, Text};
 use std::alloc::{AllocError, Global};
@@ -34,12 +34,16 @@ impl Row for Subscription {
     fn key(&self) -> u64 {
         self.place
     }
+
+    ghost clone_is = { λ value copy same. same };
 }
 
-impl Share for Subscription {
-    fn share(&self, alloc: Global) -> Result<Subscription, AllocError> {
+impl Clone for Subscription {
+    ghost is_clone = { λ value copy. copy ≡ value };
+
+    fn clone(&self) -> Result<Subscription, AllocError> {
         Ok(Subscription {
-            filter: self.filter.share(alloc)?,
+            filter: self.filter.clone()?,
             place: self.place,
             options: self.options,
             identifier: self.identifier,
@@ -64,6 +68,8 @@ impl Row for Entry {
     fn key(&self) -> u64 {
         self.place
     }
+
+    ghost clone_is = { λ value copy same. same };
 }
 
 impl Editable for Entry {
@@ -80,12 +86,14 @@ impl Editable for Entry {
     ghost key_kept = { λ phase entry. refl };
 }
 
-impl Share for Entry {
-    fn share(&self, alloc: Global) -> Result<Entry, AllocError> {
+impl Clone for Entry {
+    ghost is_clone = { λ value copy. copy ≡ value };
+
+    fn clone(&self) -> Result<Entry, AllocError> {
         Ok(Entry {
             place: self.place,
             phase: self.phase,
-            copy: self.copy.share(alloc)?,
+            copy: self.copy.clone()?,
         })
     }
 }
@@ -96,6 +104,8 @@ impl Row for u16 {
     fn key(&self) -> u64 {
         u64::from(*self)
     }
+
+    ghost clone_is = { λ value copy same. same };
 }
 
 /// A session (4.1).
@@ -125,23 +135,27 @@ impl Row for Session {
     fn key(&self) -> u64 {
         self.birth
     }
+
+    ghost clone_is = { λ value copy same. same };
 }
 
-impl Share for Session {
-    fn share(&self, alloc: Global) -> Result<Session, AllocError> {
+impl Clone for Session {
+    ghost is_clone = { λ value copy. copy ≡ value };
+
+    fn clone(&self) -> Result<Session, AllocError> {
         let will = match &self.will {
-            Some(will) => Some(will.share(alloc)?),
+            Some(will) => Some(will.clone()?),
             None => None,
         };
         Ok(Session {
             birth: self.birth,
-            client: self.client.share(alloc)?,
+            client: self.client.clone()?,
             expiry: self.expiry,
             closed: self.closed,
             will,
-            subscriptions: self.subscriptions.share(alloc)?,
-            inbound: self.inbound.share(alloc)?,
-            queue: self.queue.share(alloc)?,
+            subscriptions: self.subscriptions.clone()?,
+            inbound: self.inbound.clone()?,
+            queue: self.queue.clone()?,
         })
     }
 }
@@ -224,16 +238,18 @@ impl SessionRow {
     }
 }
 
-impl Share for SessionRow {
-    fn share(&self, alloc: Global) -> Result<SessionRow, AllocError> {
+impl Clone for SessionRow {
+    ghost is_clone = { λ value copy. copy ≡ value };
+
+    fn clone(&self) -> Result<SessionRow, AllocError> {
         let session = self.session.get();
         let columns = Columns {
             birth: session.birth,
-            client: session.client.share(alloc)?,
+            client: session.client.clone()?,
             expiry: session.expiry,
             closed: session.closed,
         };
-        SessionRow::new(alloc, columns)
+        SessionRow::new(self.session.allocator(), columns)
     }
 }
 

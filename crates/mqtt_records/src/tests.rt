@@ -6,7 +6,7 @@ use crate::faulty::{Failure, FaultyKeep};
 use crate::{
     Boxed, Change, Columns, Content, Counter, Entry, INBOUND_LIMIT, Keep, KeepError, MemKeep,
     MessageCopy, QUEUE_LIMIT, Records, Retained, Rows, SESSION_LIMIT, SUBSCRIPTION_LIMIT,
-    SessionRow, Share, Subscription, SubscriptionIdentifiers, Will, share_all,
+    SessionRow, Subscription, SubscriptionIdentifiers, Will,
 };
 use bytes::Bytes;
 use mqtt_base::{Cause, Phase, Qos, RetainHandling, SubscriptionOptions, Text};
@@ -21,7 +21,7 @@ fn text(alloc: Global, text: &str) -> Result<Text, AllocError>
 
 fn content(alloc: Global) -> Result<Content, AllocError> {
     Ok(Content {
-        topic: Bytes::copy_from_slice(alloc, b"a/b")?,
+        topic: text(alloc, "a/b")?,
         properties: Bytes::new(),
         payload: Bytes::copy_from_slice(alloc, b"hi")?,
         arrived: 0,
@@ -98,7 +98,7 @@ fn will(alloc: Global, birth: u64) -> Result<Change, AllocError> {
             delay: 5,
             qos: Qos::AtLeastOnce,
             retain: true,
-            topic: Bytes::copy_from_slice(alloc, b"w")?,
+            topic: text(alloc, "w")?,
             properties: Bytes::new(),
             payload: Bytes::copy_from_slice(alloc, b"gone")?,
         },
@@ -396,7 +396,7 @@ fn a_list_is_in_order_and_has_its_limit(rt: HostRuntime) -> Result<(), Fail> {
     open.remove(6);
     assert_eq!(rt; open.get(6), None, "removed");
     open.put(5);
-    let shared = open.share(rt.alloc())?;
+    let shared = open.clone()?;
     assert_eq!(rt;
         shared.as_slice(),
         [
