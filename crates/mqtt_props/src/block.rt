@@ -1,0 +1,92 @@
+//! Blocks of properties, read in their places and written (2.2.2).
+
+ghost use Rattle.std.specs.Prelude.{◌≡◌, ◌⊎◌, ◌++◌, List, ℕ, drop, IfOk, IfErr, OnOk, OnErr, IsOkUnless, Ok, Err};
+ghost use Rattle.mqtt_base.specs.Reading.{Reads};
+ghost use Rattle.mqtt_props.specs.Laws.{lawful_at, layout_at, Begins, IsLawful, Refuses};
+ghost use Rattle.mqtt_props.specs.Properties.{Prop, block};
+
+use crate::fault::PropFault;
+use crate::list::{PropList, PropsRef, block_read};
+use crate::place::Place;
+use std::alloc::Global;
+
+/// Lends the lawful block at the front, and how many bytes it takes. Takes no memory.
+pub fn look_at(bytes: &[u8], place: Place) -> Result<(PropsRef<'_>, usize), PropFault>
+    ensures exact { Reads (λ ps. ps) result bytes.now (lawful_at place bytes.now) }
+    ensures found { IfOk result (λ x. Begins place x.0 (drop x.1 bytes.now) bytes.now
+        × IsLawful place x.0) }
+    ensures only { (ps : List Prop) (rest : List ℕ) → Begins place ps rest bytes.now
+        → IsLawful place ps → Reads (λ ps. ps) result bytes.now (Ok (ps, rest)) }
+    ensures refused { IfErr result (Refuses place bytes.now) }
+{
+    lawful_read(bytes, place)
+}
+
+#[tactic(auto, unfolding(crate::specs::Laws::lawful_at))]
+fn lawful_read(bytes: &[u8], place: Place) -> Result<(PropsRef<'_>, usize), PropFault>
+    ensures { Reads (λ ps. ps) result bytes.now (lawful_at place bytes.now) }
+{
+    let Ok((props, taken)) = block_read(bytes) else {
+        return Err(PropFault::Malformed);
+    };
+    if !props.may_stand_in(place) {
+        return Err(PropFault::Malformed);
+    }
+    if !props.has_no_repeat(place) {
+        return Err(PropFault::Twice);
+    }
+    if !props.has_lawful_values() {
+        return Err(PropFault::BadValue);
+    }
+    Ok((props, taken))
+}
+
+/// Lends the block at the front whose properties may stand there, be it lawful or not, and how many
+/// bytes it takes. Takes no memory.
+pub fn layout_read(bytes: &[u8], place: Place) -> Result<(PropsRef<'_>, usize), PropFault>
+    ensures exact { Reads (λ ps. ps) result bytes.now (layout_at place bytes.now) }
+    ensures found { IfOk result (λ x. Begins place x.0 (drop x.1 bytes.now) bytes.now) }
+    ensures only { (ps : List Prop) (rest : List ℕ) → Begins place ps rest bytes.now
+        → Reads (λ ps. ps) result bytes.now (Ok (ps, rest)) }
+    ensures refused { IfErr result (λ fault. (fault ≡ PropFault.Malformed)
+        × Refuses place bytes.now fault) }
+{
+    placed_read(bytes, place)
+}
+
+#[tactic(auto, unfolding(crate::specs::Laws::layout_at))]
+fn placed_read(bytes: &[u8], place: Place) -> Result<(PropsRef<'_>, usize), PropFault>
+    ensures { Reads (λ ps. ps) result bytes.now (layout_at place bytes.now) }
+{
+    let Ok((props, taken)) = block_read(bytes) else {
+        return Err(PropFault::Malformed);
+    };
+    if !props.may_stand_in(place) {
+        return Err(PropFault::Malformed);
+    }
+    Ok((props, taken))
+}
+
+/// Reads the lawful block at the front, and how many bytes it takes.
+pub fn read(alloc: Global, bytes: &[u8], place: Place) -> Result<(PropList, usize), PropFault>
+    ensures found { IfOk result (λ x. Begins place x.0 (drop x.1 bytes.now) bytes.now
+        × IsLawful place x.0) }
+    ensures only { (ps : List Prop) (rest : List ℕ) → Begins place ps rest bytes.now
+        → IsLawful place ps → (result ≡ Err PropFault.Memory) ⊎ Reads (λ ps. ps) result bytes.now (Ok (ps, rest)) }
+    ensures refused { IfErr result (λ fault. (fault ≡ PropFault.Memory)
+        ⊎ Refuses place bytes.now fault) }
+{
+    let (props, taken) = look_at(bytes, place)?;
+    let list = props.to_list(alloc)?;
+    Ok((list, taken))
+}
+
+/// Writes the block of the list at the end.
+pub fn write(list: &PropList, out: &mut Vec<u8>) -> Result<(), PropFault>
+    ensures ok { OnOk result (out.new.items ≡ out.old.items ++ block list.now) }
+    ensures err { OnErr result (out.new.items ≡ out.old.items) }
+    ensures fault { IsOkUnless result PropFault.Memory }
+{
+    list.lend().push_block(out)?;
+    Ok(())
+}

@@ -1,0 +1,654 @@
+//! Blocks, edits and want of memory by example (2.2.2).
+
+use crate::{
+    Place, PropFault, PropList, PropName, PropRef, PropsRef, ValueKind, ValueRef, allowed,
+    layout_read, look_at, read, write,
+};
+use std::test::Fail;
+
+const PLACES: [Place; 14] = [
+    Place::Connect,
+    Place::Connack,
+    Place::Publish,
+    Place::Puback,
+    Place::Pubrec,
+    Place::Pubrel,
+    Place::Pubcomp,
+    Place::Subscribe,
+    Place::Suback,
+    Place::Unsubscribe,
+    Place::Unsuback,
+    Place::Disconnect,
+    Place::Auth,
+    Place::Will,
+];
+
+// Table 2-4 of 2.2.2.2: the identifier, the kind, the places in the order of `PLACES`, a block of
+// the property alone, and one that ends inside its value. Authentication Data stands behind its
+// method.
+const TABLE: [(u32, ValueKind, &[u8], &[u8], &[u8]); 27] = [
+    (
+        0x01,
+        ValueKind::Byte,
+        b"--x----------x",
+        &[2, 0x01, 1],
+        &[1, 0x01],
+    ),
+    (
+        0x02,
+        ValueKind::U32,
+        b"--x----------x",
+        &[5, 0x02, 0, 0, 0, 9],
+        &[4, 0x02, 0, 0, 9],
+    ),
+    (
+        0x03,
+        ValueKind::Text,
+        b"--x----------x",
+        &[4, 0x03, 0, 1, b'a'],
+        &[4, 0x03, 0, 2, b'a'],
+    ),
+    (
+        0x08,
+        ValueKind::Text,
+        b"--x----------x",
+        &[4, 0x08, 0, 1, b'a'],
+        &[4, 0x08, 0, 2, b'a'],
+    ),
+    (
+        0x09,
+        ValueKind::Binary,
+        b"--x----------x",
+        &[5, 0x09, 0, 2, 0, 0xff],
+        &[5, 0x09, 0, 3, 0, 0xff],
+    ),
+    (
+        0x0b,
+        ValueKind::VarInt,
+        b"--x----x------",
+        &[3, 0x0b, 0x80, 1],
+        &[2, 0x0b, 0x80],
+    ),
+    (
+        0x11,
+        ValueKind::U32,
+        b"xx---------x--",
+        &[5, 0x11, 0, 0, 0, 9],
+        &[4, 0x11, 0, 0, 9],
+    ),
+    (
+        0x12,
+        ValueKind::Text,
+        b"-x------------",
+        &[4, 0x12, 0, 1, b'a'],
+        &[4, 0x12, 0, 2, b'a'],
+    ),
+    (
+        0x13,
+        ValueKind::U16,
+        b"-x------------",
+        &[3, 0x13, 0, 9],
+        &[2, 0x13, 9],
+    ),
+    (
+        0x15,
+        ValueKind::Text,
+        b"xx----------x-",
+        &[4, 0x15, 0, 1, b'a'],
+        &[4, 0x15, 0, 2, b'a'],
+    ),
+    (
+        0x16,
+        ValueKind::Binary,
+        b"xx----------x-",
+        &[9, 0x15, 0, 1, b'm', 0x16, 0, 2, 0, 0xff],
+        &[9, 0x15, 0, 1, b'm', 0x16, 0, 3, 0, 0xff],
+    ),
+    (
+        0x17,
+        ValueKind::Byte,
+        b"x-------------",
+        &[2, 0x17, 1],
+        &[1, 0x17],
+    ),
+    (
+        0x18,
+        ValueKind::U32,
+        b"-------------x",
+        &[5, 0x18, 0, 0, 0, 9],
+        &[4, 0x18, 0, 0, 9],
+    ),
+    (
+        0x19,
+        ValueKind::Byte,
+        b"x-------------",
+        &[2, 0x19, 1],
+        &[1, 0x19],
+    ),
+    (
+        0x1a,
+        ValueKind::Text,
+        b"-x------------",
+        &[4, 0x1a, 0, 1, b'a'],
+        &[4, 0x1a, 0, 2, b'a'],
+    ),
+    (
+        0x1c,
+        ValueKind::Text,
+        b"-x---------x--",
+        &[4, 0x1c, 0, 1, b'a'],
+        &[4, 0x1c, 0, 2, b'a'],
+    ),
+    (
+        0x1f,
+        ValueKind::Text,
+        b"-x-xxxx-x-xxx-",
+        &[4, 0x1f, 0, 1, b'a'],
+        &[4, 0x1f, 0, 2, b'a'],
+    ),
+    (
+        0x21,
+        ValueKind::U16,
+        b"xx------------",
+        &[3, 0x21, 0, 9],
+        &[2, 0x21, 9],
+    ),
+    (
+        0x22,
+        ValueKind::U16,
+        b"xx------------",
+        &[3, 0x22, 0, 9],
+        &[2, 0x22, 9],
+    ),
+    (
+        0x23,
+        ValueKind::U16,
+        b"--x-----------",
+        &[3, 0x23, 0, 9],
+        &[2, 0x23, 9],
+    ),
+    (
+        0x24,
+        ValueKind::Byte,
+        b"-x------------",
+        &[2, 0x24, 1],
+        &[1, 0x24],
+    ),
+    (
+        0x25,
+        ValueKind::Byte,
+        b"-x------------",
+        &[2, 0x25, 1],
+        &[1, 0x25],
+    ),
+    (
+        0x26,
+        ValueKind::Pair,
+        b"xxxxxxxxxxxxxx",
+        &[7, 0x26, 0, 1, b'k', 0, 1, b'v'],
+        &[7, 0x26, 0, 1, b'k', 0, 2, b'v'],
+    ),
+    (
+        0x27,
+        ValueKind::U32,
+        b"xx------------",
+        &[5, 0x27, 0, 0, 0, 9],
+        &[4, 0x27, 0, 0, 9],
+    ),
+    (
+        0x28,
+        ValueKind::Byte,
+        b"-x------------",
+        &[2, 0x28, 1],
+        &[1, 0x28],
+    ),
+    (
+        0x29,
+        ValueKind::Byte,
+        b"-x------------",
+        &[2, 0x29, 1],
+        &[1, 0x29],
+    ),
+    (
+        0x2a,
+        ValueKind::Byte,
+        b"-x------------",
+        &[2, 0x2a, 1],
+        &[1, 0x2a],
+    ),
+];
+
+fn fault_of(block: &[u8], place: Place) -> Option<PropFault> {
+    match look_at(block, place) {
+        Ok(_) => None,
+        Err(fault) => Some(fault),
+    }
+}
+
+#[test]
+fn each_property_stands_in_its_places_alone(rt: HostRuntime) -> Result<(), Fail> {
+    for (id, kind, bits, block, cut) in TABLE {
+        for (place, bit) in PLACES.iter().zip(bits.iter()) {
+            let stands = *bit == b'x';
+            let want = if stands {
+                None
+            } else {
+                Some(PropFault::Malformed)
+            };
+            assert_eq!(rt; allowed(id, *place), stands, "{id} in {place:?}");
+            assert_eq!(rt; fault_of(block, *place), want, "{id} in {place:?}");
+            assert_eq!(rt;
+                layout_read(block, *place).is_ok(),
+                stands,
+                "{id} in {place:?}"
+            );
+            assert_eq!(rt;
+                fault_of(cut, *place),
+                Some(PropFault::Malformed),
+                "{id} cut in {place:?}"
+            );
+        }
+        let name = PropName::from_id(id);
+        assert_eq!(rt; name.map(|n| n.kind()), Some(kind), "{id}");
+        assert_eq!(rt; name.map(|n| u32::from(n.id())), Some(id), "{id}");
+    }
+    Ok(())
+}
+
+#[test]
+fn no_other_number_is_an_identifier(rt: HostRuntime) -> Result<(), Fail> {
+    for id in [
+        0,
+        4,
+        7,
+        0x0a,
+        0x0c,
+        0x10,
+        0x14,
+        0x1b,
+        0x1d,
+        0x20,
+        0x2b,
+        0x7f,
+        0x80,
+        0x101,
+        u32::MAX,
+    ] {
+        assert!(rt; PropName::from_id(id).is_none(), "{id}");
+        for place in PLACES {
+            assert!(rt; !allowed(id, place), "{id} in {place:?}");
+        }
+    }
+    Ok(())
+}
+
+// The laws of 2.2.2.2, 3.1.2.11.3, 3.1.2.11.4, 3.1.2.11.10, 3.3.2.3.5 and 3.8.2.1.2, each broken
+// once and kept once beside it; and the order of the faults.
+#[test]
+fn a_broken_law_has_its_fault(rt: HostRuntime) -> Result<(), Fail> {
+    let twice = Some(PropFault::Twice);
+    let bad = Some(PropFault::BadValue);
+    let malformed = Some(PropFault::Malformed);
+    let rows: [(&str, Place, &[u8], Option<PropFault>); 34] = [
+        ("no property", Place::Connect, &[0], None),
+        ("a byte of 2", Place::Publish, &[2, 1, 2], bad),
+        ("a byte of 255", Place::Connack, &[2, 0x25, 255], bad),
+        ("Maximum QoS 2", Place::Connack, &[2, 0x24, 2], bad),
+        ("Receive Maximum 0", Place::Connect, &[3, 0x21, 0, 0], bad),
+        (
+            "Receive Maximum 256",
+            Place::Connect,
+            &[3, 0x21, 1, 0],
+            None,
+        ),
+        (
+            "Topic Alias Maximum 0",
+            Place::Connect,
+            &[3, 0x22, 0, 0],
+            None,
+        ),
+        (
+            "Maximum Packet Size 0",
+            Place::Connack,
+            &[5, 0x27, 0, 0, 0, 0],
+            bad,
+        ),
+        (
+            "Maximum Packet Size 1",
+            Place::Connack,
+            &[5, 0x27, 0, 0, 0, 1],
+            None,
+        ),
+        (
+            "Message Expiry Interval 0",
+            Place::Will,
+            &[5, 2, 0, 0, 0, 0],
+            None,
+        ),
+        (
+            "Subscription Identifier 0",
+            Place::Subscribe,
+            &[2, 0x0b, 0],
+            bad,
+        ),
+        (
+            "Subscription Identifier 1",
+            Place::Subscribe,
+            &[2, 0x0b, 1],
+            None,
+        ),
+        (
+            "Response Topic a/b",
+            Place::Publish,
+            &[6, 8, 0, 3, b'a', b'/', b'b'],
+            None,
+        ),
+        ("Response Topic +", Place::Publish, &[4, 8, 0, 1, b'+'], bad),
+        (
+            "Response Topic a#",
+            Place::Will,
+            &[5, 8, 0, 2, b'a', b'#'],
+            bad,
+        ),
+        ("Content Type +", Place::Publish, &[4, 3, 0, 1, b'+'], None),
+        (
+            "data without a method",
+            Place::Connect,
+            &[4, 0x16, 0, 1, 7],
+            bad,
+        ),
+        (
+            "data before its method",
+            Place::Auth,
+            &[8, 0x16, 0, 1, 7, 0x15, 0, 1, b'm'],
+            None,
+        ),
+        (
+            "a method without data",
+            Place::Auth,
+            &[4, 0x15, 0, 1, b'm'],
+            None,
+        ),
+        (
+            "Payload Format Indicator twice",
+            Place::Publish,
+            &[4, 1, 0, 1, 0],
+            twice,
+        ),
+        (
+            "Topic Alias twice, of other values",
+            Place::Publish,
+            &[6, 0x23, 0, 1, 0x23, 0, 2],
+            twice,
+        ),
+        (
+            "two User Properties",
+            Place::Unsuback,
+            &[10, 0x26, 0, 0, 0, 0, 0x26, 0, 0, 0, 0],
+            None,
+        ),
+        (
+            "two Subscription Identifiers",
+            Place::Publish,
+            &[4, 0x0b, 5, 0x0b, 5],
+            None,
+        ),
+        (
+            "two of them in SUBSCRIBE",
+            Place::Subscribe,
+            &[4, 0x0b, 5, 0x0b, 6],
+            twice,
+        ),
+        (
+            "twice before a bad value",
+            Place::Connect,
+            &[6, 0x21, 0, 0, 0x21, 0, 0],
+            twice,
+        ),
+        (
+            "a foreign one before twice",
+            Place::Publish,
+            &[6, 1, 2, 1, 2, 0x17, 1],
+            malformed,
+        ),
+        (
+            "an unknown identifier",
+            Place::Publish,
+            &[2, 4, 0],
+            malformed,
+        ),
+        (
+            "an identifier of two bytes",
+            Place::Publish,
+            &[3, 0x81, 0, 1],
+            malformed,
+        ),
+        (
+            "a length that is too great",
+            Place::Publish,
+            &[3, 1, 1],
+            malformed,
+        ),
+        (
+            "a length that is too small",
+            Place::Publish,
+            &[1, 1, 1],
+            malformed,
+        ),
+        (
+            "a length of two bytes for 2",
+            Place::Publish,
+            &[0x82, 0, 1, 1],
+            malformed,
+        ),
+        ("no length", Place::Publish, &[], malformed),
+        (
+            "a text with U+0000",
+            Place::Publish,
+            &[4, 3, 0, 1, 0],
+            malformed,
+        ),
+        (
+            "a text that is no UTF-8",
+            Place::Publish,
+            &[4, 3, 0, 1, 0xff],
+            malformed,
+        ),
+    ];
+    for (text, place, block, want) in rows {
+        assert_eq!(rt; fault_of(block, place), want, "{text}");
+        let owned = match read(rt.alloc(), block, place) {
+            Ok(_) => None,
+            Err(fault) => Some(fault),
+        };
+        assert_eq!(rt; owned, want, "{text}");
+        // A law is no part of the layout.
+        assert_eq!(rt;
+            layout_read(block, place).is_err(),
+            want == malformed,
+            "{text}"
+        );
+    }
+    Ok(())
+}
+
+const PUBLISH: [u8; 17] = [
+    14, 1, 1, 0x23, 0, 5, 0x26, 0, 1, b'k', 0, 1, b'v', 0x0b, 7, 0xaa, 0xbb,
+];
+
+#[test]
+fn a_block_is_written_as_it_was_read(rt: HostRuntime) -> Result<(), Fail> {
+    let (list, taken) = read(rt.alloc(), &PUBLISH, Place::Publish).expect(&rt, "it is read");
+    assert_eq!(rt; taken, 15);
+    let mut out = Vec::new(rt.alloc());
+    out.push(9)?;
+    assert_eq!(rt; write(&list, &mut out), Ok(()));
+    assert_eq!(rt; out.len(), 16);
+    assert_eq!(rt; &out[1..], &PUBLISH[..15]);
+    Ok(())
+}
+
+#[test]
+fn a_list_tells_its_properties(rt: HostRuntime) -> Result<(), Fail> {
+    let (props, taken) = look_at(&PUBLISH, Place::Publish).expect(&rt, "it is read");
+    assert_eq!(rt; taken, 15);
+    assert_eq!(rt; props.len(), 4);
+    assert_eq!(rt; props.block_len(), 15);
+    assert!(rt; !props.is_empty());
+    assert!(rt; props.may_stand_in(Place::Publish) && !props.may_stand_in(Place::Will));
+    assert!(rt; props.is_lawful(Place::Publish));
+    assert!(rt; props.has(PropName::TopicAlias) && !props.has(PropName::ContentType));
+    let alias = PropRef {
+        name: PropName::TopicAlias,
+        value: ValueRef::U16(5),
+    };
+    assert_eq!(rt; props.get(PropName::TopicAlias), Some(alias));
+    assert_eq!(rt; props.get(PropName::ContentType), None);
+    let mut rest = props.reborrow();
+    for name in [
+        PropName::PayloadFormatIndicator,
+        PropName::TopicAlias,
+        PropName::UserProperty,
+        PropName::SubscriptionIdentifier,
+    ] {
+        let (prop, after) = rest.split_first().expect(&rt, "one more property");
+        assert_eq!(rt; prop.name, name);
+        assert!(rt; prop.fits() && prop.value.kind() == name.kind(), "{name:?}");
+        rest = after;
+    }
+    assert!(rt; rest.split_first().is_none());
+    let none = PropsRef::empty();
+    assert!(rt; none.is_empty());
+    assert_eq!(rt; none.len(), 0);
+    assert_eq!(rt; none.block_len(), 1);
+    Ok(())
+}
+
+#[test]
+fn a_list_is_made_from_others(rt: HostRuntime) -> Result<(), Fail> {
+    let (props, _) = look_at(&PUBLISH, Place::Publish).expect(&rt, "it is read");
+    let mut list = props
+        .without(rt.alloc(), PropName::TopicAlias)
+        .expect(&rt, "there is memory");
+    assert_eq!(rt; list.lend().len(), 3);
+    let before = list.clone().expect(&rt, "there is memory");
+    let identifier = PropRef {
+        name: PropName::SubscriptionIdentifier,
+        value: ValueRef::VarInt(300),
+    };
+    assert_eq!(rt; list.push(rt.alloc(), identifier), Ok(()));
+    let users = props
+        .only(rt.alloc(), PropName::UserProperty)
+        .expect(&rt, "there is memory");
+    assert_eq!(rt; list.append(rt.alloc(), &users.lend()), Ok(()));
+    assert_eq!(rt; before.lend().len(), 3, "a clone stays as it is");
+    let mut out = Vec::new(rt.alloc());
+    assert_eq!(rt; list.lend().push_block(&mut out), Ok(()));
+    let want = [
+        21, 1, 1, 0x26, 0, 1, b'k', 0, 1, b'v', 0x0b, 7, 0x0b, 0xac, 2, 0x26, 0, 1, b'k', 0, 1,
+        b'v',
+    ];
+    assert_eq!(rt; &out[..], &want[..]);
+    assert!(rt; PropList::new().lend().is_empty());
+    Ok(())
+}
+
+#[test]
+fn a_property_without_spelling_is_not_added(rt: HostRuntime) -> Result<(), Fail> {
+    let rows = [
+        ("another kind", PropName::TopicAlias, ValueRef::U32(5)),
+        (
+            "too great",
+            PropName::SubscriptionIdentifier,
+            ValueRef::VarInt(268_435_456),
+        ),
+        ("U+0000", PropName::ReasonString, ValueRef::Text("a\0")),
+        (
+            "U+0000 in a pair",
+            PropName::UserProperty,
+            ValueRef::Pair("a", "\0"),
+        ),
+    ];
+    let mut list = PropList::new();
+    for (text, name, value) in rows {
+        let prop = PropRef { name, value };
+        assert!(rt; !prop.fits(), "{text}");
+        assert_eq!(rt;
+            list.push(rt.alloc(), prop),
+            Err(PropFault::Malformed),
+            "{text}"
+        );
+        assert!(rt; list.lend().is_empty(), "{text}");
+    }
+    let values = [
+        (PropName::MaximumQos, ValueRef::Byte(1)),
+        (PropName::ServerKeepAlive, ValueRef::U16(60)),
+        (PropName::SessionExpiryInterval, ValueRef::U32(0xffff_ffff)),
+        (
+            PropName::SubscriptionIdentifier,
+            ValueRef::VarInt(268_435_455),
+        ),
+        (PropName::AssignedClientIdentifier, ValueRef::Text("auto-1")),
+        (PropName::AuthenticationData, ValueRef::Binary(&[0, 255])),
+        (PropName::UserProperty, ValueRef::Pair("", "")),
+    ];
+    for (name, value) in values {
+        let prop = PropRef { name, value };
+        assert_eq!(rt; list.push(rt.alloc(), prop), Ok(()), "{name:?}");
+        assert_eq!(rt; list.lend().get(name), Some(prop), "{name:?}");
+    }
+    assert_eq!(rt; list.lend().len(), 7);
+    Ok(())
+}
+
+// To be run with each allocation failing in turn: every answer is the right one or want of memory,
+// and want of memory changes nothing.
+#[test]
+fn want_of_memory_changes_nothing(rt: HostRuntime) -> Result<(), Fail> {
+    let mut out = Vec::new(rt.alloc());
+    let mut list = PropList::new();
+    match read(rt.alloc(), &PUBLISH, Place::Publish) {
+        Ok((all, taken)) => {
+            assert_eq!(rt; taken, 15);
+            list = all;
+        }
+        Err(fault) => assert_eq!(rt; fault, PropFault::Memory),
+    }
+    let len = list.lend().len();
+    match write(&list, &mut out) {
+        Ok(()) => assert_eq!(rt; out.len(), list.lend().block_len()),
+        Err(fault) => {
+            assert_eq!(rt; fault, PropFault::Memory);
+            assert!(rt; out.is_empty());
+        }
+    }
+    let prop = PropRef {
+        name: PropName::ReasonString,
+        value: ValueRef::Text("why"),
+    };
+    match list.push(rt.alloc(), prop) {
+        Ok(()) => assert_eq!(rt; list.lend().len(), len + 1),
+        Err(fault) => {
+            assert_eq!(rt; fault, PropFault::Memory);
+            assert_eq!(rt; list.lend().len(), len);
+        }
+    }
+    let len = list.lend().len();
+    if let Ok(more) = list.lend().only(rt.alloc(), PropName::UserProperty) {
+        let count = more.lend().len();
+        match list.append(rt.alloc(), &more.lend()) {
+            Ok(()) => assert_eq!(rt; list.lend().len(), len + count),
+            Err(fault) => {
+                assert_eq!(rt; fault, PropFault::Memory);
+                assert_eq!(rt; list.lend().len(), len);
+            }
+        }
+    }
+    if let Ok(less) = list.lend().without(rt.alloc(), PropName::TopicAlias) {
+        assert!(rt; !less.lend().has(PropName::TopicAlias));
+    }
+    if let Ok(copy) = list.lend().to_list(rt.alloc()) {
+        assert_eq!(rt; copy.lend().len(), list.lend().len());
+    }
+    Ok(())
+}
