@@ -4,6 +4,7 @@
 use anyhow::Context;
 use bytes::Bytes;
 use mqtt_base::{Cause, Phase, Qos, Text};
+use mqtt_props::PropList;
 use mqtt_records::{
     Boxed, Change, Columns, Content, Entry, Keep, KeepError, MemKeep, MessageCopy, Records,
     SessionRow, SubscriptionIdentifiers,
@@ -27,6 +28,11 @@ const SIZES: [(u64, u64); 6] = [
     (1_000, 100),
     (1_000, 1_000),
 ];
+
+fn text(alloc: Global, text: &str) -> anyhow::Result<Text> {
+    anyhow::ensure!(Text::may_hold(text), "{text} is no text");
+    Ok(Text::new(alloc, text)?)
+}
 
 /// A copy of a publication that waits at a place.
 fn put_copy(
@@ -64,7 +70,7 @@ fn stock_of(
     for other in 1..=sessions {
         let columns = Columns {
             birth: other,
-            client: Text::new(alloc, "client")?,
+            client: content.topic.clone()?,
             expiry: 60,
             closed: None,
         };
@@ -152,8 +158,8 @@ fn main(rt: HostRuntime) -> anyhow::Result<()> {
         None => DEFAULT_CHANGES,
     };
     let content = Content {
-        topic: Text::new(alloc, "a/b")?,
-        properties: Bytes::new(),
+        topic: text(alloc, "a/b")?,
+        properties: PropList::new(),
         payload: Bytes::copy_from_slice(alloc, b"12345")?,
         arrived: 0,
     };

@@ -10,8 +10,8 @@ use Rattle.mqtt_base.specs.declared.session.SubscriptionOptions.{SubscriptionOpt
 use Rattle.mqtt_records.specs.declared.message.Content.{Content}
 use Rattle.mqtt_records.specs.declared.message.MessageCopy.{MessageCopy}
 use Rattle.mqtt_records.specs.declared.message.Retained.{Retained}
-use Rattle.mqtt_records.specs.declared.session.Subscription.{Subscription}
-use Rattle.mqtt_records.specs.declared.session.Entry.{Entry}
+use Rattle.mqtt_records.specs.declared.subscription.Subscription.{Subscription}
+use Rattle.mqtt_records.specs.declared.queue.Entry.{Entry}
 use Rattle.mqtt_records.specs.declared.session.Columns.{Columns}
 use Rattle.mqtt_records.specs.declared.session.Session.{Session}
 use Rattle.mqtt_records.specs.declared.records.Records.{Records}

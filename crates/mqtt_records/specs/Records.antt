@@ -1,7 +1,9 @@
 -- All that is kept, what a change makes of it, and which changes fit (4.1).
 use Rattle.std.specs.Prelude.{◌≡◌, ℕ, ◌<◌, ◌≤◌, true, cond, List, [], ◌∷◌, length, Option, Some, None}
 use Rattle.std.specs.List.{All}
-use Rattle.mqtt_records.specs.declared.session.TheConstants.{SUBSCRIPTION_LIMIT, INBOUND_LIMIT, QUEUE_LIMIT}
+use Rattle.mqtt_records.specs.declared.subscription.TheConstants.{SUBSCRIPTION_LIMIT}
+use Rattle.mqtt_records.specs.declared.session.TheConstants.{INBOUND_LIMIT}
+use Rattle.mqtt_records.specs.declared.queue.TheConstants.{QUEUE_LIMIT}
 use Rattle.mqtt_records.specs.declared.records.TheConstants.{SESSION_LIMIT, RETAINED_LIMIT}
 use Rattle.mqtt_records.specs.declared.message.Retained.{Retained}
 use Rattle.mqtt_records.specs.declared.session.Session.{Session}

@@ -1,10 +1,12 @@
 -- What is kept of a session, and how a part of it changes (4.1).
 use Rattle.std.specs.Prelude.{◌≡◌, refl, ℕ, not, bytes_eq, List, [], ◌∷◌, filter, Option, Some, None}
 use Rattle.mqtt_base.specs.declared.session.Phase.{Phase}
-use Rattle.mqtt_records.specs.declared.session.TheConstants.{SUBSCRIPTION_LIMIT, INBOUND_LIMIT, QUEUE_LIMIT}
+use Rattle.mqtt_records.specs.declared.subscription.TheConstants.{SUBSCRIPTION_LIMIT}
+use Rattle.mqtt_records.specs.declared.session.TheConstants.{INBOUND_LIMIT}
+use Rattle.mqtt_records.specs.declared.queue.TheConstants.{QUEUE_LIMIT}
 use Rattle.mqtt_records.specs.declared.message.Will.{Will}
-use Rattle.mqtt_records.specs.declared.session.Entry.{Entry}
-use Rattle.mqtt_records.specs.declared.session.Subscription.{Subscription}
+use Rattle.mqtt_records.specs.declared.queue.Entry.{Entry}
+use Rattle.mqtt_records.specs.declared.subscription.Subscription.{Subscription}
 use Rattle.mqtt_records.specs.declared.session.Session.{Session}
 use Rattle.mqtt_records.specs.declared.session.Columns.{Columns}
 use Rattle.mqtt_records.specs.declared.session.SessionPart.{SessionPart}

@@ -2,8 +2,10 @@
 ghost use Rattle.std.specs.Prelude.{◌≡◌, IfOk};
 
 use crate::message::{Retained, Will};
+use crate::queue::Entry;
 use crate::rows::Boxed;
-use crate::session::{Entry, SessionRow, Subscription};
+use crate::session::SessionRow;
+use crate::subscription::Subscription;
 use mqtt_base::{Phase, Text};
 use std::alloc::{AllocError, Global};
 

@@ -1,5 +1,5 @@
 //! A store for tests, whose device fails once.
-ghost use Rattle.std.specs.Prelude.{◌≡◌, ◌≢◌, IfOk, IsTrue};
+ghost use Rattle.std.specs.Prelude.{◌≡◌, ◌≢◌, IfOk, IsTrue, Some};
 ghost use Rattle.mqtt_records.specs.Records.{nothing};
 
 use crate::change::{Change, clone_all};
@@ -33,13 +33,19 @@ impl Model for FaultyKeep {
 
     ghost Value = { Faulty };
 
-    ghost view = { λ a. record { records = a.records; failures = a.failures } };
+    ghost view = { λ a. record {
+      records = a.records;
+      until = a.until;
+      failure = a.failure;
+      failures = a.failures;
+    } };
 }
 
 impl FaultyKeep {
     /// A store that has nothing yet. `until` calls of `apply` are made, the next fails, later ones are made again.
     pub fn new(alloc: Global, until: u64, failure: Failure) -> Result<FaultyKeep, AllocError>
-        ensures { IfOk result (λ keep. keep.records ≡ nothing) }
+        ensures records { IfOk result (λ keep. keep.records ≡ nothing) }
+        ensures failure { IfOk result (λ keep. (keep.until ≡ Some until) × (keep.failure ≡ failure)) }
     {
         Ok(FaultyKeep {
             records: Records::new(alloc)?,

@@ -58,7 +58,7 @@ pub trait Keep: Drop {
     // A load may be refused so.
     ghost refuses: { Self → KeepError → Type 0 };
 
-    /// Reads all records. Asked for once before any change.
+    /// Reads all records. Changes can be applied once it has answered Ok.
     fn load(&mut self, alloc: Global) -> Result<Records, KeepError>
         // What it answers is what it has.
         ensures exact { (r : Records) → holds self.old r → IfOk result (λ records. is_sound self.new → records ≡ r) }

@@ -7,9 +7,11 @@ mod keep;
 mod laws;
 mod memory;
 mod message;
+mod queue;
 mod records;
 mod rows;
 mod session;
+mod subscription;
 
 pub use change::{Change, Counter, clone_all};
 pub use keep::{Keep, KeepError};
@@ -19,12 +21,11 @@ pub use laws::{
 };
 pub use memory::MemKeep;
 pub use message::{Content, MessageCopy, Retained, SubscriptionIdentifiers, Will};
+pub use queue::{Entry, QUEUE_LIMIT};
 pub use records::{RETAINED_LIMIT, Records, SESSION_LIMIT};
 pub use rows::{Boxed, Editable, Row, Rows};
-pub use session::{
-    Columns, Entry, INBOUND_LIMIT, QUEUE_LIMIT, SUBSCRIPTION_LIMIT, Session, SessionPart,
-    SessionRow, Subscription,
-};
+pub use session::{Columns, INBOUND_LIMIT, Session, SessionPart, SessionRow};
+pub use subscription::{SUBSCRIPTION_LIMIT, Subscription};
 
 #[cfg(test)]
 mod tests;

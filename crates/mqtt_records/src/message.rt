@@ -4,6 +4,7 @@ ghost use Rattle.std.specs.Prelude.{◌≡◌, ◌++◌, [], ◌∷◌, List, If
 use crate::rows::Row;
 use bytes::Bytes;
 use mqtt_base::{Cause, Qos, Text};
+use mqtt_props::PropList;
 use std::alloc::{AllocError, Global};
 use std::marker::Model;
 
@@ -61,8 +62,8 @@ impl Clone for SubscriptionIdentifiers {
 pub struct Content {
     /// The topic name.
     pub topic: Text,
-    /// Properties as they are sent, without length, Subscription Identifiers and Topic Alias.
-    pub properties: Bytes,
+    /// Properties in the order in which they are sent, without Subscription Identifiers and Topic Alias.
+    pub properties: PropList,
     /// The payload.
     pub payload: Bytes,
     /// When the publication was accepted: a moment in milliseconds.
@@ -93,8 +94,8 @@ pub struct Will {
     pub retain: bool,
     /// The Will Topic.
     pub topic: Text,
-    /// The Will Properties as received, without length.
-    pub properties: Bytes,
+    /// The Will Properties as received.
+    pub properties: PropList,
     /// The Will Payload.
     pub payload: Bytes,
 }

@@ -60,11 +60,6 @@ impl<R: Drop> Boxed<R> {
         &self.row
     }
 
-    /// Where its memory is from. Takes no memory.
-    pub fn allocator(&self) -> Global {
-        *Box::allocator(&self.row)
-    }
-
     /// Takes the row out of its box. Takes no memory.
     pub fn into_row(self) -> R
         ensures { result ≡ self }

@@ -1,102 +1,17 @@
 //! What is kept of a session: its row, Will, subscriptions, open identifiers and queue (4.1).
-ghost use Rattle.std.specs.Prelude.{◌≡◌, IfOk, filter, not, bytes_eq};
-ghost use Rattle.mqtt_records.specs.Session.{fresh, without_filter, put_subscription};
+ghost use Rattle.std.specs.Prelude.{◌≡◌, IfOk};
+ghost use Rattle.mqtt_records.specs.Session.{fresh};
 
-use crate::message::{MessageCopy, Will};
+use crate::message::Will;
+use crate::queue::{Entry, QUEUE_LIMIT};
 use crate::rows::{Boxed, Editable, Row, Rows};
-use mqtt_base::{Phase, SubscriptionOptions, Text};
+use crate::subscription::{SUBSCRIPTION_LIMIT, Subscription};
+use mqtt_base::{Phase, Text};
 use std::alloc::{AllocError, Global};
 use std::marker::Model;
 
-/// How many subscriptions a session has at most (ours).
-pub const SUBSCRIPTION_LIMIT: usize = 100;
 /// How many identifiers of QoS 2 publications from the client are open at most: our Receive Maximum (4.9).
 pub const INBOUND_LIMIT: usize = 20;
-/// How many copies a queue has at most (ours).
-pub const QUEUE_LIMIT: usize = 1000;
-
-/// A subscription (3.8).
-#[derive(Drop)]
-pub struct Subscription {
-    /// The topic filter, or `$share/NAME/FILTER` (4.7, 4.8.2). A session has it once.
-    pub filter: Text,
-    /// Its place: the number of the subscribe that first brought the filter, from 1.
-    pub place: u64,
-    /// Its options.
-    pub options: SubscriptionOptions,
-    /// Its Subscription Identifier, from 1.
-    pub identifier: Option<u32>,
-}
-
-impl Row for Subscription {
-    ghost key_of = { λ subscription. subscription.place };
-
-    fn key(&self) -> u64 {
-        self.place
-    }
-
-    ghost clone_is = { λ value copy same. same };
-}
-
-impl Clone for Subscription {
-    ghost is_clone = { λ value copy. copy ≡ value };
-
-    fn clone(&self) -> Result<Subscription, AllocError> {
-        Ok(Subscription {
-            filter: self.filter.clone()?,
-            place: self.place,
-            options: self.options,
-            identifier: self.identifier,
-        })
-    }
-}
-
-/// A copy in a session's queue (4.3, 4.6).
-#[derive(Drop)]
-pub struct Entry {
-    /// Its place in the queue, from 1: copies are sent in this order.
-    pub place: u64,
-    /// How far it has come.
-    pub phase: Phase,
-    /// What is sent.
-    pub copy: MessageCopy,
-}
-
-impl Row for Entry {
-    ghost key_of = { λ entry. entry.place };
-
-    fn key(&self) -> u64 {
-        self.place
-    }
-
-    ghost clone_is = { λ value copy same. same };
-}
-
-impl Editable for Entry {
-    type Part = Phase;
-
-    ghost edited = { λ phase entry. record entry { phase = phase } };
-
-    fn edit(&mut self, phase: Phase) {
-        self.phase = phase;
-    }
-
-    ghost use Rattle.std.proofs.Common.{refl};
-
-    ghost key_kept = { λ phase entry. refl };
-}
-
-impl Clone for Entry {
-    ghost is_clone = { λ value copy. copy ≡ value };
-
-    fn clone(&self) -> Result<Entry, AllocError> {
-        Ok(Entry {
-            place: self.place,
-            phase: self.phase,
-            copy: self.copy.clone()?,
-        })
-    }
-}
 
 impl Row for u16 {
     ghost key_of = { λ identifier. identifier };
@@ -242,14 +157,9 @@ impl Clone for SessionRow {
     ghost is_clone = { λ value copy. copy ≡ value };
 
     fn clone(&self) -> Result<SessionRow, AllocError> {
-        let session = self.session.get();
-        let columns = Columns {
-            birth: session.birth,
-            client: session.client.clone()?,
-            expiry: session.expiry,
-            closed: session.closed,
-        };
-        SessionRow::new(self.session.allocator(), columns)
+        Ok(SessionRow {
+            session: self.session.clone()?,
+        })
     }
 }
 
@@ -309,22 +219,4 @@ impl Editable for Session {
     ghost use Rattle.mqtt_records.specs.Session.{birth_of-part_changed};
 
     ghost key_kept = { birth_of-part_changed };
-}
-
-impl Rows<Boxed<Subscription>, SUBSCRIPTION_LIMIT> {
-    /// Removes the subscription to a filter, if there is one. Takes no memory.
-    pub fn remove_filter(&mut self, filter: &Text)
-        ensures { self.new ≡ without_filter filter.now self.old }
-    {
-        self.rows
-            .retain(|row| row.get().filter.as_str() != filter.as_str());
-    }
-
-    /// Puts a subscription in place of one to the same filter. Takes no memory.
-    pub fn put_by_filter(&mut self, subscription: Boxed<Subscription>)
-        ensures { self.new ≡ put_subscription subscription self.old }
-    {
-        self.remove_filter(&subscription.get().filter);
-        self.put(subscription);
-    }
 }

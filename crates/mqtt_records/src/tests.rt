@@ -1,6 +1,4 @@
 //! A subscriber's and a publisher's rows, each kind of change, a failing device, each growth refused.
-ghost use Rattle.std.specs.Prelude.{◌≡◌};
-ghost use Rattle.mqtt_base.specs.Values.{FitsText};
 
 use crate::faulty::{Failure, FaultyKeep};
 use crate::{
@@ -10,19 +8,22 @@ use crate::{
 };
 use bytes::Bytes;
 use mqtt_base::{Cause, Phase, Qos, RetainHandling, SubscriptionOptions, Text};
+use mqtt_props::PropList;
 use std::alloc::{AllocError, Global};
 use std::test::Fail;
 
-fn text(alloc: Global, text: &str) -> Result<Text, AllocError>
-    requires { FitsText text.now }
-{
+/// A text that is one.
+fn text(alloc: Global, text: &str) -> Result<Text, AllocError> {
+    if !Text::may_hold(text) {
+        return Err(AllocError);
+    }
     Text::new(alloc, text)
 }
 
 fn content(alloc: Global) -> Result<Content, AllocError> {
     Ok(Content {
         topic: text(alloc, "a/b")?,
-        properties: Bytes::new(),
+        properties: PropList::new(),
         payload: Bytes::copy_from_slice(alloc, b"hi")?,
         arrived: 0,
     })
@@ -33,9 +34,7 @@ fn session(
     birth: u64,
     client: &str,
     closed: Option<u64>,
-) -> Result<Change, AllocError>
-    requires { FitsText client.now }
-{
+) -> Result<Change, AllocError> {
     let columns = Columns {
         birth,
         client: text(alloc, client)?,
@@ -47,9 +46,7 @@ fn session(
     })
 }
 
-fn subscription(alloc: Global, birth: u64, filter: &str, place: u64) -> Result<Change, AllocError>
-    requires { FitsText filter.now }
-{
+fn subscription(alloc: Global, birth: u64, filter: &str, place: u64) -> Result<Change, AllocError> {
     let subscription = Subscription {
         filter: text(alloc, filter)?,
         place,
@@ -99,7 +96,7 @@ fn will(alloc: Global, birth: u64) -> Result<Change, AllocError> {
             qos: Qos::AtLeastOnce,
             retain: true,
             topic: text(alloc, "w")?,
-            properties: Bytes::new(),
+            properties: PropList::new(),
             payload: Bytes::copy_from_slice(alloc, b"gone")?,
         },
     })

@@ -1,9 +1,9 @@
 use Rattle.std.proofs.Common.{rules, ◌≡◌, not, bytes_eq, List, filter, ◌∙◌}
 use Rattle.std.proofs.lemmas.Fn.{filter_same}
-use Rattle.mqtt_records.specs.declared.session.Subscription.{Subscription}
+use Rattle.mqtt_records.specs.declared.subscription.Subscription.{Subscription}
 use Rattle.mqtt_records.specs.Session.{place_of, without_filter}
 use Rattle.mqtt_records.proofs.OrderLemmas.{filter-ascending}
-use Rattle.mqtt_records.proofs.session.Rows+Boxed+Subscription+SUBSCRIPTION_LIMIT.remove_filter.Goals as goal
+use Rattle.mqtt_records.proofs.subscription.Rows+Boxed+Subscription+SUBSCRIPTION_LIMIT.remove_filter.Goals as goal
 
 pub invariant_of-self : goal.invariant_of-self
 invariant_of-self c =
