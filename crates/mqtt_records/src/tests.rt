@@ -220,90 +220,66 @@ fn a_session_ends_with_all_its_rows(rt: HostRuntime) -> Result<(), Fail> {
     Ok(())
 }
 
+/// The rows after each change of `change_at`, made one after the other behind `course`.
+const ROWS: [(&str, [usize; 6]); 17] = [
+    ("a number", [2, 0, 1, 1, 1, 0]),
+    ("a moment", [2, 0, 1, 1, 1, 0]),
+    ("a session", [3, 0, 1, 1, 1, 0]),
+    ("its row anew", [3, 0, 1, 1, 1, 0]),
+    ("a Will", [3, 1, 1, 1, 1, 0]),
+    ("a second subscription", [3, 1, 2, 1, 1, 0]),
+    ("the same filter", [3, 1, 2, 1, 1, 0]),
+    ("an identifier", [3, 1, 2, 2, 1, 0]),
+    ("a second copy", [3, 1, 2, 2, 2, 0]),
+    ("a retained message", [3, 1, 2, 2, 2, 1]),
+    ("it anew", [3, 1, 2, 2, 2, 1]),
+    ("it is removed", [3, 1, 2, 2, 2, 0]),
+    ("a copy ends", [3, 1, 2, 2, 1, 0]),
+    ("an identifier closes", [3, 1, 2, 1, 1, 0]),
+    ("an UNSUBSCRIBE", [3, 1, 1, 1, 1, 0]),
+    ("the Will is dropped", [3, 0, 1, 1, 1, 0]),
+    ("a session ends", [2, 0, 1, 1, 1, 0]),
+];
+
+/// A change of each kind, in an order in which each fits.
+fn change_at(alloc: Global, turn: usize) -> Result<Change, AllocError> {
+    match turn {
+        0 => Ok(counter(Counter::Autos, 3)),
+        1 => Ok(counter(Counter::Moment, 9)),
+        2 => session(alloc, 3, "x", Some(5)),
+        3 => session(alloc, 1, "r1", Some(6)),
+        4 => will(alloc, 1),
+        5 => subscription(alloc, 1, "c", 2),
+        6 => subscription(alloc, 1, "a/b", 1),
+        7 => Ok(Change::PutInbound {
+            birth: 2,
+            identifier: 4,
+        }),
+        8 => copy(alloc, 1, 2),
+        9 | 10 => retained(alloc, 1),
+        11 => Ok(Change::RemoveRetained { place: 1 }),
+        12 => Ok(Change::RemoveCopy { birth: 1, place: 1 }),
+        13 => Ok(Change::RemoveInbound {
+            birth: 2,
+            identifier: 10,
+        }),
+        14 => Ok(Change::RemoveSubscription {
+            birth: 1,
+            filter: text(alloc, "a/b")?,
+        }),
+        15 => Ok(Change::RemoveWill { birth: 1 }),
+        _ => Ok(Change::RemoveSession { birth: 3 }),
+    }
+}
+
 #[test]
 fn each_kind_of_change_changes_its_rows(rt: HostRuntime) -> Result<(), Fail> {
     let alloc = rt.alloc();
-    let rows_after: [(&str, Change, [usize; 6]); 17] = [
-        ("a number", counter(Counter::Autos, 3), [2, 0, 1, 1, 1, 0]),
-        ("a moment", counter(Counter::Moment, 9), [2, 0, 1, 1, 1, 0]),
-        (
-            "a session",
-            session(alloc, 3, "x", Some(5))?,
-            [3, 0, 1, 1, 1, 0],
-        ),
-        (
-            "its row anew",
-            session(alloc, 1, "r1", Some(6))?,
-            [3, 0, 1, 1, 1, 0],
-        ),
-        ("a Will", will(alloc, 1)?, [3, 1, 1, 1, 1, 0]),
-        (
-            "a second subscription",
-            subscription(alloc, 1, "c", 2)?,
-            [3, 1, 2, 1, 1, 0],
-        ),
-        (
-            "the same filter",
-            subscription(alloc, 1, "a/b", 1)?,
-            [3, 1, 2, 1, 1, 0],
-        ),
-        (
-            "an identifier",
-            Change::PutInbound {
-                birth: 2,
-                identifier: 4,
-            },
-            [3, 1, 2, 2, 1, 0],
-        ),
-        ("a second copy", copy(alloc, 1, 2)?, [3, 1, 2, 2, 2, 0]),
-        (
-            "a retained message",
-            retained(alloc, 1)?,
-            [3, 1, 2, 2, 2, 1],
-        ),
-        ("it anew", retained(alloc, 1)?, [3, 1, 2, 2, 2, 1]),
-        (
-            "it is removed",
-            Change::RemoveRetained { place: 1 },
-            [3, 1, 2, 2, 2, 0],
-        ),
-        (
-            "a copy ends",
-            Change::RemoveCopy { birth: 1, place: 1 },
-            [3, 1, 2, 2, 1, 0],
-        ),
-        (
-            "an identifier closes",
-            Change::RemoveInbound {
-                birth: 2,
-                identifier: 10,
-            },
-            [3, 1, 2, 1, 1, 0],
-        ),
-        (
-            "an UNSUBSCRIBE",
-            Change::RemoveSubscription {
-                birth: 1,
-                filter: text(alloc, "a/b")?,
-            },
-            [3, 1, 1, 1, 1, 0],
-        ),
-        (
-            "the Will is dropped",
-            Change::RemoveWill { birth: 1 },
-            [3, 0, 1, 1, 1, 0],
-        ),
-        (
-            "a session ends",
-            Change::RemoveSession { birth: 3 },
-            [2, 0, 1, 1, 1, 0],
-        ),
-    ];
     let mut keep = MemKeep::new(alloc)?;
     keep.change_all(&course(alloc)?)?;
-    for (name, change, wanted) in rows_after {
-        let records = kept(&mut keep, alloc, &[change])?;
-        assert_eq!(rt; rows(&records), wanted, "after {name}");
+    for (turn, (name, wanted)) in ROWS.iter().enumerate() {
+        let records = kept(&mut keep, alloc, &[change_at(alloc, turn)?])?;
+        assert_eq!(rt; rows(&records), *wanted, "after {name}");
     }
     let records = keep.load(alloc)?;
     assert_eq!(rt; numbers(&records), [2, 1, 1, 3, 9], "the numbers");
