@@ -1,23 +1,22 @@
 -- Worked rows, computed: a subscriber gets a message of QoS 2, its session ends, a full list.
-use Rattle.std.proofs.Common.{◌≡◌, ◌≤◌, ℕ, Bool, true, false, List, [], ◌∷◌, length, rules, arith, refl}
-use Rattle.std.specs.Prelude.{codes, Option, Some, None}
+use Rattle.std.proofs.Common.{◌≡◌, ℕ, false, List, [], ◌∷◌, rules, arith, refl}
+use Rattle.std.specs.Prelude.{codes, Some, None}
 use Rattle.mqtt_base.specs.declared.session.Phase.{Phase}
-use Rattle.mqtt_base.specs.declared.session.Phase.TheVariants.{Waiting, Sent, Released, Oversize}
+use Rattle.mqtt_base.specs.declared.session.Phase.TheVariants.{Waiting, Sent}
 use Rattle.mqtt_base.specs.declared.session.Cause.TheVariants.{Direct}
 use Rattle.mqtt_base.specs.declared.session.Qos.TheVariants.{ExactlyOnce}
 use Rattle.mqtt_base.specs.declared.session.RetainHandling.TheVariants.{SendAlways}
 use Rattle.mqtt_base.specs.declared.session.SubscriptionOptions.{SubscriptionOptions}
 use Rattle.mqtt_records.specs.declared.message.Content.{Content}
 use Rattle.mqtt_records.specs.declared.message.MessageCopy.{MessageCopy}
-use Rattle.mqtt_records.specs.declared.message.Retained.{Retained}
 use Rattle.mqtt_records.specs.declared.subscription.Subscription.{Subscription}
 use Rattle.mqtt_records.specs.declared.queue.Entry.{Entry}
 use Rattle.mqtt_records.specs.declared.session.Columns.{Columns}
 use Rattle.mqtt_records.specs.declared.session.Session.{Session}
 use Rattle.mqtt_records.specs.declared.records.Records.{Records}
-use Rattle.mqtt_records.specs.declared.change.Counter.TheVariants.{Births, Publications, Subscribes, Autos, Moment}
+use Rattle.mqtt_records.specs.declared.change.Counter.TheVariants.{Births, Publications, Subscribes}
 use Rattle.mqtt_records.specs.declared.change.Change.{Change}
-use Rattle.mqtt_records.specs.declared.change.Change.TheVariants.{SetCounter, PutSession, RemoveSession, PutSubscription, PutInbound, RemoveInbound, PutCopy, SetCopy, RemoveCopy, PutRetained, RemoveRetained}
+use Rattle.mqtt_records.specs.declared.change.Change.TheVariants.{SetCounter, PutSession, RemoveSession, PutSubscription, PutInbound, RemoveInbound, PutCopy, SetCopy, RemoveCopy}
 use Rattle.mqtt_records.specs.Order.{put_row}
 use Rattle.mqtt_records.specs.Session.{number_of}
 use Rattle.mqtt_records.specs.Records.{nothing, changed, changed_all, Fits, FitAll}

@@ -1,5 +1,5 @@
 -- Numbers never fall.
-use Rattle.std.proofs.Common.{◌≡◌, ℕ, ◌≤◌, List, [], ◌∷◌, refl, arith}
+use Rattle.std.proofs.Common.{ℕ, ◌≤◌, List, [], ◌∷◌, arith}
 use Rattle.mqtt_records.specs.declared.session.Session.{Session}
 use Rattle.mqtt_records.specs.declared.message.Retained.{Retained}
 use Rattle.mqtt_records.specs.declared.records.Records.{Records}

@@ -1,5 +1,5 @@
 -- Lists of rows in the order of their keys: what is found, put and removed by key.
-use Rattle.std.specs.Prelude.{◌≡◌, ℕ, zero, suc, ◌+◌, ◌<◌, Bool, true, cond, not, ◌||◌, List, [], ◌∷◌, length, filter, nat_eq, nat_lt, Option, Some, None, is_some, slice_get, Result, Ok, Err}
+use Rattle.std.specs.Prelude.{◌≡◌, ℕ, zero, suc, ◌<◌, Bool, true, cond, not, ◌||◌, List, [], ◌∷◌, length, filter, nat_eq, nat_lt, Option, Some, None, is_some, slice_get, Result, Ok, Err}
 
 module _ {X : Type 0} (key : X → ℕ) where
   -- each key is above n

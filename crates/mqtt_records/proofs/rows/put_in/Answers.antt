@@ -1,4 +1,4 @@
-use Rattle.std.proofs.Common.{◌≡◌, ◌<◌, ◌≤◌, length, vec_len, sym, ◌∙◌, arith}
+use Rattle.std.proofs.Common.{◌<◌, ◌≤◌, length, ◌∙◌, arith}
 use Rattle.mqtt_records.proofs.OrderLemmas.{put_found, put_new, missed_within}
 use Rattle.mqtt_records.proofs.rows.put_in.Goals as goal
 

@@ -1,5 +1,4 @@
-use Rattle.std.proofs.Common.{sym, ◌∙◌, subst}
-use Rattle.mqtt_records.specs.Order.{IsAscending}
+use Rattle.std.proofs.Common.{sym}
 use Rattle.mqtt_records.proofs.OrderLemmas.{remove_at, remove-none, remove-ascending}
 use Rattle.mqtt_records.proofs.rows.Rows.remove.Goals as goal
 

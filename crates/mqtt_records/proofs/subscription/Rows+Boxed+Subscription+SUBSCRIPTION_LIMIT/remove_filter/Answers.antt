@@ -1,7 +1,7 @@
-use Rattle.std.proofs.Common.{rules, ◌≡◌, not, bytes_eq, List, filter, ◌∙◌}
+use Rattle.std.proofs.Common.{rules, not, bytes_eq}
 use Rattle.std.proofs.lemmas.Fn.{filter_same}
 use Rattle.mqtt_records.specs.declared.subscription.Subscription.{Subscription}
-use Rattle.mqtt_records.specs.Session.{place_of, without_filter}
+use Rattle.mqtt_records.specs.Session.{place_of}
 use Rattle.mqtt_records.proofs.OrderLemmas.{filter-ascending}
 use Rattle.mqtt_records.proofs.subscription.Rows+Boxed+Subscription+SUBSCRIPTION_LIMIT.remove_filter.Goals as goal
 
