@@ -1,6 +1,8 @@
 //! What session state speaks of: service, subscriptions, copies and their ends (3.8.3.1, 4.1, 4.3).
+ghost use Rattle.std.specs.Prelude.{◌≡◌};
 
 use crate::text::Text;
+use std::alloc::AllocError;
 
 /// The quality of service of a message or a subscription (4.3).
 #[derive(Clone, Copy, Debug, PartialEq, Eq)]
@@ -38,7 +40,7 @@ pub struct SubscriptionOptions {
 }
 
 /// Why a session got a copy of a publication (3.3.4, 4.8).
-#[derive(Drop)]
+#[derive(Debug, PartialEq, Eq, Hash, Drop)]
 pub enum Cause {
     /// One or more of its subscriptions that aren't shared match the topic.
     Direct,
@@ -55,7 +57,7 @@ pub enum Cause {
 }
 
 /// What tells a copy of a publication from all others (4.8).
-#[derive(Drop)]
+#[derive(Debug, PartialEq, Eq, Hash, Drop)]
 pub struct CopyId {
     /// The number of the publication, from 1 in the order of acceptance.
     pub publication: u64,
@@ -107,4 +109,60 @@ pub enum Ending {
     SessionEnded,
     /// It was the oldest that waited in a full queue (ours).
     Dropped,
+}
+
+impl Clone for Cause {
+    ghost is_clone = { λ cause copy. copy ≡ cause };
+
+    /// Another of the same value; a group's bytes are shared.
+    fn clone(&self) -> Result<Cause, AllocError> {
+        match self {
+            Cause::Direct => Ok(Cause::Direct),
+            Cause::Share { group } => Ok(Cause::Share {
+                group: group.clone()?,
+            }),
+            Cause::Retained { subscribe } => Ok(Cause::Retained {
+                subscribe: *subscribe,
+            }),
+        }
+    }
+}
+
+impl Clone for CopyId {
+    ghost is_clone = { λ id copy. copy ≡ id };
+
+    /// Another of the same value; a group's bytes are shared.
+    fn clone(&self) -> Result<CopyId, AllocError> {
+        Ok(CopyId {
+            publication: self.publication,
+            birth: self.birth,
+            cause: self.cause.clone()?,
+        })
+    }
+}
+
+#[cfg(test)]
+mod tests {
+    use super::*;
+    use std::test::Fail;
+
+    #[test]
+    fn a_clone_names_the_same_copy(rt: HostRuntime) -> Result<(), Fail> {
+        let causes = [
+            Cause::Direct,
+            Cause::Share {
+                group: Text::new(rt.alloc(), "")?,
+            },
+            Cause::Retained { subscribe: 3 },
+        ];
+        for cause in causes {
+            let id = CopyId {
+                publication: 1,
+                birth: 2,
+                cause,
+            };
+            assert_eq!(rt; id.clone()?, id);
+        }
+        Ok(())
+    }
 }

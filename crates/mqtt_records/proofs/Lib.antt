@@ -1,0 +1,4 @@
+pub mod OrderLemmas
+pub mod LookUps
+pub mod Numbers
+pub mod Examples

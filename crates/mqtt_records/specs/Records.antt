@@ -1,0 +1,112 @@
+-- All that is kept, what a change makes of it, and which changes fit (4.1).
+use Rattle.std.specs.Prelude.{◌≡◌, ℕ, ◌<◌, ◌≤◌, true, cond, List, [], ◌∷◌, length, Option, Some, None}
+use Rattle.std.specs.List.{All}
+use Rattle.mqtt_records.specs.declared.subscription.TheConstants.{SUBSCRIPTION_LIMIT}
+use Rattle.mqtt_records.specs.declared.session.TheConstants.{INBOUND_LIMIT}
+use Rattle.mqtt_records.specs.declared.queue.TheConstants.{QUEUE_LIMIT}
+use Rattle.mqtt_records.specs.declared.records.TheConstants.{SESSION_LIMIT, RETAINED_LIMIT}
+use Rattle.mqtt_records.specs.declared.message.Retained.{Retained}
+use Rattle.mqtt_records.specs.declared.session.Session.{Session}
+use Rattle.mqtt_records.specs.declared.session.Columns.{Columns}
+use Rattle.mqtt_records.specs.declared.records.Records.{Records}
+use Rattle.mqtt_records.specs.declared.change.Counter.{Counter}
+use Rattle.mqtt_records.specs.declared.change.Counter.TheVariants.{Births, Publications, Subscribes, Autos, Moment}
+use Rattle.mqtt_records.specs.declared.change.Change.{Change}
+use Rattle.mqtt_records.specs.declared.change.Change.TheVariants.{SetCounter, PutSession, RemoveSession, PutWill, RemoveWill, PutSubscription, RemoveSubscription, PutInbound, RemoveInbound, PutCopy, SetCopy, RemoveCopy, PutRetained, RemoveRetained}
+use Rattle.mqtt_records.specs.Order.{HasRoomFor, row_at, has_row, put_row, remove_row, change_row}
+use Rattle.mqtt_records.specs.Session.{birth_of, place_of, number_of, entry_place, fresh, with_columns, with_will, without_filter, with_subscription, without_subscription, with_open, without_open, with_copy, with_phase, without_copy}
+
+abbrev pub kept_place : Retained → ℕ
+kept_place kept = kept.place
+
+-- before the first session
+abbrev pub nothing : Records
+nothing = record { births = 0; publications = 0; subscribes = 0; autos = 0; moment = 0; sessions = []; retained = [] }
+
+-- ---- a change
+
+abbrev pub with_counter : Counter → ℕ → Records → Records
+with_counter Births value r = record r { births = value }
+with_counter Publications value r = record r { publications = value }
+with_counter Subscribes value r = record r { subscribes = value }
+with_counter Autos value r = record r { autos = value }
+with_counter Moment value r = record r { moment = value }
+
+-- a session's own row, put by its birth: a session that stands keeps its other rows, a new one has none
+abbrev pub put_session : Columns → List Session → List Session
+put_session row sessions =
+    cond (has_row birth_of row.birth sessions)
+    (change_row birth_of row.birth (with_columns row) sessions)
+    (put_row birth_of SESSION_LIMIT (fresh row) sessions)
+
+-- the session with that birth changed
+abbrev pub in_session : ℕ → (Session → Session) → Records → Records
+in_session birth f r = record r { sessions = change_row birth_of birth f r.sessions }
+
+abbrev pub changed : Change → Records → Records
+changed (SetCounter counter value) r = with_counter counter value r
+changed (PutSession row) r = record r { sessions = put_session row r.sessions }
+changed (RemoveSession birth) r = record r { sessions = remove_row birth_of birth r.sessions }
+changed (PutWill birth will) r = in_session birth (with_will (Some will)) r
+changed (RemoveWill birth) r = in_session birth (with_will None) r
+changed (PutSubscription birth subscription) r = in_session birth (with_subscription subscription) r
+changed (RemoveSubscription birth text) r = in_session birth (without_subscription text) r
+changed (PutInbound birth identifier) r = in_session birth (with_open identifier) r
+changed (RemoveInbound birth identifier) r = in_session birth (without_open identifier) r
+changed (PutCopy birth entry) r = in_session birth (with_copy entry) r
+changed (SetCopy birth place phase) r = in_session birth (with_phase place phase) r
+changed (RemoveCopy birth place) r = in_session birth (without_copy place) r
+changed (PutRetained kept) r = record r { retained = put_row kept_place RETAINED_LIMIT kept r.retained }
+changed (RemoveRetained place) r = record r { retained = remove_row kept_place place r.retained }
+
+-- one after the other
+abbrev pub changed_all : List Change → Records → Records
+changed_all [] r = r
+changed_all (change ∷ changes) r = changed_all changes (changed change r)
+
+-- ---- which changes fit
+
+abbrev pub counter_of : Counter → Records → ℕ
+counter_of Births r = r.births
+counter_of Publications r = r.publications
+counter_of Subscribes r = r.subscribes
+counter_of Autos r = r.autos
+counter_of Moment r = r.moment
+
+-- there is one, and it has P
+abbrev pub HasSome : {X : Type 0} → Option X → (X → Type 0) → Type 0
+HasSome None P = ⊥
+HasSome (Some x) P = P x
+
+-- the session stands, and has P
+abbrev pub HasSession : ℕ → (Session → Type 0) → Records → Type 0
+HasSession birth P r = HasSome (row_at birth_of birth r.sessions) P
+
+-- no number falls, no list outgrows its limit, what a row refers to stands, and no two rows have the same client
+-- identifier, place of a subscription or retained topic
+abbrev pub Fits : Change → Records → Type 0
+Fits (SetCounter counter value) r = counter_of counter r ≤ value
+Fits (PutSession row) r =
+    HasRoomFor birth_of SESSION_LIMIT row.birth r.sessions
+    × All (λ session. session.client ≡ row.client → session.birth ≡ row.birth) r.sessions
+Fits (RemoveSession birth) r = Unit {0}
+Fits (PutWill birth will) r = HasSession birth (λ session. Unit {0}) r
+Fits (RemoveWill birth) r = Unit {0}
+Fits (PutSubscription birth subscription) r = HasSession birth (λ session.
+    (row_at place_of subscription.place (without_filter subscription.filter session.subscriptions) ≡ None)
+    × (length (without_filter subscription.filter session.subscriptions) < SUBSCRIPTION_LIMIT)) r
+Fits (RemoveSubscription birth text) r = Unit {0}
+Fits (PutInbound birth identifier) r = HasSession birth (λ session. HasRoomFor number_of INBOUND_LIMIT identifier session.inbound) r
+Fits (RemoveInbound birth identifier) r = Unit {0}
+Fits (PutCopy birth entry) r = HasSession birth (λ session. HasRoomFor entry_place QUEUE_LIMIT entry.place session.queue) r
+Fits (SetCopy birth place phase) r = HasSession birth (λ session. has_row entry_place place session.queue ≡ true) r
+Fits (RemoveCopy birth place) r = Unit {0}
+Fits (PutRetained kept) r =
+    HasRoomFor kept_place RETAINED_LIMIT kept.place r.retained
+    × All (λ other. other.content.topic ≡ kept.content.topic → other.place ≡ kept.place) r.retained
+Fits (RemoveRetained place) r = Unit {0}
+
+-- each change fits what the ones before it leave
+abbrev pub FitAll : List Change → Records → Type 0
+FitAll [] r = Unit {0}
+FitAll (change ∷ changes) r = Fits change r × FitAll changes (changed change r)

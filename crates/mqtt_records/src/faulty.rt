@@ -1,0 +1,118 @@
+//! A store for tests, whose device fails once.
+ghost use Rattle.std.specs.Prelude.{◌≡◌, ◌≢◌, IfOk, IsTrue, Some};
+ghost use Rattle.mqtt_records.specs.Records.{nothing};
+
+use crate::change::{Change, clone_all};
+use crate::keep::{Keep, KeepError};
+use crate::records::Records;
+use std::alloc::{AllocError, Global};
+use std::marker::Model;
+
+/// What a failing call of `apply` leaves.
+#[derive(Clone, Copy, Debug, PartialEq, Eq)]
+pub enum Failure {
+    /// The records before the call.
+    BeforeChanges,
+    /// The records after it.
+    AfterChanges,
+}
+
+/// A store in memory of which some call of `apply` answers Disk. For tests.
+#[derive(Drop)]
+pub struct FaultyKeep {
+    records: Records,
+    alloc: Global,
+    /// How many calls of `apply` are made before the one that fails; none: no further call fails.
+    until: Option<u64>,
+    failure: Failure,
+    failures: u64,
+}
+
+impl Model for FaultyKeep {
+    ghost use Rattle.mqtt_records.specs.Faulty.{Faulty};
+
+    ghost Value = { Faulty };
+
+    ghost view = { λ a. record {
+      records = a.records;
+      until = a.until;
+      failure = a.failure;
+      failures = a.failures;
+    } };
+}
+
+impl FaultyKeep {
+    /// A store that has nothing yet. `until` calls of `apply` are made, the next fails, later ones are made again.
+    pub fn new(alloc: Global, until: u64, failure: Failure) -> Result<FaultyKeep, AllocError>
+        ensures records { IfOk result (λ keep. keep.records ≡ nothing) }
+        ensures failure { IfOk result (λ keep. (keep.until ≡ Some until) × (keep.failure ≡ failure)) }
+    {
+        Ok(FaultyKeep {
+            records: Records::new(alloc)?,
+            alloc,
+            until: Some(until),
+            failure,
+            failures: 0,
+        })
+    }
+
+    /// Whether this call fails; counts it, or the failure.
+    fn fails(&mut self) -> bool
+        ensures same { self.new.records ≡ self.old.records }
+        ensures counted { IsTrue result → self.new.failures ≢ self.old.failures }
+    {
+        match self.until {
+            Some(0) => {
+                self.until = None;
+                self.failures = self.failures.wrapping_add(1);
+                true
+            }
+            Some(until) => {
+                self.until = Some(until - 1);
+                false
+            }
+            None => false,
+        }
+    }
+}
+
+impl Keep for FaultyKeep {
+    ghost use Rattle.std.specs.Prelude.{◌≡◌};
+    ghost use Rattle.std.proofs.Common.{◌∙◌};
+    ghost use Rattle.mqtt_records.specs.declared.keep.KeepError.TheVariants.{Memory};
+
+    ghost holds = { λ keep r. keep.records ≡ r };
+
+    ghost is_loaded = { λ _. Unit {0} };
+
+    ghost is_sound = { λ _. Unit {0} };
+
+    ghost leaves = { λ keep left. left ≡ keep.records };
+
+    ghost counted = { λ keep. keep.failures };
+
+    ghost refuses = { λ _ fault. fault ≡ Memory };
+
+    fn load(&mut self, _: Global) -> Result<Records, KeepError> {
+        Ok(self.records.clone()?)
+    }
+
+    fn apply(&mut self, changes: &[Change]) -> Result<(), KeepError> {
+        let changes = clone_all(self.alloc, changes)?;
+        if !self.fails() {
+            self.records.change_all(changes);
+            return Ok(());
+        }
+        match self.failure {
+            Failure::BeforeChanges => {}
+            Failure::AfterChanges => self.records.change_all(changes),
+        }
+        Err(KeepError::Disk)
+    }
+
+    fn failures(&self) -> u64 {
+        self.failures
+    }
+
+    ghost leaves_held = { λ keep left r has found. found ∙ has };
+}

@@ -1,0 +1,96 @@
+//! What any store of records promises, whatever it is made of (4.1).
+ghost use Rattle.std.specs.Prelude.{◌≡◌, ◌≢◌, ◌⊎◌, ℕ, IfOk, IfErr, OnOk, IsErrOf};
+ghost use Rattle.mqtt_records.specs.declared.records.Records.{Records};
+ghost use Rattle.mqtt_records.specs.declared.keep.KeepError.{KeepError};
+ghost use Rattle.mqtt_records.specs.declared.keep.KeepError.TheVariants.{Memory};
+ghost use Rattle.mqtt_records.specs.Records.{changed_all, FitAll};
+
+use crate::change::Change;
+use crate::records::Records;
+use std::alloc::{AllocError, Global};
+use thiserror::Error;
+
+/// Why a store didn't do what was asked.
+#[derive(Clone, Copy, Debug, PartialEq, Eq, Error)]
+pub enum KeepError {
+    /// 1: want of memory. Nothing changed.
+    #[error("want of memory")]
+    Memory = 1,
+    /// 2: the device failed. The records are those before or those after: open the store again.
+    #[error("the device failed")]
+    Disk = 2,
+    /// 3: the device is full. Nothing changed.
+    #[error("the device is full")]
+    Size = 3,
+    /// 4: at `load`, what is kept breaks its own rules.
+    #[error("the records break their rules")]
+    Corrupt = 4,
+    /// 5: at `load`, what is kept isn't of a form that this store reads.
+    #[error("the records are of another schema")]
+    Schema = 5,
+}
+
+impl From<AllocError> for KeepError {
+    ghost from_gives = { λ _ fault. fault ≡ Memory };
+
+    fn from(_: AllocError) -> Self {
+        KeepError::Memory
+    }
+}
+
+/// A store of records.
+pub trait Keep: Drop {
+    // It has these records. Of a store whose device lied this says nothing.
+    ghost holds: { Self → Records → Type 0 };
+
+    // A load has answered Ok, and changes can be applied.
+    ghost is_loaded: { Self → Type 0 };
+
+    // So far its device has returned what was written.
+    ghost is_sound: { Self → Type 0 };
+
+    // What is opened after a crash at this moment may have these records.
+    ghost leaves: { Self → Records → Type 0 };
+
+    // How many failures of its device it has counted, modulo 2^64.
+    ghost counted: { Self → ℕ };
+
+    // A load may be refused so.
+    ghost refuses: { Self → KeepError → Type 0 };
+
+    /// Reads all records. Changes can be applied once it has answered Ok.
+    fn load(&mut self, alloc: Global) -> Result<Records, KeepError>
+        // What it answers is what it has.
+        ensures exact { (r : Records) → holds self.old r → IfOk result (λ records. is_sound self.new → records ≡ r) }
+        ensures loaded { IfOk result (λ records. is_loaded self.new × holds self.new records) }
+        ensures found { IfOk result (λ records. is_sound self.new → leaves self.old records) }
+
+        // What it has stays, and a crash finds nothing else than before.
+        ensures same { (r : Records) → holds self.old r → holds self.new r }
+        ensures crash { (r : Records) → leaves self.new r → leaves self.old r }
+        ensures sound { is_sound self.new → is_sound self.old }
+
+        ensures refused { IfErr result (refuses self.old) }
+        ensures cause { IsErrOf result KeepError.Disk ⊎ IsErrOf result KeepError.Size → counted self.new ≢ counted self.old };
+
+    /// Makes all changes, in order, or none.
+    fn apply(&mut self, changes: &[Change]) -> Result<(), KeepError>
+        requires { is_loaded self.old }
+        ensures ok { (r : Records) → holds self.old r → FitAll changes.now r → OnOk result (holds self.new (changed_all changes.now r)) }
+        ensures loaded { OnOk result (is_loaded self.new) }
+        ensures same { IsErrOf result KeepError.Memory ⊎ IsErrOf result KeepError.Size → is_loaded self.new × ((r : Records) → holds self.old r → FitAll changes.now r → holds self.new r) }
+
+        // A crash leaves the records before or after, never some of the changes.
+        ensures crash { (r left : Records) → holds self.old r → FitAll changes.now r → leaves self.new left → (left ≡ r) ⊎ (left ≡ changed_all changes.now r) }
+        ensures sound { is_sound self.new → is_sound self.old }
+
+        ensures refused { (IsErrOf result KeepError.Corrupt → ⊥) × (IsErrOf result KeepError.Schema → ⊥) }
+        ensures cause { IsErrOf result KeepError.Disk ⊎ IsErrOf result KeepError.Size → counted self.new ≢ counted self.old };
+
+    /// How many failures of its device it has counted, modulo 2^64. Takes no memory.
+    fn failures(&self) -> u64
+        ensures { result ≡ counted self.now };
+
+    // A crash leaves what a store has.
+    ghost leaves_held: { (keep : Self) (left r : Records) → holds keep r → leaves keep left → left ≡ r };
+}

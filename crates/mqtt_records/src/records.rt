@@ -1,0 +1,151 @@
+//! All that is kept: five numbers, sessions and retained messages (4.1).
+ghost use Rattle.std.specs.Prelude.{◌≡◌, IfOk};
+ghost use Rattle.mqtt_records.specs.Records.{nothing, changed, changed_all, with_counter, put_session};
+
+use crate::change::{Change, Counter};
+use crate::message::Retained;
+use crate::rows::{Boxed, Rows};
+use crate::session::{Session, SessionPart, SessionRow};
+use std::alloc::{AllocError, Global};
+
+/// How many sessions there are at most (ours).
+pub const SESSION_LIMIT: usize = 1000;
+/// How many topics have a retained message at most (ours).
+pub const RETAINED_LIMIT: usize = 1000;
+
+/// All that is kept.
+#[derive(Drop)]
+pub struct Records {
+    /// The birth of the newest session; 0 before the first.
+    pub births: u64,
+    /// The number of the newest publication; 0 before the first.
+    pub publications: u64,
+    /// The number of the newest subscribe; 0 before the first.
+    pub subscribes: u64,
+    /// The number in the newest client identifier that was assigned; 0 before the first (3.1.3.1).
+    pub autos: u64,
+    /// The moment of the newest step, in milliseconds.
+    pub moment: u64,
+    /// The sessions, by birth.
+    pub sessions: Rows<Boxed<Session>, SESSION_LIMIT>,
+    /// The retained messages, by place.
+    pub retained: Rows<Boxed<Retained>, RETAINED_LIMIT>,
+}
+
+impl Records {
+    /// Nothing yet, with room for the sessions and retained messages that there may be.
+    pub fn new(alloc: Global) -> Result<Records, AllocError>
+        ensures { IfOk result (λ records. records ≡ nothing) }
+    {
+        Ok(Records {
+            births: 0,
+            publications: 0,
+            subscribes: 0,
+            autos: 0,
+            moment: 0,
+            sessions: Rows::new(alloc)?,
+            retained: Rows::new(alloc)?,
+        })
+    }
+
+    /// Sets a number.
+    fn set_counter(&mut self, counter: Counter, value: u64)
+        ensures { self.new ≡ with_counter counter value self.old }
+    {
+        match counter {
+            Counter::Births => self.births = value,
+            Counter::Publications => self.publications = value,
+            Counter::Subscribes => self.subscribes = value,
+            Counter::Autos => self.autos = value,
+            Counter::Moment => self.moment = value,
+        }
+    }
+
+    /// Puts a session's own row.
+    fn put_session(&mut self, row: SessionRow)
+        ensures { self.new ≡ record self.old { sessions = put_session row self.old.sessions } }
+    {
+        let birth = row.birth();
+        if self.sessions.has(birth) {
+            let row = row.into_columns();
+            self.sessions.edit(birth, SessionPart::SetColumns { row });
+        } else {
+            self.sessions.put(row.into_session());
+        }
+    }
+
+    /// Makes one change. Takes no memory.
+    pub fn change(&mut self, change: Change)
+        ensures { self.new ≡ changed change self.old }
+    {
+        match change {
+            Change::SetCounter { counter, value } => self.set_counter(counter, value),
+            Change::PutSession { row } => self.put_session(row),
+            Change::RemoveSession { birth } => self.sessions.remove(birth),
+            Change::PutWill { birth, will } => {
+                self.sessions.edit(birth, SessionPart::PutWill { will });
+            }
+            Change::RemoveWill { birth } => self.sessions.edit(birth, SessionPart::RemoveWill),
+            Change::PutSubscription {
+                birth,
+                subscription,
+            } => {
+                let part = SessionPart::PutSubscription { subscription };
+                self.sessions.edit(birth, part);
+            }
+            Change::RemoveSubscription { birth, filter } => {
+                let part = SessionPart::RemoveSubscription { filter };
+                self.sessions.edit(birth, part);
+            }
+            Change::PutInbound { birth, identifier } => {
+                let part = SessionPart::PutInbound { identifier };
+                self.sessions.edit(birth, part);
+            }
+            Change::RemoveInbound { birth, identifier } => {
+                let part = SessionPart::RemoveInbound { identifier };
+                self.sessions.edit(birth, part);
+            }
+            Change::PutCopy { birth, entry } => {
+                self.sessions.edit(birth, SessionPart::PutCopy { entry });
+            }
+            Change::SetCopy {
+                birth,
+                place,
+                phase,
+            } => {
+                let part = SessionPart::SetCopy { place, phase };
+                self.sessions.edit(birth, part);
+            }
+            Change::RemoveCopy { birth, place } => {
+                self.sessions.edit(birth, SessionPart::RemoveCopy { place });
+            }
+            Change::PutRetained { kept } => self.retained.put(kept),
+            Change::RemoveRetained { place } => self.retained.remove(place),
+        }
+    }
+
+    /// Makes changes, in order. Takes no memory.
+    pub fn change_all(&mut self, changes: Vec<Change>)
+        ensures { self.new ≡ changed_all changes.items self.old }
+    {
+        for change in changes {
+            self.change(change);
+        }
+    }
+}
+
+impl Clone for Records {
+    ghost is_clone = { λ value copy. copy ≡ value };
+
+    fn clone(&self) -> Result<Records, AllocError> {
+        Ok(Records {
+            births: self.births,
+            publications: self.publications,
+            subscribes: self.subscribes,
+            autos: self.autos,
+            moment: self.moment,
+            sessions: self.sessions.clone()?,
+            retained: self.retained.clone()?,
+        })
+    }
+}

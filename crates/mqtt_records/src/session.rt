@@ -1,0 +1,222 @@
+//! What is kept of a session: its row, Will, subscriptions, open identifiers and queue (4.1).
+ghost use Rattle.std.specs.Prelude.{◌≡◌, IfOk};
+ghost use Rattle.mqtt_records.specs.Session.{fresh};
+
+use crate::message::Will;
+use crate::queue::{Entry, QUEUE_LIMIT};
+use crate::rows::{Boxed, Editable, Row, Rows};
+use crate::subscription::{SUBSCRIPTION_LIMIT, Subscription};
+use mqtt_base::{Phase, Text};
+use std::alloc::{AllocError, Global};
+use std::marker::Model;
+
+/// How many identifiers of QoS 2 publications from the client are open at most: our Receive Maximum (4.9).
+pub const INBOUND_LIMIT: usize = 20;
+
+impl Row for u16 {
+    ghost key_of = { λ identifier. identifier };
+
+    fn key(&self) -> u64 {
+        u64::from(*self)
+    }
+
+    ghost clone_is = { λ value copy same. same };
+}
+
+/// A session (4.1).
+#[derive(Drop)]
+pub struct Session {
+    /// Its number, from 1 in the order of births.
+    pub birth: u64,
+    /// The client identifier: no two sessions have the same.
+    pub client: Text,
+    /// Session Expiry Interval, in seconds; 0xFFFFFFFF: it doesn't expire (3.1.2.11.2).
+    pub expiry: u32,
+    /// When its connection closed: a moment in milliseconds; none while it is connected.
+    pub closed: Option<u64>,
+    /// The Will that may yet be published.
+    pub will: Option<Will>,
+    /// The subscriptions, by place.
+    pub subscriptions: Rows<Boxed<Subscription>, SUBSCRIPTION_LIMIT>,
+    /// The open identifiers of QoS 2 publications from the client, ascending (4.3.3).
+    pub inbound: Rows<u16, INBOUND_LIMIT>,
+    /// The copies that haven't ended, by place.
+    pub queue: Rows<Boxed<Entry>, QUEUE_LIMIT>,
+}
+
+impl Row for Session {
+    ghost key_of = { λ session. session.birth };
+
+    fn key(&self) -> u64 {
+        self.birth
+    }
+
+    ghost clone_is = { λ value copy same. same };
+}
+
+impl Clone for Session {
+    ghost is_clone = { λ value copy. copy ≡ value };
+
+    fn clone(&self) -> Result<Session, AllocError> {
+        let will = match &self.will {
+            Some(will) => Some(will.clone()?),
+            None => None,
+        };
+        Ok(Session {
+            birth: self.birth,
+            client: self.client.clone()?,
+            expiry: self.expiry,
+            closed: self.closed,
+            will,
+            subscriptions: self.subscriptions.clone()?,
+            inbound: self.inbound.clone()?,
+            queue: self.queue.clone()?,
+        })
+    }
+}
+
+/// What a session's own row says, its Will, subscriptions, identifiers and copies left out.
+#[derive(Drop)]
+pub struct Columns {
+    /// Its number, from 1 in the order of births.
+    pub birth: u64,
+    /// The client identifier.
+    pub client: Text,
+    /// Session Expiry Interval, in seconds.
+    pub expiry: u32,
+    /// When its connection closed: a moment in milliseconds; none while it is connected.
+    pub closed: Option<u64>,
+}
+
+/// A session's own row, with all the memory that a new session takes.
+#[derive(Drop)]
+pub struct SessionRow {
+    session: Boxed<Session>,
+}
+
+impl Model for SessionRow {
+    ghost use Rattle.std.specs.Prelude.{◌≡◌};
+    ghost use Rattle.mqtt_records.specs.declared.session.Columns.{Columns};
+    ghost use Rattle.mqtt_records.specs.Session.{columns_of, fresh};
+
+    ghost Value = { Columns };
+
+    ghost view = { λ a. columns_of a.session };
+
+    ghost invariant = { λ a. a.session ≡ fresh (columns_of a.session) };
+}
+
+impl SessionRow {
+    /// Takes the memory of a new session with these columns.
+    pub fn new(alloc: Global, columns: Columns) -> Result<SessionRow, AllocError>
+        ensures { IfOk result (λ row. row ≡ columns) }
+    {
+        let session = Session {
+            birth: columns.birth,
+            client: columns.client,
+            expiry: columns.expiry,
+            closed: columns.closed,
+            will: None,
+            subscriptions: Rows::new(alloc)?,
+            inbound: Rows::new(alloc)?,
+            queue: Rows::new(alloc)?,
+        };
+        let session = Boxed::new(alloc, session)?;
+        Ok(SessionRow { session })
+    }
+
+    /// The birth. Takes no memory.
+    pub fn birth(&self) -> u64
+        ensures { result ≡ self.now.birth }
+    {
+        self.session.get().birth
+    }
+
+    /// The new session. Takes no memory.
+    pub fn into_session(self) -> Boxed<Session>
+        ensures { result ≡ fresh self }
+    {
+        self.session
+    }
+
+    /// The columns. Takes no memory.
+    pub fn into_columns(self) -> Columns
+        ensures { result ≡ self }
+    {
+        let session = self.session.into_row();
+        Columns {
+            birth: session.birth,
+            client: session.client,
+            expiry: session.expiry,
+            closed: session.closed,
+        }
+    }
+}
+
+impl Clone for SessionRow {
+    ghost is_clone = { λ value copy. copy ≡ value };
+
+    fn clone(&self) -> Result<SessionRow, AllocError> {
+        Ok(SessionRow {
+            session: self.session.clone()?,
+        })
+    }
+}
+
+/// A change of a part of a session.
+#[derive(Drop)]
+pub enum SessionPart {
+    /// Its own row is this one.
+    SetColumns { row: Columns },
+    /// The Will is this one.
+    PutWill { will: Will },
+    /// There is no Will.
+    RemoveWill,
+    /// A subscription is put by its filter.
+    PutSubscription { subscription: Boxed<Subscription> },
+    /// The subscription to a filter is removed.
+    RemoveSubscription { filter: Text },
+    /// An identifier is opened.
+    PutInbound { identifier: u16 },
+    /// An identifier is closed.
+    RemoveInbound { identifier: u16 },
+    /// A copy is put by its place.
+    PutCopy { entry: Boxed<Entry> },
+    /// The copy at a place comes into a phase.
+    SetCopy { place: u64, phase: Phase },
+    /// The copy at a place is removed.
+    RemoveCopy { place: u64 },
+}
+
+impl Editable for Session {
+    type Part = SessionPart;
+
+    ghost use Rattle.mqtt_records.specs.Session.{part_changed};
+
+    ghost edited = { part_changed };
+
+    fn edit(&mut self, part: SessionPart) {
+        match part {
+            SessionPart::SetColumns { row } => {
+                self.client = row.client;
+                self.expiry = row.expiry;
+                self.closed = row.closed;
+            }
+            SessionPart::PutWill { will } => self.will = Some(will),
+            SessionPart::RemoveWill => self.will = None,
+            SessionPart::PutSubscription { subscription } => {
+                self.subscriptions.put_by_filter(subscription);
+            }
+            SessionPart::RemoveSubscription { filter } => self.subscriptions.remove_filter(&filter),
+            SessionPart::PutInbound { identifier } => self.inbound.put(identifier),
+            SessionPart::RemoveInbound { identifier } => self.inbound.remove(u64::from(identifier)),
+            SessionPart::PutCopy { entry } => self.queue.put(entry),
+            SessionPart::SetCopy { place, phase } => self.queue.edit(place, phase),
+            SessionPart::RemoveCopy { place } => self.queue.remove(place),
+        }
+    }
+
+    ghost use Rattle.mqtt_records.specs.Session.{birth_of-part_changed};
+
+    ghost key_kept = { birth_of-part_changed };
+}
