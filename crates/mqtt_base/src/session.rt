@@ -148,10 +148,12 @@ mod tests {
 
     #[test]
     fn a_clone_names_the_same_copy(rt: HostRuntime) -> Result<(), Fail> {
+        let group = "name/a/b";
+        assert!(rt; Text::may_hold(group));
         let causes = [
             Cause::Direct,
             Cause::Share {
-                group: Text::new(rt.alloc(), "")?,
+                group: Text::new(rt.alloc(), group)?,
             },
             Cause::Retained { subscribe: 3 },
         ];
