@@ -85,7 +85,8 @@ pub enum Phase {
         order: u64,
     },
     /// Its PUBLISH was sent on an earlier connection and is too large for the client of this one,
-    /// so it ended; the identifier is freed by the same PUBREL and PUBCOMP as that of `Released` (3.1.2.11.4).
+    /// so it ended; the identifier is freed by the same PUBREL and PUBCOMP as that of `Released`
+    /// (3.1.2.11.4).
     Oversize {
         /// The packet identifier, from 1.
         identifier: u16,
