@@ -1,4 +1,4 @@
-//! Makes changes one at a time in the store in memory, and tells how long they took; for bench/store/run.
+//! Makes changes one at a time in the store in memory, and tells the time; for bench/store/run.
 #![tactic(auto)]
 
 use anyhow::Context;

@@ -85,7 +85,8 @@ pub enum Phase {
         order: u64,
     },
     /// Its PUBLISH was sent on an earlier connection and is too large for the client of this one,
-    /// so it ended; the identifier is freed by the same PUBREL and PUBCOMP as that of `Released` (3.1.2.11.4).
+    /// so it ended; the identifier is freed by the same PUBREL and PUBCOMP as that of `Released`
+    /// (3.1.2.11.4).
     Oversize {
         /// The packet identifier, from 1.
         identifier: u16,
@@ -148,10 +149,12 @@ mod tests {
 
     #[test]
     fn a_clone_names_the_same_copy(rt: HostRuntime) -> Result<(), Fail> {
+        let group = "name/a/b";
+        assert!(rt; Text::may_hold(group));
         let causes = [
             Cause::Direct,
             Cause::Share {
-                group: Text::new(rt.alloc(), "")?,
+                group: Text::new(rt.alloc(), group)?,
             },
             Cause::Retained { subscribe: 3 },
         ];

@@ -6,6 +6,7 @@ use Rattle.mqtt_records.specs.declared.session.TheConstants.{INBOUND_LIMIT}
 use Rattle.mqtt_records.specs.declared.queue.TheConstants.{QUEUE_LIMIT}
 use Rattle.mqtt_records.specs.declared.records.TheConstants.{SESSION_LIMIT, RETAINED_LIMIT}
 use Rattle.mqtt_records.specs.declared.message.Retained.{Retained}
+use Rattle.mqtt_records.specs.declared.subscription.Subscription.{Subscription}
 use Rattle.mqtt_records.specs.declared.session.Session.{Session}
 use Rattle.mqtt_records.specs.declared.session.Columns.{Columns}
 use Rattle.mqtt_records.specs.declared.records.Records.{Records}
@@ -32,7 +33,8 @@ with_counter Subscribes value r = record r { subscribes = value }
 with_counter Autos value r = record r { autos = value }
 with_counter Moment value r = record r { moment = value }
 
--- a session's own row, put by its birth: a session that stands keeps its other rows, a new one has none
+-- a session's own row, put by its birth: a session that stands keeps its other rows, and a new one
+-- has none
 abbrev pub put_session : Columns → List Session → List Session
 put_session row sessions =
     cond (has_row birth_of row.birth sessions)
@@ -82,8 +84,13 @@ HasSome (Some x) P = P x
 abbrev pub HasSession : ℕ → (Session → Type 0) → Records → Type 0
 HasSession birth P r = HasSome (row_at birth_of birth r.sessions) P
 
--- no number falls, no list outgrows its limit, what a row refers to stands, and no two rows have the same client
--- identifier, place of a subscription or retained topic
+-- beside the subscriptions to other filters there is room, and the place is free
+abbrev pub TakesSubscription : Subscription → List Subscription → Type 0
+TakesSubscription subscription others =
+    (row_at place_of subscription.place others ≡ None) × (length others < SUBSCRIPTION_LIMIT)
+
+-- no number falls, no list outgrows its limit, what a row refers to stands, and no two rows have the
+-- same client identifier, place of a subscription or retained topic
 abbrev pub Fits : Change → Records → Type 0
 Fits (SetCounter counter value) r = counter_of counter r ≤ value
 Fits (PutSession row) r =
@@ -92,14 +99,16 @@ Fits (PutSession row) r =
 Fits (RemoveSession birth) r = Unit {0}
 Fits (PutWill birth will) r = HasSession birth (λ session. Unit {0}) r
 Fits (RemoveWill birth) r = Unit {0}
-Fits (PutSubscription birth subscription) r = HasSession birth (λ session.
-    (row_at place_of subscription.place (without_filter subscription.filter session.subscriptions) ≡ None)
-    × (length (without_filter subscription.filter session.subscriptions) < SUBSCRIPTION_LIMIT)) r
+Fits (PutSubscription birth subscription) r = HasSession birth
+    (λ session. TakesSubscription subscription (without_filter subscription.filter session.subscriptions)) r
 Fits (RemoveSubscription birth text) r = Unit {0}
-Fits (PutInbound birth identifier) r = HasSession birth (λ session. HasRoomFor number_of INBOUND_LIMIT identifier session.inbound) r
+Fits (PutInbound birth identifier) r = HasSession birth
+    (λ session. HasRoomFor number_of INBOUND_LIMIT identifier session.inbound) r
 Fits (RemoveInbound birth identifier) r = Unit {0}
-Fits (PutCopy birth entry) r = HasSession birth (λ session. HasRoomFor entry_place QUEUE_LIMIT entry.place session.queue) r
-Fits (SetCopy birth place phase) r = HasSession birth (λ session. has_row entry_place place session.queue ≡ true) r
+Fits (PutCopy birth entry) r = HasSession birth
+    (λ session. HasRoomFor entry_place QUEUE_LIMIT entry.place session.queue) r
+Fits (SetCopy birth place phase) r = HasSession birth
+    (λ session. has_row entry_place place session.queue ≡ true) r
 Fits (RemoveCopy birth place) r = Unit {0}
 Fits (PutRetained kept) r =
     HasRoomFor kept_place RETAINED_LIMIT kept.place r.retained

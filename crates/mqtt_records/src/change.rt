@@ -24,7 +24,8 @@ pub enum Counter {
     Moment,
 }
 
-/// One change. A row that is put takes the place of one with its key; removing what isn't there changes nothing.
+/// One change. A row that is put takes the place of one with its key; removing what isn't there
+/// changes nothing.
 #[derive(Drop)]
 pub enum Change {
     /// The number is this one.

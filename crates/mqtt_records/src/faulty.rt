@@ -42,10 +42,12 @@ impl Model for FaultyKeep {
 }
 
 impl FaultyKeep {
-    /// A store that has nothing yet. `until` calls of `apply` are made, the next fails, later ones are made again.
+    /// A store that has nothing yet. `until` calls of `apply` are made, the next fails, later ones
+    /// are made again.
     pub fn new(alloc: Global, until: u64, failure: Failure) -> Result<FaultyKeep, AllocError>
         ensures records { IfOk result (λ keep. keep.records ≡ nothing) }
-        ensures failure { IfOk result (λ keep. (keep.until ≡ Some until) × (keep.failure ≡ failure)) }
+        ensures until { IfOk result (λ keep. keep.until ≡ Some until) }
+        ensures failure { IfOk result (λ keep. keep.failure ≡ failure) }
     {
         Ok(FaultyKeep {
             records: Records::new(alloc)?,

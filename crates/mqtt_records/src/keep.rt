@@ -61,7 +61,8 @@ pub trait Keep: Drop {
     /// Reads all records. Changes can be applied once it has answered Ok.
     fn load(&mut self, alloc: Global) -> Result<Records, KeepError>
         // What it answers is what it has.
-        ensures exact { (r : Records) → holds self.old r → IfOk result (λ records. is_sound self.new → records ≡ r) }
+        ensures exact { (r : Records) → holds self.old r
+            → IfOk result (λ records. is_sound self.new → records ≡ r) }
         ensures loaded { IfOk result (λ records. is_loaded self.new × holds self.new records) }
         ensures found { IfOk result (λ records. is_sound self.new → leaves self.old records) }
 
@@ -71,26 +72,36 @@ pub trait Keep: Drop {
         ensures sound { is_sound self.new → is_sound self.old }
 
         ensures refused { IfErr result (refuses self.old) }
-        ensures cause { IsErrOf result KeepError.Disk ⊎ IsErrOf result KeepError.Size → counted self.new ≢ counted self.old };
+        ensures cause { IsErrOf result KeepError.Disk ⊎ IsErrOf result KeepError.Size
+            → counted self.new ≢ counted self.old };
 
     /// Makes all changes, in order, or none.
     fn apply(&mut self, changes: &[Change]) -> Result<(), KeepError>
         requires { is_loaded self.old }
-        ensures ok { (r : Records) → holds self.old r → FitAll changes.now r → OnOk result (holds self.new (changed_all changes.now r)) }
+        ensures ok { (r : Records) → holds self.old r → FitAll changes.now r
+            → OnOk result (holds self.new (changed_all changes.now r)) }
         ensures loaded { OnOk result (is_loaded self.new) }
-        ensures same { IsErrOf result KeepError.Memory ⊎ IsErrOf result KeepError.Size → is_loaded self.new × ((r : Records) → holds self.old r → FitAll changes.now r → holds self.new r) }
+
+        // Memory and Size leave the records before.
+        ensures same { IsErrOf result KeepError.Memory ⊎ IsErrOf result KeepError.Size
+            → is_loaded self.new
+            × ((r : Records) → holds self.old r → FitAll changes.now r → holds self.new r) }
 
         // A crash leaves the records before or after, never some of the changes.
-        ensures crash { (r left : Records) → holds self.old r → FitAll changes.now r → leaves self.new left → (left ≡ r) ⊎ (left ≡ changed_all changes.now r) }
+        ensures crash { (r left : Records) → holds self.old r → FitAll changes.now r
+            → leaves self.new left → (left ≡ r) ⊎ (left ≡ changed_all changes.now r) }
         ensures sound { is_sound self.new → is_sound self.old }
 
-        ensures refused { (IsErrOf result KeepError.Corrupt → ⊥) × (IsErrOf result KeepError.Schema → ⊥) }
-        ensures cause { IsErrOf result KeepError.Disk ⊎ IsErrOf result KeepError.Size → counted self.new ≢ counted self.old };
+        ensures refused { (IsErrOf result KeepError.Corrupt → ⊥)
+            × (IsErrOf result KeepError.Schema → ⊥) }
+        ensures cause { IsErrOf result KeepError.Disk ⊎ IsErrOf result KeepError.Size
+            → counted self.new ≢ counted self.old };
 
     /// How many failures of its device it has counted, modulo 2^64. Takes no memory.
     fn failures(&self) -> u64
         ensures { result ≡ counted self.now };
 
     // A crash leaves what a store has.
-    ghost leaves_held: { (keep : Self) (left r : Records) → holds keep r → leaves keep left → left ≡ r };
+    ghost leaves_held: { (keep : Self) (left r : Records)
+        → holds keep r → leaves keep left → left ≡ r };
 }

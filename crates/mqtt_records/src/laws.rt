@@ -1,6 +1,8 @@
 //! Laws of rows and records, in other words than their definitions.
-ghost use Rattle.std.specs.Prelude.{◌≡◌, ◌≢◌, ◌<◌, ◌≤◌, ◌==◌, ℕ, List, [], ◌∷◌, ◌++◌, length, if◌then◌else◌, Some, None};
-ghost use Rattle.mqtt_records.specs.Order.{IsAscending, IsBelow, HasRoomFor, row_at, put_row, remove_row};
+ghost use Rattle.std.specs.Prelude.{◌≡◌, ◌≢◌, ◌<◌, ◌≤◌, ◌==◌, ℕ, if◌then◌else◌, Some, None};
+ghost use Rattle.std.specs.Prelude.{List, [], ◌∷◌, ◌++◌, length};
+ghost use Rattle.mqtt_records.specs.Order.{IsAscending, IsBelow, HasRoomFor};
+ghost use Rattle.mqtt_records.specs.Order.{row_at, put_row, remove_row};
 ghost use Rattle.mqtt_records.specs.Session.{birth_of};
 ghost use Rattle.mqtt_records.specs.declared.records.Records.{Records};
 ghost use Rattle.mqtt_records.specs.declared.change.Change.{Change};
@@ -9,7 +11,8 @@ ghost use Rattle.mqtt_records.specs.Records.{changed, changed_all, counter_of, F
 
 use crate::rows::Row;
 
-/// What was put is found by its key, what was removed isn't, and every other row is found as before.
+/// What was put is found by its key, what was removed isn't, and every other row is found as
+/// before.
 pub fn rows_are_found<R: Row>()
     ensures put { (limit k : ℕ) (row : R) (rows : List R)
         → HasRoomFor R.key_of limit (R.key_of row) rows

@@ -62,7 +62,8 @@ impl Clone for SubscriptionIdentifiers {
 pub struct Content {
     /// The topic name.
     pub topic: Text,
-    /// Properties in the order in which they are sent, without Subscription Identifiers and Topic Alias.
+    /// Properties in the order in which they are sent, without Subscription Identifiers and Topic
+    /// Alias.
     pub properties: PropList,
     /// The payload.
     pub payload: Bytes,

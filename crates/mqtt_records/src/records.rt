@@ -1,6 +1,7 @@
 //! All that is kept: five numbers, sessions and retained messages (4.1).
 ghost use Rattle.std.specs.Prelude.{◌≡◌, IfOk};
-ghost use Rattle.mqtt_records.specs.Records.{nothing, changed, changed_all, with_counter, put_session};
+ghost use Rattle.mqtt_records.specs.Records.{nothing, changed, changed_all};
+ghost use Rattle.mqtt_records.specs.Records.{with_counter, put_session};
 
 use crate::change::{Change, Counter};
 use crate::message::Retained;

@@ -1,6 +1,8 @@
 //! Rows in the order of their keys, and a row in a box of its own.
-ghost use Rattle.std.specs.Prelude.{◌≡◌, ◌<◌, ◌≤◌, ℕ, List, [], Option, IfOk, length, option_copied, slice_get, insert, vec_len, vec_capacity};
-ghost use Rattle.mqtt_records.specs.Order.{IsAscending, IsFound, row_at, has_row, put_row, remove_row, change_row, front_len};
+ghost use Rattle.std.specs.Prelude.{◌≡◌, ◌<◌, ◌≤◌, ℕ, List, [], Option, IfOk, option_copied};
+ghost use Rattle.std.specs.Prelude.{length, slice_get, insert, vec_len, vec_capacity};
+ghost use Rattle.mqtt_records.specs.Order.{IsAscending, IsFound, front_len};
+ghost use Rattle.mqtt_records.specs.Order.{row_at, has_row, put_row, remove_row, change_row};
 
 use std::alloc::{AllocError, Global};
 use std::marker::Model;
@@ -28,7 +30,8 @@ pub trait Editable: Row {
         ensures { self.new ≡ edited part self.old };
 
     // The key stays.
-    ghost key_kept: { (part : Self.Part) (row : Self) → Self.key_of (edited part row) ≡ Self.key_of row };
+    ghost key_kept: { (part : Self.Part) (row : Self)
+        → Self.key_of (edited part row) ≡ Self.key_of row };
 }
 
 /// A row in a box of its own, so that lists move it without cost.
@@ -148,7 +151,8 @@ fn put_in<R: Row>(rows: &mut Vec<R>, limit: usize, row: R)
     }
 }
 
-/// At most `LIMIT` rows in the order of their keys. All the memory of the list is taken when it is made.
+/// At most `LIMIT` rows in the order of their keys. All the memory of the list is taken when it is
+/// made.
 #[derive(Drop)]
 pub struct Rows<R: Row, const LIMIT: usize> {
     pub(crate) rows: Vec<R>,

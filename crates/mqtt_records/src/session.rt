@@ -10,7 +10,8 @@ use mqtt_base::{Phase, Text};
 use std::alloc::{AllocError, Global};
 use std::marker::Model;
 
-/// How many identifiers of QoS 2 publications from the client are open at most: our Receive Maximum (4.9).
+/// How many identifiers of QoS 2 publications from the client are open at most: our Receive Maximum
+/// (4.9).
 pub const INBOUND_LIMIT: usize = 20;
 
 impl Row for u16 {

@@ -1,4 +1,4 @@
-//! A subscriber's and a publisher's rows, each kind of change, a failing device, each growth refused.
+//! A subscriber's and a publisher's rows, each kind of change, a failing device, want of memory.
 
 use crate::faulty::{Failure, FaultyKeep};
 use crate::{
@@ -119,7 +119,8 @@ fn counter(counter: Counter, value: u64) -> Change {
     Change::SetCounter { counter, value }
 }
 
-/// `r1` comes and subscribes `a/b` at QoS 2; `p1` comes and publishes under identifier 10; the copy is sent.
+/// `r1` comes and subscribes `a/b` at QoS 2; `p1` comes and publishes under identifier 10; the copy
+/// is sent.
 fn course(alloc: Global) -> Result<Vec<Change>, AllocError> {
     let mut changes = Vec::new(alloc);
     changes.push(session(alloc, 1, "r1", None)?)?;
