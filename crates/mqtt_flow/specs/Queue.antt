@@ -1,0 +1,94 @@
+-- A session's queue of outbound copies, and what each turn does to it (MQTT 5.0, 4.3, 4.4, 4.6).
+use Rattle.std.specs.Prelude.{ℕ, ◌+◌, max, Bool, true, false, cond, not, List, [], ◌∷◌, ◌++◌, filter, map, fold, find, nat_eq, Option, Some, None, count_by}
+use Rattle.mqtt_base.specs.declared.Phase.{Phase}
+use Rattle.mqtt_base.specs.declared.Phase.TheVariants.{Waiting, Sent, Released, Oversize}
+use Rattle.mqtt_flow.specs.declared.entry.QueuedCopy.{QueuedCopy}
+use Rattle.mqtt_flow.specs.declared.entry.Entry.{Entry}
+use Rattle.mqtt_flow.specs.declared.entry.Turn.{Turn}
+use Rattle.mqtt_flow.specs.declared.entry.Turn.TheVariants.{Send, Resend, Release, Outgrow, Repeat, Unknown, Leave}
+
+-- the packet identifier that a copy has (2.2.1)
+abbrev pub identifier_of : Phase → Option ℕ
+identifier_of Waiting = None
+identifier_of (Sent i) = Some i
+identifier_of (Released i order) = Some i
+identifier_of (Oversize i order) = Some i
+
+-- the identifiers in use
+abbrev pub also : Option ℕ → List ℕ → List ℕ
+also None is = is
+also (Some i) is = i ∷ is
+
+abbrev pub identifiers : List Entry → List ℕ
+identifiers [] = []
+identifiers (e ∷ es) = also (identifier_of e.phase) (identifiers es)
+
+abbrev pub is_holder : ℕ → Phase → Bool
+is_holder i Waiting = false
+is_holder i (Sent j) = nat_eq j i
+is_holder i (Released j order) = nat_eq j i
+is_holder i (Oversize j order) = nat_eq j i
+
+-- the copy that has an identifier
+abbrev pub holder : ℕ → List Entry → Option Entry
+holder i queue = find (λ e. is_holder i e.phase) queue
+
+-- a copy's place among those released, and 0 for one that isn't
+abbrev pub order_of : Phase → ℕ
+order_of Waiting = 0
+order_of (Sent i) = 0
+order_of (Released i order) = order
+order_of (Oversize i order) = order
+
+-- a new place and a new order are one above the greatest that stands (ours)
+abbrev pub greatest_place : List Entry → ℕ
+greatest_place [] = 0
+greatest_place (e ∷ es) = max e.place (greatest_place es)
+
+abbrev pub greatest_order : List Entry → ℕ
+greatest_order [] = 0
+greatest_order (e ∷ es) = max (order_of e.phase) (greatest_order es)
+
+abbrev pub next_place : List Entry → ℕ
+next_place queue = greatest_place queue + 1
+
+abbrev pub next_order : List Entry → ℕ
+next_order queue = greatest_order queue + 1
+
+-- the entries that fill the client's window: their PUBLISH went out on this connection, and they haven't ended (ours)
+abbrev pub in_window : List Entry → ℕ
+in_window queue = count_by (λ e. e.here) queue
+
+-- the entry of a copy that enters
+abbrev pub entering : QueuedCopy → List Entry → Entry
+entering copy queue = record { place = next_place queue; copy = copy; phase = Waiting; here = false }
+
+-- a change of the entry at one place
+abbrev pub at_place : ℕ → (Entry → Entry) → Entry → Entry
+at_place place f e = cond (nat_eq e.place place) (f e) e
+
+abbrev pub gone : ℕ → Entry → Bool
+gone place e = nat_eq e.place place
+
+abbrev pub sent_as : ℕ → Entry → Entry
+sent_as i e = record e { phase = Sent i; here = true }
+
+abbrev pub sent_here : Entry → Entry
+sent_here e = record e { here = true }
+
+abbrev pub in_phase : Phase → Entry → Entry
+in_phase phase e = record e { phase = phase }
+
+-- the queue after a turn
+abbrev pub after : Turn → List Entry → List Entry
+after (Send place i) queue = map (at_place place (sent_as i)) queue
+after (Resend place i) queue = map (at_place place sent_here) queue
+after (Release place i order) queue = map (at_place place (in_phase (Released i order))) queue
+after (Outgrow place i order) queue = map (at_place place (in_phase (Oversize i order))) queue
+after (Repeat i) queue = queue
+after (Unknown i) queue = queue
+after (Leave place ending) queue = filter (λ e. not (gone place e)) queue
+
+abbrev pub after_all : List Turn → List Entry → List Entry
+after_all [] queue = queue
+after_all (t ∷ ts) queue = after_all ts (after t queue)
