@@ -1,5 +1,5 @@
 -- The session rules for outbound copies: what a session does with its queue (MQTT 5.0, 4.3, 4.4, 4.6, 4.9).
-use Rattle.std.specs.Prelude.{ℕ, zero, suc, ◌+◌, ◌-◌, ◌/◌, Bool, true, false, cond, not, ◌&&◌, List, [], ◌∷◌, ◌++◌, length, filter, map, nat_eq, nat_lt, nat_le, Option, Some, None, Result, Ok, Err}
+use Rattle.std.specs.Prelude.{ℕ, zero, suc, ◌+◌, ◌-◌, ◌/◌, Bool, true, false, cond, not, ◌&&◌, List, [], ◌∷◌, ◌++◌, length, map, count_by, nat_eq, nat_lt, nat_le, Option, Some, None, Result, Ok, Err}
 use Rattle.mqtt_base.specs.declared.Phase.{Phase}
 use Rattle.mqtt_base.specs.declared.Phase.TheVariants.{Waiting, Sent, Released, Oversize}
 use Rattle.mqtt_base.specs.declared.Ending.{Ending}
@@ -10,6 +10,7 @@ use Rattle.mqtt_flow.specs.declared.fault.FlowFault.{FlowFault}
 use Rattle.mqtt_flow.specs.declared.fault.FlowFault.TheVariants.{WrongStep}
 use Rattle.mqtt_flow.specs.declared.entry.TheConstants.{PUMP_LIMIT}
 use Rattle.mqtt_flow.specs.declared.entry.QueuedCopy.{QueuedCopy}
+use Rattle.mqtt_flow.specs.declared.entry.Due.{Due}
 use Rattle.mqtt_flow.specs.declared.entry.Entry.{Entry}
 use Rattle.mqtt_flow.specs.declared.entry.Full.{Full}
 use Rattle.mqtt_flow.specs.declared.entry.Full.TheVariants.{Refuse, Drop}
@@ -31,13 +32,13 @@ is_waiting (Oversize i order) = false
 abbrev pub gives_way : ℕ → Entry → Bool
 gives_way since e = is_waiting e.phase && nat_lt e.place since
 
--- the copies that a further one leaves standing in any case
-abbrev pub staying : Full → ℕ → List Entry → List Entry
-staying Refuse since queue = queue
-staying Drop since queue = filter (λ e. not (gives_way since e)) queue
+-- how many copies a further one leaves standing in any case
+abbrev pub staying : Full → ℕ → List Entry → ℕ
+staying Refuse since queue = length queue
+staying Drop since queue = count_by (λ e. not (gives_way since e)) queue
 
 abbrev pub has_room : QueueLimits → ℕ → List Entry → Bool
-has_room limits since queue = nat_lt (length (staying limits.full since queue)) limits.queue
+has_room limits since queue = nat_lt (staying limits.full since queue) limits.queue
 
 -- so many copies give way, the oldest first
 abbrev pub dropped_at : Bool → Entry → List Turn → List Turn → List Turn
@@ -266,11 +267,7 @@ unsent e = record e { here = false }
 abbrev pub anew : List Entry → List Entry
 anew queue = map unsent queue
 
--- a released copy, for its PUBREL
-pub record Due : Type 0 where
-  pub order : ℕ
-  pub identifier : ℕ
-
+-- by the orders in which they became released
 abbrev pub by_order : Due → List Due → List Due
 by_order d [] = d ∷ []
 by_order d (x ∷ xs) = cond (nat_lt d.order x.order) (d ∷ x ∷ xs) (x ∷ by_order d xs)

@@ -63,31 +63,28 @@ in_window queue = count_by (λ e. e.here) queue
 abbrev pub entering : QueuedCopy → List Entry → Entry
 entering copy queue = record { place = next_place queue; copy = copy; phase = Waiting; here = false }
 
--- a change of the entry at one place
-abbrev pub at_place : ℕ → (Entry → Entry) → Entry → Entry
-at_place place f e = cond (nat_eq e.place place) (f e) e
+-- what a turn makes of the entry at its place
+abbrev pub at_place : ℕ → Entry → Entry → Entry
+at_place place changed e = cond (nat_eq e.place place) changed e
 
-abbrev pub gone : ℕ → Entry → Bool
-gone place e = nat_eq e.place place
-
-abbrev pub sent_as : ℕ → Entry → Entry
-sent_as i e = record e { phase = Sent i; here = true }
-
-abbrev pub sent_here : Entry → Entry
-sent_here e = record e { here = true }
-
-abbrev pub in_phase : Phase → Entry → Entry
-in_phase phase e = record e { phase = phase }
+abbrev pub marked : Turn → Entry → Entry
+marked (Send place i) e = at_place place (record e { phase = Sent i; here = true }) e
+marked (Resend place i) e = at_place place (record e { here = true }) e
+marked (Release place i order) e = at_place place (record e { phase = Released i order }) e
+marked (Outgrow place i order) e = at_place place (record e { phase = Oversize i order }) e
+marked (Repeat i) e = e
+marked (Unknown i) e = e
+marked (Leave place ending) e = e
 
 -- the queue after a turn
 abbrev pub after : Turn → List Entry → List Entry
-after (Send place i) queue = map (at_place place (sent_as i)) queue
-after (Resend place i) queue = map (at_place place sent_here) queue
-after (Release place i order) queue = map (at_place place (in_phase (Released i order))) queue
-after (Outgrow place i order) queue = map (at_place place (in_phase (Oversize i order))) queue
+after (Send place i) queue = map (marked (Send place i)) queue
+after (Resend place i) queue = map (marked (Resend place i)) queue
+after (Release place i order) queue = map (marked (Release place i order)) queue
+after (Outgrow place i order) queue = map (marked (Outgrow place i order)) queue
 after (Repeat i) queue = queue
 after (Unknown i) queue = queue
-after (Leave place ending) queue = filter (λ e. not (gone place e)) queue
+after (Leave place ending) queue = filter (λ e. not (nat_eq e.place place)) queue
 
 abbrev pub after_all : List Turn → List Entry → List Entry
 after_all [] queue = queue

@@ -65,6 +65,15 @@ pub struct Way {
     pub now: u64,
 }
 
+/// A released copy, as a resumption speaks of it.
+#[derive(Clone, Copy, Debug, PartialEq, Eq)]
+pub(crate) struct Due {
+    /// Its place among the released copies.
+    pub(crate) order: u64,
+    /// Its packet identifier.
+    pub(crate) identifier: u16,
+}
+
 /// One thing that a session does with its queue, and the packet that goes out with it.
 #[derive(Clone, Copy, Debug, PartialEq, Eq)]
 pub enum Turn {

@@ -4,7 +4,9 @@
 mod entry;
 mod fault;
 mod outbound_laws;
+mod outflow;
 
 pub use entry::{Entry, Full, PUMP_LIMIT, QUEUE_LIMIT, QueueLimits, QueuedCopy, Turn, Way};
 pub use fault::FlowFault;
 pub use outbound_laws::outbound_once;
+pub use outflow::Outflow;
