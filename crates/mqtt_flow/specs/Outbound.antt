@@ -18,7 +18,10 @@ use Rattle.mqtt_flow.specs.declared.entry.QueueLimits.{QueueLimits}
 use Rattle.mqtt_flow.specs.declared.entry.Turn.{Turn}
 use Rattle.mqtt_flow.specs.declared.entry.Turn.TheVariants.{Send, Resend, Release, Outgrow, Repeat, Unknown, Leave}
 use Rattle.mqtt_flow.specs.declared.entry.Way.{Way}
+use Rattle.mqtt_flow.specs.declared.pump.Step.{Step}
+use Rattle.mqtt_flow.specs.declared.pump.Step.TheVariants.{Stop, GoOn, Take}
 use Rattle.mqtt_flow.specs.FreeIdentifier.{closed_in, free_identifier}
+use Rattle.mqtt_flow.specs.Pacing.{Pacing}
 use Rattle.mqtt_flow.specs.Queue.{identifiers, holder, order_of, next_order, in_window, entering, after, after_all}
 
 -- Entering. Copies that wait and stood before this step give way in a full queue (ours).
@@ -107,31 +110,22 @@ verdict_by way copy here (Oversize i order) = pass
 abbrev pub verdict : Way → Entry → Verdict
 verdict way e = verdict_by way e.copy e.here e.phase
 
--- what a pump has left: PUBLISH, room in the window, the identifiers in use, the next order of release
-pub record Pacing : Type 0 where
-  pub left : ℕ
-  pub room : ℕ
-  pub used : List ℕ
-  pub order : ℕ
-
--- it stops, passes on, or takes a turn
-pub data Step : Type 0 where
-  stop : Step
-  go_on : Step
-  take : (t : Turn) → Step
-
--- a PUBLISH needs room in the window (3.3.4)
+-- a PUBLISH needs room in the window (4.9)
 abbrev pub in_room : ℕ → Turn → Step
-in_room zero t = stop
-in_room (suc room) t = take t
+in_room zero t = Stop
+in_room (suc room) t = Take t
 
+abbrev pub step_on : Verdict → ℕ → Pacing → Step
+step_on pass place p = GoOn
+step_on (end ending) place p = Take (Leave place ending)
+step_on (outgrow i) place p = Take (Outgrow place i p.order)
+step_on send place p = in_room p.room (Send place (free_identifier p.used))
+step_on (resend i) place p = in_room p.room (Resend place i)
+
+-- a pump stops where no PUBLISH is left to it
 abbrev pub step_by : ℕ → Verdict → ℕ → Pacing → Step
-step_by zero v place p = stop
-step_by (suc k) pass place p = go_on
-step_by (suc k) (end ending) place p = take (Leave place ending)
-step_by (suc k) (outgrow i) place p = take (Outgrow place i p.order)
-step_by (suc k) send place p = in_room p.room (Send place (free_identifier p.used))
-step_by (suc k) (resend i) place p = in_room p.room (Resend place i)
+step_by zero v place p = Stop
+step_by (suc k) v place p = step_on v place p
 
 abbrev pub pump_step : Way → Pacing → Entry → Step
 pump_step way p e = step_by p.left (verdict way e) e.place p
@@ -154,9 +148,9 @@ paced (Leave place ending) phase p = record p { used = freed phase p.used }
 
 -- the entries in order, until one has no room in the window or no PUBLISH is left (4.6, 4.9)
 abbrev pub then_on : Step → Phase → Pacing → (Pacing → List Turn) → List Turn
-then_on stop phase p rest = []
-then_on go_on phase p rest = rest p
-then_on (take t) phase p rest = t ∷ rest (paced t phase p)
+then_on Stop phase p rest = []
+then_on GoOn phase p rest = rest p
+then_on (Take t) phase p rest = t ∷ rest (paced t phase p)
 
 abbrev pub pump_from : Way → List Entry → Pacing → List Turn
 pump_from way [] p = []

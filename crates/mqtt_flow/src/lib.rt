@@ -5,6 +5,8 @@ mod entry;
 mod fault;
 mod outbound_laws;
 mod outflow;
+mod plan;
+mod pump;
 
 pub use entry::{Entry, Full, PUMP_LIMIT, QUEUE_LIMIT, QueueLimits, QueuedCopy, Turn, Way};
 pub use fault::FlowFault;

@@ -2,11 +2,12 @@
 
 ghost use Rattle.std.specs.Prelude.{◌≡◌, ℕ, ◌+◌, ◌<◌, ◌≤◌, [], length, OnOk, IfOk, OnErr, IfErr, filter, find, map, nat_eq, not, vec_capacity, vec_len};
 ghost use Rattle.std.specs.Option.{option_copied};
-ghost use Rattle.mqtt_flow.specs.Queue.{holder, is_holder, greatest_order, marked, next_order, after, after_all};
+ghost use Rattle.mqtt_flow.specs.Queue.{holder, marked, next_order, after, after_all};
 ghost use Rattle.mqtt_flow.specs.Outbound.{has_room, way_made, pushed, entered, pump, expired, outcome, is_refusal, puback, pubrec, pubcomp, answered, anew, resumed_with};
 
 use crate::entry::{Entry, QUEUE_LIMIT, QueueLimits, QueuedCopy, Turn, Way};
 use crate::fault::FlowFault;
+use crate::plan::holds;
 use mqtt_base::{Ending, Phase, Qos, Reason};
 use std::alloc::Global;
 use std::marker::Model;
@@ -74,18 +75,6 @@ fn remove(entries: &mut Vec<Entry>, place: u64)
     ensures capacity { vec_capacity entries.new ≡ vec_capacity entries.old }
 {
     entries.retain(|entry| entry.place != place);
-}
-
-/// Whether a phase has an identifier.
-fn holds(phase: Phase, identifier: u16) -> bool
-    ensures { result ≡ is_holder identifier phase }
-{
-    match phase {
-        Phase::Waiting => false,
-        Phase::Sent { identifier: own } => own == identifier,
-        Phase::Released { identifier: own, .. } => own == identifier,
-        Phase::Oversize { identifier: own, .. } => own == identifier,
-    }
 }
 
 /// The end that a reason code gives.
