@@ -1,5 +1,5 @@
 -- The session rules for outbound copies: what a session does with its queue (MQTT 5.0, 4.3, 4.4, 4.6, 4.9).
-use Rattle.std.specs.Prelude.{ℕ, zero, suc, ◌+◌, ◌-◌, ◌/◌, Bool, true, false, cond, not, ◌&&◌, List, [], ◌∷◌, ◌++◌, length, map, count_by, nat_eq, nat_lt, nat_le, Option, Some, None, Result, Ok, Err}
+use Rattle.std.specs.Prelude.{◌≡◌, ℕ, zero, suc, ◌+◌, ◌-◌, ◌/◌, Bool, true, false, cond, not, ◌&&◌, List, [], ◌∷◌, ◌++◌, length, map, count_by, nat_eq, nat_lt, nat_le, Option, Some, None, Result, Ok, Err}
 use Rattle.mqtt_base.specs.declared.Phase.{Phase}
 use Rattle.mqtt_base.specs.declared.Phase.TheVariants.{Waiting, Sent, Released, Oversize}
 use Rattle.mqtt_base.specs.declared.Ending.{Ending}
@@ -7,12 +7,12 @@ use Rattle.mqtt_base.specs.declared.Ending.TheVariants.{Taken, Refused, Expired,
 use Rattle.mqtt_base.specs.declared.Qos.{Qos}
 use Rattle.mqtt_base.specs.declared.Qos.TheVariants.{AtMostOnce, AtLeastOnce, ExactlyOnce}
 use Rattle.mqtt_flow.specs.declared.fault.FlowFault.{FlowFault}
-use Rattle.mqtt_flow.specs.declared.fault.FlowFault.TheVariants.{WrongStep}
+use Rattle.mqtt_flow.specs.declared.fault.FlowFault.TheVariants.{Full, WrongStep, Memory}
 use Rattle.mqtt_flow.specs.declared.entry.TheConstants.{PUMP_LIMIT}
 use Rattle.mqtt_flow.specs.declared.entry.QueuedCopy.{QueuedCopy}
 use Rattle.mqtt_flow.specs.declared.entry.Due.{Due}
 use Rattle.mqtt_flow.specs.declared.entry.Entry.{Entry}
-use Rattle.mqtt_flow.specs.declared.entry.Full.{Full}
+use Rattle.mqtt_flow.specs.declared.entry.Full.{Full as WhenFull}
 use Rattle.mqtt_flow.specs.declared.entry.Full.TheVariants.{Refuse, Drop}
 use Rattle.mqtt_flow.specs.declared.entry.QueueLimits.{QueueLimits}
 use Rattle.mqtt_flow.specs.declared.entry.Turn.{Turn}
@@ -36,12 +36,17 @@ abbrev pub gives_way : ℕ → Entry → Bool
 gives_way since e = is_waiting e.phase && nat_lt e.place since
 
 -- how many copies a further one leaves standing in any case
-abbrev pub staying : Full → ℕ → List Entry → ℕ
+abbrev pub staying : WhenFull → ℕ → List Entry → ℕ
 staying Refuse since queue = length queue
 staying Drop since queue = count_by (λ e. not (gives_way since e)) queue
 
 abbrev pub has_room : QueueLimits → ℕ → List Entry → Bool
 has_room limits since queue = nat_lt (staying limits.full since queue) limits.queue
+
+-- why a copy does not enter, by whether there is room
+abbrev pub KeptOut : Bool → FlowFault → Type 0
+KeptOut true fault = fault ≡ Memory
+KeptOut false fault = fault ≡ Full
 
 -- so many copies give way, the oldest first
 abbrev pub dropped_at : Bool → Entry → List Turn → List Turn → List Turn

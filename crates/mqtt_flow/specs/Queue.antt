@@ -1,7 +1,8 @@
 -- A session's queue of outbound copies, and what each turn does to it (MQTT 5.0, 4.3, 4.4, 4.6).
-use Rattle.std.specs.Prelude.{ℕ, ◌+◌, max, Bool, true, false, cond, not, List, [], ◌∷◌, ◌++◌, filter, map, fold, find, nat_eq, Option, Some, None, count_by}
+use Rattle.std.specs.Prelude.{ℕ, ◌+◌, ◌<◌, ◌≤◌, max, ⊤, length, Bool, true, false, cond, not, List, [], ◌∷◌, ◌++◌, filter, map, fold, find, nat_eq, Option, Some, None, count_by}
 use Rattle.mqtt_base.specs.declared.Phase.{Phase}
 use Rattle.mqtt_base.specs.declared.Phase.TheVariants.{Waiting, Sent, Released, Oversize}
+use Rattle.mqtt_flow.specs.declared.entry.TheConstants.{LAST_NUMBER, QUEUE_LIMIT}
 use Rattle.mqtt_flow.specs.declared.entry.QueuedCopy.{QueuedCopy}
 use Rattle.mqtt_flow.specs.declared.entry.Entry.{Entry}
 use Rattle.mqtt_flow.specs.declared.entry.Turn.{Turn}
@@ -89,3 +90,33 @@ after (Leave place ending) queue = filter (λ e. not (nat_eq e.place place)) que
 abbrev pub after_all : List Turn → List Entry → List Entry
 after_all [] queue = queue
 after_all (t ∷ ts) queue = after_all ts (after t queue)
+
+-- the order of release that a turn gives
+abbrev pub order_given : Turn → ℕ
+order_given (Send place i) = 0
+order_given (Resend place i) = 0
+order_given (Release place i order) = order
+order_given (Outgrow place i order) = order
+order_given (Repeat i) = 0
+order_given (Unknown i) = 0
+order_given (Leave place ending) = 0
+
+abbrev pub greatest_given : List Turn → ℕ
+greatest_given [] = 0
+greatest_given (t ∷ ts) = max (order_given t) (greatest_given ts)
+
+-- each place is above those before it
+abbrev pub Above : ℕ → List Entry → Type 0
+Above place [] = ⊤
+Above place (e ∷ es) = (place < e.place) × Above place es
+
+abbrev pub Ascends : List Entry → Type 0
+Ascends [] = ⊤
+Ascends (e ∷ es) = Above e.place es × Ascends es
+
+-- a queue as it is kept (ours)
+pub record IsQueue (queue : List Entry) : Type 0 where
+  pub few : length queue ≤ QUEUE_LIMIT
+  pub places : greatest_place queue ≤ LAST_NUMBER
+  pub orders : greatest_order queue ≤ LAST_NUMBER
+  pub ascends : Ascends queue

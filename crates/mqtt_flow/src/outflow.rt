@@ -1,13 +1,14 @@
 //! A session's outbound copies (4.3, 4.4, 4.6, 4.9).
 
-ghost use Rattle.std.specs.Prelude.{◌≡◌, ℕ, ◌+◌, ◌<◌, ◌≤◌, [], length, OnOk, IfOk, OnErr, IfErr, filter, find, map, nat_eq, not, vec_capacity, vec_len};
+ghost use Rattle.std.specs.Prelude.{◌≡◌, ◌+◌, ◌<◌, ◌≤◌, [], true, length, OnOk, IfOk, OnErr, IfErr, filter, map, nat_eq, not, vec_capacity, vec_len};
 ghost use Rattle.std.specs.Option.{option_copied};
-ghost use Rattle.mqtt_flow.specs.Queue.{holder, marked, next_order, after, after_all};
-ghost use Rattle.mqtt_flow.specs.Outbound.{has_room, way_made, pushed, entered, pump, expired, outcome, is_refusal, puback, pubrec, pubcomp, answered, anew, resumed_with};
+ghost use Rattle.mqtt_flow.specs.Queue.{IsQueue, after, after_all, greatest_given, holder, marked, next_order, next_place, order_given};
+ghost use Rattle.mqtt_flow.specs.Outbound.{KeptOut, anew, answered, entered, expired, has_room, is_refusal, outcome, puback, pubcomp, pubrec, pump, pushed, resumed_with, unsent, way_made};
 
-use crate::entry::{Entry, QUEUE_LIMIT, QueueLimits, QueuedCopy, Turn, Way};
+use crate::entry::{Entry, LAST_NUMBER, QUEUE_LIMIT, QueueLimits, QueuedCopy, Turn, Way};
 use crate::fault::FlowFault;
-use crate::plan::holds;
+use crate::plan::{dropped, due, expired, greatest_order, greatest_place, has_room, holds};
+use crate::pump::pump;
 use mqtt_base::{Ending, Phase, Qos, Reason};
 use std::alloc::Global;
 use std::marker::Model;
@@ -19,14 +20,15 @@ pub struct Outflow {
 }
 
 impl Model for Outflow {
-    ghost use Rattle.std.specs.Prelude.{◌-◌, ◌≤◌, length, vec_len, vec_capacity};
+    ghost use Rattle.std.specs.Prelude.{◌-◌, vec_len, vec_capacity};
     ghost use Rattle.mqtt_flow.specs.Outflow.{OutboundQueue};
+    ghost use Rattle.mqtt_flow.specs.Queue.{IsQueue};
 
     ghost Value = { OutboundQueue };
 
     ghost view = { λ a. record { queue = a.entries.items; room = vec_capacity a.entries - vec_len a.entries } };
 
-    ghost invariant = { λ a. length a.entries.items ≤ 1000 };
+    ghost invariant = { λ a. IsQueue a.entries.items };
 }
 
 /// Makes of an entry what a turn makes of it.
@@ -77,6 +79,19 @@ fn remove(entries: &mut Vec<Entry>, place: u64)
     entries.retain(|entry| entry.place != place);
 }
 
+/// Makes of a queue what a turn makes of it.
+fn apply(entries: &mut Vec<Entry>, turn: Turn)
+    ensures items { entries.new.items ≡ after turn entries.old.items }
+    ensures len { vec_len entries.new ≤ vec_len entries.old }
+    ensures capacity { vec_capacity entries.new ≡ vec_capacity entries.old }
+{
+    match turn {
+        Turn::Leave { place, .. } => remove(entries, place),
+        Turn::Repeat { .. } | Turn::Unknown { .. } => {}
+        _ => mark_all(entries, turn),
+    }
+}
+
 /// The end that a reason code gives.
 fn ending_of(code: Reason) -> Ending
     ensures { result ≡ outcome (is_refusal code.0) }
@@ -94,14 +109,15 @@ impl Outflow {
         }
     }
 
-    /// How many copies are queued.
-    pub fn len(&self) -> usize
-        ensures { result ≡ length self.now.queue }
+    /// The copies, in the order in which they entered.
+    pub fn entries(&self) -> &[Entry]
+        ensures value { result.now ≡ self.now.queue }
+        ensures lawful { IsQueue self.now.queue }
     {
-        self.entries.len()
+        &self.entries
     }
 
-    /// The copy that has a packet identifier.
+    /// The copy that has a packet identifier (2.2.1).
     pub fn holder(&self, identifier: u16) -> Option<&Entry>
         ensures { option_copied result ≡ holder identifier self.now.queue }
     {
@@ -113,31 +129,26 @@ impl Outflow {
         None
     }
 
-    /// What a PUBACK asks for: a turn, or none where no copy has the identifier (4.3.2). Takes no memory.
-    pub fn look_puback(&self, identifier: u16, code: Reason) -> Result<Option<Turn>, FlowFault>
-        ensures { result ≡ puback identifier code.0 self.now.queue }
+    /// The place that the next copy gets.
+    pub fn next_place(&self) -> u64
+        ensures { result ≡ next_place self.now.queue }
     {
-        match self.holder(identifier) {
-            None => Ok(None),
-            Some(entry) => match (entry.phase, entry.copy.qos) {
-                (Phase::Sent { .. }, Qos::AtLeastOnce) => Ok(Some(Turn::Leave {
-                    place: entry.place,
-                    ending: ending_of(code),
-                })),
-                _ => Err(FlowFault::WrongStep),
-            },
-        }
+        greatest_place(&self.entries) + 1
+    }
+
+    /// The order that the next released copy gets.
+    pub fn next_order(&self) -> u64
+        ensures { result ≡ next_order self.now.queue }
+    {
+        greatest_order(&self.entries) + 1
     }
 
     /// Takes a turn. Takes no memory.
     pub fn take(&mut self, turn: Turn)
+        requires { order_given turn ≤ LAST_NUMBER }
         ensures queue { self.new.queue ≡ after turn self.old.queue }
         ensures room { self.old.room ≤ self.new.room }
     {
-        match turn {
-            Turn::Leave { place, .. } => remove(&mut self.entries, place),
-            Turn::Repeat { .. } | Turn::Unknown { .. } => {}
-            _ => mark_all(&mut self.entries, turn),
-        }
+        apply(&mut self.entries, turn);
     }
 }
