@@ -125,3 +125,57 @@ is_queue-after (Leave place ending) queue h is = let few = is.few in let places 
   orders = let e = orders-filter p queue in omega arith;
   ascends = ascends-filter p queue is.ascends;
 }
+
+-- a copy that enters stands last
+places-push : (e : Entry) (queue : List Entry) → greatest_place (queue ++ e ∷ []) ≡ max (greatest_place queue) e.place
+places-push e [] = omega arith
+places-push e (x ∷ xs) = let rest = places-push e xs in omega arith
+
+orders-push : (e : Entry) (queue : List Entry) → greatest_order (queue ++ e ∷ []) ≡ max (greatest_order queue) (order_of e.phase)
+orders-push e [] = omega arith
+orders-push e (x ∷ xs) = let rest = orders-push e xs in omega arith
+
+length-push : (e : Entry) (queue : List Entry) → length (queue ++ e ∷ []) ≡ length queue + 1
+length-push e [] = refl
+length-push e (x ∷ xs) = let rest = length-push e xs in omega arith
+
+above-push : (place : ℕ) (e : Entry) (queue : List Entry) → place < e.place → Above place queue → Above place (queue ++ e ∷ [])
+above-push place e [] l h = (l, tt)
+above-push place e (x ∷ xs) l h = (h.0, above-push place e xs l h.1)
+
+ascends-push : (e : Entry) (queue : List Entry) → greatest_place queue < e.place → Ascends queue → Ascends (queue ++ e ∷ [])
+ascends-push e [] l h = (tt, tt)
+ascends-push e (x ∷ xs) l h = (above-push x.place e xs (omega arith) h.0, ascends-push e xs (omega arith) h.1)
+
+pub is_queue-pushed : (copy : QueuedCopy) (queue : List Entry) → length queue < QUEUE_LIMIT → next_place queue ≤ LAST_NUMBER → IsQueue queue → IsQueue (pushed copy queue)
+is_queue-pushed copy queue few place is = let orders = is.orders in let e = entering copy queue in record {
+  few = let l = length-push e queue in omega arith;
+  places = let l = places-push e queue in omega arith;
+  orders = let l = orders-push e queue in omega arith;
+  ascends = ascends-push e queue (omega arith) is.ascends;
+}
+
+-- a new connection leaves places and orders as they are
+places-anew : (queue : List Entry) → greatest_place (anew queue) ≡ greatest_place queue
+places-anew [] = refl
+places-anew (e ∷ es) = let rest = places-anew es in omega arith
+
+orders-anew : (queue : List Entry) → greatest_order (anew queue) ≡ greatest_order queue
+orders-anew [] = refl
+orders-anew (e ∷ es) = let rest = orders-anew es in omega arith
+
+above-anew : (place : ℕ) (queue : List Entry) → Above place queue → Above place (anew queue)
+above-anew place [] h = h
+above-anew place (e ∷ es) h = (h.0, above-anew place es h.1)
+
+ascends-anew : (queue : List Entry) → Ascends queue → Ascends (anew queue)
+ascends-anew [] h = h
+ascends-anew (e ∷ es) h = (above-anew e.place es h.0, ascends-anew es h.1)
+
+pub is_queue-anew : (queue : List Entry) → IsQueue queue → IsQueue (anew queue)
+is_queue-anew queue is = let few = is.few in let places = is.places in let orders = is.orders in record {
+  few = let e = length-map unsent queue in omega arith;
+  places = let e = places-anew queue in omega arith;
+  orders = let e = orders-anew queue in omega arith;
+  ascends = ascends-anew queue is.ascends;
+}

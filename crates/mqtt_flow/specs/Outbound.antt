@@ -22,7 +22,7 @@ use Rattle.mqtt_flow.specs.declared.pump.Step.{Step}
 use Rattle.mqtt_flow.specs.declared.pump.Step.TheVariants.{Stop, GoOn, Take}
 use Rattle.mqtt_flow.specs.FreeIdentifier.{closed_in, free_identifier}
 use Rattle.mqtt_flow.specs.Pacing.{Pacing}
-use Rattle.mqtt_flow.specs.Queue.{identifiers, holder, order_of, next_order, in_window, entering, after, after_all}
+use Rattle.mqtt_flow.specs.Queue.{identifiers, holder, order_of, next_order, in_window, entering, after, after_all, order_given}
 
 -- Entering. Copies that wait and stood before this step give way in a full queue (ours).
 abbrev pub is_waiting : Phase → Bool
@@ -258,6 +258,15 @@ after_turn (Some t) queue = after t queue
 abbrev pub answered : Answer → List Entry → List Entry
 answered (Ok t) queue = after_turn t queue
 answered (Err fault) queue = queue
+
+-- the order of release that an answer gives
+abbrev pub order_of_turn : Option Turn → ℕ
+order_of_turn None = 0
+order_of_turn (Some t) = order_given t
+
+abbrev pub order_asked : Answer → ℕ
+order_asked (Ok t) = order_of_turn t
+order_asked (Err fault) = 0
 
 -- Resuming. Nothing was sent on the new connection, and PUBREL goes out in the order of release (4.4, 4.6).
 abbrev pub unsent : Entry → Entry

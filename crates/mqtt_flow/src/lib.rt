@@ -1,6 +1,8 @@
 //! The handshakes of a session's messages (4.3).
 #![tactic(auto)]
 
+mod answers;
+mod change;
 mod entry;
 mod fault;
 mod outbound_laws;

@@ -5,11 +5,12 @@ ghost use Rattle.std.specs.Option.{option_copied};
 ghost use Rattle.mqtt_flow.specs.Queue.{IsQueue, after, after_all, greatest_given, holder, marked, next_order, next_place, order_given};
 ghost use Rattle.mqtt_flow.specs.Outbound.{KeptOut, anew, answered, entered, expired, has_room, is_refusal, outcome, puback, pubcomp, pubrec, pump, pushed, resumed_with, unsent, way_made};
 
+use crate::change::{apply, forget};
 use crate::entry::{Entry, LAST_NUMBER, QUEUE_LIMIT, QueueLimits, QueuedCopy, Turn, Way};
 use crate::fault::FlowFault;
 use crate::plan::{dropped, due, expired, greatest_order, greatest_place, has_room, holds};
 use crate::pump::pump;
-use mqtt_base::{Ending, Phase, Qos, Reason};
+use mqtt_base::Phase;
 use std::alloc::Global;
 use std::marker::Model;
 
@@ -29,74 +30,6 @@ impl Model for Outflow {
     ghost view = { λ a. record { queue = a.entries.items; room = vec_capacity a.entries - vec_len a.entries } };
 
     ghost invariant = { λ a. IsQueue a.entries.items };
-}
-
-/// Makes of an entry what a turn makes of it.
-fn mark(entry: &mut Entry, turn: Turn)
-    ensures { entry.new ≡ marked turn entry.old }
-{
-    match turn {
-        Turn::Send { place, identifier } => {
-            if entry.place == place {
-                entry.phase = Phase::Sent { identifier };
-                entry.here = true;
-            }
-        }
-        Turn::Resend { place, .. } => {
-            if entry.place == place {
-                entry.here = true;
-            }
-        }
-        Turn::Release { place, identifier, order } => {
-            if entry.place == place {
-                entry.phase = Phase::Released { identifier, order };
-            }
-        }
-        Turn::Outgrow { place, identifier, order } => {
-            if entry.place == place {
-                entry.phase = Phase::Oversize { identifier, order };
-            }
-        }
-        Turn::Repeat { .. } | Turn::Unknown { .. } | Turn::Leave { .. } => {}
-    }
-}
-
-/// Makes of each entry what a turn makes of it.
-fn mark_all(entries: &mut [Entry], turn: Turn)
-    ensures { entries.new ≡ map (marked turn) entries.old }
-{
-    for entry in entries.iter_mut() {
-        mark(entry, turn);
-    }
-}
-
-/// Removes the entry at a place.
-fn remove(entries: &mut Vec<Entry>, place: u64)
-    ensures items { entries.new.items ≡ filter (λ e. not (nat_eq e.place place)) entries.old.items }
-    ensures len { vec_len entries.new ≤ vec_len entries.old }
-    ensures capacity { vec_capacity entries.new ≡ vec_capacity entries.old }
-{
-    entries.retain(|entry| entry.place != place);
-}
-
-/// Makes of a queue what a turn makes of it.
-fn apply(entries: &mut Vec<Entry>, turn: Turn)
-    ensures items { entries.new.items ≡ after turn entries.old.items }
-    ensures len { vec_len entries.new ≤ vec_len entries.old }
-    ensures capacity { vec_capacity entries.new ≡ vec_capacity entries.old }
-{
-    match turn {
-        Turn::Leave { place, .. } => remove(entries, place),
-        Turn::Repeat { .. } | Turn::Unknown { .. } => {}
-        _ => mark_all(entries, turn),
-    }
-}
-
-/// The end that a reason code gives.
-fn ending_of(code: Reason) -> Ending
-    ensures { result ≡ outcome (is_refusal code.0) }
-{
-    if code.0 >= 0x80 { Ending::Refused } else { Ending::Taken }
 }
 
 impl Outflow {
@@ -150,5 +83,50 @@ impl Outflow {
         ensures room { self.old.room ≤ self.new.room }
     {
         apply(&mut self.entries, turn);
+    }
+
+    /// Takes turns, one after the other. Takes no memory.
+    pub fn take_all(&mut self, turns: &[Turn])
+        requires { greatest_given turns.now ≤ LAST_NUMBER }
+        ensures queue { self.new.queue ≡ after_all turns.now self.old.queue }
+        ensures room { self.old.room ≤ self.new.room }
+    {
+        for turn in turns {
+            self.take(*turn);
+        }
+    }
+
+    /// Begins a connection: nothing was sent on it (4.4). Takes no memory.
+    pub fn reconnect(&mut self)
+        ensures queue { self.new.queue ≡ anew self.old.queue }
+        ensures room { self.old.room ≤ self.new.room }
+    {
+        forget(&mut self.entries);
+    }
+
+    /// Makes room for a copy.
+    pub fn make_room(&mut self) -> Result<(), FlowFault>
+        ensures ok { OnOk result (1 ≤ self.new.room) }
+        ensures queue { self.new.queue ≡ self.old.queue }
+        ensures fault { IfErr result (λ fault. fault ≡ FlowFault.Memory) }
+    {
+        self.entries.reserve(1).map_err(|_| FlowFault::Memory)
+    }
+
+    /// Takes in a copy for which there is room. Takes no memory.
+    pub fn add(&mut self, copy: QueuedCopy)
+        requires room { 1 ≤ self.old.room }
+        requires few { length self.old.queue < QUEUE_LIMIT }
+        requires place { next_place self.old.queue ≤ LAST_NUMBER }
+        ensures { self.new.queue ≡ pushed copy self.old.queue }
+    {
+        let place = self.next_place();
+        let entry = Entry {
+            place,
+            copy,
+            phase: Phase::Waiting,
+            here: false,
+        };
+        self.entries.push(entry).unwrap();
     }
 }

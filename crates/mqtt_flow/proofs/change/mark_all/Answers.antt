@@ -1,7 +1,7 @@
 use Rattle.std.proofs.Common.{◌∙◌, ap, sym, slice_set}
 use Rattle.std.proofs.lemmas.List.Edits.{map_over_more}
 use Rattle.mqtt_flow.specs.Queue.{marked}
-use Rattle.mqtt_flow.proofs.outflow.mark_all.Goals as goal
+use Rattle.mqtt_flow.proofs.change.mark_all.Goals as goal
 
 pub loop-entry-preserved : goal.loop-entry-preserved
 loop-entry-preserved c =
