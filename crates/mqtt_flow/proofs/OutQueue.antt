@@ -51,7 +51,7 @@ orders-marked : (t : Turn) (queue : List Entry) → greatest_order (map (marked 
 orders-marked t [] = omega arith
 orders-marked t (e ∷ es) = let one = order-marked t e in let rest = orders-marked t es in omega arith
 
-places-marked : (t : Turn) (queue : List Entry) → greatest_place (map (marked t) queue) ≡ greatest_place queue
+pub places-marked : (t : Turn) (queue : List Entry) → greatest_place (map (marked t) queue) ≡ greatest_place queue
 places-marked t [] = refl
 places-marked t (e ∷ es) = rw (place-marked t e, places-marked t es) refl
 
@@ -71,7 +71,7 @@ orders-filter p (e ∷ es) = let rest = orders-filter p es in ⊎_elim
     (λ (t : p e ≡ false). rw t (omega arith))
     (test_cases (p e))
 
-places-filter : (p : Entry → Bool) (queue : List Entry) → greatest_place (filter p queue) ≤ greatest_place queue
+pub places-filter : (p : Entry → Bool) (queue : List Entry) → greatest_place (filter p queue) ≤ greatest_place queue
 places-filter p [] = omega arith
 places-filter p (e ∷ es) = let rest = places-filter p es in ⊎_elim
     (λ (t : p e ≡ true). rw t (omega arith))
