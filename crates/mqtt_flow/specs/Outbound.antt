@@ -62,11 +62,14 @@ dropped (suc k) since (e ∷ es) = dropped_at (gives_way since e) e (dropped k s
 abbrev pub way_made : QueueLimits → ℕ → List Entry → List Turn
 way_made limits since queue = dropped (length queue + 1 - limits.queue) since queue
 
+abbrev pub way_open : QueueLimits → ℕ → List Entry → List Entry
+way_open limits since queue = after_all (way_made limits since queue) queue
+
 abbrev pub pushed : QueuedCopy → List Entry → List Entry
 pushed copy queue = queue ++ entering copy queue ∷ []
 
 abbrev pub entered : QueueLimits → ℕ → QueuedCopy → List Entry → List Entry
-entered limits since copy queue = pushed copy (after_all (way_made limits since queue) queue)
+entered limits since copy queue = pushed copy (way_open limits since queue)
 
 -- Sending. Whole seconds since the publication was accepted have reached the Message Expiry Interval (3.3.2.3.3).
 abbrev pub is_past : Option ℕ → ℕ → Bool

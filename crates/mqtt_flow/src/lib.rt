@@ -9,6 +9,7 @@ mod outbound_laws;
 mod outflow;
 mod plan;
 mod pump;
+mod queueing;
 
 pub use entry::{Entry, Full, PUMP_LIMIT, QUEUE_LIMIT, QueueLimits, QueuedCopy, Turn, Way};
 pub use fault::FlowFault;
