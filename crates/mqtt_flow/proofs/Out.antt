@@ -5,8 +5,10 @@ use Rattle.std.proofs.lemmas.Bool.Decides.{nat_tests}
 use Rattle.mqtt_flow.specs.FreeIdentifier.{has}
 use Rattle.mqtt_base.specs.declared.Ending.{Ending}
 use Rattle.mqtt_base.specs.declared.Ending.TheVariants.{Taken, Refused, Expired, TooLarge, SessionEnded, Dropped}
-use Rattle.mqtt_flow.specs.Lives.{Body, Mark, sent, released, Life, waiting, in_flight, ended, Output, connack, no_connack, publish, pubrel, disconnect, pids, find, pubrels}
-use Rattle.mqtt_flow.specs.OutboundWorld.{Answer, connect, puback, pubrec, pubcomp, Link, away, asked, live, Handed, World, handed, Rising, spared}
+use Rattle.mqtt_flow.specs.Receiver.{Body, Output, connack, no_connack, publish, pubrel, disconnect, Answer, connect, puback, pubrec, pubcomp, Link, away, asked, live, Handed, handed, Rising, spared}
+use Rattle.mqtt_flow.specs.LivesWorld.{put_at, arranged}
+use Rattle.mqtt_flow.specs.Lives.{Mark, sent, released, Life, waiting, in_flight, ended, pids, find, pubrels}
+use Rattle.mqtt_flow.specs.LivesWorld.{World}
 use Rattle.mqtt_flow.proofs.OutIds.{test_cases, same_id}
 
 abbrev pub up_about : ℕ → Answer → Bool
@@ -326,12 +328,87 @@ ready_plain S (publish j k d b ∷ ps) qs h r = (r.0, ready_plain (λ m. S m ⊎
 ready_plain S (pubrel j code ∷ ps) qs h r = ready_plain S ps qs h r
 ready_plain S (disconnect ∷ ps) qs h r = ready_plain S ps qs h r
 
-pub ready_pubrels : (S : ℕ → Type 0) (fs : List Life) → Ready S (pubrels fs)
-ready_pubrels S [] = tt
-ready_pubrels S (waiting b ∷ fs) = ready_pubrels S fs
-ready_pubrels S (in_flight i (sent h) b ∷ fs) = ready_pubrels S fs
-ready_pubrels S (in_flight i (released h t) b ∷ fs) = ready_pubrels S fs
-ready_pubrels S (ended e b ∷ fs) = ready_pubrels S fs
+plain_pubrels : (fs : List Life) → Plain (pubrels fs)
+plain_pubrels [] = tt
+plain_pubrels (waiting b ∷ fs) = plain_pubrels fs
+plain_pubrels (in_flight i (sent h) b ∷ fs) = plain_pubrels fs
+plain_pubrels (in_flight i (released h t) b ∷ fs) = plain_pubrels fs
+plain_pubrels (ended e b ∷ fs) = plain_pubrels fs
+
+abbrev IsPlain : Output → Type 0
+IsPlain (connack p) = Unit {0}
+IsPlain no_connack = Unit {0}
+IsPlain (publish i n dup b) = ⊥
+IsPlain (pubrel i code) = Unit {0}
+IsPlain disconnect = Unit {0}
+
+plain_head : (p : Output) (ps : List Output) → Plain (p ∷ ps) → IsPlain p × Plain ps
+plain_head (connack x) ps h = (tt, h)
+plain_head no_connack ps h = (tt, h)
+plain_head (publish i n dup b) ps h = absurd h
+plain_head (pubrel i code) ps h = (tt, h)
+plain_head disconnect ps h = (tt, h)
+
+plain_cons : (p : Output) (ps : List Output) → IsPlain p → Plain ps → Plain (p ∷ ps)
+plain_cons (connack x) ps q h = h
+plain_cons no_connack ps q h = h
+plain_cons (publish i n dup b) ps q h = q
+plain_cons (pubrel i code) ps q h = h
+plain_cons disconnect ps q h = h
+
+plain_put : (k : ℕ) (p : Output) (ps : List Output) → IsPlain p → Plain ps → Plain (put_at k p ps)
+plain_put k p [] q h = plain_cons p [] q h
+plain_put zero p (x ∷ xs) q h = plain_cons p (x ∷ xs) q h
+plain_put (suc k) p (x ∷ xs) q h = let y = plain_head x xs h in plain_cons x (put_at k p xs) y.0 (plain_put k p xs q y.1)
+
+plain_arranged : (order : List ℕ) (ps qs : List Output) → Plain ps → Plain qs → Plain (arranged order ps qs)
+plain_arranged order ps [] h g = h
+plain_arranged [] ps (q ∷ qs) h g = let y = plain_head q qs g in plain_arranged [] (put_at 0 q ps) qs (plain_put 0 q ps y.0 h) y.1
+plain_arranged (k ∷ order) ps (q ∷ qs) h g = let y = plain_head q qs g in plain_arranged order (put_at k q ps) qs (plain_put k q ps y.0 h) y.1
+
+pub ready_pubrels : (S : ℕ → Type 0) (order : List ℕ) (fs : List Life) → Ready S (arranged order [] (pubrels fs))
+ready_pubrels S order fs = ready_none S (arranged order [] (pubrels fs)) (plain_arranged order [] (pubrels fs) tt (plain_pubrels fs))
+
+-- an identifier that has one packet has it in any order
+downs-put_other : (i k : ℕ) (p : Output) (ps : List Output) → down_about i p ≡ false → downs i (put_at k p ps) ≡ downs i ps
+downs-put_other i k p [] e = rw e refl
+downs-put_other i zero p (x ∷ xs) e = rw e refl
+downs-put_other i (suc k) p (x ∷ xs) e = let r = downs-put_other i k p xs e in ⊎_elim
+    (λ (t : down_about i x ≡ true). rw t (ap (λ ys. x ∷ ys) r))
+    (λ (t : down_about i x ≡ false). rw t r)
+    (test_cases (down_about i x))
+
+downs-put_own : (i k : ℕ) (p : Output) (ps : List Output) → down_about i p ≡ true → downs i ps ≡ [] → downs i (put_at k p ps) ≡ p ∷ []
+downs-put_own i k p [] e h = rw e refl
+downs-put_own i zero p (x ∷ xs) e h = let h' : downs i (x ∷ xs) ≡ [] = h in rw e (ap (λ ys. p ∷ ys) h')
+downs-put_own i (suc k) p (x ∷ xs) e h = ⊎_elim
+    (λ (t : down_about i x ≡ true). let h' = rw t at h in absurd (cc))
+    (λ (t : down_about i x ≡ false). rw t (downs-put_own i k p xs e (rw t at h)))
+    (test_cases (down_about i x))
+
+abbrev pub OneAtMost : List Output → Type 0
+OneAtMost [] = Unit {0}
+OneAtMost (p ∷ ps) = ps ≡ []
+
+one_alone : (p : Output) (ps r : List Output) → OneAtMost r → p ∷ ps ≡ r → (r ≡ p ∷ []) × (ps ≡ [])
+one_alone p ps [] one e = absurd (cc)
+one_alone p ps (x ∷ xs) one e = let t : ps ≡ xs = cc in let y : x ≡ p = cc in (rw (one, y) refl, t ∙ one)
+
+moved : (k i : ℕ) (ps : List Output) (q : Output) (qs r : List Output) → OneAtMost r → ((downs i ps ≡ []) × (downs i (q ∷ qs) ≡ r)) ⊎ ((downs i ps ≡ r) × (downs i (q ∷ qs) ≡ [])) → ((downs i (put_at k q ps) ≡ []) × (downs i qs ≡ r)) ⊎ ((downs i (put_at k q ps) ≡ r) × (downs i qs ≡ []))
+moved k i ps q qs r one (inl h) = ⊎_elim
+    (λ (t : down_about i q ≡ true). let y = one_alone q (downs i qs) r one (rw t at h.1) in inr (downs-put_own i k q ps t h.0 ∙ sym y.0, y.1))
+    (λ (t : down_about i q ≡ false). inl (downs-put_other i k q ps t ∙ h.0, rw t at h.1))
+    (test_cases (down_about i q))
+moved k i ps q qs r one (inr h) = ⊎_elim
+    (λ (t : down_about i q ≡ true). let h' = rw t at h.1 in absurd (cc))
+    (λ (t : down_about i q ≡ false). inr (downs-put_other i k q ps t ∙ h.0, rw t at h.1))
+    (test_cases (down_about i q))
+
+pub downs-arranged : (i : ℕ) (order : List ℕ) (ps qs r : List Output) → OneAtMost r → ((downs i ps ≡ []) × (downs i qs ≡ r)) ⊎ ((downs i ps ≡ r) × (downs i qs ≡ [])) → downs i (arranged order ps qs) ≡ r
+downs-arranged i order ps [] r one (inl h) = h.0 ∙ h.1
+downs-arranged i order ps [] r one (inr h) = h.0
+downs-arranged i [] ps (q ∷ qs) r one h = downs-arranged i [] (put_at 0 q ps) qs r one (moved 0 i ps q qs r one h)
+downs-arranged i (k ∷ order) ps (q ∷ qs) r one h = downs-arranged i order (put_at k q ps) qs r one (moved k i ps q qs r one h)
 
 pub under_way : (i n : ℕ) (dup : Bool) (b : Body) (ps : List Output) → downs i ps ≡ publish i n dup b ∷ [] → Published n ps
 under_way i n dup b [] h = absurd (cc)

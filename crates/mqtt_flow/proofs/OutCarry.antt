@@ -1,9 +1,10 @@
 -- The ledger has what the copies carry.
 use Rattle.std.proofs.Common.{◌≡◌, ◌⊎◌, inl, inr, ⊎_elim, ℕ, zero, suc, Bool, true, false, List, [], ◌∷◌, ◌++◌, map, nat_eq, if◌then◌else◌, refl, sym, ap, ◌∙◌, subst, Option, Some, None, slice_get, option_map}
 use Rattle.mqtt_flow.specs.FreeIdentifier.{has, free_identifier}
-use Rattle.mqtt_flow.specs.Lives.{Body, Mark, sent, Life, in_flight, body_of, Output, pids, find, answered, on_puback, on_pubrec, on_pubcomp, Reply, wrong, says, puback_reply, pubrec_reply, pubcomp_reply, connack, no_connack, publish, pubrel, disconnect, waiting, ended}
-use Rattle.mqtt_flow.specs.OutboundWorld.{Answer, connect, puback, pubrec, pubcomp, Link, away, asked, live, Handed, World, Event, enter, finish, pump, to_broker, old_to_broker, to_end, give_up, break_line, make_line, close, close_old, restart, enters_in, pump_one, pump_some, connects, connects_old, replied, replied_old, up_comes, old_comes, ledger_after, read_publish, read_connack, leaves, down_comes, gives_up, joins, step, run, start}
-use Rattle.mqtt_flow.specs.OutboundCourse.{Next, Goes_on, Carries}
+use Rattle.mqtt_flow.specs.Receiver.{Body, Output, connack, no_connack, publish, pubrel, disconnect, Answer, connect, puback, pubrec, pubcomp, Link, away, asked, live, Handed, ledger_after, read_publish, read_connack, leaves, down_comes, gives_up, joins}
+use Rattle.mqtt_flow.specs.Lives.{Mark, sent, Life, in_flight, body_of, pids, find, answered, on_puback, on_pubrec, on_pubcomp, Reply, wrong, says, puback_reply, pubrec_reply, pubcomp_reply, waiting, ended}
+use Rattle.mqtt_flow.specs.LivesWorld.{World, Event, enter, finish, pump, to_broker, old_to_broker, to_end, give_up, break_line, make_line, close, close_old, restart, enters_in, pump_one, connects, connects_old, replied, replied_old, up_comes, old_comes, step, run, start}
+use Rattle.mqtt_flow.specs.LivesCourse.{Next, Goes_on, Carries}
 use Rattle.mqtt_flow.proofs.OutIds.{test_cases}
 use Rattle.mqtt_flow.proofs.Out.{At, Stage, Inv, Norm, Fresh, Good, Blank, no_line, is_asked, was_shut, effective}
 use Rattle.mqtt_flow.proofs.OutEnd.{publish_came, the_copy, keeps, begins}
@@ -37,11 +38,11 @@ replying_old : (r : Reply) (rest : List Answer) (cs : List Life) (w : World) →
 replying_old wrong rest cs w = silent w
 replying_old (says ps) rest cs w = silent w
 
-connecting : (s c r : Bool) (rest : List Answer) (w : World) → Quiet w (connects s c r rest w)
-connecting false c true rest w = silent w
-connecting false c false rest w = silent w
-connecting true true r rest w = silent w
-connecting true false r rest w = silent w
+connecting : (s c r : Bool) (order : List ℕ) (rest : List Answer) (w : World) → Quiet w (connects s c r order rest w)
+connecting false c true order rest w = silent w
+connecting false c false order rest w = silent w
+connecting true true r order rest w = silent w
+connecting true false r order rest w = silent w
 
 connecting_old : (s c r : Bool) (rest : List Answer) (w : World) → Quiet w (connects_old s c r rest w)
 connecting_old false c true rest w = silent w
@@ -49,12 +50,12 @@ connecting_old false c false rest w = silent w
 connecting_old true true r rest w = silent w
 connecting_old true false r rest w = silent w
 
-ups_quiet : (r : Bool) (up : List Answer) (w : World) → Quiet w (up_comes r up w)
-ups_quiet r [] w = silent w
-ups_quiet r (connect c ∷ rest) w = connecting w.stands c r rest w
-ups_quiet r (puback i code ∷ rest) w = replying (puback_reply (find i w.copies)) rest _ w
-ups_quiet r (pubrec i code ∷ rest) w = replying (pubrec_reply i code (find i w.copies)) rest _ w
-ups_quiet r (pubcomp i code ∷ rest) w = replying (pubcomp_reply (find i w.copies)) rest _ w
+ups_quiet : (r : Bool) (order : List ℕ) (up : List Answer) (w : World) → Quiet w (up_comes r order up w)
+ups_quiet r order [] w = silent w
+ups_quiet r order (connect c ∷ rest) w = connecting w.stands c r order rest w
+ups_quiet r order (puback i code ∷ rest) w = replying (puback_reply (find i w.copies)) rest _ w
+ups_quiet r order (pubrec i code ∷ rest) w = replying (pubrec_reply i code (find i w.copies)) rest _ w
+ups_quiet r order (pubcomp i code ∷ rest) w = replying (pubcomp_reply (find i w.copies)) rest _ w
 
 olds_quiet : (r : Bool) (old : List Answer) (w : World) → Quiet w (old_comes r old w)
 olds_quiet r [] w = silent w
@@ -63,9 +64,8 @@ olds_quiet r (puback i code ∷ rest) w = replying_old (puback_reply (find i w.c
 olds_quiet r (pubrec i code ∷ rest) w = replying_old (pubrec_reply i code (find i w.copies)) rest _ w
 olds_quiet r (pubcomp i code ∷ rest) w = replying_old (pubcomp_reply (find i w.copies)) rest _ w
 
-pump_quiet : (k : ℕ) (w : World) → Quiet w (pump_some k w)
-pump_quiet zero w = silent w
-pump_quiet (suc k) w = pump_quiet k (pump_one w)
+pump_quiet : (i : ℕ) (w : World) → Quiet w (pump_one i w)
+pump_quiet i w = silent w
 
 connack_quiet : (l : Link) (p : Bool) (rest : List Output) (w : World) → Quiet w (read_connack l p rest w)
 connack_quiet away p rest w = silent w
@@ -133,7 +133,7 @@ carry : (w : World) (e : Event) → Good w → Carried w → Carried (step w e)
 carry w (enter b) g c = quietly w (step w (enter b)) (step_on w (enter b)) (enter_quiet w.stands b w) c
 carry w (finish l n) g c = quietly w (step w (finish l n)) (step_on w (finish l n)) (silent w) c
 carry w (pump k) g c = quietly w (step w (pump k)) (step_on w (pump k)) (pump_quiet k w) c
-carry w (to_broker r) g c = quietly w (step w (to_broker r)) (step_on w (to_broker r)) (ups_quiet r w.up w) c
+carry w (to_broker r order) g c = quietly w (step w (to_broker r order)) (step_on w (to_broker r order)) (ups_quiet r order w.up w) c
 carry w (old_to_broker r) g c = quietly w (step w (old_to_broker r)) (step_on w (old_to_broker r)) (olds_quiet r w.old w) c
 carry w to_end g c = down_carry w.down w refl g c
 carry w give_up g c = quietly w (step w give_up) (step_on w give_up) (gives_quiet w.clean w.link w) c

@@ -4,11 +4,12 @@ use Rattle.std.proofs.lemmas.Option.{slice_get-map}
 use Rattle.mqtt_flow.specs.FreeIdentifier.{has, free_identifier}
 use Rattle.mqtt_base.specs.declared.Ending.{Ending}
 use Rattle.mqtt_base.specs.declared.Ending.TheVariants.{Taken, Refused, Expired, TooLarge, SessionEnded, Dropped}
-use Rattle.mqtt_flow.specs.Lives.{Body, Mark, sent, released, Life, waiting, in_flight, ended, body_of, Output, pids, find, pumped, anew, cut, Lapse, lapse_at, cause, Turn, stay, over, turned, answered, on_puback, on_pubrec, on_pubcomp, Reply, wrong, says, puback_reply, pubrec_reply, pubcomp_reply}
-use Rattle.mqtt_flow.specs.OutboundWorld.{Answer, connect, puback, pubrec, pubcomp, Link, away, asked, live, World, Event, enter, finish, pump, to_broker, old_to_broker, to_end, give_up, break_line, make_line, close, close_old, restart, enters_in, pump_one, pump_some, connects, connects_old, replied, replied_old, up_comes, old_comes, read_publish, read_connack, down_comes, gives_up, joins, step, run}
-use Rattle.mqtt_flow.specs.OutboundWorld as out
-use Rattle.mqtt_flow.specs.Lives as q
-use Rattle.mqtt_flow.specs.OutboundCourse.{Of_sent, Next, Goes_on}
+use Rattle.mqtt_flow.specs.Receiver.{Body, Output, Answer, connect, puback, pubrec, pubcomp, Link, away, asked, live, read_publish, read_connack, down_comes, gives_up, joins}
+use Rattle.mqtt_flow.specs.Lives.{Mark, sent, released, Life, waiting, in_flight, ended, body_of, pids, find, pumped, anew, cut, Lapse, lapse_at, cause, Turn, stay, over, turned, answered, on_puback, on_pubrec, on_pubcomp, Reply, wrong, says, puback_reply, pubrec_reply, pubcomp_reply}
+use Rattle.mqtt_flow.specs.LivesWorld.{World, Event, enter, finish, pump, to_broker, old_to_broker, to_end, give_up, break_line, make_line, close, close_old, restart, enters_in, pump_one, unused_of, connects, connects_old, replied, replied_old, up_comes, old_comes, step, run}
+use Rattle.mqtt_flow.specs.LivesWorld as out
+use Rattle.mqtt_flow.specs.Receiver as q
+use Rattle.mqtt_flow.specs.LivesCourse.{Of_sent, Next, Goes_on}
 use Rattle.mqtt_flow.proofs.OutIds.{test_cases}
 use Rattle.mqtt_flow.proofs.OutPump.{get_push, get_lapse, get_pumped}
 use Rattle.mqtt_flow.proofs.OutSteps.{get_answered}
@@ -113,9 +114,8 @@ pumps_on i fs n = get_pumped (Goes_on (slice_get fs n)) i fs n
     (λ j b p. trans (slice_get fs n) (Some (in_flight j (sent false) b)) (Some (in_flight j (sent true) b)) p refl)
     (same (slice_get fs n))
 
-pump_all : (k : ℕ) (w : World) → Onward w.copies (pump_some k w).copies
-pump_all zero w n = same (slice_get w.copies n)
-pump_all (suc k) w n = trans (slice_get w.copies n) (slice_get (pump_one w).copies n) (slice_get (pump_some k (pump_one w)).copies n) (pumps_on (free_identifier (pids w.copies)) w.copies n) (pump_all k (pump_one w) n)
+pump_all : (i : ℕ) (w : World) → Onward w.copies (pump_one i w).copies
+pump_all i w n = pumps_on (unused_of i (pids w.copies)) w.copies n
 
 replying : (r : Reply) (rest : List Answer) (cs : List Life) (w : World) → Onward w.copies cs → Onward w.copies (replied r rest cs w).copies
 replying wrong rest cs w h = stays w.copies
@@ -125,11 +125,11 @@ replying_old : (r : Reply) (rest : List Answer) (cs : List Life) (w : World) →
 replying_old wrong rest cs w h = stays w.copies
 replying_old (says ps) rest cs w h = h
 
-connecting : (s c r : Bool) (rest : List Answer) (w : World) → Onward w.copies (connects s c r rest w).copies
-connecting false c true rest w = stays w.copies
-connecting false c false rest w = mapped cut w.copies on_cut
-connecting true true r rest w = mapped cut w.copies on_cut
-connecting true false r rest w = mapped anew w.copies on_anew
+connecting : (s c r : Bool) (order : List ℕ) (rest : List Answer) (w : World) → Onward w.copies (connects s c r order rest w).copies
+connecting false c true order rest w = stays w.copies
+connecting false c false order rest w = mapped cut w.copies on_cut
+connecting true true r order rest w = mapped cut w.copies on_cut
+connecting true false r order rest w = mapped anew w.copies on_anew
 
 connecting_old : (s c r : Bool) (rest : List Answer) (w : World) → Onward w.copies (connects_old s c r rest w).copies
 connecting_old false c true rest w = stays w.copies
@@ -137,12 +137,12 @@ connecting_old false c false rest w = mapped cut w.copies on_cut
 connecting_old true true r rest w = mapped cut w.copies on_cut
 connecting_old true false r rest w = mapped anew w.copies on_anew
 
-ups_on : (r : Bool) (up : List Answer) (w : World) → Onward w.copies (up_comes r up w).copies
-ups_on r [] w = stays w.copies
-ups_on r (connect c ∷ rest) w = connecting w.stands c r rest w
-ups_on r (puback i code ∷ rest) w = replying (puback_reply (find i w.copies)) rest _ w (mapped (answered i (on_puback code)) w.copies (on_answer i (on_puback code) (fair_puback code)))
-ups_on r (pubrec i code ∷ rest) w = replying (pubrec_reply i code (find i w.copies)) rest _ w (mapped (answered i (on_pubrec code)) w.copies (on_answer i (on_pubrec code) (fair_pubrec code)))
-ups_on r (pubcomp i code ∷ rest) w = replying (pubcomp_reply (find i w.copies)) rest _ w (mapped (answered i on_pubcomp) w.copies (on_answer i on_pubcomp fair_pubcomp))
+ups_on : (r : Bool) (order : List ℕ) (up : List Answer) (w : World) → Onward w.copies (up_comes r order up w).copies
+ups_on r order [] w = stays w.copies
+ups_on r order (connect c ∷ rest) w = connecting w.stands c r order rest w
+ups_on r order (puback i code ∷ rest) w = replying (puback_reply (find i w.copies)) rest _ w (mapped (answered i (on_puback code)) w.copies (on_answer i (on_puback code) (fair_puback code)))
+ups_on r order (pubrec i code ∷ rest) w = replying (pubrec_reply i code (find i w.copies)) rest _ w (mapped (answered i (on_pubrec code)) w.copies (on_answer i (on_pubrec code) (fair_pubrec code)))
+ups_on r order (pubcomp i code ∷ rest) w = replying (pubcomp_reply (find i w.copies)) rest _ w (mapped (answered i on_pubcomp) w.copies (on_answer i on_pubcomp fair_pubcomp))
 
 olds_on : (r : Bool) (old : List Answer) (w : World) → Onward w.copies (old_comes r old w).copies
 olds_on r [] w = stays w.copies
@@ -187,7 +187,7 @@ pub step_on : (w : World) (e : Event) → Onward w.copies (step w e).copies
 step_on w (enter b) = enter_on w.stands b w
 step_on w (finish l n) = lapses l n w.copies
 step_on w (pump k) = pump_all k w
-step_on w (to_broker r) = ups_on r w.up w
+step_on w (to_broker r order) = ups_on r order w.up w
 step_on w (old_to_broker r) = olds_on r w.old w
 step_on w to_end = downs_on w.down w
 step_on w give_up = gives_on w.clean w.link w

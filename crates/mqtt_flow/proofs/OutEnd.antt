@@ -8,8 +8,9 @@ use Rattle.std.proofs.lemmas.Bool.Decides.{nat_tests}
 use Rattle.mqtt_flow.specs.FreeIdentifier.{has, closed_in}
 use Rattle.mqtt_base.specs.declared.Ending.{Ending}
 use Rattle.mqtt_base.specs.declared.Ending.TheVariants.{Taken, Refused, Expired, TooLarge, SessionEnded, Dropped}
-use Rattle.mqtt_flow.specs.Lives.{Body, Mark, sent, released, Life, waiting, in_flight, ended, Output, connack, no_connack, publish, pubrel, disconnect, anew}
-use Rattle.mqtt_flow.specs.OutboundWorld.{Answer, connect, puback, pubrec, pubcomp, Link, away, asked, live, Handed, World, Event, enter, finish, pump, to_broker, old_to_broker, to_end, give_up, break_line, make_line, close, close_old, restart, goes, sent_on, handed, Rising, kept_after, ledger_after, read_publish, read_connack, leaves, down_comes, gives_up, joins, up_comes, old_comes, step, start, run, connects_old}
+use Rattle.mqtt_flow.specs.Receiver.{Body, Output, connack, no_connack, publish, pubrel, disconnect, Answer, connect, puback, pubrec, pubcomp, Link, away, asked, live, Handed, goes, sent_on, handed, Rising, kept_after, ledger_after, read_publish, read_connack, leaves, down_comes, gives_up, joins}
+use Rattle.mqtt_flow.specs.Lives.{Mark, sent, released, Life, waiting, in_flight, ended, anew}
+use Rattle.mqtt_flow.specs.LivesWorld.{World, Event, enter, finish, pump, to_broker, old_to_broker, to_end, give_up, break_line, make_line, close, close_old, restart, up_comes, old_comes, step, start, run, connects_old}
 use Rattle.mqtt_flow.proofs.OutIds.{test_cases, same_id, has-push, has-closed_same, has-closed_other}
 use Rattle.mqtt_flow.proofs.Out.{up_about, ups, downs, is_connect, Copy_of, Copy, held, Stage, free, idle, publishing, receiving, acking, releasing, completing, held_of, up_of, stale, down_of, open_of, Fits, AtMost, Way, At, Final, Told, Weak, Was_read, Read_end, Settled, Ready, Late, Olds, Calm, is_away, is_sent, is_shut, is_read, is_live, behind, effective, Done, Inv, Norm, Blank, no_line, is_asked, was_shut, Fresh, Good, at_most_none, at_most_more, at_head, late_olds, late_ups, ready_more, only, holder}
 use Rattle.mqtt_flow.proofs.OutPump.{by_id, way_some, way_none, way_same, downs-goes, same_stage, same_number, calm_goes, effective_goes, enters, lapses, pumps}
@@ -593,9 +594,9 @@ fresh_down down w u f = let z : down ≡ [] = sym u ∙ go f.lines in subst (λ 
     go (is_asked h v d x) = d
     go (was_shut h v d x) = d
 
-reads_up : (r : Bool) (w : World) → Good w → Good (step w (to_broker r))
-reads_up r w (inl inv) = inl (norm_up r w.up w refl inv)
-reads_up r w (inr f) = fresh_up r w.up w refl f
+reads_up : (r : Bool) (order : List ℕ) (w : World) → Good w → Good (step w (to_broker r order))
+reads_up r order w (inl inv) = inl (norm_up r order w.up w refl inv)
+reads_up r order w (inr f) = fresh_up r order w.up w refl f
 
 reads_old : (r : Bool) (w : World) → Good w → Good (step w (old_to_broker r))
 reads_old r w (inl inv) = inl (norm_old r w.old w refl inv)
@@ -609,7 +610,7 @@ pub keeps : (w : World) (e : Event) → Good w → Good (step w e)
 keeps w (enter b) g = enters w.stands b w refl g
 keeps w (finish l n) g = lapses l n w g
 keeps w (pump k) g = pumps k w g
-keeps w (to_broker r) g = reads_up r w g
+keeps w (to_broker r order) g = reads_up r order w g
 keeps w (old_to_broker r) g = reads_old r w g
 keeps w to_end g = reads_down w g
 keeps w give_up g = gives w.clean w.link w refl g

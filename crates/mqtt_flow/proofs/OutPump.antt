@@ -2,8 +2,9 @@
 use Rattle.std.proofs.Common.{◌≡◌, ◌⊎◌, inl, inr, ⊎_elim, ℕ, zero, suc, ◌+◌, ◌<◌, ◌≤◌, Bool, true, false, cond, ◌&&◌, List, [], ◌∷◌, ◌++◌, length, nat_eq, if◌then◌else◌, refl, sym, ap, ◌∙◌, subst, arith, Option, Some, None, slice_get, append-nil, add-zero, zero-add, eqb-true}
 use Rattle.std.proofs.lemmas.List.Elements.{filter-append}
 use Rattle.mqtt_flow.specs.FreeIdentifier.{has, free_identifier}
-use Rattle.mqtt_flow.specs.Lives.{Body, Mark, sent, released, Life, waiting, in_flight, ended, Output, connack, no_connack, publish, pubrel, disconnect, pids, pumped, pump_sends, Lapse, is_late, is_large, is_dropped, cause, lapsed, lapse_at}
-use Rattle.mqtt_flow.specs.OutboundWorld.{Answer, Link, away, asked, live, Handed, World, goes, handed, enters_in, pump_one, pump_some, step, finish}
+use Rattle.mqtt_flow.specs.Receiver.{Body, Output, connack, no_connack, publish, pubrel, disconnect, Answer, Link, away, asked, live, Handed, goes, handed}
+use Rattle.mqtt_flow.specs.Lives.{Mark, sent, released, Life, waiting, in_flight, ended, pids, pumped, pump_sends, Lapse, is_late, is_large, is_dropped, cause, lapsed, lapse_at}
+use Rattle.mqtt_flow.specs.LivesWorld.{World, enters_in, pump_one, unused_of, step, finish}
 use Rattle.mqtt_flow.proofs.OutIds.{test_cases, same_id, free_is_free}
 use Rattle.mqtt_flow.proofs.Out.{down_about, ups, downs, Copy_of, Copy, holding, held, Stage, free, idle, publishing, receiving, acking, releasing, completing, stale, down_of, Fits, AtMost, Way, At, Final, Told, Weak, Was_read, Settled, Ready, Published, Calm, is_away, is_sent, is_shut, is_read, is_live, behind, effective, Done, Inv, Norm, Fresh, Blank, no_line, is_asked, was_shut, Good, at_most_more, at_most_none, ready_more, ready_push, under_way, held-append, not_held, only, none_in}
 
@@ -444,14 +445,20 @@ blank_linked w f = go f.lines
     go (is_asked a b c d) = d
     go (was_shut a b c d) = d
 
-pump_once : (w : World) → Good w → Good (pump_one w)
-pump_once w (inl inv) =
-    let i = free_identifier (pids w.copies) in
+unused_is_free : (i : ℕ) (used : List ℕ) → has (unused_of i used) used ≡ false
+unused_is_free i used = ⊎_elim
+    (λ (e : has i used ≡ true). rw e (free_is_free used))
+    (λ (e : has i used ≡ false). rw e e)
+    (test_cases (has i used))
+
+pump_once : (i : ℕ) (w : World) → Good w → Good (pump_one i w)
+pump_once o w (inl inv) =
+    let i = unused_of o (pids w.copies) in
     let k = effective w.link w.down w.kept in
     let e = effective_goes w.link w.linked w.stands w.clean w.up w.down w.old w.kept (pump_sends i 0 w.copies) inv.calm in
-    inl (subst (λ k. Inv k (pump_one w)) (sym e) (pump_keeps k i w (free_is_free (pids w.copies)) (pump_splits i 0 w.copies) inv))
-pump_once w (inr f) =
-    let i = free_identifier (pids w.copies) in
+    inl (subst (λ k. Inv k (pump_one o w)) (sym e) (pump_keeps k i w (unused_is_free o (pids w.copies)) (pump_splits i 0 w.copies) inv))
+pump_once o w (inr f) =
+    let i = unused_of o (pids w.copies) in
     let e = blank_linked w f in
     inr (record {
       of_old = f.of_old;
@@ -464,6 +471,5 @@ pump_once w (inr f) =
       stands = f.stands;
     })
 
-pub pumps : (k : ℕ) (w : World) → Good w → Good (pump_some k w)
-pumps zero w good = good
-pumps (suc k) w good = pumps k (pump_one w) (pump_once w good)
+pub pumps : (i : ℕ) (w : World) → Good w → Good (pump_one i w)
+pumps i w good = pump_once i w good

@@ -4,8 +4,9 @@ use Rattle.std.specs.List.{list_any}
 use Rattle.std.proofs.lemmas.Option.{slice_get-map}
 use Rattle.mqtt_flow.specs.FreeIdentifier.{has}
 use Rattle.mqtt_base.specs.declared.Ending.TheVariants.{Taken}
-use Rattle.mqtt_flow.specs.Lives.{Body, Mark, sent, released, Life, waiting, in_flight, ended, Output, connack, no_connack, publish, pubrel, disconnect, find, anew, pubrels, cut, Turn, stay, over, turned, answered, on_puback, on_pubrec, on_pubcomp, Reply, wrong, says, puback_reply, pubrec_reply, pubcomp_reply}
-use Rattle.mqtt_flow.specs.OutboundWorld.{Answer, connect, puback, pubrec, pubcomp, Link, away, asked, live, Handed, World, goes, handed, Rising, spared, made_new, resumed, connects, connects_old, replied, replied_old, up_comes, old_comes}
+use Rattle.mqtt_flow.specs.Receiver.{Body, Output, connack, no_connack, publish, pubrel, disconnect, Answer, connect, puback, pubrec, pubcomp, Link, away, asked, live, Handed, goes, handed, Rising, spared}
+use Rattle.mqtt_flow.specs.Lives.{Mark, sent, released, Life, waiting, in_flight, ended, find, anew, pubrels, cut, Turn, stay, over, turned, answered, on_puback, on_pubrec, on_pubcomp, Reply, wrong, says, puback_reply, pubrec_reply, pubcomp_reply}
+use Rattle.mqtt_flow.specs.LivesWorld.{World, arranged, made_new, resumed, connects, connects_old, replied, replied_old, up_comes, old_comes}
 use Rattle.mqtt_flow.proofs.OutIds.{test_cases, same_id}
 use Rattle.mqtt_flow.proofs.Out.{up_about, ups, downs, is_connect, Copy_of, Copy, held, Stage, free, idle, publishing, receiving, acking, releasing, completing, At, AtMost, Way, Told, Weak, Was_read, Settled, Ready, Late, Olds, Calm, is_away, is_sent, is_shut, is_read, is_live, effective, Done, Inv, Norm, Blank, no_line, is_asked, was_shut, Fresh, Good, late_olds, late_spared, late_ups, ready_more, ready_plain, Plain, ready_pubrels, first_of, find-held, only, none_in}
 use Rattle.mqtt_flow.proofs.OutPump.{by_id, way_some, way_none, way_same, way_goes, downs-goes, same_stage, same_number, goes_head, calm_goes, effective_goes}
@@ -96,27 +97,27 @@ new_session rest w link r d olds ck weak was before rising =
       rising = rising;
     })
 
-resumes_inv : (k : List ℕ) (rest : List Answer) (w : World) → w.link ≡ asked → rest ≡ [] → w.down ≡ [] → w.stands ≡ true → Inv k w → Inv k (resumed rest w)
-resumes_inv k rest w link r d st inv =
-    let w' = resumed rest w in
+resumes_inv : (k order : List ℕ) (rest : List Answer) (w : World) → w.link ≡ asked → rest ≡ [] → w.down ≡ [] → w.stands ≡ true → Inv k w → Inv k (resumed order rest w)
+resumes_inv k order rest w link r d st inv =
+    let w' = resumed order rest w in
     let done = map_done anew w w' refl refl settled_anew in
     let late = late_spared w.old inv.olds in
     record {
-      each = λ j. (again (inv.each j).0, rw (d, r) (begins_again (inv.each j).0 (inv.each j).1 (late_ups j (spared w.old) late) refl));
+      each = λ j. (again (inv.each j).0, rw (d, r) (begins_again order (inv.each j).0 (inv.each j).1 (late_ups j (spared w.old) late) refl));
       told = λ m. rw slice_get-map (told_anew k (handed m w.ledger) (slice_get w.copies m) (inv.told m));
       was = λ m. rw slice_get-map (was_anew (handed m w.reads) (slice_get w.copies m) (inv.was m));
-      calm = is_read true (pubrels w.copies) link r (rw d refl) late (inl refl) st;
+      calm = is_read true (arranged order [] (pubrels w.copies)) link r (rw d refl) late (inl refl) st;
       olds = late_olds (spared w.old) late;
       begun = λ x. let y = sym st ∙ x in absurd (cc);
-      ready = rw d (ready_pubrels (Done w') w.copies);
+      ready = rw d (ready_pubrels (Done w') order w.copies);
       before = λ m n l h. done n (inv.before m n l h);
       rising = inv.rising;
     }
 
-resumes : (rest : List Answer) (w : World) → w.link ≡ asked → rest ≡ [] → w.down ≡ [] → w.stands ≡ true → Norm w → Norm (resumed rest w)
-resumes rest w link r d st inv =
-    let e : effective w.link (w.down ++ connack true ∷ pubrels w.copies) w.kept ≡ effective w.link w.down w.kept = rw (link, d) refl in
-    subst (λ k. Inv k (resumed rest w)) (sym e) (resumes_inv (effective w.link w.down w.kept) rest w link r d st inv)
+resumes : (order : List ℕ) (rest : List Answer) (w : World) → w.link ≡ asked → rest ≡ [] → w.down ≡ [] → w.stands ≡ true → Norm w → Norm (resumed order rest w)
+resumes order rest w link r d st inv =
+    let e : effective w.link (w.down ++ connack true ∷ arranged order [] (pubrels w.copies)) w.kept ≡ effective w.link w.down w.kept = rw (link, d) refl in
+    subst (λ k. Inv k (resumed order rest w)) (sym e) (resumes_inv (effective w.link w.down w.kept) order rest w link r d st inv)
 
 refuses : (rest : List Answer) (w : World) → w.link ≡ asked → rest ≡ [] → w.down ≡ [] → w.linked ≡ false → w.up ≡ connect w.clean ∷ rest → Norm w → Norm (record w { up = rest; down = w.down ++ no_connack ∷ [] })
 refuses rest w link r d lf u inv =
@@ -138,10 +139,10 @@ refuses rest w link r d lf u inv =
 weaker : (w : World) → Norm w → (n : ℕ) → Weak (handed n w.ledger) (slice_get w.copies n)
 weaker w inv n = told_weak (effective w.link w.down w.kept) (handed n w.ledger) (slice_get w.copies n) (inv.told n)
 
-connecting : (s c r : Bool) (rest : List Answer) (w : World) → w.stands ≡ s → w.up ≡ connect c ∷ rest → Norm w → Norm (connects s c r rest w)
-connecting s c r rest w st u inv = go s c r st u
+connecting : (s c r : Bool) (order : List ℕ) (rest : List Answer) (w : World) → w.stands ≡ s → w.up ≡ connect c ∷ rest → Norm w → Norm (connects s c r order rest w)
+connecting s c r order rest w st u inv = go s c r st u
   where
-    go : (s c r : Bool) → w.stands ≡ s → w.up ≡ connect c ∷ rest → Norm (connects s c r rest w)
+    go : (s c r : Bool) → w.stands ≡ s → w.up ≡ connect c ∷ rest → Norm (connects s c r order rest w)
     go false c true st u =
         let q = calm_connect (subst (λ x. Calm w.link w.linked w.stands w.clean x w.down w.old w.kept) u inv.calm) in
         refuses rest w q.0 q.1 q.2 q.3 (u ∙ rw q.4 refl) inv
@@ -153,7 +154,7 @@ connecting s c r rest w st u inv = go s c r st u
         new_session rest w q.0 q.1 q.2 inv.olds (inl (sym q.4)) (weaker w inv) inv.was inv.before inv.rising
     go true false r st u =
         let q = calm_connect (subst (λ x. Calm w.link w.linked w.stands w.clean x w.down w.old w.kept) u inv.calm) in
-        resumes rest w q.0 q.1 q.2 st inv
+        resumes order rest w q.0 q.1 q.2 st inv
 
 live_effective : (l : Link) (d d' : List Output) (kept : List ℕ) → l ≡ live → effective l d' kept ≡ effective l d kept
 live_effective l d d' kept e = rw e refl
@@ -490,12 +491,12 @@ old_connect s c r rest w st u inv = go (subst Olds u inv.olds)
     go (inl h) = let z : rest ≡ [] = cc in let e : c ≡ false = cc in subst (λ rest. Norm (connects_old s c r rest w)) (sym z) (by s c r e st)
     go (inr h) = absurd (cc)
 
-pub norm_up : (r : Bool) (up : List Answer) (w : World) → w.up ≡ up → Norm w → Norm (up_comes r up w)
-norm_up r [] w u inv = inv
-norm_up r (connect c ∷ rest) w u inv = connecting w.stands c r rest w refl u inv
-norm_up r (puback i code ∷ rest) w u inv = reads_puback i code rest w u inv
-norm_up r (pubrec i code ∷ rest) w u inv = reads_pubrec i code rest w u inv
-norm_up r (pubcomp i code ∷ rest) w u inv = reads_pubcomp i code rest w u inv
+pub norm_up : (r : Bool) (order : List ℕ) (up : List Answer) (w : World) → w.up ≡ up → Norm w → Norm (up_comes r order up w)
+norm_up r order [] w u inv = inv
+norm_up r order (connect c ∷ rest) w u inv = connecting w.stands c r order rest w refl u inv
+norm_up r order (puback i code ∷ rest) w u inv = reads_puback i code rest w u inv
+norm_up r order (pubrec i code ∷ rest) w u inv = reads_pubrec i code rest w u inv
+norm_up r order (pubcomp i code ∷ rest) w u inv = reads_pubcomp i code rest w u inv
 
 pub norm_old : (r : Bool) (old : List Answer) (w : World) → w.old ≡ old → Norm w → Norm (old_comes r old w)
 norm_old r [] w u inv = inv
@@ -505,18 +506,18 @@ norm_old r (pubrec i code ∷ rest) w u inv = old_pubrec i code rest w u inv
 norm_old r (pubcomp i code ∷ rest) w u inv = old_pubcomp i code rest w u inv
 
 -- while a Clean Start goes on
-pub fresh_up : (r : Bool) (up : List Answer) (w : World) → w.up ≡ up → Fresh w → Good (up_comes r up w)
-fresh_up r up w u f = go f.lines
+pub fresh_up : (r : Bool) (order : List ℕ) (up : List Answer) (w : World) → w.up ≡ up → Fresh w → Good (up_comes r order up w)
+fresh_up r order up w u f = go f.lines
   where
-    none : w.up ≡ [] → Good (up_comes r up w)
+    none : w.up ≡ [] → Good (up_comes r order up w)
     none e = let z : up ≡ [] = sym u ∙ e in rw z (inr f)
 
-    go : Blank w.link w.linked w.up w.down → Good (up_comes r up w)
+    go : Blank w.link w.linked w.up w.down → Good (up_comes r order up w)
     go (no_line h e d l) = none e
     go (was_shut h e d l) = none e
     go (is_asked h e d l) =
         let z : up ≡ connect true ∷ [] = sym u ∙ e in
         let st = f.stands in
-        subst (λ up. Good (up_comes r up w)) (sym z)
-        (subst (λ s. Good (connects s true r [] w)) (sym st)
+        subst (λ up. Good (up_comes r order up w)) (sym z)
+        (subst (λ s. Good (connects s true r order [] w)) (sym st)
         (inl (new_session [] w h refl d (late_olds w.old f.of_old) (inl f.pending) f.weak f.was f.before f.rising)))

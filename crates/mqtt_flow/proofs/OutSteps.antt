@@ -3,10 +3,11 @@ use Rattle.std.proofs.Common.{◌≡◌, ◌⊎◌, inl, inr, ⊎_elim, ℕ, suc
 use Rattle.mqtt_flow.specs.FreeIdentifier.{has}
 use Rattle.mqtt_base.specs.declared.Ending.{Ending}
 use Rattle.mqtt_base.specs.declared.Ending.TheVariants.{Taken, Refused, Expired, TooLarge, SessionEnded, Dropped}
-use Rattle.mqtt_flow.specs.Lives.{Body, Mark, sent, released, Life, waiting, in_flight, ended, Output, connack, publish, pubrel, find, unsent, anew, pubrels, cut, Turn, stay, over, turned, answered, on_puback, on_pubrec, on_pubcomp}
-use Rattle.mqtt_flow.specs.OutboundWorld.{Answer, puback, pubrec, pubcomp, Handed, handed}
+use Rattle.mqtt_flow.specs.Receiver.{Body, Output, connack, publish, pubrel, Answer, puback, pubrec, pubcomp, Handed, handed}
+use Rattle.mqtt_flow.specs.LivesWorld.{arranged}
+use Rattle.mqtt_flow.specs.Lives.{Mark, sent, released, Life, waiting, in_flight, ended, find, unsent, anew, pubrels, cut, Turn, stay, over, turned, answered, on_puback, on_pubrec, on_pubcomp}
 use Rattle.mqtt_flow.proofs.OutIds.{test_cases, same_id}
-use Rattle.mqtt_flow.proofs.Out.{ups, downs, up_about, Copy_of, Copy, holding, held, Stage, free, idle, publishing, receiving, acking, releasing, completing, held_of, up_of, stale, down_of, open_of, Fits, AtMost, Way, At, Final, Told, Weak, Read_end, Was_read, Settled, at_most_none, at_most_more, at_head}
+use Rattle.mqtt_flow.proofs.Out.{OneAtMost, downs-arranged, ups, downs, up_about, Copy_of, Copy, holding, held, Stage, free, idle, publishing, receiving, acking, releasing, completing, held_of, up_of, stale, down_of, open_of, Fits, AtMost, Way, At, Final, Told, Weak, Read_end, Was_read, Settled, at_most_none, at_most_more, at_head}
 use Rattle.mqtt_flow.proofs.OutPump.{by_id, way_some, way_none, way_same, same_stage}
 
 -- a new connection
@@ -116,12 +117,21 @@ way_lost i l xs (acking n b) h = way_some l _ _ h
 way_lost i l xs (releasing n o x t b) h = way_some l _ _ h
 way_lost i l xs (completing n code x t b) h = way_some l _ _ h
 
-pub begins_again : {i : ℕ} {f : List Life} {l : Bool} {a a' b b' : List Answer} {d : List Output} {k : List ℕ} {r : List Handed} (s : Stage) → At i f l a b d k r s → ups i a' ≡ [] → ups i b' ≡ [] → At i (map anew f) true a' b' (connack true ∷ pubrels f) k r (again s)
-begins_again {i} {f} {r = r} s at e' e = record {
+one_freed : (i : ℕ) (s : Stage) → OneAtMost (freed i (held_of s))
+one_freed i free = tt
+one_freed i (idle n dup o b) = tt
+one_freed i (publishing n dup o b) = tt
+one_freed i (receiving n b) = tt
+one_freed i (acking n b) = tt
+one_freed i (releasing n o h t b) = refl
+one_freed i (completing n code h t b) = refl
+
+pub begins_again : (order : List ℕ) {i : ℕ} {f : List Life} {l : Bool} {a a' b b' : List Answer} {d : List Output} {k : List ℕ} {r : List Handed} (s : Stage) → At i f l a b d k r s → ups i a' ≡ [] → ups i b' ≡ [] → At i (map anew f) true a' b' (connack true ∷ arranged order [] (pubrels f)) k r (again s)
+begins_again order {i} {f} {r = r} s at e' e = record {
   holds = held-anew i 0 f ∙ (ap aged at.holds ∙ sym (held_again s));
   of_old = inl e';
   of_up = inl e;
-  of_down = downs-pubrels i 0 f ∙ (ap (freed i) at.holds ∙ sym (down_again i s));
+  of_down = downs-arranged i order [] (pubrels f) (freed i (held_of s)) (one_freed i s) (inl (refl, downs-pubrels i 0 f ∙ ap (freed i) at.holds)) ∙ sym (down_again i s);
   is_kept = at.is_kept ∙ sym (open_again r s at.fits);
   fits = fits_again r s;
 }

@@ -2,13 +2,7 @@
 use Rattle.std.specs.Prelude.{ℕ, zero, suc, Bool, true, false, List, [], ◌∷◌, ◌++◌, map, nat_eq, nat_lt, if◌then◌else◌, Option, Some, None}
 use Rattle.mqtt_base.specs.declared.Ending.{Ending}
 use Rattle.mqtt_base.specs.declared.Ending.TheVariants.{Taken, Refused, Expired, TooLarge, SessionEnded, Dropped}
-use Rattle.mqtt_flow.specs.FreeIdentifier.{free_identifier}
-
--- what a copy carries. `twice` says that its granted QoS is 2, not 1
-pub record Body : Type 0 where
-  pub twice : Bool
-  pub topic : List ℕ
-  pub payload : List ℕ
+use Rattle.mqtt_flow.specs.Receiver.{Body, Output, publish, pubrel}
 
 -- a copy in flight was sent, or its PUBREL was. `here` says that its PUBLISH went out on this connection, `taken` that
 -- its PUBREC was taken
@@ -20,14 +14,6 @@ pub data Life : Type 0 where
   waiting : (b : Body) → Life
   in_flight : (i : ℕ) (m : Mark) (b : Body) → Life
   ended : (e : Ending) (b : Body) → Life
-
--- packets to the receiver. A PUBLISH has its identifier, the number of its copy, DUP and what the copy carries
-pub data Output : Type 0 where
-  connack : (present : Bool) → Output
-  no_connack : Output
-  publish : (i n : ℕ) (dup : Bool) (b : Body) → Output
-  pubrel : (i code : ℕ) → Output
-  disconnect : Output
 
 abbrev pub body_of : Life → Body
 body_of (waiting b) = b

@@ -2,9 +2,10 @@
 
 ghost use Rattle.std.specs.Prelude.{◌≡◌, ℕ, ◌+◌, ◌<◌, ◌≤◌, Bool, true, false, List, [], slice_get, Option, Some, None};
 ghost use Rattle.mqtt_base.specs.declared.Ending.TheVariants.{Taken, Expired};
-ghost use Rattle.mqtt_flow.specs.Lives.{Body, Life, in_flight, ended, released};
-ghost use Rattle.mqtt_flow.specs.OutboundWorld.{Event, run, start, handed, Rising};
-ghost use Rattle.mqtt_flow.specs.OutboundCourse.{Goes_on, Carries};
+ghost use Rattle.mqtt_flow.specs.Receiver.{Body, handed, Rising};
+ghost use Rattle.mqtt_flow.specs.Lives.{Life, in_flight, ended, released};
+ghost use Rattle.mqtt_flow.specs.LivesWorld.{Event, run, start};
+ghost use Rattle.mqtt_flow.specs.LivesCourse.{Goes_on, Carries};
 
 /// Whatever happens on the lines: no copy is handed over twice, one whose PUBREC was taken is handed over once, copies
 /// are handed over in the order in which they entered, and a copy of QoS 1 that was taken was read.

@@ -1,8 +1,9 @@
 use Rattle.std.proofs.Common.{ℕ, ◌≤◌, Option, Some, None, slice_get, subst, arith, Bool}
 use Rattle.mqtt_base.specs.declared.Ending.{Ending}
 use Rattle.mqtt_base.specs.declared.Ending.TheVariants.{Taken, Refused, Expired, TooLarge, SessionEnded, Dropped}
-use Rattle.mqtt_flow.specs.Lives.{Body, Life, waiting, in_flight, ended, sent, released}
-use Rattle.mqtt_flow.specs.OutboundWorld.{run, start, handed}
+use Rattle.mqtt_flow.specs.Receiver.{Body, handed}
+use Rattle.mqtt_flow.specs.Lives.{Life, waiting, in_flight, ended, sent, released}
+use Rattle.mqtt_flow.specs.LivesWorld.{run, start}
 use Rattle.mqtt_flow.proofs.Out.{Final, Weak, Was_read}
 use Rattle.mqtt_flow.proofs.OutEnd.{begins, runs, good_weak, good_was, good_rising}
 use Rattle.mqtt_flow.proofs.OutCourse.{run_on}
