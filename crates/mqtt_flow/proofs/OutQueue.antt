@@ -59,7 +59,7 @@ above-marked : (t : Turn) (place : ℕ) (queue : List Entry) → Above place que
 above-marked t place [] h = h
 above-marked t place (e ∷ es) h = (rw (place-marked t e) h.0, above-marked t place es h.1)
 
-ascends-marked : (t : Turn) (queue : List Entry) → Ascends queue → Ascends (map (marked t) queue)
+pub ascends-marked : (t : Turn) (queue : List Entry) → Ascends queue → Ascends (map (marked t) queue)
 ascends-marked t [] h = h
 ascends-marked t (e ∷ es) h = (rw (place-marked t e) (above-marked t e.place es h.0), ascends-marked t es h.1)
 
@@ -92,7 +92,7 @@ above-filter p place (e ∷ es) h = ⊎_elim
     (λ (t : p e ≡ false). rw t (above-filter p place es h.1))
     (test_cases (p e))
 
-ascends-filter : (p : Entry → Bool) (queue : List Entry) → Ascends queue → Ascends (filter p queue)
+pub ascends-filter : (p : Entry → Bool) (queue : List Entry) → Ascends queue → Ascends (filter p queue)
 ascends-filter p [] h = h
 ascends-filter p (e ∷ es) h = ⊎_elim
     (λ (t : p e ≡ true). rw t (above-filter p e.place es h.0, ascends-filter p es h.1))
