@@ -143,7 +143,7 @@ split-after t xs e m ys h at =
     ∙ ap (λ zs. xs ++ (lot_after t (standing e m) ∷ zs)) (misses-after t e.place ys at (misses_behind xs e m ys h))
 
 -- and its PUBLISH has that copy's number
-sends-split : (dup : Bool) (i n : ℕ) (xs : List Lot) (e : Entry) (m : Message) (ys : List Lot) → Misses e.place xs → sends dup i e.place n (xs ++ standing e m ∷ ys) ≡ publish i (n + length xs) dup (body e m) ∷ []
+pub sends-split : (dup : Bool) (i n : ℕ) (xs : List Lot) (e : Entry) (m : Message) (ys : List Lot) → Misses e.place xs → sends dup i e.place n (xs ++ standing e m ∷ ys) ≡ publish i (n + length xs) dup (body e m) ∷ []
 sends-split dup i n [] e m ys h = let same = same_id e.place in let z : n + 0 ≡ n = omega arith in rw (same, z) refl
 sends-split dup i n (past x f k ∷ xs) e m ys h = let z : suc n + length xs ≡ n + suc (length xs) = omega arith in rw (sends-split dup i (suc n) xs e m ys h) (ap (λ l. publish i l dup (body e m) ∷ []) z)
 sends-split dup i n (standing f k ∷ xs) e m ys h = let z : suc n + length xs ≡ n + suc (length xs) = omega arith in rw (h.0, sends-split dup i (suc n) xs e m ys h.1) (ap (λ l. publish i l dup (body e m) ∷ []) z)
@@ -153,7 +153,7 @@ pub life-append : (xs ys : List Lot) → map life (xs ++ ys) ≡ map life xs ++ 
 life-append [] ys = refl
 life-append (x ∷ xs) ys = ap (λ zs. life x ∷ zs) (life-append xs ys)
 
-length-life : (xs : List Lot) → length (map life xs) ≡ length xs
+pub length-life : (xs : List Lot) → length (map life xs) ≡ length xs
 length-life [] = refl
 length-life (x ∷ xs) = let r = length-life xs in omega arith
 

@@ -9,7 +9,7 @@ use Rattle.mqtt_flow.proofs.OutEnd.{begins, runs, good_weak, good_was, good_risi
 use Rattle.mqtt_flow.proofs.OutCourse.{run_on}
 use Rattle.mqtt_flow.proofs.OutCarry.{carried_all}
 use Rattle.mqtt_flow.proofs.OutExamples.{expired}
-use Rattle.mqtt_flow.proofs.OutJoin.{queue_of-after}
+use Rattle.mqtt_flow.proofs.OutWalk.{pump_leads, expire_leads, drop_leads}
 use Rattle.mqtt_flow.proofs.outbound_laws.outbound_once.Goals as goal
 
 final_once : (e : Ending) (t : Bool) (c : ℕ) → Final e t c → c ≤ 1
