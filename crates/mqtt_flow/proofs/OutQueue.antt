@@ -143,7 +143,7 @@ above-push : (place : ℕ) (e : Entry) (queue : List Entry) → place < e.place 
 above-push place e [] l h = (l, tt)
 above-push place e (x ∷ xs) l h = (h.0, above-push place e xs l h.1)
 
-ascends-push : (e : Entry) (queue : List Entry) → greatest_place queue < e.place → Ascends queue → Ascends (queue ++ e ∷ [])
+pub ascends-push : (e : Entry) (queue : List Entry) → greatest_place queue < e.place → Ascends queue → Ascends (queue ++ e ∷ [])
 ascends-push e [] l h = (tt, tt)
 ascends-push e (x ∷ xs) l h = (above-push x.place e xs (omega arith) h.0, ascends-push e xs (omega arith) h.1)
 
@@ -168,7 +168,7 @@ above-anew : (place : ℕ) (queue : List Entry) → Above place queue → Above 
 above-anew place [] h = h
 above-anew place (e ∷ es) h = (h.0, above-anew place es h.1)
 
-ascends-anew : (queue : List Entry) → Ascends queue → Ascends (anew queue)
+pub ascends-anew : (queue : List Entry) → Ascends queue → Ascends (anew queue)
 ascends-anew [] h = h
 ascends-anew (e ∷ es) h = (above-anew e.place es h.0, ascends-anew es h.1)
 

@@ -1,21 +1,25 @@
 //! The law of one outbound hop (4.3, 4.4, 4.6).
 
-ghost use Rattle.std.specs.Prelude.{◌≡◌, ℕ, ◌+◌, ◌<◌, ◌≤◌, Bool, true, false, List, [], slice_get, Option, Some, None};
-ghost use Rattle.mqtt_base.specs.declared.Ending.TheVariants.{Taken, Expired};
-ghost use Rattle.mqtt_flow.specs.Receiver.{Body, handed, Rising};
-ghost use Rattle.mqtt_flow.specs.Lives.{Life, in_flight, ended, released};
-ghost use Rattle.mqtt_flow.specs.LivesWorld.{Event, run, start};
-ghost use Rattle.mqtt_flow.specs.LivesCourse.{Goes_on, Carries};
+ghost use Rattle.std.specs.Prelude.{ℕ, List};
+ghost use Rattle.mqtt_base.specs.declared.Ending.TheVariants.{Expired, Dropped};
+ghost use Rattle.mqtt_flow.specs.OutboundWorld.{Event, run, start};
+ghost use Rattle.mqtt_flow.specs.OutboundCourse.{Once, TakenOnce, ReleasedOnce, Unhanded, InOrder, GoOn, Carried, TakenRead};
 
-/// Whatever happens on the lines: no copy is handed over twice, one whose PUBREC was taken is handed over once, copies
-/// are handed over in the order in which they entered, and a copy of QoS 1 that was taken was read.
+/// Whatever happens on the lines of a receiver and to the broker: no copy is handed over twice, one whose PUBREC was
+/// taken is handed over once, with its publication's topic and payload and in the order of the queue; each copy waits
+/// on or ends once, for one cause; and a copy of QoS 1 that was taken was read. The receiver's Maximum Packet Size is
+/// the same on each of its lines (`largest`).
 pub fn outbound_once()
-    ensures once { (events : List Event) (n : ℕ) → handed n (run events start).ledger ≤ 1 }
-    ensures taken { (events : List Event) (n : ℕ) (b : Body) → slice_get (run events start).copies n ≡ Some (ended Taken b) → b.twice ≡ true → handed n (run events start).ledger ≡ 1 }
-    ensures released { (events : List Event) (n i : ℕ) (h t : Bool) (b : Body) → slice_get (run events start).copies n ≡ Some (in_flight i (released h t) b) → handed n (run events start).ledger ≡ 1 }
-    ensures lapsed { (events : List Event) (n : ℕ) (b : Body) → slice_get (run events start).copies n ≡ Some (ended Expired b) → handed n (run events start).ledger ≡ 0 }
-    ensures in_order { (events : List Event) → Rising (run events start).ledger }
-    ensures course { (events later : List Event) (n : ℕ) → Goes_on (slice_get (run events start).copies n) (slice_get (run later (run events start)).copies n) }
-    ensures carried { (events : List Event) → Carries (run events start).copies (run events start).ledger × Carries (run events start).copies (run events start).reads }
-    ensures read { (events : List Event) (n : ℕ) (b : Body) → slice_get (run events start).copies n ≡ Some (ended Taken b) → b.twice ≡ false → 1 ≤ handed n (run events start).reads }
+    ensures once { (largest : ℕ) (events : List Event) → Once (run largest events start) }
+    ensures taken { (largest : ℕ) (events : List Event) → TakenOnce (run largest events start) }
+    ensures released { (largest : ℕ) (events : List Event) → ReleasedOnce (run largest events start) }
+    ensures expired { (largest : ℕ) (events : List Event) → Unhanded Expired (run largest events start) }
+    ensures dropped { (largest : ℕ) (events : List Event) → Unhanded Dropped (run largest events start) }
+    ensures in_order { (largest : ℕ) (events : List Event) → InOrder (run largest events start) }
+    ensures carried { (largest : ℕ) (events : List Event) → Carried (run largest events start) }
+    ensures read { (largest : ℕ) (events : List Event) → TakenRead (run largest events start) }
+    ensures course {
+        (largest : ℕ) (events later : List Event) →
+            GoOn (run largest events start) (run largest later (run largest events start))
+    }
 {}
