@@ -6,9 +6,9 @@ use Rattle.mqtt_flow.specs.FreeIdentifier.{has}
 use Rattle.mqtt_base.specs.declared.Ending.{Ending}
 use Rattle.mqtt_base.specs.declared.Ending.TheVariants.{Taken, Refused, Expired, TooLarge, SessionEnded, Dropped}
 use Rattle.mqtt_flow.specs.Receiver.{Body, Output, connack, no_connack, publish, pubrel, disconnect, Answer, connect, puback, pubrec, pubcomp, Link, away, asked, live, Handed, handed, Rising, spared}
-use Rattle.mqtt_flow.specs.LivesWorld.{put_at, arranged}
-use Rattle.mqtt_flow.specs.Lives.{Mark, sent, released, Life, waiting, in_flight, ended, pids, find, pubrels}
-use Rattle.mqtt_flow.specs.LivesWorld.{World}
+use Rattle.mqtt_flow.proofs.LivesWorld.{put_at, arranged}
+use Rattle.mqtt_flow.proofs.Lives.{Mark, sent, released, Life, waiting, in_flight, ended, pids, find, pubrels}
+use Rattle.mqtt_flow.proofs.LivesWorld.{World}
 use Rattle.mqtt_flow.proofs.OutIds.{test_cases, same_id}
 
 abbrev pub up_about : ℕ → Answer → Bool

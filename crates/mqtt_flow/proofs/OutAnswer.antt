@@ -15,8 +15,8 @@ use Rattle.mqtt_flow.specs.Queue.{Ascends, holder, is_holder, next_order}
 use Rattle.mqtt_flow.specs.Outbound as rules
 use Rattle.mqtt_flow.specs.Outbound.{is_refusal, outcome}
 use Rattle.mqtt_flow.specs.Receiver.{Body, Output, pubrel, disconnect, Answer, goes}
-use Rattle.mqtt_flow.specs.Lives.{Life, waiting, Mark, sent, released, in_flight, ended, find, Lapse, answered, on_puback, on_pubrec, on_pubcomp, Turn as Course, Reply, wrong, says, puback_reply, pubrec_reply, pubcomp_reply}
-use Rattle.mqtt_flow.specs.LivesWorld as lives
+use Rattle.mqtt_flow.proofs.Lives.{Life, waiting, Mark, sent, released, in_flight, ended, find, Lapse, answered, on_puback, on_pubrec, on_pubcomp, Turn as Course, Reply, wrong, says, puback_reply, pubrec_reply, pubcomp_reply}
+use Rattle.mqtt_flow.proofs.LivesWorld as lives
 use Rattle.mqtt_flow.specs.OutboundWorld.{Message, Lot, standing, past, queue_of, World, body, lot_after, lots_after, packets, told, replied, replied_old}
 use Rattle.mqtt_flow.proofs.OutIds.{test_cases, same_id}
 use Rattle.mqtt_flow.proofs.Out.{holding, held}

@@ -20,10 +20,10 @@ use Rattle.mqtt_flow.specs.Pacing.{Pacing}
 use Rattle.mqtt_flow.specs.Queue.{Ascends, identifiers, also, identifier_of}
 use Rattle.mqtt_flow.specs.Outbound.{is_late, is_large, is_waiting, gives_way, dropped_at, dropped, expired_at, expired, pump_step, paced, then_on, pump_from, pump, pace}
 use Rattle.mqtt_flow.specs.Receiver.{Body, Output, publish, goes}
-use Rattle.mqtt_flow.specs.Lives.{Life, waiting, in_flight, ended, sent, released, Lapse, is_dropped, cause, lapsed, lapse_at, pumped, pump_sends, pids}
-use Rattle.mqtt_flow.specs.Lives as copies
-use Rattle.mqtt_flow.specs.LivesWorld as lives
-use Rattle.mqtt_flow.specs.LivesWorld.{unused_of}
+use Rattle.mqtt_flow.proofs.Lives.{Life, waiting, in_flight, ended, sent, released, Lapse, is_dropped, cause, lapsed, lapse_at, pumped, pump_sends, pids}
+use Rattle.mqtt_flow.proofs.Lives as copies
+use Rattle.mqtt_flow.proofs.LivesWorld as lives
+use Rattle.mqtt_flow.proofs.LivesWorld.{unused_of}
 use Rattle.mqtt_flow.specs.OutboundWorld.{Message, Lot, standing, past, queue_of, World, body, lot_after, lots_after, sends, packets, told, take_turn, take_turns}
 use Rattle.mqtt_flow.proofs.OutIds.{test_cases, same_id, has-push, free_is_free}
 use Rattle.mqtt_flow.proofs.OutJoin.{life, life_by, seen, placed-after, IsAt, split-after, sends-split, misses_before, life-append, length-life, Passed, AllPassed, pumped-split, pump_sends-split, lapse_at-split}

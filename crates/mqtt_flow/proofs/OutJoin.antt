@@ -17,8 +17,8 @@ use Rattle.mqtt_flow.specs.declared.entry.Way.{Way}
 use Rattle.mqtt_flow.specs.Queue.{marked, after, Above, Ascends}
 use Rattle.mqtt_flow.specs.Outbound.{unsent}
 use Rattle.mqtt_flow.specs.Receiver.{Body, Output, connack, no_connack, publish, pubrel, disconnect, Answer, Hop, goes}
-use Rattle.mqtt_flow.specs.Lives.{Life, waiting, in_flight, ended, sent, released, anew, cut, Lapse, cause, lapsed, lapse_at, pumped, pump_sends}
-use Rattle.mqtt_flow.specs.LivesWorld as lives
+use Rattle.mqtt_flow.proofs.Lives.{Life, waiting, in_flight, ended, sent, released, anew, cut, Lapse, cause, lapsed, lapse_at, pumped, pump_sends}
+use Rattle.mqtt_flow.proofs.LivesWorld as lives
 use Rattle.mqtt_flow.specs.OutboundWorld.{Message, Lot, standing, past, queue_of, World, body, is_twice, ended_by, lot_after, lots_after, sent_at, sends, packets, told, take_turn, take_turns, renewed}
 use Rattle.mqtt_flow.specs.OutboundWorld as world
 use Rattle.mqtt_flow.proofs.OutIds.{test_cases, same_id}

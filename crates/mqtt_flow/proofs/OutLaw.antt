@@ -8,9 +8,9 @@ use Rattle.mqtt_base.specs.declared.Phase.TheVariants.{Waiting, Sent, Released, 
 use Rattle.mqtt_base.specs.declared.Qos.TheVariants.{AtLeastOnce, ExactlyOnce}
 use Rattle.mqtt_flow.specs.declared.entry.Entry.{Entry}
 use Rattle.mqtt_flow.specs.Receiver.{Body, Handed, handed, Rising}
-use Rattle.mqtt_flow.specs.Lives.{Life, waiting, in_flight, ended, sent, released, body_of}
-use Rattle.mqtt_flow.specs.LivesWorld as lives
-use Rattle.mqtt_flow.specs.LivesCourse as course
+use Rattle.mqtt_flow.proofs.Lives.{Life, waiting, in_flight, ended, sent, released, body_of}
+use Rattle.mqtt_flow.proofs.LivesWorld as lives
+use Rattle.mqtt_flow.proofs.LivesCourse as course
 use Rattle.mqtt_flow.specs.OutboundWorld.{Message, Lot, standing, past, World, body, Event, start, run}
 use Rattle.mqtt_flow.specs.OutboundCourse.{MayFollow, EndsSent, MayEnd, Next, GoesOn, carried_by, Carries, Once, TakenOnce, ReleasedOnce, Unhanded, InOrder, GoOn, Carried, TakenRead}
 use Rattle.mqtt_flow.proofs.Out.{Final, Weak, Was_read, Good}

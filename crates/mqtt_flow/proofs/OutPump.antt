@@ -3,8 +3,8 @@ use Rattle.std.proofs.Common.{◌≡◌, ◌⊎◌, inl, inr, ⊎_elim, ℕ, zer
 use Rattle.std.proofs.lemmas.List.Elements.{filter-append}
 use Rattle.mqtt_flow.specs.FreeIdentifier.{has, free_identifier}
 use Rattle.mqtt_flow.specs.Receiver.{Body, Output, connack, no_connack, publish, pubrel, disconnect, Answer, Link, away, asked, live, Handed, goes, handed}
-use Rattle.mqtt_flow.specs.Lives.{Mark, sent, released, Life, waiting, in_flight, ended, pids, pumped, pump_sends, Lapse, is_late, is_large, is_dropped, cause, lapsed, lapse_at}
-use Rattle.mqtt_flow.specs.LivesWorld.{World, enters_in, pump_one, unused_of, step, finish}
+use Rattle.mqtt_flow.proofs.Lives.{Mark, sent, released, Life, waiting, in_flight, ended, pids, pumped, pump_sends, Lapse, is_late, is_large, is_dropped, cause, lapsed, lapse_at}
+use Rattle.mqtt_flow.proofs.LivesWorld.{World, enters_in, pump_one, unused_of, step, finish}
 use Rattle.mqtt_flow.proofs.OutIds.{test_cases, same_id, free_is_free}
 use Rattle.mqtt_flow.proofs.Out.{down_about, ups, downs, Copy_of, Copy, holding, held, Stage, free, idle, publishing, receiving, acking, releasing, completing, stale, down_of, Fits, AtMost, Way, At, Final, Told, Weak, Was_read, Settled, Ready, Published, Calm, is_away, is_sent, is_shut, is_read, is_live, behind, effective, Done, Inv, Norm, Fresh, Blank, no_line, is_asked, was_shut, Good, at_most_more, at_most_none, ready_more, ready_push, under_way, held-append, not_held, only, none_in}
 

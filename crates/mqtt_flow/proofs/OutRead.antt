@@ -5,8 +5,8 @@ use Rattle.std.proofs.lemmas.Option.{slice_get-map}
 use Rattle.mqtt_flow.specs.FreeIdentifier.{has}
 use Rattle.mqtt_base.specs.declared.Ending.TheVariants.{Taken}
 use Rattle.mqtt_flow.specs.Receiver.{Body, Output, connack, no_connack, publish, pubrel, disconnect, Answer, connect, puback, pubrec, pubcomp, Link, away, asked, live, Handed, goes, handed, Rising, spared}
-use Rattle.mqtt_flow.specs.Lives.{Mark, sent, released, Life, waiting, in_flight, ended, find, anew, pubrels, cut, Turn, stay, over, turned, answered, on_puback, on_pubrec, on_pubcomp, Reply, wrong, says, puback_reply, pubrec_reply, pubcomp_reply}
-use Rattle.mqtt_flow.specs.LivesWorld.{World, arranged, made_new, resumed, connects, connects_old, replied, replied_old, up_comes, old_comes}
+use Rattle.mqtt_flow.proofs.Lives.{Mark, sent, released, Life, waiting, in_flight, ended, find, anew, pubrels, cut, Turn, stay, over, turned, answered, on_puback, on_pubrec, on_pubcomp, Reply, wrong, says, puback_reply, pubrec_reply, pubcomp_reply}
+use Rattle.mqtt_flow.proofs.LivesWorld.{World, arranged, made_new, resumed, connects, connects_old, replied, replied_old, up_comes, old_comes}
 use Rattle.mqtt_flow.proofs.OutIds.{test_cases, same_id}
 use Rattle.mqtt_flow.proofs.Out.{up_about, ups, downs, is_connect, Copy_of, Copy, held, Stage, free, idle, publishing, receiving, acking, releasing, completing, At, AtMost, Way, Told, Weak, Was_read, Settled, Ready, Late, Olds, Calm, is_away, is_sent, is_shut, is_read, is_live, effective, Done, Inv, Norm, Blank, no_line, is_asked, was_shut, Fresh, Good, late_olds, late_spared, late_ups, ready_more, ready_plain, Plain, ready_pubrels, first_of, find-held, only, none_in}
 use Rattle.mqtt_flow.proofs.OutPump.{by_id, way_some, way_none, way_same, way_goes, downs-goes, same_stage, same_number, goes_head, calm_goes, effective_goes}

@@ -15,10 +15,10 @@ use Rattle.mqtt_flow.specs.Queue.{Ascends, entering}
 use Rattle.mqtt_flow.specs.Outbound as rules
 use Rattle.mqtt_flow.specs.Outbound.{has_room, way_made, unsent, anew, by_order, due_of, due_from, resumed_with}
 use Rattle.mqtt_flow.specs.Receiver.{Body, Output, connack, no_connack, publish, pubrel, disconnect, Answer, connect, puback, pubrec, pubcomp, Link, away, asked, live, Hop, goes, spared, read_publish, read_connack, leaves, down_comes, gives_up, joins}
-use Rattle.mqtt_flow.specs.Lives.{Life, waiting, find, cut, pubrels, answered, on_puback, on_pubrec, on_pubcomp, puback_reply, pubrec_reply, pubcomp_reply}
-use Rattle.mqtt_flow.specs.Lives as copies
-use Rattle.mqtt_flow.specs.LivesWorld as lives
-use Rattle.mqtt_flow.specs.LivesWorld.{put_at, arranged}
+use Rattle.mqtt_flow.proofs.Lives.{Life, waiting, find, cut, pubrels, answered, on_puback, on_pubrec, on_pubcomp, puback_reply, pubrec_reply, pubcomp_reply}
+use Rattle.mqtt_flow.proofs.Lives as copies
+use Rattle.mqtt_flow.proofs.LivesWorld as lives
+use Rattle.mqtt_flow.proofs.LivesWorld.{put_at, arranged}
 use Rattle.mqtt_flow.specs.OutboundWorld as world
 use Rattle.mqtt_flow.specs.OutboundWorld.{Message, Lot, standing, past, queue_of, World, is_granted, body, all_packets, told, take_turn, take_turns, pushes, enters, renewed, made_new, resumed, connects, connects_old, replied, replied_old, up_comes, old_comes, Event, enter, expire, pump, to_broker, old_to_broker, to_end, give_up, break_line, make_line, close, close_old, restart, step, start, run}
 use Rattle.mqtt_flow.proofs.OutIds.{test_cases}

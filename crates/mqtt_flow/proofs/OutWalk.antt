@@ -16,9 +16,9 @@ use Rattle.mqtt_flow.specs.Pacing.{Pacing}
 use Rattle.mqtt_flow.specs.Queue.{Ascends, identifiers, also, identifier_of}
 use Rattle.mqtt_flow.specs.Outbound.{is_late, is_waiting, gives_way, dropped_at, dropped, expired_at, expired, paced, freed, then_on, pump_from, pump, pace}
 use Rattle.mqtt_flow.specs.Receiver.{Body, publish}
-use Rattle.mqtt_flow.specs.Lives.{Life, in_flight, sent, Lapse, cause, pumped, pump_sends, pids}
-use Rattle.mqtt_flow.specs.Lives as copies
-use Rattle.mqtt_flow.specs.LivesWorld.{unused_of}
+use Rattle.mqtt_flow.proofs.Lives.{Life, in_flight, sent, Lapse, cause, pumped, pump_sends, pids}
+use Rattle.mqtt_flow.proofs.Lives as copies
+use Rattle.mqtt_flow.proofs.LivesWorld.{unused_of}
 use Rattle.mqtt_flow.specs.OutboundWorld.{Message, Lot, standing, past, queue_of, World, body, lot_after, lots_after, packets, sends, take_turn, take_turns}
 use Rattle.mqtt_flow.proofs.OutIds.{test_cases, same_id, has-push, free_is_free}
 use Rattle.mqtt_flow.proofs.OutJoin.{life, life_by, life-append, AllPassed}
