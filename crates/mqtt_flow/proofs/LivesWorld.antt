@@ -113,4 +113,3 @@ start = record { copies = []; stands = false; linked = false; link = away; clean
 abbrev pub run : List Event → World → World
 run [] w = w
 run (e ∷ es) w = run es (step w e)
-

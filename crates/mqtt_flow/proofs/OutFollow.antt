@@ -110,13 +110,13 @@ lapse_leads largest l xs e m ys w q ph s =
 
 -- a copy is sent
 pub send_leads : (largest : ℕ) (t : Turn) (c i : ℕ) (dup : Bool) (xs : List Lot) (e f : Entry) (m : Message) (ys : List Lot) (w : World)
-  → w.copies ≡ xs ++ standing e m ∷ ys → IsAt e.place t → lot_after t (standing e m) ≡ standing f m
-  → ((ls : List Lot) → packets t ls ≡ sends dup i e.place 0 ls)
-  → AllPassed xs
-  → ((gs : List Life) → pumped (unused_of c (pids (map life w.copies))) (life (standing e m) ∷ gs) ≡ life (standing f m) ∷ gs)
-  → ((n : ℕ) (gs : List Life) → pump_sends (unused_of c (pids (map life w.copies))) n (life (standing e m) ∷ gs) ≡ publish i n dup (body e m) ∷ [])
-  → Fit largest (standing f m) → Sound largest w
-  → Leads largest w (take_turn t w) × ((take_turn t w).copies ≡ xs ++ standing f m ∷ ys)
+    → w.copies ≡ xs ++ standing e m ∷ ys → IsAt e.place t → lot_after t (standing e m) ≡ standing f m
+    → ((ls : List Lot) → packets t ls ≡ sends dup i e.place 0 ls)
+    → AllPassed xs
+    → ((gs : List Life) → pumped (unused_of c (pids (map life w.copies))) (life (standing e m) ∷ gs) ≡ life (standing f m) ∷ gs)
+    → ((n : ℕ) (gs : List Life) → pump_sends (unused_of c (pids (map life w.copies))) n (life (standing e m) ∷ gs) ≡ publish i n dup (body e m) ∷ [])
+    → Fit largest (standing f m) → Sound largest w
+    → Leads largest w (take_turn t w) × ((take_turn t w).copies ≡ xs ++ standing f m ∷ ys)
 send_leads largest t c i dup xs e f m ys w q at made out passed goes_up tells fit s =
     let u = unused_of c (pids (map life w.copies)) in
     let placed = subst (λ k. Ascends (queue_of k)) q s.placed in
@@ -126,18 +126,20 @@ send_leads largest t c i dup xs e f m ys w q at made out passed goes_up tells fi
     let up : pumped u (map life w.copies) ≡ map life (lots_after t w.copies) = ap (pumped u) split ∙ pumped-split u xs (life (standing e m)) (life (standing f m)) (map life ys) passed (goes_up (map life ys)) ∙ sym (ap (map life) moved ∙ life-append xs (standing f m ∷ ys)) in
     let said : pump_sends u 0 (map life w.copies) ≡ publish i (0 + length xs) dup (body e m) ∷ [] = ap (pump_sends u 0) split ∙ pump_sends-split u 0 xs (life (standing e m) ∷ map life ys) passed ∙ tells (0 + length xs) (map life ys) in
     let w1 = record w { copies = lots_after t w.copies } in
-    let turned : take_turn t w ≡ told (publish i (0 + length xs) dup (body e m) ∷ []) w1 = ap (λ ps. told ps w1) one in
-    (record {
-      events = lives.pump c ∷ [];
-      same =
-        ap (λ k. record (seen w) { copies = k; down = goes w.linked w.down (pump_sends u 0 (map life w.copies)) }) up
-        ∙ ap (λ ps. record (seen w) { copies = map life (lots_after t w.copies); down = goes w.linked w.down ps }) said
-        ∙ sym (ap seen turned);
-      sound = subst (Sound largest) (sym turned) (record {
-        placed = placed-after t w.copies s.placed;
-        fit = subst (AllFit largest) (sym moved) (fit-change largest xs (standing e m) (standing f m) ys fit (subst (AllFit largest) q s.fit));
-      });
-    }, ap (λ v. v.copies) turned ∙ moved)
+    let turned : take_turn t w ≡ told (publish i (0 + length xs) dup (body e m) ∷ []) w1 = ap (λ ps. told ps w1) one in (
+      record {
+        events = lives.pump c ∷ [];
+        same =
+            ap (λ k. record (seen w) { copies = k; down = goes w.linked w.down (pump_sends u 0 (map life w.copies)) }) up
+            ∙ ap (λ ps. record (seen w) { copies = map life (lots_after t w.copies); down = goes w.linked w.down ps }) said
+            ∙ sym (ap seen turned);
+        sound = subst (Sound largest) (sym turned) (record {
+          placed = placed-after t w.copies s.placed;
+          fit = subst (AllFit largest) (sym moved) (fit-change largest xs (standing e m) (standing f m) ys fit (subst (AllFit largest) q s.fit));
+        });
+      },
+      ap (λ v. v.copies) turned ∙ moved,
+    )
 
 -- what a pump does at an entry, by cases
 pub data Steps (way : Way) (p : Pacing) (e : Entry) : Type 0 where

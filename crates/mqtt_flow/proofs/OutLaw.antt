@@ -36,7 +36,6 @@ at_most_once c (Some (in_flight i (sent x) b)) h = h
 at_most_once c (Some (in_flight i (released x t) b)) h = omega arith
 at_most_once c (Some (ended e b)) h = final_once e b.twice c h
 
-
 slice_get-life : (ls : List Lot) (n : ℕ) → slice_get (map life ls) n ≡ option_map life (slice_get ls n)
 slice_get-life ls n = slice_get-map life ls n
 

@@ -51,7 +51,7 @@ walk_step way e m ys xs p w q passed uses s later (lapses l z ph) =
     let first = lapse_leads way.largest l xs e m ys w q ph s in
     subst (λ st. Leads way.largest w (take_turns (then_on st e.phase p (pump_from way (queue_of ys))) w)) (sym z)
     (leads_on first (later (past (cause l) e m) (passed-past xs (cause l) e m passed) (paced t e.phase p) (take_turn t w)
-      (lapse_copies l xs e m ys w.copies q s.placed ∙ shift xs (past (cause l) e m) ys) (uses_lapse l xs e m ys p w q ph s.placed uses) first.sound))
+    (lapse_copies l xs e m ys w.copies q s.placed ∙ shift xs (past (cause l) e m) ys) (uses_lapse l xs e m ys p w q ph s.placed uses) first.sound))
 walk_step way e m ys xs p w q passed uses s later (begins z ph g) =
     let i = free_identifier p.used in
     let t = Send e.place i in
@@ -62,9 +62,9 @@ walk_step way e m ys xs p w q passed uses s later (begins z ph g) =
     let granted = (fit_here way.largest xs e m ys (subst (AllFit way.largest) q s.fit)).0 in
     let first = send_leads way.largest t i i false xs e f m ys w q refl (rw same refl) (λ ls. refl) passed (λ gs. rw (ph, own) refl) (λ n gs. rw (ph, own) refl) (granted, g) s in
     let uses' : Uses (paced t e.phase p) (take_turn t w) = λ j.
-        has-push j i p.used ∙ ap (λ b. b || nat_eq j i) (uses j ∙ ap (λ ls. has j (pids (map life ls))) q ∙ ap (has j) (pids_at xs (standing e m) ys ∙ ap (λ phase. pids (map life xs) ++ pids (life_by phase e.here (body e m) ∷ map life ys)) ph))
-        ∙ sym (has-insert j i (pids (map life xs)) (pids (map life ys)))
-        ∙ sym (ap (λ ls. has j (pids (map life ls))) first.1 ∙ ap (has j) (pids_at xs (standing f m) ys)) in
+    has-push j i p.used ∙ ap (λ b. b || nat_eq j i) (uses j ∙ ap (λ ls. has j (pids (map life ls))) q ∙ ap (has j) (pids_at xs (standing e m) ys ∙ ap (λ phase. pids (map life xs) ++ pids (life_by phase e.here (body e m) ∷ map life ys)) ph))
+    ∙ sym (has-insert j i (pids (map life xs)) (pids (map life ys)))
+    ∙ sym (ap (λ ls. has j (pids (map life ls))) first.1 ∙ ap (has j) (pids_at xs (standing f m) ys)) in
     subst (λ st. Leads way.largest w (take_turns (then_on st e.phase p (pump_from way (queue_of ys))) w)) (sym z)
     (leads_on first.0 (later (standing f m) (passed-push xs f m passed refl) (paced t e.phase p) (take_turn t w) (first.1 ∙ shift xs (standing f m) ys) uses' first.0.sound))
 walk_step way e m ys xs p w q passed uses s later (repeats i z ph h) =
@@ -74,9 +74,9 @@ walk_step way e m ys xs p w q passed uses s later (repeats i z ph h) =
     let fit = fit_here way.largest xs e m ys (subst (AllFit way.largest) q s.fit) in
     let first = send_leads way.largest t 0 i true xs e f m ys w q refl (rw same refl) (λ ls. refl) passed (λ gs. rw (ph, h) refl) (λ n gs. rw (ph, h) refl) fit s in
     let uses' : Uses (paced t e.phase p) (take_turn t w) = λ j.
-        uses j ∙ ap (λ ls. has j (pids (map life ls))) q
-        ∙ ap (has j) (same_pids xs (standing e m) (standing f m) ys (λ fs. rw ph refl))
-        ∙ sym (ap (λ ls. has j (pids (map life ls))) first.1) in
+    uses j ∙ ap (λ ls. has j (pids (map life ls))) q
+    ∙ ap (has j) (same_pids xs (standing e m) (standing f m) ys (λ fs. rw ph refl))
+    ∙ sym (ap (λ ls. has j (pids (map life ls))) first.1) in
     subst (λ st. Leads way.largest w (take_turns (then_on st e.phase p (pump_from way (queue_of ys))) w)) (sym z)
     (leads_on first.0 (later (standing f m) (passed-push xs f m passed (rw ph refl)) (paced t e.phase p) (take_turn t w) (first.1 ∙ shift xs (standing f m) ys) uses' first.0.sound))
 

@@ -121,7 +121,7 @@ connected es = world.make_line false ∷ world.to_broker false ∷ world.to_end 
 
 -- a window of 1, one released and two that wait: PUBREL and one PUBLISH; after the first PUBCOMP nothing, after the second the last
 pub resumed_with_one : map (λ (h : Handed). h.copy) (run 100 (connected (enter ExactlyOnce 1 ∷ world.pump 1 0 ∷ world.to_end ∷ world.to_broker false ∷ enter ExactlyOnce 2 ∷ enter ExactlyOnce 3 ∷ world.break_line
-  ∷ connected (world.pump 1 0 ∷ world.to_end ∷ world.to_broker false ∷ world.pump 1 0 ∷ world.to_end ∷ world.to_broker false ∷ world.to_end ∷ world.to_broker false ∷ world.pump 1 0 ∷ world.to_end ∷ []))) start).ledger ≡ 0 ∷ 1 ∷ 2 ∷ []
+    ∷ connected (world.pump 1 0 ∷ world.to_end ∷ world.to_broker false ∷ world.pump 1 0 ∷ world.to_end ∷ world.to_broker false ∷ world.to_end ∷ world.to_broker false ∷ world.pump 1 0 ∷ world.to_end ∷ []))) start).ledger ≡ 0 ∷ 1 ∷ 2 ∷ []
 resumed_with_one = refl
 
 -- a restart in mid-handshake: the PUBLISH goes out again, and the copy is handed over once

@@ -13,7 +13,11 @@ use mqtt_base::{Ending, Phase, Qos, Reason};
 fn ending_of(code: Reason) -> Ending
     ensures { result ≡ outcome (is_refusal code.0) }
 {
-    if code.0 >= 0x80 { Ending::Refused } else { Ending::Taken }
+    if code.0 >= 0x80 {
+        Ending::Refused
+    } else {
+        Ending::Taken
+    }
 }
 
 impl Outflow {
@@ -51,8 +55,9 @@ impl Outflow {
                         order: self.next_order(),
                     },
                 })),
-                (Phase::Released { identifier, .. } | Phase::Oversize { identifier, .. }, _) =>
-                    Ok(Some(Turn::Repeat { identifier })),
+                (Phase::Released { identifier, .. } | Phase::Oversize { identifier, .. }, _) => Ok(
+                    Some(Turn::Repeat { identifier }),
+                ),
                 _ => Err(FlowFault::WrongStep),
             },
         }

@@ -23,12 +23,20 @@ fn mark(entry: &mut Entry, turn: Turn)
                 entry.here = true;
             }
         }
-        Turn::Release { place, identifier, order } => {
+        Turn::Release {
+            place,
+            identifier,
+            order,
+        } => {
             if entry.place == place {
                 entry.phase = Phase::Released { identifier, order };
             }
         }
-        Turn::Outgrow { place, identifier, order } => {
+        Turn::Outgrow {
+            place,
+            identifier,
+            order,
+        } => {
             if entry.place == place {
                 entry.phase = Phase::Oversize { identifier, order };
             }

@@ -6,12 +6,16 @@ mod change;
 mod entry;
 mod fault;
 mod outbound_laws;
+#[cfg(test)]
+mod outbound_tests;
 mod outflow;
 mod plan;
 mod pump;
 mod queueing;
 
-pub use entry::{Entry, Full, PUMP_LIMIT, QUEUE_LIMIT, QueueLimits, QueuedCopy, Turn, Way};
+pub use entry::{
+    Entry, Full, LAST_NUMBER, PUMP_LIMIT, QUEUE_LIMIT, QueueLimits, QueuedCopy, Turn, Way,
+};
 pub use fault::FlowFault;
 pub use outbound_laws::outbound_once;
 pub use outflow::Outflow;

@@ -18,8 +18,6 @@ pub fn outbound_once()
     ensures in_order { (largest : ℕ) (events : List Event) → InOrder (run largest events start) }
     ensures carried { (largest : ℕ) (events : List Event) → Carried (run largest events start) }
     ensures read { (largest : ℕ) (events : List Event) → TakenRead (run largest events start) }
-    ensures course {
-        (largest : ℕ) (events later : List Event) →
-            GoOn (run largest events start) (run largest later (run largest events start))
-    }
+    ensures course { (largest : ℕ) (events later : List Event) →
+        GoOn (run largest events start) (run largest later (run largest events start)) }
 {}

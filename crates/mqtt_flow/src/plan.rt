@@ -17,8 +17,14 @@ pub(crate) fn holds(phase: Phase, identifier: u16) -> bool
     match phase {
         Phase::Waiting => false,
         Phase::Sent { identifier: own } => own == identifier,
-        Phase::Released { identifier: own, .. } => own == identifier,
-        Phase::Oversize { identifier: own, .. } => own == identifier,
+        Phase::Released {
+            identifier: own,
+            ..
+        } => own == identifier,
+        Phase::Oversize {
+            identifier: own,
+            ..
+        } => own == identifier,
     }
 }
 
@@ -129,7 +135,12 @@ pub(crate) fn has_room(limits: QueueLimits, since: u64, entries: &[Entry]) -> bo
 }
 
 /// The turns by which so many copies give way, the oldest first (ours).
-pub(crate) fn dropped(alloc: Global, count: usize, since: u64, entries: &[Entry]) -> Result<Vec<Turn>, FlowFault>
+pub(crate) fn dropped(
+    alloc: Global,
+    count: usize,
+    since: u64,
+    entries: &[Entry],
+) -> Result<Vec<Turn>, FlowFault>
     ensures turns { IfOk result (λ turns. turns.items ≡ dropped count since entries.now) }
     ensures fault { IfErr result (λ fault. fault ≡ FlowFault.Memory) }
 {
@@ -178,7 +189,9 @@ pub(crate) fn identifiers(alloc: Global, entries: &[Entry]) -> Result<Vec<u16>, 
     for entry in entries {
         match entry.phase {
             Phase::Waiting => {}
-            Phase::Sent { identifier } | Phase::Released { identifier, .. } | Phase::Oversize { identifier, .. } => {
+            Phase::Sent { identifier }
+            | Phase::Released { identifier, .. }
+            | Phase::Oversize { identifier, .. } => {
                 used.push(identifier).map_err(|_| FlowFault::Memory)?;
             }
         }
@@ -232,8 +245,10 @@ pub(crate) fn due(alloc: Global, entries: &[Entry]) -> Result<Vec<Due>, FlowFaul
     for entry in entries {
         match entry.phase {
             Phase::Waiting | Phase::Sent { .. } => {}
-            Phase::Released { identifier, order } | Phase::Oversize { identifier, order } =>
-                insert(&mut dues, Due { order, identifier })?,
+            Phase::Released { identifier, order } | Phase::Oversize { identifier, order } => insert(
+                &mut dues,
+                Due { order, identifier },
+            )?,
         }
     }
     Ok(dues)

@@ -47,7 +47,11 @@ enum Step {
 fn in_room(pace: &Pace, turn: Turn) -> Step
     ensures { result ≡ in_room pace.now.room turn }
 {
-    if pace.room == 0 { Step::Stop } else { Step::Take(turn) }
+    if pace.room == 0 {
+        Step::Stop
+    } else {
+        Step::Take(turn)
+    }
 }
 
 /// A turn for a copy that waits (4.3).
@@ -57,10 +61,16 @@ fn first_time(way: Way, pace: &Pace, entry: &Entry) -> Step
 {
     let place = entry.place;
     if is_late(way.now, &entry.copy) {
-        return Step::Take(Turn::Leave { place, ending: Ending::Expired });
+        return Step::Take(Turn::Leave {
+            place,
+            ending: Ending::Expired,
+        });
     }
     if is_large(way, &entry.copy) {
-        return Step::Take(Turn::Leave { place, ending: Ending::TooLarge });
+        return Step::Take(Turn::Leave {
+            place,
+            ending: Ending::TooLarge,
+        });
     }
     let identifier = lowest_free(&pace.used);
     in_room(pace, Turn::Send { place, identifier })
@@ -78,8 +88,15 @@ fn once_more(way: Way, pace: &Pace, entry: &Entry, identifier: u16) -> Step
         return in_room(pace, Turn::Resend { place, identifier });
     }
     match entry.copy.qos {
-        Qos::AtMostOnce | Qos::AtLeastOnce => Step::Take(Turn::Leave { place, ending: Ending::TooLarge }),
-        Qos::ExactlyOnce => Step::Take(Turn::Outgrow { place, identifier, order: pace.order }),
+        Qos::AtMostOnce | Qos::AtLeastOnce => Step::Take(Turn::Leave {
+            place,
+            ending: Ending::TooLarge,
+        }),
+        Qos::ExactlyOnce => Step::Take(Turn::Outgrow {
+            place,
+            identifier,
+            order: pace.order,
+        }),
     }
 }
 

@@ -14,7 +14,12 @@ use std::alloc::Global;
 impl Outflow {
     /// The turns by which a full queue makes way for a copy; `since` is the first place that the broker gives in this
     /// step (ours). Refuses a copy for which there is no room: `Full`.
-    pub fn look_enter(&self, alloc: Global, limits: QueueLimits, since: u64) -> Result<Vec<Turn>, FlowFault>
+    pub fn look_enter(
+        &self,
+        alloc: Global,
+        limits: QueueLimits,
+        since: u64,
+    ) -> Result<Vec<Turn>, FlowFault>
         ensures turns { IfOk result (λ turns. turns.items ≡ way_made limits since self.now.queue) }
         ensures only { OnOk result (has_room limits since self.now.queue ≡ true) }
         ensures below { OnOk result (length (way_open limits since self.now.queue) < limits.queue) }
