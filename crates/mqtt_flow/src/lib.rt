@@ -1,12 +1,27 @@
 //! The handshakes of a session (4.3, 4.4, 4.9).
 #![tactic(auto)]
 
-pub use fault::FlowFault;
-pub use inflow::{Inflow, OPEN_LIMIT, Published, Released};
-pub use laws::{inbound_once, own_identifier_alone};
-
+mod answers;
+mod change;
+mod entry;
 mod fault;
 mod inflow;
 mod laws;
+mod outbound_laws;
+#[cfg(test)]
+mod outbound_tests;
+mod outflow;
+mod plan;
+mod pump;
+mod queueing;
 #[cfg(test)]
 mod tests;
+
+pub use entry::{
+    Entry, Full, LAST_NUMBER, PUMP_LIMIT, QUEUE_LIMIT, QueueLimits, QueuedCopy, Turn, Way,
+};
+pub use fault::FlowFault;
+pub use inflow::{Inflow, OPEN_LIMIT, Published, Released};
+pub use laws::{inbound_once, own_identifier_alone};
+pub use outbound_laws::outbound_once;
+pub use outflow::Outflow;

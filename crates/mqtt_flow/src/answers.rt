@@ -1,0 +1,127 @@
+//! What the packets of a receiver do to a session's outbound copies (4.3).
+
+ghost use Rattle.std.specs.Prelude.{◌≡◌, ◌≤◌};
+ghost use Rattle.mqtt_flow.specs.Queue.{next_order};
+ghost use Rattle.mqtt_flow.specs.Outbound.{answered, is_refusal, order_asked, outcome, puback, pubcomp, pubrec};
+
+use crate::entry::{LAST_NUMBER, Turn};
+use crate::fault::FlowFault;
+use crate::outflow::Outflow;
+use mqtt_base::{Ending, Phase, Qos, Reason};
+
+/// The end that a reason code gives.
+fn ending_of(code: Reason) -> Ending
+    ensures { result ≡ outcome (is_refusal code.0) }
+{
+    if code.0 >= 0x80 {
+        Ending::Refused
+    } else {
+        Ending::Taken
+    }
+}
+
+impl Outflow {
+    /// What a PUBACK asks for: a turn, or none where no copy has the identifier (4.3.2). Takes no memory.
+    pub fn look_puback(&self, identifier: u16, code: Reason) -> Result<Option<Turn>, FlowFault>
+        ensures { result ≡ puback identifier code.0 self.now.queue }
+    {
+        match self.holder(identifier) {
+            None => Ok(None),
+            Some(entry) => match (entry.phase, entry.copy.qos) {
+                (Phase::Sent { .. }, Qos::AtLeastOnce) => Ok(Some(Turn::Leave {
+                    place: entry.place,
+                    ending: ending_of(code),
+                })),
+                _ => Err(FlowFault::WrongStep),
+            },
+        }
+    }
+
+    /// What a PUBREC asks for (4.3.3). Takes no memory.
+    pub fn look_pubrec(&self, identifier: u16, code: Reason) -> Result<Option<Turn>, FlowFault>
+        ensures { result ≡ pubrec identifier code.0 self.now.queue }
+    {
+        match self.holder(identifier) {
+            None => Ok(Some(Turn::Unknown { identifier })),
+            Some(entry) => match (entry.phase, entry.copy.qos) {
+                (Phase::Sent { identifier }, Qos::ExactlyOnce) => Ok(Some(match ending_of(code) {
+                    Ending::Refused => Turn::Leave {
+                        place: entry.place,
+                        ending: Ending::Refused,
+                    },
+                    _ => Turn::Release {
+                        place: entry.place,
+                        identifier,
+                        order: self.next_order(),
+                    },
+                })),
+                (Phase::Released { identifier, .. } | Phase::Oversize { identifier, .. }, _) => Ok(
+                    Some(Turn::Repeat { identifier }),
+                ),
+                _ => Err(FlowFault::WrongStep),
+            },
+        }
+    }
+
+    /// What a PUBCOMP asks for: a turn, or none where no copy has the identifier (4.3.3). Takes no memory.
+    pub fn look_pubcomp(&self, identifier: u16) -> Result<Option<Turn>, FlowFault>
+        ensures { result ≡ pubcomp identifier self.now.queue }
+    {
+        match self.holder(identifier) {
+            None => Ok(None),
+            Some(entry) => match entry.phase {
+                Phase::Released { .. } => Ok(Some(Turn::Leave {
+                    place: entry.place,
+                    ending: Ending::Taken,
+                })),
+                Phase::Oversize { .. } => Ok(Some(Turn::Leave {
+                    place: entry.place,
+                    ending: Ending::TooLarge,
+                })),
+                Phase::Waiting | Phase::Sent { .. } => Err(FlowFault::WrongStep),
+            },
+        }
+    }
+
+    /// Does what an answer asks for.
+    fn settle(&mut self, answer: Result<Option<Turn>, FlowFault>)
+        requires { order_asked answer ≤ LAST_NUMBER }
+        ensures queue { self.new.queue ≡ answered answer self.old.queue }
+        ensures room { self.old.room ≤ self.new.room }
+    {
+        if let Ok(Some(turn)) = answer {
+            self.take(turn);
+        }
+    }
+
+    /// Takes a PUBACK (4.3.2): the turn taken, or none where no copy has the identifier. Takes no memory.
+    pub fn puback(&mut self, identifier: u16, code: Reason) -> Result<Option<Turn>, FlowFault>
+        ensures answer { result ≡ puback identifier code.0 self.old.queue }
+        ensures queue { self.new.queue ≡ answered result self.old.queue }
+    {
+        let answer = self.look_puback(identifier, code);
+        self.settle(answer);
+        answer
+    }
+
+    /// Takes a PUBREC (4.3.3): the turn taken. Takes no memory.
+    pub fn pubrec(&mut self, identifier: u16, code: Reason) -> Result<Option<Turn>, FlowFault>
+        requires { next_order self.old.queue ≤ LAST_NUMBER }
+        ensures answer { result ≡ pubrec identifier code.0 self.old.queue }
+        ensures queue { self.new.queue ≡ answered result self.old.queue }
+    {
+        let answer = self.look_pubrec(identifier, code);
+        self.settle(answer);
+        answer
+    }
+
+    /// Takes a PUBCOMP (4.3.3): the turn taken, or none where no copy has the identifier. Takes no memory.
+    pub fn pubcomp(&mut self, identifier: u16) -> Result<Option<Turn>, FlowFault>
+        ensures answer { result ≡ pubcomp identifier self.old.queue }
+        ensures queue { self.new.queue ≡ answered result self.old.queue }
+    {
+        let answer = self.look_pubcomp(identifier);
+        self.settle(answer);
+        answer
+    }
+}

@@ -1,0 +1,132 @@
+//! A session's outbound copies (4.3, 4.4, 4.6, 4.9).
+
+ghost use Rattle.std.specs.Prelude.{◌≡◌, ◌+◌, ◌<◌, ◌≤◌, [], true, length, OnOk, IfOk, OnErr, IfErr, filter, map, nat_eq, not, vec_capacity, vec_len};
+ghost use Rattle.std.specs.Option.{option_copied};
+ghost use Rattle.mqtt_flow.specs.Queue.{IsQueue, after, after_all, greatest_given, holder, marked, next_order, next_place, order_given};
+ghost use Rattle.mqtt_flow.specs.Outbound.{KeptOut, anew, answered, entered, expired, has_room, is_refusal, outcome, puback, pubcomp, pubrec, pump, pushed, resumed_with, unsent, way_made};
+
+use crate::change::{apply, forget};
+use crate::entry::{Entry, LAST_NUMBER, QUEUE_LIMIT, QueueLimits, QueuedCopy, Turn, Way};
+use crate::fault::FlowFault;
+use crate::plan::{dropped, due, expired, greatest_order, greatest_place, has_room, holds};
+use crate::pump::pump;
+use mqtt_base::Phase;
+use std::alloc::Global;
+use std::marker::Model;
+
+/// The copies in a session's queue, in the order in which they entered.
+#[derive(Drop)]
+pub struct Outflow {
+    entries: Vec<Entry>,
+}
+
+impl Model for Outflow {
+    ghost use Rattle.std.specs.Prelude.{◌-◌, vec_len, vec_capacity};
+    ghost use Rattle.mqtt_flow.specs.Outflow.{OutboundQueue};
+    ghost use Rattle.mqtt_flow.specs.Queue.{IsQueue};
+
+    ghost Value = { OutboundQueue };
+
+    ghost view = { λ a. record { queue = a.entries.items; room = vec_capacity a.entries - vec_len a.entries } };
+
+    ghost invariant = { λ a. IsQueue a.entries.items };
+}
+
+impl Outflow {
+    /// A queue without copies. Takes no memory.
+    pub fn new(alloc: Global) -> Outflow
+        ensures { result.queue ≡ [] }
+    {
+        Outflow {
+            entries: Vec::new(alloc),
+        }
+    }
+
+    /// The copies, in the order in which they entered.
+    pub fn entries(&self) -> &[Entry]
+        ensures value { result.now ≡ self.now.queue }
+        ensures lawful { IsQueue self.now.queue }
+    {
+        &self.entries
+    }
+
+    /// The copy that has a packet identifier (2.2.1).
+    pub fn holder(&self, identifier: u16) -> Option<&Entry>
+        ensures { option_copied result ≡ holder identifier self.now.queue }
+    {
+        for entry in &self.entries {
+            if holds(entry.phase, identifier) {
+                return Some(entry);
+            }
+        }
+        None
+    }
+
+    /// The place that the next copy gets.
+    pub fn next_place(&self) -> u64
+        ensures { result ≡ next_place self.now.queue }
+    {
+        greatest_place(&self.entries) + 1
+    }
+
+    /// The order that the next released copy gets.
+    pub fn next_order(&self) -> u64
+        ensures { result ≡ next_order self.now.queue }
+    {
+        greatest_order(&self.entries) + 1
+    }
+
+    /// Takes a turn. Takes no memory.
+    pub fn take(&mut self, turn: Turn)
+        requires { order_given turn ≤ LAST_NUMBER }
+        ensures queue { self.new.queue ≡ after turn self.old.queue }
+        ensures room { self.old.room ≤ self.new.room }
+    {
+        apply(&mut self.entries, turn);
+    }
+
+    /// Takes turns, one after the other. Takes no memory.
+    pub fn take_all(&mut self, turns: &[Turn])
+        requires { greatest_given turns.now ≤ LAST_NUMBER }
+        ensures queue { self.new.queue ≡ after_all turns.now self.old.queue }
+        ensures room { self.old.room ≤ self.new.room }
+    {
+        for turn in turns {
+            self.take(*turn);
+        }
+    }
+
+    /// Begins a connection: nothing was sent on it (4.4). Takes no memory.
+    pub fn reconnect(&mut self)
+        ensures queue { self.new.queue ≡ anew self.old.queue }
+        ensures room { self.old.room ≤ self.new.room }
+    {
+        forget(&mut self.entries);
+    }
+
+    /// Makes room for a copy.
+    pub fn make_room(&mut self) -> Result<(), FlowFault>
+        ensures ok { OnOk result (1 ≤ self.new.room) }
+        ensures queue { self.new.queue ≡ self.old.queue }
+        ensures fault { IfErr result (λ fault. fault ≡ FlowFault.Memory) }
+    {
+        self.entries.reserve(1).map_err(|_| FlowFault::Memory)
+    }
+
+    /// Takes in a copy for which there is room. Takes no memory.
+    pub fn add(&mut self, copy: QueuedCopy)
+        requires room { 1 ≤ self.old.room }
+        requires few { length self.old.queue < QUEUE_LIMIT }
+        requires place { next_place self.old.queue ≤ LAST_NUMBER }
+        ensures { self.new.queue ≡ pushed copy self.old.queue }
+    {
+        let place = self.next_place();
+        let entry = Entry {
+            place,
+            copy,
+            phase: Phase::Waiting,
+            here: false,
+        };
+        self.entries.push(entry).unwrap();
+    }
+}
