@@ -18,3 +18,4 @@ pub mod ConnectLemmas
 pub mod BodyLemmas
 pub mod FrameLemmas
 pub mod ShortestLemmas
+mod Examples

@@ -65,14 +65,14 @@ pub(crate) fn filters_read(bytes: &[u8]) -> Result<FiltersRef<'_>, Fault>
 }
 
 impl<'a> FiltersRef<'a> {
-    /// The same once more.
+    /// The same list, lent once more. Takes no memory.
     pub fn again(&self) -> FiltersRef<'a>
         ensures { result ≡ self.now }
     {
         FiltersRef { bytes: self.bytes }
     }
 
-    /// The first and those after it.
+    /// The first and those after it; none where the list is empty. Takes no memory.
     pub fn split_first(&self) -> Option<(&'a str, FiltersRef<'a>)>
         ensures { MatchOption result (self.now ≡ []) (λ x. self.now ≡ x.0.now ∷ x.1) }
     {
@@ -87,7 +87,7 @@ impl<'a> FiltersRef<'a> {
         }
     }
 
-    /// Whether there is none.
+    /// Whether there is none. Takes no memory.
     pub fn is_empty(&self) -> bool
         ensures { result ≡ (length self.now == 0) }
     {
@@ -162,7 +162,7 @@ impl Filters {
         }
     }
 
-    /// The same, lent.
+    /// The same list, lent. Takes no memory.
     pub fn lend(&self) -> FiltersRef<'_>
         ensures { result ≡ self.now }
     {

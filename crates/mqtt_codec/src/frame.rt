@@ -134,7 +134,11 @@ fn packet_read(frame: &[u8]) -> Result<PacketRef<'_>, Fault>
     lawful_read(head, body)
 }
 
-/// The packet that the whole frame spells (2.1, 4.13). Takes no memory.
+/// Reads the packet that the whole frame spells (2.1, 4.13). Takes no memory.
+///
+/// `Malformed` (1) where the bytes have no layout, `Protocol` (2) where they have one and a law is
+/// broken, `Version` (4) where they are a CONNECT of another protocol or version; never `TooLarge`
+/// or `Memory`.
 pub fn look_at(frame: &[u8]) -> Result<PacketRef<'_>, Fault>
     ensures exact { Gives packet_of result (packet_at frame.now) }
     // What is read is spelled so, and keeps its laws.
@@ -146,7 +150,9 @@ pub fn look_at(frame: &[u8]) -> Result<PacketRef<'_>, Fault>
     packet_read(frame)
 }
 
-/// The packet that the whole frame spells, owned (2.1, 4.13).
+/// Reads the packet that the whole frame spells, owned (2.1, 4.13).
+///
+/// The faults are those of `look_at`, and `Memory` (5).
 pub fn decode(alloc: Global, frame: &[u8]) -> Result<Packet, Fault>
     ensures found { IfOk result (λ packet. Spells packet frame.now) }
     // What is spelled so is read, or memory is wanting.
@@ -241,7 +247,7 @@ pub fn lawful(packet: &Packet) -> bool
     lent.body_len() < BODY_LIMIT && lent.is_lawful()
 }
 
-/// The shortest spelling of the packet (2.1).
+/// Writes the shortest spelling of the packet (2.1); `Memory` (5) is its only refusal.
 pub fn encode(alloc: Global, packet: &Packet) -> Result<Vec<u8>, Fault>
     requires { HasSpelling packet.now }
     ensures exact { IfOk result (λ frame. frame.items ≡ shortest_of packet.now) }

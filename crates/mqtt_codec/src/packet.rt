@@ -19,70 +19,70 @@ use std::alloc::{AllocError, Global};
 /// A control packet (2.1.2).
 #[derive(Drop)]
 pub enum Packet {
-    /// 3.1
+    /// A client asks for a connection (3.1).
     Connect(Connect),
-    /// 3.2
+    /// The connection is acknowledged (3.2).
     Connack(Connack),
-    /// 3.3
+    /// A message is published (3.3).
     Publish(Publish),
-    /// 3.4
+    /// A QoS 1 message is acknowledged (3.4).
     Puback(Ack),
-    /// 3.5
+    /// A QoS 2 message is received (3.5).
     Pubrec(Ack),
-    /// 3.6
+    /// A QoS 2 message is released (3.6).
     Pubrel(Ack),
-    /// 3.7
+    /// A QoS 2 message is complete (3.7).
     Pubcomp(Ack),
-    /// 3.8
+    /// A client asks for subscriptions (3.8).
     Subscribe(Subscribe),
-    /// 3.9
+    /// Subscriptions are acknowledged (3.9).
     Suback(Suback),
-    /// 3.10
+    /// A client gives subscriptions up (3.10).
     Unsubscribe(Unsubscribe),
-    /// 3.11
+    /// Giving subscriptions up is acknowledged (3.11).
     Unsuback(Suback),
-    /// 3.12
+    /// A client asks for a sign of life (3.12).
     Pingreq,
-    /// 3.13
+    /// The sign of life (3.13).
     Pingresp,
-    /// 3.14
+    /// The last packet of a connection (3.14).
     Disconnect(Notice),
-    /// 3.15
+    /// A step of an authentication (3.15).
     Auth(Notice),
 }
 
 /// A control packet that stands in a frame, and lends its parts out of it (2.1.2).
 #[derive(Drop)]
 pub enum PacketRef<'a> {
-    /// 3.1
+    /// A client asks for a connection (3.1).
     Connect(ConnectRef<'a>),
-    /// 3.2
+    /// The connection is acknowledged (3.2).
     Connack(ConnackRef<'a>),
-    /// 3.3
+    /// A message is published (3.3).
     Publish(PublishRef<'a>),
-    /// 3.4
+    /// A QoS 1 message is acknowledged (3.4).
     Puback(AckRef<'a>),
-    /// 3.5
+    /// A QoS 2 message is received (3.5).
     Pubrec(AckRef<'a>),
-    /// 3.6
+    /// A QoS 2 message is released (3.6).
     Pubrel(AckRef<'a>),
-    /// 3.7
+    /// A QoS 2 message is complete (3.7).
     Pubcomp(AckRef<'a>),
-    /// 3.8
+    /// A client asks for subscriptions (3.8).
     Subscribe(SubscribeRef<'a>),
-    /// 3.9
+    /// Subscriptions are acknowledged (3.9).
     Suback(SubackRef<'a>),
-    /// 3.10
+    /// A client gives subscriptions up (3.10).
     Unsubscribe(UnsubscribeRef<'a>),
-    /// 3.11
+    /// Giving subscriptions up is acknowledged (3.11).
     Unsuback(SubackRef<'a>),
-    /// 3.12
+    /// A client asks for a sign of life (3.12).
     Pingreq,
-    /// 3.13
+    /// The sign of life (3.13).
     Pingresp,
-    /// 3.14
+    /// The last packet of a connection (3.14).
     Disconnect(NoticeRef<'a>),
-    /// 3.15
+    /// A step of an authentication (3.15).
     Auth(NoticeRef<'a>),
 }
 
@@ -154,7 +154,7 @@ impl PacketRef<'_> {
         }
     }
 
-    /// An owned copy.
+    /// An owned copy; want of memory is its only refusal.
     pub fn to_packet(&self, alloc: Global) -> Result<Packet, AllocError>
         requires { Fits (packet_of self.now) }
         ensures { IfOk result (λ p. p ≡ packet_of self.now) }
@@ -182,7 +182,7 @@ impl PacketRef<'_> {
 }
 
 impl Packet {
-    /// The same packet, lent.
+    /// The same packet, lent. Takes no memory.
     pub fn lend(&self) -> PacketRef<'_>
         ensures { packet_of result ≡ self.now }
     {

@@ -20,30 +20,48 @@ pub enum Delivery {
     /// QoS 0: no handshake, no DUP.
     AtMostOnce,
     /// QoS 1: answered by PUBACK.
-    AtLeastOnce { dup: bool, identifier: u16 },
+    AtLeastOnce {
+        /// Whether it was sent before (3.3.1.1).
+        dup: bool,
+        /// The packet identifier; lawful from 1 (2.2.1).
+        identifier: u16,
+    },
     /// QoS 2: answered by PUBREC.
-    ExactlyOnce { dup: bool, identifier: u16 },
+    ExactlyOnce {
+        /// Whether it was sent before (3.3.1.1).
+        dup: bool,
+        /// The packet identifier; lawful from 1 (2.2.1).
+        identifier: u16,
+    },
 }
 
 /// A PUBLISH (3.3).
 #[derive(Drop)]
 pub struct Publish {
+    /// Its QoS, with the packet identifier (3.3.1.2, 3.3.2.2).
     pub delivery: Delivery,
+    /// Whether it is to be retained, or was (3.3.1.3).
     pub retain: bool,
-    /// Empty where a Topic Alias stands for it.
+    /// The topic name; empty where a Topic Alias stands for it (3.3.2.1).
     pub topic: Text,
+    /// The properties of its block, in their order (2.2.2).
     pub properties: PropList,
+    /// The message, to the end of the packet (3.3.3).
     pub payload: Bytes,
 }
 
 /// A PUBLISH that stands in a frame.
 #[derive(Drop)]
 pub struct PublishRef<'a> {
+    /// Its QoS, with the packet identifier (3.3.1.2, 3.3.2.2).
     pub delivery: Delivery,
+    /// Whether it is to be retained, or was (3.3.1.3).
     pub retain: bool,
-    /// Empty where a Topic Alias stands for it.
+    /// The topic name; empty where a Topic Alias stands for it (3.3.2.1).
     pub topic: &'a str,
+    /// The properties of its block, in their order (2.2.2).
     pub properties: PropsRef<'a>,
+    /// The message, to the end of the packet (3.3.3).
     pub payload: &'a [u8],
 }
 

@@ -22,8 +22,9 @@ use std::marker::Model;
 /// A filter that stands in a frame, with its options (3.8.3.1).
 #[derive(Clone, Copy, Debug)]
 pub struct SubscriptionRef<'a> {
+    /// The topic filter, or shared filter (4.7, 4.8.2).
     pub filter: &'a str,
-    /// Bits 0 and 1 the maximum QoS, 2 No Local, 3 Retain As Published, 4 and 5 Retain Handling.
+    /// A byte below 64: bits 0 and 1 the maximum QoS, 2 No Local, 3 Retain As Published, 4 and 5 Retain Handling.
     pub options: u8,
 }
 
@@ -108,14 +109,14 @@ pub(crate) fn subscriptions_read(bytes: &[u8]) -> Result<SubscriptionsRef<'_>, F
 }
 
 impl<'a> SubscriptionsRef<'a> {
-    /// The same once more.
+    /// The same list, lent once more. Takes no memory.
     pub fn again(&self) -> SubscriptionsRef<'a>
         ensures { result ≡ self.now }
     {
         SubscriptionsRef { bytes: self.bytes }
     }
 
-    /// The first and those after it.
+    /// The first and those after it; none where the list is empty. Takes no memory.
     pub fn split_first(&self) -> Option<(SubscriptionRef<'a>, SubscriptionsRef<'a>)>
         ensures { MatchOption result (self.now ≡ []) (λ x. self.now ≡ subscription_of x.0 ∷ x.1) }
     {
@@ -130,7 +131,7 @@ impl<'a> SubscriptionsRef<'a> {
         }
     }
 
-    /// Whether there is none.
+    /// Whether there is none. Takes no memory.
     pub fn is_empty(&self) -> bool
         ensures { result ≡ (length self.now == 0) }
     {
@@ -231,7 +232,7 @@ impl Subscriptions {
         }
     }
 
-    /// The same, lent.
+    /// The same list, lent. Takes no memory.
     pub fn lend(&self) -> SubscriptionsRef<'_>
         ensures { result ≡ self.now }
     {

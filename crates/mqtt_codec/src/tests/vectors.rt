@@ -4,7 +4,7 @@ use super::assert_gives;
 use crate::Fault;
 use std::test::Fail;
 
-/// Frames that are no packet, or that encode to themselves unless `SPELLINGS` says otherwise.
+/// Ten packets, and twelve frames that are none.
 pub(super) const VECTORS: [&[u8]; 22] = [
     &[0xc0, 0x00],
     &[0x30, 0x07, 0x00, 0x03, 0x61, 0x2f, 0x62, 0x00, 0x21],
@@ -50,41 +50,45 @@ pub(super) const VECTORS: [&[u8]; 22] = [
 
 #[test]
 fn a_packet_is_read_and_written_again(rt: HostRuntime) -> Result<(), Fail> {
-    let rows: [(&str, usize); 9] = [
-        ("PINGREQ", 0),
-        ("PUBLISH at QoS 0", 1),
-        ("CONNECT", 3),
-        ("CONNACK with four properties", 4),
-        ("SUBSCRIBE", 5),
-        ("SUBACK", 6),
-        ("DISCONNECT with 93", 7),
-        ("PUBREC with 10", 8),
-        ("PUBLISH at QoS 2 with two properties", 9),
+    let rows: [(&str, &[u8]); 9] = [
+        ("PINGREQ", VECTORS[0]),
+        ("PUBLISH at QoS 0", VECTORS[1]),
+        ("CONNECT", VECTORS[3]),
+        ("CONNACK with four properties", VECTORS[4]),
+        ("SUBSCRIBE", VECTORS[5]),
+        ("SUBACK", VECTORS[6]),
+        ("DISCONNECT with 93", VECTORS[7]),
+        ("PUBREC with 10", VECTORS[8]),
+        ("PUBLISH at QoS 2 with two properties", VECTORS[9]),
     ];
-    for (text, row) in rows {
-        assert_gives(&rt, rt.alloc(), text, VECTORS[row], Ok(VECTORS[row]));
+    for (text, frame) in rows {
+        assert_gives(&rt, rt.alloc(), text, frame, Ok(frame));
     }
     Ok(())
 }
 
 #[test]
 fn a_frame_that_is_no_packet_has_its_fault(rt: HostRuntime) -> Result<(), Fail> {
-    let rows = [
-        ("AUTH 18 without a method", 10, Fault::Protocol),
-        ("PUBREL with the flags 0000", 11, Fault::Malformed),
-        ("PUBLISH at QoS 3", 12, Fault::Malformed),
-        ("SUBSCRIBE without a filter", 13, Fault::Protocol),
-        ("Payload Format Indicator 2", 14, Fault::Protocol),
-        ("Will Delay Interval in PUBLISH", 15, Fault::Malformed),
-        ("a property twice", 16, Fault::Protocol),
-        ("a packet identifier 0", 17, Fault::Protocol),
-        ("CONNECT of version 4", 18, Fault::Version),
-        ("a length of two bytes for 0", 19, Fault::Malformed),
-        ("PUBACK with a foreign code", 20, Fault::Malformed),
-        ("a length without its body", 21, Fault::Malformed),
+    let rows: [(&str, &[u8], Fault); 12] = [
+        ("AUTH 18 without a method", VECTORS[10], Fault::Protocol),
+        ("PUBREL with the flags 0000", VECTORS[11], Fault::Malformed),
+        ("PUBLISH at QoS 3", VECTORS[12], Fault::Malformed),
+        ("SUBSCRIBE without a filter", VECTORS[13], Fault::Protocol),
+        ("Payload Format Indicator 2", VECTORS[14], Fault::Protocol),
+        (
+            "Will Delay Interval in PUBLISH",
+            VECTORS[15],
+            Fault::Malformed,
+        ),
+        ("a property twice", VECTORS[16], Fault::Protocol),
+        ("a packet identifier 0", VECTORS[17], Fault::Protocol),
+        ("CONNECT of version 4", VECTORS[18], Fault::Version),
+        ("a length of two bytes for 0", VECTORS[19], Fault::Malformed),
+        ("PUBACK with a foreign code", VECTORS[20], Fault::Malformed),
+        ("a length without its body", VECTORS[21], Fault::Malformed),
     ];
-    for (text, row, fault) in rows {
-        assert_gives(&rt, rt.alloc(), text, VECTORS[row], Err(fault));
+    for (text, frame, fault) in rows {
+        assert_gives(&rt, rt.alloc(), text, frame, Err(fault));
     }
     Ok(())
 }
