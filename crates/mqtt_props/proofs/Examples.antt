@@ -1,13 +1,13 @@
 -- Worked blocks, by computing (MQTT 5.0, 2.2.2).
-use Rattle.std.proofs.Common.{◌≡◌, ℕ, true, false, List, [], ◌∷◌, Ok, Err, refl}
+use Rattle.std.proofs.Common.{◌≡◌, ℕ, true, false, [], ◌∷◌, Ok, Err, refl}
 use Rattle.mqtt_base.specs.Values.{varint}
-use Rattle.mqtt_base.specs.Reading.{varint_at, number_at}
+use Rattle.mqtt_base.specs.Reading.{varint_at}
 use Rattle.mqtt_base.specs.Items.{items_in, items_at}
 use Rattle.mqtt_props.specs.declared.fault.PropFault.TheVariants.{Malformed, Twice, BadValue}
-use Rattle.mqtt_props.specs.declared.place.Place.TheVariants.{Connect, Publish, Subscribe, Will}
-use Rattle.mqtt_props.specs.declared.table.PropName.TheVariants.{PayloadFormatIndicator, TopicAlias, SubscriptionIdentifier, WillDelayInterval}
+use Rattle.mqtt_props.specs.declared.place.Place.TheVariants.{Publish, Subscribe, Will}
+use Rattle.mqtt_props.specs.declared.table.PropName.TheVariants.{PayloadFormatIndicator, SubscriptionIdentifier}
 use Rattle.mqtt_props.specs.Table.{is_allowed}
-use Rattle.mqtt_props.specs.Properties.{Prop, Byte, U16, U32, VarInt, block}
+use Rattle.mqtt_props.specs.Properties.{Prop, Byte, VarInt, block}
 use Rattle.mqtt_props.specs.Reading.{value_at, prop_at, block_at}
 use Rattle.mqtt_props.specs.Laws.{lawful_at, none_repeats}
 

@@ -1,17 +1,13 @@
 -- A property that is read is the property that was written, and what was written is read again (MQTT 5.0, 2.2.2).
-use Rattle.std.proofs.Common.{◌≡◌, ℕ, zero, suc, ◌+◌, ◌^◌, ◌<◌, ◌≤◌, Bool, true, false, cond, not, eqb, List, [], ◌∷◌, ◌++◌, length, Option, Some, None, Result, Ok, Err, refl, sym, ap, subst, ◌∙◌, append_assoc, arith, inl, inr}
+use Rattle.std.proofs.Common.{◌≡◌, ℕ, ◌^◌, List, [], ◌∷◌, ◌++◌, Option, Some, None, Result, Ok, Err, refl, sym, ap, subst, ◌∙◌, append_assoc, arith}
 use Rattle.std.specs.Int.{w16, w32}
-use Rattle.std.specs.List.{list_any}
-use Rattle.std.specs.Str.{IsUtf8}
 use Rattle.mqtt_base.specs.declared.fault.ReadFault.{ReadFault}
-use Rattle.mqtt_base.specs.Values.{varint, blob, FitsText}
+use Rattle.mqtt_base.specs.Values.{blob}
 use Rattle.mqtt_base.specs.Reading.{◌>>=◌, u8_at, number_at, varint_at, blob_at, text_at}
-use Rattle.mqtt_base.proofs.Steps.{IsBytes, IsBytes-rest, bind_ok, chosen, ok_is, Takes, Takes-then}
+use Rattle.mqtt_base.proofs.Steps.{IsBytes, IsBytes-rest, bind_ok, ok_is, Takes, Takes-then}
 use Rattle.mqtt_base.proofs.Fields.{wide16, wide32, byte_takes, number_takes, number_again, blob_takes, blob_again, text_takes, text_again}
 use Rattle.mqtt_base.proofs.Items.{Reads}
-use Rattle.mqtt_base.proofs.Texts.{is_text-utf8}
 use Rattle.mqtt_base.proofs.Varints.{varint_reads, varint_rereads}
-use Rattle.mqtt_props.specs.declared.fault.PropFault.{PropFault}
 use Rattle.mqtt_props.specs.declared.table.PropName.{PropName}
 use Rattle.mqtt_props.specs.declared.value.ValueKind.{ValueKind}
 use Rattle.mqtt_props.specs.declared.value.ValueKind.TheVariants as kinds

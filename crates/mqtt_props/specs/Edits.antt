@@ -1,5 +1,5 @@
 -- Lists of properties made from others (MQTT 5.0, 2.2.2).
-use Rattle.std.specs.Prelude.{ℕ, ◌^◌, ◌≤◌, Bool, not, List, filter, ⊤}
+use Rattle.std.specs.Prelude.{ℕ, ◌^◌, ◌≤◌, not, List, filter, ⊤}
 use Rattle.mqtt_props.specs.declared.fault.PropFault.{PropFault}
 use Rattle.mqtt_props.specs.declared.fault.PropFault.TheVariants.{Malformed, Twice, BadValue, Memory}
 use Rattle.mqtt_props.specs.declared.table.PropName.{PropName}

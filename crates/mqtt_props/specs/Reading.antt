@@ -1,5 +1,5 @@
--- The reader of blocks: what stands at the front of the bytes and what follows it, or why nothing does (MQTT 5.0, 2.2.2).
-use Rattle.std.specs.Prelude.{◌≡◌, ℕ, ◌<◌, ◌^◌, Bool, true, false, List, [], ◌∷◌, length, take, drop, Option, Some, None, Result, Ok, Err, nat_lt, if◌then◌else◌}
+-- The reader of blocks: what stands at the front, and what follows it (MQTT 5.0, 2.2.2).
+use Rattle.std.specs.Prelude.{ℕ, ◌<◌, ◌^◌, List, [], ◌∷◌, length, take, drop, Option, Some, None, Result, Ok, Err, nat_lt, if◌then◌else◌}
 use Rattle.std.specs.Int.{w16, w32}
 use Rattle.mqtt_base.specs.declared.fault.ReadFault.{ReadFault}
 use Rattle.mqtt_base.specs.Reading.{◌>>=◌, u8_at, number_at, varint_at, blob_at, text_at}

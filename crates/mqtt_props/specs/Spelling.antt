@@ -14,7 +14,9 @@ pub record IsPair (p : Prop) (bytes : List ℕ) : Type 0 where
 -- the bytes are these properties, one behind the other
 abbrev pub ArePairsOf : List Prop → List ℕ → Type 0
 ArePairsOf [] bytes = bytes ≡ []
-ArePairsOf (p ∷ ps) bytes = (first : List ℕ) × (rest : List ℕ) × IsPair p first × ArePairsOf ps rest × (bytes ≡ first ++ rest)
+ArePairsOf (p ∷ ps) bytes =
+    (first : List ℕ) × (rest : List ℕ) × IsPair p first × ArePairsOf ps rest
+    × (bytes ≡ first ++ rest)
 
 -- the bytes are a block: the length of the pairs, a variable byte integer, and the pairs (2.2.2.1)
 pub record IsBlock (ps : List Prop) (bytes : List ℕ) : Type 0 where

@@ -13,9 +13,10 @@ use std::alloc::Global;
 /// Lends the lawful block at the front, and how many bytes it takes. Takes no memory.
 pub fn look_at(bytes: &[u8], place: Place) -> Result<(PropsRef<'_>, usize), PropFault>
     ensures exact { Reads (λ ps. ps) result bytes.now (lawful_at place bytes.now) }
-    ensures found { IfOk result (λ x. Begins place x.0 (drop x.1 bytes.now) bytes.now × IsLawful place x.0) }
-    ensures only { (ps : List Prop) (rest : List ℕ) → Begins place ps rest bytes.now → IsLawful place ps
-        → Reads (λ ps. ps) result bytes.now (Ok (ps, rest)) }
+    ensures found { IfOk result (λ x. Begins place x.0 (drop x.1 bytes.now) bytes.now
+        × IsLawful place x.0) }
+    ensures only { (ps : List Prop) (rest : List ℕ) → Begins place ps rest bytes.now
+        → IsLawful place ps → Reads (λ ps. ps) result bytes.now (Ok (ps, rest)) }
     ensures refused { IfErr result (Refuses place bytes.now) }
 {
     lawful_read(bytes, place)
@@ -47,7 +48,8 @@ pub fn layout_read(bytes: &[u8], place: Place) -> Result<(PropsRef<'_>, usize), 
     ensures found { IfOk result (λ x. Begins place x.0 (drop x.1 bytes.now) bytes.now) }
     ensures only { (ps : List Prop) (rest : List ℕ) → Begins place ps rest bytes.now
         → Reads (λ ps. ps) result bytes.now (Ok (ps, rest)) }
-    ensures refused { IfErr result (λ fault. (fault ≡ PropFault.Malformed) × Refuses place bytes.now fault) }
+    ensures refused { IfErr result (λ fault. (fault ≡ PropFault.Malformed)
+        × Refuses place bytes.now fault) }
 {
     placed_read(bytes, place)
 }
@@ -67,10 +69,12 @@ fn placed_read(bytes: &[u8], place: Place) -> Result<(PropsRef<'_>, usize), Prop
 
 /// Reads the lawful block at the front, and how many bytes it takes.
 pub fn read(alloc: Global, bytes: &[u8], place: Place) -> Result<(PropList, usize), PropFault>
-    ensures found { IfOk result (λ x. Begins place x.0 (drop x.1 bytes.now) bytes.now × IsLawful place x.0) }
-    ensures only { (ps : List Prop) (rest : List ℕ) → Begins place ps rest bytes.now → IsLawful place ps
-        → (result ≡ Err PropFault.Memory) ⊎ Reads (λ ps. ps) result bytes.now (Ok (ps, rest)) }
-    ensures refused { IfErr result (λ fault. (fault ≡ PropFault.Memory) ⊎ Refuses place bytes.now fault) }
+    ensures found { IfOk result (λ x. Begins place x.0 (drop x.1 bytes.now) bytes.now
+        × IsLawful place x.0) }
+    ensures only { (ps : List Prop) (rest : List ℕ) → Begins place ps rest bytes.now
+        → IsLawful place ps → (result ≡ Err PropFault.Memory) ⊎ Reads (λ ps. ps) result bytes.now (Ok (ps, rest)) }
+    ensures refused { IfErr result (λ fault. (fault ≡ PropFault.Memory)
+        ⊎ Refuses place bytes.now fault) }
 {
     let (props, taken) = look_at(bytes, place)?;
     let list = props.to_list(alloc)?;

@@ -23,195 +23,196 @@ const PLACES: [Place; 14] = [
     Place::Will,
 ];
 
-// Table 2-4 of 2.2.2.2: the identifier, the kind, the places in the order of `PLACES`, a block of the
-// property alone, and one that ends inside its value. Authentication Data stands behind its method.
-const TABLE: [(u32, ValueKind, [u8; 14], &[u8], &[u8]); 27] = [
+// Table 2-4 of 2.2.2.2: the identifier, the kind, the places in the order of `PLACES`, a block of
+// the property alone, and one that ends inside its value. Authentication Data stands behind its
+// method.
+const TABLE: [(u32, ValueKind, &[u8], &[u8], &[u8]); 27] = [
     (
         0x01,
         ValueKind::Byte,
-        *b"--x----------x",
+        b"--x----------x",
         &[2, 0x01, 1],
         &[1, 0x01],
     ),
     (
         0x02,
         ValueKind::U32,
-        *b"--x----------x",
+        b"--x----------x",
         &[5, 0x02, 0, 0, 0, 9],
         &[4, 0x02, 0, 0, 9],
     ),
     (
         0x03,
         ValueKind::Text,
-        *b"--x----------x",
+        b"--x----------x",
         &[4, 0x03, 0, 1, b'a'],
         &[4, 0x03, 0, 2, b'a'],
     ),
     (
         0x08,
         ValueKind::Text,
-        *b"--x----------x",
+        b"--x----------x",
         &[4, 0x08, 0, 1, b'a'],
         &[4, 0x08, 0, 2, b'a'],
     ),
     (
         0x09,
         ValueKind::Binary,
-        *b"--x----------x",
+        b"--x----------x",
         &[5, 0x09, 0, 2, 0, 0xff],
         &[5, 0x09, 0, 3, 0, 0xff],
     ),
     (
         0x0b,
         ValueKind::VarInt,
-        *b"--x----x------",
+        b"--x----x------",
         &[3, 0x0b, 0x80, 1],
         &[2, 0x0b, 0x80],
     ),
     (
         0x11,
         ValueKind::U32,
-        *b"xx---------x--",
+        b"xx---------x--",
         &[5, 0x11, 0, 0, 0, 9],
         &[4, 0x11, 0, 0, 9],
     ),
     (
         0x12,
         ValueKind::Text,
-        *b"-x------------",
+        b"-x------------",
         &[4, 0x12, 0, 1, b'a'],
         &[4, 0x12, 0, 2, b'a'],
     ),
     (
         0x13,
         ValueKind::U16,
-        *b"-x------------",
+        b"-x------------",
         &[3, 0x13, 0, 9],
         &[2, 0x13, 9],
     ),
     (
         0x15,
         ValueKind::Text,
-        *b"xx----------x-",
+        b"xx----------x-",
         &[4, 0x15, 0, 1, b'a'],
         &[4, 0x15, 0, 2, b'a'],
     ),
     (
         0x16,
         ValueKind::Binary,
-        *b"xx----------x-",
+        b"xx----------x-",
         &[9, 0x15, 0, 1, b'm', 0x16, 0, 2, 0, 0xff],
         &[9, 0x15, 0, 1, b'm', 0x16, 0, 3, 0, 0xff],
     ),
     (
         0x17,
         ValueKind::Byte,
-        *b"x-------------",
+        b"x-------------",
         &[2, 0x17, 1],
         &[1, 0x17],
     ),
     (
         0x18,
         ValueKind::U32,
-        *b"-------------x",
+        b"-------------x",
         &[5, 0x18, 0, 0, 0, 9],
         &[4, 0x18, 0, 0, 9],
     ),
     (
         0x19,
         ValueKind::Byte,
-        *b"x-------------",
+        b"x-------------",
         &[2, 0x19, 1],
         &[1, 0x19],
     ),
     (
         0x1a,
         ValueKind::Text,
-        *b"-x------------",
+        b"-x------------",
         &[4, 0x1a, 0, 1, b'a'],
         &[4, 0x1a, 0, 2, b'a'],
     ),
     (
         0x1c,
         ValueKind::Text,
-        *b"-x---------x--",
+        b"-x---------x--",
         &[4, 0x1c, 0, 1, b'a'],
         &[4, 0x1c, 0, 2, b'a'],
     ),
     (
         0x1f,
         ValueKind::Text,
-        *b"-x-xxxx-x-xxx-",
+        b"-x-xxxx-x-xxx-",
         &[4, 0x1f, 0, 1, b'a'],
         &[4, 0x1f, 0, 2, b'a'],
     ),
     (
         0x21,
         ValueKind::U16,
-        *b"xx------------",
+        b"xx------------",
         &[3, 0x21, 0, 9],
         &[2, 0x21, 9],
     ),
     (
         0x22,
         ValueKind::U16,
-        *b"xx------------",
+        b"xx------------",
         &[3, 0x22, 0, 9],
         &[2, 0x22, 9],
     ),
     (
         0x23,
         ValueKind::U16,
-        *b"--x-----------",
+        b"--x-----------",
         &[3, 0x23, 0, 9],
         &[2, 0x23, 9],
     ),
     (
         0x24,
         ValueKind::Byte,
-        *b"-x------------",
+        b"-x------------",
         &[2, 0x24, 1],
         &[1, 0x24],
     ),
     (
         0x25,
         ValueKind::Byte,
-        *b"-x------------",
+        b"-x------------",
         &[2, 0x25, 1],
         &[1, 0x25],
     ),
     (
         0x26,
         ValueKind::Pair,
-        *b"xxxxxxxxxxxxxx",
+        b"xxxxxxxxxxxxxx",
         &[7, 0x26, 0, 1, b'k', 0, 1, b'v'],
         &[7, 0x26, 0, 1, b'k', 0, 2, b'v'],
     ),
     (
         0x27,
         ValueKind::U32,
-        *b"xx------------",
+        b"xx------------",
         &[5, 0x27, 0, 0, 0, 9],
         &[4, 0x27, 0, 0, 9],
     ),
     (
         0x28,
         ValueKind::Byte,
-        *b"-x------------",
+        b"-x------------",
         &[2, 0x28, 1],
         &[1, 0x28],
     ),
     (
         0x29,
         ValueKind::Byte,
-        *b"-x------------",
+        b"-x------------",
         &[2, 0x29, 1],
         &[1, 0x29],
     ),
     (
         0x2a,
         ValueKind::Byte,
-        *b"-x------------",
+        b"-x------------",
         &[2, 0x2a, 1],
         &[1, 0x2a],
     ),
@@ -281,8 +282,8 @@ fn no_other_number_is_an_identifier(rt: HostRuntime) -> Result<(), Fail> {
     Ok(())
 }
 
-// The laws of 2.2.2.2, 3.1.2.11.3, 3.1.2.11.4, 3.1.2.11.10, 3.3.2.3.5 and 3.8.2.1.2, each broken once
-// and kept once beside it; and the order of the faults.
+// The laws of 2.2.2.2, 3.1.2.11.3, 3.1.2.11.4, 3.1.2.11.10, 3.3.2.3.5 and 3.8.2.1.2, each broken
+// once and kept once beside it; and the order of the faults.
 #[test]
 fn a_broken_law_has_its_fault(rt: HostRuntime) -> Result<(), Fail> {
     let twice = Some(PropFault::Twice);
@@ -503,29 +504,48 @@ fn a_list_tells_its_properties(rt: HostRuntime) -> Result<(), Fail> {
     };
     assert_eq!(rt; props.get(PropName::TopicAlias), Some(alias));
     assert_eq!(rt; props.get(PropName::ContentType), None);
-    let mut names = Vec::new(rt.alloc());
     let mut rest = props.reborrow();
-    while let Some((prop, after)) = rest.split_first() {
-        assert!(rt;
-            prop.fits() && prop.value.kind() == prop.name.kind(),
-            "{prop:?}"
-        );
-        names.push(prop.name)?;
+    for name in [
+        PropName::PayloadFormatIndicator,
+        PropName::TopicAlias,
+        PropName::UserProperty,
+        PropName::SubscriptionIdentifier,
+    ] {
+        let (prop, after) = rest.split_first().expect(&rt, "one more property");
+        assert_eq!(rt; prop.name, name);
+        assert!(rt; prop.fits() && prop.value.kind() == name.kind(), "{name:?}");
         rest = after;
     }
-    assert_eq!(rt;
-        &names[..],
-        &[
-            PropName::PayloadFormatIndicator,
-            PropName::TopicAlias,
-            PropName::UserProperty,
-            PropName::SubscriptionIdentifier,
-        ][..]
-    );
+    assert!(rt; rest.split_first().is_none());
     let none = PropsRef::empty();
     assert!(rt; none.is_empty());
     assert_eq!(rt; none.len(), 0);
     assert_eq!(rt; none.block_len(), 1);
+    Ok(())
+}
+
+#[test]
+fn a_fault_has_its_number_and_its_text(rt: HostRuntime) -> Result<(), Fail> {
+    let rows = [
+        (
+            PropFault::Malformed,
+            1,
+            "the block of properties has no layout",
+        ),
+        (PropFault::Twice, 2, "a property stands twice"),
+        (
+            PropFault::BadValue,
+            3,
+            "the value of a property is not allowed",
+        ),
+        (PropFault::Memory, 4, "want of memory"),
+    ];
+    for (fault, number, text) in rows {
+        assert_eq!(rt; fault as u8, number, "{fault:?}");
+        let mut shown = String::new(rt.alloc());
+        write!(shown, "{fault}")?;
+        assert_eq!(rt; shown.as_str(), text);
+    }
     Ok(())
 }
 
@@ -599,7 +619,10 @@ fn a_property_without_spelling_is_not_added(rt: HostRuntime) -> Result<(), Fail>
     ];
     for (name, value) in values {
         let prop = PropRef { name, value };
-        assert_eq!(rt; list.push(rt.alloc(), prop), Ok(()), "{name:?}");
+        assert!(rt; prop.fits(), "{name:?}");
+        let own = prop.to_prop(rt.alloc()).expect(&rt, "there is memory");
+        assert_eq!(rt; own.lend(), prop, "{name:?}");
+        assert_eq!(rt; list.push(rt.alloc(), own.lend()), Ok(()), "{name:?}");
         assert_eq!(rt; list.lend().get(name), Some(prop), "{name:?}");
     }
     assert_eq!(rt; list.lend().len(), 7);

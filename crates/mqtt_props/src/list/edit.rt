@@ -90,8 +90,8 @@ impl PropList {
     /// Adds the property at the end.
     ///
     /// The bytes are copied, so that lists which share them stay as they are. `Malformed` where the
-    /// longer list has no spelling as a block: the value is not of its kind or passes its limits, or
-    /// the pairs would have more than 268,435,455 bytes.
+    /// longer list has no spelling as a block: the value is not of its kind or passes its limits,
+    /// or the pairs would have more than 268,435,455 bytes.
     pub fn push(&mut self, alloc: Global, prop: PropRef<'_>) -> Result<(), PropFault>
         ensures ok { OnOk result (self.new ≡ self.old ++ prop_of prop.entry ∷ []) }
         ensures err { OnErr result (self.new ≡ self.old) }

@@ -1,3 +1,4 @@
+-- Found, only and refused, from the function that the reader computes (MQTT 5.0, 2.2.2).
 use Rattle.std.proofs.Common.{subst, arith}
 use Rattle.mqtt_base.specs.Reading.{Reads}
 use Rattle.mqtt_props.proofs.Judged.{layout_found, layout_only, layout_refused}

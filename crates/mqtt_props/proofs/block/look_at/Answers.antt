@@ -1,4 +1,5 @@
-use Rattle.std.proofs.Common.{subst, ap, ◌∙◌, arith}
+-- Found, only and refused, from the function that the reader computes (MQTT 5.0, 2.2.2).
+use Rattle.std.proofs.Common.{subst, arith}
 use Rattle.mqtt_base.specs.Reading.{Reads}
 use Rattle.mqtt_props.proofs.Judged.{lawful_found, lawful_again, lawful_refused}
 use Rattle.mqtt_props.proofs.block.look_at.Goals as goal

@@ -1,5 +1,5 @@
+-- A written block is read as its list (MQTT 5.0, 2.2.2).
 use Rattle.std.proofs.Common.{refl}
-use Rattle.mqtt_props.specs.Properties.{block}
 use Rattle.mqtt_props.proofs.Judged.{lawful_again}
 use Rattle.mqtt_props.proofs.laws.read_after_write.Goals as goal
 

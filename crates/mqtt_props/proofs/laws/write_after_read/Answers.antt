@@ -1,3 +1,4 @@
+-- A block that is read is the one that is written (MQTT 5.0, 2.2.2).
 use Rattle.mqtt_props.proofs.Judged.{lawful_takes}
 use Rattle.mqtt_props.proofs.laws.write_after_read.Goals as goal
 

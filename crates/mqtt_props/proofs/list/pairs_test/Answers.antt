@@ -1,3 +1,4 @@
+-- The loop by the theory of items (MQTT 5.0, 2.2.2).
 use Rattle.std.proofs.Common.{arith, sym}
 use Rattle.std.proofs.lemmas.List.{take_rest}
 use Rattle.std.proofs.lemmas.Result.{err_from_is_err_and}

@@ -1,3 +1,4 @@
+-- What is left to read settles the whole (MQTT 5.0, 2.2.2).
 use Rattle.std.proofs.Common.{length}
 use Rattle.mqtt_base.proofs.Items.{Settled}
 use Rattle.mqtt_props.specs.declared.fault.PropFault.TheVariants.{Malformed}

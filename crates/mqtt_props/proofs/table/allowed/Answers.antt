@@ -1,3 +1,4 @@
+-- The row of the identifier and that of its name (MQTT 5.0, 2.2.2.2).
 use Rattle.std.proofs.Common.{sym, ap, ◌∙◌}
 use Rattle.mqtt_props.proofs.TableLemmas.{is_allowed-stands, stands}
 use Rattle.mqtt_props.proofs.table.allowed.Goals as goal

@@ -1,3 +1,4 @@
+-- The pairs of the old list and one more (MQTT 5.0, 2.2.2).
 use Rattle.std.proofs.Common.{◌≡◌, ◌+◌, ℕ, List, [], ◌∷◌, ◌++◌, length, refl, sym, ap, subst, ◌∙◌, arith}
 use Rattle.std.proofs.lemmas.Result.{err_from_is_err_and}
 use Rattle.mqtt_props.specs.Edits.{IsTooLong}

@@ -1,7 +1,7 @@
-use Rattle.std.proofs.Common.{◌+◌, length, ap, sym, ◌∙◌, arith}
+-- The length of the block by that of the pairs (MQTT 5.0, 2.2.2.1).
+use Rattle.std.proofs.Common.{length, arith}
 use Rattle.std.proofs.lemmas.List.{length-append}
 use Rattle.mqtt_base.specs.Values.{varint}
-use Rattle.mqtt_props.specs.Properties.{props}
 use Rattle.mqtt_props.proofs.Blocks.{pairs_of, pairs_fit}
 use Rattle.mqtt_props.proofs.list.PropsRef.block_len.Goals as goal
 

@@ -1,3 +1,4 @@
+-- The rest answers as the whole (MQTT 5.0, 2.2.2.2).
 use Rattle.std.proofs.Common.{◌≡◌, length}
 use Rattle.std.specs.List.{list_all}
 use Rattle.mqtt_props.specs.Laws.{is_lawful_value}

@@ -1,3 +1,4 @@
+-- The rest answers as the whole (MQTT 5.0, 2.2.2.2).
 use Rattle.std.proofs.Common.{◌≡◌, length}
 use Rattle.mqtt_props.specs.Laws.{none_repeats}
 use Rattle.mqtt_props.proofs.list.PropsRef.has_no_repeat.Given as goal

@@ -1,3 +1,4 @@
+-- Those counted and those left are the whole (MQTT 5.0, 2.2.2).
 use Rattle.std.proofs.Common.{◌≡◌, ◌+◌, length}
 use Rattle.mqtt_props.proofs.list.PropsRef.len.Given as goal
 

@@ -1,3 +1,4 @@
+-- What is kept has a spelling (MQTT 5.0, 2.2.2).
 use Rattle.std.proofs.Common.{◌≡◌, List, ℕ, ◌++◌, ap, ◌∙◌}
 use Rattle.mqtt_props.specs.Laws.{is_named}
 use Rattle.mqtt_props.specs.Properties.{props}

@@ -1,4 +1,4 @@
-use Rattle.std.proofs.Common.{length, ap}
+-- The pairs spell the list (MQTT 5.0, 2.2.2).
 use Rattle.mqtt_props.proofs.Blocks.{pairs_of}
 use Rattle.mqtt_props.proofs.list.PropsRef.push_block.Goals as goal
 

@@ -1,3 +1,4 @@
+-- What is written and what is left are the whole (MQTT 5.0, 2.2.2).
 use Rattle.std.proofs.Common.{◌≡◌, ◌++◌, length}
 use Rattle.mqtt_props.specs.Properties.{props}
 use Rattle.mqtt_props.specs.Edits.{only}
