@@ -12,7 +12,10 @@ pub mod SubscribeLemmas
 pub mod UnsubscribeLemmas
 pub mod SubackLemmas
 pub mod FlagLemmas
+pub mod OptionLemmas
+pub mod ItemLemmas
 pub mod ConnectLemmas
 pub mod BodyLemmas
 pub mod FrameLemmas
 pub mod ShortestLemmas
+mod Examples

@@ -1,4 +1,5 @@
 pub mod Reading
+pub mod Faults
 pub mod Heads
 pub mod Blocks
 pub mod Tails
@@ -14,6 +15,7 @@ pub mod Filters
 pub mod Unsubscribe
 pub mod Fields
 pub mod ConnectFlags
+pub mod Options
 pub mod Connect
 pub mod Packets
 pub mod Frames

@@ -1,8 +1,10 @@
 -- Packets and the bytes that spell them (MQTT 5.0, 2.1, 3.1 to 3.15).
 use Rattle.std.specs.Prelude.{◌≡◌, ℕ, ◌<◌, ◌≤◌, ◌^◌, Bool, true, false, List, [], ◌∷◌, ◌++◌, length}
+use Rattle.mqtt_base.specs.declared.kind.Kind.{Kind}
 use Rattle.mqtt_base.specs.declared.kind.Kind.TheVariants as kinds
 use Rattle.mqtt_base.specs.Values.{varint, blob, FitsText}
 use Rattle.mqtt_props.specs.declared.place.Place.TheVariants as places
+use Rattle.mqtt_props.specs.Properties.{Prop}
 use Rattle.mqtt_codec.specs.declared.fault.Fault.{Fault}
 use Rattle.mqtt_codec.specs.declared.fault.Fault.TheVariants as faults
 use Rattle.mqtt_codec.specs.declared.head.Head.{Head}
@@ -21,6 +23,43 @@ use Rattle.mqtt_codec.specs.Suback.{FitsSuback, suback_body, lawful_suback}
 use Rattle.mqtt_codec.specs.Unsubscribe.{FitsUnsubscribe, unsubscribe_body, lawful_unsubscribe}
 use Rattle.mqtt_codec.specs.Notice.{FitsNotice, disconnect_body, IsAuthBody, auth_body, lawful_auth}
 
+-- its control packet type (2.1.2)
+abbrev pub kind_of : Packet → Kind
+kind_of (Connect c) = kinds.Connect
+kind_of (Connack c) = kinds.Connack
+kind_of (Publish p) = kinds.Publish
+kind_of (Puback a) = kinds.Puback
+kind_of (Pubrec a) = kinds.Pubrec
+kind_of (Pubrel a) = kinds.Pubrel
+kind_of (Pubcomp a) = kinds.Pubcomp
+kind_of (Subscribe s) = kinds.Subscribe
+kind_of (Suback s) = kinds.Suback
+kind_of (Unsubscribe u) = kinds.Unsubscribe
+kind_of (Unsuback u) = kinds.Unsuback
+kind_of Pingreq = kinds.Pingreq
+kind_of Pingresp = kinds.Pingresp
+kind_of (Disconnect n) = kinds.Disconnect
+kind_of (Auth n) = kinds.Auth
+
+-- the properties of its own block; PINGREQ and PINGRESP have no block (2.2.2)
+abbrev pub properties_of : Packet → List Prop
+properties_of (Connect c) = c.properties
+properties_of (Connack c) = c.properties
+properties_of (Publish p) = p.properties
+properties_of (Puback a) = a.properties
+properties_of (Pubrec a) = a.properties
+properties_of (Pubrel a) = a.properties
+properties_of (Pubcomp a) = a.properties
+properties_of (Subscribe s) = s.properties
+properties_of (Suback s) = s.properties
+properties_of (Unsubscribe u) = u.properties
+properties_of (Unsuback u) = u.properties
+properties_of Pingreq = []
+properties_of Pingresp = []
+properties_of (Disconnect n) = n.properties
+properties_of (Auth n) = n.properties
+
+-- its first byte
 abbrev pub head : Packet → Head
 head (Connect c) = heads.Connect
 head (Connack c) = heads.Connack

@@ -1,5 +1,5 @@
 -- The layout of PUBLISH (MQTT 5.0, 3.3).
-use Rattle.std.specs.Prelude.{ℕ, ◌<◌, ◌^◌, Bool, true, false, ◌&&◌, ◌||◌, nat_lt, List, [], ◌++◌, length, Result, Ok}
+use Rattle.std.specs.Prelude.{ℕ, ◌<◌, ◌^◌, Bool, true, false, ◌&&◌, ◌||◌, nat_lt, List, [], ◌++◌, length, Result, Ok, Option, Some, None}
 use Rattle.std.specs.Int.{w16}
 use Rattle.mqtt_base.specs.declared.fault.ReadFault.{ReadFault}
 use Rattle.mqtt_base.specs.declared.session.Qos.{Qos}
@@ -25,6 +25,22 @@ abbrev pub delivery_head : Delivery → Bool → Head
 delivery_head AtMostOnce retain = heads.Publish false qos.AtMostOnce retain
 delivery_head (AtLeastOnce dup id) retain = heads.Publish dup qos.AtLeastOnce retain
 delivery_head (ExactlyOnce dup id) retain = heads.Publish dup qos.ExactlyOnce retain
+
+-- its QoS, its DUP flag and its packet identifier, which QoS 0 has not (3.3.1.1, 3.3.1.2, 3.3.2.2)
+abbrev pub delivery_qos : Delivery → Qos
+delivery_qos AtMostOnce = qos.AtMostOnce
+delivery_qos (AtLeastOnce dup id) = qos.AtLeastOnce
+delivery_qos (ExactlyOnce dup id) = qos.ExactlyOnce
+
+abbrev pub delivery_dup : Delivery → Bool
+delivery_dup AtMostOnce = false
+delivery_dup (AtLeastOnce dup id) = dup
+delivery_dup (ExactlyOnce dup id) = dup
+
+abbrev pub delivery_identifier : Delivery → Option ℕ
+delivery_identifier AtMostOnce = None
+delivery_identifier (AtLeastOnce dup id) = Some id
+delivery_identifier (ExactlyOnce dup id) = Some id
 
 -- the packet identifier, where the QoS is above 0 (3.3.2.2)
 abbrev pub identifier_field : Delivery → List ℕ

@@ -14,16 +14,22 @@ use std::alloc::{AllocError, Global};
 /// A packet of a handshake (3.4 to 3.7).
 #[derive(Drop)]
 pub struct Ack {
+    /// The packet identifier; lawful from 1 (2.2.1).
     pub identifier: u16,
+    /// The reason code: one of the packet's set (2.4).
     pub reason: Reason,
+    /// The properties of its block, in their order (2.2.2).
     pub properties: PropList,
 }
 
 /// A packet of a handshake that stands in a frame.
 #[derive(Drop)]
 pub struct AckRef<'a> {
+    /// The packet identifier; lawful from 1 (2.2.1).
     pub identifier: u16,
+    /// The reason code: one of the packet's set (2.4).
     pub reason: Reason,
+    /// The properties of its block, in their order (2.2.2).
     pub properties: PropsRef<'a>,
 }
 

@@ -15,7 +15,9 @@ use std::alloc::{AllocError, Global};
 pub struct Connack {
     /// Whether the session was resumed (3.2.2.1.1).
     pub session_present: bool,
+    /// The reason code: one of the packet's set (2.4).
     pub reason: Reason,
+    /// The properties of its block, in their order (2.2.2).
     pub properties: PropList,
 }
 
@@ -24,7 +26,9 @@ pub struct Connack {
 pub struct ConnackRef<'a> {
     /// Whether the session was resumed (3.2.2.1.1).
     pub session_present: bool,
+    /// The reason code: one of the packet's set (2.4).
     pub reason: Reason,
+    /// The properties of its block, in their order (2.2.2).
     pub properties: PropsRef<'a>,
 }
 

@@ -18,50 +18,68 @@ use std::alloc::{AllocError, Global};
 /// A Will: what is published when a connection ends without DISCONNECT 00 (3.1.2.5).
 #[derive(Drop)]
 pub struct Will {
+    /// At which it is published (3.1.2.6).
     pub qos: Qos,
+    /// Whether it is published as retained (3.1.2.7).
     pub retain: bool,
+    /// The properties of its block, in their order (2.2.2).
     pub properties: PropList,
+    /// Where it is published (3.1.3.3).
     pub topic: Text,
-    /// At most 65,535 bytes.
+    /// The message: at most 65,535 bytes (3.1.3.4).
     pub payload: Blob,
 }
 
 /// A Will that stands in a frame.
 #[derive(Drop)]
 pub struct WillRef<'a> {
+    /// At which it is published (3.1.2.6).
     pub qos: Qos,
+    /// Whether it is published as retained (3.1.2.7).
     pub retain: bool,
+    /// The properties of its block, in their order (2.2.2).
     pub properties: PropsRef<'a>,
+    /// Where it is published (3.1.3.3).
     pub topic: &'a str,
-    /// At most 65,535 bytes.
+    /// The message: at most 65,535 bytes (3.1.3.4).
     pub payload: &'a [u8],
 }
 
 /// A CONNECT (3.1).
 #[derive(Drop)]
 pub struct Connect {
+    /// Whether an earlier session is given up (3.1.2.4).
     pub clean_start: bool,
     /// Seconds; 0 turns it off (3.1.2.10).
     pub keep_alive: u16,
+    /// The properties of its block, in their order (2.2.2).
     pub properties: PropList,
+    /// The client's name; empty where the broker is to choose one (3.1.3.1).
     pub client_identifier: Text,
+    /// The Will, if there is one (3.1.2.5).
     pub will: Option<Will>,
+    /// The user name, if there is one (3.1.3.5).
     pub user_name: Option<Text>,
-    /// At most 65,535 bytes.
+    /// At most 65,535 bytes (3.1.3.6).
     pub password: Option<Blob>,
 }
 
 /// A CONNECT that stands in a frame.
 #[derive(Drop)]
 pub struct ConnectRef<'a> {
+    /// Whether an earlier session is given up (3.1.2.4).
     pub clean_start: bool,
     /// Seconds; 0 turns it off (3.1.2.10).
     pub keep_alive: u16,
+    /// The properties of its block, in their order (2.2.2).
     pub properties: PropsRef<'a>,
+    /// The client's name; empty where the broker is to choose one (3.1.3.1).
     pub client_identifier: &'a str,
+    /// The Will, if there is one (3.1.2.5).
     pub will: Option<WillRef<'a>>,
+    /// The user name, if there is one (3.1.3.5).
     pub user_name: Option<&'a str>,
-    /// At most 65,535 bytes.
+    /// At most 65,535 bytes (3.1.3.6).
     pub password: Option<&'a [u8]>,
 }
 

@@ -21,7 +21,7 @@ pub struct Flags {
     pub password: bool,
 }
 
-fn qos_of(number: u8) -> Option<Qos>
+pub(crate) fn qos_of(number: u8) -> Option<Qos>
     ensures { result ≡ qos_of number }
 {
     match number {

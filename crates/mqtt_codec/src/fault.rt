@@ -2,8 +2,9 @@
 
 ghost use Rattle.std.specs.Prelude.{◌≡◌};
 ghost use Rattle.mqtt_codec.specs.declared.fault.Fault.TheVariants.{Malformed, Memory};
+ghost use Rattle.mqtt_codec.specs.Faults.{answer_to};
 
-use mqtt_base::ReadFault;
+use mqtt_base::{ReadFault, Reason};
 use std::alloc::AllocError;
 use thiserror::Error;
 
@@ -25,6 +26,22 @@ pub enum Fault {
     /// 5: want of memory.
     #[error("want of memory")]
     Memory = 5,
+}
+
+impl Fault {
+    /// The reason code that CONNACK or DISCONNECT answers it with (4.13); none for want of memory,
+    /// which says nothing of the packet. Takes no memory.
+    pub fn reason(self) -> Option<Reason>
+        ensures { result ≡ answer_to self }
+    {
+        match self {
+            Fault::Malformed => Some(Reason::MALFORMED_PACKET),
+            Fault::Protocol => Some(Reason::PROTOCOL_ERROR),
+            Fault::TooLarge => Some(Reason::PACKET_TOO_LARGE),
+            Fault::Version => Some(Reason::UNSUPPORTED_PROTOCOL_VERSION),
+            Fault::Memory => None,
+        }
+    }
 }
 
 impl From<ReadFault> for Fault {

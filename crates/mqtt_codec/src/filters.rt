@@ -1,6 +1,6 @@
 //! Filters one after the other, as an UNSUBSCRIBE has them (3.10.3).
 
-ghost use Rattle.std.specs.Prelude.{◌≡◌, ◌==◌, ◌<◌, ◌^◌, ◌∷◌, ◌++◌, [], length, MatchOption, IfOk, OnOk};
+ghost use Rattle.std.specs.Prelude.{◌≡◌, ◌==◌, ◌<◌, ◌^◌, ◌∷◌, ◌++◌, [], ℕ, length, slice_index, MatchOption, IfOk, OnOk, OnErr};
 ghost use Rattle.std.specs.List.{flat_map, AllByRecursion};
 ghost use Rattle.mqtt_base.specs.Values.{blob, FitsText};
 ghost use Rattle.mqtt_base.specs.Reading.{Reads};
@@ -10,12 +10,13 @@ ghost use Rattle.mqtt_codec.specs.Reading.{Gives};
 ghost use Rattle.mqtt_codec.specs.Filters.{filter_at};
 
 use crate::fault::Fault;
-use mqtt_base::text_read;
+use bytes::Bytes;
+use mqtt_base::{Text, blob_push, text_read};
 use std::alloc::{AllocError, Global};
 use std::marker::Model;
 
 /// Filters that stand in a frame, one after the other.
-#[derive(Drop)]
+#[derive(Debug, Drop)]
 pub struct FiltersRef<'a> {
     bytes: &'a [u8],
 }
@@ -64,14 +65,14 @@ pub(crate) fn filters_read(bytes: &[u8]) -> Result<FiltersRef<'_>, Fault>
 }
 
 impl<'a> FiltersRef<'a> {
-    /// The same once more.
+    /// The same list, lent once more. Takes no memory.
     pub fn again(&self) -> FiltersRef<'a>
         ensures { result ≡ self.now }
     {
         FiltersRef { bytes: self.bytes }
     }
 
-    /// The first and those after it.
+    /// The first and those after it; none where the list is empty. Takes no memory.
     pub fn split_first(&self) -> Option<(&'a str, FiltersRef<'a>)>
         ensures { MatchOption result (self.now ≡ []) (λ x. self.now ≡ x.0.now ∷ x.1) }
     {
@@ -86,7 +87,7 @@ impl<'a> FiltersRef<'a> {
         }
     }
 
-    /// Whether there is none.
+    /// Whether there is none. Takes no memory.
     pub fn is_empty(&self) -> bool
         ensures { result ≡ (length self.now == 0) }
     {
@@ -115,15 +116,27 @@ impl<'a> FiltersRef<'a> {
         ensures { IfOk result (λ list. list ≡ self.now) }
     {
         Ok(Filters {
-            bytes: Vec::from_slice(alloc, self.bytes)?,
+            bytes: Bytes::copy_from_slice(alloc, self.bytes)?,
         })
     }
 }
 
-/// Filters, owned.
-#[derive(Drop)]
+/// The bytes, and a filter behind them.
+fn joined(alloc: Global, bytes: &[u8], filter: &str) -> Result<Bytes, AllocError>
+    requires { FitsText filter.now }
+    ensures exact { IfOk result (λ all. all ≡ bytes.now ++ blob filter.now) }
+    ensures each { IfOk result (λ all. (i : ℕ) → slice_index all i < 256) }
+{
+    let mut all = Vec::new(alloc);
+    all.extend_from_slice(bytes)?;
+    blob_push(&mut all, filter.as_bytes())?;
+    Ok(Bytes::from_vec(all)?)
+}
+
+/// Filters of one's own; clones share the bytes.
+#[derive(Debug, Drop)]
 pub struct Filters {
-    bytes: Vec<u8>,
+    bytes: Bytes,
 }
 
 impl Model for Filters {
@@ -134,18 +147,48 @@ impl Model for Filters {
 
     ghost Value = { List (List ℕ) };
 
-    ghost view = { λ a. items_of Malformed filter_at a.bytes.items };
+    ghost view = { λ a. items_of Malformed filter_at a.bytes };
 
-    ghost invariant = { λ a. AreItems Malformed filter_at a.bytes.items };
+    ghost invariant = { λ a. AreItems Malformed filter_at a.bytes };
 }
 
 impl Filters {
-    /// The same, lent.
+    /// No filters. Takes no memory.
+    pub fn new() -> Filters
+        ensures { result ≡ [] }
+    {
+        Filters {
+            bytes: Bytes::new(),
+        }
+    }
+
+    /// The same list, lent. Takes no memory.
     pub fn lend(&self) -> FiltersRef<'_>
         ensures { result ≡ self.now }
     {
         FiltersRef {
             bytes: self.bytes.as_slice(),
         }
+    }
+
+    /// Adds a filter at the end. The bytes are copied, so that lists which share them stay as they
+    /// are.
+    pub fn push(&mut self, alloc: Global, filter: &Text) -> Result<(), AllocError>
+        ensures ok { OnOk result (self.new ≡ self.old ++ filter.now ∷ []) }
+        ensures err { OnErr result (self.new ≡ self.old) }
+    {
+        self.bytes = joined(alloc, self.bytes.as_slice(), filter.as_str())?;
+        Ok(())
+    }
+}
+
+impl Clone for Filters {
+    ghost is_clone = { λ list copy. copy ≡ list };
+
+    /// Another owner of the same bytes.
+    fn clone(&self) -> Result<Filters, AllocError> {
+        Ok(Filters {
+            bytes: self.bytes.clone()?,
+        })
     }
 }

@@ -8,20 +8,42 @@ use mqtt_base::Qos;
 /// What a first byte says (2.1.2, 2.1.3).
 #[derive(Clone, Copy, Debug, PartialEq, Eq)]
 pub enum Head {
+    /// 0x10 (3.1.1)
     Connect,
+    /// 0x20 (3.2.1)
     Connack,
-    Publish { dup: bool, qos: Qos, retain: bool },
+    /// 0x30, with bit 3 DUP, bits 2 and 1 QoS, bit 0 RETAIN (3.3.1).
+    Publish {
+        /// Whether it was sent before (3.3.1.1); not at QoS 0.
+        dup: bool,
+        /// Its quality of service (3.3.1.2).
+        qos: Qos,
+        /// Whether it is to be retained, or was (3.3.1.3).
+        retain: bool,
+    },
+    /// 0x40 (3.4.1)
     Puback,
+    /// 0x50 (3.5.1)
     Pubrec,
+    /// 0x62 (3.6.1)
     Pubrel,
+    /// 0x70 (3.7.1)
     Pubcomp,
+    /// 0x82 (3.8.1)
     Subscribe,
+    /// 0x90 (3.9.1)
     Suback,
+    /// 0xa2 (3.10.1)
     Unsubscribe,
+    /// 0xb0 (3.11.1)
     Unsuback,
+    /// 0xc0 (3.12.1)
     Pingreq,
+    /// 0xd0 (3.13.1)
     Pingresp,
+    /// 0xe0 (3.14.1)
     Disconnect,
+    /// 0xf0 (3.15.1)
     Auth,
 }
 

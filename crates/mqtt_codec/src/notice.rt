@@ -15,14 +15,18 @@ use std::alloc::{AllocError, Global};
 /// A DISCONNECT or an AUTH (3.14, 3.15).
 #[derive(Drop)]
 pub struct Notice {
+    /// The reason code: one of the packet's set (2.4).
     pub reason: Reason,
+    /// The properties of its block, in their order (2.2.2).
     pub properties: PropList,
 }
 
 /// A DISCONNECT or an AUTH that stands in a frame.
 #[derive(Drop)]
 pub struct NoticeRef<'a> {
+    /// The reason code: one of the packet's set (2.4).
     pub reason: Reason,
+    /// The properties of its block, in their order (2.2.2).
     pub properties: PropsRef<'a>,
 }
 

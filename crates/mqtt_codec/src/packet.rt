@@ -1,217 +1,136 @@
-//! Packets, and the frames that spell them (2.1, 3.1 to 3.15, 4.13).
+//! Control packets, owned and lent out of a frame (2.1.2).
 
-ghost use Rattle.std.specs.Prelude.{◌≡◌, ◌<◌, ◌^◌, ◌⊎◌, ◌↔◌, ◌++◌, ◌∷◌, ℕ, List, length, true, IfOk, IfErr, IsTrue, OnOk, Ok};
-ghost use Rattle.mqtt_base.specs.Values.{varint};
-ghost use Rattle.mqtt_codec.specs.declared.fault.Fault.TheVariants as faults;
-ghost use Rattle.mqtt_codec.specs.Heads.{first};
-ghost use Rattle.mqtt_codec.specs.Reading.{Gives};
-ghost use Rattle.mqtt_codec.specs.Packets.{head, Fits, Spells, Refusal, is_lawful, shortest_body, shortest_of, HasSpelling, IsShortest};
-ghost use Rattle.mqtt_codec.specs.Frames.{frame_at, body_at, empty_at, versioned_at, version_at, lawful_at, packet_at, packet_of};
+ghost use Rattle.std.specs.Prelude.{◌≡◌, ◌↔◌, IfOk, IsTrue};
+ghost use Rattle.mqtt_codec.specs.Packets.{Fits, is_lawful, kind_of, properties_of};
+ghost use Rattle.mqtt_codec.specs.Frames.{packet_of};
 
-use crate::ack::{Ack, AckRef, ack_read};
-use crate::connack::{Connack, ConnackRef, connack_read};
-use crate::connect::{Connect, ConnectRef, connect_read, is_version_5};
-use crate::fault::Fault;
-use crate::head::{Head, head_read};
-use crate::notice::{Notice, NoticeRef, auth_read, disconnect_read};
-use crate::publish::{Delivery, Publish, PublishRef, publish_read};
-use crate::suback::{Suback, SubackRef, suback_read};
-use crate::subscribe::{Subscribe, SubscribeRef, subscribe_read};
-use crate::unsubscribe::{Unsubscribe, UnsubscribeRef, unsubscribe_read};
-use mqtt_base::{Kind, Qos, ReadFault, text_read, u8_read, varint_push, varint_read};
-use mqtt_props::Place;
+use crate::ack::{Ack, AckRef};
+use crate::connack::{Connack, ConnackRef};
+use crate::connect::{Connect, ConnectRef};
+use crate::notice::{Notice, NoticeRef};
+use crate::publish::{Publish, PublishRef};
+use crate::suback::{Suback, SubackRef};
+use crate::subscribe::{Subscribe, SubscribeRef};
+use crate::unsubscribe::{Unsubscribe, UnsubscribeRef};
+use mqtt_base::Kind;
+use mqtt_props::{Place, PropsRef};
 use std::alloc::{AllocError, Global};
 
 /// A control packet (2.1.2).
 #[derive(Drop)]
 pub enum Packet {
-    /// 3.1
+    /// A client asks for a connection (3.1).
     Connect(Connect),
-    /// 3.2
+    /// The connection is acknowledged (3.2).
     Connack(Connack),
-    /// 3.3
+    /// A message is published (3.3).
     Publish(Publish),
-    /// 3.4
+    /// A QoS 1 message is acknowledged (3.4).
     Puback(Ack),
-    /// 3.5
+    /// A QoS 2 message is received (3.5).
     Pubrec(Ack),
-    /// 3.6
+    /// A QoS 2 message is released (3.6).
     Pubrel(Ack),
-    /// 3.7
+    /// A QoS 2 message is complete (3.7).
     Pubcomp(Ack),
-    /// 3.8
+    /// A client asks for subscriptions (3.8).
     Subscribe(Subscribe),
-    /// 3.9
+    /// Subscriptions are acknowledged (3.9).
     Suback(Suback),
-    /// 3.10
+    /// A client gives subscriptions up (3.10).
     Unsubscribe(Unsubscribe),
-    /// 3.11
+    /// Giving subscriptions up is acknowledged (3.11).
     Unsuback(Suback),
-    /// 3.12
+    /// A client asks for a sign of life (3.12).
     Pingreq,
-    /// 3.13
+    /// The sign of life (3.13).
     Pingresp,
-    /// 3.14
+    /// The last packet of a connection (3.14).
     Disconnect(Notice),
-    /// 3.15
+    /// A step of an authentication (3.15).
     Auth(Notice),
 }
 
 /// A control packet that stands in a frame, and lends its parts out of it (2.1.2).
 #[derive(Drop)]
 pub enum PacketRef<'a> {
-    /// 3.1
+    /// A client asks for a connection (3.1).
     Connect(ConnectRef<'a>),
-    /// 3.2
+    /// The connection is acknowledged (3.2).
     Connack(ConnackRef<'a>),
-    /// 3.3
+    /// A message is published (3.3).
     Publish(PublishRef<'a>),
-    /// 3.4
+    /// A QoS 1 message is acknowledged (3.4).
     Puback(AckRef<'a>),
-    /// 3.5
+    /// A QoS 2 message is received (3.5).
     Pubrec(AckRef<'a>),
-    /// 3.6
+    /// A QoS 2 message is released (3.6).
     Pubrel(AckRef<'a>),
-    /// 3.7
+    /// A QoS 2 message is complete (3.7).
     Pubcomp(AckRef<'a>),
-    /// 3.8
+    /// A client asks for subscriptions (3.8).
     Subscribe(SubscribeRef<'a>),
-    /// 3.9
+    /// Subscriptions are acknowledged (3.9).
     Suback(SubackRef<'a>),
-    /// 3.10
+    /// A client gives subscriptions up (3.10).
     Unsubscribe(UnsubscribeRef<'a>),
-    /// 3.11
+    /// Giving subscriptions up is acknowledged (3.11).
     Unsuback(SubackRef<'a>),
-    /// 3.12
+    /// A client asks for a sign of life (3.12).
     Pingreq,
-    /// 3.13
+    /// The sign of life (3.13).
     Pingresp,
-    /// 3.14
+    /// The last packet of a connection (3.14).
     Disconnect(NoticeRef<'a>),
-    /// 3.15
+    /// A step of an authentication (3.15).
     Auth(NoticeRef<'a>),
 }
 
-#[tactic(auto, unfolding(crate::specs::Frames::frame_at))]
-fn frame_read(frame: &[u8]) -> Result<(Head, &[u8]), Fault>
-    ensures { Gives (λ x. (x.0, x.1.now)) result (frame_at frame.now) }
-{
-    let [first, rest @ ..] = frame else {
-        return Err(Fault::Malformed);
-    };
-    let Some(head) = head_read(*first) else {
-        return Err(Fault::Malformed);
-    };
-    let (len, taken) = varint_read(rest)?;
-    let (_, body) = rest.split_at(taken);
-    if body.len() != len as usize {
-        return Err(Fault::Malformed);
-    }
-    Ok((head, body))
-}
-
-#[tactic(auto, unfolding(crate::specs::Frames::empty_at))]
-fn empty_read(body: &[u8]) -> Result<(), Fault>
-    ensures { Gives (λ u. u) result (empty_at body.now) }
-{
-    match body {
-        [] => Ok(()),
-        _ => Err(Fault::Malformed),
-    }
-}
-
-#[tactic(auto, unfolding(crate::specs::Frames::body_at))]
-fn body_read(head: Head, body: &[u8]) -> Result<PacketRef<'_>, Fault>
-    ensures { Gives packet_of result (body_at head body.now) }
-{
-    Ok(match head {
-        Head::Connect => PacketRef::Connect(connect_read(body)?),
-        Head::Connack => PacketRef::Connack(connack_read(body)?),
-        Head::Publish { dup, qos, retain } => PacketRef::Publish(publish_read(
-            dup, qos, retain, body,
-        )?),
-        Head::Puback => PacketRef::Puback(ack_read(Kind::Puback, Place::Puback, body)?),
-        Head::Pubrec => PacketRef::Pubrec(ack_read(Kind::Pubrec, Place::Pubrec, body)?),
-        Head::Pubrel => PacketRef::Pubrel(ack_read(Kind::Pubrel, Place::Pubrel, body)?),
-        Head::Pubcomp => PacketRef::Pubcomp(ack_read(Kind::Pubcomp, Place::Pubcomp, body)?),
-        Head::Subscribe => PacketRef::Subscribe(subscribe_read(body)?),
-        Head::Suback => PacketRef::Suback(suback_read(Kind::Suback, Place::Suback, body)?),
-        Head::Unsubscribe => PacketRef::Unsubscribe(unsubscribe_read(body)?),
-        Head::Unsuback => PacketRef::Unsuback(suback_read(Kind::Unsuback, Place::Unsuback, body)?),
-        Head::Pingreq => {
-            empty_read(body)?;
-            PacketRef::Pingreq
-        }
-        Head::Pingresp => {
-            empty_read(body)?;
-            PacketRef::Pingresp
-        }
-        Head::Disconnect => PacketRef::Disconnect(disconnect_read(body)?),
-        Head::Auth => PacketRef::Auth(auth_read(body)?),
-    })
-}
-
-/// Whether a CONNECT's body begins with the protocol's name and the version.
-#[tactic(auto, unfolding(crate::specs::Frames::versioned_at))]
-fn versioned_read(body: &[u8]) -> Result<bool, ReadFault>
-    ensures { Gives (λ b. b) result (versioned_at body.now) }
-{
-    let (protocol, taken) = text_read(body)?;
-    let (_, rest) = body.split_at(taken);
-    let (version, _) = u8_read(rest)?;
-    Ok(is_version_5(protocol, version))
-}
-
-fn version_read(head: Head, body: &[u8]) -> Result<(), Fault>
-    ensures { Gives (λ u. u) result (version_at head body.now) }
-{
-    match head {
-        Head::Connect => match versioned_read(body) {
-            Ok(false) => Err(Fault::Version),
-            _ => Ok(()),
-        },
-        _ => Ok(()),
-    }
-}
-
-#[tactic(auto, unfolding(crate::specs::Frames::lawful_at))]
-fn lawful_read(head: Head, body: &[u8]) -> Result<PacketRef<'_>, Fault>
-    ensures { Gives packet_of result (lawful_at head body.now) }
-{
-    version_read(head, body)?;
-    let Ok(packet) = body_read(head, body) else {
-        return Err(Fault::Malformed);
-    };
-    if packet.is_lawful() {
-        Ok(packet)
-    } else {
-        Err(Fault::Protocol)
-    }
-}
-
-#[tactic(auto, unfolding(crate::specs::Frames::packet_at))]
-fn packet_read(frame: &[u8]) -> Result<PacketRef<'_>, Fault>
-    ensures { Gives packet_of result (packet_at frame.now) }
-{
-    let Ok((head, body)) = frame_read(frame) else {
-        return Err(Fault::Malformed);
-    };
-    lawful_read(head, body)
-}
-
-/// The packet that the whole frame spells (2.1, 4.13). Takes no memory.
-pub fn look_at(frame: &[u8]) -> Result<PacketRef<'_>, Fault>
-    ensures exact { Gives packet_of result (packet_at frame.now) }
-    // What is read is spelled so, and keeps its laws.
-    ensures found { IfOk result (λ packet. Spells (packet_of packet) frame.now) }
-    // What is spelled so is read.
-    ensures only { (p : Packet) → Spells p frame.now → Gives packet_of result (Ok p) }
-    ensures refused { IfErr result (λ fault. Refusal fault frame.now) }
-{
-    packet_read(frame)
-}
-
 impl PacketRef<'_> {
+    /// Its control packet type (2.1.2). Takes no memory.
+    pub fn kind(&self) -> Kind
+        ensures { result ≡ kind_of (packet_of self.now) }
+    {
+        match self {
+            PacketRef::Connect(_) => Kind::Connect,
+            PacketRef::Connack(_) => Kind::Connack,
+            PacketRef::Publish(_) => Kind::Publish,
+            PacketRef::Puback(_) => Kind::Puback,
+            PacketRef::Pubrec(_) => Kind::Pubrec,
+            PacketRef::Pubrel(_) => Kind::Pubrel,
+            PacketRef::Pubcomp(_) => Kind::Pubcomp,
+            PacketRef::Subscribe(_) => Kind::Subscribe,
+            PacketRef::Suback(_) => Kind::Suback,
+            PacketRef::Unsubscribe(_) => Kind::Unsubscribe,
+            PacketRef::Unsuback(_) => Kind::Unsuback,
+            PacketRef::Pingreq => Kind::Pingreq,
+            PacketRef::Pingresp => Kind::Pingresp,
+            PacketRef::Disconnect(_) => Kind::Disconnect,
+            PacketRef::Auth(_) => Kind::Auth,
+        }
+    }
+
+    /// The properties of its own block, and not of a Will's; PINGREQ and PINGRESP have none (2.2.2).
+    /// Takes no memory.
+    pub fn properties(&self) -> PropsRef<'_>
+        ensures { result ≡ properties_of (packet_of self.now) }
+    {
+        match self {
+            PacketRef::Connect(connect) => connect.properties.reborrow(),
+            PacketRef::Connack(connack) => connack.properties.reborrow(),
+            PacketRef::Publish(publish) => publish.properties.reborrow(),
+            PacketRef::Puback(ack)
+            | PacketRef::Pubrec(ack)
+            | PacketRef::Pubrel(ack)
+            | PacketRef::Pubcomp(ack) => ack.properties.reborrow(),
+            PacketRef::Subscribe(subscribe) => subscribe.properties.reborrow(),
+            PacketRef::Suback(suback) | PacketRef::Unsuback(suback) => suback.properties.reborrow(),
+            PacketRef::Unsubscribe(unsubscribe) => unsubscribe.properties.reborrow(),
+            PacketRef::Pingreq | PacketRef::Pingresp => PropsRef::empty(),
+            PacketRef::Disconnect(notice) | PacketRef::Auth(notice) => notice.properties.reborrow(),
+        }
+    }
+
     /// Whether the laws hold.
     pub(crate) fn is_lawful(&self) -> bool
         ensures { result ≡ is_lawful (packet_of self.now) }
@@ -235,78 +154,7 @@ impl PacketRef<'_> {
         }
     }
 
-    /// The first byte.
-    fn first_byte(&self) -> u8
-        ensures { result ≡ first (head (packet_of self.now)) }
-    {
-        match self {
-            PacketRef::Connect(_) => 0x10,
-            PacketRef::Connack(_) => 0x20,
-            PacketRef::Publish(publish) => publish.first_byte(),
-            PacketRef::Puback(_) => 0x40,
-            PacketRef::Pubrec(_) => 0x50,
-            PacketRef::Pubrel(_) => 0x62,
-            PacketRef::Pubcomp(_) => 0x70,
-            PacketRef::Subscribe(_) => 0x82,
-            PacketRef::Suback(_) => 0x90,
-            PacketRef::Unsubscribe(_) => 0xa2,
-            PacketRef::Unsuback(_) => 0xb0,
-            PacketRef::Pingreq => 0xc0,
-            PacketRef::Pingresp => 0xd0,
-            PacketRef::Disconnect(_) => 0xe0,
-            PacketRef::Auth(_) => 0xf0,
-        }
-    }
-
-    /// How many bytes the shortest body takes.
-    fn body_len(&self) -> usize
-        requires { Fits (packet_of self.now) }
-        ensures { result ≡ length (shortest_body (packet_of self.now)) }
-    {
-        match self {
-            PacketRef::Connect(connect) => connect.len(),
-            PacketRef::Connack(connack) => connack.len(),
-            PacketRef::Publish(publish) => publish.len(),
-            PacketRef::Puback(ack) => ack.len(),
-            PacketRef::Pubrec(ack) => ack.len(),
-            PacketRef::Pubrel(ack) => ack.len(),
-            PacketRef::Pubcomp(ack) => ack.len(),
-            PacketRef::Subscribe(subscribe) => subscribe.len(),
-            PacketRef::Suback(suback) => suback.len(),
-            PacketRef::Unsubscribe(unsubscribe) => unsubscribe.len(),
-            PacketRef::Unsuback(suback) => suback.len(),
-            PacketRef::Pingreq => 0,
-            PacketRef::Pingresp => 0,
-            PacketRef::Disconnect(notice) => notice.disconnect_len(),
-            PacketRef::Auth(notice) => notice.auth_len(),
-        }
-    }
-
-    /// Writes the shortest body at the end.
-    fn push_body(&self, out: &mut Vec<u8>) -> Result<(), AllocError>
-        requires { Fits (packet_of self.now) }
-        ensures { OnOk result (out.new.items ≡ out.old.items ++ shortest_body (packet_of self.now)) }
-    {
-        match self {
-            PacketRef::Connect(connect) => connect.push(out),
-            PacketRef::Connack(connack) => connack.push(out),
-            PacketRef::Publish(publish) => publish.push(out),
-            PacketRef::Puback(ack) => ack.push(out),
-            PacketRef::Pubrec(ack) => ack.push(out),
-            PacketRef::Pubrel(ack) => ack.push(out),
-            PacketRef::Pubcomp(ack) => ack.push(out),
-            PacketRef::Subscribe(subscribe) => subscribe.push(out),
-            PacketRef::Suback(suback) => suback.push(out),
-            PacketRef::Unsubscribe(unsubscribe) => unsubscribe.push(out),
-            PacketRef::Unsuback(suback) => suback.push(out),
-            PacketRef::Pingreq => Ok(()),
-            PacketRef::Pingresp => Ok(()),
-            PacketRef::Disconnect(notice) => notice.push_disconnect(out),
-            PacketRef::Auth(notice) => notice.push_auth(out),
-        }
-    }
-
-    /// An owned copy.
+    /// An owned copy; want of memory is its only refusal.
     pub fn to_packet(&self, alloc: Global) -> Result<Packet, AllocError>
         requires { Fits (packet_of self.now) }
         ensures { IfOk result (λ p. p ≡ packet_of self.now) }
@@ -334,7 +182,7 @@ impl PacketRef<'_> {
 }
 
 impl Packet {
-    /// The same packet, lent.
+    /// The same packet, lent. Takes no memory.
     pub fn lend(&self) -> PacketRef<'_>
         ensures { packet_of result ≡ self.now }
     {
@@ -358,7 +206,7 @@ impl Packet {
     }
 
     /// Whether its parts have a spelling.
-    fn fits(&self) -> bool
+    pub(crate) fn fits(&self) -> bool
         ensures { IsTrue result ↔ Fits self.now }
     {
         match self {
@@ -379,50 +227,4 @@ impl Packet {
             Packet::Auth(notice) => notice.fits(Kind::Auth, Place::Auth),
         }
     }
-}
-
-/// The packet that the whole frame spells, owned (2.1, 4.13).
-pub fn decode(alloc: Global, frame: &[u8]) -> Result<Packet, Fault>
-    ensures found { IfOk result (λ packet. Spells packet frame.now) }
-    // What is spelled so is read, or memory is wanting.
-    ensures only { (p : Packet) → Spells p frame.now → (result ≡ Ok p) ⊎ (result ≡ Err faults.Memory) }
-    ensures refused { IfErr result (λ fault. (fault ≡ faults.Memory) ⊎ Refusal fault frame.now) }
-{
-    let packet = look_at(frame)?;
-    Ok(packet.to_packet(alloc)?)
-}
-
-/// Whether the packet keeps the laws and has a layout (1.2). Takes no memory.
-pub fn lawful(packet: &Packet) -> bool
-    ensures { IsTrue result ↔ HasSpelling packet.now }
-{
-    if !packet.fits() {
-        return false;
-    }
-    let lent = packet.lend();
-    lent.body_len() < 268_435_456 && lent.is_lawful()
-}
-
-/// The shortest spelling of the packet (2.1).
-pub fn encode(alloc: Global, packet: &Packet) -> Result<Vec<u8>, Fault>
-    requires { HasSpelling packet.now }
-    ensures exact { IfOk result (λ frame. frame.items ≡ shortest_of packet.now) }
-    // It spells the packet, and no fewer bytes do.
-    ensures shortest { IfOk result (λ frame. IsShortest packet.now frame.items) }
-    ensures fault { IfErr result (λ fault. fault ≡ faults.Memory) }
-{
-    Ok(encode_lent(alloc, &packet.lend())?)
-}
-
-#[tactic(auto, using(std::proofs::lemmas::List::append_assoc))]
-fn encode_lent(alloc: Global, packet: &PacketRef<'_>) -> Result<Vec<u8>, AllocError>
-    requires { HasSpelling (packet_of packet.now) }
-    ensures { IfOk result (λ frame. frame.items ≡ shortest_of (packet_of packet.now)) }
-{
-    let len = packet.body_len();
-    let mut frame = Vec::with_capacity(alloc, 5 + len)?;
-    frame.push(packet.first_byte())?;
-    varint_push(&mut frame, len as u32)?;
-    packet.push_body(&mut frame)?;
-    Ok(frame)
 }

@@ -1,10 +1,11 @@
 //! PUBLISH: a message of a client, or a copy of one for a client (3.3).
 
-ghost use Rattle.std.specs.Prelude.{◌≡◌, ◌<◌, ◌++◌, IfOk, OnOk, IsTrue, ◌↔◌, length};
+ghost use Rattle.std.specs.Prelude.{◌≡◌, ◌<◌, ◌++◌, Bool, IfOk, OnOk, IsTrue, ◌↔◌, length};
 ghost use Rattle.mqtt_base.specs.Reading.{Reads};
 ghost use Rattle.mqtt_codec.specs.Reading.{Gives};
+ghost use Rattle.mqtt_codec.specs.declared.head.Head.TheVariants as heads;
 ghost use Rattle.mqtt_codec.specs.Heads.{first};
-ghost use Rattle.mqtt_codec.specs.Publish.{delivery_head, delivery_at, publish_at, publish_of, publish_body, identifier_field, FitsPublish, FitsDelivery, lawful_identifier, lawful_publish};
+ghost use Rattle.mqtt_codec.specs.Publish.{delivery_head, delivery_qos, delivery_dup, delivery_identifier, delivery_at, publish_at, publish_of, publish_body, identifier_field, FitsPublish, FitsDelivery, lawful_identifier, lawful_publish};
 
 use crate::blocks::stands;
 use crate::fault::Fault;
@@ -19,30 +20,48 @@ pub enum Delivery {
     /// QoS 0: no handshake, no DUP.
     AtMostOnce,
     /// QoS 1: answered by PUBACK.
-    AtLeastOnce { dup: bool, identifier: u16 },
+    AtLeastOnce {
+        /// Whether it was sent before (3.3.1.1).
+        dup: bool,
+        /// The packet identifier; lawful from 1 (2.2.1).
+        identifier: u16,
+    },
     /// QoS 2: answered by PUBREC.
-    ExactlyOnce { dup: bool, identifier: u16 },
+    ExactlyOnce {
+        /// Whether it was sent before (3.3.1.1).
+        dup: bool,
+        /// The packet identifier; lawful from 1 (2.2.1).
+        identifier: u16,
+    },
 }
 
 /// A PUBLISH (3.3).
 #[derive(Drop)]
 pub struct Publish {
+    /// Its QoS, with the packet identifier (3.3.1.2, 3.3.2.2).
     pub delivery: Delivery,
+    /// Whether it is to be retained, or was (3.3.1.3).
     pub retain: bool,
-    /// Empty where a Topic Alias stands for it.
+    /// The topic name; empty where a Topic Alias stands for it (3.3.2.1).
     pub topic: Text,
+    /// The properties of its block, in their order (2.2.2).
     pub properties: PropList,
+    /// The message, to the end of the packet (3.3.3).
     pub payload: Bytes,
 }
 
 /// A PUBLISH that stands in a frame.
 #[derive(Drop)]
 pub struct PublishRef<'a> {
+    /// Its QoS, with the packet identifier (3.3.1.2, 3.3.2.2).
     pub delivery: Delivery,
+    /// Whether it is to be retained, or was (3.3.1.3).
     pub retain: bool,
-    /// Empty where a Topic Alias stands for it.
+    /// The topic name; empty where a Topic Alias stands for it (3.3.2.1).
     pub topic: &'a str,
+    /// The properties of its block, in their order (2.2.2).
     pub properties: PropsRef<'a>,
+    /// The message, to the end of the packet (3.3.3).
     pub payload: &'a [u8],
 }
 
@@ -90,6 +109,42 @@ pub(crate) fn publish_read(
 }
 
 impl Delivery {
+    /// Its quality of service (3.3.1.2). Takes no memory.
+    pub fn qos(self) -> Qos
+        ensures exact { result ≡ delivery_qos self }
+
+        // The first byte of its PUBLISH says so.
+        ensures head { (retain : Bool) → delivery_head self retain
+            ≡ heads.Publish (delivery_dup self) result retain }
+    {
+        match self {
+            Delivery::AtMostOnce => Qos::AtMostOnce,
+            Delivery::AtLeastOnce { .. } => Qos::AtLeastOnce,
+            Delivery::ExactlyOnce { .. } => Qos::ExactlyOnce,
+        }
+    }
+
+    /// Whether it is marked as sent once more (3.3.1.1). Takes no memory.
+    pub fn dup(self) -> bool
+        ensures { result ≡ delivery_dup self }
+    {
+        match self {
+            Delivery::AtMostOnce => false,
+            Delivery::AtLeastOnce { dup, .. } | Delivery::ExactlyOnce { dup, .. } => dup,
+        }
+    }
+
+    /// Its packet identifier; QoS 0 has none (2.2.1). Takes no memory.
+    pub fn identifier(self) -> Option<u16>
+        ensures { result ≡ delivery_identifier self }
+    {
+        match self {
+            Delivery::AtMostOnce => None,
+            Delivery::AtLeastOnce { identifier, .. } | Delivery::ExactlyOnce { identifier, .. } =>
+                Some(identifier),
+        }
+    }
+
     fn has_lawful_identifier(self) -> bool
         ensures { result ≡ lawful_identifier self }
     {

@@ -14,18 +14,22 @@ use std::alloc::{AllocError, Global};
 /// A SUBACK or an UNSUBACK (3.9, 3.11).
 #[derive(Drop)]
 pub struct Suback {
+    /// The packet identifier; lawful from 1 (2.2.1).
     pub identifier: u16,
+    /// The properties of its block, in their order (2.2.2).
     pub properties: PropList,
-    /// A reason code for each filter, in their order.
+    /// A reason code a byte, one for each filter in their order; lawful from one on.
     pub codes: Bytes,
 }
 
 /// A SUBACK or an UNSUBACK that stands in a frame.
 #[derive(Drop)]
 pub struct SubackRef<'a> {
+    /// The packet identifier; lawful from 1 (2.2.1).
     pub identifier: u16,
+    /// The properties of its block, in their order (2.2.2).
     pub properties: PropsRef<'a>,
-    /// A reason code for each filter, in their order.
+    /// A reason code a byte, one for each filter in their order; lawful from one on.
     pub codes: &'a [u8],
 }
 

@@ -14,16 +14,22 @@ use std::alloc::{AllocError, Global};
 /// A SUBSCRIBE (3.8).
 #[derive(Drop)]
 pub struct Subscribe {
+    /// The packet identifier; lawful from 1 (2.2.1).
     pub identifier: u16,
+    /// The properties of its block, in their order (2.2.2).
     pub properties: PropList,
+    /// The filters with their options; lawful from one on (3.8.3).
     pub subscriptions: Subscriptions,
 }
 
 /// A SUBSCRIBE that stands in a frame.
 #[derive(Drop)]
 pub struct SubscribeRef<'a> {
+    /// The packet identifier; lawful from 1 (2.2.1).
     pub identifier: u16,
+    /// The properties of its block, in their order (2.2.2).
     pub properties: PropsRef<'a>,
+    /// The filters with their options; lawful from one on (3.8.3).
     pub subscriptions: SubscriptionsRef<'a>,
 }
 

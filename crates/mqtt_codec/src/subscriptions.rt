@@ -1,29 +1,35 @@
 //! Filters with their options, as a SUBSCRIBE has them (3.8.3).
 
-ghost use Rattle.std.specs.Prelude.{◌≡◌, ◌==◌, ◌<◌, ◌^◌, ◌∷◌, ◌++◌, [], length, MatchOption, IfOk, OnOk};
+ghost use Rattle.std.specs.Prelude.{◌≡◌, ◌==◌, ◌<◌, ◌^◌, ◌∷◌, ◌++◌, [], ℕ, length, slice_index, Some, MatchOption, IfSome, IfOk, OnOk, OnErr};
 ghost use Rattle.std.specs.List.{list_all, flat_map, AllByRecursion};
+ghost use Rattle.mqtt_base.specs.declared.session.SubscriptionOptions.{SubscriptionOptions};
+ghost use Rattle.mqtt_base.specs.Values.{blob, FitsText};
 ghost use Rattle.mqtt_base.specs.Reading.{Reads};
 ghost use Rattle.mqtt_base.specs.Items.{items_at, Answers};
 ghost use Rattle.mqtt_codec.specs.declared.fault.Fault.TheVariants.{Malformed};
 ghost use Rattle.mqtt_codec.specs.Reading.{Gives};
 ghost use Rattle.mqtt_codec.specs.Subscriptions.{subscription, IsSubscription, lawful_subscription, subscription_at, is_shared};
-ghost use Rattle.mqtt_codec.specs.SubscriptionViews.{subscription_of};
+ghost use Rattle.mqtt_codec.specs.Options.{options_byte};
+ghost use Rattle.mqtt_codec.specs.SubscriptionViews.{subscription_of, asked};
 
 use crate::fault::Fault;
-use mqtt_base::{text_read, u8_read};
+use crate::options::{options_byte, options_read};
+use bytes::Bytes;
+use mqtt_base::{SubscriptionOptions, Text, blob_push, text_read, u8_read};
 use std::alloc::{AllocError, Global};
 use std::marker::Model;
 
 /// A filter that stands in a frame, with its options (3.8.3.1).
 #[derive(Clone, Copy, Debug)]
 pub struct SubscriptionRef<'a> {
+    /// The topic filter, or shared filter (4.7, 4.8.2).
     pub filter: &'a str,
-    /// Bits 0 and 1 the maximum QoS, 2 No Local, 3 Retain As Published, 4 and 5 Retain Handling.
+    /// A byte below 64: bits 0 and 1 the maximum QoS, 2 No Local, 3 Retain As Published, 4 and 5 Retain Handling.
     pub options: u8,
 }
 
 /// Filters that stand in a frame, one after the other, with their options.
-#[derive(Drop)]
+#[derive(Debug, Drop)]
 pub struct SubscriptionsRef<'a> {
     bytes: &'a [u8],
 }
@@ -57,6 +63,16 @@ fn subscription_read(bytes: &[u8]) -> Result<(SubscriptionRef<'_>, usize), Fault
 }
 
 impl SubscriptionRef<'_> {
+    /// What its options say; none where they break a law, as a maximum QoS of 3 (3.8.3.1). Takes no
+    /// memory.
+    pub fn options(&self) -> Option<SubscriptionOptions>
+        ensures found { IfSome result (λ options. self.now.options ≡ options_byte options) }
+        ensures only { (options : SubscriptionOptions) → self.now.options ≡ options_byte options
+            → result ≡ Some options }
+    {
+        options_read(self.options)
+    }
+
     fn is_shared(&self) -> bool
         ensures { result ≡ is_shared self.now.filter.now }
     {
@@ -93,14 +109,14 @@ pub(crate) fn subscriptions_read(bytes: &[u8]) -> Result<SubscriptionsRef<'_>, F
 }
 
 impl<'a> SubscriptionsRef<'a> {
-    /// The same once more.
+    /// The same list, lent once more. Takes no memory.
     pub fn again(&self) -> SubscriptionsRef<'a>
         ensures { result ≡ self.now }
     {
         SubscriptionsRef { bytes: self.bytes }
     }
 
-    /// The first and those after it.
+    /// The first and those after it; none where the list is empty. Takes no memory.
     pub fn split_first(&self) -> Option<(SubscriptionRef<'a>, SubscriptionsRef<'a>)>
         ensures { MatchOption result (self.now ≡ []) (λ x. self.now ≡ subscription_of x.0 ∷ x.1) }
     {
@@ -115,7 +131,7 @@ impl<'a> SubscriptionsRef<'a> {
         }
     }
 
-    /// Whether there is none.
+    /// Whether there is none. Takes no memory.
     pub fn is_empty(&self) -> bool
         ensures { result ≡ (length self.now == 0) }
     {
@@ -158,15 +174,39 @@ impl<'a> SubscriptionsRef<'a> {
         ensures { IfOk result (λ list. list ≡ self.now) }
     {
         Ok(Subscriptions {
-            bytes: Vec::from_slice(alloc, self.bytes)?,
+            bytes: Bytes::copy_from_slice(alloc, self.bytes)?,
         })
     }
 }
 
-/// Filters with their options, owned.
-#[derive(Drop)]
+/// Writes a filter with its options at the end.
+#[tactic(auto, using(std::proofs::lemmas::List::append_assoc))]
+fn subscription_push(out: &mut Vec<u8>, filter: &str, options: u8) -> Result<(), AllocError>
+    requires { FitsText filter.now }
+    ensures ok { OnOk result (out.new.items ≡ out.old.items ++ (blob filter.now ++ options ∷ [])) }
+    ensures bytes { (i : ℕ) → slice_index out.new.items i < 256 }
+{
+    blob_push(out, filter.as_bytes())?;
+    out.push(options)?;
+    Ok(())
+}
+
+/// The bytes, and a filter with its options behind them.
+fn joined(alloc: Global, bytes: &[u8], filter: &str, options: u8) -> Result<Bytes, AllocError>
+    requires { FitsText filter.now }
+    ensures exact { IfOk result (λ all. all ≡ bytes.now ++ (blob filter.now ++ options ∷ [])) }
+    ensures each { IfOk result (λ all. (i : ℕ) → slice_index all i < 256) }
+{
+    let mut all = Vec::new(alloc);
+    all.extend_from_slice(bytes)?;
+    subscription_push(&mut all, filter, options)?;
+    Ok(Bytes::from_vec(all)?)
+}
+
+/// Filters with their options, of one's own; clones share the bytes.
+#[derive(Debug, Drop)]
 pub struct Subscriptions {
-    bytes: Vec<u8>,
+    bytes: Bytes,
 }
 
 impl Model for Subscriptions {
@@ -177,18 +217,54 @@ impl Model for Subscriptions {
 
     ghost Value = { List Subscription };
 
-    ghost view = { λ a. items_of Malformed subscription_at a.bytes.items };
+    ghost view = { λ a. items_of Malformed subscription_at a.bytes };
 
-    ghost invariant = { λ a. AreItems Malformed subscription_at a.bytes.items };
+    ghost invariant = { λ a. AreItems Malformed subscription_at a.bytes };
 }
 
 impl Subscriptions {
-    /// The same, lent.
+    /// No filters. Takes no memory.
+    pub fn new() -> Subscriptions
+        ensures { result ≡ [] }
+    {
+        Subscriptions {
+            bytes: Bytes::new(),
+        }
+    }
+
+    /// The same list, lent. Takes no memory.
     pub fn lend(&self) -> SubscriptionsRef<'_>
         ensures { result ≡ self.now }
     {
         SubscriptionsRef {
             bytes: self.bytes.as_slice(),
         }
+    }
+
+    /// Adds a filter with its options at the end. The bytes are copied, so that lists which share
+    /// them stay as they are.
+    pub fn push(
+        &mut self,
+        alloc: Global,
+        filter: &Text,
+        options: SubscriptionOptions,
+    ) -> Result<(), AllocError>
+        ensures ok { OnOk result (self.new ≡ self.old ++ asked filter.now options ∷ []) }
+        ensures err { OnErr result (self.new ≡ self.old) }
+    {
+        let byte = options_byte(options);
+        self.bytes = joined(alloc, self.bytes.as_slice(), filter.as_str(), byte)?;
+        Ok(())
+    }
+}
+
+impl Clone for Subscriptions {
+    ghost is_clone = { λ list copy. copy ≡ list };
+
+    /// Another owner of the same bytes.
+    fn clone(&self) -> Result<Subscriptions, AllocError> {
+        Ok(Subscriptions {
+            bytes: self.bytes.clone()?,
+        })
     }
 }

@@ -11,19 +11,25 @@ use mqtt_base::{u16_push, u16_read};
 use mqtt_props::{Place, PropList, PropsRef, layout_read};
 use std::alloc::{AllocError, Global};
 
-/// A UNSUBSCRIBE (3.10).
+/// An UNSUBSCRIBE (3.10).
 #[derive(Drop)]
 pub struct Unsubscribe {
+    /// The packet identifier; lawful from 1 (2.2.1).
     pub identifier: u16,
+    /// The properties of its block, in their order (2.2.2).
     pub properties: PropList,
+    /// The filters; lawful from one on (3.10.3).
     pub filters: Filters,
 }
 
 /// An UNSUBSCRIBE that stands in a frame.
 #[derive(Drop)]
 pub struct UnsubscribeRef<'a> {
+    /// The packet identifier; lawful from 1 (2.2.1).
     pub identifier: u16,
+    /// The properties of its block, in their order (2.2.2).
     pub properties: PropsRef<'a>,
+    /// The filters; lawful from one on (3.10.3).
     pub filters: FiltersRef<'a>,
 }
 

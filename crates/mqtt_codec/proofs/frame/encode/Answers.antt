@@ -1,7 +1,7 @@
 use Rattle.std.proofs.Common.{◌≡◌, List, ℕ, subst, sym, ◌∙◌, ap}
 use Rattle.mqtt_codec.specs.Packets.{IsShortest, shortest_of}
 use Rattle.mqtt_codec.proofs.ShortestLemmas.{shortest_is}
-use Rattle.mqtt_codec.proofs.packet.encode.Goals as goal
+use Rattle.mqtt_codec.proofs.frame.encode.Goals as goal
 
 pub returns-clause-shortest : goal.returns-clause-shortest
 returns-clause-shortest c =

@@ -1,7 +1,7 @@
 use Rattle.std.proofs.Common.{arith}
 use Rattle.mqtt_codec.specs.Frames.{packet_of}
 use Rattle.mqtt_codec.proofs.FrameLemmas.{packet_found, packet_only, packet_refused}
-use Rattle.mqtt_codec.proofs.packet.look_at.Goals as goal
+use Rattle.mqtt_codec.proofs.frame.look_at.Goals as goal
 
 pub returns-clause-found : goal.returns-clause-found
 returns-clause-found c = packet_found packet_of c.args.frame.now c.packet_read.result (λ i. omega (arith, c.type_inv.frame i)) c.packet_read.ensures

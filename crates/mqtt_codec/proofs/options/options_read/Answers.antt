@@ -1,0 +1,7 @@
+use Rattle.std.proofs.Common.{◌≡◌, ap, sym, ◌∙◌, arith}
+use Rattle.mqtt_codec.specs.Options.{options_of}
+use Rattle.mqtt_codec.proofs.OptionLemmas.{options_is, options_again}
+use Rattle.mqtt_codec.proofs.options.options_read.Goals as goal
+
+pub returns-clause-only : goal.returns-clause-only
+returns-clause-only c = λ o e. c.options_of.ensures ∙ ap options_of e ∙ options_again o

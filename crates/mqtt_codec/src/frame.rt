@@ -1,0 +1,272 @@
+//! Packets read from frames and written to them (2.1, 4.13).
+
+ghost use Rattle.std.specs.Prelude.{◌≡◌, ◌<◌, ◌^◌, ◌⊎◌, ◌↔◌, ◌++◌, ◌∷◌, ℕ, List, length, true, IfOk, IfErr, IsTrue, OnOk, Ok};
+ghost use Rattle.mqtt_base.specs.Values.{varint};
+ghost use Rattle.mqtt_codec.specs.declared.fault.Fault.TheVariants as faults;
+ghost use Rattle.mqtt_codec.specs.declared.packet.Packet.{Packet};
+ghost use Rattle.mqtt_codec.specs.Heads.{first};
+ghost use Rattle.mqtt_codec.specs.Reading.{Gives};
+ghost use Rattle.mqtt_codec.specs.Packets.{head, Fits, Spells, Refusal, is_lawful, shortest_body, shortest_of, HasSpelling, IsShortest};
+ghost use Rattle.mqtt_codec.specs.Frames.{frame_at, body_at, empty_at, versioned_at, version_at, lawful_at, packet_at, packet_of};
+
+use crate::ack::ack_read;
+use crate::connack::connack_read;
+use crate::connect::{connect_read, is_version_5};
+use crate::fault::Fault;
+use crate::head::{Head, head_read};
+use crate::notice::{auth_read, disconnect_read};
+use crate::packet::{Packet, PacketRef};
+use crate::publish::publish_read;
+use crate::suback::suback_read;
+use crate::subscribe::subscribe_read;
+use crate::unsubscribe::unsubscribe_read;
+use mqtt_base::{Kind, ReadFault, text_read, u8_read, varint_push, varint_read};
+use mqtt_props::Place;
+use std::alloc::{AllocError, Global};
+
+/// Bytes: a Remaining Length is below it, since it is a Variable Byte Integer (2.1.4).
+const BODY_LIMIT: usize = 268_435_456;
+
+#[tactic(auto, unfolding(crate::specs::Frames::frame_at))]
+fn frame_read(frame: &[u8]) -> Result<(Head, &[u8]), Fault>
+    ensures { Gives (λ x. (x.0, x.1.now)) result (frame_at frame.now) }
+{
+    let [first, rest @ ..] = frame else {
+        return Err(Fault::Malformed);
+    };
+    let Some(head) = head_read(*first) else {
+        return Err(Fault::Malformed);
+    };
+    let (len, taken) = varint_read(rest)?;
+    let (_, body) = rest.split_at(taken);
+    if body.len() != len as usize {
+        return Err(Fault::Malformed);
+    }
+    Ok((head, body))
+}
+
+#[tactic(auto, unfolding(crate::specs::Frames::empty_at))]
+fn empty_read(body: &[u8]) -> Result<(), Fault>
+    ensures { Gives (λ u. u) result (empty_at body.now) }
+{
+    match body {
+        [] => Ok(()),
+        _ => Err(Fault::Malformed),
+    }
+}
+
+#[tactic(auto, unfolding(crate::specs::Frames::body_at))]
+fn body_read(head: Head, body: &[u8]) -> Result<PacketRef<'_>, Fault>
+    ensures { Gives packet_of result (body_at head body.now) }
+{
+    Ok(match head {
+        Head::Connect => PacketRef::Connect(connect_read(body)?),
+        Head::Connack => PacketRef::Connack(connack_read(body)?),
+        Head::Publish { dup, qos, retain } => PacketRef::Publish(publish_read(
+            dup, qos, retain, body,
+        )?),
+        Head::Puback => PacketRef::Puback(ack_read(Kind::Puback, Place::Puback, body)?),
+        Head::Pubrec => PacketRef::Pubrec(ack_read(Kind::Pubrec, Place::Pubrec, body)?),
+        Head::Pubrel => PacketRef::Pubrel(ack_read(Kind::Pubrel, Place::Pubrel, body)?),
+        Head::Pubcomp => PacketRef::Pubcomp(ack_read(Kind::Pubcomp, Place::Pubcomp, body)?),
+        Head::Subscribe => PacketRef::Subscribe(subscribe_read(body)?),
+        Head::Suback => PacketRef::Suback(suback_read(Kind::Suback, Place::Suback, body)?),
+        Head::Unsubscribe => PacketRef::Unsubscribe(unsubscribe_read(body)?),
+        Head::Unsuback => PacketRef::Unsuback(suback_read(Kind::Unsuback, Place::Unsuback, body)?),
+        Head::Pingreq => {
+            empty_read(body)?;
+            PacketRef::Pingreq
+        }
+        Head::Pingresp => {
+            empty_read(body)?;
+            PacketRef::Pingresp
+        }
+        Head::Disconnect => PacketRef::Disconnect(disconnect_read(body)?),
+        Head::Auth => PacketRef::Auth(auth_read(body)?),
+    })
+}
+
+/// Whether a CONNECT's body begins with the protocol's name and the version.
+#[tactic(auto, unfolding(crate::specs::Frames::versioned_at))]
+fn versioned_read(body: &[u8]) -> Result<bool, ReadFault>
+    ensures { Gives (λ b. b) result (versioned_at body.now) }
+{
+    let (protocol, taken) = text_read(body)?;
+    let (_, rest) = body.split_at(taken);
+    let (version, _) = u8_read(rest)?;
+    Ok(is_version_5(protocol, version))
+}
+
+fn version_read(head: Head, body: &[u8]) -> Result<(), Fault>
+    ensures { Gives (λ u. u) result (version_at head body.now) }
+{
+    match head {
+        Head::Connect => match versioned_read(body) {
+            Ok(false) => Err(Fault::Version),
+            _ => Ok(()),
+        },
+        _ => Ok(()),
+    }
+}
+
+#[tactic(auto, unfolding(crate::specs::Frames::lawful_at))]
+fn lawful_read(head: Head, body: &[u8]) -> Result<PacketRef<'_>, Fault>
+    ensures { Gives packet_of result (lawful_at head body.now) }
+{
+    version_read(head, body)?;
+    let Ok(packet) = body_read(head, body) else {
+        return Err(Fault::Malformed);
+    };
+    if packet.is_lawful() {
+        Ok(packet)
+    } else {
+        Err(Fault::Protocol)
+    }
+}
+
+#[tactic(auto, unfolding(crate::specs::Frames::packet_at))]
+fn packet_read(frame: &[u8]) -> Result<PacketRef<'_>, Fault>
+    ensures { Gives packet_of result (packet_at frame.now) }
+{
+    let Ok((head, body)) = frame_read(frame) else {
+        return Err(Fault::Malformed);
+    };
+    lawful_read(head, body)
+}
+
+/// Reads the packet that the whole frame spells (2.1, 4.13). Takes no memory.
+///
+/// `Malformed` (1) where the bytes have no layout, `Protocol` (2) where they have one and a law is
+/// broken, `Version` (4) where they are a CONNECT of another protocol or version; never `TooLarge`
+/// or `Memory`.
+pub fn look_at(frame: &[u8]) -> Result<PacketRef<'_>, Fault>
+    ensures exact { Gives packet_of result (packet_at frame.now) }
+    // What is read is spelled so, and keeps its laws.
+    ensures found { IfOk result (λ packet. Spells (packet_of packet) frame.now) }
+    // What is spelled so is read.
+    ensures only { (p : Packet) → Spells p frame.now → Gives packet_of result (Ok p) }
+    ensures refused { IfErr result (λ fault. Refusal fault frame.now) }
+{
+    packet_read(frame)
+}
+
+/// Reads the packet that the whole frame spells, owned (2.1, 4.13).
+///
+/// The faults are those of `look_at`, and `Memory` (5).
+pub fn decode(alloc: Global, frame: &[u8]) -> Result<Packet, Fault>
+    ensures found { IfOk result (λ packet. Spells packet frame.now) }
+    // What is spelled so is read, or memory is wanting.
+    ensures only { (p : Packet) → Spells p frame.now → (result ≡ Ok p) ⊎ (result ≡ Err faults.Memory) }
+    ensures refused { IfErr result (λ fault. (fault ≡ faults.Memory) ⊎ Refusal fault frame.now) }
+{
+    let packet = look_at(frame)?;
+    Ok(packet.to_packet(alloc)?)
+}
+
+impl PacketRef<'_> {
+    /// The first byte.
+    fn first_byte(&self) -> u8
+        ensures { result ≡ first (head (packet_of self.now)) }
+    {
+        match self {
+            PacketRef::Connect(_) => 0x10,
+            PacketRef::Connack(_) => 0x20,
+            PacketRef::Publish(publish) => publish.first_byte(),
+            PacketRef::Puback(_) => 0x40,
+            PacketRef::Pubrec(_) => 0x50,
+            PacketRef::Pubrel(_) => 0x62,
+            PacketRef::Pubcomp(_) => 0x70,
+            PacketRef::Subscribe(_) => 0x82,
+            PacketRef::Suback(_) => 0x90,
+            PacketRef::Unsubscribe(_) => 0xa2,
+            PacketRef::Unsuback(_) => 0xb0,
+            PacketRef::Pingreq => 0xc0,
+            PacketRef::Pingresp => 0xd0,
+            PacketRef::Disconnect(_) => 0xe0,
+            PacketRef::Auth(_) => 0xf0,
+        }
+    }
+
+    /// How many bytes the shortest body takes.
+    fn body_len(&self) -> usize
+        requires { Fits (packet_of self.now) }
+        ensures { result ≡ length (shortest_body (packet_of self.now)) }
+    {
+        match self {
+            PacketRef::Connect(connect) => connect.len(),
+            PacketRef::Connack(connack) => connack.len(),
+            PacketRef::Publish(publish) => publish.len(),
+            PacketRef::Puback(ack) => ack.len(),
+            PacketRef::Pubrec(ack) => ack.len(),
+            PacketRef::Pubrel(ack) => ack.len(),
+            PacketRef::Pubcomp(ack) => ack.len(),
+            PacketRef::Subscribe(subscribe) => subscribe.len(),
+            PacketRef::Suback(suback) => suback.len(),
+            PacketRef::Unsubscribe(unsubscribe) => unsubscribe.len(),
+            PacketRef::Unsuback(suback) => suback.len(),
+            PacketRef::Pingreq => 0,
+            PacketRef::Pingresp => 0,
+            PacketRef::Disconnect(notice) => notice.disconnect_len(),
+            PacketRef::Auth(notice) => notice.auth_len(),
+        }
+    }
+
+    /// Writes the shortest body at the end.
+    fn push_body(&self, out: &mut Vec<u8>) -> Result<(), AllocError>
+        requires { Fits (packet_of self.now) }
+        ensures { OnOk result (out.new.items ≡ out.old.items ++ shortest_body (packet_of self.now)) }
+    {
+        match self {
+            PacketRef::Connect(connect) => connect.push(out),
+            PacketRef::Connack(connack) => connack.push(out),
+            PacketRef::Publish(publish) => publish.push(out),
+            PacketRef::Puback(ack) => ack.push(out),
+            PacketRef::Pubrec(ack) => ack.push(out),
+            PacketRef::Pubrel(ack) => ack.push(out),
+            PacketRef::Pubcomp(ack) => ack.push(out),
+            PacketRef::Subscribe(subscribe) => subscribe.push(out),
+            PacketRef::Suback(suback) => suback.push(out),
+            PacketRef::Unsubscribe(unsubscribe) => unsubscribe.push(out),
+            PacketRef::Unsuback(suback) => suback.push(out),
+            PacketRef::Pingreq => Ok(()),
+            PacketRef::Pingresp => Ok(()),
+            PacketRef::Disconnect(notice) => notice.push_disconnect(out),
+            PacketRef::Auth(notice) => notice.push_auth(out),
+        }
+    }
+}
+
+/// Whether the packet keeps the laws and has a layout (1.2). Takes no memory.
+pub fn lawful(packet: &Packet) -> bool
+    ensures { IsTrue result ↔ HasSpelling packet.now }
+{
+    if !packet.fits() {
+        return false;
+    }
+    let lent = packet.lend();
+    lent.body_len() < BODY_LIMIT && lent.is_lawful()
+}
+
+/// Writes the shortest spelling of the packet (2.1); `Memory` (5) is its only refusal.
+pub fn encode(alloc: Global, packet: &Packet) -> Result<Vec<u8>, Fault>
+    requires { HasSpelling packet.now }
+    ensures exact { IfOk result (λ frame. frame.items ≡ shortest_of packet.now) }
+    // It spells the packet, and no fewer bytes do.
+    ensures shortest { IfOk result (λ frame. IsShortest packet.now frame.items) }
+    ensures fault { IfErr result (λ fault. fault ≡ faults.Memory) }
+{
+    Ok(encode_lent(alloc, &packet.lend())?)
+}
+
+#[tactic(auto, using(std::proofs::lemmas::List::append_assoc))]
+fn encode_lent(alloc: Global, packet: &PacketRef<'_>) -> Result<Vec<u8>, AllocError>
+    requires { HasSpelling (packet_of packet.now) }
+    ensures { IfOk result (λ frame. frame.items ≡ shortest_of (packet_of packet.now)) }
+{
+    let len = packet.body_len();
+    let mut frame = Vec::with_capacity(alloc, 5 + len)?;
+    frame.push(packet.first_byte())?;
+    varint_push(&mut frame, len as u32)?;
+    packet.push_body(&mut frame)?;
+    Ok(frame)
+}
