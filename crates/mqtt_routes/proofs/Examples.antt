@@ -1,7 +1,7 @@
 -- Worked rows of routing, by computing: sessions 1 to 5 and publications to `a/b` (MQTT 5.0, 3.3.4 and 4.8.2).
-use Rattle.std.proofs.Common.{◌≡◌, ℕ, Bool, true, false, cond, not, refl, codes, List, [], ◌∷◌, Option, Some, None, nat_eq, bytes_eq}
+use Rattle.std.proofs.Common.{◌≡◌, ℕ, Bool, true, false, cond, refl, codes, List, [], ◌∷◌, Option, Some, None, nat_eq}
 use Rattle.mqtt_routes.specs.declared.subscription.Subscription.{Subscription}
-use Rattle.mqtt_routes.specs.Subscriptions.{Subscriber, put, without, with_subs}
+use Rattle.mqtt_routes.specs.Subscriptions.{Subscriber, put, with_subs}
 use Rattle.mqtt_routes.specs.Intended.{Publication, Answers, Copy}
 use Rattle.mqtt_routes.specs.Acceptance.{Served, Routed, routed}
 use Rattle.mqtt_routes.specs.Retained.{keep}

@@ -1,9 +1,7 @@
 -- Lemmas on where the message of a topic stands (MQTT 5.0, 3.3.1.3).
-use Rattle.std.proofs.Common.{◌≡◌, ℕ, suc, ◌+◌, ◌<◌, ◌≤◌, Bool, true, false, cond, ◌||◌, List, [], ◌∷◌, ◌++◌, length, get_or, set, remove, map, drop, refl, sym, ap, subst, ◌∙◌, nat_lt, arith, add-one, drop-cons, append_assoc}
-use Rattle.std.proofs.lemmas.List.{get_or_default}
-use Rattle.mqtt_topic.specs.Matching.{is_match}
+use Rattle.std.proofs.Common.{◌≡◌, ℕ, suc, ◌<◌, ◌≤◌, Bool, true, false, cond, List, [], ◌∷◌, ◌++◌, length, get_or, set, remove, refl, sym, ap, ◌∙◌, nat_lt, arith}
 use Rattle.mqtt_routes.specs.declared.retained.Kept.{Kept}
-use Rattle.mqtt_routes.specs.Retained.{is_of, has_topic, topic_place, keep, forget, kept_for}
+use Rattle.mqtt_routes.specs.Retained.{is_of, has_topic, topic_place, keep, forget}
 use Rattle.mqtt_routes.proofs.PlaceLemmas.{has_by, not_below}
 
 most_by : (b : Bool) (p n : ℕ) → p ≤ n → cond b 0 (suc p) ≤ suc n

@@ -1,5 +1,5 @@
 -- Lemmas on members of groups (MQTT 5.0, 4.8.2).
-use Rattle.std.proofs.Common.{◌≡◌, ℕ, suc, ◌≤◌, Bool, true, false, cond, List, [], ◌∷◌, ◌++◌, length, insert, refl, sym, ap, ◌∙◌, nat_lt, arith}
+use Rattle.std.proofs.Common.{◌≡◌, ℕ, suc, ◌≤◌, Bool, true, false, cond, List, [], ◌∷◌, length, insert, refl, ap, nat_lt, arith}
 use Rattle.mqtt_routes.specs.Intended.{Member, insert_member, insertion_spot}
 
 insert_by : (lt : Bool) (m x : Member) (xs : List Member) (p : ℕ) → insert xs p m ≡ insert_member m xs → insert (x ∷ xs) (cond lt 0 (suc p)) m ≡ cond lt (m ∷ x ∷ xs) (x ∷ insert_member m xs)

@@ -1,5 +1,5 @@
 -- Lemmas on where a subscription stands (MQTT 5.0, 3.8.4, 3.10.4).
-use Rattle.std.proofs.Common.{◌≡◌, ℕ, suc, ◌+◌, ◌<◌, ◌≤◌, Bool, true, false, cond, ◌||◌, List, [], ◌∷◌, ◌++◌, length, get_or, set, remove, refl, sym, ap, subst, ◌∙◌, ltb, nat_lt, arith, add-one}
+use Rattle.std.proofs.Common.{◌≡◌, ℕ, suc, ◌<◌, ◌≤◌, Bool, true, false, cond, ◌||◌, List, [], ◌∷◌, ◌++◌, length, get_or, set, remove, refl, sym, ap, subst, ◌∙◌, ltb, nat_lt, arith}
 use Rattle.std.proofs.lemmas.Bool.Decides.{nat_tests}
 use Rattle.std.proofs.lemmas.List.{get_or_default}
 use Rattle.mqtt_routes.specs.declared.fault.RoutesFault.{RoutesFault}

@@ -1,5 +1,5 @@
 -- Lemmas on serving groups (MQTT 5.0, 4.8.2).
-use Rattle.std.proofs.Common.{◌≡◌, ℕ, zero, suc, ◌+◌, ◌<◌, ◌≤◌, Bool, true, false, cond, ◌&&◌, ◌||◌, List, [], ◌∷◌, ◌++◌, length, take, drop, get_or, filter, refl, sym, ap, subst, ◌∙◌, arith, bytes_eq, append_assoc, append-nil, add-one, drop-cons, Option, Some, None}
+use Rattle.std.proofs.Common.{◌≡◌, ℕ, zero, suc, ◌+◌, ◌<◌, ◌≤◌, Bool, true, false, cond, ◌&&◌, List, [], ◌∷◌, ◌++◌, length, take, drop, get_or, filter, refl, sym, ap, subst, ◌∙◌, arith, bytes_eq, append_assoc, add-one, drop-cons, Some, None}
 use Rattle.std.specs.List.{list_any}
 use Rattle.std.specs.Option.{option_and_then}
 use Rattle.std.proofs.lemmas.List.{get_or_default, take_more}
@@ -7,7 +7,7 @@ use Rattle.mqtt_topic.specs.Filters.{group_of}
 use Rattle.mqtt_routes.specs.declared.fault.RoutesFault.{RoutesFault}
 use Rattle.mqtt_routes.specs.declared.fault.RoutesFault.TheVariants.{Full, Memory}
 use Rattle.mqtt_routes.specs.Intended.{Publication, Answers, Copy, Member, in_group, has_filter_among, groups, groups_after}
-use Rattle.mqtt_routes.specs.Acceptance.{Served, needs_room, is_eligible, eligible_of, is_candidate, IsCandidateAt, first_choice, later_choices, chosen, shared_copy, outcome, serve_one, serve, IsServing, IsUnserved, RefusesOne, RefusesServing}
+use Rattle.mqtt_routes.specs.Acceptance.{Served, needs_room, is_eligible, eligible_of, is_candidate, IsCandidateAt, chosen, shared_copy, outcome, serve_one, serve, IsServing, IsUnserved, RefusesOne, RefusesServing}
 
 -- one member more
 eligible_by : (same lacks : Bool) (at : Answers) (p : Publication) (direct : List Copy) (served : List Served) (m : Member) (group : List Member) → is_eligible at p direct served m ≡ lacks

@@ -1,5 +1,5 @@
 -- Lemmas on where a session stands (MQTT 5.0, 3.8, 3.10).
-use Rattle.std.proofs.Common.{◌≡◌, ℕ, zero, suc, ◌+◌, ◌<◌, ◌≤◌, Bool, true, false, cond, List, [], ◌∷◌, ◌++◌, length, get_or, set, insert, remove, refl, sym, ap, ◌∙◌, ltb, eqb, eqb-true, nat_lt, nat_eq, arith}
+use Rattle.std.proofs.Common.{◌≡◌, ℕ, zero, suc, ◌<◌, ◌≤◌, Bool, true, false, cond, List, [], ◌∷◌, length, get_or, set, insert, remove, refl, sym, ap, ◌∙◌, eqb-true, nat_lt, nat_eq, arith}
 use Rattle.mqtt_routes.specs.declared.subscription.Subscription.{Subscription}
 use Rattle.mqtt_routes.specs.Subscriptions.{Subscriber, is_at, spot_of, subs_of, with_subs, put, without, subscribed, unsubscribed, without_session}
 

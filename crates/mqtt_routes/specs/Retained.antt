@@ -1,5 +1,5 @@
 -- Retained messages (MQTT 5.0, 3.3.1.3).
-use Rattle.std.specs.Prelude.{◌≡◌, ℕ, suc, ◌<◌, Bool, true, false, cond, List, [], ◌∷◌, length, filter, bytes_eq, Option, Some, None}
+use Rattle.std.specs.Prelude.{◌≡◌, ℕ, suc, ◌<◌, Bool, false, cond, List, [], ◌∷◌, length, filter, bytes_eq, Option, Some, None}
 use Rattle.std.specs.List.{list_any}
 use Rattle.mqtt_topic.specs.Matching.{is_match}
 use Rattle.mqtt_routes.specs.declared.fault.RoutesFault.{RoutesFault}

@@ -1,5 +1,5 @@
 -- The subscriptions of sessions (MQTT 5.0, 3.8).
-use Rattle.std.specs.Prelude.{◌≡◌, ℕ, zero, suc, ◌<◌, Bool, true, false, cond, not, List, [], ◌∷◌, length, filter, find, nat_eq, nat_lt, bytes_eq, Option, Some, None}
+use Rattle.std.specs.Prelude.{◌≡◌, ℕ, zero, suc, ◌<◌, Bool, false, cond, List, [], ◌∷◌, length, nat_eq, nat_lt, bytes_eq}
 use Rattle.std.specs.List.{list_any}
 use Rattle.mqtt_routes.specs.declared.fault.RoutesFault.{RoutesFault}
 use Rattle.mqtt_routes.specs.declared.fault.RoutesFault.TheVariants.{Full, Memory}

@@ -16,7 +16,7 @@ pub and_right : (a b : Bool) → (a && b) ≡ true → b ≡ true
 and_right true b e = e
 and_right false b e = cc
 
-and_both : (a b : Bool) → a ≡ true → b ≡ true → (a && b) ≡ true
+pub and_both : (a b : Bool) → a ≡ true → b ≡ true → (a && b) ≡ true
 and_both true b e h = h
 and_both false b e h = e
 
@@ -90,7 +90,7 @@ matches_levels-from fs ns (with_hash front taken rest ends is each) = ap (λ ls.
 level_plain : (last : Bool) (l : List ℕ) → has_wildcard l ≡ false → is_filter_level last l ≡ true
 level_plain last l e = ap (λ b. not b || (is_plus l || (last && is_hash l))) e
 
-not_true : (b : Bool) → not b ≡ true → b ≡ false
+pub not_true : (b : Bool) → not b ≡ true → b ≡ false
 not_true true e = sym e
 not_true false e = refl
 

@@ -1,10 +1,10 @@
 -- Which texts are topic filters and shared filters (MQTT 5.0, 4.7.1, 4.7.3, 4.8.2).
-use Rattle.std.specs.Prelude.{◌≡◌, ◌≢◌, ℕ, Bool, true, false, cond, not, ◌&&◌, ◌||◌, List, [], ◌∷◌, bytes_eq, codes}
-use Rattle.std.specs.List.{after_first, before_first}
+use Rattle.std.specs.Prelude.{◌≡◌, ◌≢◌, ℕ, Bool, true, false, cond, not, ◌&&◌, ◌||◌, ◌⊎◌, List, [], ◌∷◌, ◌++◌, bytes_eq, codes}
+use Rattle.std.specs.List.{All, AllByRecursion, after_first, before_first}
 use Rattle.mqtt_topic.specs.declared.fault.TopicFault.{TopicFault}
 use Rattle.mqtt_topic.specs.declared.fault.TopicFault.TheVariants.{Empty, WildcardInName, WildcardPlace, Share, AliasRange, AliasUnknown, Memory}
-use Rattle.mqtt_topic.specs.Levels.{is_slash, levels, is_none_left}
-use Rattle.mqtt_topic.specs.Names.{plus, hash, is_empty, has_wildcard, is_topic_name}
+use Rattle.mqtt_topic.specs.Levels.{slash, is_slash, levels, is_none_left}
+use Rattle.mqtt_topic.specs.Names.{plus, hash, is_empty, has_wildcard, is_topic_name, IsTopicName}
 
 abbrev pub is_plus : List ℕ → Bool
 is_plus level = bytes_eq level (plus ∷ [])
@@ -83,3 +83,23 @@ RefusesShared text Share = is_shared_filter text ≡ false
 RefusesShared text AliasRange = ⊥
 RefusesShared text AliasUnknown = ⊥
 RefusesShared text Memory = is_shared_filter text ≡ true
+
+-- ---- the same in the standard's words
+
+-- a level without wildcards, or `+` alone (4.7.1.3)
+abbrev pub IsPlainLevel : List ℕ → Type 0
+IsPlainLevel level = (has_wildcard level ≡ false) ⊎ (level ≡ plus ∷ [])
+
+-- such levels, the last of which may be `#` instead (4.7.1.2)
+pub record FillsLevels (all : List (List ℕ)) : Type 0 where
+  pub front : List (List ℕ)
+  pub last : List ℕ
+  pub are : all ≡ front ++ last ∷ []
+  pub plain : AllByRecursion IsPlainLevel front
+  pub ends : IsPlainLevel last ⊎ (last ≡ hash ∷ [])
+
+-- a filter: such levels of a text that has a character and doesn't begin with `$share/`; or `$share/`,
+-- a name without slash and wildcard, a slash, and a filter (4.8.2)
+pub data IsFilter : List ℕ → Type 0 where
+  unshared : (text : List ℕ) → text ≢ [] → begins_share text ≡ false → FillsLevels (levels text) → IsFilter text
+  shared : (text name filter : List ℕ) → text ≡ share ++ slash ∷ (name ++ slash ∷ filter) → IsTopicName name → All (λ c. is_slash c ≡ false) name → IsFilter filter → IsFilter text

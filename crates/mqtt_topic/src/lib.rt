@@ -4,6 +4,7 @@
 mod aliases;
 mod fault;
 mod filter;
+mod laws;
 mod levels;
 mod matching;
 mod name;
@@ -13,5 +14,6 @@ mod tests;
 pub use aliases::Aliases;
 pub use fault::TopicFault;
 pub use filter::{Filter, Shared, SubFilter};
+pub use laws::filter_by_words;
 pub use matching::matches;
 pub use name::TopicName;

@@ -1,5 +1,5 @@
-use Rattle.std.proofs.Common.{◌≡◌, ◌≤◌, length, insert, sym, ◌∙◌, ap, arith}
-use Rattle.mqtt_routes.specs.Intended.{Member, insertion_spot, insert_member}
+use Rattle.std.proofs.Common.{length, insert, ◌∙◌, ap, arith}
+use Rattle.mqtt_routes.specs.Intended.{Member, insertion_spot}
 use Rattle.mqtt_routes.proofs.MemberLemmas.{insert-member, insertion_spot-most}
 use Rattle.mqtt_routes.proofs.member.insert_member.Goals as goal
 

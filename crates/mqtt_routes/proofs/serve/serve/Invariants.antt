@@ -1,4 +1,3 @@
-use Rattle.std.proofs.Common.{[]}
 use Rattle.mqtt_routes.proofs.ServeLemmas.{SoFar}
 use Rattle.mqtt_routes.proofs.serve.serve.Given as goal
 

@@ -1,6 +1,5 @@
 use Rattle.std.proofs.Common.{◌∙◌, ap, sym}
 use Rattle.std.proofs.lemmas.Result.{err_from_is_err_and}
-use Rattle.mqtt_topic.specs.Filters.{group_of}
 use Rattle.mqtt_routes.specs.Acceptance.{shared_copy}
 use Rattle.mqtt_routes.proofs.ServeLemmas.{serve_one-candidate, served_same}
 use Rattle.mqtt_routes.proofs.serve.serve_one.Goals as goal

@@ -1,4 +1,4 @@
-use Rattle.std.proofs.Common.{◌≡◌, ◌<◌, ◌≤◌, length, sym, ◌∙◌, ap, arith}
+use Rattle.std.proofs.Common.{◌<◌, ◌≤◌, length, sym, ◌∙◌, ap, arith}
 use Rattle.mqtt_routes.specs.Retained.{topic_place, forget}
 use Rattle.mqtt_routes.proofs.KeptLemmas.{forget-at, forget-same}
 use Rattle.mqtt_routes.proofs.retained.Retained.forget.Goals as goal

@@ -1,9 +1,9 @@
-use Rattle.std.proofs.Common.{◌≡◌, ℕ, ◌<◌, ◌≤◌, false, length, nat_lt, sym, ◌∙◌, ap, subst, arith}
+use Rattle.std.proofs.Common.{◌≡◌, ◌<◌, ◌≤◌, length, sym, ◌∙◌, ap, arith}
 use Rattle.std.proofs.lemmas.List.{get_or_default}
 use Rattle.std.proofs.lemmas.Result.{err_from_is_err_and}
 use Rattle.mqtt_routes.specs.declared.subscription.TheConstants.{SUBSCRIPTION_LIMIT}
 use Rattle.mqtt_routes.specs.Subscriptions.{place_in, has_filter, put}
-use Rattle.mqtt_routes.proofs.PlaceLemmas.{place_in-below, place_in-most, put-at, put-push, not-there, refused-memory}
+use Rattle.mqtt_routes.proofs.PlaceLemmas.{place_in-most, put-at, put-push, not-there}
 use Rattle.mqtt_routes.proofs.subscriber.Subscriptions.put.Goals as goal
 
 pub returns-then-i-len-clause-ok : goal.returns-then-i-len-clause-ok

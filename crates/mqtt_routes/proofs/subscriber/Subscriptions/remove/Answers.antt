@@ -1,4 +1,4 @@
-use Rattle.std.proofs.Common.{◌≡◌, ℕ, ◌<◌, ◌≤◌, length, nat_lt, sym, ◌∙◌, ap, arith}
+use Rattle.std.proofs.Common.{◌≡◌, ◌<◌, ◌≤◌, length, nat_lt, sym, ◌∙◌, ap, arith}
 use Rattle.mqtt_routes.specs.Subscriptions.{place_in, has_filter, without}
 use Rattle.mqtt_routes.proofs.PlaceLemmas.{place_in-below, without-at, without-same}
 use Rattle.mqtt_routes.proofs.subscriber.Subscriptions.remove.Goals as goal

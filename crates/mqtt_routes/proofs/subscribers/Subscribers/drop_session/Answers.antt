@@ -1,5 +1,5 @@
-use Rattle.std.proofs.Common.{◌≡◌, ◌<◌, ◌≤◌, true, false, length, sym, ◌∙◌, ap, arith, remove}
-use Rattle.mqtt_routes.specs.Subscriptions.{Subscriber, spot_of, without_session}
+use Rattle.std.proofs.Common.{true, false, length, sym, ◌∙◌, ap, arith, remove}
+use Rattle.mqtt_routes.specs.Subscriptions.{spot_of}
 use Rattle.mqtt_routes.proofs.SpotLemmas.{at_spot, is_at-below, remove-without_session, without_session-none}
 use Rattle.mqtt_routes.proofs.subscribers.Subscribers.drop_session.Goals as goal
 

@@ -1,6 +1,5 @@
 use Rattle.std.proofs.Common.{◌≡◌, ◌<◌, ◌≤◌, false, length, nat_eq, nat_lt, sym, ◌∙◌, ap, arith}
 use Rattle.std.proofs.lemmas.Bool.Decides.{nat_tests}
-use Rattle.std.proofs.lemmas.List.{get_or_default}
 use Rattle.mqtt_routes.specs.Subscriptions.{Subscriber, is_at}
 use Rattle.mqtt_routes.proofs.SpotLemmas.{is_at-index, is_at-beyond}
 use Rattle.mqtt_routes.proofs.subscribers.Subscribers.is_at.Goals as goal

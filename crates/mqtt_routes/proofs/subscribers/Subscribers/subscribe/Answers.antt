@@ -1,4 +1,4 @@
-use Rattle.std.proofs.Common.{◌≡◌, ◌<◌, ◌≤◌, true, false, [], length, get_or, set, sym, ◌∙◌, ap, subst, refl, lit<, arith, IfErr}
+use Rattle.std.proofs.Common.{◌<◌, true, false, length, sym, ◌∙◌, ap, subst, refl, lit<, arith, IfErr}
 use Rattle.std.proofs.lemmas.List.{get_or_default}
 use Rattle.std.proofs.lemmas.Result.{err_from_is_err_and, on_ok_weaker}
 use Rattle.mqtt_routes.specs.Subscriptions.{Subscriber, is_at, spot_of, subs_of, put, subscribed, RefusesPut}

@@ -1,4 +1,4 @@
-use Rattle.std.proofs.Common.{◌≡◌, ◌<◌, ◌≤◌, true, false, length, get_or, set, sym, ◌∙◌, ap, arith}
+use Rattle.std.proofs.Common.{◌<◌, true, false, length, sym, ◌∙◌, ap, arith}
 use Rattle.std.proofs.lemmas.List.{get_or_default}
 use Rattle.mqtt_routes.specs.Subscriptions.{Subscriber, has_filter, is_at, spot_of, subs_of, unsubscribed}
 use Rattle.mqtt_routes.proofs.SpotLemmas.{at_spot, is_at-below, row_subs, subs_of-none, unsubscribed-there, unsubscribed-none}
