@@ -46,7 +46,7 @@ fn drain(framer: &mut Framer, tally: &mut Tally) -> Result<(), Fault> {
     'packets: loop {
         match framer.next() {
             Ok(Some((Packet::Publish(publish), _))) => tally.add(publish.payload.as_slice()),
-            Ok(Some((Packet::Pingreq, _))) => tally.add(b""),
+            Ok(Some(_)) => tally.add(b""),
             Ok(None) => return Ok(()),
             Err((fault, _)) => return Err(fault),
         }
