@@ -45,8 +45,10 @@ fn stream_of(alloc: Global, size: usize) -> Result<Vec<u8>, AllocError> {
 fn drain(framer: &mut Framer, tally: &mut Tally) -> Result<(), Fault> {
     'packets: loop {
         match framer.next() {
-            Ok(Some((Packet::Publish(publish), _))) => tally.add(publish.payload.as_slice()),
-            Ok(Some((Packet::Pingreq, _))) => tally.add(b""),
+            Ok(Some((packet, _place))) => match packet {
+                Packet::Publish(publish) => tally.add(publish.payload.as_slice()),
+                _other => tally.add(b""),
+            },
             Ok(None) => return Ok(()),
             Err((fault, _)) => return Err(fault),
         }

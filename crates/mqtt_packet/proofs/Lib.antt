@@ -3,3 +3,4 @@ pub mod Cuts
 pub mod Runs
 pub mod Shorter
 pub mod Wholes
+mod Examples

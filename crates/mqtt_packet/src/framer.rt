@@ -95,6 +95,7 @@ impl Framer {
 
     /// Gives the first whole packet and its place, if it has come, and holds it no longer. A payload
     /// shares the memory that the framer has read it into.
+    #[inline(always)]
     pub fn next(&mut self) -> Result<Option<(Packet, u64)>, (Fault, u64)>
         ensures found { IfOk result (λ found. Gives self.old found self.new) }
 
@@ -128,6 +129,7 @@ impl Framer {
 }
 
 /// Cuts the first whole packet off, if it has come. A payload is not copied.
+#[inline(always)]
 fn first_cut(bytes: &mut BytesMut, alloc: Global) -> Result<Option<(Packet, usize)>, Fault>
     ensures found { IfOk result (λ found. CutsFirst bytes.old.items found bytes.new.items) }
     ensures partial { IfOk result (λ found. IfNone found (length bytes.old.items < MAX_SIZE)) }
@@ -164,6 +166,7 @@ fn first_cut(bytes: &mut BytesMut, alloc: Global) -> Result<Option<(Packet, usiz
 }
 
 /// Cuts the first `size` bytes off, and gives the last `len` of these. Copies none of them.
+#[inline(always)]
 fn tail_cut(bytes: &mut BytesMut, size: usize, len: usize) -> Result<Bytes, AllocError>
     requires tail { len ≤ size }
     requires front { size ≤ length bytes.old.items }

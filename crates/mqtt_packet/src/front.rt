@@ -12,6 +12,7 @@ use mqtt_codec::{Fault, PacketRef, head_read, look_at};
 pub const MAX_SIZE: usize = 65_536;
 
 /// The size of the whole packet at the front, if it has come.
+#[inline(always)]
 #[tactic(auto, using(crate::proofs::Fronts::varint_wants), unfolding(crate::specs::Front::size_at))]
 fn size_read(bytes: &[u8]) -> Result<Option<usize>, Fault>
     ensures exact { result ≡ size_at bytes.now }
@@ -40,6 +41,7 @@ fn size_read(bytes: &[u8]) -> Result<Option<usize>, Fault>
     }
 }
 
+#[inline(always)]
 #[tactic(auto, unfolding(crate::specs::Front::first_of))]
 fn front_read(bytes: &[u8]) -> Result<Option<(PacketRef<'_>, usize)>, Fault>
     ensures exact { GivesFirst packet_of result (first_of bytes.now) }
@@ -55,6 +57,7 @@ fn front_read(bytes: &[u8]) -> Result<Option<(PacketRef<'_>, usize)>, Fault>
 }
 
 /// The first whole packet and its size, if it has come, or the fault that the bytes decide.
+#[inline(always)]
 pub(crate) fn first_read(bytes: &[u8]) -> Result<Option<(PacketRef<'_>, usize)>, Fault>
     ensures exact { GivesFirst packet_of result (first_of bytes.now) }
     ensures fits { IfOk result (λ found. IfSome found (λ x. Fits (packet_of x.0))) }

@@ -4,6 +4,8 @@
 mod framer;
 mod front;
 mod laws;
+#[cfg(test)]
+mod tests;
 
 pub use framer::Framer;
 pub use front::MAX_SIZE;

@@ -1,0 +1,339 @@
+//! What no clause says: that calls succeed, and values from outside.
+
+ghost use Rattle.std.specs.Prelude.{◌<◌};
+
+use crate::{Fault, Framer, MAX_SIZE, Packet, PacketRef, encode, lawful};
+use std::alloc::Global;
+use std::fmt::Write;
+use std::process::Abort;
+use std::test::Fail;
+
+/// The packets of a stream that comes in pieces of `step` bytes, each with its place and encoded,
+/// and then the fault with its place, or how many bytes are left.
+fn cut_text(alloc: Global, stream: &[u8], step: usize) -> Result<String, Fail>
+    requires { 0 < step }
+{
+    let mut text = String::new(alloc);
+    let mut framer = Framer::new(alloc);
+    for piece in stream.chunks(step) {
+        if let Err((fault, place)) = framer.feed(piece) {
+            write!(text, "{place} {fault:?} while it is fed")?;
+            return Ok(text);
+        }
+        for _ in 0..=stream.len() {
+            match framer.next() {
+                Ok(Some((packet, place))) => {
+                    write!(text, "{place} ")?;
+                    write_packet(&mut text, alloc, &packet)?;
+                    write!(text, ", ")?;
+                }
+                Ok(None) => break,
+                Err((fault, place)) => {
+                    write!(text, "{place} {fault:?}")?;
+                    return Ok(text);
+                }
+            }
+        }
+    }
+    let place = framer.place();
+    let held = framer.held();
+    write!(text, "{place} left {held}")?;
+    Ok(text)
+}
+
+fn write_packet(text: &mut String, alloc: Global, packet: &Packet) -> Result<(), Fail> {
+    if !lawful(packet) {
+        write!(text, "not lawful")?;
+        return Ok(());
+    }
+    match encode(alloc, packet) {
+        Ok(frame) => write_hex(text, frame.as_slice())?,
+        Err(fault) => write!(text, "{fault:?}")?,
+    }
+    Ok(())
+}
+
+fn write_hex(text: &mut String, bytes: &[u8]) -> Result<(), Fail> {
+    for byte in bytes {
+        write!(text, "{byte:02x}")?;
+    }
+    Ok(())
+}
+
+#[test]
+fn streams_are_cut_in_pieces_of_any_size(rt: HostRuntime) -> Result<(), Fail> {
+    let rows: [(&[u8], &str); 16] = [
+        (
+            &[0xc0, 0, 0x30, 7, 0, 3, 0x61, 0x2f, 0x62, 0, 0x21],
+            "0 c000, 2 30070003612f620021, 11 left 0",
+        ),
+        (
+            &[0x31, 5, 0, 2, 0x61, 0x62, 0],
+            "0 31050002616200, 7 left 0",
+        ),
+        (&[0xc0, 0, 0xd0, 0], "0 c000, 2 d000, 4 left 0"),
+        (
+            &[0x30, 8, 0, 3, 0x61, 0x2f, 0x62, 2, 1, 1, 0xd0],
+            "0 30080003612f62020101, 10 left 1",
+        ),
+        (&[0xc1, 0], "0 Malformed"),
+        // An empty topic without a Topic Alias (3.3.2.1).
+        (&[0x30, 4, 0, 0, 0, 0x21], "0 Protocol"),
+        (&[], "0 left 0"),
+        (&[0xc0], "0 left 1"),
+        // A first byte that is wrong is a fault by itself.
+        (&[0xc0, 0, 0x36], "0 c000, 2 Malformed"),
+        (&[0x60], "0 Malformed"),
+        (&[0x00], "0 Malformed"),
+        // A Remaining Length of two bytes that ends in 00, and one of five bytes (1.5.5).
+        (&[0xc0, 0x80, 0], "0 Malformed"),
+        (&[0x30, 0x80, 0x80, 0x80, 0x80], "0 Malformed"),
+        // 65,537 bytes are one too many, 65,536 are awaited.
+        (&[0x30, 0xfd, 0xff, 0x03], "0 TooLarge"),
+        (&[0x30, 0xfc, 0xff], "0 left 3"),
+        (&[0x30, 0xfc, 0xff, 0x03], "0 left 4"),
+    ];
+    for (stream, want) in rows {
+        for step in [1, 2, 3, 16] {
+            let text = cut_text(rt.alloc(), stream, step)?;
+            assert_eq!(rt; text.as_str(), want, "in pieces of {step}");
+        }
+    }
+    Ok(())
+}
+
+/// The bytes of a PUBLISH of 65,536 bytes, to the topic `a`.
+fn greatest(alloc: Global) -> Result<Vec<u8>, Fail> {
+    let mut bytes = Vec::from_slice(alloc, &[0x30, 0xfc, 0xff, 0x03, 0, 1, 0x61, 0])?;
+    bytes.resize(65_536, 0x7a)?;
+    Ok(bytes)
+}
+
+#[test]
+fn the_greatest_packet_is_read(rt: HostRuntime) -> Result<(), Fail> {
+    let bytes = greatest(rt.alloc())?;
+    assert_eq!(rt; bytes.len(), MAX_SIZE);
+    for step in [1, 4096, 65_536] {
+        let mut framer = Framer::new(rt.alloc());
+        for piece in bytes.as_slice().chunks(step) {
+            let Ok(None) = framer.next() else {
+                return Ok(assert!(rt; false, "no packet is whole, in pieces of {step}"));
+            };
+            let Ok(taken) = framer.feed(piece) else {
+                return Ok(assert!(rt; false, "no fault stands, in pieces of {step}"));
+            };
+            assert_eq!(rt; taken, piece.len());
+        }
+        let Ok(Some((Packet::Publish(publish), 0))) = framer.next() else {
+            return Ok(assert!(rt; false, "a PUBLISH is given, in pieces of {step}"));
+        };
+        assert_eq!(rt; publish.topic.as_str(), "a");
+        assert_eq!(rt; publish.payload.len(), 65_528);
+        assert_eq!(rt; (framer.held(), framer.place()), (0, 65_536));
+    }
+    Ok(())
+}
+
+#[test]
+fn a_full_framer_takes_no_more(rt: HostRuntime) -> Result<(), Fail> {
+    let bytes = greatest(rt.alloc())?;
+    let mut framer = Framer::new(rt.alloc());
+    let Ok(2) = framer.feed(&[0xc0, 0]) else {
+        return Ok(assert!(rt; false, "two bytes fit"));
+    };
+    let Ok(taken) = framer.feed(bytes.as_slice()) else {
+        return Ok(assert!(rt; false, "no fault stands"));
+    };
+    assert_eq!(rt; taken, 65_534);
+    let Ok(0) = framer.feed(&[0x61]) else {
+        return Ok(assert!(rt; false, "nothing fits"));
+    };
+    Ok(())
+}
+
+#[test]
+fn a_fault_stands_until_it_is_given_back(rt: HostRuntime) -> Result<(), Fail> {
+    let mut framer = Framer::new(rt.alloc());
+    let Ok(5) = framer.feed(&[0xc0, 0, 0xc0, 1, 0]) else {
+        return Ok(assert!(rt; false, "five bytes fit"));
+    };
+    let Ok(Some((PacketRef::Pingreq, 0))) = framer.look() else {
+        return Ok(assert!(rt; false, "a PINGREQ stands first"));
+    };
+    let Ok(Some((Packet::Pingreq, 0))) = framer.next() else {
+        return Ok(assert!(rt; false, "a PINGREQ is given"));
+    };
+    let Err((Fault::Malformed, 2)) = framer.look() else {
+        return Ok(assert!(rt; false, "a PINGREQ has no body"));
+    };
+    let Err((Fault::Malformed, 2)) = framer.feed(&[0]) else {
+        return Ok(assert!(rt; false, "the fault stands first"));
+    };
+    framer.give_back(2);
+    assert_eq!(rt; framer.held(), 1);
+    assert_eq!(rt; framer.place(), 2);
+    let Ok(None) = framer.next() else {
+        return Ok(assert!(rt; false, "one byte waits"));
+    };
+    let Ok(1) = framer.feed(&[0]) else {
+        return Ok(assert!(rt; false, "no fault stands"));
+    };
+    let Ok(Some((Packet::Pingreq, 2))) = framer.next() else {
+        return Ok(assert!(rt; false, "a PINGREQ is given"));
+    };
+    Ok(())
+}
+
+/// The same with the Nth growth refused: after want of memory the framer is as it was.
+#[test]
+fn after_want_of_memory_the_framer_is_as_it_was(rt: HostRuntime) -> Result<(), Fail> {
+    let mut framer = Framer::new(rt.alloc());
+    let stream = [0xc0, 0, 0x30, 7, 0, 3, 0x61, 0x2f, 0x62, 0, 0x21];
+    for _ in 0..2 {
+        match framer.feed(&stream) {
+            Ok(taken) => {
+                assert_eq!(rt; taken, 11);
+                break;
+            }
+            Err((fault, place)) => {
+                assert_eq!(rt; (fault, place), (Fault::Memory, 0));
+                assert_eq!(rt; framer.held(), 0);
+            }
+        }
+    }
+    let mut is_given = false;
+    for _ in 0..4 {
+        let (held, place) = (framer.held(), framer.place());
+        match framer.next() {
+            Ok(Some((packet, place))) => match packet {
+                Packet::Publish(publish) => {
+                    assert_eq!(rt; place, 2);
+                    assert_eq!(rt; publish.topic.as_str(), "a/b");
+                    assert_eq!(rt; publish.payload.as_slice(), b"!".as_slice());
+                    is_given = true;
+                }
+                _ => assert_eq!(rt; place, 0),
+            },
+            Ok(None) => break,
+            Err(fault) => {
+                assert_eq!(rt; fault, (Fault::Memory, place));
+                assert_eq!(rt; framer.held(), held);
+                assert_eq!(rt; framer.place(), place);
+            }
+        }
+    }
+    assert!(rt; is_given);
+    Ok(())
+}
+
+/// Frames, each with the frame that its packet is encoded to, or with its fault.
+fn vectors() -> [(&'static [u8], Result<&'static [u8], Fault>); 22] {
+    [
+        (b"\xc0\x00", Ok(b"\xc0\x00")),
+        (b"\x30\x07\x00\x03a/b\x00!", Ok(b"\x30\x07\x00\x03a/b\x00!")),
+        (b"\x40\x03\x00\x0a\x00", Ok(b"\x40\x02\x00\x0a")),
+        (
+            b"\x10\x0d\x00\x04MQTT\x05\x02\x00\x3c\x00\x00\x00",
+            Ok(b"\x10\x0d\x00\x04MQTT\x05\x02\x00\x3c\x00\x00\x00"),
+        ),
+        (
+            b"\x20\x17\x00\x00\x14\x12\x00\x06auto-1\x21\x00\x14\x22\x00\x0a\x27\x00\x01\x00\x00",
+            Ok(
+                b"\x20\x17\x00\x00\x14\x12\x00\x06auto-1\x21\x00\x14\x22\x00\x0a\x27\x00\x01\x00\x00",
+            ),
+        ),
+        (
+            b"\x82\x09\x00\x01\x00\x00\x03a/b\x02",
+            Ok(b"\x82\x09\x00\x01\x00\x00\x03a/b\x02"),
+        ),
+        (b"\x90\x04\x00\x01\x00\x02", Ok(b"\x90\x04\x00\x01\x00\x02")),
+        (b"\xe0\x01\x93", Ok(b"\xe0\x01\x93")),
+        (b"\x50\x03\x00\x0a\x10", Ok(b"\x50\x03\x00\x0a\x10")),
+        (
+            b"\x34\x0e\x00\x03a/b\x00\x01\x04\x0b\x01\x0b\x02hi",
+            Ok(b"\x34\x0e\x00\x03a/b\x00\x01\x04\x0b\x01\x0b\x02hi"),
+        ),
+        (b"\xf0\x02\x18\x00", Err(Fault::Protocol)),
+        (b"\x60\x02\x00\x0a", Err(Fault::Malformed)),
+        (b"\x36\x0a\x00\x03a/b\x00\x0a\x00hi", Err(Fault::Malformed)),
+        (b"\x82\x03\x00\x01\x00", Err(Fault::Protocol)),
+        (b"\x30\x08\x00\x03a/b\x02\x01\x02", Err(Fault::Protocol)),
+        (
+            b"\x30\x0b\x00\x03a/b\x05\x18\x00\x00\x00\x05",
+            Err(Fault::Malformed),
+        ),
+        (
+            b"\x30\x0a\x00\x03a/b\x04\x01\x00\x01\x00",
+            Err(Fault::Protocol),
+        ),
+        (b"\x34\x08\x00\x03a/b\x00\x00\x00", Err(Fault::Protocol)),
+        (
+            b"\x10\x0d\x00\x04MQTT\x04\x02\x00\x3c\x00\x00\x00",
+            Err(Fault::Version),
+        ),
+        (b"\xd0\x80\x00", Err(Fault::Malformed)),
+        (b"\x40\x03\x00\x0a\x01", Err(Fault::Malformed)),
+        (b"\x30\xfd\xff\x03", Err(Fault::TooLarge)),
+    ]
+}
+
+#[test]
+fn each_vector_gives_its_packet_or_its_fault(rt: HostRuntime) -> Result<(), Fail> {
+    for (frame, gives) in vectors() {
+        let len = frame.len();
+        let mut want = String::new(rt.alloc());
+        match gives {
+            Ok(encoded) => {
+                write!(want, "0 ")?;
+                write_hex(&mut want, encoded)?;
+                write!(want, ", {len} left 0")?;
+            }
+            Err(fault) => write!(want, "0 {fault:?}")?,
+        }
+        for step in [1, 64] {
+            let text = cut_text(rt.alloc(), frame, step)?;
+            assert_eq!(rt; text.as_str(), want.as_str(), "in pieces of {step}");
+        }
+    }
+    Ok(())
+}
+
+/// In one piece and byte by byte the stream gives the same packets, fault and place.
+fn assert_cut_is_one(rt: &impl Abort, alloc: Global, stream: &[u8]) -> Result<(), Fail> {
+    let whole = cut_text(alloc, stream, 64)?;
+    let bytewise = cut_text(alloc, stream, 1)?;
+    assert_eq!(rt; bytewise.as_str(), whole.as_str());
+    Ok(())
+}
+
+#[test]
+fn each_front_of_a_vector_is_cut_in_one_way(rt: HostRuntime) -> Result<(), Fail> {
+    let mut count: u32 = 0;
+    for (frame, _) in vectors() {
+        for len in 0..frame.len() {
+            assert_cut_is_one(&rt, rt.alloc(), &frame[..len])?;
+            count = count.wrapping_add(1);
+        }
+    }
+    assert_eq!(rt; count, 194);
+    Ok(())
+}
+
+#[test]
+fn each_vector_with_one_byte_changed_is_cut_in_one_way(rt: HostRuntime) -> Result<(), Fail> {
+    let mut count: u32 = 0;
+    for (frame, _) in vectors() {
+        for at in 0..frame.len() {
+            for change in 1..=255 {
+                let mut changed = Vec::from_slice(rt.alloc(), frame)?;
+                if let Some(byte) = changed.as_mut_slice().get_mut(at) {
+                    *byte ^= change;
+                }
+                assert_cut_is_one(&rt, rt.alloc(), changed.as_slice())?;
+                count = count.wrapping_add(1);
+            }
+        }
+    }
+    assert_eq!(rt; count, 49_470);
+    Ok(())
+}
