@@ -66,7 +66,7 @@ queue_of-after (Repeat i) ls = queue_of-same (Repeat i) (λ e m. refl) ls
 queue_of-after (Unknown i) ls = queue_of-same (Unknown i) (λ e m. refl) ls
 queue_of-after (Leave place ending) ls = queue_of-leave place ending ls
 
-ascends_by : (t : Turn) (queue : List Entry) → Ascends queue → Ascends (after t queue)
+pub ascends_by : (t : Turn) (queue : List Entry) → Ascends queue → Ascends (after t queue)
 ascends_by (Send place i) queue h = ascends-marked (Send place i) queue h
 ascends_by (Resend place i) queue h = ascends-marked (Resend place i) queue h
 ascends_by (Release place i order) queue h = ascends-marked (Release place i order) queue h
@@ -74,9 +74,6 @@ ascends_by (Outgrow place i order) queue h = ascends-marked (Outgrow place i ord
 ascends_by (Repeat i) queue h = h
 ascends_by (Unknown i) queue h = h
 ascends_by (Leave place ending) queue h = ascends-filter (λ e. not (nat_eq e.place place)) queue h
-
-pub Placed : List Lot → Type 0
-Placed ls = Ascends (queue_of ls)
 
 pub placed-after : (t : Turn) (ls : List Lot) → Ascends (queue_of ls) → Ascends (queue_of (lots_after t ls))
 placed-after t ls h = rw (queue_of-after t ls) (ascends_by t (queue_of ls) h)

@@ -17,5 +17,5 @@ pub use entry::{
     Entry, Full, LAST_NUMBER, PUMP_LIMIT, QUEUE_LIMIT, QueueLimits, QueuedCopy, Turn, Way,
 };
 pub use fault::FlowFault;
-pub use outbound_laws::outbound_once;
+pub use outbound_laws::{outbound_once, pump_in_order};
 pub use outflow::Outflow;

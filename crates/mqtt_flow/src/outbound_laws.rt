@@ -2,8 +2,20 @@
 
 ghost use Rattle.std.specs.Prelude.{ℕ, List};
 ghost use Rattle.mqtt_base.specs.declared.Ending.TheVariants.{Expired, Dropped};
+ghost use Rattle.mqtt_flow.specs.declared.entry.Entry.{Entry};
+ghost use Rattle.mqtt_flow.specs.declared.entry.Way.{Way};
+ghost use Rattle.mqtt_flow.specs.FreeIdentifier.{free_identifier};
+ghost use Rattle.mqtt_flow.specs.Pumping.{InQueueOrder, WithinWindow, IsLowestFree};
 ghost use Rattle.mqtt_flow.specs.OutboundWorld.{Event, run, start};
 ghost use Rattle.mqtt_flow.specs.OutboundCourse.{Once, TakenOnce, ReleasedOnce, Unhanded, InOrder, GoOn, Carried, TakenRead};
+
+/// Every pump sends in the order of the queue, fills the client's window at most, and gives the lowest free identifiers
+/// (2.2.1, 4.6, 4.9).
+pub fn pump_in_order()
+    ensures order { (way : Way) (queue : List Entry) → InQueueOrder way queue }
+    ensures window { (way : Way) (queue : List Entry) → WithinWindow way queue }
+    ensures identifier { (used : List ℕ) → IsLowestFree used (free_identifier used) }
+{}
 
 /// Whatever happens on the lines of a receiver and to the broker: no copy is handed over twice, one whose PUBREC was
 /// taken is handed over once, with its publication's topic and payload and in the order of the queue; each copy waits
