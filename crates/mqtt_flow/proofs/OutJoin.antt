@@ -1,26 +1,18 @@
 -- What a session does by its rules is what becomes of its copies: each step of the session's world is some steps of the
 -- world of the copies.
-use Rattle.std.proofs.Common.{◌≡◌, ◌⊎◌, ⊎_elim, inl, inr, ℕ, zero, suc, ◌≤◌, ◌<◌, ◌+◌, Bool, true, false, cond, not, List, [], ◌∷◌, ◌++◌, length, map, filter, nat_eq, nat_lt, nat_le, refl, sym, ap, subst, ◌∙◌, arith, Option, Some, None, find, append_assoc}
+use Rattle.std.proofs.Common.{◌≡◌, ⊎_elim, ℕ, suc, ◌<◌, ◌+◌, Bool, true, false, not, List, [], ◌∷◌, ◌++◌, length, map, filter, nat_eq, refl, ap, ◌∙◌, arith}
 use Rattle.std.proofs.lemmas.Bool.Decides.{nat_tests}
 use Rattle.mqtt_base.specs.declared.Ending.{Ending}
-use Rattle.mqtt_base.specs.declared.Ending.TheVariants.{Taken, Refused, Expired, TooLarge, SessionEnded, Dropped}
-use Rattle.mqtt_base.specs.declared.Qos.{Qos}
-use Rattle.mqtt_base.specs.declared.Qos.TheVariants.{AtMostOnce, AtLeastOnce, ExactlyOnce}
 use Rattle.mqtt_base.specs.declared.Phase.{Phase}
 use Rattle.mqtt_base.specs.declared.Phase.TheVariants.{Waiting, Sent, Released, Oversize}
 use Rattle.mqtt_flow.specs.declared.entry.Entry.{Entry}
-use Rattle.mqtt_flow.specs.declared.entry.QueuedCopy.{QueuedCopy}
-use Rattle.mqtt_flow.specs.declared.entry.QueueLimits.{QueueLimits}
 use Rattle.mqtt_flow.specs.declared.entry.Turn.{Turn}
 use Rattle.mqtt_flow.specs.declared.entry.Turn.TheVariants.{Send, Resend, Release, Outgrow, Repeat, Unknown, Leave}
-use Rattle.mqtt_flow.specs.declared.entry.Way.{Way}
 use Rattle.mqtt_flow.specs.Queue.{marked, after, Above, Ascends}
-use Rattle.mqtt_flow.specs.Outbound.{unsent}
-use Rattle.mqtt_flow.specs.Receiver.{Body, Output, connack, no_connack, publish, pubrel, disconnect, Answer, Hop, goes}
-use Rattle.mqtt_flow.proofs.Lives.{Life, waiting, in_flight, ended, sent, released, anew, cut, Lapse, cause, lapsed, lapse_at, pumped, pump_sends}
+use Rattle.mqtt_flow.specs.Receiver.{Body, publish}
+use Rattle.mqtt_flow.proofs.Lives.{Life, waiting, in_flight, ended, sent, released, Lapse, lapsed, lapse_at, pumped, pump_sends}
 use Rattle.mqtt_flow.proofs.LivesWorld as lives
-use Rattle.mqtt_flow.specs.OutboundWorld.{Message, Lot, standing, past, queue_of, World, body, is_twice, ended_by, lot_after, lots_after, sent_at, sends, packets, told, take_turn, take_turns, renewed}
-use Rattle.mqtt_flow.specs.OutboundWorld as world
+use Rattle.mqtt_flow.specs.OutboundWorld.{Message, Lot, standing, past, queue_of, World, body, lot_after, lots_after, sends}
 use Rattle.mqtt_flow.proofs.OutIds.{test_cases, same_id}
 use Rattle.mqtt_flow.proofs.OutQueue.{ascends-marked, ascends-filter}
 

@@ -1,5 +1,5 @@
 -- Every pump keeps to the order of the queue and to the window, and gives the lowest free identifier.
-use Rattle.std.proofs.Common.{◌≡◌, ◌≢◌, ◌⊎◌, ⊎_elim, inl, inr, ℕ, zero, suc, ◌≤◌, ◌<◌, ◌+◌, ◌-◌, max, Bool, true, false, cond, not, List, [], ◌∷◌, length, map, filter, count_by, nat_eq, refl, sym, ap, subst, ◌∙◌, arith}
+use Rattle.std.proofs.Common.{◌≡◌, ◌≢◌, ⊎_elim, ℕ, zero, suc, ◌≤◌, ◌<◌, ◌+◌, max, Bool, true, false, cond, not, List, [], ◌∷◌, length, map, filter, nat_eq, refl, sym, ap, subst, arith}
 use Rattle.std.proofs.lemmas.Bool.Decides.{nat_tests}
 use Rattle.std.proofs.lemmas.List.Sums.{sum_by-cons}
 use Rattle.mqtt_base.specs.declared.Phase.{Phase}
@@ -13,7 +13,7 @@ use Rattle.mqtt_flow.specs.declared.pump.Step.TheVariants.{Stop, GoOn, Take}
 use Rattle.mqtt_flow.specs.FreeIdentifier.{has, lowest, free_identifier}
 use Rattle.mqtt_flow.specs.Pacing.{Pacing}
 use Rattle.mqtt_flow.specs.Queue.{Above, Ascends, in_window, marked, after, after_all}
-use Rattle.mqtt_flow.specs.Outbound.{Verdict, pass, end, outgrow, send, resend, in_room, step_on, step_by, verdict, pump_step, paced, then_on, pump_from, pump, pace}
+use Rattle.mqtt_flow.specs.Outbound.{Verdict, pass, end, outgrow, send, resend, in_room, step_on, step_by, verdict, pump_step, paced, then_on, pump_from, pace}
 use Rattle.mqtt_flow.specs.Pumping.{PublishesAbove, InQueueOrder, WithinWindow, IsLowestFree}
 use Rattle.mqtt_flow.proofs.OutIds.{test_cases, free_is_free}
 use Rattle.mqtt_flow.proofs.OutJoin.{ascends_by}

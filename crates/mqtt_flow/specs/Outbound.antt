@@ -1,5 +1,5 @@
 -- The session rules for outbound copies: what a session does with its queue (MQTT 5.0, 4.3, 4.4, 4.6, 4.9).
-use Rattle.std.specs.Prelude.{◌≡◌, ℕ, zero, suc, ◌+◌, ◌-◌, ◌/◌, Bool, true, false, cond, not, ◌&&◌, List, [], ◌∷◌, ◌++◌, length, map, count_by, nat_eq, nat_lt, nat_le, Option, Some, None, Result, Ok, Err}
+use Rattle.std.specs.Prelude.{◌≡◌, ℕ, zero, suc, ◌+◌, ◌-◌, ◌/◌, Bool, true, false, cond, not, ◌&&◌, List, [], ◌∷◌, ◌++◌, length, map, count_by, nat_lt, nat_le, Option, Some, None, Result, Ok, Err}
 use Rattle.mqtt_base.specs.declared.Phase.{Phase}
 use Rattle.mqtt_base.specs.declared.Phase.TheVariants.{Waiting, Sent, Released, Oversize}
 use Rattle.mqtt_base.specs.declared.Ending.{Ending}
@@ -22,7 +22,7 @@ use Rattle.mqtt_flow.specs.declared.pump.Step.{Step}
 use Rattle.mqtt_flow.specs.declared.pump.Step.TheVariants.{Stop, GoOn, Take}
 use Rattle.mqtt_flow.specs.FreeIdentifier.{closed_in, free_identifier}
 use Rattle.mqtt_flow.specs.Pacing.{Pacing}
-use Rattle.mqtt_flow.specs.Queue.{identifiers, holder, order_of, next_order, in_window, entering, after, after_all, order_given}
+use Rattle.mqtt_flow.specs.Queue.{identifiers, holder, next_order, in_window, entering, after, after_all, order_given}
 
 -- Entering. Copies that wait and stood before this step give way in a full queue (ours).
 abbrev pub is_waiting : Phase → Bool
