@@ -22,9 +22,9 @@ struct Open;
 
 impl Sessions for Open {
     ghost answers = { λ _. record {
-        room = λ birth. 1000;
-        is_connected = λ birth. true;
-        is_named = λ birth client. false
+      room = λ birth. 1000;
+      is_connected = λ birth. true;
+      is_named = λ birth client. false;
     } };
 
     fn room(&self, _birth: u64) -> u32 {
@@ -84,7 +84,8 @@ fn main(rt: HostRuntime) -> anyhow::Result<()> {
             let routed = routes.route("bench", &topic, 1, false, &Open)?;
             anyhow::ensure!(routed.direct().len() == 1, "one copy was meant");
         }
-        let nanos = rt.process_cpu_time()?.saturating_sub(begun).as_nanos() / u128::from(calls.max(1));
+        let nanos = rt.process_cpu_time()?.saturating_sub(begun).as_nanos()
+            / u128::from(calls.max(1));
         println!(rt; "{count:>14} {nanos:>16}")?;
     }
     println!(rt; "{:>14} {:>16}", "topics", "look-up, ns")?;
@@ -97,7 +98,8 @@ fn main(rt: HostRuntime) -> anyhow::Result<()> {
             let found = routes.retained_for(&filter)?;
             anyhow::ensure!(found.len() == 1, "one message was meant");
         }
-        let nanos = rt.process_cpu_time()?.saturating_sub(begun).as_nanos() / u128::from(calls.max(1));
+        let nanos = rt.process_cpu_time()?.saturating_sub(begun).as_nanos()
+            / u128::from(calls.max(1));
         println!(rt; "{count:>14} {nanos:>16}")?;
     }
     Ok(())

@@ -1,5 +1,5 @@
 -- A session's copies, and what answers and connections do to them.
-use Rattle.std.specs.Prelude.{ℕ, zero, suc, Bool, true, false, List, [], ◌∷◌, ◌++◌, map, nat_eq, nat_lt, if◌then◌else◌, Option, Some, None}
+use Rattle.std.specs.Prelude.{ℕ, zero, suc, Bool, true, false, List, [], ◌∷◌, nat_eq, nat_lt, if◌then◌else◌, Option, Some, None}
 use Rattle.mqtt_base.specs.declared.Ending.{Ending}
 use Rattle.mqtt_base.specs.declared.Ending.TheVariants.{Taken, Refused, Expired, TooLarge, SessionEnded, Dropped}
 use Rattle.mqtt_flow.specs.Receiver.{Body, Output, publish, pubrel}

@@ -1,9 +1,9 @@
 -- How a copy may go on.
-use Rattle.std.specs.Prelude.{ℕ, Bool, List, [], ◌∷◌, ◌≡◌, ⊤, Option, Some, None, slice_get, option_map}
+use Rattle.std.specs.Prelude.{List, [], ◌∷◌, ◌≡◌, ⊤, Option, Some, None, slice_get, option_map}
 use Rattle.mqtt_base.specs.declared.Ending.{Ending}
 use Rattle.mqtt_base.specs.declared.Ending.TheVariants.{Taken, Refused, Expired, TooLarge, SessionEnded, Dropped}
-use Rattle.mqtt_flow.specs.Receiver.{Body, Handed}
-use Rattle.mqtt_flow.proofs.Lives.{Mark, Life, waiting, in_flight, ended, body_of}
+use Rattle.mqtt_flow.specs.Receiver.{Handed}
+use Rattle.mqtt_flow.proofs.Lives.{Life, waiting, in_flight, ended, body_of}
 
 -- the ends of a copy that was sent
 abbrev pub Of_sent : Ending → Type 0

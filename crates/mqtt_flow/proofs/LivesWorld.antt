@@ -1,7 +1,7 @@
 -- A hop seen from its copies: what becomes of each, and of the lines and the receiver.
-use Rattle.std.specs.Prelude.{ℕ, zero, suc, ◌+◌, ◌<◌, Bool, true, false, cond, not, ◌||◌, List, [], ◌∷◌, ◌++◌, map, nat_eq, nat_lt, if◌then◌else◌, All, ⊤}
+use Rattle.std.specs.Prelude.{ℕ, zero, suc, Bool, true, false, List, [], ◌∷◌, ◌++◌, map, if◌then◌else◌}
 use Rattle.mqtt_flow.specs.FreeIdentifier.{has, free_identifier}
-use Rattle.mqtt_flow.specs.Receiver.{Body, Output, connack, no_connack, pubrel, disconnect, Answer, connect, puback, pubrec, pubcomp, Link, away, Hop, goes, spared, leaves, down_comes, gives_up, joins}
+use Rattle.mqtt_flow.specs.Receiver.{Body, Output, connack, no_connack, disconnect, Answer, connect, puback, pubrec, pubcomp, away, Hop, goes, spared, leaves, down_comes, gives_up, joins}
 use Rattle.mqtt_flow.proofs.Lives.{Life, waiting, pids, find, pumped, pump_sends, anew, pubrels, cut, Lapse, lapse_at, answered, on_puback, on_pubrec, on_pubcomp, Reply, wrong, says, puback_reply, pubrec_reply, pubcomp_reply}
 
 -- a phase for each copy that entered, by its number

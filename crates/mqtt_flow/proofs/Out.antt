@@ -1,5 +1,5 @@
 -- Where the handshake of one identifier of a session's queue stands, seen with its receiver.
-use Rattle.std.proofs.Common.{◌≡◌, ◌⊎◌, inl, inr, ⊎_elim, ℕ, zero, suc, ◌+◌, ◌<◌, ◌≤◌, Bool, true, false, cond, ◌&&◌, List, [], ◌∷◌, ◌++◌, length, map, nat_eq, if◌then◌else◌, filter, refl, sym, ap, ◌∙◌, subst, arith, Option, Some, None, slice_get, append_assoc, add-zero, eqb-true}
+use Rattle.std.proofs.Common.{◌≡◌, ◌⊎◌, inl, inr, ⊎_elim, ℕ, zero, suc, ◌+◌, ◌<◌, ◌≤◌, Bool, true, false, cond, ◌&&◌, List, [], ◌∷◌, ◌++◌, length, nat_eq, if◌then◌else◌, filter, refl, sym, ap, ◌∙◌, arith, Option, Some, None, slice_get, append_assoc, add-zero, eqb-true}
 use Rattle.std.specs.List.{list_any}
 use Rattle.std.proofs.lemmas.Bool.Decides.{nat_tests}
 use Rattle.mqtt_flow.specs.FreeIdentifier.{has}

@@ -1,5 +1,5 @@
 -- The answers of a receiver, seen from the copies.
-use Rattle.std.proofs.Common.{◌≡◌, ◌⊎◌, ⊎_elim, inl, inr, ℕ, zero, suc, ◌≤◌, ◌<◌, ◌+◌, Bool, true, false, cond, not, List, [], ◌∷◌, ◌++◌, length, map, nat_eq, nat_lt, nat_le, if◌then◌else◌, refl, sym, ap, subst, ◌∙◌, arith, Option, Some, None, Result, Ok, Err, append-nil, eqb-true}
+use Rattle.std.proofs.Common.{◌≡◌, ⊎_elim, ℕ, suc, ◌≤◌, ◌+◌, Bool, true, false, List, [], ◌∷◌, ◌++◌, length, map, nat_eq, nat_lt, if◌then◌else◌, refl, sym, ap, subst, ◌∙◌, arith, Some, None, Ok, Err, append-nil, eqb-true}
 use Rattle.std.proofs.lemmas.Bool.Decides.{nat_tests}
 use Rattle.mqtt_base.specs.declared.Ending.{Ending}
 use Rattle.mqtt_base.specs.declared.Ending.TheVariants.{Taken, Refused, TooLarge}
@@ -14,8 +14,8 @@ use Rattle.mqtt_flow.specs.declared.fault.FlowFault.TheVariants.{WrongStep}
 use Rattle.mqtt_flow.specs.Queue.{Ascends, holder, is_holder, next_order}
 use Rattle.mqtt_flow.specs.Outbound as rules
 use Rattle.mqtt_flow.specs.Outbound.{is_refusal, outcome}
-use Rattle.mqtt_flow.specs.Receiver.{Body, Output, pubrel, disconnect, Answer, goes}
-use Rattle.mqtt_flow.proofs.Lives.{Life, waiting, Mark, sent, released, in_flight, ended, find, Lapse, answered, on_puback, on_pubrec, on_pubcomp, Turn as Course, Reply, wrong, says, puback_reply, pubrec_reply, pubcomp_reply}
+use Rattle.mqtt_flow.specs.Receiver.{Body, Output, pubrel, Answer, goes}
+use Rattle.mqtt_flow.proofs.Lives.{Life, waiting, Mark, in_flight, ended, find, answered, on_puback, on_pubrec, on_pubcomp, Turn as Course, Reply, wrong, says, puback_reply, pubrec_reply, pubcomp_reply}
 use Rattle.mqtt_flow.proofs.LivesWorld as lives
 use Rattle.mqtt_flow.specs.OutboundWorld.{Message, Lot, standing, past, queue_of, World, body, lot_after, lots_after, packets, told, replied, replied_old}
 use Rattle.mqtt_flow.proofs.OutIds.{test_cases, same_id}

@@ -1,12 +1,12 @@
 -- The ledger has what the copies carry.
-use Rattle.std.proofs.Common.{◌≡◌, ◌⊎◌, inl, inr, ⊎_elim, ℕ, zero, suc, Bool, true, false, List, [], ◌∷◌, ◌++◌, map, nat_eq, if◌then◌else◌, refl, sym, ap, ◌∙◌, subst, Option, Some, None, slice_get, option_map}
-use Rattle.mqtt_flow.specs.FreeIdentifier.{has, free_identifier}
-use Rattle.mqtt_flow.specs.Receiver.{Body, Output, connack, no_connack, publish, pubrel, disconnect, Answer, connect, puback, pubrec, pubcomp, Link, away, asked, live, Handed, ledger_after, read_publish, read_connack, leaves, down_comes, gives_up, joins}
-use Rattle.mqtt_flow.proofs.Lives.{Mark, sent, Life, in_flight, body_of, pids, find, answered, on_puback, on_pubrec, on_pubcomp, Reply, wrong, says, puback_reply, pubrec_reply, pubcomp_reply, waiting, ended}
+use Rattle.std.proofs.Common.{◌≡◌, inl, inr, ⊎_elim, ℕ, Bool, true, false, List, [], ◌∷◌, ◌++◌, refl, sym, ap, ◌∙◌, subst, Option, Some, None, slice_get, option_map}
+use Rattle.mqtt_flow.specs.FreeIdentifier.{has}
+use Rattle.mqtt_flow.specs.Receiver.{Body, Output, connack, no_connack, publish, pubrel, disconnect, Answer, connect, puback, pubrec, pubcomp, Link, away, asked, live, Handed, read_publish, read_connack, down_comes, gives_up, joins}
+use Rattle.mqtt_flow.proofs.Lives.{sent, Life, body_of, find, Reply, wrong, says, puback_reply, pubrec_reply, pubcomp_reply}
 use Rattle.mqtt_flow.proofs.LivesWorld.{World, Event, enter, finish, pump, to_broker, old_to_broker, to_end, give_up, break_line, make_line, close, close_old, restart, enters_in, pump_one, connects, connects_old, replied, replied_old, up_comes, old_comes, step, run, start}
-use Rattle.mqtt_flow.proofs.LivesCourse.{Next, Goes_on, Carries}
+use Rattle.mqtt_flow.proofs.LivesCourse.{Goes_on, Carries}
 use Rattle.mqtt_flow.proofs.OutIds.{test_cases}
-use Rattle.mqtt_flow.proofs.Out.{At, Stage, Inv, Norm, Fresh, Good, Blank, no_line, is_asked, was_shut, effective}
+use Rattle.mqtt_flow.proofs.Out.{At, Stage, Good, Blank, no_line, is_asked, was_shut, effective}
 use Rattle.mqtt_flow.proofs.OutEnd.{publish_came, the_copy, keeps, begins}
 use Rattle.mqtt_flow.proofs.OutCourse.{next_body, step_on}
 

@@ -1,17 +1,14 @@
 -- Each copy goes on as it may, and the ledger has what the copies carry.
-use Rattle.std.proofs.Common.{◌≡◌, ◌⊎◌, inl, inr, ⊎_elim, ℕ, zero, suc, Bool, true, false, List, [], ◌∷◌, ◌++◌, map, nat_eq, nat_lt, if◌then◌else◌, refl, sym, ap, ◌∙◌, subst, Option, Some, None, slice_get, option_map}
+use Rattle.std.proofs.Common.{◌≡◌, ℕ, zero, suc, Bool, true, false, List, [], ◌∷◌, ◌++◌, map, nat_lt, if◌then◌else◌, refl, sym, ap, ◌∙◌, subst, Option, Some, None, slice_get, option_map}
 use Rattle.std.proofs.lemmas.Option.{slice_get-map}
-use Rattle.mqtt_flow.specs.FreeIdentifier.{has, free_identifier}
 use Rattle.mqtt_base.specs.declared.Ending.{Ending}
-use Rattle.mqtt_base.specs.declared.Ending.TheVariants.{Taken, Refused, Expired, TooLarge, SessionEnded, Dropped}
+use Rattle.mqtt_base.specs.declared.Ending.TheVariants.{Taken, Refused}
 use Rattle.mqtt_flow.specs.Receiver.{Body, Output, Answer, connect, puback, pubrec, pubcomp, Link, away, asked, live, read_publish, read_connack, down_comes, gives_up, joins}
 use Rattle.mqtt_flow.proofs.Lives.{Mark, sent, released, Life, waiting, in_flight, ended, body_of, pids, find, pumped, anew, cut, Lapse, lapse_at, cause, Turn, stay, over, turned, answered, on_puback, on_pubrec, on_pubcomp, Reply, wrong, says, puback_reply, pubrec_reply, pubcomp_reply}
 use Rattle.mqtt_flow.proofs.LivesWorld.{World, Event, enter, finish, pump, to_broker, old_to_broker, to_end, give_up, break_line, make_line, close, close_old, restart, enters_in, pump_one, unused_of, connects, connects_old, replied, replied_old, up_comes, old_comes, step, run}
-use Rattle.mqtt_flow.proofs.LivesWorld as out
 use Rattle.mqtt_flow.specs.Receiver as q
 use Rattle.mqtt_flow.proofs.LivesCourse.{Of_sent, Next, Goes_on}
-use Rattle.mqtt_flow.proofs.OutIds.{test_cases}
-use Rattle.mqtt_flow.proofs.OutPump.{get_push, get_lapse, get_pumped}
+use Rattle.mqtt_flow.proofs.OutPump.{get_lapse, get_pumped}
 use Rattle.mqtt_flow.proofs.OutSteps.{get_answered}
 
 next_same : (f : Life) → Next f f

@@ -1,5 +1,5 @@
 -- The receiver reads, and what step the lines.
-use Rattle.std.proofs.Common.{◌≡◌, ◌⊎◌, ◌≢◌, inl, inr, ⊎_elim, ℕ, ◌+◌, ◌<◌, ◌≤◌, Bool, true, false, cond, ◌&&◌, ◌||◌, List, [], ◌∷◌, ◌++◌, map, nat_eq, nat_lt, if◌then◌else◌, refl, sym, ap, ◌∙◌, subst, arith, Option, Some, None, slice_get, option_map, append-nil, add-zero, zero-add, eqb-true, eq-eqb, true≢false, ltb-true, ltb-false}
+use Rattle.std.proofs.Common.{◌≡◌, ◌⊎◌, ◌≢◌, inl, inr, ⊎_elim, ℕ, ◌+◌, ◌<◌, ◌≤◌, Bool, true, false, cond, ◌&&◌, List, [], ◌∷◌, ◌++◌, nat_eq, nat_lt, if◌then◌else◌, refl, sym, ◌∙◌, subst, arith, Option, Some, None, slice_get, append-nil, add-zero, zero-add, eqb-true, eq-eqb, true≢false, ltb-true, ltb-false}
 use Rattle.std.specs.List.{list_any}
 use Rattle.std.proofs.lemmas.List.Elements.{filter-append, All-nil, All-push}
 use Rattle.std.proofs.lemmas.List.Folds.{list_any-append}
@@ -10,10 +10,10 @@ use Rattle.mqtt_base.specs.declared.Ending.{Ending}
 use Rattle.mqtt_base.specs.declared.Ending.TheVariants.{Taken, Refused, Expired, TooLarge, SessionEnded, Dropped}
 use Rattle.mqtt_flow.specs.Receiver.{Body, Output, connack, no_connack, publish, pubrel, disconnect, Answer, connect, puback, pubrec, pubcomp, Link, away, asked, live, Handed, goes, sent_on, handed, Rising, kept_after, ledger_after, read_publish, read_connack, leaves, down_comes, gives_up, joins}
 use Rattle.mqtt_flow.proofs.Lives.{Mark, sent, released, Life, waiting, in_flight, ended, anew}
-use Rattle.mqtt_flow.proofs.LivesWorld.{World, Event, enter, finish, pump, to_broker, old_to_broker, to_end, give_up, break_line, make_line, close, close_old, restart, up_comes, old_comes, step, start, run, connects_old}
+use Rattle.mqtt_flow.proofs.LivesWorld.{World, Event, enter, finish, pump, to_broker, old_to_broker, to_end, give_up, break_line, make_line, close, close_old, restart, old_comes, step, start, run, connects_old}
 use Rattle.mqtt_flow.proofs.OutIds.{test_cases, same_id, has-push, has-closed_same, has-closed_other}
-use Rattle.mqtt_flow.proofs.Out.{up_about, ups, downs, is_connect, Copy_of, Copy, held, Stage, free, idle, publishing, receiving, acking, releasing, completing, held_of, up_of, stale, down_of, open_of, Fits, AtMost, Way, At, Final, Told, Weak, Was_read, Read_end, Settled, Ready, Late, Olds, Calm, is_away, is_sent, is_shut, is_read, is_live, behind, effective, Done, Inv, Norm, Blank, no_line, is_asked, was_shut, Fresh, Good, at_most_none, at_most_more, at_head, late_olds, late_ups, ready_more, only, holder}
-use Rattle.mqtt_flow.proofs.OutPump.{by_id, way_some, way_none, way_same, downs-goes, same_stage, same_number, calm_goes, effective_goes, enters, lapses, pumps}
+use Rattle.mqtt_flow.proofs.Out.{up_about, ups, downs, is_connect, Copy, held, Stage, free, idle, publishing, receiving, acking, releasing, completing, held_of, up_of, down_of, open_of, Fits, AtMost, At, Told, Weak, Was_read, Read_end, Settled, Ready, Late, Olds, Calm, is_away, is_sent, is_shut, is_read, is_live, effective, Done, Inv, Norm, Blank, no_line, is_asked, was_shut, Fresh, Good, at_most_none, at_most_more, at_head, ready_more, only, holder}
+use Rattle.mqtt_flow.proofs.OutPump.{by_id, way_some, way_none, way_same, downs-goes, same_stage, same_number, effective_goes, enters, lapses, pumps}
 use Rattle.mqtt_flow.proofs.OutSteps.{again, ends_again, way_lost, told_anew, weak_anew, was_anew, settled_anew, told_weak}
 use Rattle.mqtt_flow.proofs.OutRead.{calm_close, map_done, map_none, ready_goes, norm_up, norm_old, fresh_up, no_old}
 

@@ -1,9 +1,9 @@
 -- Runs that go through.
-use Rattle.std.proofs.Common.{◌≡◌, ℕ, [], ◌∷◌, true, false, map, refl}
+use Rattle.std.proofs.Common.{◌≡◌, [], ◌∷◌, true, false, map, refl}
 use Rattle.mqtt_base.specs.declared.Ending.TheVariants.{Taken, SessionEnded, Expired}
 use Rattle.mqtt_flow.specs.Receiver.{Body, Handed}
-use Rattle.mqtt_flow.proofs.Lives.{Life, in_flight, sent, waiting, ended, is_late}
-use Rattle.mqtt_flow.proofs.LivesWorld.{enter, finish, pump, to_broker, old_to_broker, to_end, give_up, break_line, make_line, close, restart, run, start}
+use Rattle.mqtt_flow.proofs.Lives.{ended, is_late}
+use Rattle.mqtt_flow.proofs.LivesWorld.{enter, finish, pump, to_broker, old_to_broker, to_end, give_up, break_line, make_line, restart, run, start}
 
 abbrev two : Body
 two = record { twice = true; topic = 97 ∷ []; payload = 1 ∷ [] }

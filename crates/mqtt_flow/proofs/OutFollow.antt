@@ -1,32 +1,29 @@
 -- A pump, an expiry and a copy that enters, seen from the copies.
-use Rattle.std.proofs.Common.{◌≡◌, ◌⊎◌, ⊎_elim, inl, inr, ℕ, zero, suc, ◌≤◌, ◌<◌, ◌+◌, ◌||◌, Bool, true, false, cond, not, ◌&&◌, List, [], ◌∷◌, ◌++◌, length, map, nat_eq, nat_lt, refl, sym, ap, subst, ◌∙◌, arith, append_assoc}
+use Rattle.std.proofs.Common.{◌≡◌, ⊎_elim, ℕ, zero, suc, ◌+◌, ◌||◌, Bool, true, false, List, [], ◌∷◌, ◌++◌, length, map, nat_eq, nat_lt, refl, sym, ap, subst, ◌∙◌, arith}
 use Rattle.std.proofs.lemmas.Bool.Decides.{nat_tests}
 use Rattle.mqtt_base.specs.declared.Ending.{Ending}
-use Rattle.mqtt_base.specs.declared.Ending.TheVariants.{Expired, TooLarge, Dropped}
 use Rattle.mqtt_base.specs.declared.Qos.{Qos}
 use Rattle.mqtt_base.specs.declared.Qos.TheVariants.{AtMostOnce, AtLeastOnce, ExactlyOnce}
 use Rattle.mqtt_base.specs.declared.Phase.{Phase}
 use Rattle.mqtt_base.specs.declared.Phase.TheVariants.{Waiting, Sent, Released, Oversize}
 use Rattle.mqtt_flow.specs.declared.entry.Entry.{Entry}
 use Rattle.mqtt_flow.specs.declared.entry.QueuedCopy.{QueuedCopy}
-use Rattle.mqtt_flow.specs.declared.entry.QueueLimits.{QueueLimits}
 use Rattle.mqtt_flow.specs.declared.entry.Turn.{Turn}
-use Rattle.mqtt_flow.specs.declared.entry.Turn.TheVariants.{Send, Resend, Release, Outgrow, Repeat, Unknown, Leave}
+use Rattle.mqtt_flow.specs.declared.entry.Turn.TheVariants.{Send, Resend, Leave}
 use Rattle.mqtt_flow.specs.declared.entry.Way.{Way}
-use Rattle.mqtt_flow.specs.declared.pump.Step.{Step}
 use Rattle.mqtt_flow.specs.declared.pump.Step.TheVariants.{Stop, GoOn, Take}
 use Rattle.mqtt_flow.specs.FreeIdentifier.{has, free_identifier}
 use Rattle.mqtt_flow.specs.Pacing.{Pacing}
-use Rattle.mqtt_flow.specs.Queue.{Ascends, identifiers, also, identifier_of}
-use Rattle.mqtt_flow.specs.Outbound.{is_late, is_large, is_waiting, gives_way, dropped_at, dropped, expired_at, expired, pump_step, paced, then_on, pump_from, pump, pace}
-use Rattle.mqtt_flow.specs.Receiver.{Body, Output, publish, goes}
+use Rattle.mqtt_flow.specs.Queue.{Ascends}
+use Rattle.mqtt_flow.specs.Outbound.{is_late, is_large, pump_step}
+use Rattle.mqtt_flow.specs.Receiver.{publish, goes}
 use Rattle.mqtt_flow.proofs.Lives.{Life, waiting, in_flight, ended, sent, released, Lapse, is_dropped, cause, lapsed, lapse_at, pumped, pump_sends, pids}
 use Rattle.mqtt_flow.proofs.Lives as copies
 use Rattle.mqtt_flow.proofs.LivesWorld as lives
 use Rattle.mqtt_flow.proofs.LivesWorld.{unused_of}
-use Rattle.mqtt_flow.specs.OutboundWorld.{Message, Lot, standing, past, queue_of, World, body, lot_after, lots_after, sends, packets, told, take_turn, take_turns}
-use Rattle.mqtt_flow.proofs.OutIds.{test_cases, same_id, has-push, free_is_free}
-use Rattle.mqtt_flow.proofs.OutJoin.{life, life_by, seen, placed-after, IsAt, split-after, sends-split, misses_before, life-append, length-life, Passed, AllPassed, pumped-split, pump_sends-split, lapse_at-split}
+use Rattle.mqtt_flow.specs.OutboundWorld.{Message, Lot, standing, past, queue_of, World, body, lot_after, lots_after, sends, packets, told, take_turn}
+use Rattle.mqtt_flow.proofs.OutIds.{test_cases, same_id}
+use Rattle.mqtt_flow.proofs.OutJoin.{life, life_by, seen, placed-after, IsAt, split-after, sends-split, misses_before, life-append, Passed, AllPassed, pumped-split, pump_sends-split, lapse_at-split}
 
 -- a sent copy is within the receiver's Maximum Packet Size, since that is the same on each of its lines
 abbrev pub IsGranted : Qos → Type 0

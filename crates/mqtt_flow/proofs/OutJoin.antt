@@ -1,26 +1,18 @@
 -- What a session does by its rules is what becomes of its copies: each step of the session's world is some steps of the
 -- world of the copies.
-use Rattle.std.proofs.Common.{◌≡◌, ◌⊎◌, ⊎_elim, inl, inr, ℕ, zero, suc, ◌≤◌, ◌<◌, ◌+◌, Bool, true, false, cond, not, List, [], ◌∷◌, ◌++◌, length, map, filter, nat_eq, nat_lt, nat_le, refl, sym, ap, subst, ◌∙◌, arith, Option, Some, None, find, append_assoc}
+use Rattle.std.proofs.Common.{◌≡◌, ⊎_elim, ℕ, suc, ◌<◌, ◌+◌, Bool, true, false, not, List, [], ◌∷◌, ◌++◌, length, map, filter, nat_eq, refl, ap, ◌∙◌, arith}
 use Rattle.std.proofs.lemmas.Bool.Decides.{nat_tests}
 use Rattle.mqtt_base.specs.declared.Ending.{Ending}
-use Rattle.mqtt_base.specs.declared.Ending.TheVariants.{Taken, Refused, Expired, TooLarge, SessionEnded, Dropped}
-use Rattle.mqtt_base.specs.declared.Qos.{Qos}
-use Rattle.mqtt_base.specs.declared.Qos.TheVariants.{AtMostOnce, AtLeastOnce, ExactlyOnce}
 use Rattle.mqtt_base.specs.declared.Phase.{Phase}
 use Rattle.mqtt_base.specs.declared.Phase.TheVariants.{Waiting, Sent, Released, Oversize}
 use Rattle.mqtt_flow.specs.declared.entry.Entry.{Entry}
-use Rattle.mqtt_flow.specs.declared.entry.QueuedCopy.{QueuedCopy}
-use Rattle.mqtt_flow.specs.declared.entry.QueueLimits.{QueueLimits}
 use Rattle.mqtt_flow.specs.declared.entry.Turn.{Turn}
 use Rattle.mqtt_flow.specs.declared.entry.Turn.TheVariants.{Send, Resend, Release, Outgrow, Repeat, Unknown, Leave}
-use Rattle.mqtt_flow.specs.declared.entry.Way.{Way}
 use Rattle.mqtt_flow.specs.Queue.{marked, after, Above, Ascends}
-use Rattle.mqtt_flow.specs.Outbound.{unsent}
-use Rattle.mqtt_flow.specs.Receiver.{Body, Output, connack, no_connack, publish, pubrel, disconnect, Answer, Hop, goes}
-use Rattle.mqtt_flow.proofs.Lives.{Life, waiting, in_flight, ended, sent, released, anew, cut, Lapse, cause, lapsed, lapse_at, pumped, pump_sends}
+use Rattle.mqtt_flow.specs.Receiver.{Body, publish}
+use Rattle.mqtt_flow.proofs.Lives.{Life, waiting, in_flight, ended, sent, released, Lapse, lapsed, lapse_at, pumped, pump_sends}
 use Rattle.mqtt_flow.proofs.LivesWorld as lives
-use Rattle.mqtt_flow.specs.OutboundWorld.{Message, Lot, standing, past, queue_of, World, body, is_twice, ended_by, lot_after, lots_after, sent_at, sends, packets, told, take_turn, take_turns, renewed}
-use Rattle.mqtt_flow.specs.OutboundWorld as world
+use Rattle.mqtt_flow.specs.OutboundWorld.{Message, Lot, standing, past, queue_of, World, body, lot_after, lots_after, sends}
 use Rattle.mqtt_flow.proofs.OutIds.{test_cases, same_id}
 use Rattle.mqtt_flow.proofs.OutQueue.{ascends-marked, ascends-filter}
 
@@ -66,7 +58,7 @@ queue_of-after (Repeat i) ls = queue_of-same (Repeat i) (λ e m. refl) ls
 queue_of-after (Unknown i) ls = queue_of-same (Unknown i) (λ e m. refl) ls
 queue_of-after (Leave place ending) ls = queue_of-leave place ending ls
 
-ascends_by : (t : Turn) (queue : List Entry) → Ascends queue → Ascends (after t queue)
+pub ascends_by : (t : Turn) (queue : List Entry) → Ascends queue → Ascends (after t queue)
 ascends_by (Send place i) queue h = ascends-marked (Send place i) queue h
 ascends_by (Resend place i) queue h = ascends-marked (Resend place i) queue h
 ascends_by (Release place i order) queue h = ascends-marked (Release place i order) queue h
@@ -74,9 +66,6 @@ ascends_by (Outgrow place i order) queue h = ascends-marked (Outgrow place i ord
 ascends_by (Repeat i) queue h = h
 ascends_by (Unknown i) queue h = h
 ascends_by (Leave place ending) queue h = ascends-filter (λ e. not (nat_eq e.place place)) queue h
-
-pub Placed : List Lot → Type 0
-Placed ls = Ascends (queue_of ls)
 
 pub placed-after : (t : Turn) (ls : List Lot) → Ascends (queue_of ls) → Ascends (queue_of (lots_after t ls))
 placed-after t ls h = rw (queue_of-after t ls) (ascends_by t (queue_of ls) h)

@@ -1,24 +1,20 @@
 -- What holds of the copies holds of the session's world.
-use Rattle.std.proofs.Common.{◌≡◌, ℕ, ◌≤◌, ◌<◌, ◌+◌, Bool, true, false, List, [], ◌∷◌, map, refl, sym, ap, subst, ◌∙◌, arith, Option, Some, None, slice_get, option_map}
+use Rattle.std.proofs.Common.{◌≡◌, ℕ, ◌≤◌, Bool, List, [], ◌∷◌, map, refl, sym, ap, subst, ◌∙◌, arith, Option, Some, None, slice_get, option_map}
 use Rattle.std.proofs.lemmas.Option.{slice_get-map}
 use Rattle.mqtt_base.specs.declared.Ending.{Ending}
 use Rattle.mqtt_base.specs.declared.Ending.TheVariants.{Taken, Refused, Expired, TooLarge, SessionEnded, Dropped}
 use Rattle.mqtt_base.specs.declared.Phase.{Phase}
 use Rattle.mqtt_base.specs.declared.Phase.TheVariants.{Waiting, Sent, Released, Oversize}
-use Rattle.mqtt_base.specs.declared.Qos.TheVariants.{AtLeastOnce, ExactlyOnce}
-use Rattle.mqtt_flow.specs.declared.entry.Entry.{Entry}
-use Rattle.mqtt_flow.specs.Receiver.{Body, Handed, handed, Rising}
+use Rattle.mqtt_flow.specs.Receiver.{Body, Handed, handed}
 use Rattle.mqtt_flow.proofs.Lives.{Life, waiting, in_flight, ended, sent, released, body_of}
-use Rattle.mqtt_flow.proofs.LivesWorld as lives
 use Rattle.mqtt_flow.proofs.LivesCourse as course
-use Rattle.mqtt_flow.specs.OutboundWorld.{Message, Lot, standing, past, World, body, Event, start, run}
+use Rattle.mqtt_flow.specs.OutboundWorld.{Lot, standing, past, World, body, Event, start, run}
 use Rattle.mqtt_flow.specs.OutboundCourse.{MayFollow, EndsSent, MayEnd, Next, GoesOn, carried_by, Carries, Once, TakenOnce, ReleasedOnce, Unhanded, InOrder, GoOn, Carried, TakenRead}
 use Rattle.mqtt_flow.proofs.Out.{Final, Weak, Was_read, Good}
-use Rattle.mqtt_flow.proofs.OutEnd.{begins, runs, good_weak, good_was, good_rising}
+use Rattle.mqtt_flow.proofs.OutEnd.{begins, good_weak, good_was, good_rising}
 use Rattle.mqtt_flow.proofs.OutCourse.{run_on}
 use Rattle.mqtt_flow.proofs.OutCarry.{carried_all}
 use Rattle.mqtt_flow.proofs.OutJoin.{life, life_by, seen}
-use Rattle.mqtt_flow.proofs.OutFollow.{Leads}
 use Rattle.mqtt_flow.proofs.OutSession.{good_on, run_leads, sound_start}
 
 final_once : (e : Ending) (t : Bool) (c : ℕ) → Final e t c → c ≤ 1

@@ -1,16 +1,15 @@
 -- The broker reads, from either line.
-use Rattle.std.proofs.Common.{◌≡◌, ◌⊎◌, ◌≢◌, inl, inr, ⊎_elim, ℕ, ◌+◌, ◌<◌, ◌≤◌, Bool, true, false, cond, List, [], ◌∷◌, ◌++◌, map, nat_eq, nat_lt, if◌then◌else◌, refl, sym, ap, ◌∙◌, subst, arith, Option, Some, None, slice_get, option_map, append-nil, add-zero, zero-add, eqb-true, eq-eqb, true≢false}
+use Rattle.std.proofs.Common.{◌≡◌, ◌⊎◌, inl, inr, ℕ, ◌<◌, ◌≤◌, Bool, true, false, List, [], ◌∷◌, ◌++◌, map, nat_eq, if◌then◌else◌, refl, sym, ap, ◌∙◌, subst, Option, Some, slice_get, option_map, eqb-true}
 use Rattle.std.specs.List.{list_any}
 use Rattle.std.proofs.lemmas.Option.{slice_get-map}
-use Rattle.mqtt_flow.specs.FreeIdentifier.{has}
 use Rattle.mqtt_base.specs.declared.Ending.TheVariants.{Taken}
-use Rattle.mqtt_flow.specs.Receiver.{Body, Output, connack, no_connack, publish, pubrel, disconnect, Answer, connect, puback, pubrec, pubcomp, Link, away, asked, live, Handed, goes, handed, Rising, spared}
-use Rattle.mqtt_flow.proofs.Lives.{Mark, sent, released, Life, waiting, in_flight, ended, find, anew, pubrels, cut, Turn, stay, over, turned, answered, on_puback, on_pubrec, on_pubcomp, Reply, wrong, says, puback_reply, pubrec_reply, pubcomp_reply}
+use Rattle.mqtt_flow.specs.Receiver.{Body, Output, connack, no_connack, pubrel, disconnect, Answer, connect, puback, pubrec, pubcomp, Link, asked, live, goes, handed, Rising, spared}
+use Rattle.mqtt_flow.proofs.Lives.{Mark, sent, released, Life, in_flight, find, anew, pubrels, cut, Turn, stay, over, turned, answered, on_puback, on_pubrec, on_pubcomp, says, puback_reply, pubrec_reply, pubcomp_reply}
 use Rattle.mqtt_flow.proofs.LivesWorld.{World, arranged, made_new, resumed, connects, connects_old, replied, replied_old, up_comes, old_comes}
-use Rattle.mqtt_flow.proofs.OutIds.{test_cases, same_id}
-use Rattle.mqtt_flow.proofs.Out.{up_about, ups, downs, is_connect, Copy_of, Copy, held, Stage, free, idle, publishing, receiving, acking, releasing, completing, At, AtMost, Way, Told, Weak, Was_read, Settled, Ready, Late, Olds, Calm, is_away, is_sent, is_shut, is_read, is_live, effective, Done, Inv, Norm, Blank, no_line, is_asked, was_shut, Fresh, Good, late_olds, late_spared, late_ups, ready_more, ready_plain, Plain, ready_pubrels, first_of, find-held, only, none_in}
-use Rattle.mqtt_flow.proofs.OutPump.{by_id, way_some, way_none, way_same, way_goes, downs-goes, same_stage, same_number, goes_head, calm_goes, effective_goes}
-use Rattle.mqtt_flow.proofs.OutSteps.{again, begins_again, ends_again, held-cut, told_anew, weak_anew, was_anew, settled_anew, told_weak, weak_cut, was_cut, settled_cut, held-answered_same, get_answered, told_pubrec, told_puback, told_pubcomp, was_pubrec, was_puback, was_pubcomp, settled_pubrec, settled_puback, settled_pubcomp, pubrec_came, puback_came, pubcomp_came, swap, answer_each}
+use Rattle.mqtt_flow.proofs.OutIds.{same_id}
+use Rattle.mqtt_flow.proofs.Out.{ups, is_connect, Copy, held, Stage, free, releasing, At, Told, Weak, Was_read, Settled, Ready, Late, Olds, Calm, is_away, is_sent, is_shut, is_read, is_live, effective, Done, Inv, Norm, Blank, no_line, is_asked, was_shut, Fresh, Good, late_olds, late_spared, late_ups, ready_more, ready_plain, Plain, ready_pubrels, first_of, find-held, only}
+use Rattle.mqtt_flow.proofs.OutPump.{way_none, way_same, way_goes, downs-goes, same_stage, same_number, goes_head, effective_goes}
+use Rattle.mqtt_flow.proofs.OutSteps.{again, begins_again, ends_again, held-cut, told_anew, was_anew, settled_anew, told_weak, weak_cut, was_cut, settled_cut, held-answered_same, get_answered, told_pubrec, told_puback, told_pubcomp, was_pubrec, was_puback, was_pubcomp, settled_pubrec, settled_puback, settled_pubcomp, pubrec_came, puback_came, pubcomp_came, swap, answer_each}
 
 -- the lines
 pub calm_answer : {l : Link} {b st cl : Bool} {p : Answer} {rest : List Answer} {down : List Output} {old : List Answer} {kept : List ℕ} → is_connect p ≡ false → Calm l b st cl (p ∷ rest) down old kept → (l ≡ live) × Late old × (b ≡ true) × (list_any is_connect rest ≡ false)

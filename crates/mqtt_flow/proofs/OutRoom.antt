@@ -1,12 +1,8 @@
 -- Room for a copy that enters, and the orders that a session's turns give.
-use Rattle.std.proofs.Common.{◌≡◌, ◌⊎◌, ⊎_elim, inl, inr, ℕ, zero, suc, ◌≤◌, ◌<◌, ◌+◌, ◌-◌, max, min, Bool, true, false, cond, not, ◌&&◌, List, [], ◌∷◌, length, map, filter, count_by, nat_eq, nat_lt, refl, sym, ap, subst, ◌∙◌, arith}
+use Rattle.std.proofs.Common.{◌≡◌, ⊎_elim, ℕ, zero, suc, ◌≤◌, ◌<◌, ◌+◌, ◌-◌, true, false, cond, not, ◌&&◌, List, [], ◌∷◌, length, filter, count_by, nat_eq, nat_lt, refl, sym, ap, subst, ◌∙◌, arith}
 use Rattle.std.proofs.lemmas.Bool.Decides.{nat_tests}
 use Rattle.std.proofs.lemmas.List.Sums.{count_by-le-length, sum_by-cons}
-use Rattle.mqtt_base.specs.declared.Ending.{Ending}
-use Rattle.mqtt_base.specs.declared.Qos.{Qos}
-use Rattle.mqtt_base.specs.declared.Qos.TheVariants.{AtMostOnce, AtLeastOnce, ExactlyOnce}
 use Rattle.mqtt_base.specs.declared.Phase.{Phase}
-use Rattle.mqtt_base.specs.declared.Phase.TheVariants.{Waiting, Sent, Released, Oversize}
 use Rattle.mqtt_flow.specs.declared.entry.Entry.{Entry}
 use Rattle.mqtt_flow.specs.declared.entry.Full.{Full}
 use Rattle.mqtt_flow.specs.declared.entry.Full.TheVariants.{Refuse, Drop}
@@ -17,9 +13,9 @@ use Rattle.mqtt_flow.specs.declared.entry.Way.{Way}
 use Rattle.mqtt_flow.specs.declared.pump.Step.{Step}
 use Rattle.mqtt_flow.specs.declared.pump.Step.TheVariants.{Stop, GoOn, Take}
 use Rattle.mqtt_flow.specs.Pacing.{Pacing}
-use Rattle.mqtt_flow.specs.Queue.{after, after_all, order_given, greatest_given, greatest_order, greatest_place, next_order, Above, Ascends}
+use Rattle.mqtt_flow.specs.Queue.{after, after_all, order_given, greatest_given, greatest_place, next_order, Above, Ascends}
 use Rattle.mqtt_flow.specs.FreeIdentifier.{free_identifier}
-use Rattle.mqtt_flow.specs.Outbound.{gives_way, staying, has_room, pace, dropped_at, dropped, way_made, expired_at, expired, is_waiting, is_late, Verdict, pass, end, outgrow, send, resend, in_room, step_on, step_by, verdict, pump_step, paced, then_on, pump_from, pump}
+use Rattle.mqtt_flow.specs.Outbound.{gives_way, staying, has_room, pace, dropped, way_made, expired, is_waiting, is_late, Verdict, pass, end, outgrow, send, resend, in_room, step_on, step_by, verdict, pump_step, paced, then_on, pump_from, pump}
 use Rattle.mqtt_flow.proofs.OutIds.{test_cases, same_id}
 use Rattle.mqtt_flow.proofs.OutQueue.{places-filter, places-marked}
 

@@ -1,5 +1,5 @@
 -- Each step of a session's world, seen from the copies.
-use Rattle.std.proofs.Common.{◌≡◌, ◌⊎◌, ⊎_elim, inl, inr, ℕ, zero, suc, ◌≤◌, ◌<◌, ◌+◌, ◌-◌, Bool, true, false, cond, List, [], ◌∷◌, ◌++◌, length, map, nat_lt, refl, sym, ap, subst, ◌∙◌, arith, Option, Some, None}
+use Rattle.std.proofs.Common.{◌≡◌, ⊎_elim, inl, inr, ℕ, suc, ◌≤◌, ◌+◌, ◌-◌, Bool, true, false, cond, List, [], ◌∷◌, ◌++◌, length, map, nat_lt, refl, sym, ap, subst, ◌∙◌, arith}
 use Rattle.mqtt_base.specs.declared.Ending.TheVariants.{SessionEnded}
 use Rattle.mqtt_base.specs.declared.Qos.{Qos}
 use Rattle.mqtt_base.specs.declared.Qos.TheVariants.{AtMostOnce, AtLeastOnce, ExactlyOnce}
@@ -14,7 +14,7 @@ use Rattle.mqtt_flow.specs.declared.entry.Turn.TheVariants.{Repeat}
 use Rattle.mqtt_flow.specs.Queue.{Ascends, entering}
 use Rattle.mqtt_flow.specs.Outbound as rules
 use Rattle.mqtt_flow.specs.Outbound.{has_room, way_made, unsent, anew, by_order, due_of, due_from, resumed_with}
-use Rattle.mqtt_flow.specs.Receiver.{Body, Output, connack, no_connack, publish, pubrel, disconnect, Answer, connect, puback, pubrec, pubcomp, Link, away, asked, live, Hop, goes, spared, read_publish, read_connack, leaves, down_comes, gives_up, joins}
+use Rattle.mqtt_flow.specs.Receiver.{Body, Output, connack, no_connack, publish, pubrel, disconnect, Answer, connect, puback, pubrec, pubcomp, Link, away, asked, live, spared, read_publish, read_connack, leaves, down_comes, gives_up, joins}
 use Rattle.mqtt_flow.proofs.Lives.{Life, waiting, find, cut, pubrels, answered, on_puback, on_pubrec, on_pubcomp, puback_reply, pubrec_reply, pubcomp_reply}
 use Rattle.mqtt_flow.proofs.Lives as copies
 use Rattle.mqtt_flow.proofs.LivesWorld as lives
@@ -22,13 +22,13 @@ use Rattle.mqtt_flow.proofs.LivesWorld.{put_at, arranged}
 use Rattle.mqtt_flow.specs.OutboundWorld as world
 use Rattle.mqtt_flow.specs.OutboundWorld.{Message, Lot, standing, past, queue_of, World, is_granted, body, all_packets, told, take_turn, take_turns, pushes, enters, renewed, made_new, resumed, connects, connects_old, replied, replied_old, up_comes, old_comes, Event, enter, expire, pump, to_broker, old_to_broker, to_end, give_up, break_line, make_line, close, close_old, restart, step, start, run}
 use Rattle.mqtt_flow.proofs.OutIds.{test_cases}
-use Rattle.mqtt_flow.proofs.Out.{Inv, Norm, Fresh, Good, Stage, free, idle, publishing, receiving, acking, releasing, completing, held, held_of, Blank, no_line, is_asked, was_shut, Late}
+use Rattle.mqtt_flow.proofs.Out.{Norm, Good, Stage, free, idle, publishing, receiving, acking, releasing, completing, held_of, Blank, no_line, is_asked, was_shut}
 use Rattle.mqtt_flow.proofs.OutEnd.{runs}
 use Rattle.mqtt_flow.proofs.OutQueue.{ascends-push, ascends-anew}
 use Rattle.mqtt_flow.proofs.OutJoin.{life, life_by, seen, life-append}
 use Rattle.mqtt_flow.proofs.OutFollow.{IsGranted, Fit, AllFit, Sound, Leads, leads_not, leads_on}
 use Rattle.mqtt_flow.proofs.OutWalk.{pump_leads, expire_leads, drop_leads}
-use Rattle.mqtt_flow.proofs.OutAnswer.{Unique, Agrees, agree_puback, agree_pubrec, agree_pubcomp, agrees_up, agrees_old, sound_up, sound_old}
+use Rattle.mqtt_flow.proofs.OutAnswer.{Unique, agree_puback, agree_pubrec, agree_pubcomp, agrees_up, agrees_old, sound_up, sound_old}
 
 -- the end of a session, and a new connection
 cut_by : (phase : Phase) (here : Bool) (b : Body) → cut (life_by phase here b) ≡ copies.ended SessionEnded b

@@ -1,14 +1,12 @@
 -- What connections and answers do to each identifier and each copy.
-use Rattle.std.proofs.Common.{◌≡◌, ◌⊎◌, inl, inr, ⊎_elim, ℕ, suc, ◌+◌, ◌≤◌, Bool, true, false, cond, ◌&&◌, List, [], ◌∷◌, ◌++◌, map, nat_eq, nat_lt, if◌then◌else◌, refl, sym, ap, ◌∙◌, subst, arith, Option, Some, None, option_map, eqb-true}
+use Rattle.std.proofs.Common.{◌≡◌, inl, inr, ⊎_elim, ℕ, suc, ◌≤◌, Bool, true, false, cond, ◌&&◌, List, [], ◌∷◌, ◌++◌, map, nat_eq, refl, sym, ap, ◌∙◌, arith, Option, Some, None, option_map, eqb-true}
 use Rattle.mqtt_flow.specs.FreeIdentifier.{has}
-use Rattle.mqtt_base.specs.declared.Ending.{Ending}
-use Rattle.mqtt_base.specs.declared.Ending.TheVariants.{Taken, Refused, Expired, TooLarge, SessionEnded, Dropped}
-use Rattle.mqtt_flow.specs.Receiver.{Body, Output, connack, publish, pubrel, Answer, puback, pubrec, pubcomp, Handed, handed}
+use Rattle.mqtt_flow.specs.Receiver.{Body, Output, connack, pubrel, Answer, puback, pubrec, pubcomp, Handed, handed}
 use Rattle.mqtt_flow.proofs.LivesWorld.{arranged}
-use Rattle.mqtt_flow.proofs.Lives.{Mark, sent, released, Life, waiting, in_flight, ended, find, unsent, anew, pubrels, cut, Turn, stay, over, turned, answered, on_puback, on_pubrec, on_pubcomp}
+use Rattle.mqtt_flow.proofs.Lives.{Mark, sent, released, Life, waiting, in_flight, ended, unsent, anew, pubrels, cut, Turn, stay, over, turned, answered, on_puback, on_pubrec, on_pubcomp}
 use Rattle.mqtt_flow.proofs.OutIds.{test_cases, same_id}
-use Rattle.mqtt_flow.proofs.Out.{OneAtMost, downs-arranged, ups, downs, up_about, Copy_of, Copy, holding, held, Stage, free, idle, publishing, receiving, acking, releasing, completing, held_of, up_of, stale, down_of, open_of, Fits, AtMost, Way, At, Final, Told, Weak, Read_end, Was_read, Settled, at_most_none, at_most_more, at_head}
-use Rattle.mqtt_flow.proofs.OutPump.{by_id, way_some, way_none, way_same, same_stage}
+use Rattle.mqtt_flow.proofs.Out.{OneAtMost, downs-arranged, ups, downs, up_about, Copy_of, Copy, holding, held, Stage, free, idle, publishing, receiving, acking, releasing, completing, held_of, up_of, down_of, open_of, Fits, AtMost, Way, At, Told, Weak, Was_read, Settled, at_most_none, at_most_more, at_head}
+use Rattle.mqtt_flow.proofs.OutPump.{by_id, way_some, way_same, same_stage}
 
 -- a new connection
 abbrev aged : List Copy_of → List Copy_of

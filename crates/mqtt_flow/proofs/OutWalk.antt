@@ -1,28 +1,23 @@
 -- A pump, an expiry and a full queue, walked along the queue and along the copies.
-use Rattle.std.proofs.Common.{◌≡◌, ◌⊎◌, ⊎_elim, inl, inr, ℕ, zero, suc, ◌≤◌, ◌<◌, ◌+◌, ◌||◌, Bool, true, false, cond, not, ◌&&◌, List, [], ◌∷◌, ◌++◌, length, map, nat_eq, nat_lt, refl, sym, ap, subst, ◌∙◌, arith}
-use Rattle.mqtt_base.specs.declared.Ending.TheVariants.{Expired, TooLarge, Dropped}
+use Rattle.std.proofs.Common.{◌≡◌, ⊎_elim, ℕ, zero, suc, ◌||◌, Bool, true, false, ◌&&◌, List, [], ◌∷◌, ◌++◌, map, nat_eq, nat_lt, refl, sym, ap, subst, ◌∙◌}
+use Rattle.mqtt_base.specs.declared.Ending.TheVariants.{Expired, Dropped}
 use Rattle.mqtt_base.specs.declared.Phase.{Phase}
 use Rattle.mqtt_base.specs.declared.Phase.TheVariants.{Waiting, Sent, Released, Oversize}
 use Rattle.mqtt_flow.specs.declared.entry.Entry.{Entry}
-use Rattle.mqtt_flow.specs.declared.entry.QueuedCopy.{QueuedCopy}
-use Rattle.mqtt_flow.specs.declared.entry.QueueLimits.{QueueLimits}
-use Rattle.mqtt_flow.specs.declared.entry.Turn.{Turn}
-use Rattle.mqtt_flow.specs.declared.entry.Turn.TheVariants.{Send, Resend, Release, Outgrow, Repeat, Unknown, Leave}
+use Rattle.mqtt_flow.specs.declared.entry.Turn.TheVariants.{Send, Resend, Leave}
 use Rattle.mqtt_flow.specs.declared.entry.Way.{Way}
-use Rattle.mqtt_flow.specs.declared.pump.Step.{Step}
-use Rattle.mqtt_flow.specs.declared.pump.Step.TheVariants.{Stop, GoOn, Take}
 use Rattle.mqtt_flow.specs.FreeIdentifier.{has, free_identifier}
 use Rattle.mqtt_flow.specs.Pacing.{Pacing}
 use Rattle.mqtt_flow.specs.Queue.{Ascends, identifiers, also, identifier_of}
-use Rattle.mqtt_flow.specs.Outbound.{is_late, is_waiting, gives_way, dropped_at, dropped, expired_at, expired, paced, freed, then_on, pump_from, pump, pace}
-use Rattle.mqtt_flow.specs.Receiver.{Body, publish}
+use Rattle.mqtt_flow.specs.Outbound.{is_late, is_waiting, gives_way, dropped, expired, paced, freed, then_on, pump_from, pump, pace}
+use Rattle.mqtt_flow.specs.Receiver.{Body}
 use Rattle.mqtt_flow.proofs.Lives.{Life, in_flight, sent, Lapse, cause, pumped, pump_sends, pids}
 use Rattle.mqtt_flow.proofs.Lives as copies
 use Rattle.mqtt_flow.proofs.LivesWorld.{unused_of}
-use Rattle.mqtt_flow.specs.OutboundWorld.{Message, Lot, standing, past, queue_of, World, body, lot_after, lots_after, packets, sends, take_turn, take_turns}
+use Rattle.mqtt_flow.specs.OutboundWorld.{Message, Lot, standing, past, queue_of, World, body, take_turn, take_turns}
 use Rattle.mqtt_flow.proofs.OutIds.{test_cases, same_id, has-push, free_is_free}
 use Rattle.mqtt_flow.proofs.OutJoin.{life, life_by, life-append, AllPassed}
-use Rattle.mqtt_flow.proofs.OutFollow.{Fit, AllFit, fit_here, Sound, Leads, leads_not, leads_on, lapse_copies, lapse_leads, send_leads, Steps, stops, passes, lapses, begins, repeats, steps_at, passed-push, passed-past, shift, pids-append, has-insert, Uses, same_pids}
+use Rattle.mqtt_flow.proofs.OutFollow.{AllFit, fit_here, Sound, Leads, leads_not, leads_on, lapse_copies, lapse_leads, send_leads, Steps, stops, passes, lapses, begins, repeats, steps_at, passed-push, passed-past, shift, pids-append, has-insert, Uses, same_pids}
 
 unused_same : (i : ℕ) (used : List ℕ) → has i used ≡ false → unused_of i used ≡ i
 unused_same i used h = rw h refl

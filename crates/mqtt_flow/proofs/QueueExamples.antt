@@ -1,8 +1,7 @@
 -- Session rules at work: queues and runs that compute.
 use Rattle.std.proofs.Common.{◌≡◌, ℕ, true, false, List, [], ◌∷◌, map, refl, Some, None, Ok, Err}
 use Rattle.mqtt_base.specs.declared.Cause.TheVariants.{Direct}
-use Rattle.mqtt_base.specs.declared.CopyId.{CopyId}
-use Rattle.mqtt_base.specs.declared.Ending.TheVariants.{Taken, Refused, Expired, TooLarge, SessionEnded, Dropped}
+use Rattle.mqtt_base.specs.declared.Ending.TheVariants.{Refused, Expired, TooLarge, Dropped}
 use Rattle.mqtt_base.specs.declared.Phase.{Phase}
 use Rattle.mqtt_base.specs.declared.Phase.TheVariants.{Waiting, Sent, Released, Oversize}
 use Rattle.mqtt_base.specs.declared.Qos.{Qos}

@@ -1,5 +1,5 @@
 -- The session rules for outbound copies: what a session does with its queue (MQTT 5.0, 4.3, 4.4, 4.6, 4.9).
-use Rattle.std.specs.Prelude.{◌≡◌, ℕ, zero, suc, ◌+◌, ◌-◌, ◌/◌, Bool, true, false, cond, not, ◌&&◌, List, [], ◌∷◌, ◌++◌, length, map, count_by, nat_eq, nat_lt, nat_le, Option, Some, None, Result, Ok, Err}
+use Rattle.std.specs.Prelude.{◌≡◌, ℕ, zero, suc, ◌+◌, ◌-◌, ◌/◌, Bool, true, false, cond, not, ◌&&◌, List, [], ◌∷◌, ◌++◌, length, map, count_by, nat_lt, nat_le, Option, Some, None, Result, Ok, Err}
 use Rattle.mqtt_base.specs.declared.Phase.{Phase}
 use Rattle.mqtt_base.specs.declared.Phase.TheVariants.{Waiting, Sent, Released, Oversize}
 use Rattle.mqtt_base.specs.declared.Ending.{Ending}
@@ -22,7 +22,7 @@ use Rattle.mqtt_flow.specs.declared.pump.Step.{Step}
 use Rattle.mqtt_flow.specs.declared.pump.Step.TheVariants.{Stop, GoOn, Take}
 use Rattle.mqtt_flow.specs.FreeIdentifier.{closed_in, free_identifier}
 use Rattle.mqtt_flow.specs.Pacing.{Pacing}
-use Rattle.mqtt_flow.specs.Queue.{identifiers, holder, order_of, next_order, in_window, entering, after, after_all, order_given}
+use Rattle.mqtt_flow.specs.Queue.{identifiers, holder, next_order, in_window, entering, after, after_all, order_given}
 
 -- Entering. Copies that wait and stood before this step give way in a full queue (ours).
 abbrev pub is_waiting : Phase → Bool
@@ -130,6 +130,13 @@ step_on (outgrow i) place p = Take (Outgrow place i p.order)
 step_on send place p = in_room p.room (Send place (free_identifier p.used))
 step_on (resend i) place p = in_room p.room (Resend place i)
 
+-- the step at a copy that waits, and at one that was sent
+abbrev pub first_step : Way → Entry → Pacing → Step
+first_step way e p = step_on (first_time (is_late way.now e.copy) (is_large way e.copy)) e.place p
+
+abbrev pub later_step : Way → ℕ → Entry → Pacing → Step
+later_step way i e p = step_on (once_more e.here (is_large way e.copy) e.copy.qos i) e.place p
+
 -- a pump stops where no PUBLISH is left to it
 abbrev pub step_by : ℕ → Verdict → ℕ → Pacing → Step
 step_by zero v place p = Stop
@@ -170,6 +177,10 @@ pace way queue = record { left = PUMP_LIMIT; room = way.window - in_window queue
 abbrev pub pump : Way → List Entry → List Turn
 pump way queue = pump_from way queue (pace way queue)
 
+-- the queue after it
+abbrev pub pumped : Way → List Entry → List Entry
+pumped way queue = after_all (pump way queue) queue
+
 -- Expiring. Copies that wait end, whether the session is connected or not (3.3.2.3.3).
 abbrev pub expired_at : Bool → Entry → List Turn → List Turn
 expired_at true e rest = Leave e.place Expired ∷ rest
@@ -178,6 +189,9 @@ expired_at false e rest = rest
 abbrev pub expired : ℕ → List Entry → List Turn
 expired now [] = []
 expired now (e ∷ es) = expired_at (is_waiting e.phase && is_late now e.copy) e (expired now es)
+
+abbrev pub lapsed : ℕ → List Entry → List Entry
+lapsed now queue = after_all (expired now queue) queue
 
 -- Answers. A turn, none, or a protocol error; an identifier that no copy has is passed over (4.3, ours).
 abbrev pub is_refusal : ℕ → Bool

@@ -1,6 +1,6 @@
 -- One session that runs by its session rules, a conforming receiver, the line between them, and the line that was given
 -- up last (MQTT 5.0, 4.3, 4.4).
-use Rattle.std.specs.Prelude.{ℕ, zero, suc, Bool, true, false, List, [], ◌∷◌, ◌++◌, map, nat_eq, if◌then◌else◌, Option, Some, None, Result, Ok, Err}
+use Rattle.std.specs.Prelude.{ℕ, suc, Bool, true, false, List, [], ◌∷◌, ◌++◌, map, nat_eq, if◌then◌else◌, Option, Some, None, Ok, Err}
 use Rattle.mqtt_base.specs.declared.Ending.{Ending}
 use Rattle.mqtt_base.specs.declared.Ending.TheVariants.{SessionEnded}
 use Rattle.mqtt_base.specs.declared.Qos.{Qos}

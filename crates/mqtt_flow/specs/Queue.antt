@@ -1,5 +1,5 @@
 -- A session's queue of outbound copies, and what each turn does to it (MQTT 5.0, 4.3, 4.4, 4.6).
-use Rattle.std.specs.Prelude.{ℕ, ◌+◌, ◌<◌, ◌≤◌, max, ⊤, length, Bool, true, false, cond, not, List, [], ◌∷◌, ◌++◌, filter, map, fold, find, nat_eq, Option, Some, None, count_by}
+use Rattle.std.specs.Prelude.{ℕ, ◌+◌, ◌<◌, ◌≤◌, max, ⊤, length, Bool, true, false, cond, not, List, [], ◌∷◌, filter, map, find, nat_eq, Option, Some, None, count_by}
 use Rattle.mqtt_base.specs.declared.Phase.{Phase}
 use Rattle.mqtt_base.specs.declared.Phase.TheVariants.{Waiting, Sent, Released, Oversize}
 use Rattle.mqtt_flow.specs.declared.entry.TheConstants.{LAST_NUMBER, QUEUE_LIMIT}

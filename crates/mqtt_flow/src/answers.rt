@@ -21,7 +21,8 @@ fn ending_of(code: Reason) -> Ending
 }
 
 impl Outflow {
-    /// What a PUBACK asks for: a turn, or none where no copy has the identifier (4.3.2). Takes no memory.
+    /// What a PUBACK asks for: a turn, or none where no copy has the identifier (4.3.2). Takes no
+    /// memory.
     pub fn look_puback(&self, identifier: u16, code: Reason) -> Result<Option<Turn>, FlowFault>
         ensures { result ≡ puback identifier code.0 self.now.queue }
     {
@@ -63,7 +64,8 @@ impl Outflow {
         }
     }
 
-    /// What a PUBCOMP asks for: a turn, or none where no copy has the identifier (4.3.3). Takes no memory.
+    /// What a PUBCOMP asks for: a turn, or none where no copy has the identifier (4.3.3). Takes no
+    /// memory.
     pub fn look_pubcomp(&self, identifier: u16) -> Result<Option<Turn>, FlowFault>
         ensures { result ≡ pubcomp identifier self.now.queue }
     {
@@ -94,7 +96,8 @@ impl Outflow {
         }
     }
 
-    /// Takes a PUBACK (4.3.2): the turn taken, or none where no copy has the identifier. Takes no memory.
+    /// Takes a PUBACK (4.3.2): the turn taken, or none where no copy has the identifier. Takes no
+    /// memory.
     pub fn puback(&mut self, identifier: u16, code: Reason) -> Result<Option<Turn>, FlowFault>
         ensures answer { result ≡ puback identifier code.0 self.old.queue }
         ensures queue { self.new.queue ≡ answered result self.old.queue }
@@ -115,7 +118,8 @@ impl Outflow {
         answer
     }
 
-    /// Takes a PUBCOMP (4.3.3): the turn taken, or none where no copy has the identifier. Takes no memory.
+    /// Takes a PUBCOMP (4.3.3): the turn taken, or none where no copy has the identifier. Takes no
+    /// memory.
     pub fn pubcomp(&mut self, identifier: u16) -> Result<Option<Turn>, FlowFault>
         ensures answer { result ≡ pubcomp identifier self.old.queue }
         ensures queue { self.new.queue ≡ answered result self.old.queue }

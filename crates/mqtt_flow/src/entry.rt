@@ -103,7 +103,8 @@ pub enum Turn {
         /// Its place among the released copies.
         order: u64,
     },
-    /// A copy sent on an earlier connection has become too large, so its handshake is brought to an end: PUBREL with
+    /// A copy sent on an earlier connection has become too large, so its handshake is brought to an
+    /// end: PUBREL with
     /// code 0x00 (ours).
     Outgrow {
         /// The copy's place.

@@ -23,5 +23,5 @@ pub use entry::{
 pub use fault::FlowFault;
 pub use inflow::{Inflow, OPEN_LIMIT, Published, Released};
 pub use laws::{inbound_once, own_identifier_alone};
-pub use outbound_laws::outbound_once;
+pub use outbound_laws::{outbound_once, pump_in_order};
 pub use outflow::Outflow;

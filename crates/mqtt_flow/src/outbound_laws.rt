@@ -2,19 +2,38 @@
 
 ghost use Rattle.std.specs.Prelude.{ℕ, List};
 ghost use Rattle.mqtt_base.specs.declared.Ending.TheVariants.{Expired, Dropped};
+ghost use Rattle.mqtt_flow.specs.declared.entry.Entry.{Entry};
+ghost use Rattle.mqtt_flow.specs.declared.entry.Way.{Way};
+ghost use Rattle.mqtt_flow.specs.FreeIdentifier.{free_identifier};
+ghost use Rattle.mqtt_flow.specs.Pumping.{InQueueOrder, WithinWindow, IsLowestFree};
 ghost use Rattle.mqtt_flow.specs.OutboundWorld.{Event, run, start};
 ghost use Rattle.mqtt_flow.specs.OutboundCourse.{Once, TakenOnce, ReleasedOnce, Unhanded, InOrder, GoOn, Carried, TakenRead};
 
-/// Whatever happens on the lines of a receiver and to the broker: no copy is handed over twice, one whose PUBREC was
-/// taken is handed over once, with its publication's topic and payload and in the order of the queue; each copy waits
-/// on or ends once, for one cause; and a copy of QoS 1 that was taken was read. The receiver's Maximum Packet Size is
+/// Every pump sends in the order of the queue, fills the client's window at most, and gives the
+/// lowest free identifiers
+/// (2.2.1, 4.6, 4.9).
+pub fn pump_in_order()
+    ensures order { (way : Way) (queue : List Entry) → InQueueOrder way queue }
+    ensures window { (way : Way) (queue : List Entry) → WithinWindow way queue }
+    ensures identifier { (used : List ℕ) → IsLowestFree used (free_identifier used) }
+{}
+
+/// Whatever happens on the lines of a receiver and to the broker: no copy is handed over twice, one
+/// whose PUBREC was
+/// taken is handed over once, with its publication's topic and payload and in the order of the
+/// queue; each copy waits
+/// on or ends once, for one cause; and a copy of QoS 1 that was taken was read. The receiver's
+/// Maximum Packet Size is
 /// the same on each of its lines (`largest`).
 pub fn outbound_once()
     ensures once { (largest : ℕ) (events : List Event) → Once (run largest events start) }
     ensures taken { (largest : ℕ) (events : List Event) → TakenOnce (run largest events start) }
-    ensures released { (largest : ℕ) (events : List Event) → ReleasedOnce (run largest events start) }
-    ensures expired { (largest : ℕ) (events : List Event) → Unhanded Expired (run largest events start) }
-    ensures dropped { (largest : ℕ) (events : List Event) → Unhanded Dropped (run largest events start) }
+    ensures released { (largest : ℕ) (events : List Event) →
+        ReleasedOnce (run largest events start) }
+    ensures expired { (largest : ℕ) (events : List Event) →
+        Unhanded Expired (run largest events start) }
+    ensures dropped { (largest : ℕ) (events : List Event) →
+        Unhanded Dropped (run largest events start) }
     ensures in_order { (largest : ℕ) (events : List Event) → InOrder (run largest events start) }
     ensures carried { (largest : ℕ) (events : List Event) → Carried (run largest events start) }
     ensures read { (largest : ℕ) (events : List Event) → TakenRead (run largest events start) }

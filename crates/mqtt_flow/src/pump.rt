@@ -3,7 +3,7 @@
 ghost use Rattle.std.specs.Prelude.{◌≡◌, ◌+◌, ◌≤◌, ◌<◌, ◌^◌, ◌++◌, [], ◌∷◌, length, IfOk, IfErr, OnOk, OnErr};
 ghost use Rattle.mqtt_flow.specs.FreeIdentifier.{closed_in};
 ghost use Rattle.mqtt_flow.specs.Queue.{greatest_order};
-ghost use Rattle.mqtt_flow.specs.Outbound.{first_time, freed, in_room, is_large, is_late, once_more, pace, paced, pump, pump_step, step_on};
+ghost use Rattle.mqtt_flow.specs.Outbound.{first_step, freed, in_room, later_step, pace, paced, pump, pump_step};
 
 use crate::entry::{Entry, PUMP_LIMIT, Turn, Way};
 use crate::fault::FlowFault;
@@ -57,7 +57,7 @@ fn in_room(pace: &Pace, turn: Turn) -> Step
 /// A turn for a copy that waits (4.3).
 fn first_time(way: Way, pace: &Pace, entry: &Entry) -> Step
     requires { length pace.now.used < 65535 }
-    ensures { result ≡ step_on (first_time (is_late way.now entry.now.copy) (is_large way entry.now.copy)) entry.now.place pace.now }
+    ensures { result ≡ first_step way entry.now pace.now }
 {
     let place = entry.place;
     if is_late(way.now, &entry.copy) {
@@ -78,7 +78,7 @@ fn first_time(way: Way, pace: &Pace, entry: &Entry) -> Step
 
 /// A turn for a copy that was sent (4.4).
 fn once_more(way: Way, pace: &Pace, entry: &Entry, identifier: u16) -> Step
-    ensures { result ≡ step_on (once_more entry.now.here (is_large way entry.now.copy) entry.now.copy.qos identifier) entry.now.place pace.now }
+    ensures { result ≡ later_step way identifier entry.now pace.now }
 {
     let place = entry.place;
     if entry.here {
@@ -176,7 +176,8 @@ fn first_pace(alloc: Global, way: Way, entries: &[Entry]) -> Result<Pace, FlowFa
     })
 }
 
-/// The turns of one pump: resends and first sends in the order of the queue, as far as the window and the limit of
+/// The turns of one pump: resends and first sends in the order of the queue, as far as the window
+/// and the limit of
 /// `PUMP_LIMIT` go (4.6, 4.9).
 pub(crate) fn pump(alloc: Global, way: Way, entries: &[Entry]) -> Result<Vec<Turn>, FlowFault>
     requires orders { greatest_order entries.now < 2 ^ 63 }

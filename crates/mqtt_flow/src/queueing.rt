@@ -1,8 +1,9 @@
-//! What a session puts into its queue of outbound copies, sends from it and ends in it (4.3, 4.4, 4.6, 4.9).
+//! What a session puts into its queue of outbound copies, sends from it and ends in it (4.3, 4.4,
+//! 4.6, 4.9).
 
 ghost use Rattle.std.specs.Prelude.{◌≡◌, ◌+◌, ◌<◌, ◌≤◌, true, length, IfErr, IfOk, OnErr, OnOk};
-ghost use Rattle.mqtt_flow.specs.Queue.{after_all, next_order, next_place};
-ghost use Rattle.mqtt_flow.specs.Outbound.{KeptOut, anew, entered, expired, has_room, pump, resumed_with, way_made, way_open};
+ghost use Rattle.mqtt_flow.specs.Queue.{next_order, next_place};
+ghost use Rattle.mqtt_flow.specs.Outbound.{KeptOut, anew, entered, expired, has_room, lapsed, pump, pumped, resumed_with, way_made, way_open};
 
 use crate::entry::{LAST_NUMBER, QUEUE_LIMIT, QueueLimits, QueuedCopy, Turn, Way};
 use crate::fault::FlowFault;
@@ -12,7 +13,8 @@ use crate::pump::pump;
 use std::alloc::Global;
 
 impl Outflow {
-    /// The turns by which a full queue makes way for a copy; `since` is the first place that the broker gives in this
+    /// The turns by which a full queue makes way for a copy; `since` is the first place that the
+    /// broker gives in this
     /// step (ours). Refuses a copy for which there is no room: `Full`.
     pub fn look_enter(
         &self,
@@ -63,11 +65,12 @@ impl Outflow {
         pump(alloc, way, self.entries())
     }
 
-    /// Sends what order, window and the limit of `PUMP_LIMIT` let it send, and answers with the turns taken (4.6, 4.9).
+    /// Sends what order, window and the limit of `PUMP_LIMIT` let it send, and answers with the
+    /// turns taken (4.6, 4.9).
     pub fn pump(&mut self, alloc: Global, way: Way) -> Result<Vec<Turn>, FlowFault>
         requires { next_order self.old.queue + length self.old.queue ≤ LAST_NUMBER }
         ensures turns { IfOk result (λ turns. turns.items ≡ pump way self.old.queue) }
-        ensures ok { OnOk result (self.new.queue ≡ after_all (pump way self.old.queue) self.old.queue) }
+        ensures ok { OnOk result (self.new.queue ≡ pumped way self.old.queue) }
         ensures fault { IfErr result (λ fault. fault ≡ FlowFault.Memory) }
         ensures err { OnErr result (self.new.queue ≡ self.old.queue) }
     {
@@ -84,10 +87,11 @@ impl Outflow {
         expired(alloc, now, self.entries())
     }
 
-    /// Ends the copies that wait and are late at a moment, and answers with the turns taken (3.3.2.3.3).
+    /// Ends the copies that wait and are late at a moment, and answers with the turns taken
+    /// (3.3.2.3.3).
     pub fn expire(&mut self, alloc: Global, now: u64) -> Result<Vec<Turn>, FlowFault>
         ensures turns { IfOk result (λ turns. turns.items ≡ expired now self.old.queue) }
-        ensures ok { OnOk result (self.new.queue ≡ after_all (expired now self.old.queue) self.old.queue) }
+        ensures ok { OnOk result (self.new.queue ≡ lapsed now self.old.queue) }
         ensures fault { IfErr result (λ fault. fault ≡ FlowFault.Memory) }
         ensures err { OnErr result (self.new.queue ≡ self.old.queue) }
     {
@@ -96,7 +100,8 @@ impl Outflow {
         Ok(turns)
     }
 
-    /// The turns with which a resumption begins: a PUBREL for each released copy, in the order of release (4.4, 4.6).
+    /// The turns with which a resumption begins: a PUBREL for each released copy, in the order of
+    /// release (4.4, 4.6).
     pub fn look_resume(&self, alloc: Global) -> Result<Vec<Turn>, FlowFault>
         ensures turns { IfOk result (λ turns. turns.items ≡ resumed_with self.now.queue) }
         ensures fault { IfErr result (λ fault. fault ≡ FlowFault.Memory) }
@@ -112,7 +117,8 @@ impl Outflow {
         Ok(turns)
     }
 
-    /// Begins a resumed connection, on which nothing was sent, and answers with the turns taken (4.4, 4.6).
+    /// Begins a resumed connection, on which nothing was sent, and answers with the turns taken
+    /// (4.4, 4.6).
     pub fn resume(&mut self, alloc: Global) -> Result<Vec<Turn>, FlowFault>
         ensures turns { IfOk result (λ turns. turns.items ≡ resumed_with self.old.queue) }
         ensures ok { OnOk result (self.new.queue ≡ anew self.old.queue) }

@@ -1,5 +1,5 @@
-use Rattle.std.proofs.Common.{◌≡◌, ℕ, suc, ◌+◌, ◌-◌, ◌<◌, List, Bool, true, false, length, arith, sym, ◌∙◌, refl, ap}
-use Rattle.mqtt_flow.specs.FreeIdentifier.{has, lowest, free_identifier}
+use Rattle.std.proofs.Common.{◌≡◌, ℕ, suc, ◌+◌, ◌-◌, List, true, false, length, arith, sym, ◌∙◌}
+use Rattle.mqtt_flow.specs.FreeIdentifier.{has, lowest}
 use Rattle.mqtt_flow.proofs.plan.lowest_free.Goals as goal
 
 -- one identifier is tried after the other

@@ -1,6 +1,4 @@
-use Rattle.std.proofs.Common.{◌≡◌, ap, sym, ◌∙◌, subst, refl, false, List}
-use Rattle.mqtt_base.specs.declared.Phase.TheVariants.{Waiting}
-use Rattle.mqtt_flow.specs.declared.entry.Entry.{Entry}
+use Rattle.std.proofs.Common.{◌≡◌, ap, subst}
 use Rattle.mqtt_flow.specs.Queue.{IsQueue}
 use Rattle.mqtt_flow.specs.Outbound.{pushed}
 use Rattle.mqtt_flow.proofs.OutQueue.{is_queue-pushed}

@@ -1,6 +1,5 @@
-use Rattle.std.proofs.Common.{◌≡◌, ◌∙◌, ap, arith}
+use Rattle.std.proofs.Common.{◌∙◌, ap, arith}
 use Rattle.mqtt_flow.specs.Queue.{greatest_given}
-use Rattle.mqtt_flow.specs.Outbound.{expired}
 use Rattle.mqtt_flow.proofs.OutRoom.{expired-orders}
 use Rattle.mqtt_flow.proofs.outflow.Outflow.expire.Goals as goal
 

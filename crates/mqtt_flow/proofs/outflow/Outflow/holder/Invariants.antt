@@ -1,5 +1,5 @@
-use Rattle.std.proofs.Common.{◌≡◌, find, drop}
-use Rattle.mqtt_flow.specs.Queue.{holder, is_holder}
+use Rattle.std.proofs.Common.{◌≡◌, drop}
+use Rattle.mqtt_flow.specs.Queue.{holder}
 use Rattle.mqtt_flow.proofs.outflow.Outflow.holder.Given as goal
 
 abbrev pub invariant-loop-entry : goal.invariant-loop-entry

@@ -1,6 +1,5 @@
-use Rattle.std.proofs.Common.{◌≡◌, ◌∙◌, ap, arith}
+use Rattle.std.proofs.Common.{◌∙◌, ap, arith}
 use Rattle.mqtt_flow.specs.Queue.{greatest_given}
-use Rattle.mqtt_flow.specs.Outbound.{pump}
 use Rattle.mqtt_flow.proofs.OutRoom.{pump-orders}
 use Rattle.mqtt_flow.proofs.outflow.Outflow.pump.Goals as goal
 
