@@ -1,11 +1,14 @@
 -- The subcommand of a command line, and what it asks for.
-use Rattle.std.proofs.Common.{◌≡◌, ◌∙◌, Bool, true, false, not, if◌then◌else◌, ap, sym, refl, List, [], Option, None, Some, codes, unwrap_or, option_map}
+use Rattle.std.proofs.Common.{◌≡◌, ◌∙◌, Bool, true, false, not, if◌then◌else◌, ap, sym, refl, List, [], ◌∷◌, Option, None, Some, codes, unwrap_or, option_map, subst, inl, inr, rules}
 use Rattle.std.specs.Str.{bytes_eq}
-use Rattle.clap.specs.Words.{App, HasMatchesOf, Row, Text, fault_of, is_simple, is_simple_and_free, rows_of, subcommand_name_of, subcommand_of, subcommand_rows_of}
+use Rattle.clap.specs.Walk.{is_empty}
+use Rattle.clap.specs.Words.{App, HasKind, HasMatchesOf, Kinds, Row, Text, fault_of, kind_of, is_simple, is_simple_and_free, rows_of, subcommand_name_of, subcommand_of, subcommand_rows_of}
+use Rattle.clap.specs.declared.error.Error.{Error}
+use Rattle.clap.specs.declared.error.kind.ErrorKind.TheVariants.{OutOfMemory}
 use Rattle.clap.specs.declared.parser.matches.ArgMatches.{ArgMatches}
 use Rattle.clap.specs.declared.parser.matches.ArgMatches.TheViews.{out-ArgMatches}
 use Rattle.clap.specs.declared.parser.matches.Found.{Found}
-use Rattle.mqtt_cli.specs.Line.{AskFor, program_app, rows_in, view_rows}
+use Rattle.mqtt_cli.specs.Line.{AskFor, command_of, file_in, is_vectors, program_app, rows_in}
 use Rattle.mqtt_cli.specs.declared.line.Action.{Action}
 
 -- a pair that may be there, by its parts
@@ -24,18 +27,63 @@ view_rows_of name rows is_view = go (bytes_eq name (codes "view")) is_view
     go true e = refl
     go false e = cc
 
+no_rows_of : (name : Text) (rows : List Row) → true ≡ not (bytes_eq name (codes "view")) → rows_in (Some (name, rows)) ≡ None
+no_rows_of name rows is_other = go (bytes_eq name (codes "view")) is_other
+  where
+    go : (b : Bool) → true ≡ not b → (if b then Some rows else None) ≡ None
+    go true e = cc
+    go false e = refl
+
+-- the subcommand that was met
+pub met_command : (m : ArgMatches) (name : Text) (found : Found) → Some name ≡ subcommand_name_of m
+    → Some (rows_of found) ≡ option_map (λ p. p.1) (subcommand_rows_of m)
+    → subcommand_rows_of m ≡ Some (name, rows_of found)
+met_command m name found named with_rows = both_parts _ (out-ArgMatches m).subcommand name (rows_of found) named with_rows
+
 -- the matches of `view`, where that is the subcommand that was met
 pub rows_in-view : (m : ArgMatches) (name : Text) (found : Found) → Some name ≡ subcommand_name_of m
     → Some (rows_of found) ≡ option_map (λ p. p.1) (subcommand_rows_of m) → false ≡ not (bytes_eq name (codes "view"))
     → rows_in (subcommand_rows_of m) ≡ Some (rows_of found)
 rows_in-view m name found named with_rows is_view =
-    ap rows_in (both_parts _ (out-ArgMatches m).subcommand name (rows_of found) named with_rows) ∙ view_rows_of name (rows_of found) is_view
+    ap rows_in (met_command m name found named with_rows) ∙ view_rows_of name (rows_of found) is_view
+
+-- none, where that is another
+pub rows_in-other : (m : ArgMatches) (name : Text) (found : Found) → Some name ≡ subcommand_name_of m
+    → Some (rows_of found) ≡ option_map (λ p. p.1) (subcommand_rows_of m) → true ≡ not (bytes_eq name (codes "view"))
+    → rows_in (subcommand_rows_of m) ≡ None
+rows_in-other m name found named with_rows is_other =
+    ap rows_in (met_command m name found named with_rows) ∙ no_rows_of name (rows_of found) is_other
+
+-- whether it is `vectors`
+pub is_vectors-met : (m : ArgMatches) (name : Text) (found : Found) (b : Bool) → Some name ≡ subcommand_name_of m
+    → Some (rows_of found) ≡ option_map (λ p. p.1) (subcommand_rows_of m) → b ≡ bytes_eq name (codes "vectors")
+    → is_vectors (subcommand_rows_of m) ≡ b
+is_vectors-met m name found b named with_rows tested = ap is_vectors (met_command m name found named with_rows) ∙ sym tested
 
 -- what lawful matches ask for, their words do
 pub words_ask : (app : App) (words : List Text) (m : ArgMatches) (asked : Option Action) → app ≡ program_app
     → (is_simple_and_free app ≡ true → fault_of app words ≡ []) → HasMatchesOf app words m
-    → AskFor (rows_in (subcommand_rows_of m)) asked → AskFor (view_rows words) asked
+    → AskFor (subcommand_rows_of m) asked → AskFor (command_of words) asked
 words_ask app words m asked is lawful has asks =
     let no_fault : fault_of program_app words ≡ [] = ap (λ a. fault_of a words) (sym is) ∙ lawful (ap is_simple_and_free is) in
     let rows_are : subcommand_rows_of m ≡ subcommand_of program_app words = (has (ap is_simple is)).1 ∙ ap (λ a. subcommand_of a words) is in
     rw (no_fault, ← rows_are) asks
+
+-- words that are refused, not for want of memory, ask for nothing
+pub refused_ask : (app : App) (words : List Text) (e : Error) → app ≡ program_app
+    → (is_simple_and_free app ≡ true → HasKind (fault_of app words) e) → (kind_of e ≡ OutOfMemory → ⊥)
+    → AskFor (command_of words) None
+refused_ask app words e is fails other =
+    let has : HasKind (fault_of program_app words) e =
+    subst (λ (a : App). HasKind (fault_of a words) e) is (fails (ap is_simple_and_free is)) in
+    rw (go (fault_of program_app words) has) (refl, refl)
+  where
+    go : (ks : Kinds) → HasKind ks e → is_empty ks ≡ false
+    go [] h = elim h [ inl out ↦ absurd (other out) | inr wrong ↦ absurd wrong ]
+    go (k ∷ ks) h = search rules
+
+-- a command without FILE that is not `vectors` asks for nothing
+pub asks_nothing : (command : Option (Text × List Row)) (asked : Option Action) → asked ≡ None
+    → file_in (rows_in command) ≡ None → is_vectors command ≡ false → AskFor command asked
+asks_nothing command None is file other = (file, other)
+asks_nothing command (Some action) is file other = cc

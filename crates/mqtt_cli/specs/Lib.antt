@@ -2,5 +2,6 @@
 pub mod Line
 pub mod Outcome
 pub mod PacketText
+pub mod Vectors
 pub mod View
 pub mod Viewing

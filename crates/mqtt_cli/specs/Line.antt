@@ -5,7 +5,7 @@ use Rattle.clap.specs.declared.builder.ArgAction.TheVariants.{SetTrue}
 use Rattle.clap.specs.Walk.{is_empty}
 use Rattle.clap.specs.Words.{App, Row, Rule, Text, fault_of, first_of, new_app, new_rule, one_of, subcommand_of, with_rule, with_subcommand}
 use Rattle.mqtt_cli.specs.declared.line.Action.{Action}
-use Rattle.mqtt_cli.specs.declared.line.Action.TheVariants.{View}
+use Rattle.mqtt_cli.specs.declared.line.Action.TheVariants.{View, Vectors}
 
 -- `--payload`, a flag
 abbrev pub payload_rule : Rule
@@ -20,23 +20,31 @@ file_rule = record (new_rule (codes "file")) { value_names = 1; required = true 
 abbrev pub view_app : App
 view_app = with_rule (with_rule (new_app (codes "view")) payload_rule) file_rule
 
+-- `vectors`
+abbrev pub vectors_app : App
+vectors_app = new_app (codes "vectors")
+
 -- the program, which has to be given a command
 abbrev pub program_app : App
 program_app =
     let alone = new_app (codes "mqtt5") in
-    with_subcommand (record alone { top = record alone.top { subcommand_required = true } })
-    view_app.top
+    let required = record alone { top = record alone.top { subcommand_required = true } } in
+    with_subcommand (with_subcommand required view_app.top) vectors_app.top
+
+-- the command and its matches, where the words are a lawful command line
+abbrev pub command_of : List Text → Option (Text × List Row)
+command_of words =
+    if is_empty (fault_of program_app words) then subcommand_of program_app words else None
+
+-- whether the command is `vectors`
+abbrev pub is_vectors : Option (Text × List Row) → Bool
+is_vectors None = false
+is_vectors (Some command) = bytes_eq command.0 (codes "vectors")
 
 -- the matches of `view`, where that is the command
 abbrev pub rows_in : Option (Text × List Row) → Option (List Row)
 rows_in None = None
 rows_in (Some command) = if bytes_eq command.0 (codes "view") then Some command.1 else None
-
--- the matches of `view`, where the words are a lawful command line
-abbrev pub view_rows : List Text → Option (List Row)
-view_rows words =
-    if is_empty (fault_of program_app words) then rows_in (subcommand_of program_app words)
-    else None
 
 -- FILE
 abbrev pub file_in : Option (List Row) → Option Text
@@ -52,8 +60,9 @@ pub record IsFlag (value : Option Text) (flag : Bool) : Type 0 where
   pub is_true : value ≡ Some (codes "true") → flag ≡ true
   pub is_false : value ≡ Some (codes "false") → flag ≡ false
 
--- these matches ask for this, or for nothing
-abbrev pub AskFor : Option (List Row) → Option Action → Type 0
-AskFor rows None = file_in rows ≡ None
-AskFor rows (Some (View file payload)) =
-    (file_in rows ≡ Some file.now) × IsFlag (payload_in rows) payload
+-- this command asks for this, or for nothing
+abbrev pub AskFor : Option (Text × List Row) → Option Action → Type 0
+AskFor command None = (file_in (rows_in command) ≡ None) × (is_vectors command ≡ false)
+AskFor command (Some Vectors) = is_vectors command ≡ true
+AskFor command (Some (View file payload)) =
+    (file_in (rows_in command) ≡ Some file.now) × IsFlag (payload_in (rows_in command)) payload

@@ -5,7 +5,8 @@ use Rattle.std.specs.String.{string_bytes}
 use Rattle.mqtt_cli.specs.declared.outcome.TheConstants.{DONE, FAULTY, USAGE, FAILED}
 use Rattle.mqtt_cli.specs.declared.line.LineFault.TheVariants as line
 use Rattle.mqtt_cli.specs.declared.outcome.Outcome.{Outcome}
-use Rattle.mqtt_cli.specs.declared.outcome.Outcome.TheVariants.{Done, Line, NoFile, View}
+use Rattle.mqtt_cli.specs.declared.outcome.Outcome.TheVariants.{Done, Line, NoFile, View, Vectors}
+use Rattle.mqtt_cli.specs.declared.vectors_checker.VectorsFault.TheVariants as vectors
 use Rattle.mqtt_cli.specs.declared.viewer.Status.TheVariants.{Whole, Faulty}
 use Rattle.mqtt_cli.specs.declared.viewer.ViewFault.TheVariants.{Read, Write, Memory}
 
@@ -18,6 +19,8 @@ exit_status NoFile = FAILED
 exit_status (View Read) = FAILED
 exit_status (View Write) = FAILED
 exit_status (View Memory) = FAILED
+exit_status (Vectors vectors.Write) = FAILED
+exit_status (Vectors vectors.Memory) = FAILED
 
 -- `mqtt5: ` and why, and a line feed
 abbrev pub failure_line : List ℕ → List ℕ
@@ -31,3 +34,5 @@ error_text NoFile = failure_line (codes "file")
 error_text (View Read) = failure_line (codes "file")
 error_text (View Write) = failure_line (codes "file")
 error_text (View Memory) = failure_line (codes "memory")
+error_text (Vectors vectors.Write) = failure_line (codes "file")
+error_text (Vectors vectors.Memory) = failure_line (codes "memory")

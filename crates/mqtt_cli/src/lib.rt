@@ -7,6 +7,9 @@ mod outcome;
 mod packet_text;
 mod program;
 mod text;
+mod vectors_checker;
+mod vectors_report;
+mod vectors_table;
 mod viewer;
 mod words;
 
@@ -14,5 +17,9 @@ pub use laws::{one_view, one_word};
 pub use line::{Action, LineFault};
 pub use outcome::{DONE, FAILED, FAULTY, Outcome, USAGE, ending};
 pub use program::run;
+pub use vectors_checker::{VectorsFault, vectors};
 pub use viewer::{Status, ViewFault, view};
 pub use words::action;
+
+#[cfg(test)]
+mod tests;

@@ -15,6 +15,8 @@ pub enum Action<'a> {
         /// Whether a PUBLISH shows the first bytes of its payload.
         payload: bool,
     },
+    /// `vectors`
+    Vectors,
 }
 
 /// Why a command line asks for nothing.

@@ -4,6 +4,7 @@ ghost use Rattle.std.specs.Prelude.{◌≡◌};
 ghost use Rattle.mqtt_cli.specs.Outcome.{exit_status, error_text};
 
 use crate::line::LineFault;
+use crate::vectors_checker::VectorsFault;
 use crate::viewer::{Status, ViewFault};
 
 /// The exit status of a command that is done.
@@ -21,7 +22,7 @@ pub const FAILED: u8 = 3;
 /// What came of the program's work.
 #[derive(Debug, Drop)]
 pub enum Outcome {
-    /// The input was read to its end.
+    /// The input was read to its end, or the vectors were checked.
     Done(Status),
     /// The command line asks for nothing.
     Line(LineFault),
@@ -29,6 +30,8 @@ pub enum Outcome {
     NoFile,
     /// The view stopped early.
     View(ViewFault),
+    /// The report on the vectors stopped early.
+    Vectors(VectorsFault),
 }
 
 /// The exit status, and the text for standard error. Takes no memory.
@@ -40,11 +43,12 @@ pub fn ending(outcome: &Outcome) -> (u8, &str)
         Outcome::Done(Status::Whole) => (DONE, ""),
         Outcome::Done(Status::Faulty) => (FAULTY, ""),
         Outcome::Line(LineFault::Usage(text)) => (USAGE, text.as_str()),
-        Outcome::Line(LineFault::Memory) | Outcome::View(ViewFault::Memory) => {
-            (FAILED, "mqtt5: memory\n")
-        }
-        Outcome::NoFile | Outcome::View(ViewFault::Read) | Outcome::View(ViewFault::Write) => {
-            (FAILED, "mqtt5: file\n")
-        }
+        Outcome::Line(LineFault::Memory)
+        | Outcome::View(ViewFault::Memory)
+        | Outcome::Vectors(VectorsFault::Memory) => { (FAILED, "mqtt5: memory\n") }
+        Outcome::NoFile
+        | Outcome::View(ViewFault::Read)
+        | Outcome::View(ViewFault::Write)
+        | Outcome::Vectors(VectorsFault::Write) => { (FAILED, "mqtt5: file\n") }
     }
 }

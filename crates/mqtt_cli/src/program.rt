@@ -2,6 +2,7 @@
 
 use crate::line::{Action, LineFault};
 use crate::outcome::Outcome;
+use crate::vectors_checker::vectors;
 use crate::viewer::{ViewFault, view};
 use crate::words::action;
 use std::alloc::{AllocError, Global};
@@ -32,9 +33,17 @@ fn run_view<R: Print + AllocGlobal, I: Read + Drop>(
     }
 }
 
+/// Writes the report on the vectors to standard output.
+fn run_vectors<R: Print + AllocGlobal>(rt: &R) -> Outcome {
+    match vectors(rt.alloc(), &mut io::writer(rt)) {
+        Ok(status) => Outcome::Done(status),
+        Err(fault) => Outcome::Vectors(fault),
+    }
+}
+
 /// Does what the process's arguments ask for. The command line is looked at first, then the file.
-/// What files, standard input and standard output hold no contract can say; `action` and `view`
-/// say the rest.
+/// What files, standard input and standard output hold no contract can say; `action`, `view`
+/// and `vectors` say the rest.
 pub fn run<R: Print + Input + Files + Env + AllocGlobal>(rt: &R) -> Outcome {
     let words = match env::args(rt) {
         Ok(words) => words.collect::<Vec<String>>(rt.alloc()),
@@ -45,6 +54,7 @@ pub fn run<R: Print + Input + Files + Env + AllocGlobal>(rt: &R) -> Outcome {
     };
     match action(rt.alloc(), words.as_slice()) {
         Err(fault) => Outcome::Line(fault),
+        Ok(Action::Vectors) => run_vectors(rt),
         Ok(Action::View { file: "-", payload }) => run_view(rt, rt.reader(), payload),
         Ok(Action::View { file, payload }) => match fs::open(rt, file) {
             Ok(file) => run_view(rt, file, payload),

@@ -3,7 +3,7 @@
 ghost use Rattle.std.specs.Prelude.{◌≡◌, ◌≢◌, None, Some, IfErr, IfOk, false, map};
 ghost use Rattle.clap.specs.Words.{app_of, kind_of, subcommand_rows_of};
 ghost use Rattle.clap.specs.declared.builder.command.Command.TheViews.{out-Command as fields_of};
-ghost use Rattle.mqtt_cli.specs.Line.{AskFor, program_app, rows_in, view_app, view_rows};
+ghost use Rattle.mqtt_cli.specs.Line.{AskFor, command_of, program_app, vectors_app, view_app};
 
 use crate::line::{Action, LineFault};
 use clap::error::ErrorKind;
@@ -14,10 +14,10 @@ use std::convert::AsStr;
 /// What the words of a command line ask for, the first of which names the program. A call for help
 /// is `Usage`, with the help as its text.
 pub fn action<'a, S: AsStr>(alloc: Global, words: &'a [S]) -> Result<Action<'a>, LineFault>
-    ensures ok { IfOk result (λ action. AskFor (view_rows (map S.text words.entry.now))
+    ensures ok { IfOk result (λ action. AskFor (command_of (map S.text words.entry.now))
         (Some action)) }
     ensures usage { IfErr result (λ fault. fault ≢ LineFault.Memory
-        → AskFor (view_rows (map S.text words.entry.now)) None) }
+        → AskFor (command_of (map S.text words.entry.now)) None) }
 {
     let program = program(alloc)?;
     let matches = match program.try_get_matches_from(words) {
@@ -32,9 +32,12 @@ pub fn action<'a, S: AsStr>(alloc: Global, words: &'a [S]) -> Result<Action<'a>,
 
 /// What the matches of a command line ask for.
 fn action_in<'a>(matches: &ArgMatches<'a>) -> Option<Action<'a>>
-    ensures { AskFor (rows_in (subcommand_rows_of matches.now)) result }
+    ensures { AskFor (subcommand_rows_of matches.now) result }
 {
     let (name, view) = matches.subcommand()?;
+    if name == "vectors" {
+        return Some(Action::Vectors);
+    }
     if name != "view" {
         return None;
     }
@@ -50,7 +53,8 @@ fn program<'a>(alloc: Global) -> Result<Command<'a>, AllocError>
     Command::new(alloc, "mqtt5")
         .about("Shows MQTT 5.0 packets as text")
         .subcommand_required(true)
-        .subcommand(view_command(alloc)?)
+        .subcommand(view_command(alloc)?)?
+        .subcommand(vectors_command(alloc)?)
 }
 
 /// `view [--payload] FILE`
@@ -70,6 +74,14 @@ fn view_command<'a>(alloc: Global) -> Result<Command<'a>, AllocError>
         .about("Writes a line for each packet of FILE")
         .arg(payload)?
         .arg(file)
+}
+
+/// `vectors`
+fn vectors_command<'a>(alloc: Global) -> Result<Command<'a>, AllocError>
+    ensures app { IfOk result (λ command. app_of command ≡ vectors_app) }
+    ensures local { IfOk result (λ command. (fields_of command).has_globals ≡ false) }
+{
+    Ok(Command::new(alloc, "vectors").about("Checks frames whose meaning is known"))
 }
 
 /// The fault of a command line, with the text that `clap` gives it.

@@ -1,7 +1,7 @@
 use Rattle.std.proofs.Common.{codes, sym, ◌∙◌}
-use Rattle.clap.specs.Words.{found_of}
+use Rattle.clap.specs.Words.{found_of, subcommand_rows_of}
 use Rattle.clap.proofs.WalkLemmas.{first_value-rows, one_text-rows}
-use Rattle.mqtt_cli.proofs.Commands.{rows_in-view}
+use Rattle.mqtt_cli.proofs.Commands.{asks_nothing, is_vectors-met, rows_in-view}
 use Rattle.mqtt_cli.proofs.words.action_in.Goals as goal
 
 pub returns-in_err-file : goal.returns-in_err-file
@@ -9,7 +9,9 @@ returns-in_err-file c =
     let met = c.in_ok-name.ensures in
     let found = found_of c.in_ok-name.view.now in
     let rows_are = rows_in-view c.args.matches.now _ found met.name met.rows c.if-ne.ensures in
-    rw (rows_are, c.from_residual-in_err-file.ensures) (sym (c.in_err-file.ensures ∙ first_value-rows found (codes "file")))
+    asks_nothing (subcommand_rows_of c.args.matches.now) c.from_residual-in_err-file.result c.from_residual-in_err-file.ensures
+    (rw rows_are (sym (c.in_err-file.ensures ∙ first_value-rows found (codes "file"))))
+    (is_vectors-met c.args.matches.now _ found _ met.name met.rows c.if-eq.ensures)
 
 pub returns : goal.returns
 returns c =

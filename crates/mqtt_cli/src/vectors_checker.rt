@@ -1,0 +1,141 @@
+//! Whether this program finds of each vector what is known of it (ours).
+
+ghost use Rattle.std.specs.Prelude.{◌≡◌, ◌≢◌, IfOk, IfErr, length};
+ghost use Rattle.std.specs.Io.KnownBytes.{Keeps};
+ghost use Rattle.mqtt_cli.specs.Vectors.{Reports};
+
+use crate::packet_text::push_packet_text;
+use crate::vectors_report::{push_report, status_of};
+use crate::vectors_table::{Gives, VECTORS, Vector};
+use crate::viewer::Status;
+use mqtt_packet::{Fault, Framer, Packet, decode, encode, lawful};
+use std::alloc::{AllocError, Global};
+use std::io::Write;
+use thiserror::Error;
+
+/// Why the report on the vectors stopped early.
+#[derive(Clone, Copy, Debug, PartialEq, Eq, Error)]
+pub enum VectorsFault {
+    /// 2: a write failed. Nothing is said of what was written.
+    #[error("a write failed")]
+    Write = 2,
+    /// 3: want of memory. Nothing was written.
+    #[error("want of memory")]
+    Memory = 3,
+}
+
+impl From<AllocError> for VectorsFault {
+    ghost use Rattle.mqtt_cli.specs.declared.vectors_checker.VectorsFault.TheVariants.{Memory};
+
+    ghost from_gives = { λ _ e. e ≡ Memory };
+
+    fn from(_error: AllocError) -> VectorsFault {
+        VectorsFault::Memory
+    }
+}
+
+/// Checks each vector in one piece and byte by byte, and writes a line for each and one that counts
+/// the right ones. The status is `Whole` exactly where all are right.
+pub fn vectors<W: Write>(alloc: Global, writer: &mut W) -> Result<Status, VectorsFault>
+    ensures ok { IfOk result (λ status. Reports (W.contents writer.old) (W.contents writer.new) status) }
+    ensures memory { IfErr result (λ fault. fault ≢ VectorsFault.Write
+        → Keeps (W.contents writer.old) (W.contents writer.new)) }
+{
+    let rights = checked(alloc, &VECTORS)?;
+    let mut text = String::new(alloc);
+    push_report(&mut text, rights.as_slice())?;
+    match writer.write_all(text.as_str().as_bytes()) {
+        Ok(()) => Ok(status_of(rights.as_slice())),
+        Err(_) => Err(VectorsFault::Write),
+    }
+}
+
+/// Whether each vector is right.
+fn checked(alloc: Global, vectors: &[Vector]) -> Result<Vec<bool>, AllocError>
+    ensures { IfOk result (λ rights. length rights.items ≡ length vectors.now) }
+{
+    let mut rights = Vec::new(alloc);
+    let mut rest = vectors;
+    while let Some((first, after)) = rest.split_first() {
+        rights.push(is_right(alloc, first)?)?;
+        rest = after;
+    }
+    Ok(rights)
+}
+
+/// Whether a vector gives what is known of it, in one piece and byte by byte. Only a framer tells
+/// that a packet is too large.
+fn is_right(alloc: Global, vector: &Vector) -> Result<bool, AllocError> {
+    let whole = match vector.gives {
+        Gives::Refusal(Fault::TooLarge) => in_one_piece(alloc, vector.frame),
+        _ => decode(alloc, vector.frame).map(Some),
+    };
+    let parts = byte_by_byte(alloc, vector.frame);
+    Ok(is_known(alloc, vector, whole)? && is_known(alloc, vector, parts)?)
+}
+
+/// The packet that a framer gives of a frame that comes in one piece.
+fn in_one_piece(alloc: Global, frame: &[u8]) -> Result<Option<Packet>, Fault> {
+    let mut framer = Framer::new(alloc);
+    next_of(&mut framer, frame)
+}
+
+/// The packet that a framer gives with the last byte of a frame, and with no byte before.
+fn byte_by_byte(alloc: Global, frame: &[u8]) -> Result<Option<Packet>, Fault> {
+    let mut framer = Framer::new(alloc);
+    let mut rest = frame;
+    while let Some((first, after)) = rest.split_first() {
+        if let Some(packet) = next_of(&mut framer, &[*first])? {
+            return Ok(if after.is_empty() { Some(packet) } else { None });
+        }
+        rest = after;
+    }
+    Ok(None)
+}
+
+/// The packet that is whole with this piece.
+fn next_of(framer: &mut Framer, piece: &[u8]) -> Result<Option<Packet>, Fault> {
+    if let Err((fault, _)) = framer.feed(piece) {
+        return Err(fault);
+    }
+    match framer.next() {
+        Ok(None) => Ok(None),
+        Ok(Some((packet, _))) => Ok(Some(packet)),
+        Err((fault, _)) => Err(fault),
+    }
+}
+
+/// Whether what was found is what is known.
+fn is_known(
+    alloc: Global,
+    vector: &Vector,
+    found: Result<Option<Packet>, Fault>,
+) -> Result<bool, AllocError> {
+    match (vector.gives, found) {
+        (_, Err(Fault::Memory)) => Err(AllocError),
+        (Gives::Refusal(known), Err(fault)) => Ok(fault == known),
+        (Gives::Packet { line, shortest }, Ok(Some(packet))) => {
+            is_shown(alloc, &packet, vector.frame.len(), line, shortest)
+        }
+        _ => Ok(false),
+    }
+}
+
+/// Whether a packet of this size has this line, and this shortest spelling.
+fn is_shown(
+    alloc: Global,
+    packet: &Packet,
+    size: usize,
+    line: &[u8],
+    shortest: &[u8],
+) -> Result<bool, AllocError> {
+    if !lawful(packet) {
+        return Ok(false);
+    }
+    let mut text = String::new(alloc);
+    push_packet_text(alloc, &mut text, false, size, packet)?;
+    match encode(alloc, packet) {
+        Ok(frame) => Ok(text.as_str().as_bytes() == line && frame.as_slice() == shortest),
+        Err(_) => Err(AllocError),
+    }
+}
