@@ -1,10 +1,10 @@
 -- A spelling at the front of the bytes is the packet that they begin with.
-use Rattle.std.proofs.Common.{◌≡◌, ◌≢◌, ℕ, ◌+◌, ◌-◌, ◌^◌, ◌<◌, ◌≤◌, Bool, true, false, cond, ltb, List, [], ◌∷◌, ◌++◌, length, take, drop, Option, None, Some, Result, Ok, Err, refl, sym, ap, subst, ◌∙◌, append_assoc, arith, length-append}
+use Rattle.std.proofs.Common.{◌≡◌, ◌≢◌, ℕ, ◌+◌, ◌-◌, ◌^◌, ◌<◌, ◌≤◌, Bool, true, false, cond, ltb, List, [], ◌∷◌, ◌++◌, length, take, drop, Option, None, Some, Result, Ok, Err, IfOk, IfSome, refl, sym, ap, subst, ◌∙◌, append_assoc, arith, length-append}
 use Rattle.std.proofs.lemmas.Bool.{ltb-false, le-ltb}
-use Rattle.std.proofs.lemmas.List.{take_at, drop_at}
+use Rattle.std.proofs.lemmas.List.{take_at, drop_at, length-take-le}
 use Rattle.mqtt_base.specs.declared.fault.ReadFault.{ReadFault}
 use Rattle.mqtt_base.specs.declared.fault.ReadFault.TheVariants.{Short, Overlong, BadText}
-use Rattle.mqtt_base.specs.Values.{varint}
+use Rattle.mqtt_base.specs.Values.{varint, blob}
 use Rattle.mqtt_base.specs.Reading.{varint_at}
 use Rattle.mqtt_base.proofs.Steps.{IsBytes, IsBytes-take}
 use Rattle.mqtt_base.proofs.Varints.{varint_rereads}
@@ -12,16 +12,17 @@ use Rattle.mqtt_packet.specs.declared.fault.Fault.{Fault}
 use Rattle.mqtt_packet.specs.declared.fault.Fault.TheVariants.{TooLarge, Other}
 use Rattle.mqtt_packet.specs.declared.front.TheConstants.{MAX_SIZE}
 use Rattle.mqtt_packet.specs.declared.head.Head.{Head}
+use Rattle.mqtt_packet.specs.declared.publish.Publish.{Publish as Publication}
 use Rattle.mqtt_packet.specs.declared.packet.Packet.{Packet}
 use Rattle.mqtt_packet.specs.declared.packet.Packet.TheVariants.{Publish, Pingreq}
-use Rattle.mqtt_packet.specs.Heads.{head_of, IsHead, is_read}
-use Rattle.mqtt_packet.specs.Packets.{head, frame_of, Spells}
+use Rattle.mqtt_packet.specs.Heads.{first, head_of, IsHead, is_read}
+use Rattle.mqtt_packet.specs.Packets.{head, frame_of, HasLayout, Spells}
 use Rattle.mqtt_packet.specs.Reading.{packet_at}
-use Rattle.mqtt_packet.specs.Front.{size_by, size_behind, size_at, with_size, first_by, first_of}
+use Rattle.mqtt_packet.specs.Front.{size_by, size_behind, size_at, with_size, first_by, first_of, GivesFirst, EndsWithPayload}
 use Rattle.mqtt_packet.specs.Stream.{place_after, IsCut, IsStream, short_at, AreSpelled, joined_bytes, items_from, end_from}
 use Rattle.mqtt_packet.proofs.Bodies.{head_again, is_head}
 use Rattle.mqtt_packet.proofs.Frames.{packet_takes, packet_again}
-use Rattle.mqtt_packet.proofs.Fronts.{found_size, found_packet}
+use Rattle.mqtt_packet.proofs.Fronts.{found_size, found_packet, first_within}
 use Rattle.mqtt_packet.proofs.Cuts.{fault_stays}
 
 is_read_again : (p : Packet) → is_read (head p) ≡ true
@@ -106,10 +107,42 @@ pub first_spells : (bytes : List ℕ) (p : Packet) (n : ℕ) → IsBytes bytes �
 unfolding first_of
 first_spells bytes p n fits e = first_by_spells bytes p n (size_at bytes) fits refl e
 
+-- ---- the payload stands at the end
+
+end_of : (bytes front back : List ℕ) → bytes ≡ front ++ back → (length back ≤ length bytes) × (back ≡ drop (length bytes - length back) bytes)
+end_of bytes front back e =
+    let len : length bytes - length back ≡ length front = omega (arith, ap length e, length-append front back) in
+    (omega (arith, ap length e, length-append front back), sym (ap (drop (length bytes - length back)) e ∙ ap (λ (k : ℕ). drop k (front ++ back)) len ∙ drop_at front back (length front) refl))
+
+publish_end : (p : Publication) (bytes : List ℕ) → HasLayout (Publish p) bytes → (length p.payload ≤ length bytes) × (p.payload ≡ drop (length bytes - length p.payload) bytes)
+publish_end p bytes (fits, (body, is, (lt, e))) =
+    let top = first (head (Publish p)) in
+    let v = varint (length body) in
+    let parts : bytes ≡ (top ∷ (v ++ (blob p.topic ++ 0 ∷ []))) ++ p.payload =
+    e ∙ ap (λ (b : List ℕ). top ∷ (v ++ b)) is
+    ∙ ap (λ (b : List ℕ). top ∷ (v ++ b)) (sym (append_assoc (blob p.topic) (0 ∷ []) p.payload))
+    ∙ ap (λ (b : List ℕ). top ∷ b) (sym (append_assoc v (blob p.topic ++ 0 ∷ []) p.payload)) in
+    end_of bytes (top ∷ (v ++ (blob p.topic ++ 0 ∷ []))) p.payload parts
+
+pub first_ends : (bytes : List ℕ) (p : Packet) (n : ℕ) → IsBytes bytes → first_of bytes ≡ Ok (Some (p, n)) → EndsWithPayload p n bytes
+first_ends bytes (Publish p) n fits e =
+    let s = first_spells bytes (Publish p) n fits e in
+    let within = first_within bytes (Publish p) n e in
+    let len : length (take n bytes) ≡ n = length-take-le n bytes within.0 in
+    let ends = publish_end p (take n bytes) s.0.0 in
+    (omega (arith, ends.0, len), ends.1 ∙ ap (λ (k : ℕ). drop (k - length p.payload) (take n bytes)) len)
+first_ends bytes Pingreq n fits e = tt
+
+pub found_ends : {X : Type 0} (view : X → Packet) (bytes : List ℕ) (r : Result (Option (X × ℕ)) Fault) → IsBytes bytes → GivesFirst view r (first_of bytes)
+    → IfOk r (λ found. IfSome found (λ x. EndsWithPayload (view x.0) x.1 bytes))
+found_ends {X} view bytes (Ok None) fits given = tt
+found_ends {X} view bytes (Ok (Some x)) fits given = first_ends bytes (view x.0) x.1 fits given
+found_ends {X} view bytes (Err f) fits given = tt
+
 -- where a fault stands, no stream that goes on so begins with a packet
-pub fault_final : (bytes later : List ℕ) (f : Fault) (p : Packet) (spelling more : List ℕ) → first_of bytes ≡ Err f → Spells p spelling → length spelling ≤ MAX_SIZE
+pub fault_final : (bytes later spelling more : List ℕ) (f : Fault) (p : Packet) → first_of bytes ≡ Err f → Spells p spelling → length spelling ≤ MAX_SIZE
     → bytes ++ later ≢ spelling ++ more
-fault_final bytes later f p spelling more e s small = λ same.
+fault_final bytes later spelling more f p e s small = λ same.
     let clash = sym (fault_stays bytes later f e) ∙ ap first_of same ∙ first_whole p spelling more s small in
     cc clash
 

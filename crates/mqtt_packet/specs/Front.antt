@@ -1,5 +1,5 @@
 -- What the bytes that have come begin with: nothing whole yet, a packet, or a fault (MQTT 5.0, 2.1.4).
-use Rattle.std.specs.Prelude.{◌≡◌, ℕ, ◌+◌, ◌-◌, nat_lt, if◌then◌else◌, List, [], ◌∷◌, length, take, Option, None, Some, Result, Ok, Err}
+use Rattle.std.specs.Prelude.{◌≡◌, ℕ, ◌+◌, ◌-◌, ◌≤◌, nat_lt, if◌then◌else◌, List, [], ◌∷◌, length, take, drop, Option, None, Some, Result, Ok, Err}
 use Rattle.mqtt_base.specs.declared.fault.ReadFault.{ReadFault}
 use Rattle.mqtt_base.specs.declared.fault.ReadFault.TheVariants.{Short, Overlong, BadText}
 use Rattle.mqtt_base.specs.Reading.{varint_at}
@@ -8,6 +8,7 @@ use Rattle.mqtt_packet.specs.declared.fault.Fault.TheVariants.{Malformed, TooLar
 use Rattle.mqtt_packet.specs.declared.front.TheConstants.{MAX_SIZE}
 use Rattle.mqtt_packet.specs.declared.head.Head.{Head}
 use Rattle.mqtt_packet.specs.declared.packet.Packet.{Packet}
+use Rattle.mqtt_packet.specs.declared.packet.Packet.TheVariants as packets
 use Rattle.mqtt_packet.specs.Heads.{head_of, is_read}
 use Rattle.mqtt_packet.specs.Reading.{packet_at}
 
@@ -50,3 +51,8 @@ abbrev pub GivesFirst : {X : Type 0} → (X → Packet) → Result (Option (X ×
 GivesFirst view (Ok None) first = first ≡ Ok None
 GivesFirst view (Ok (Some x)) first = first ≡ Ok (Some (view x.0, x.1))
 GivesFirst view (Err f) first = first ≡ Err f
+
+-- what a PUBLISH of n bytes ends with is its payload (3.3.3)
+abbrev pub EndsWithPayload : Packet → ℕ → List ℕ → Type 0
+EndsWithPayload (packets.Publish p) n bytes = (length p.payload ≤ n) × (p.payload ≡ drop (n - length p.payload) (take n bytes))
+EndsWithPayload packets.Pingreq n bytes = Unit {0}

@@ -1,17 +1,19 @@
 //! The cut of a stream of bytes into packets, however it comes (2.1).
 
-ghost use Rattle.std.specs.Prelude.{◌≡◌, ◌-◌, ◌<◌, ◌≤◌, ◌++◌, length, take, min, IfOk, IfErr, IfNone, OnErr, OnOk, OnSome, IsOk};
+ghost use Rattle.std.specs.Prelude.{◌≡◌, ◌≢◌, ◌-◌, ◌<◌, ◌≤◌, ◌++◌, length, take, drop, min, IfOk, IfErr, IfNone, IfSome, OnErr, OnOk, OnSome, IsOk};
 ghost use Rattle.mqtt_packet.specs.declared.fault.Fault.{Fault};
 ghost use Rattle.mqtt_packet.specs.declared.front.TheConstants.{MAX_SIZE};
 ghost use Rattle.mqtt_packet.specs.Front.{first_of};
-ghost use Rattle.mqtt_packet.specs.Stream.{Framing, empty, without_last, Stands, Refuses, Finds, Gives};
+ghost use Rattle.mqtt_packet.specs.Stream.{Framing, empty, without_last, Stands, Refuses, Finds, CutsFirst, Gives};
 ghost use Rattle.mqtt_packet.specs.Views.{packet_of};
 
 use crate::fault::Fault;
 use crate::front::{MAX_SIZE, first_read};
 use crate::packet::{Packet, PacketRef};
-use bytes::BytesMut;
-use std::alloc::Global;
+use crate::publish::Publish;
+use bytes::{Bytes, BytesMut};
+use mqtt_base::Text;
+use std::alloc::{AllocError, Global};
 use std::marker::Model;
 
 /// Cuts a stream of bytes into packets. Each fault comes with the place, counted from 0 modulo
@@ -60,7 +62,8 @@ impl Framer {
 
     /// Takes as many bytes as fit, from the front of the piece, and answers how many.
     pub fn feed(&mut self, piece: &[u8]) -> Result<usize, (Fault, u64)>
-        ensures answer { IfOk result (λ n. n ≡ min (length piece.now) (MAX_SIZE - length self.old.held)) }
+        ensures answer { IfOk result (λ n.
+            n ≡ min (length piece.now) (MAX_SIZE - length self.old.held)) }
         ensures ok { IfOk result (λ n.
             self.new ≡ record self.old { held = self.old.held ++ take n piece.now }) }
 
@@ -94,29 +97,28 @@ impl Framer {
     }
 
     /// Gives the first whole packet and its place, if it has come, and holds it no longer.
+    /// A payload shares the memory that the framer has read it into.
     pub fn next(&mut self) -> Result<Option<(Packet, u64)>, (Fault, u64)>
         ensures found { IfOk result (λ found. Gives self.old found self.new) }
 
-        // Where no packet is whole, at least one more byte fits. With a packet there is less to hold.
+        // Where no packet is whole, one more byte fits. With a packet there is less to hold.
         ensures partial { IfOk result (λ found. IfNone found (length self.new.held < MAX_SIZE)) }
-        ensures shorter { IfOk result (λ found. OnSome found (length self.new.held < length self.old.held)) }
+        ensures shorter { IfOk result (λ found.
+            OnSome found (length self.new.held < length self.old.held)) }
         ensures stands { (fault : Fault) → first_of self.old.held ≡ Err fault
             → result ≡ Err (fault, self.old.place) }
         ensures refused { IfErr result (Refuses self.old) }
         ensures err { OnErr result (self.new ≡ self.old) }
     {
-        let (packet, size) = match first_read(self.bytes.as_slice()) {
-            Err(fault) => return Err((fault, self.place)),
-            Ok(None) => return Ok(None),
-            Ok(Some((packet, size))) => (packet.to_packet(self.alloc), size),
-        };
-        let Ok(packet) = packet else {
-            return Err((Fault::Memory, self.place));
-        };
         let place = self.place;
-        self.bytes.advance(size);
-        self.place = place.wrapping_add(size as u64);
-        Ok(Some((packet, place)))
+        match first_cut(&mut self.bytes, self.alloc) {
+            Err(fault) => Err((fault, place)),
+            Ok(None) => Ok(None),
+            Ok(Some((packet, size))) => {
+                self.place = place.wrapping_add(size as u64);
+                Ok(Some((packet, place)))
+            }
+        }
     }
 
     /// Takes the last `count` held bytes away. Takes no memory.
@@ -127,4 +129,52 @@ impl Framer {
         let len = self.bytes.len();
         self.bytes.truncate(len - count);
     }
+}
+
+/// Cuts the first whole packet off, if it has come. A payload is not copied.
+fn first_cut(bytes: &mut BytesMut, alloc: Global) -> Result<Option<(Packet, usize)>, Fault>
+    ensures found { IfOk result (λ found. CutsFirst bytes.old.items found bytes.new.items) }
+    ensures partial { IfOk result (λ found. IfNone found (length bytes.old.items < MAX_SIZE)) }
+    ensures within { IfOk result (λ found.
+        IfSome found (λ x. (0 < x.1) × (x.1 ≤ length bytes.old.items))) }
+    ensures stands { (fault : Fault) → first_of bytes.old.items ≡ Err fault → result ≡ Err fault }
+    ensures refused { IfErr result (λ fault.
+        fault ≢ Fault.Memory → first_of bytes.old.items ≡ Err fault) }
+    ensures err { OnErr result (bytes.new.items ≡ bytes.old.items) }
+{
+    let Some((packet, size)) = first_read(bytes.as_slice())? else {
+        return Ok(None);
+    };
+    match packet {
+        PacketRef::Publish(publish) => {
+            let topic = Text::new(alloc, publish.topic)?;
+            let (retain, len) = (publish.retain, publish.payload.len());
+            let payload = tail_cut(bytes, size, len)?;
+            Ok(Some((
+                Packet::Publish(Publish {
+                    retain,
+                    topic,
+                    payload,
+                }),
+                size,
+            )))
+        }
+        PacketRef::Pingreq => {
+            bytes.advance(size);
+            Ok(Some((Packet::Pingreq, size)))
+        }
+    }
+}
+
+/// Cuts the first `size` bytes off, and gives the last `len` of these. Copies none of them.
+fn tail_cut(bytes: &mut BytesMut, size: usize, len: usize) -> Result<Bytes, AllocError>
+    requires tail { len ≤ size }
+    requires front { size ≤ length bytes.old.items }
+    ensures found { IfOk result (λ tail. tail ≡ drop (size - len) (take size bytes.old.items)) }
+    ensures ok { OnOk result (bytes.new.items ≡ drop size bytes.old.items) }
+    ensures err { OnErr result (bytes.new.items ≡ bytes.old.items) }
+{
+    let mut tail = bytes.freeze_to(size)?;
+    tail.advance(size - len);
+    Ok(tail)
 }

@@ -1,7 +1,7 @@
 //! What the bytes that have come begin with (2.1.4).
 
 ghost use Rattle.std.specs.Prelude.{◌≡◌, ◌<◌, ◌≤◌, IfOk, IfSome, IfNone, length};
-ghost use Rattle.mqtt_packet.specs.Front.{size_at, first_of, GivesFirst};
+ghost use Rattle.mqtt_packet.specs.Front.{size_at, first_of, GivesFirst, EndsWithPayload};
 ghost use Rattle.mqtt_packet.specs.Packets.{Fits};
 ghost use Rattle.mqtt_packet.specs.Views.{packet_of};
 
@@ -18,7 +18,8 @@ pub const MAX_SIZE: usize = 65_536;
 #[tactic(auto, using(crate::proofs::Fronts::varint_wants), unfolding(crate::specs::Front::size_at))]
 fn size_read(bytes: &[u8]) -> Result<Option<usize>, Fault>
     ensures exact { result ≡ size_at bytes.now }
-    ensures within { IfOk result (λ found. IfSome found (λ size. (0 < size) × (size ≤ length bytes.now))) }
+    ensures within { IfOk result (λ found.
+        IfSome found (λ size. (0 < size) × (size ≤ length bytes.now))) }
     ensures partial { IfOk result (λ found. IfNone found (length bytes.now < MAX_SIZE)) }
 {
     let Some((first, rest)) = bytes.split_first() else {
@@ -46,12 +47,12 @@ fn size_read(bytes: &[u8]) -> Result<Option<usize>, Fault>
     }
 }
 
-/// The first whole packet and its size, if it has come, or the fault that the bytes decide.
 #[tactic(auto, unfolding(crate::specs::Front::first_of))]
-pub(crate) fn first_read(bytes: &[u8]) -> Result<Option<(PacketRef<'_>, usize)>, Fault>
+fn front_read(bytes: &[u8]) -> Result<Option<(PacketRef<'_>, usize)>, Fault>
     ensures exact { GivesFirst packet_of result (first_of bytes.now) }
     ensures fits { IfOk result (λ found. IfSome found (λ x. Fits (packet_of x.0))) }
-    ensures within { IfOk result (λ found. IfSome found (λ x. (0 < x.1) × (x.1 ≤ length bytes.now))) }
+    ensures within { IfOk result (λ found.
+        IfSome found (λ x. (0 < x.1) × (x.1 ≤ length bytes.now))) }
     ensures partial { IfOk result (λ found. IfNone found (length bytes.now < MAX_SIZE)) }
 {
     let Some(size) = size_read(bytes)? else {
@@ -59,4 +60,17 @@ pub(crate) fn first_read(bytes: &[u8]) -> Result<Option<(PacketRef<'_>, usize)>,
     };
     let packet = packet_read(&bytes[..size])?;
     Ok(Some((packet, size)))
+}
+
+/// The first whole packet and its size, if it has come, or the fault that the bytes decide.
+pub(crate) fn first_read(bytes: &[u8]) -> Result<Option<(PacketRef<'_>, usize)>, Fault>
+    ensures exact { GivesFirst packet_of result (first_of bytes.now) }
+    ensures fits { IfOk result (λ found. IfSome found (λ x. Fits (packet_of x.0))) }
+    ensures within { IfOk result (λ found.
+        IfSome found (λ x. (0 < x.1) × (x.1 ≤ length bytes.now))) }
+    ensures partial { IfOk result (λ found. IfNone found (length bytes.now < MAX_SIZE)) }
+    ensures payload { IfOk result (λ found.
+        IfSome found (λ x. EndsWithPayload (packet_of x.0) x.1 bytes.now)) }
+{
+    front_read(bytes)
 }

@@ -15,17 +15,20 @@ ghost use Rattle.mqtt_packet.specs.Stream.{AreSpelled, joined_bytes, items_from,
 
 /// No bytes are laid out as two packets.
 pub fn one_packet()
-    ensures { (bytes : List ℕ) (packet other : Packet) → HasLayout packet bytes → HasLayout other bytes
-        → packet ≡ other }
+    ensures { (bytes : List ℕ) (packet other : Packet)
+        → HasLayout packet bytes → HasLayout other bytes → packet ≡ other }
 {}
 
-/// What a stream begins with is a packet's spelling, or else no stream that goes on so begins with one.
+/// A stream begins with a packet where it begins with a spelling, and where a fault stands no stream
+/// that goes on so begins with one.
 pub fn first_spelled()
-    ensures whole { (packet : Packet) (bytes more : List ℕ) → Spells packet bytes → length bytes ≤ MAX_SIZE
+    ensures whole { (packet : Packet) (bytes more : List ℕ)
+        → Spells packet bytes → length bytes ≤ MAX_SIZE
         → first_of (bytes ++ more) ≡ Ok (Some (packet, length bytes)) }
-    ensures found { (bytes : List ℕ) (packet : Packet) (n : ℕ) → ((i : ℕ) → slice_index bytes i < 256)
-        → first_of bytes ≡ Ok (Some (packet, n)) → Spells packet (take n bytes) × (n ≤ MAX_SIZE) }
-    ensures fault { (bytes later : List ℕ) (fault : Fault) (packet : Packet) (spelling more : List ℕ)
+    ensures found { (bytes : List ℕ) (packet : Packet) (n : ℕ)
+        → ((i : ℕ) → slice_index bytes i < 256) → first_of bytes ≡ Ok (Some (packet, n))
+        → Spells packet (take n bytes) × (n ≤ MAX_SIZE) }
+    ensures fault { (bytes later spelling more : List ℕ) (fault : Fault) (packet : Packet)
         → first_of bytes ≡ Err fault → Spells packet spelling → length spelling ≤ MAX_SIZE
         → bytes ++ later ≢ spelling ++ more }
 {}
@@ -33,12 +36,14 @@ pub fn first_spelled()
 /// The spellings of packets, one after the other, are cut into these packets.
 pub fn joined_cut()
     ensures { (packets : List (Packet × List ℕ)) → AreSpelled packets
-        → IsStream (joined_bytes packets) (items_from 0 packets) (short_at (end_from 0 packets) []) }
+        → IsStream (joined_bytes packets) (items_from 0 packets)
+        (short_at (end_from 0 packets) []) }
 {}
 
 /// Each stream is cut in one way.
 pub fn one_cut()
-    ensures some { (stream : List ℕ) → (items : List Item) × (ending : Ending) × IsStream stream items ending }
+    ensures some { (stream : List ℕ)
+        → (items : List Item) × (ending : Ending) × IsStream stream items ending }
     ensures only { (stream : List ℕ) (items others : List Item) (ending other : Ending)
         → IsStream stream items ending → IsStream stream others other
         → (items ≡ others) × (ending ≡ other) }
@@ -67,7 +72,8 @@ pub fn moments()
 pub fn any_pieces()
     ensures cut { (calls : List Call) (f : Framing) → IsRun empty calls f
         → IsCut 0 (taken_of calls) (given_of calls) f.place f.held }
-    ensures waits { (calls : List Call) (f : Framing) → IsRun empty calls f → first_of f.held ≡ Ok None
+    ensures waits { (calls : List Call) (f : Framing)
+        → IsRun empty calls f → first_of f.held ≡ Ok None
         → IsStream (taken_of calls) (given_of calls) (short_at f.place f.held) }
     ensures fault { (calls : List Call) (f : Framing) (fault : Fault) (more : List ℕ)
         → IsRun empty calls f → first_of f.held ≡ Err fault

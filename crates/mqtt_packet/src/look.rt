@@ -75,7 +75,8 @@ pub(crate) fn packet_read(frame: &[u8]) -> Result<PacketRef<'_>, Fault>
 /// Reads the packet that the bytes, a whole frame, spell. Takes no memory.
 pub fn look_at(frame: &[u8]) -> Result<PacketRef<'_>, Fault>
     ensures found { IfOk result (λ packet. Spells (packet_of packet) frame.now) }
-    ensures only { (packet : Packet) → Spells packet frame.now → Gives packet_of result (Ok packet) }
+    ensures only { (packet : Packet) → Spells packet frame.now
+        → Gives packet_of result (Ok packet) }
     ensures refused { IfErr result (λ fault. Refusal fault frame.now) }
 {
     packet_read(frame)
