@@ -1,4 +1,4 @@
-use Rattle.std.proofs.Common.{◌≤◌, length, arith}
+use Rattle.std.proofs.Common.{length, arith}
 use Rattle.mqtt_topic.proofs.FilterWords.{IsFilter-from_test, is_filter-from}
 use Rattle.mqtt_topic.proofs.laws.filter_by_words.Goals as goal
 
