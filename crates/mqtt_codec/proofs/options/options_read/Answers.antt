@@ -1,6 +1,6 @@
-use Rattle.std.proofs.Common.{◌≡◌, ap, sym, ◌∙◌, arith}
+use Rattle.std.proofs.Common.{ap, ◌∙◌}
 use Rattle.mqtt_codec.specs.Options.{options_of}
-use Rattle.mqtt_codec.proofs.OptionLemmas.{options_is, options_again}
+use Rattle.mqtt_codec.proofs.OptionLemmas.{options_again}
 use Rattle.mqtt_codec.proofs.options.options_read.Goals as goal
 
 pub returns-clause-only : goal.returns-clause-only
