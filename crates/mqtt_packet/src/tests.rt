@@ -24,7 +24,7 @@ fn cut_text(alloc: Global, stream: &[u8], step: usize) -> Result<String, Fail>
             match framer.next() {
                 Ok(Some((packet, place))) => {
                     write!(text, "{place} ")?;
-                    write_packet(&mut text, alloc, &packet)?;
+                    write_frame(&mut text, frame_of(alloc, packet))?;
                     write!(text, ", ")?;
                 }
                 Ok(None) => break,
@@ -41,12 +41,17 @@ fn cut_text(alloc: Global, stream: &[u8], step: usize) -> Result<String, Fail>
     Ok(text)
 }
 
-fn write_packet(text: &mut String, alloc: Global, packet: &Packet) -> Result<(), Fail> {
-    if !lawful(packet) {
-        write!(text, "not lawful")?;
-        return Ok(());
+/// What a packet that was given is encoded to.
+fn frame_of(alloc: Global, packet: Packet) -> Result<Vec<u8>, Fault> {
+    if lawful(&packet) {
+        encode(alloc, &packet)
+    } else {
+        Err(Fault::Protocol)
     }
-    match encode(alloc, packet) {
+}
+
+fn write_frame(text: &mut String, frame: Result<Vec<u8>, Fault>) -> Result<(), Fail> {
+    match frame {
         Ok(frame) => write_hex(text, frame.as_slice())?,
         Err(fault) => write!(text, "{fault:?}")?,
     }
@@ -184,6 +189,16 @@ fn a_fault_stands_until_it_is_given_back(rt: HostRuntime) -> Result<(), Fail> {
     Ok(())
 }
 
+/// Whether a packet that was given is the PUBLISH of `!` to `a/b`.
+fn is_worked_publish(packet: Packet) -> bool {
+    match &packet {
+        Packet::Publish(publish) => {
+            publish.topic.as_str() == "a/b" && publish.payload.as_slice() == b"!".as_slice()
+        }
+        _ => false,
+    }
+}
+
 /// The same with the Nth growth refused: after want of memory the framer is as it was.
 #[test]
 fn after_want_of_memory_the_framer_is_as_it_was(rt: HostRuntime) -> Result<(), Fail> {
@@ -205,15 +220,11 @@ fn after_want_of_memory_the_framer_is_as_it_was(rt: HostRuntime) -> Result<(), F
     for _ in 0..4 {
         let (held, place) = (framer.held(), framer.place());
         match framer.next() {
-            Ok(Some((packet, place))) => match packet {
-                Packet::Publish(publish) => {
-                    assert_eq!(rt; place, 2);
-                    assert_eq!(rt; publish.topic.as_str(), "a/b");
-                    assert_eq!(rt; publish.payload.as_slice(), b"!".as_slice());
-                    is_given = true;
-                }
-                _ => assert_eq!(rt; place, 0),
-            },
+            Ok(Some((packet, place))) => {
+                let is_publish = is_worked_publish(packet);
+                assert_eq!(rt; place, if is_publish { 2 } else { 0 });
+                is_given = is_publish;
+            }
             Ok(None) => break,
             Err(fault) => {
                 assert_eq!(rt; fault, (Fault::Memory, place));
