@@ -1,0 +1,128 @@
+-- Calls one after the other, on an empty store or on a given one, for the examples.
+use Rattle.std.proofs.Common.{ℕ, Bool, true, false, List, [], ◌∷◌, Option, Some, None}
+use Rattle.std.specs.Prelude.{codes}
+use Rattle.mqtt_base.specs.declared.session.Qos.{Qos}
+use Rattle.mqtt_base.specs.declared.session.Qos.TheVariants.{AtMostOnce, AtLeastOnce, ExactlyOnce}
+use Rattle.mqtt_base.specs.declared.session.Cause.TheVariants.{Direct}
+use Rattle.mqtt_base.specs.declared.session.CopyId.{CopyId}
+use Rattle.mqtt_base.specs.declared.session.RetainHandling.TheVariants.{SendAlways}
+use Rattle.mqtt_base.specs.declared.session.SubscriptionOptions.{SubscriptionOptions}
+use Rattle.mqtt_props.specs.declared.table.PropName.TheVariants.{SessionExpiryInterval, ReceiveMaximum, TopicAliasMaximum, MaximumPacketSize}
+use Rattle.mqtt_props.specs.Properties.{Prop, U16, U32}
+use Rattle.mqtt_codec.specs.declared.connect.Will.{Will}
+use Rattle.mqtt_codec.specs.declared.publish.Publish.{Publish as Publication}
+use Rattle.mqtt_codec.specs.declared.publish.Delivery.TheVariants as delivery
+use Rattle.mqtt_codec.specs.declared.packet.Packet.{Packet}
+use Rattle.mqtt_codec.specs.declared.packet.Packet.TheVariants.{Connect, Publish, Subscribe, Unsubscribe}
+use Rattle.mqtt_codec.specs.Subscriptions.{Subscription as Asked}
+use Rattle.mqtt_codec.specs.Options.{options_byte}
+use Rattle.mqtt_flow.specs.declared.entry.Full.TheVariants.{Refuse}
+use Rattle.mqtt_records.specs.Records.{nothing}
+use Rattle.mqtt_rules.specs.declared.Limits.{Limits}
+use Rattle.mqtt_rules.specs.declared.Report.{Report}
+use Rattle.mqtt_rules.specs.Packets.{property, connack}
+use Rattle.mqtt_rules.specs.State.{Broker}
+use Rattle.mqtt_rules.specs.Step.{Call, NewLine, Input, Outcome, stepped, told, opened}
+
+abbrev pub usual : Limits
+usual = record { full = Refuse; queue = 1000; sessions = 1000; retained = 1000 }
+
+abbrev pub blank : Broker
+blank = record { records = nothing; lines = []; given = 0; now = 0 }
+
+-- the first eligible member of each group
+abbrev pub first : ℕ → List ℕ
+first n = []
+
+-- a call and its moment
+pub data Event : Type 0 where
+  at : (now : ℕ) (call : Call) → Event
+
+abbrev pub step_with : Limits → Event → Broker → Broker
+step_with limits (at now call) b = stepped limits first now call b
+
+abbrev pub runs_with : Limits → List Event → Broker → Broker
+runs_with limits [] b = b
+runs_with limits (e ∷ es) b = runs_with limits es (step_with limits e b)
+
+abbrev pub tells_with : Limits → Event → Broker → Outcome
+tells_with limits (at now call) b = told limits first now call b
+
+abbrev pub step : Event → Broker → Broker
+step e b = step_with usual e b
+
+abbrev pub runs : List Event → Broker → Broker
+runs es b = runs_with usual es b
+
+abbrev pub tells : Event → Broker → Outcome
+tells e b = tells_with usual e b
+
+-- what the last of the events tells
+abbrev pub asks : List Event → Event → Outcome
+asks es e = tells e (runs es blank)
+
+-- after a restart
+abbrev pub reopened : ℕ → Broker → Broker
+reopened now b = opened usual first now b.records
+
+abbrev pub out : List (ℕ × Packet) → List ℕ → List Report → Bool → Outcome
+out outputs closed reports again = record { outputs = outputs; closed = closed; reports = reports; again = again }
+
+-- ---- packets
+
+abbrev pub never_expires : Prop
+never_expires = property SessionExpiryInterval (U32 0xffffffff)
+
+abbrev pub hello_with : List ℕ → List Prop → Option Will → Packet
+hello_with name ps will = Connect (record {
+  clean_start = false; keep_alive = 0; properties = ps; client_identifier = name; will = will; user_name = None; password = None
+})
+
+abbrev pub hello : List ℕ → Packet
+hello name = hello_with name (never_expires ∷ []) None
+
+abbrev pub welcome : Bool → Packet
+welcome present =
+    connack present 0 (property ReceiveMaximum (U16 20) ∷ property TopicAliasMaximum (U16 10) ∷ property MaximumPacketSize (U32 65536) ∷ [])
+
+abbrev pub in_line : ℕ → Packet → List Event
+in_line n packet = at 0 NewLine ∷ at 0 (Input n packet) ∷ []
+
+abbrev pub options : Qos → SubscriptionOptions
+options qos = record { qos = qos; no_local = false; retain_as_published = false; retain_handling = SendAlways }
+
+abbrev pub wish : List ℕ → SubscriptionOptions → Asked
+wish filter o = record { filter = filter; options = options_byte o }
+
+abbrev pub wants_with : ℕ → List Prop → List Asked → Packet
+wants_with id ps asked = Subscribe (record { identifier = id; properties = ps; subscriptions = asked })
+
+abbrev pub wants : ℕ → List ℕ → Qos → Packet
+wants id filter qos = wants_with id [] (wish filter (options qos) ∷ [])
+
+abbrev pub gives_up : ℕ → List (List ℕ) → Packet
+gives_up id filters = Unsubscribe (record { identifier = id; properties = []; filters = filters })
+
+abbrev pub topic : List ℕ
+topic = codes "a/b"
+
+abbrev pub hi : List ℕ
+hi = codes "hi"
+
+-- a PUBLISH of QoS 2 to a/b
+abbrev pub message : ℕ → Publication
+message id = record { delivery = delivery.ExactlyOnce false id; retain = false; topic = topic; properties = []; payload = hi }
+
+abbrev pub sends : ℕ → Packet
+sends id = Publish (message id)
+
+-- and its copy
+abbrev pub copy_out : Bool → ℕ → List Prop → Packet
+copy_out dup id ps = Publish (record { delivery = delivery.ExactlyOnce dup id; retain = false; topic = topic; properties = ps; payload = hi })
+
+abbrev pub direct : ℕ → ℕ → CopyId
+direct number birth = record { publication = number; birth = birth; cause = Direct }
+
+-- r1 is there for a/b at QoS 2, and p1 is connected
+abbrev pub subscribed : List Event
+subscribed = at 0 NewLine ∷ at 0 (Input 1 (hello (codes "r1"))) ∷ at 0 (Input 1 (wants 1 topic ExactlyOnce)) ∷ at 0 NewLine ∷ at 0 (Input 2 (hello (codes "p1"))) ∷ []

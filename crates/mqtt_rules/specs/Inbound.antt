@@ -1,0 +1,180 @@
+-- What a connected client sends, SUBSCRIBE and UNSUBSCRIBE aside (MQTT 5.0, 3.3 to 3.7, 3.14, 4.3, 4.4).
+use Rattle.std.specs.Prelude.{ℕ, Bool, true, false, cond, not, ◌&&◌, ◌||◌, List, [], ◌∷◌, nat_eq, nat_lt, Option, Some, None, Result, Ok, Err}
+use Rattle.mqtt_base.specs.declared.session.Qos.{Qos}
+use Rattle.mqtt_base.specs.declared.session.Qos.TheVariants as qos
+use Rattle.mqtt_props.specs.declared.table.PropName.TheVariants.{SubscriptionIdentifier, TopicAlias}
+use Rattle.mqtt_props.specs.Laws.{has}
+use Rattle.mqtt_codec.specs.declared.publish.Delivery.{Delivery}
+use Rattle.mqtt_codec.specs.declared.publish.Delivery.TheVariants as delivery
+use Rattle.mqtt_codec.specs.declared.publish.Publish.{Publish}
+use Rattle.mqtt_codec.specs.Publish.{delivery_qos}
+use Rattle.mqtt_topic.specs.Names.{is_topic_name, is_empty}
+use Rattle.mqtt_topic.specs.Aliases.{topic_of}
+use Rattle.mqtt_flow.specs.declared.fault.FlowFault.{FlowFault}
+use Rattle.mqtt_flow.specs.declared.entry.Turn.{Turn}
+use Rattle.mqtt_flow.specs.declared.inflow.Published.{Published}
+use Rattle.mqtt_flow.specs.declared.inflow.Published.TheVariants.{New, Again, Over}
+use Rattle.mqtt_flow.specs.declared.inflow.Released.{Released}
+use Rattle.mqtt_flow.specs.declared.inflow.Released.TheVariants.{Known, Unknown}
+use Rattle.mqtt_flow.specs.Codes.{success, no_matching_subscribers, identifier_in_use, identifier_not_found, receive_maximum_exceeded, quota_exceeded}
+use Rattle.mqtt_flow.specs.Inbound.{answer_to, answer_to_release}
+use Rattle.mqtt_flow.specs.Outbound.{Answer, pump}
+use Rattle.mqtt_flow.specs.Outbound as rules
+use Rattle.mqtt_records.specs.declared.session.Session.{Session}
+use Rattle.mqtt_rules.specs.Packets.{puback, pubrec, pubcomp, number_at, passed_on}
+use Rattle.mqtt_rules.specs.State.{Line, Env, queue_on}
+use Rattle.mqtt_rules.specs.Deeds.{whose, Message, FromClient, SetExpiry, Open, Release, SetAlias, Deed, At, On, Send, Act, always, series}
+use Rattle.mqtt_rules.specs.Outbound.{turn_deeds, all_turn_deeds, way_of}
+use Rattle.mqtt_rules.specs.Routing.{Delivery as Delivered, routed, publish, is_wanted}
+use Rattle.mqtt_rules.specs.Closing.{close, drop_line}
+
+-- ---- the topic that a PUBLISH means, or the code for one that means none (3.3.2.1, 3.3.2.3.4)
+
+pub data Meaning : Type 0 where
+  Means : (topic : List ℕ) → Meaning
+  Wrong : (code : ℕ) → Meaning
+
+-- the greatest Topic Alias that the broker takes (3.2.2.3.8)
+abbrev pub alias_maximum : ℕ
+alias_maximum = 10
+
+abbrev pub is_out_of_range : Option ℕ → Bool
+is_out_of_range None = false
+is_out_of_range (Some n) = nat_eq n 0 || nat_lt alias_maximum n
+
+abbrev pub stands_for : Option ℕ → List (ℕ × List ℕ) → Option (List ℕ)
+stands_for None aliases = None
+stands_for (Some n) aliases = topic_of n aliases
+
+abbrev pub meant : Option (List ℕ) → Meaning
+meant None = Wrong 0x82
+meant (Some topic) = Means topic
+
+abbrev pub named : List ℕ → Meaning
+named topic = cond (is_topic_name topic) (Means topic) (Wrong 0x90)
+
+-- in the order of the refusals
+abbrev pub meaning : Publish → List (ℕ × List ℕ) → Meaning
+meaning p aliases =
+    let alias = number_at TopicAlias p.properties in
+    cond (has SubscriptionIdentifier p.properties) (Wrong 0x82) (
+    cond (is_out_of_range alias) (Wrong 0x94) (
+    cond (is_empty p.topic) (meant (stands_for alias aliases)) (
+    named p.topic)))
+
+-- an alias that comes with a topic is set
+abbrev pub sets_alias : Bool → Option ℕ → ℕ → List ℕ → List Deed
+sets_alias true alias line topic = []
+sets_alias false None line topic = []
+sets_alias false (Some n) line topic = On line (SetAlias n topic) ∷ []
+
+-- ---- PUBLISH (3.3.4, 4.3)
+
+-- what its identifier is: at QoS 0 it has none
+abbrev pub standing : Delivery → List ℕ → Published
+standing delivery.AtMostOnce ids = New
+standing (delivery.AtLeastOnce dup id) ids = answer_to id ids
+standing (delivery.ExactlyOnce dup id) ids = answer_to id ids
+
+abbrev pub answer : ℕ → Delivery → ℕ → List Deed
+answer line delivery.AtMostOnce code = []
+answer line (delivery.AtLeastOnce dup id) code = Send line (puback id code) ∷ []
+answer line (delivery.ExactlyOnce dup id) code = Send line (pubrec id code) ∷ []
+
+-- QoS 2 opens its identifier
+abbrev pub opens : Session → Delivery → List Deed
+opens s delivery.AtMostOnce = []
+opens s (delivery.AtLeastOnce dup id) = []
+opens s (delivery.ExactlyOnce dup id) = At (whose s) (Open id) ∷ []
+
+-- of an open identifier: QoS 2 is answered as before, QoS 1 isn't taken
+abbrev pub code_again : Delivery → ℕ
+code_again delivery.AtMostOnce = success
+code_again (delivery.AtLeastOnce dup id) = identifier_in_use
+code_again (delivery.ExactlyOnce dup id) = success
+
+abbrev pub code_accepted : Bool → ℕ
+code_accepted true = success
+code_accepted false = no_matching_subscribers
+
+abbrev pub publish_new : Env → Line → Session → Publish → Message → Option (List Delivered) → Act
+publish_new env l s p m None b = answer l.number p.delivery quota_exceeded
+publish_new env l s p m (Some ds) b = series (
+    publish env FromClient m ds
+    ∷ always (opens s p.delivery)
+    ∷ always (answer l.number p.delivery (code_accepted (is_wanted env m b.records)))
+    ∷ []) b
+
+abbrev pub publish_by : Published → Env → Line → Session → Publish → Message → Act
+publish_by Again env l s p m b = answer l.number p.delivery (code_again p.delivery)
+publish_by Over env l s p m b = drop_line env receive_maximum_exceeded l b
+publish_by New env l s p m b = publish_new env l s p m (routed env m b) b
+
+abbrev pub message_of : List ℕ → List ℕ → Publish → Message
+message_of client topic p = record {
+  sender = client; topic = topic; qos = delivery_qos p.delivery; retain = p.retain; properties = passed_on p.properties; payload = p.payload
+}
+
+abbrev pub publish_meant : Meaning → Env → Line → Session → Publish → Act
+publish_meant (Wrong code) env l s p b = drop_line env code l b
+publish_meant (Means topic) env l s p b = series (
+    always (sets_alias (is_empty p.topic) (number_at TopicAlias p.properties) l.number topic)
+    ∷ publish_by (standing p.delivery s.inbound) env l s p (message_of s.client topic p)
+    ∷ []) b
+
+abbrev pub on_publish : Env → Line → Session → Publish → Act
+on_publish env l s p b = publish_meant (meaning p l.aliases) env l s p b
+
+-- ---- PUBREL (4.3.3)
+
+abbrev pub release_by : Released → Line → Session → ℕ → List Deed
+release_by Known l s id = At (whose s) (Release id) ∷ Send l.number (pubcomp id success) ∷ []
+release_by Unknown l s id = Send l.number (pubcomp id identifier_not_found) ∷ []
+
+abbrev pub on_pubrel : Line → Session → ℕ → List Deed
+on_pubrel l s id = release_by (answer_to_release id s.inbound) l s id
+
+-- ---- a receiver's answers; one in a wrong phase breaks the protocol (4.3, ours)
+
+abbrev pub turned : Line → Session → ℕ → Option Turn → List Deed
+turned l s now None = []
+turned l s now (Some t) = turn_deeds now l.number s t
+
+abbrev pub answered : Answer → Env → Line → Session → Act
+answered (Ok t) env l s b = turned l s b.now t
+answered (Err fault) env l s b = drop_line env 0x82 l b
+
+abbrev pub on_puback : Env → Line → Session → ℕ → ℕ → Act
+on_puback env l s id code b = answered (rules.puback id code (queue_on l.went s)) env l s b
+
+abbrev pub on_pubrec : Env → Line → Session → ℕ → ℕ → Act
+on_pubrec env l s id code b = answered (rules.pubrec id code (queue_on l.went s)) env l s b
+
+abbrev pub on_pubcomp : Env → Line → Session → ℕ → Act
+on_pubcomp env l s id b = answered (rules.pubcomp id (queue_on l.went s)) env l s b
+
+-- ---- pump (4.6, 4.9)
+
+abbrev pub pump_turns : Line → ℕ → Session → List Turn
+pump_turns l now s = pump (way_of l now) (queue_on l.went s)
+
+abbrev pub pump_deeds : Line → ℕ → Session → List Deed
+pump_deeds l now s = all_turn_deeds now l.number s (pump_turns l now s)
+
+-- ---- DISCONNECT (3.14)
+
+-- a Session Expiry Interval above 0 where CONNECT had 0 (3.14.2.2.2)
+abbrev pub is_late_expiry : Option ℕ → ℕ → Bool
+is_late_expiry None expiry = false
+is_late_expiry (Some n) expiry = nat_lt 0 n && nat_eq expiry 0
+
+abbrev pub new_expiry : Option ℕ → Session → List Deed
+new_expiry None s = []
+new_expiry (Some n) s = At (whose s) (SetExpiry n) ∷ []
+
+abbrev pub leave_by : Bool → Env → Line → Session → ℕ → Option ℕ → Act
+leave_by true env l s code expiry b = drop_line env 0x82 l b
+leave_by false env l s code expiry b = series (always (new_expiry expiry s) ∷ close env (not (nat_eq code 0)) l ∷ []) b
+
+abbrev pub on_disconnect : Env → Line → Session → ℕ → Option ℕ → Act
+on_disconnect env l s code expiry b = leave_by (is_late_expiry expiry s.expiry) env l s code expiry b

@@ -1,0 +1,11 @@
+pub mod Packets
+pub mod State
+pub mod Deeds
+pub mod Outbound
+pub mod Routing
+pub mod Closing
+pub mod Connect
+pub mod Inbound
+pub mod Subscribe
+pub mod Tick
+pub mod Step

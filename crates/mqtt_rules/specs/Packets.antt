@@ -1,0 +1,121 @@
+-- What the rules read off packets, and how they write their own (MQTT 5.0, 3.1 to 3.14).
+use Rattle.std.specs.Prelude.{ℕ, ◌+◌, ◌-◌, ◌/◌, Bool, cond, List, [], ◌∷◌, ◌++◌, length, map, find, nat_eq, Option, Some, None, option_map, unwrap_or}
+use Rattle.mqtt_base.specs.declared.session.Qos.{Qos}
+use Rattle.mqtt_base.specs.declared.session.Qos.TheVariants as qos
+use Rattle.mqtt_base.specs.declared.reason.Reason.{Reason}
+use Rattle.mqtt_props.specs.declared.table.PropName.{PropName}
+use Rattle.mqtt_props.specs.declared.table.PropName.TheVariants.{PayloadFormatIndicator, MessageExpiryInterval, ContentType, ResponseTopic, CorrelationData, SubscriptionIdentifier, UserProperty}
+use Rattle.mqtt_props.specs.Properties.{Value, Byte, U16, U32, VarInt, Text, Binary, Pair, Prop}
+use Rattle.mqtt_props.specs.Laws.{is_named}
+use Rattle.mqtt_props.specs.Edits.{only, without}
+use Rattle.mqtt_codec.specs.declared.publish.Delivery.{Delivery}
+use Rattle.mqtt_codec.specs.declared.publish.Delivery.TheVariants as delivery
+use Rattle.mqtt_codec.specs.declared.packet.Packet.{Packet}
+use Rattle.mqtt_codec.specs.declared.packet.Packet.TheVariants.{Connack, Publish, Puback, Pubrec, Pubrel, Pubcomp, Suback, Unsuback, Disconnect}
+use Rattle.mqtt_codec.specs.ConnectFlags.{qos_of}
+use Rattle.mqtt_codec.specs.Packets.{shortest_of}
+use Rattle.mqtt_flow.specs.Outbound.{is_past}
+use Rattle.mqtt_records.specs.declared.message.Content.{Content}
+use Rattle.mqtt_records.specs.declared.message.MessageCopy.{MessageCopy}
+
+-- ---- properties
+
+abbrev pub number_in : Value → ℕ
+number_in (Byte n) = n
+number_in (U16 n) = n
+number_in (U32 n) = n
+number_in (VarInt n) = n
+number_in (Text text) = 0
+number_in (Binary bytes) = 0
+number_in (Pair key text) = 0
+
+-- the number that a property of this name has in a block, if it is there
+abbrev pub number_at : PropName → List Prop → Option ℕ
+number_at name ps = option_map (λ p. number_in p.value) (find (is_named name) ps)
+
+abbrev pub number_or : ℕ → PropName → List Prop → ℕ
+number_or absent name ps = unwrap_or (number_at name ps) absent
+
+abbrev pub property : PropName → Value → Prop
+property name value = record { name = name; value = value }
+
+-- what a publication passes on to its copies, in the order in which it is sent (3.3.2.3); a Topic Alias isn't
+abbrev pub passed_on : List Prop → List Prop
+passed_on ps =
+    only PayloadFormatIndicator ps ++ only MessageExpiryInterval ps ++ only ContentType ps ++ only ResponseTopic ps
+    ++ only CorrelationData ps ++ only UserProperty ps
+
+-- ---- packets that the broker sends
+
+abbrev pub reason : ℕ → Reason
+reason code = record { 0 = code }
+
+abbrev pub connack : Bool → ℕ → List Prop → Packet
+connack present code ps = Connack (record { session_present = present; reason = reason code; properties = ps })
+
+abbrev pub puback : ℕ → ℕ → Packet
+puback id code = Puback (record { identifier = id; reason = reason code; properties = [] })
+
+abbrev pub pubrec : ℕ → ℕ → Packet
+pubrec id code = Pubrec (record { identifier = id; reason = reason code; properties = [] })
+
+abbrev pub pubrel : ℕ → ℕ → Packet
+pubrel id code = Pubrel (record { identifier = id; reason = reason code; properties = [] })
+
+abbrev pub pubcomp : ℕ → ℕ → Packet
+pubcomp id code = Pubcomp (record { identifier = id; reason = reason code; properties = [] })
+
+abbrev pub suback : ℕ → List ℕ → Packet
+suback id codes = Suback (record { identifier = id; properties = []; codes = codes })
+
+abbrev pub unsuback : ℕ → List ℕ → Packet
+unsuback id codes = Unsuback (record { identifier = id; properties = []; codes = codes })
+
+abbrev pub disconnect : ℕ → Packet
+disconnect code = Disconnect (record { reason = reason code; properties = [] })
+
+-- bytes of a packet: those of its shortest spelling (2.1.4)
+abbrev pub size_of : Packet → ℕ
+size_of packet = length (shortest_of packet)
+
+-- ---- PUBLISH to a client
+
+-- a quality of service by its number; one above 2 isn't (4.3)
+abbrev pub quality : ℕ → Qos
+quality n = unwrap_or (qos_of n) qos.ExactlyOnce
+
+abbrev pub delivery_by : Qos → Bool → ℕ → Delivery
+delivery_by qos.AtMostOnce dup id = delivery.AtMostOnce
+delivery_by qos.AtLeastOnce dup id = delivery.AtLeastOnce dup id
+delivery_by qos.ExactlyOnce dup id = delivery.ExactlyOnce dup id
+
+-- whole seconds since the publication was accepted
+abbrev pub seconds_waited : ℕ → Content → ℕ
+seconds_waited now content = (now - content.arrived) / 1000
+
+-- its Message Expiry Interval has passed (3.3.2.3.3)
+abbrev pub is_expired : ℕ → Content → Bool
+is_expired now content = is_past (number_at MessageExpiryInterval content.properties) (seconds_waited now content)
+
+-- a property as it is sent: Message Expiry Interval less what was waited (3.3.2.3.3)
+abbrev pub aged : ℕ → Prop → Prop
+aged waited p = cond (is_named MessageExpiryInterval p) (property MessageExpiryInterval (U32 (number_in p.value - waited))) p
+
+abbrev pub identified : ℕ → Prop
+identified n = property SubscriptionIdentifier (VarInt n)
+
+-- the block of a copy: the publication's properties, before its User Properties the Subscription Identifiers (3.3.2.3)
+abbrev pub properties_sent : ℕ → MessageCopy → List Prop
+properties_sent now copy =
+    map (aged (seconds_waited now copy.content)) (without UserProperty copy.content.properties)
+    ++ map identified copy.identifiers ++ only UserProperty copy.content.properties
+
+-- a copy's PUBLISH at a moment, with its DUP flag and its packet identifier (3.3)
+abbrev pub publish_of : ℕ → Bool → ℕ → MessageCopy → Packet
+publish_of now dup id copy = Publish (record {
+  delivery = delivery_by copy.qos dup id;
+  retain = copy.retain;
+  topic = copy.content.topic;
+  properties = properties_sent now copy;
+  payload = copy.content.payload;
+})

@@ -1,0 +1,100 @@
+-- The state of a broker: what it stores, and the lines that clients have opened (MQTT 5.0, 4.1).
+use Rattle.std.specs.Prelude.{ℕ, suc, ◌+◌, ◌^◌, min, Bool, false, List, find, map, nat_eq, bytes_eq, Option, Some, None, is_none}
+use Rattle.mqtt_flow.specs.declared.entry.Entry.{Entry as FlowEntry}
+use Rattle.mqtt_flow.specs.declared.entry.QueuedCopy.{QueuedCopy}
+use Rattle.mqtt_flow.specs.FreeIdentifier.{has}
+use Rattle.mqtt_base.specs.declared.session.CopyId.{CopyId}
+use Rattle.mqtt_props.specs.declared.table.PropName.TheVariants.{MessageExpiryInterval}
+use Rattle.mqtt_records.specs.declared.message.MessageCopy.{MessageCopy}
+use Rattle.mqtt_records.specs.declared.queue.Entry.{Entry}
+use Rattle.mqtt_records.specs.declared.session.Session.{Session}
+use Rattle.mqtt_records.specs.declared.records.Records.{Records}
+use Rattle.mqtt_records.specs.Order.{row_at}
+use Rattle.mqtt_records.specs.Session.{birth_of}
+use Rattle.mqtt_routes.specs.Intended.{greatest}
+use Rattle.mqtt_rules.specs.declared.Limits.{Limits}
+use Rattle.mqtt_rules.specs.Packets.{number_at, publish_of, size_of}
+
+-- a line: one connection
+pub record Line : Type 0 where
+  pub number : ℕ
+  pub heard : ℕ  -- when it was linked, or its last whole packet came
+  pub session : Option ℕ  -- the birth of the session that is connected on it
+  pub keep_alive : ℕ  -- seconds, 0 turns it off (3.1.2.10)
+  pub window : ℕ  -- the client's Receive Maximum (3.1.2.11.3)
+  pub largest : ℕ  -- the client's Maximum Packet Size (3.1.2.11.4)
+  pub aliases : List (ℕ × List ℕ)  -- what Topic Aliases stand for (3.3.2.3.4)
+  pub went : List ℕ  -- the places of the copies whose PUBLISH went out on it
+
+pub record Broker : Type 0 where
+  pub records : Records  -- what is stored
+  pub lines : List Line  -- in the order in which they were linked
+  pub given : ℕ  -- lines so far
+  pub now : ℕ  -- the greatest moment handed in
+
+-- Stored: the part of the state that the store keeps
+abbrev pub stored : Broker → Records
+stored b = b.records
+
+-- what surrounds a step: the limits; the free choice, for the publication of each number, of a member for each group in
+-- order; and what was stored before the step
+pub record Env : Type 0 where
+  pub limits : Limits
+  pub choice : ℕ → List ℕ
+  pub start : Records
+
+-- ---- who is there
+
+abbrev pub session_at : ℕ → Records → Option Session
+session_at birth r = row_at birth_of birth r.sessions
+
+abbrev pub session_named : List ℕ → Records → Option Session
+session_named client r = find (λ s. bytes_eq s.client client) r.sessions
+
+abbrev pub is_connected : Session → Bool
+is_connected s = is_none s.closed
+
+abbrev pub line_at : ℕ → Broker → Option Line
+line_at n b = find (λ l. nat_eq l.number n) b.lines
+
+abbrev pub is_of : Option ℕ → ℕ → Bool
+is_of None birth = false
+is_of (Some x) birth = nat_eq x birth
+
+-- the line that a session is connected on
+abbrev pub line_of : ℕ → Broker → Option Line
+line_of birth b = find (λ l. is_of l.session birth) b.lines
+
+-- ---- a session's queue as the session rules see it
+
+abbrev pub copy_id : ℕ → MessageCopy → CopyId
+copy_id birth copy = record { publication = copy.publication; birth = birth; cause = copy.cause }
+
+abbrev pub queued_copy : ℕ → MessageCopy → QueuedCopy
+queued_copy birth copy = record {
+  id = copy_id birth copy;
+  qos = copy.qos;
+  size = size_of (publish_of copy.content.arrived false 1 copy);
+  arrived = copy.content.arrived;
+  expiry = number_at MessageExpiryInterval copy.content.properties;
+}
+
+abbrev pub entry_on : List ℕ → ℕ → Entry → FlowEntry
+entry_on went birth e = record { place = e.place; copy = queued_copy birth e.copy; phase = e.phase; here = has e.place went }
+
+-- the queue, with the copies whose PUBLISH went out on a line
+abbrev pub queue_on : List ℕ → Session → List FlowEntry
+queue_on went s = map (entry_on went s.birth) s.queue
+
+-- ---- numbers and moments
+
+-- a new number is one above the greatest that stands (ours)
+abbrev pub next_of : {X : Type 0} → (X → ℕ) → List X → ℕ
+next_of number xs = suc (greatest (map number xs))
+
+-- the last number and the last moment, in milliseconds (ours)
+abbrev pub top : ℕ
+top = 2 ^ 62
+
+abbrev pub later : ℕ → ℕ → ℕ
+later moment wait = min (moment + wait) top

@@ -1,0 +1,61 @@
+//! The rules of the broker: what each call does, as definitions (MQTT 5.0, 3 and 4). The types here are
+//! those that the rules speak of and the code shares; `docs/RULES.md` tells the rules in words.
+#![tactic(auto)]
+
+use mqtt_base::{CopyId, Ending, Text};
+use mqtt_flow::Full;
+
+/// The sizes of the tables.
+#[derive(Clone, Copy, Debug, PartialEq, Eq)]
+pub struct Limits {
+    /// What becomes of a copy for which a queue has no room.
+    pub full: Full,
+    /// The most copies in a session's queue, from 1 to 1,000.
+    pub queue: u32,
+    /// The most sessions, from 1 to 1,000.
+    pub sessions: u32,
+    /// The most retained messages, from 1 to 1,000.
+    pub retained: u32,
+}
+
+/// What a call tells beside its packets, in the order in which it came about.
+#[derive(Debug, PartialEq, Eq, Drop)]
+pub enum Report {
+    /// A publication was accepted (3.3.4).
+    Accepted {
+        /// Its number, from 1.
+        publication: u64,
+    },
+    /// A copy entered its session's queue (4.6).
+    Entered {
+        /// The copy.
+        copy: CopyId,
+        /// The client identifier of its session.
+        client: Text,
+    },
+    /// A PUBREL closed an open identifier of a QoS 2 publication (4.3.3).
+    Released {
+        /// The birth of the publisher's session.
+        birth: u64,
+        /// Its client identifier.
+        client: Text,
+        /// The packet identifier.
+        identifier: u16,
+    },
+    /// A copy left its session's queue (4.3, 4.4).
+    Ended {
+        /// The copy.
+        copy: CopyId,
+        /// The client identifier of its session.
+        client: Text,
+        /// How it ended.
+        ending: Ending,
+    },
+    /// A Will wasn't accepted and is dropped (3.1.2.5).
+    WillRefused {
+        /// The birth of its session.
+        birth: u64,
+        /// The client identifier.
+        client: Text,
+    },
+}
