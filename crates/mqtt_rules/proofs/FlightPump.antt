@@ -84,7 +84,7 @@ covers-closed place j used queue its flight covers other id h =
     has-closed_other id j used apart_ids ∙ covers other id left.1
 
 covers-left : (phase : Phase) (place : ℕ) (used : List ℕ) (queue : List Entry) → identifier_at place queue ≡ identifier_of phase → IsFlight queue → Covers used queue → Covers (freed phase used) (remove_row entry_place place queue)
-covers-left Waiting place used queue its flight covers other id h = covers other id (identifier-removed other place id queue h).1
+covers-left Waiting place used queue its flight covers = λ other id h. covers other id (identifier-removed other place id queue h).1
 covers-left (Sent j) place used queue its flight covers = covers-closed place j used queue its flight covers
 covers-left (Released j order) place used queue its flight covers = covers-closed place j used queue its flight covers
 covers-left (Oversize j order) place used queue its flight covers = covers-closed place j used queue its flight covers

@@ -1,3 +1,9 @@
 pub mod Play
 pub mod Examples
 pub mod Acts
+pub mod FlightRows
+pub mod FlightQueue
+pub mod FlightRecords
+pub mod FlightPump
+pub mod FlightActs
+pub mod FlightStep

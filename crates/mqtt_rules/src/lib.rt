@@ -2,6 +2,9 @@
 //! those that the rules speak of and the code shares; `docs/RULES.md` tells the rules in words.
 #![tactic(auto)]
 
+mod flight_laws;
+
+pub use flight_laws::identifiers_in_flight_are_unique;
 use mqtt_base::{CopyId, Ending, Text};
 use mqtt_flow::Full;
 
