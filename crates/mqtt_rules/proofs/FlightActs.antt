@@ -1,10 +1,9 @@
 -- A class of deeds, which may look at the state that a deed comes on: which facts make the deeds of every act good, the
 -- turns of a queue aside.
 use Rattle.std.proofs.Common.{◌≡◌, ℕ, Bool, true, false, cond, not, List, [], ◌∷◌, ◌++◌, filter, map, Option, Some, None, refl}
-use Rattle.std.specs.Prelude.{⊤, suc, nat_lt, flat_map, find, option_map, Ok, Err}
+use Rattle.std.specs.Prelude.{⊤, suc, nat_lt, flat_map, find, option_map}
 use Rattle.mqtt_base.specs.declared.session.Ending.TheVariants.{SessionEnded}
-use Rattle.mqtt_base.specs.declared.session.Phase.TheVariants.{Sent, Released as ReleasedPhase, Oversize}
-use Rattle.mqtt_props.specs.declared.table.PropName.TheVariants.{SessionExpiryInterval, SubscriptionIdentifier, TopicAlias}
+use Rattle.mqtt_props.specs.declared.table.PropName.TheVariants.{SubscriptionIdentifier, TopicAlias}
 use Rattle.mqtt_codec.specs.declared.connect.Connect.{Connect as Greeting}
 use Rattle.mqtt_codec.specs.declared.publish.Delivery.{Delivery as Quality}
 use Rattle.mqtt_codec.specs.declared.publish.Delivery.TheVariants as delivery
@@ -12,7 +11,7 @@ use Rattle.mqtt_codec.specs.declared.publish.Publish.{Publish as Publication}
 use Rattle.mqtt_codec.specs.declared.subscribe.Subscribe.{Subscribe as Asking}
 use Rattle.mqtt_codec.specs.declared.unsubscribe.Unsubscribe.{Unsubscribe as GivingUp}
 use Rattle.mqtt_codec.specs.declared.packet.Packet.{Packet}
-use Rattle.mqtt_codec.specs.declared.packet.Packet.TheVariants.{Connect, Publish, Puback, Pubrec, Pubrel, Pubcomp, Subscribe, Unsubscribe, Pingreq, Pingresp, Disconnect}
+use Rattle.mqtt_codec.specs.declared.packet.Packet.TheVariants.{Connect}
 use Rattle.mqtt_codec.specs.Subscriptions.{Subscription as Asked}
 use Rattle.mqtt_topic.specs.Names.{is_empty}
 use Rattle.mqtt_flow.specs.declared.entry.Turn.{Turn}
@@ -23,12 +22,10 @@ use Rattle.mqtt_flow.specs.declared.inflow.Released.{Released}
 use Rattle.mqtt_flow.specs.declared.inflow.Released.TheVariants.{Known, Unknown}
 use Rattle.mqtt_flow.specs.Codes.{success, identifier_in_use, identifier_not_found, quota_exceeded, receive_maximum_exceeded, session_taken_over}
 use Rattle.mqtt_flow.specs.Inbound.{answer_to, answer_to_release, is_open}
-use Rattle.mqtt_flow.specs.Outbound.{Answer, way_made, resumed_with}
-use Rattle.mqtt_flow.specs.Outbound as rules
+use Rattle.mqtt_flow.specs.Outbound.{way_made}
 use Rattle.mqtt_records.specs.declared.message.MessageCopy.{MessageCopy}
 use Rattle.mqtt_records.specs.declared.message.Retained.{Retained}
 use Rattle.mqtt_records.specs.declared.message.Will.{Will}
-use Rattle.mqtt_records.specs.declared.queue.Entry.{Entry}
 use Rattle.mqtt_records.specs.declared.session.Session.{Session}
 use Rattle.mqtt_records.specs.Order.{row_at}
 use Rattle.mqtt_records.specs.Session.{entry_place}
@@ -36,16 +33,16 @@ use Rattle.mqtt_rules.specs.Packets.{puback, pubrec, pubcomp, pubrel, suback, un
 use Rattle.mqtt_rules.specs.State.{Line, Broker, Env, session_at, session_named, line_at, line_of, is_connected, queue_on}
 use Rattle.mqtt_rules.specs.Deeds.{Whose, whose, Message, Origin, FromClient, FromWill, Part, Resume, Close, SetExpiry, DropWill, Open, Release, Enter, Mark, Leave, LinePart, Hear, SetAlias, Went, Deed, Accept, Begin, Name, Count, At, Finish, Keep, Forget, RefuseWill, Link, On, Send, Gone, after, after_all, Act, then, series, always, only_if, with_session, of_session, with_line, offer}
 use Rattle.mqtt_rules.specs.Deeds as deeds
-use Rattle.mqtt_rules.specs.Outbound.{of_entry, leave_deeds, turn_deeds, all_turn_deeds, since, queue_limits, enter_deeds}
+use Rattle.mqtt_rules.specs.Outbound.{leave_deeds, all_turn_deeds, since, queue_limits, enter_deeds}
 use Rattle.mqtt_rules.specs.Routing.{Delivery, is_queued, deliver_by, deliver, retained_of, forgets, retain_by, next_publication, publish, routed, is_wanted}
 use Rattle.mqtt_rules.specs.Closing.{has_due_will, has_due_end, will_message, publish_or_refuse, will_deeds, publish_will, end_session, settle, close_session, close_connected, close, drop_line}
 use Rattle.mqtt_rules.specs.Connect.{largest_of, refusal, refused, of_client, take_over, clear, prepare, will_of, fresh_row, resume, begin_named, joins, connect_by, on_connect}
-use Rattle.mqtt_rules.specs.Inbound.{Meaning, Means, Wrong, meaning, sets_alias, standing, answer, opens, code_again, code_accepted, publish_new, publish_by, message_of, publish_meant, on_publish, release_by, on_pubrel, turned, answered, pump_turns, pump_deeds, is_late_expiry, new_expiry, leave_by, on_disconnect}
+use Rattle.mqtt_rules.specs.Inbound.{Meaning, Means, Wrong, meaning, sets_alias, standing, answer, opens, code_again, code_accepted, publish_new, publish_by, message_of, publish_meant, on_publish, release_by, on_pubrel, is_late_expiry, new_expiry, leave_by, on_disconnect}
 use Rattle.mqtt_rules.specs.Subscribe.{Wish, wish_of, brought, has_filter, subscription, grants, granted_by, granted_to, next_number, all_granted, late_sends, subscribe_by, on_subscribe, unsubscribes, drop_codes, unsubscribe_by, on_unsubscribe}
 use Rattle.mqtt_rules.specs.Tick.{is_silent, silence, lapses, has_lapsed, lapse_deeds, is_stale, first_due, due, on_tick}
-use Rattle.mqtt_rules.specs.Step.{Call, NewLine, Input, BadInput, Lost, Pump, Tick, first_packet, next_packet, on_packet, on_fault, late_code, on_pump, can_link, deeds_of, close_if, opening}
+use Rattle.mqtt_rules.specs.Step.{first_packet, on_fault, late_code, close_if, opening}
 use Rattle.mqtt_flow.specs.Outbound.{due_from}
-use Rattle.mqtt_rules.proofs.Acts.{AreGood, GoodAct, GoodActs, good_append, good_then, good_series, good_two, good_map, good_flat, good_acts, good_cond, good_if, good_with_session, good_of_session, good_of_client, good_with_line, good_of_entry}
+use Rattle.mqtt_rules.proofs.Acts.{AreGood, GoodAct, good_append, good_series, good_two, good_map, good_flat, good_acts, good_cond, good_if, good_of_session, good_of_client, good_with_line, good_of_entry}
 
 -- the parts that open no identifier, and are no turn of the queue
 abbrev pub is_plain : Part → Bool

@@ -1,8 +1,8 @@
 -- A pump gives free identifiers: what its turns, one after the other, leave in a queue.
-use Rattle.std.proofs.Common.{◌≡◌, ℕ, zero, suc, Bool, true, false, ◌||◌, List, [], ◌∷◌, ◌++◌, map, nat_eq, nat_lt, refl, sym, ap, subst, ◌∙◌, arith, inl, inr}
+use Rattle.std.proofs.Common.{◌≡◌, ℕ, zero, suc, Bool, true, false, ◌||◌, List, [], ◌∷◌, ◌++◌, map, nat_eq, refl, sym, ap, subst, ◌∙◌, arith, inl, inr}
 use Rattle.std.specs.Prelude.{Option, Some, None}
 use Rattle.std.specs.List.{AllByRecursion}
-use Rattle.std.proofs.lemmas.Bool.{eqb-true, cases_Bool}
+use Rattle.std.proofs.lemmas.Bool.{cases_Bool}
 use Rattle.std.proofs.lemmas.Cmp.{nat_eq_equiv}
 use Rattle.mqtt_base.specs.declared.session.Qos.{Qos}
 use Rattle.mqtt_base.specs.declared.session.Qos.TheVariants.{AtMostOnce, AtLeastOnce, ExactlyOnce}
@@ -25,7 +25,7 @@ use Rattle.mqtt_records.specs.Session.{entry_place, in_phase}
 use Rattle.mqtt_records.proofs.OrderLemmas.{apart}
 use Rattle.mqtt_records.proofs.LookUps.{row_at-remove_row}
 use Rattle.mqtt_rules.specs.State.{Broker, Line, entry_on, queue_on, session_at}
-use Rattle.mqtt_rules.specs.Deeds.{whose, Mark, Leave, Went, Deed, At, On, Send, after, after_all}
+use Rattle.mqtt_rules.specs.Deeds.{whose, Mark, Leave, Went, At, On, Send, after, after_all}
 use Rattle.mqtt_rules.specs.Outbound.{of_entry, all_turn_deeds, way_of}
 use Rattle.mqtt_rules.specs.Packets.{publish_of}
 use Rattle.mqtt_rules.specs.Inbound.{pump_deeds}
@@ -76,11 +76,11 @@ covers-closed : (place j : ℕ) (used : List ℕ) (queue : List Entry) → ident
 covers-closed place j used queue its flight covers other id h =
     let left = identifier-removed other place id queue h in
     let apart_ids : nat_eq id j ≡ false = apart id j (λ same.
-      let one : place ≡ other = flight.identifiers place other id (its ∙ ap Some (sym same)) left.1 in
-      let is : nat_eq place other ≡ true = ap (λ n. nat_eq n other) one ∙ nat_eq_equiv.refl other in
-      let not = left.0 in
-      let no : true ≡ false = sym is ∙ not in
-      absurd cc) in
+    let one : place ≡ other = flight.identifiers place other id (its ∙ ap Some (sym same)) left.1 in
+    let is : nat_eq place other ≡ true = ap (λ n. nat_eq n other) one ∙ nat_eq_equiv.refl other in
+    let not = left.0 in
+    let no : true ≡ false = sym is ∙ not in
+    absurd cc) in
     has-closed_other id j used apart_ids ∙ covers other id left.1
 
 covers-left : (phase : Phase) (place : ℕ) (used : List ℕ) (queue : List Entry) → identifier_at place queue ≡ identifier_of phase → IsFlight queue → Covers used queue → Covers (freed phase used) (remove_row entry_place place queue)
@@ -161,9 +161,9 @@ module _ (way : Way) (now line : ℕ) (s : Session) (went : List ℕ) where
       let q = paced (turns.Leave e.place ending) e.phase p in
       subst (λ (o : Option Entry). HasDistinctIdentifiers (after_all (of_entry o (λ x. At (whose s) (Leave x ending) ∷ []) ++ all_turn_deeds now line s (rest q)) b).records) (sym at.was)
       (next q (remove_row entry_place e.place queue) (after (At (whose s) (Leave e ending)) b)
-        (covers-left e.phase e.place p.used queue (ap identifier_in at.there) (flight_of s.birth queue b.records at.sits) at.covers)
-        (ahead-removed e.place queue es at.above at.ahead)
-        (sits-left (whose s) e ending queue b.records at.sits))
+      (covers-left e.phase e.place p.used queue (ap identifier_in at.there) (flight_of s.birth queue b.records at.sits) at.covers)
+      (ahead-removed e.place queue es at.above at.ahead)
+      (sits-left (whose s) e ending queue b.records at.sits))
 
   take_outgrow : (i : ℕ) (e : Entry) (es queue : List Entry) (p : Pacing) (b : Broker) (rest : Pacing → List Turn) → identifier_of e.phase ≡ Some i → Place e es queue p b → Next es rest → Told (then_on (in_room 1 (turns.Outgrow e.place i p.order)) e.phase p rest) b
   take_outgrow i e es queue p b rest its at next =
@@ -179,12 +179,12 @@ module _ (way : Way) (now line : ℕ) (s : Session) (went : List ℕ) where
       let q = paced (turns.Send e.place i) e.phase p in
       subst (λ (o : Option Entry). HasDistinctIdentifiers (after_all (of_entry o (λ x. At (whose s) (Mark e.place (Sent i)) ∷ On line (Went e.place) ∷ Send line (publish_of now false i x.copy) ∷ []) ++ all_turn_deeds now line s (rest q)) b).records) (sym at.was)
       (next q (change_row entry_place e.place (in_phase (Sent i)) queue) (after (Send line (publish_of now false i e.copy)) (after (On line (Went e.place)) (after (At (whose s) (Mark e.place (Sent i))) b)))
-        (covers-sent e.place i e p.used queue at.there at.covers)
-        (ahead-marked e.place (Sent i) queue es at.above at.ahead)
-        (sits-marked (whose s) e.place (Sent i) queue b.records at.sits
-          (flight-sent e.place i e queue at.there
-            (λ other h. let no : true ≡ false = sym (at.covers other i h) ∙ free_is_free p.used in absurd cc)
-            (flight_of s.birth queue b.records at.sits))))
+      (covers-sent e.place i e p.used queue at.there at.covers)
+      (ahead-marked e.place (Sent i) queue es at.above at.ahead)
+      (sits-marked (whose s) e.place (Sent i) queue b.records at.sits
+      (flight-sent e.place i e queue at.there
+      (λ other h. let no : true ≡ false = sym (at.covers other i h) ∙ free_is_free p.used in absurd cc)
+      (flight_of s.birth queue b.records at.sits))))
 
   take_resend : (i : ℕ) (e : Entry) (es queue : List Entry) (p : Pacing) (b : Broker) (rest : Pacing → List Turn) → Place e es queue p b → Next es rest → Told (then_on (in_room 1 (turns.Resend e.place i)) e.phase p rest) b
   take_resend i e es queue p b rest at next =
@@ -214,7 +214,7 @@ module _ (way : Way) (now line : ℕ) (s : Session) (went : List ℕ) where
   walk (e ∷ es) up was p queue b covers ahead sits =
       let x = entry_on went s.birth e in
       walk_by p.left (verdict way x) e es queue p b (pump_from way (map (entry_on went s.birth) es)) (right way x.copy x.here e.phase)
-      (record { was = was.0; there = ahead.0; above = up.0; ahead = ahead.1; covers = covers; sits = sits; })
+      (record { was = was.0; there = ahead.0; above = up.0; ahead = ahead.1; covers = covers; sits = sits })
       (walk es up.1 was.1)
 
   pub pump_distinct : (b : Broker) → Sits s.birth s.queue b.records → Told (pump way (queue_on went s)) b
@@ -226,4 +226,4 @@ module _ (way : Way) (now line : ℕ) (s : Session) (went : List ℕ) where
 -- a pump keeps identifiers distinct
 pub pump_keeps : (l : Line) (now : ℕ) (s : Session) (b : Broker) → session_at s.birth b.records ≡ Some s → HasDistinctIdentifiers b.records → HasDistinctIdentifiers (after_all (pump_deeds l now s) b).records
 pump_keeps l now s b there h =
-    pump_distinct (way_of l now) now l.number s l.went b (record { session = s; there = there; its_queue = refl; distinct = h; })
+    pump_distinct (way_of l now) now l.number s l.went b (record { session = s; there = there; its_queue = refl; distinct = h })

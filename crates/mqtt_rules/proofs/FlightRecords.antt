@@ -1,26 +1,24 @@
 -- The packet identifiers of all sessions after a deed.
-use Rattle.std.proofs.Common.{◌≡◌, ℕ, Bool, true, false, cond, not, List, [], ◌∷◌, ◌++◌, nat_eq, refl, sym, ap, subst, ◌∙◌, inl, inr}
+use Rattle.std.proofs.Common.{◌≡◌, ℕ, Bool, true, false, cond, List, [], ◌∷◌, refl, sym, ap, subst}
 use Rattle.std.specs.Prelude.{Option, Some, None}
 use Rattle.std.specs.List.{AllByRecursion}
-use Rattle.std.proofs.lemmas.Bool.{cases_Bool}
 use Rattle.mqtt_base.specs.declared.session.Phase.{Phase}
 use Rattle.mqtt_base.specs.declared.session.Ending.{Ending}
 use Rattle.mqtt_records.specs.declared.queue.Entry.{Entry}
 use Rattle.mqtt_records.specs.declared.message.Will.{Will}
 use Rattle.mqtt_records.specs.declared.session.Session.{Session}
 use Rattle.mqtt_records.specs.declared.session.Columns.{Columns}
-use Rattle.mqtt_records.specs.declared.session.TheConstants.{INBOUND_LIMIT}
 use Rattle.mqtt_records.specs.declared.queue.TheConstants.{QUEUE_LIMIT}
 use Rattle.mqtt_records.specs.declared.records.TheConstants.{SESSION_LIMIT}
 use Rattle.mqtt_records.specs.declared.records.Records.{Records}
 use Rattle.mqtt_records.specs.declared.change.Change.{Change}
 use Rattle.mqtt_records.specs.declared.change.Counter.{Counter}
 use Rattle.mqtt_records.specs.declared.change.Counter.TheVariants.{Births, Publications, Subscribes, Autos, Moment}
-use Rattle.mqtt_records.specs.Order.{row_at, has_row, put_row, remove_row, change_row}
+use Rattle.mqtt_records.specs.Order.{has_row, put_row, remove_row, change_row}
 use Rattle.mqtt_records.specs.Session.{birth_of, entry_place, in_phase, fresh, with_columns, with_will, with_phase, without_copy}
-use Rattle.mqtt_records.specs.Records.{nothing, with_counter, put_session, in_session, changed, changed_all}
-use Rattle.mqtt_rules.specs.State.{Broker, session_at}
-use Rattle.mqtt_rules.specs.Deeds.{Whose, whose, Part, Resume, Close, SetExpiry, DropWill, Subscribe, Unsubscribe, Open, Release, Enter, Mark, Leave, Deed, At, will_row, new_entry, part_rows, part_rows_of, begin_rows, stored_after, after, after_all}
+use Rattle.mqtt_records.specs.Records.{with_counter, in_session, changed, changed_all}
+use Rattle.mqtt_rules.specs.State.{session_at}
+use Rattle.mqtt_rules.specs.Deeds.{Whose, Part, Resume, Close, SetExpiry, DropWill, Subscribe, Unsubscribe, Open, Release, Enter, Mark, Leave, At, will_row, new_entry, part_rows, part_rows_of, begin_rows, stored_after}
 use Rattle.mqtt_rules.specs.Flight.{IsFlight, HasDistinctIdentifiers}
 use Rattle.mqtt_rules.proofs.FlightRows.{found_key, all_at, all_changed, all_changed_at, all_put, all_removed, change_row-here}
 use Rattle.mqtt_rules.proofs.FlightQueue.{flight-put, flight-removed}
@@ -30,7 +28,7 @@ abbrev pub Queued : Session → Type 0
 Queued s = IsFlight s.queue
 
 pub flight-nothing : IsFlight []
-flight-nothing = record { places = tt; identifiers = λ place other id h k. absurd cc; }
+flight-nothing = record { places = tt; identifiers = λ place other id h k. absurd cc }
 
 pub counter_keeps : (counter : Counter) (value : ℕ) (r : Records) → HasDistinctIdentifiers r → HasDistinctIdentifiers (with_counter counter value r)
 counter_keeps Births value r h = h
@@ -128,4 +126,4 @@ sits-left who e ending queue r sits =
     let s = sits.session in
     subst (Sits who.birth (remove_row entry_place e.place queue)) (sym (stored_is who (Leave e ending) r s sits.there))
     (sits-changed who.birth (remove_row entry_place e.place queue) (without_copy e.place) r s sits.there (λ t. refl) (ap (remove_row entry_place e.place) sits.its_queue)
-      (flight-removed e.place queue (flight_of who.birth queue r sits)) sits.distinct)
+    (flight-removed e.place queue (flight_of who.birth queue r sits)) sits.distinct)

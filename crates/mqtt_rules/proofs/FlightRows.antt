@@ -1,9 +1,8 @@
 -- Rows by their keys: what a change of one leaves, and what holds of all.
-use Rattle.std.proofs.Common.{◌≡◌, ℕ, ◌<◌, Bool, true, false, cond, ◌||◌, List, [], ◌∷◌, length, nat_eq, nat_lt, refl, sym, ap, subst, ◌∙◌, arith, inl, inr}
-use Rattle.std.specs.Prelude.{Option, Some, None}
+use Rattle.std.proofs.Common.{◌≡◌, ℕ, ◌<◌, true, false, cond, ◌||◌, List, [], ◌∷◌, length, nat_eq, nat_lt, refl, sym, ap, subst, ◌∙◌, arith, inl, inr}
+use Rattle.std.specs.Prelude.{Option, Some}
 use Rattle.std.specs.List.{AllByRecursion}
 use Rattle.std.proofs.lemmas.Bool.{eqb-true, cases_Bool}
-use Rattle.std.proofs.lemmas.Cmp.{nat_eq_equiv}
 use Rattle.mqtt_records.specs.Order.{IsAbove, IsAscending, row_at, has_row, insert_row, put_row, remove_row, change_row}
 use Rattle.mqtt_records.proofs.OrderLemmas.{apart}
 use Rattle.mqtt_records.proofs.LookUps.{row_at-here}
@@ -35,9 +34,10 @@ module _ {X : Type 0} (key : X → ℕ) where
 
   pub all_found : (xs : List X) → IsAscending key xs → AllByRecursion (λ x. row_at key (key x) xs ≡ Some x) xs
   all_found [] up = tt
-  all_found (y ∷ ys) up =
-      (row_at-here key y ys,
-       all_more (λ x. row_at key (key x) ys ≡ Some x) (λ x. row_at key (key x) (y ∷ ys) ≡ Some x) ys (λ x h. found_behind (key x) x y ys up.0 h) (all_found ys up.1))
+  all_found (y ∷ ys) up = (
+    row_at-here key y ys,
+    all_more (λ x. row_at key (key x) ys ≡ Some x) (λ x. row_at key (key x) (y ∷ ys) ≡ Some x) ys (λ x h. found_behind (key x) x y ys up.0 h) (all_found ys up.1),
+  )
 
   pub change_row-other : (k j : ℕ) (f : X → X) (xs : List X) → ((x : X) → key (f x) ≡ key x) → nat_eq j k ≡ false → row_at key k (change_row key j f xs) ≡ row_at key k xs
   change_row-other k j f [] keeps differ = refl

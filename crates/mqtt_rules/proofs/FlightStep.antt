@@ -1,5 +1,5 @@
 -- Packet identifiers stay distinct in every step and in every opening.
-use Rattle.std.proofs.Common.{◌≡◌, ℕ, Bool, true, false, cond, List, [], ◌∷◌, ◌++◌, map, refl, sym, ap, subst, ◌∙◌, inl, inr}
+use Rattle.std.proofs.Common.{◌≡◌, ℕ, Bool, true, false, cond, List, [], ◌∷◌, map, refl, sym, ap, subst, ◌∙◌, inl, inr}
 use Rattle.std.specs.Prelude.{suc, Option, Some, None, find, Ok, Err}
 use Rattle.std.proofs.lemmas.Bool.{cases_Bool}
 use Rattle.mqtt_base.specs.declared.session.Qos.{Qos}
@@ -8,7 +8,7 @@ use Rattle.mqtt_base.specs.declared.session.Phase.{Phase}
 use Rattle.mqtt_base.specs.declared.session.Phase.TheVariants.{Waiting, Sent, Released, Oversize}
 use Rattle.mqtt_props.specs.declared.table.PropName.TheVariants.{SessionExpiryInterval}
 use Rattle.mqtt_codec.specs.declared.packet.Packet.{Packet}
-use Rattle.mqtt_codec.specs.declared.packet.Packet.TheVariants.{Publish, Puback, Pubrec, Pubrel, Pubcomp, Subscribe, Unsubscribe, Pingreq, Pingresp, Disconnect}
+use Rattle.mqtt_codec.specs.declared.packet.Packet.TheVariants.{Publish, Puback, Pubrec, Pubrel, Pubcomp, Subscribe, Unsubscribe, Pingreq, Disconnect}
 use Rattle.mqtt_flow.specs.declared.entry.Entry.{Entry as FlowEntry}
 use Rattle.mqtt_flow.specs.declared.entry.Turn.{Turn}
 use Rattle.mqtt_flow.specs.declared.entry.Turn.TheVariants as turns
@@ -19,27 +19,27 @@ use Rattle.mqtt_records.specs.declared.queue.Entry.{Entry}
 use Rattle.mqtt_records.specs.declared.session.Session.{Session}
 use Rattle.mqtt_records.specs.declared.records.Records.{Records}
 use Rattle.mqtt_records.specs.declared.change.Change.{Change}
-use Rattle.mqtt_records.specs.Order.{IsAscending, row_at, change_row}
-use Rattle.mqtt_records.specs.Session.{birth_of, entry_place, in_phase}
+use Rattle.mqtt_records.specs.Order.{IsAscending, row_at}
+use Rattle.mqtt_records.specs.Session.{birth_of, entry_place}
 use Rattle.mqtt_records.proofs.LookUps.{row_at-here}
 use Rattle.mqtt_rules.specs.declared.Limits.{Limits}
-use Rattle.mqtt_rules.specs.Packets.{number_at, pubrel}
+use Rattle.mqtt_rules.specs.Packets.{number_at}
 use Rattle.mqtt_rules.specs.State.{Line, Broker, Env, session_at, line_at, entry_on, queue_on}
 use Rattle.mqtt_rules.specs.Routing.{publish}
 use Rattle.mqtt_rules.specs.Deeds.{Whose, whose, FromClient, Part, Resume, Close, SetExpiry, DropWill, Open, Release, Enter, Mark, Leave, Hear, Deed, Link, Send, At, On, after, after_all, rows_of_all, series, always, with_session, with_line}
 use Rattle.mqtt_rules.specs.Deeds as deeds
 use Rattle.mqtt_rules.specs.Outbound.{of_entry, turn_deeds}
 use Rattle.mqtt_rules.specs.Inbound.{turned, answered, pump_deeds, on_publish, on_pubrel, on_disconnect}
-use Rattle.mqtt_rules.specs.Step.{first_packet, Call, NewLine, Input, BadInput, Lost, Pump, Tick, next_packet, on_packet, on_fault, on_pump, can_link, deeds_of, deeds as step_deeds, env_of, at_moment, with_moment, done, stepped, unopened, opening, opened}
+use Rattle.mqtt_rules.specs.Step.{first_packet, Call, NewLine, Input, BadInput, Lost, Pump, Tick, next_packet, on_packet, on_fault, on_pump, can_link, deeds_of, deeds as step_deeds, env_of, at_moment, with_moment, stepped, unopened, opening, opened}
 use Rattle.mqtt_rules.specs.Closing.{close, drop_line}
 use Rattle.mqtt_rules.specs.Subscribe.{on_subscribe, on_unsubscribe}
 use Rattle.mqtt_rules.specs.Tick.{due}
-use Rattle.mqtt_rules.specs.Flight.{IsFlight, HasDistinctIdentifiers}
+use Rattle.mqtt_rules.specs.Flight.{HasDistinctIdentifiers}
 use Rattle.mqtt_rules.proofs.Acts.{AreGood, after_append, good_cond, good_with_line}
 use Rattle.mqtt_rules.proofs.FlightActs.{PlainFacts, is_plain, good_drop, good_close, good_on_publish, good_on_pubrel, good_on_subscribe, good_on_unsubscribe, good_on_disconnect, good_first_packet, good_on_fault, good_on_tick, good_due, good_opening}
 use Rattle.mqtt_rules.proofs.FlightRows.{found_key, found_behind}
 use Rattle.mqtt_rules.proofs.FlightQueue.{flight-kept}
-use Rattle.mqtt_rules.proofs.FlightRecords.{Unmarked, Sits, flight_of, sits-marked, counter_keeps, put_keeps, begin_keeps, remove_keeps, parts_keep}
+use Rattle.mqtt_rules.proofs.FlightRecords.{Unmarked, Sits, flight_of, sits-marked, begin_keeps, remove_keeps, parts_keep}
 use Rattle.mqtt_rules.proofs.FlightPump.{pump_keeps}
 
 -- ---- each deed that is no turn of a queue
@@ -68,8 +68,8 @@ keeping = record {
   count = λ b h. h;
   at_part = λ who part b p h. parts_keep part (session_at who.birth b.records) b.records (unmarked part p) h;
   open_id = λ birth s id env m ds b there new h.
-    let r = (after_all (publish env FromClient m ds b) b).records in
-    parts_keep (Open id) (session_at s.birth r) r tt h;
+      let r = (after_all (publish env FromClient m ds b) b).records in
+      parts_keep (Open id) (session_at s.birth r) r tt h;
   finish = λ who b h. remove_keeps who.birth b.records h;
   keep = λ kept b h. h;
   forget = λ place b h. h;
@@ -112,9 +112,9 @@ turn_keeps : (now line : ℕ) (s : Session) (t : Turn) (b : Broker) → Kept s t
 turn_keeps now line s (turns.Send place i) b kept there h = absurd kept
 turn_keeps now line s (turns.Resend place i) b kept there h = absurd kept
 turn_keeps now line s (turns.Release place i order) b kept there h =
-    let sits : Sits s.birth s.queue b.records = record { session = s; there = there; its_queue = refl; distinct = h; } in
+    let sits : Sits s.birth s.queue b.records = record { session = s; there = there; its_queue = refl; distinct = h } in
     (sits-marked (whose s) place (Released i order) s.queue b.records sits
-      (flight-kept place (Released i order) kept.0 s.queue kept.1 (sym kept.2) (flight_of s.birth s.queue b.records sits))).distinct
+    (flight-kept place (Released i order) kept.0 s.queue kept.1 (sym kept.2) (flight_of s.birth s.queue b.records sits))).distinct
 turn_keeps now line s (turns.Outgrow place i order) b kept there h = absurd kept
 turn_keeps now line s (turns.Repeat i) b kept there h = h
 turn_keeps now line s (turns.Unknown i) b kept there h = h
@@ -167,10 +167,10 @@ find_by went birth test (e ∷ es) x up h = elim (cases_Bool (test (entry_on wen
   | inl here ↦
       let it : Some (entry_on went birth e) ≡ Some x = rw here at h in
       let is : entry_on went birth e ≡ x = cc in
-      subst (Source (e ∷ es)) is (record { entry = e; there = row_at-here entry_place e es; phase = refl; })
+      subst (Source (e ∷ es)) is (record { entry = e; there = row_at-here entry_place e es; phase = refl })
   | inr further ↦
       let source = find_by went birth test es x up.1 (rw further at h) in
-      record { entry = source.entry; there = found_behind entry_place x.place source.entry e es up.0 source.there; phase = source.phase; }
+      record { entry = source.entry; there = found_behind entry_place x.place source.entry e es up.0 source.there; phase = source.phase }
 ]
 
 released_by_kept : (s : Session) (b : Bool) (x : FlowEntry) (i order : ℕ) → Source s.queue x → x.phase ≡ Sent i → KeptAnswer s (released_by b x.place i order)
@@ -203,7 +203,7 @@ pubcomp_keeps env l s id b there h = answered_keeps (rules.pubcomp id (queue_on 
 pubrec_keeps : (env : Env) (l : Line) (s : Session) (id code : ℕ) (b : Broker) → session_at s.birth b.records ≡ Some s → HasDistinctIdentifiers b.records → HasDistinctIdentifiers (after_all (answered (rules.pubrec id code (queue_on l.went s)) env l s b) b).records
 pubrec_keeps env l s id code b there h =
     let queue = queue_on l.went s in
-    let up = (flight_of s.birth s.queue b.records (record { session = s; there = there; its_queue = refl; distinct = h; })).places in
+    let up = (flight_of s.birth s.queue b.records (record { session = s; there = there; its_queue = refl; distinct = h })).places in
     answered_keeps (rules.pubrec id code queue) env l s b
     (pubrec_kept s id code (next_order queue) (holder id queue) (λ x found. find_by l.went s.birth (λ e. is_holder id e.phase) s.queue x up found)) there h
 
