@@ -2,8 +2,14 @@
 //! those that the rules speak of and the code shares; `docs/RULES.md` tells the rules in words.
 #![tactic(auto)]
 
+mod number_laws;
+
 use mqtt_base::{CopyId, Ending, Text};
 use mqtt_flow::Full;
+pub use number_laws::{
+    births_are_new, counted_numbers_are_apart, counters_never_fall, new_places_are_last,
+    numbers_are_new,
+};
 
 /// The sizes of the tables.
 #[derive(Clone, Copy, Debug, PartialEq, Eq)]
