@@ -7,3 +7,7 @@ pub mod FlightRecords
 pub mod FlightPump
 pub mod FlightActs
 pub mod FlightStep
+pub mod NumberFacts
+pub mod NumberBirths
+pub mod NumberSteps
+pub mod NumberPlaces

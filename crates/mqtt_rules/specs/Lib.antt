@@ -10,3 +10,4 @@ pub mod Subscribe
 pub mod Tick
 pub mod Step
 pub mod Flight
+pub mod Numbers

@@ -3,10 +3,15 @@
 #![tactic(auto)]
 
 mod flight_laws;
+mod number_laws;
 
 pub use flight_laws::identifiers_in_flight_are_unique;
 use mqtt_base::{CopyId, Ending, Text};
 use mqtt_flow::Full;
+pub use number_laws::{
+    births_are_new, counted_numbers_are_apart, counters_never_fall, new_places_are_last,
+    numbers_are_new,
+};
 
 /// The sizes of the tables.
 #[derive(Clone, Copy, Debug, PartialEq, Eq)]
