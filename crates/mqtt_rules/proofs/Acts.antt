@@ -22,7 +22,7 @@ use Rattle.mqtt_flow.specs.declared.inflow.Released.{Released}
 use Rattle.mqtt_flow.specs.declared.inflow.Released.TheVariants.{Known, Unknown}
 use Rattle.mqtt_flow.specs.Codes.{success, identifier_in_use, identifier_not_found, quota_exceeded, receive_maximum_exceeded, session_taken_over}
 use Rattle.mqtt_flow.specs.Inbound.{answer_to, answer_to_release, is_open}
-use Rattle.mqtt_flow.specs.Outbound.{Answer, way_made, resumed_with}
+use Rattle.mqtt_flow.specs.Outbound.{Answer, way_made, due_from}
 use Rattle.mqtt_flow.specs.Outbound as rules
 use Rattle.mqtt_records.specs.declared.message.MessageCopy.{MessageCopy}
 use Rattle.mqtt_records.specs.declared.message.Retained.{Retained}
@@ -49,18 +49,19 @@ pub after_append : (xs ys : List Deed) (b : Broker) → after_all (xs ++ ys) b �
 after_append [] ys b = refl
 after_append (x ∷ xs) ys b = after_append xs ys (after x b)
 
--- the parts that open no identifier
-abbrev pub opens_none : Part → Bool
-opens_none (Open id) = false
-opens_none part = true
+-- the parts that open no identifier, and are no turn of the queue
+abbrev pub is_plain : Part → Bool
+is_plain (Open id) = false
+is_plain (Mark place phase) = false
+is_plain part = true
 
 -- what makes deeds good: each kind of deed, on the state that it comes on in a step
-pub record Facts (Good : Deed → Broker → Type 0) : Type 0 where
+pub record PlainFacts (Good : Deed → Broker → Type 0) : Type 0 where
   pub accept : (origin : Origin) (m : Message) (b : Broker) → Good (Accept (next_publication b.records) origin m) b
   pub begin_row : (client : List ℕ) (c : Greeting) (b : Broker) → Good (Begin (fresh_row (suc b.records.births) client c) (will_of c)) b
   pub name : (b : Broker) → Good (Name (suc b.records.autos)) b
   pub count : (b : Broker) → Good (Count (next_number b.records)) b
-  pub at_part : (who : Whose) (part : Part) (b : Broker) → opens_none part ≡ true → Good (At who part) b
+  pub at_part : (who : Whose) (part : Part) (b : Broker) → is_plain part ≡ true → Good (At who part) b
   -- an identifier opens where its PUBLISH was new to the session, which stood before the publication's deeds
   pub open_id : (birth : ℕ) (s : Session) (id : ℕ) (env : Env) (m : Message) (ds : List Delivery) (b : Broker)
       → session_at birth b.records ≡ Some s → answer_to id s.inbound ≡ New
@@ -145,14 +146,14 @@ module _ (Good : Deed → Broker → Type 0) where
   good_of_entry None f b h = tt
   good_of_entry (Some e) f b h = h e
 
--- ---- act by act
+-- ---- act by act, the turns of a queue aside
 
-module _ (Good : Deed → Broker → Type 0) (facts : Facts Good) where
+module _ (Good : Deed → Broker → Type 0) (facts : PlainFacts Good) where
   pub good_offer : (l : Option Line) (packet : Packet) (b : Broker) → AreGood Good (offer l packet) b
   good_offer None packet b = tt
   good_offer (Some l) packet b = good_cond Good _ (Send l.number packet ∷ []) [] b (facts.send l.number packet b, tt) tt
 
-  pub good_part : (who : Whose) (part : Part) → opens_none part ≡ true → GoodAct Good (always (At who part ∷ []))
+  pub good_part : (who : Whose) (part : Part) → is_plain part ≡ true → GoodAct Good (always (At who part ∷ []))
   good_part who part q b = (facts.at_part who part b q, tt)
 
   -- a session's queue
@@ -160,22 +161,6 @@ module _ (Good : Deed → Broker → Type 0) (facts : Facts Good) where
   good_leave s (turns.Leave place ending) b =
       good_of_entry Good (row_at entry_place place s.queue) (λ e. At (whose s) (Leave e ending) ∷ []) b (λ e. (facts.at_part (whose s) (Leave e ending) b refl, tt))
   good_leave s t b = tt
-
-  pub good_turn : (now line : ℕ) (s : Session) (t : Turn) (b : Broker) → AreGood Good (turn_deeds now line s t) b
-  good_turn now line s (turns.Send place id) b =
-      good_of_entry Good (row_at entry_place place s.queue) (λ e. At (whose s) (Mark place (Sent id)) ∷ On line (Went place) ∷ Send line (publish_of now false id e.copy) ∷ []) b
-      (λ e. (facts.at_part (whose s) (Mark place (Sent id)) b refl, (facts.on_line line (Went place) _, (facts.send line (publish_of now false id e.copy) _, tt))))
-  good_turn now line s (turns.Resend place id) b =
-      good_of_entry Good (row_at entry_place place s.queue) (λ e. On line (Went place) ∷ Send line (publish_of now true id e.copy) ∷ []) b
-      (λ e. (facts.on_line line (Went place) b, (facts.send line (publish_of now true id e.copy) _, tt)))
-  good_turn now line s (turns.Release place id order) b = (facts.at_part (whose s) (Mark place (ReleasedPhase id order)) b refl, (facts.send line (pubrel id success) _, tt))
-  good_turn now line s (turns.Outgrow place id order) b = (facts.at_part (whose s) (Mark place (Oversize id order)) b refl, (facts.send line (pubrel id success) _, tt))
-  good_turn now line s (turns.Repeat id) b = (facts.send line (pubrel id success) b, tt)
-  good_turn now line s (turns.Unknown id) b = (facts.send line (pubrel id identifier_not_found) b, tt)
-  good_turn now line s (turns.Leave place ending) b = good_leave s (turns.Leave place ending) b
-
-  pub good_turns : (now line : ℕ) (s : Session) (ts : List Turn) (b : Broker) → AreGood Good (all_turn_deeds now line s ts) b
-  good_turns now line s ts b = good_flat Good (turn_deeds now line s) (good_turn now line s) ts b
 
   pub good_enter : (env : Env) (copy : MessageCopy) (s : Session) (b : Broker) → AreGood Good (enter_deeds env copy s) b
   good_enter env copy s b =
@@ -264,6 +249,10 @@ module _ (Good : Deed → Broker → Type 0) (facts : Facts Good) where
       ((λ c. (facts.send l.number (disconnect code) c, tt)), (good_close env true l, tt)) b
 
   -- CONNECT
+  good_repeats : {X : Type 0} (now line : ℕ) (s : Session) (xs : List X) (id : X → ℕ) (b : Broker) → AreGood Good (all_turn_deeds now line s (map (λ x. turns.Repeat (id x)) xs)) b
+  good_repeats now line s [] id b = tt
+  good_repeats now line s (x ∷ xs) id b = (facts.send line (pubrel (id x) success) b, good_repeats now line s xs id _)
+
   pub good_refused : (l : Line) (c : Greeting) (code : ℕ) (b : Broker) → AreGood Good (refused l c code) b
   good_refused l c code b =
       good_append Good (cond (nat_lt (largest_of c) 5) [] (Send l.number (connack false code []) ∷ [])) (Gone l.number ∷ []) b
@@ -290,7 +279,7 @@ module _ (Good : Deed → Broker → Type 0) (facts : Facts Good) where
 
   pub good_resume : (l : Line) (c : Greeting) (now : ℕ) (s : Session) (b : Broker) → AreGood Good (resume l c now s) b
   good_resume l c now s b =
-      (facts.at_part (whose s) (Resume _ _) b refl, (facts.on_line l.number _ _, (facts.send l.number _ _, good_turns now l.number s (resumed_with (queue_on [] s)) _)))
+      (facts.at_part (whose s) (Resume _ _) b refl, (facts.on_line l.number _ _, (facts.send l.number _ _, good_repeats now l.number s (due_from [] (queue_on [] s)) (λ d. d.identifier) _)))
 
   pub good_begin_named : (t : Bool) (l : Line) (c : Greeting) (b : Broker) → AreGood Good (begin_named t l c b.records) b
   good_begin_named false l c b = (facts.begin_row c.client_identifier c b, (facts.on_line l.number _ _, (facts.send l.number _ _, tt)))
@@ -385,17 +374,6 @@ module _ (Good : Deed → Broker → Type 0) (facts : Facts Good) where
   pub good_on_pubrel : (l : Line) (s : Session) (id : ℕ) (b : Broker) → AreGood Good (on_pubrel l s id) b
   good_on_pubrel l s id b = good_release_by (answer_to_release id s.inbound) l s id b
 
-  good_turned : (l : Line) (s : Session) (now : ℕ) (t : Option Turn) (b : Broker) → AreGood Good (turned l s now t) b
-  good_turned l s now None b = tt
-  good_turned l s now (Some t) b = good_turn now l.number s t b
-
-  pub good_answered : (a : Answer) (env : Env) (l : Line) (s : Session) → GoodAct Good (answered a env l s)
-  good_answered (Ok t) env l s b = good_turned l s b.now t b
-  good_answered (Err fault) env l s b = good_drop env 0x82 l b
-
-  pub good_pump : (l : Line) (now : ℕ) (s : Session) (b : Broker) → AreGood Good (pump_deeds l now s) b
-  good_pump l now s b = good_turns now l.number s (pump_turns l now s) b
-
   good_new_expiry : (expiry : Option ℕ) (s : Session) → GoodAct Good (always (new_expiry expiry s))
   good_new_expiry None s b = tt
   good_new_expiry (Some n) s b = (facts.at_part (whose s) (SetExpiry n) b refl, tt)
@@ -464,24 +442,24 @@ module _ (Good : Deed → Broker → Type 0) (facts : Facts Good) where
   good_on_unsubscribe line s p b = good_unsubscribe_by (is_open p.identifier s.inbound) line s p b
 
   -- tick
-  abbrev GoodOption : Option Act → Type 0
+  abbrev pub GoodOption : Option Act → Type 0
   GoodOption None = ⊤
   GoodOption (Some act) = GoodAct Good act
 
-  abbrev GoodOptions : List (Option Act) → Type 0
+  abbrev pub GoodOptions : List (Option Act) → Type 0
   GoodOptions [] = ⊤
   GoodOptions (o ∷ os) = GoodOption o × GoodOptions os
 
-  good_first : (os : List (Option Act)) → GoodOptions os → GoodOption (first_due os)
+  pub good_first : (os : List (Option Act)) → GoodOptions os → GoodOption (first_due os)
   good_first [] q = tt
   good_first (Some act ∷ os) q = q.0
   good_first (None ∷ os) q = good_first os q.1
 
-  good_option : {X : Type 0} (f : X → Act) → ((x : X) → GoodAct Good (f x)) → (o : Option X) → GoodOption (option_map f o)
+  pub good_option : {X : Type 0} (f : X → Act) → ((x : X) → GoodAct Good (f x)) → (o : Option X) → GoodOption (option_map f o)
   good_option f h None = tt
   good_option f h (Some x) = h x
 
-  good_on_tick : (o : Option Act) → GoodOption o → GoodAct Good (on_tick o)
+  pub good_on_tick : (o : Option Act) → GoodOption o → GoodAct Good (on_tick o)
   good_on_tick None q b = tt
   good_on_tick (Some act) q b = q b
 
@@ -492,7 +470,7 @@ module _ (Good : Deed → Broker → Type 0) (facts : Facts Good) where
   good_lapse : (now : ℕ) (s : Session) → GoodAct Good (always (lapse_deeds now s))
   good_lapse now s b = good_flat Good (leave_deeds s) (good_leave s) (lapses now s) b
 
-  good_due : (env : Env) (b : Broker) → GoodOption (due env b)
+  pub good_due : (env : Env) (b : Broker) → GoodOption (due env b)
   good_due env b = good_first
       (option_map (λ l. silence env l.session l) (find (λ l. is_silent b.now l.session l) b.lines)
       ∷ option_map (publish_will env) (find (has_due_will b.now) b.records.sessions)
@@ -518,33 +496,133 @@ module _ (Good : Deed → Broker → Type 0) (facts : Facts Good) where
 
   -- ---- a call
 
-  good_next : (birth : ℕ) (env : Env) (l : Line) (packet : Packet) (s : Session) (b : Broker)
-      → session_at birth b.records ≡ Some s → AreGood Good (next_packet env l packet s b) b
-  good_next birth env l (Publish p) s b e = good_on_publish birth env l s p b e
-  good_next birth env l (Puback a) s b e = good_answered (rules.puback a.identifier a.reason.0 (queue_on l.went s)) env l s b
-  good_next birth env l (Pubrec a) s b e = good_answered (rules.pubrec a.identifier a.reason.0 (queue_on l.went s)) env l s b
-  good_next birth env l (Pubrel a) s b e = good_on_pubrel l s a.identifier b
-  good_next birth env l (Pubcomp a) s b e = good_answered (rules.pubcomp a.identifier (queue_on l.went s)) env l s b
-  good_next birth env l (Subscribe p) s b e = good_on_subscribe env l.number s p b
-  good_next birth env l (Unsubscribe p) s b e = good_on_unsubscribe l.number s p b
-  good_next birth env l Pingreq s b e = (facts.send l.number Pingresp b, tt)
-  good_next birth env l (Disconnect n) s b e = good_on_disconnect env l s n.reason.0 (number_at SessionExpiryInterval n.properties) b
-  good_next birth env l packet s b e = good_drop env 0x82 l b
-
-  good_first_packet : (env : Env) (l : Line) (packet : Packet) → GoodAct Good (first_packet env l packet)
+  pub good_first_packet : (env : Env) (l : Line) (packet : Packet) → GoodAct Good (first_packet env l packet)
   good_first_packet env l (Connect c) b = good_connect env l c b
   good_first_packet env l packet b = good_close env true l b
 
-  good_on_packet : (env : Env) (l : Line) (packet : Packet) (birth : Option ℕ) → GoodAct Good (on_packet env l packet birth)
-  good_on_packet env l packet None b = good_first_packet env l packet b
-  good_on_packet env l packet (Some birth) b =
-      good_with_session Good (session_at birth b.records) (next_packet env l packet) b (λ s e. good_next birth env l packet s b e)
-
-  good_on_fault : (env : Env) (l : Line) (is_connect : Bool) (code : ℕ) (birth : Option ℕ) → GoodAct Good (on_fault env l is_connect code birth)
+  pub good_on_fault : (env : Env) (l : Line) (is_connect : Bool) (code : ℕ) (birth : Option ℕ) → GoodAct Good (on_fault env l is_connect code birth)
   good_on_fault env l true code None b =
       good_series Good (always (Send l.number (connack false code []) ∷ []) ∷ close env true l ∷ []) ((λ c. (facts.send l.number (connack false code []) c, tt)), (good_close env true l, tt)) b
   good_on_fault env l false code None b = good_close env true l b
   good_on_fault env l is_connect code (Some birth) b = good_drop env (late_code code) l b
+
+  -- an opening
+  good_close_if : (t : Bool) (env : Env) (s : Session) → GoodAct Good (close_if t env s)
+  good_close_if false env s b = tt
+  good_close_if true env s b =
+      good_series Good (always (At (whose s) (Close b.now) ∷ []) ∷ settle env s.birth ∷ []) (good_part (whose s) (Close b.now) refl, (good_settle env s.birth, tt)) b
+
+  pub opening_is_good : (env : Env) → GoodAct Good (opening env)
+  opening_is_good env b =
+      good_series Good (map (λ s. close_if (is_connected s) env s) b.records.sessions)
+      (good_acts Good (λ s. close_if (is_connected s) env s) (λ s. good_close_if (is_connected s) env s) b.records.sessions) b
+
+-- ---- all acts
+
+-- the parts that open no identifier
+abbrev pub opens_none : Part → Bool
+opens_none (Open id) = false
+opens_none part = true
+
+plain_opens_none : (part : Part) → is_plain part ≡ true → opens_none part ≡ true
+plain_opens_none (Resume expiry will) p = refl
+plain_opens_none (Close moment) p = refl
+plain_opens_none (SetExpiry expiry) p = refl
+plain_opens_none DropWill p = refl
+plain_opens_none (deeds.Subscribe s) p = refl
+plain_opens_none (deeds.Unsubscribe filter) p = refl
+plain_opens_none (Open id) p = p
+plain_opens_none (Release id) p = refl
+plain_opens_none (Enter copy) p = refl
+plain_opens_none (Mark place phase) p = refl
+plain_opens_none (Leave e ending) p = refl
+
+-- what makes all deeds good
+pub record Facts (Good : Deed → Broker → Type 0) : Type 0 where
+  pub accept : (origin : Origin) (m : Message) (b : Broker) → Good (Accept (next_publication b.records) origin m) b
+  pub begin_row : (client : List ℕ) (c : Greeting) (b : Broker) → Good (Begin (fresh_row (suc b.records.births) client c) (will_of c)) b
+  pub name : (b : Broker) → Good (Name (suc b.records.autos)) b
+  pub count : (b : Broker) → Good (Count (next_number b.records)) b
+  pub at_part : (who : Whose) (part : Part) (b : Broker) → opens_none part ≡ true → Good (At who part) b
+  -- an identifier opens where its PUBLISH was new to the session, which stood before the publication's deeds
+  pub open_id : (birth : ℕ) (s : Session) (id : ℕ) (env : Env) (m : Message) (ds : List Delivery) (b : Broker)
+      → session_at birth b.records ≡ Some s → answer_to id s.inbound ≡ New
+      → Good (At (whose s) (Open id)) (after_all (publish env FromClient m ds b) b)
+  pub finish : (who : Whose) (b : Broker) → Good (Finish who) b
+  pub keep : (kept : Retained) (b : Broker) → Good (Keep kept) b
+  pub forget : (place : ℕ) (b : Broker) → Good (Forget place) b
+  pub refuse_will : (who : Whose) (b : Broker) → Good (RefuseWill who) b
+  pub link : (b : Broker) → Good (Link (suc b.given)) b
+  pub on_line : (line : ℕ) (part : LinePart) (b : Broker) → Good (On line part) b
+  pub send : (line : ℕ) (packet : Packet) (b : Broker) → Good (Send line packet) b
+  pub gone : (line : ℕ) (b : Broker) → Good (Gone line) b
+
+plain_facts : (Good : Deed → Broker → Type 0) → Facts Good → PlainFacts Good
+plain_facts Good facts = record {
+  accept = facts.accept;
+  begin_row = facts.begin_row;
+  name = facts.name;
+  count = facts.count;
+  at_part = λ who part b plain. facts.at_part who part b (plain_opens_none part plain);
+  open_id = facts.open_id;
+  finish = facts.finish;
+  keep = facts.keep;
+  forget = facts.forget;
+  refuse_will = facts.refuse_will;
+  link = facts.link;
+  on_line = facts.on_line;
+  send = facts.send;
+  gone = facts.gone;
+}
+
+module _ (Good : Deed → Broker → Type 0) (facts : Facts Good) where
+  abbrev plain : PlainFacts Good
+  plain = plain_facts Good facts
+
+  pub good_turn : (now line : ℕ) (s : Session) (t : Turn) (b : Broker) → AreGood Good (turn_deeds now line s t) b
+  good_turn now line s (turns.Send place id) b =
+      good_of_entry Good (row_at entry_place place s.queue) (λ e. At (whose s) (Mark place (Sent id)) ∷ On line (Went place) ∷ Send line (publish_of now false id e.copy) ∷ []) b
+      (λ e. (facts.at_part (whose s) (Mark place (Sent id)) b refl, (facts.on_line line (Went place) _, (facts.send line (publish_of now false id e.copy) _, tt))))
+  good_turn now line s (turns.Resend place id) b =
+      good_of_entry Good (row_at entry_place place s.queue) (λ e. On line (Went place) ∷ Send line (publish_of now true id e.copy) ∷ []) b
+      (λ e. (facts.on_line line (Went place) b, (facts.send line (publish_of now true id e.copy) _, tt)))
+  good_turn now line s (turns.Release place id order) b = (facts.at_part (whose s) (Mark place (ReleasedPhase id order)) b refl, (facts.send line (pubrel id success) _, tt))
+  good_turn now line s (turns.Outgrow place id order) b = (facts.at_part (whose s) (Mark place (Oversize id order)) b refl, (facts.send line (pubrel id success) _, tt))
+  good_turn now line s (turns.Repeat id) b = (facts.send line (pubrel id success) b, tt)
+  good_turn now line s (turns.Unknown id) b = (facts.send line (pubrel id identifier_not_found) b, tt)
+  good_turn now line s (turns.Leave place ending) b = good_leave Good plain s (turns.Leave place ending) b
+
+  pub good_turns : (now line : ℕ) (s : Session) (ts : List Turn) (b : Broker) → AreGood Good (all_turn_deeds now line s ts) b
+  good_turns now line s ts b = good_flat Good (turn_deeds now line s) (good_turn now line s) ts b
+
+  good_turned : (l : Line) (s : Session) (now : ℕ) (t : Option Turn) (b : Broker) → AreGood Good (turned l s now t) b
+  good_turned l s now None b = tt
+  good_turned l s now (Some t) b = good_turn now l.number s t b
+
+  pub good_answered : (a : Answer) (env : Env) (l : Line) (s : Session) → GoodAct Good (answered a env l s)
+  good_answered (Ok t) env l s b = good_turned l s b.now t b
+  good_answered (Err fault) env l s b = good_drop Good plain env 0x82 l b
+
+  pub good_pump : (l : Line) (now : ℕ) (s : Session) (b : Broker) → AreGood Good (pump_deeds l now s) b
+  good_pump l now s b = good_turns now l.number s (pump_turns l now s) b
+
+  good_next : (birth : ℕ) (env : Env) (l : Line) (packet : Packet) (s : Session) (b : Broker)
+      → session_at birth b.records ≡ Some s → AreGood Good (next_packet env l packet s b) b
+  good_next birth env l (Publish p) s b e = good_on_publish Good plain birth env l s p b e
+  good_next birth env l (Puback a) s b e = good_answered (rules.puback a.identifier a.reason.0 (queue_on l.went s)) env l s b
+  good_next birth env l (Pubrec a) s b e = good_answered (rules.pubrec a.identifier a.reason.0 (queue_on l.went s)) env l s b
+  good_next birth env l (Pubrel a) s b e = good_on_pubrel Good plain l s a.identifier b
+  good_next birth env l (Pubcomp a) s b e = good_answered (rules.pubcomp a.identifier (queue_on l.went s)) env l s b
+  good_next birth env l (Subscribe p) s b e = good_on_subscribe Good plain env l.number s p b
+  good_next birth env l (Unsubscribe p) s b e = good_on_unsubscribe Good plain l.number s p b
+  good_next birth env l Pingreq s b e = (facts.send l.number Pingresp b, tt)
+  good_next birth env l (Disconnect n) s b e = good_on_disconnect Good plain env l s n.reason.0 (number_at SessionExpiryInterval n.properties) b
+  good_next birth env l packet s b e = good_drop Good plain env 0x82 l b
+
+  good_on_packet : (env : Env) (l : Line) (packet : Packet) (birth : Option ℕ) → GoodAct Good (on_packet env l packet birth)
+  good_on_packet env l packet None b = good_first_packet Good plain env l packet b
+  good_on_packet env l packet (Some birth) b =
+      good_with_session Good (session_at birth b.records) (next_packet env l packet) b (λ s e. good_next birth env l packet s b e)
 
   good_on_pump : (l : Line) (birth : Option ℕ) → GoodAct Good (on_pump l birth)
   good_on_pump l None b = tt
@@ -557,18 +635,11 @@ module _ (Good : Deed → Broker → Type 0) (facts : Facts Good) where
       good_with_line Good (line_at n b) (λ l. series (always (On n Hear ∷ []) ∷ on_packet env l packet l.session ∷ [])) b
       (λ l e. good_series Good (always (On n Hear ∷ []) ∷ on_packet env l packet l.session ∷ []) ((λ c. (facts.on_line n Hear c, tt)), (good_on_packet env l packet l.session, tt)) b)
   good_deeds env (BadInput n is_connect code) b =
-      good_with_line Good (line_at n b) (λ l. on_fault env l is_connect code l.session) b (λ l e. good_on_fault env l is_connect code l.session b)
-  good_deeds env (Lost n) b = good_with_line Good (line_at n b) (close env true) b (λ l e. good_close env true l b)
+      good_with_line Good (line_at n b) (λ l. on_fault env l is_connect code l.session) b (λ l e. good_on_fault Good plain env l is_connect code l.session b)
+  good_deeds env (Lost n) b = good_with_line Good (line_at n b) (close env true) b (λ l e. good_close Good plain env true l b)
   good_deeds env (Pump n) b = good_with_line Good (line_at n b) (λ l. on_pump l l.session) b (λ l e. good_on_pump l l.session b)
-  good_deeds env Tick b = good_on_tick (due env b) (good_due env b) b
+  good_deeds env Tick b = good_on_tick Good plain (due env b) (good_due Good plain env b) b
 
   -- and so are those of an opening
-  good_close_if : (t : Bool) (env : Env) (s : Session) → GoodAct Good (close_if t env s)
-  good_close_if false env s b = tt
-  good_close_if true env s b =
-      good_series Good (always (At (whose s) (Close b.now) ∷ []) ∷ settle env s.birth ∷ []) (good_part (whose s) (Close b.now) refl, (good_settle env s.birth, tt)) b
-
   pub good_opening : (env : Env) → GoodAct Good (opening env)
-  good_opening env b =
-      good_series Good (map (λ s. close_if (is_connected s) env s) b.records.sessions)
-      (good_acts Good (λ s. close_if (is_connected s) env s) (λ s. good_close_if (is_connected s) env s) b.records.sessions) b
+  good_opening env = opening_is_good Good plain env

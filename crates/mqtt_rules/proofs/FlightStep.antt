@@ -35,8 +35,7 @@ use Rattle.mqtt_rules.specs.Closing.{close, drop_line}
 use Rattle.mqtt_rules.specs.Subscribe.{on_subscribe, on_unsubscribe}
 use Rattle.mqtt_rules.specs.Tick.{due}
 use Rattle.mqtt_rules.specs.Flight.{HasDistinctIdentifiers}
-use Rattle.mqtt_rules.proofs.Acts.{AreGood, after_append, good_cond, good_with_line}
-use Rattle.mqtt_rules.proofs.FlightActs.{PlainFacts, is_plain, good_drop, good_close, good_on_publish, good_on_pubrel, good_on_subscribe, good_on_unsubscribe, good_on_disconnect, good_first_packet, good_on_fault, good_on_tick, good_due, good_opening}
+use Rattle.mqtt_rules.proofs.Acts.{AreGood, PlainFacts, is_plain, after_append, good_cond, good_with_line, good_drop, good_close, good_on_publish, good_on_pubrel, good_on_subscribe, good_on_unsubscribe, good_on_disconnect, good_first_packet, good_on_fault, good_on_tick, good_due, opening_is_good}
 use Rattle.mqtt_rules.proofs.FlightRows.{found_key, found_behind}
 use Rattle.mqtt_rules.proofs.FlightQueue.{flight-kept}
 use Rattle.mqtt_rules.proofs.FlightRecords.{Unmarked, Sits, flight_of, sits-marked, begin_keeps, remove_keeps, parts_keep}
@@ -277,4 +276,4 @@ opening_keeps limits choice now r h =
     let b = unopened now r in
     let env = env_of limits choice b in
     let ds = opening env b in
-    moment_keeps (rows_of_all ds b.records) (after_all ds b) (all_keep ds b (good_opening Keeps keeping env b) h)
+    moment_keeps (rows_of_all ds b.records) (after_all ds b) (all_keep ds b (opening_is_good Keeps keeping env b) h)

@@ -5,7 +5,6 @@ pub mod FlightRows
 pub mod FlightQueue
 pub mod FlightRecords
 pub mod FlightPump
-pub mod FlightActs
 pub mod FlightStep
 pub mod NumberFacts
 pub mod NumberBirths
