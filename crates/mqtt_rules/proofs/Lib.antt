@@ -1,5 +1,7 @@
 pub mod Play
 pub mod Examples
+pub mod Goods
+pub mod Copies
 pub mod Acts
 pub mod FlightRows
 pub mod FlightQueue
