@@ -75,7 +75,13 @@ never_expires = property SessionExpiryInterval (U32 0xffffffff)
 
 abbrev pub hello_with : List ℕ → List Prop → Option Will → Packet
 hello_with name ps will = Connect (record {
-  clean_start = false; keep_alive = 0; properties = ps; client_identifier = name; will = will; user_name = None; password = None
+  clean_start = false;
+  keep_alive = 0;
+  properties = ps;
+  client_identifier = name;
+  will = will;
+  user_name = None;
+  password = None;
 })
 
 abbrev pub hello : List ℕ → Packet
