@@ -1,3 +1,5 @@
 pub mod Play
 pub mod Examples
 pub mod StoredLaw
+pub mod Ordered
+pub mod OrderedSteps

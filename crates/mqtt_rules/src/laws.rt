@@ -2,12 +2,14 @@
 ghost use Rattle.std.specs.Prelude.{◌≡◌, ℕ, List, [], Option};
 ghost use Rattle.mqtt_codec.specs.declared.packet.Packet.{Packet};
 ghost use Rattle.mqtt_records.specs.declared.records.Records.{Records};
-ghost use Rattle.mqtt_records.specs.Records.{changed_all};
+ghost use Rattle.mqtt_records.specs.declared.change.Change.{Change};
+ghost use Rattle.mqtt_records.specs.Records.{nothing, changed, changed_all};
 ghost use Rattle.mqtt_rules.specs.State.{Broker, stored};
 ghost use Rattle.mqtt_rules.specs.Deeds.{Whose, LinePart, Deed, RefuseWill, Link, On, Send, Gone};
 ghost use Rattle.mqtt_rules.specs.Deeds.{rows_of, after};
 ghost use Rattle.mqtt_rules.specs.Step.{Call, deeds, stepped, opening, unopened, opened};
 ghost use Rattle.mqtt_rules.specs.Step.{env_of, at_moment, rows_written};
+ghost use Rattle.mqtt_rules.specs.Laws.{IsOrdered, FewOpen, Event, after_events, blank};
 
 use crate::Limits;
 
@@ -30,4 +32,29 @@ pub fn stored_part_follows()
     ensures on_line { (n : ℕ) (part : LinePart) (r : Records) → rows_of (On n part) r ≡ [] }
     ensures sent { (n : ℕ) (packet : Packet) (r : Records) → rows_of (Send n packet) r ≡ [] }
     ensures closed_line { (n : ℕ) (r : Records) → rows_of (Gone n) r ≡ [] }
+{}
+
+/// The tables stay in order and within their limits: sessions by birth, each birth once; each session's
+/// open identifiers, its subscriptions and its queue by place; retained messages by place (ours, 4.6).
+pub fn tables_are_ordered()
+    ensures nothing { IsOrdered nothing }
+    ensures change { (change : Change) (r : Records) → IsOrdered r → IsOrdered (changed change r) }
+    ensures step { (limits : Limits) (choice : ℕ → List ℕ) (now : ℕ) (call : Call) (b : Broker)
+        → IsOrdered (stored b)
+        → IsOrdered (stored (stepped limits choice now call b)) }
+    ensures opening { (limits : Limits) (choice : ℕ → List ℕ) (now : ℕ) (r : Records)
+        → IsOrdered r
+        → IsOrdered (stored (opened limits choice now r)) }
+
+    // Whatever was asked since the first start, and whenever a broker opened what was stored.
+    ensures run { (events : List Event) → IsOrdered (stored (after_events events blank)) }
+{}
+
+/// No session ever has over 20 identifiers of QoS 2 publications open, whatever was asked since the
+/// first start, and whenever a broker opened what was stored (4.9).
+pub fn at_most_twenty_open()
+    ensures run { (events : List Event) → FewOpen (stored (after_events events blank)) }
+    ensures step { (limits : Limits) (choice : ℕ → List ℕ) (now : ℕ) (call : Call) (b : Broker)
+        → IsOrdered (stored b)
+        → FewOpen (stored (stepped limits choice now call b)) }
 {}
