@@ -3,3 +3,4 @@ pub mod Examples
 pub mod StoredLaw
 pub mod Ordered
 pub mod OrderedSteps
+pub mod OrderedActs
