@@ -1,2 +1,6 @@
 pub mod Play
 pub mod Examples
+pub mod StoredLaw
+pub mod Ordered
+pub mod OrderedSteps
+pub mod OrderedActs

@@ -9,3 +9,4 @@ pub mod Inbound
 pub mod Subscribe
 pub mod Tick
 pub mod Step
+pub mod Laws

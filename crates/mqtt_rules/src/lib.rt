@@ -2,6 +2,9 @@
 //! those that the rules speak of and the code shares; `docs/RULES.md` tells the rules in words.
 #![tactic(auto)]
 
+mod laws;
+
+pub use laws::{at_most_twenty_open, stored_part_follows, tables_are_ordered};
 use mqtt_base::{CopyId, Ending, Text};
 use mqtt_flow::Full;
 
