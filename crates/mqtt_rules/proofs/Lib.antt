@@ -4,3 +4,14 @@ pub mod StoredLaw
 pub mod Ordered
 pub mod OrderedSteps
 pub mod OrderedActs
+pub mod Acts
+pub mod FlightRows
+pub mod FlightQueue
+pub mod FlightRecords
+pub mod FlightPump
+pub mod FlightActs
+pub mod FlightStep
+pub mod NumberFacts
+pub mod NumberBirths
+pub mod NumberSteps
+pub mod NumberPlaces

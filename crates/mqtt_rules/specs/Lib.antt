@@ -10,3 +10,5 @@ pub mod Subscribe
 pub mod Tick
 pub mod Step
 pub mod Laws
+pub mod Flight
+pub mod Numbers
