@@ -4,3 +4,5 @@ pub mod StoredLaw
 pub mod Ordered
 pub mod OrderedSteps
 pub mod OrderedActs
+pub mod OrderedRoom
+pub mod OrderedLimits

@@ -4,7 +4,7 @@
 
 mod laws;
 
-pub use laws::{at_most_twenty_open, stored_part_follows, tables_are_ordered};
+pub use laws::{at_most_twenty_open, limits_are_kept, stored_part_follows, tables_are_ordered};
 use mqtt_base::{CopyId, Ending, Text};
 use mqtt_flow::Full;
 
