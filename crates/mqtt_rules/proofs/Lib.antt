@@ -15,3 +15,5 @@ pub mod NumberFacts
 pub mod NumberBirths
 pub mod NumberSteps
 pub mod NumberPlaces
+pub mod OrderedRoom
+pub mod OrderedLimits

@@ -1,5 +1,5 @@
 //! Laws of a step: what it writes, the order of the tables, and their limits.
-ghost use Rattle.std.specs.Prelude.{◌≡◌, ℕ, List, [], Option};
+ghost use Rattle.std.specs.Prelude.{◌≡◌, ℕ, ◌≤◌, List, [], length, Option};
 ghost use Rattle.mqtt_codec.specs.declared.packet.Packet.{Packet};
 ghost use Rattle.mqtt_records.specs.declared.records.Records.{Records};
 ghost use Rattle.mqtt_records.specs.declared.change.Change.{Change};
@@ -57,4 +57,24 @@ pub fn at_most_twenty_open()
     ensures step { (limits : Limits) (choice : ℕ → List ℕ) (now : ℕ) (call : Call) (b : Broker)
         → IsOrdered (stored b)
         → FewOpen (stored (stepped limits choice now call b)) }
+{}
+
+/// Within the limits that a broker was given, which may be smaller than the tables' own: a step, and an
+/// opening, that finds no more sessions than `limits.sessions` leaves no more, and likewise retained
+/// messages (ours).
+pub fn limits_are_kept()
+    ensures sessions { (limits : Limits) (choice : ℕ → List ℕ) (now : ℕ) (call : Call) (b : Broker)
+        → length (stored b).sessions ≤ limits.sessions
+        → length (stored (stepped limits choice now call b)).sessions ≤ limits.sessions }
+    ensures sessions_opened { (limits : Limits) (choice : ℕ → List ℕ) (now : ℕ) (r : Records)
+        → length r.sessions ≤ limits.sessions
+        → length (stored (opened limits choice now r)).sessions ≤ limits.sessions }
+    ensures retained { (limits : Limits) (choice : ℕ → List ℕ) (now : ℕ) (call : Call) (b : Broker)
+        → IsOrdered (stored b)
+        → length (stored b).retained ≤ limits.retained
+        → length (stored (stepped limits choice now call b)).retained ≤ limits.retained }
+    ensures retained_opened { (limits : Limits) (choice : ℕ → List ℕ) (now : ℕ) (r : Records)
+        → IsOrdered r
+        → length r.retained ≤ limits.retained
+        → length (stored (opened limits choice now r)).retained ≤ limits.retained }
 {}
