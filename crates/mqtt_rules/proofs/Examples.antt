@@ -1,5 +1,5 @@
 -- Worked examples, with their bytes: CONNECT, a message of QoS 2, its repetition and release, aliases, filters (MQTT 5.0, 3.1 to 3.8, 4.3, 4.7).
-use Rattle.std.proofs.Common.{◌≡◌, ℕ, Bool, true, false, List, [], ◌∷◌, ◌++◌, Some, None, Ok, Err, refl}
+use Rattle.std.proofs.Common.{◌≡◌, ℕ, true, false, List, [], ◌∷◌, ◌++◌, Some, None, Ok, Err, refl}
 use Rattle.std.specs.Prelude.{codes}
 use Rattle.std.specs.Fmt.{digits}
 use Rattle.std.specs.Str.{is_utf8, chars}
@@ -26,7 +26,7 @@ use Rattle.mqtt_codec.specs.Frames.{frame_at, body_at, versioned_at, lawful_at, 
 use Rattle.mqtt_rules.specs.declared.Report.TheVariants.{Accepted, Entered, Released}
 use Rattle.mqtt_rules.specs.Packets.{reason, property, connack, pubrec, pubrel, pubcomp, disconnect}
 use Rattle.mqtt_rules.specs.Step.{NewLine, Input, BadInput, Pump, Outcome}
-use Rattle.mqtt_rules.proofs.Play.{Event, at, asks, out, hello, welcome, in_line, wants_with, wish, options, wants, topic, message, sends, copy_out, direct, subscribed, bytes, all_reports, blank, sends_again, published}
+use Rattle.mqtt_rules.proofs.Play.{Event, at, asks, out, hello, in_line, wants_with, wish, options, wants, topic, message, sends, copy_out, direct, subscribed, bytes, sends_again, published}
 
 -- ---- CONNECT
 

@@ -1,5 +1,5 @@
 -- Worked handshakes: open identifiers, groups, restarts, takeover, the client's window (MQTT 5.0, 3.1.4, 4.1, 4.3, 4.4, 4.8, 4.9).
-use Rattle.std.proofs.Common.{◌≡◌, ℕ, zero, suc, ◌+◌, Bool, true, false, List, [], ◌∷◌, ◌++◌, map, Some, None, Ok, refl}
+use Rattle.std.proofs.Common.{◌≡◌, ℕ, zero, suc, ◌+◌, true, false, List, [], ◌∷◌, ◌++◌, Some, None, Ok, refl}
 use Rattle.std.specs.Prelude.{codes}
 use Rattle.std.specs.Str.{is_utf8, chars}
 use Rattle.std.proofs.Math.Utf8.{encode}
@@ -24,7 +24,7 @@ use Rattle.mqtt_rules.specs.declared.Report.TheVariants.{Accepted, Entered, Rele
 use Rattle.mqtt_rules.specs.Packets.{property, puback, pubrec, pubrel, pubcomp, disconnect}
 use Rattle.mqtt_rules.specs.State.{Broker}
 use Rattle.mqtt_rules.specs.Step.{NewLine, Input, Lost, Pump, Tick, copy_of}
-use Rattle.mqtt_rules.proofs.Play.{blank, Event, at, step, runs, tells, asks, reopened, out, never_expires, hello_with, hello, welcome, in_line, wants, topic, sends, sends_again, copy_out, direct, subscribed, published, bytes, births, open_at, burst, all_outputs, all_reports}
+use Rattle.mqtt_rules.proofs.Play.{blank, Event, at, step, runs, tells, asks, reopened, out, never_expires, hello_with, hello, welcome, in_line, wants, topic, sends, sends_again, copy_out, direct, subscribed, published, bytes, open_at, burst, all_outputs, all_reports}
 
 -- ---- a publisher that releases nothing: 20 identifiers are open, and a 21st closes its line
 

@@ -1,3 +1,4 @@
 pub mod Play
 pub mod Examples
 pub mod Handshakes
+pub mod Moments
