@@ -178,6 +178,10 @@ alias_invalid_bytes : shortest_of (disconnect 0x94) ≡ bytes "e0 01 94"
 unfolding varint
 alias_invalid_bytes = refl
 
+an_alias_of_zero_closes : asks listener (at 0 (Input 2 (aliased topic 0 (codes "!")))) ≡ out ((2, disconnect 0x94) ∷ []) (2 ∷ []) [] false
+unfolding varint
+an_alias_of_zero_closes = refl
+
 an_unknown_alias_closes : asks alias_set (at 0 (Input 2 (aliased [] 4 (codes "!")))) ≡ out ((2, disconnect 0x82) ∷ []) (2 ∷ []) [] false
 unfolding varint
 an_unknown_alias_closes = refl

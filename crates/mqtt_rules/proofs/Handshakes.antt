@@ -1,5 +1,5 @@
 -- Worked handshakes: open identifiers, groups, restarts, takeover, the client's window (MQTT 5.0, 3.1.4, 4.1, 4.3, 4.4, 4.8, 4.9).
-use Rattle.std.proofs.Common.{◌≡◌, ℕ, zero, suc, ◌+◌, true, false, List, [], ◌∷◌, ◌++◌, Some, None, Ok, refl}
+use Rattle.std.proofs.Common.{◌≡◌, ℕ, zero, suc, ◌+◌, ◌-◌, true, false, List, [], ◌∷◌, ◌++◌, Some, None, Ok, refl}
 use Rattle.std.specs.Prelude.{codes}
 use Rattle.std.specs.Str.{is_utf8, chars}
 use Rattle.std.proofs.Math.Utf8.{encode}
@@ -7,7 +7,8 @@ use Rattle.mqtt_base.specs.Values.{varint}
 use Rattle.mqtt_base.specs.Reading.{groups_at, varint_at, blob_at, text_at}
 use Rattle.mqtt_base.specs.Items.{items_in, items_at}
 use Rattle.mqtt_base.specs.declared.session.Qos.TheVariants.{ExactlyOnce}
-use Rattle.mqtt_base.specs.declared.session.Cause.TheVariants.{Share}
+use Rattle.mqtt_base.specs.declared.session.Cause.TheVariants.{Direct, Share}
+use Rattle.mqtt_base.specs.declared.session.Phase.TheVariants.{Waiting, Sent}
 use Rattle.mqtt_base.specs.declared.session.CopyId.{CopyId}
 use Rattle.mqtt_base.specs.declared.session.Ending.TheVariants.{Taken, Refused, SessionEnded}
 use Rattle.mqtt_props.specs.declared.table.PropName.TheVariants.{SessionExpiryInterval, ReceiveMaximum}
@@ -15,16 +16,24 @@ use Rattle.mqtt_props.specs.Properties.{U16, U32}
 use Rattle.mqtt_props.specs.Reading.{value_at, prop_at, block_at}
 use Rattle.mqtt_props.specs.Laws.{layout_at}
 use Rattle.mqtt_codec.specs.declared.packet.Packet.{Packet}
+use Rattle.mqtt_codec.specs.declared.packet.Packet.TheVariants.{Disconnect}
 use Rattle.mqtt_codec.specs.Connect.{will_at, user_name_at, password_at, fields_at, connect_at}
 use Rattle.mqtt_codec.specs.Tails.{tail_at}
 use Rattle.mqtt_codec.specs.Ack.{ack_at}
 use Rattle.mqtt_codec.specs.Packets.{shortest_of}
 use Rattle.mqtt_codec.specs.Frames.{frame_at, body_at, versioned_at, lawful_at, packet_at}
+use Rattle.mqtt_records.specs.declared.message.MessageCopy.{MessageCopy}
+use Rattle.mqtt_records.specs.declared.session.Session.{Session}
+use Rattle.mqtt_records.specs.declared.records.Records.{Records}
+use Rattle.mqtt_records.specs.declared.change.Counter.TheVariants.{Publications, Moment}
+use Rattle.mqtt_records.specs.declared.change.Change.{Change}
+use Rattle.mqtt_records.specs.declared.change.Change.TheVariants.{SetCounter, PutInbound, PutCopy, SetCopy}
+use Rattle.mqtt_records.specs.Records.{nothing}
 use Rattle.mqtt_rules.specs.declared.Report.TheVariants.{Accepted, Entered, Released, Ended}
-use Rattle.mqtt_rules.specs.Packets.{property, puback, pubrec, pubrel, pubcomp, disconnect}
-use Rattle.mqtt_rules.specs.State.{Broker}
-use Rattle.mqtt_rules.specs.Step.{NewLine, Input, Lost, Pump, Tick, copy_of}
-use Rattle.mqtt_rules.proofs.Play.{blank, Event, at, step, runs, tells, asks, reopened, out, never_expires, hello_with, hello, welcome, in_line, wants, topic, sends, sends_again, copy_out, direct, subscribed, published, bytes, open_at, burst, all_outputs, all_reports}
+use Rattle.mqtt_rules.specs.Packets.{reason, property, puback, pubrec, pubrel, pubcomp, disconnect}
+use Rattle.mqtt_rules.specs.State.{Broker, top}
+use Rattle.mqtt_rules.specs.Step.{Call, NewLine, Input, Lost, Pump, Tick, deeds, rows_written, is_spent, copy_of}
+use Rattle.mqtt_rules.proofs.Play.{usual, first, hi, options, blank, Event, at, step, runs, tells, asks, reopened, out, never_expires, hello_with, hello, welcome, in_line, wants, topic, sends, sends_again, copy_out, direct, subscribed, published, bytes, open_at, burst, all_outputs, all_reports}
 
 -- ---- a publisher that releases nothing: 20 identifiers are open, and a 21st closes its line
 
@@ -118,15 +127,91 @@ all_of_the_group : all_reports (member_lost ++ at 5000 Tick ∷ at 5000 Tick ∷
 unfolding varint
 all_of_the_group = refl
 
--- ---- a stop after the commit of `pump`, before its output: the copy is sent again, with DUP
+-- ---- a stop after the commit of `pump`, before its output
 
 abbrev cut_short : List Event
 cut_short = published ++ at 0 (Pump 1) ∷ []
 
+-- what is stored then: two sessions, r1's subscription, p1's open identifier, and the copy with its packet identifier
+abbrev its_copy : MessageCopy
+its_copy = record {
+  publication = 1;
+  cause = Direct;
+  qos = ExactlyOnce;
+  retain = false;
+  identifiers = [];
+  content = record { topic = topic; properties = []; payload = hi; arrived = 0 };
+}
+
+abbrev of_r1 : Session
+of_r1 = record {
+  birth = 1;
+  client = codes "r1";
+  expiry = 0xffffffff;
+  closed = None;
+  will = None;
+  subscriptions = record { filter = topic; place = 1; options = options ExactlyOnce; identifier = None } ∷ [];
+  inbound = [];
+  queue = record { place = 1; phase = Sent 1; copy = its_copy } ∷ [];
+}
+
+abbrev of_p1 : Session
+of_p1 = record {
+  birth = 2;
+  client = codes "p1";
+  expiry = 0xffffffff;
+  closed = None;
+  will = None;
+  subscriptions = [];
+  inbound = 10 ∷ [];
+  queue = [];
+}
+
+what_is_stored : (runs cut_short blank).records
+    ≡ record { births = 2; publications = 1; subscribes = 1; autos = 0; moment = 0; sessions = of_r1 ∷ of_p1 ∷ []; retained = [] }
+unfolding varint
+what_is_stored = refl
+
+-- the rows that the steps of the PUBLISH and of `pump` wrote
+abbrev rows_by : Call → Broker → List Change
+rows_by call b = rows_written (deeds usual first 0 call b) b
+
+rows_of_the_publish : rows_by (Input 2 (sends 10)) (runs subscribed blank)
+    ≡ SetCounter Publications 1 ∷ PutCopy 1 (record { place = 1; phase = Waiting; copy = its_copy }) ∷ PutInbound 2 10 ∷ SetCounter Moment 0 ∷ []
+unfolding varint
+rows_of_the_publish = refl
+
+rows_of_the_pump : rows_by (Pump 1) (runs published blank) ≡ SetCopy 1 1 (Sent 1) ∷ SetCounter Moment 0 ∷ []
+unfolding varint
+rows_of_the_pump = refl
+
+-- a session that ends takes its subscriptions and copies with it
+abbrev ends_now : Packet
+ends_now = Disconnect (record { reason = reason 0; properties = property SessionExpiryInterval (U32 0) ∷ [] })
+
+an_end_leaves_nothing : (runs (cut_short ++ at 0 (Input 1 ends_now) ∷ []) blank).records.sessions ≡ of_p1 ∷ []
+unfolding varint
+an_end_leaves_nothing = refl
+
+-- a number above the last one is refused, and then nothing is written
+abbrev given_publications : ℕ → Records → Records
+given_publications n r = record r { publications = n }
+
+abbrev with_numbers : ℕ → Broker
+with_numbers n = runs (in_line 1 (hello (codes "p2"))) (reopened 0 (record blank { records = given_publications n nothing }))
+
+the_last_number_is_given : is_spent (rows_by (Input 1 (sends 10)) (with_numbers (top - 1))) ≡ false
+unfolding varint
+the_last_number_is_given = refl
+
+none_is_given_after_it : is_spent (rows_by (Input 1 (sends 10)) (with_numbers top)) ≡ true
+unfolding varint
+none_is_given_after_it = refl
+
 abbrev after_stop : Broker
 after_stop = reopened 0 (runs cut_short blank)
 
--- CONNECT of r1
+-- CONNECT of r1: the session is resumed, and the copy is sent again, with DUP
 hello_read : packet_at (bytes "10 14 00 04 4d 51 54 54 05 00 00 00 05 11 ff ff ff ff 00 02 72 31") ≡ Ok (hello (codes "r1"))
 unfolding packet_at frame_at versioned_at lawful_at body_at connect_at fields_at will_at user_name_at password_at layout_at block_at items_at items_in prop_at value_at text_at blob_at is_utf8 chars encode varint_at groups_at
 hello_read = refl
