@@ -2,3 +2,4 @@ pub mod Play
 pub mod Examples
 pub mod Handshakes
 pub mod Moments
+pub mod Sessions

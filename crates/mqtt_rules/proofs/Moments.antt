@@ -34,17 +34,17 @@ use Rattle.mqtt_rules.proofs.Examples.{nameless}
 
 -- ---- a message that expires after 5 seconds, for an absent session
 
-abbrev expires_in : ℕ → List Prop
+abbrev pub expires_in : ℕ → List Prop
 expires_in seconds = property MessageExpiryInterval (U32 seconds) ∷ []
 
-abbrev short_lived : Packet
+abbrev pub short_lived : Packet
 short_lived = Publish (record (message 10) { properties = expires_in 5 })
 
 short_lived_read : packet_at (bytes "34 0f 00 03 61 2f 62 00 0a 05 02 00 00 00 05 68 69") ≡ Ok short_lived
 unfolding packet_at frame_at lawful_at body_at publish_at delivery_at layout_at block_at items_at items_in prop_at value_at text_at blob_at is_utf8 chars encode varint_at groups_at
 short_lived_read = refl
 
-abbrev absent : List Event
+abbrev pub absent : List Event
 absent = subscribed ++ at 0 (Lost 1) ∷ at 0 (Input 2 short_lived) ∷ []
 
 before_it_expires : asks absent (at 4999 Tick) ≡ out [] [] [] false
@@ -93,14 +93,14 @@ it_completes_late = refl
 
 -- ---- a Will with a delay of 10 seconds, of a session that ends after 5
 
-abbrev will_with : List Prop → Will
+abbrev pub will_with : List Prop → Will
 will_with ps = record { qos = ExactlyOnce; retain = false; properties = ps; topic = topic; payload = hi }
 
-abbrev delayed : Will
+abbrev pub delayed : Will
 delayed = will_with (property WillDelayInterval (U32 10) ∷ [])
 
 -- r1 is there for a/b at QoS 2
-abbrev mourner : List Event
+abbrev pub mourner : List Event
 mourner = in_line 1 (hello (codes "r1")) ++ at 0 (Input 1 (wants 1 topic ExactlyOnce)) ∷ []
 
 abbrev lost : List Event
@@ -153,7 +153,7 @@ a_resumption_cancels_a_will = refl
 abbrev mortal : List Event
 mortal = mourner ++ in_line 2 (hello_with (codes "w1") [] (Some (will_with [])))
 
-abbrev stays_longer : Packet
+abbrev pub stays_longer : Packet
 stays_longer = Disconnect (record { reason = reason 0; properties = property SessionExpiryInterval (U32 10) ∷ [] })
 
 stays_longer_read : packet_at (bytes "e0 07 00 05 11 00 00 00 0a") ≡ Ok stays_longer
@@ -195,7 +195,7 @@ its_session_ends = refl
 
 -- ---- a retained message, SUBSCRIBE and UNSUBSCRIBE
 
-abbrev kept : Packet
+abbrev pub kept : Packet
 kept = Publish (record { delivery = delivery.AtMostOnce; retain = true; topic = topic; properties = []; payload = codes "!" })
 
 kept_read : packet_at (bytes "31 07 00 03 61 2f 62 00 21") ≡ Ok kept
