@@ -3,3 +3,4 @@ pub mod Examples
 pub mod Handshakes
 pub mod Moments
 pub mod Sessions
+pub mod Copies
