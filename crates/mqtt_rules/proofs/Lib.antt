@@ -17,3 +17,7 @@ pub mod NumberSteps
 pub mod NumberPlaces
 pub mod OrderedRoom
 pub mod OrderedLimits
+pub mod Handshakes
+pub mod Moments
+pub mod Sessions
+pub mod Copies
