@@ -1,3 +1,5 @@
 pub mod Play
 pub mod Examples
 pub mod Groups
+pub mod Tables
+pub mod Hostile
