@@ -11,11 +11,10 @@ use Rattle.mqtt_codec.specs.declared.publish.Delivery.TheVariants as delivery
 use Rattle.mqtt_codec.specs.declared.packet.Packet.{Packet}
 use Rattle.mqtt_codec.specs.declared.packet.Packet.TheVariants.{Publish}
 use Rattle.mqtt_flow.specs.declared.entry.Full.TheVariants.{Refuse}
-use Rattle.mqtt_rules.specs.declared.Report.{Report}
 use Rattle.mqtt_rules.specs.declared.Report.TheVariants.{Accepted, Entered}
 use Rattle.mqtt_rules.specs.Packets.{identified, pubrec}
 use Rattle.mqtt_rules.specs.State.{Broker}
-use Rattle.mqtt_rules.specs.Step.{NewLine, Input, Lost, Pump, Outcome}
+use Rattle.mqtt_rules.specs.Step.{Input, Lost, Pump, Outcome}
 use Rattle.mqtt_rules.proofs.Play.{usual, blank, first, Event, at, runs, tells, asks, out, hello, in_line, wants_with, wish, options, wants, gives_up, topic, message, sends, copy_out, direct, tells_by, runs_by, Keeps, nothing_written, narrow, waiting, queued, low, shared, in_group}
 
 -- ---- the sessions: s1 has two filters that match, s2 one of QoS 0, s3 and s4 are members of a group; p publishes

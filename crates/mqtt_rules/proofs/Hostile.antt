@@ -1,23 +1,23 @@
 -- What strangers send: faults, packets out of place, tables that are full (MQTT 5.0, 3.1, 3.2.2.2, 3.9.3, 4.13).
-use Rattle.std.proofs.Common.{◌≡◌, ℕ, zero, suc, ◌+◌, Bool, true, false, List, [], ◌∷◌, ◌++◌, map, length, Some, None, refl}
+use Rattle.std.proofs.Common.{◌≡◌, ℕ, zero, suc, true, false, List, [], ◌∷◌, ◌++◌, map, length, Some, None, refl}
 use Rattle.std.specs.Prelude.{codes, replicate}
 use Rattle.mqtt_base.specs.Values.{varint}
 use Rattle.mqtt_base.specs.declared.session.Qos.TheVariants.{AtMostOnce, AtLeastOnce, ExactlyOnce}
-use Rattle.mqtt_props.specs.declared.table.PropName.TheVariants.{SessionExpiryInterval, MaximumPacketSize, AuthenticationMethod, SubscriptionIdentifier}
+use Rattle.mqtt_props.specs.declared.table.PropName.TheVariants.{MaximumPacketSize, AuthenticationMethod}
 use Rattle.mqtt_props.specs.Properties.{U32, Text}
 use Rattle.mqtt_codec.specs.declared.connect.Will.{Will}
 use Rattle.mqtt_codec.specs.declared.publish.Delivery.TheVariants as delivery
 use Rattle.mqtt_codec.specs.declared.packet.Packet.{Packet}
-use Rattle.mqtt_codec.specs.declared.packet.Packet.TheVariants.{Connect, Publish, Pingreq, Pingresp, Disconnect, Auth}
+use Rattle.mqtt_codec.specs.declared.packet.Packet.TheVariants.{Connect, Publish, Pingreq, Pingresp, Auth}
 use Rattle.mqtt_records.specs.declared.message.Retained.{Retained}
 use Rattle.mqtt_records.specs.declared.subscription.Subscription.{Subscription}
 use Rattle.mqtt_records.specs.declared.session.Session.{Session}
 use Rattle.mqtt_records.specs.Records.{nothing}
 use Rattle.mqtt_rules.specs.declared.Report.TheVariants.{Accepted, Entered}
-use Rattle.mqtt_rules.specs.Packets.{property, reason, identified, connack, puback, pubrec, pubrel, suback, unsuback, disconnect}
+use Rattle.mqtt_rules.specs.Packets.{property, reason, connack, puback, pubrel, suback, unsuback, disconnect}
 use Rattle.mqtt_rules.specs.State.{Broker}
 use Rattle.mqtt_rules.specs.Step.{Call, NewLine, Input, BadInput, Lost, Pump, Outcome}
-use Rattle.mqtt_rules.proofs.Play.{usual, blank, Event, at, step, runs, tells, asks, out, hello, hello_with, never_expires, welcome, in_line, wants_with, wish, options, wants, gives_up, topic, hi, message, sends, direct, subscribed, Keeps, nothing_written, away, letters, low, keeps}
+use Rattle.mqtt_rules.proofs.Play.{usual, blank, Event, at, step, runs, tells, asks, out, hello, hello_with, never_expires, welcome, in_line, wants_with, wish, options, wants, gives_up, topic, hi, sends, direct, Keeps, nothing_written, away, letters, keeps}
 
 -- ---- the answers
 
@@ -270,7 +270,10 @@ one_that_is_given_up_makes_place = refl
 abbrev kept_from : ℕ → ℕ → List Retained
 kept_from zero place = []
 kept_from (suc k) place = record {
-  place = place; sender = codes "p1"; publication = place; qos = AtMostOnce;
+  place = place;
+  sender = codes "p1";
+  publication = place;
+  qos = AtMostOnce;
   content = record { topic = letters place; properties = []; payload = hi; arrived = 0 };
 } ∷ kept_from k (suc place)
 

@@ -3,3 +3,4 @@ pub mod Examples
 pub mod Groups
 pub mod Tables
 pub mod Hostile
+pub mod Own

@@ -1,10 +1,9 @@
 -- Full tables and queues, and copies that are too large: matching, room, the oldest that make way, spent numbers (MQTT 5.0, 3.1.2.11.4, 4.7, 4.9).
-use Rattle.std.proofs.Common.{◌≡◌, ℕ, zero, suc, ◌+◌, ◌-◌, ◌^◌, Bool, true, false, List, [], ◌∷◌, ◌++◌, map, length, Some, None, refl}
+use Rattle.std.proofs.Common.{◌≡◌, ℕ, ◌-◌, Bool, true, false, List, [], ◌∷◌, ◌++◌, map, length, None, refl}
 use Rattle.std.specs.Prelude.{codes, replicate}
 use Rattle.mqtt_base.specs.Values.{varint}
-use Rattle.mqtt_base.specs.declared.session.Qos.TheVariants.{AtMostOnce, AtLeastOnce, ExactlyOnce}
+use Rattle.mqtt_base.specs.declared.session.Qos.TheVariants.{ExactlyOnce}
 use Rattle.mqtt_base.specs.declared.session.Cause.TheVariants.{Retained}
-use Rattle.mqtt_base.specs.declared.session.CopyId.{CopyId}
 use Rattle.mqtt_base.specs.declared.session.Ending.TheVariants.{TooLarge, Dropped}
 use Rattle.mqtt_base.specs.declared.session.Phase.TheVariants.{Waiting, Sent, Released}
 use Rattle.mqtt_props.specs.declared.table.PropName.TheVariants.{MaximumPacketSize}
@@ -16,15 +15,12 @@ use Rattle.mqtt_topic.specs.Filters.{is_filter}
 use Rattle.mqtt_topic.specs.Matching.{is_match}
 use Rattle.mqtt_flow.specs.declared.entry.Full.{Full}
 use Rattle.mqtt_flow.specs.declared.entry.Full.TheVariants.{Refuse, Drop}
-use Rattle.mqtt_records.specs.declared.queue.Entry.{Entry}
-use Rattle.mqtt_records.specs.Session.{entry_place}
-use Rattle.mqtt_rules.specs.declared.Limits.{Limits}
 use Rattle.mqtt_rules.specs.declared.Report.{Report}
 use Rattle.mqtt_rules.specs.declared.Report.TheVariants.{Accepted, Entered, Ended}
-use Rattle.mqtt_rules.specs.Packets.{property, puback, pubrec, pubrel, pubcomp, suback}
+use Rattle.mqtt_rules.specs.Packets.{property, pubrec, pubrel, pubcomp, suback}
 use Rattle.mqtt_rules.specs.State.{Broker, top}
 use Rattle.mqtt_rules.specs.Step.{NewLine, Input, Lost, Pump, Outcome, is_spent, opened}
-use Rattle.mqtt_rules.proofs.Play.{usual, blank, first, Event, at, runs, tells, asks, runs_with, tells_with, step, out, hello, hello_with, never_expires, in_line, wants_with, wish, options, wants, topic, message, sends, copy_out, direct, subscribed, Keeps, nothing_written, rows_by, narrow, entry, waiting, queued, keeps}
+use Rattle.mqtt_rules.proofs.Play.{usual, blank, first, Event, at, runs, tells, asks, runs_with, tells_with, step, out, hello, hello_with, never_expires, in_line, wants_with, wish, options, wants, topic, message, sends, direct, subscribed, Keeps, nothing_written, rows_by, narrow, entry, waiting, queued, keeps}
 
 -- ---- matching (4.7.1, 4.7.2)
 
