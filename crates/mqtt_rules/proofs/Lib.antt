@@ -20,4 +20,8 @@ pub mod OrderedLimits
 pub mod Handshakes
 pub mod Moments
 pub mod Sessions
-pub mod Copies
+pub mod WorkedCopies
+pub mod Groups
+pub mod Tables
+pub mod Hostile
+pub mod Own
