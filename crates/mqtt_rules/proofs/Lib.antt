@@ -2,6 +2,10 @@ pub mod Play
 pub mod Examples
 pub mod Goods
 pub mod Copies
+pub mod StoredLaw
+pub mod Ordered
+pub mod OrderedSteps
+pub mod OrderedActs
 pub mod Acts
 pub mod FlightRows
 pub mod FlightQueue
@@ -12,3 +16,13 @@ pub mod NumberFacts
 pub mod NumberBirths
 pub mod NumberSteps
 pub mod NumberPlaces
+pub mod OrderedRoom
+pub mod OrderedLimits
+pub mod Handshakes
+pub mod Moments
+pub mod Sessions
+pub mod WorkedCopies
+pub mod Groups
+pub mod Tables
+pub mod Hostile
+pub mod Own
