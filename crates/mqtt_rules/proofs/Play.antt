@@ -1,11 +1,13 @@
 -- Calls one after the other, on an empty store or on a given one, for the examples.
 use Prim.Native.String.{String}
-use Rattle.std.proofs.Common.{ℕ, zero, suc, ◌+◌, ◌-◌, ◌*◌, Bool, true, false, List, [], ◌∷◌, ◌++◌, map, Option, Some, None}
-use Rattle.std.specs.Prelude.{cond, nat_lt, codes}
+use Rattle.std.proofs.Common.{ℕ, zero, suc, ◌+◌, ◌-◌, ◌*◌, Bool, true, false, List, [], ◌∷◌, ◌++◌, map, Option, Some, None, ◌≡◌, refl, ap, ◌∙◌}
+use Rattle.std.specs.Prelude.{cond, nat_lt, codes, ◌/◌}
 use Rattle.mqtt_base.specs.declared.session.Qos.{Qos}
-use Rattle.mqtt_base.specs.declared.session.Qos.TheVariants.{AtMostOnce, AtLeastOnce, ExactlyOnce}
-use Rattle.mqtt_base.specs.declared.session.Cause.TheVariants.{Direct}
+use Rattle.mqtt_base.specs.declared.session.Qos.TheVariants.{ExactlyOnce}
+use Rattle.mqtt_base.specs.declared.session.Cause.TheVariants.{Direct, Share}
 use Rattle.mqtt_base.specs.declared.session.CopyId.{CopyId}
+use Rattle.mqtt_base.specs.declared.session.Phase.{Phase}
+use Rattle.mqtt_base.specs.declared.session.Phase.TheVariants.{Waiting}
 use Rattle.mqtt_base.specs.declared.session.RetainHandling.TheVariants.{SendAlways}
 use Rattle.mqtt_base.specs.declared.session.SubscriptionOptions.{SubscriptionOptions}
 use Rattle.mqtt_props.specs.declared.table.PropName.TheVariants.{SessionExpiryInterval, ReceiveMaximum, TopicAliasMaximum, MaximumPacketSize}
@@ -17,14 +19,21 @@ use Rattle.mqtt_codec.specs.declared.packet.Packet.{Packet}
 use Rattle.mqtt_codec.specs.declared.packet.Packet.TheVariants.{Connect, Publish, Subscribe, Unsubscribe}
 use Rattle.mqtt_codec.specs.Subscriptions.{Subscription as Asked}
 use Rattle.mqtt_codec.specs.Options.{options_byte}
+use Rattle.mqtt_flow.specs.declared.entry.Full.{Full}
 use Rattle.mqtt_flow.specs.declared.entry.Full.TheVariants.{Refuse}
 use Rattle.mqtt_records.specs.declared.session.Session.{Session}
-use Rattle.mqtt_records.specs.Records.{nothing}
+use Rattle.mqtt_records.specs.Records.{nothing, changed_all}
 use Rattle.mqtt_rules.specs.declared.Limits.{Limits}
 use Rattle.mqtt_rules.specs.declared.Report.{Report}
 use Rattle.mqtt_rules.specs.Packets.{property, connack}
-use Rattle.mqtt_rules.specs.State.{Broker, session_at}
-use Rattle.mqtt_rules.specs.Step.{Call, NewLine, Input, Outcome, stepped, told, opened}
+use Rattle.mqtt_rules.specs.State.{Broker, session_at, stored}
+use Rattle.mqtt_rules.specs.Step.{Call, NewLine, Input, Outcome, stepped, told, opened, at_moment, deeds, with_moment}
+use Rattle.mqtt_records.specs.declared.message.MessageCopy.{MessageCopy}
+use Rattle.mqtt_records.specs.declared.queue.Entry.{Entry}
+use Rattle.mqtt_records.specs.Order.{change_row}
+use Rattle.mqtt_records.specs.Session.{birth_of, fresh}
+use Rattle.mqtt_records.specs.declared.change.Change.{Change}
+use Rattle.mqtt_rules.specs.Deeds.{Deed, rows_of, rows_of_all, stored_after, after, after_all}
 
 abbrev pub usual : Limits
 usual = record { full = Refuse; queue = 1000; sessions = 1000; retained = 1000 }
@@ -181,3 +190,99 @@ burst line (suc k) id = at 0 (Input line (sends id)) ∷ burst line k (1 + id)
 -- r1 is there for a/b at QoS 2, and p1 has sent the PUBLISH with identifier 10
 abbrev pub published : List Event
 published = subscribed ++ at 0 (Input 2 (sends 10)) ∷ []
+-- ---- for tables
+
+abbrev pub tells_by : Limits → (ℕ → List ℕ) → Event → Broker → Outcome
+tells_by limits choice (at now call) b = told limits choice now call b
+
+abbrev pub step_by : Limits → (ℕ → List ℕ) → Event → Broker → Broker
+step_by limits choice (at now call) b = stepped limits choice now call b
+
+abbrev pub runs_by : Limits → (ℕ → List ℕ) → List Event → Broker → Broker
+runs_by limits choice [] b = b
+runs_by limits choice (e ∷ es) b = runs_by limits choice es (step_by limits choice e b)
+
+-- what is stored is as it was
+abbrev pub Keeps : Limits → Event → Broker → Type 0
+Keeps limits e b = stored (step_with limits e b) ≡ stored b
+
+-- the rows that a call writes, its moment left out
+abbrev pub rows_by : Limits → Event → Broker → List Change
+rows_by limits (at now call) b = rows_of_all (deeds limits first now call b) b.records
+
+none_before : (xs ys : List Change) → xs ++ ys ≡ [] → xs ≡ []
+none_before [] ys e = refl
+none_before (x ∷ xs) ys e = absurd (cc)
+
+none_after : (xs ys : List Change) → xs ++ ys ≡ [] → ys ≡ []
+none_after [] ys e = e
+none_after (x ∷ xs) ys e = absurd (cc)
+
+unwritten : (ds : List Deed) (b : Broker) → rows_of_all ds b.records ≡ [] → (after_all ds b).records ≡ b.records
+unwritten [] b e = refl
+unwritten (d ∷ ds) b e =
+    let rest = rows_of_all ds (stored_after d b.records) in
+    unwritten ds (after d b) (none_after (rows_of d b.records) rest e)
+    ∙ ap (λ rows. changed_all rows b.records) (none_before (rows_of d b.records) rest e)
+
+unmoved : (rows : List Change) (b : Broker) → rows ≡ [] → (with_moment rows b).records ≡ b.records
+unmoved [] b e = refl
+unmoved (row ∷ rows) b e = absurd (cc)
+
+-- where no row is written
+pub nothing_written : (limits : Limits) (e : Event) (b : Broker) → rows_by limits e b ≡ [] → Keeps limits e b
+nothing_written limits (at now call) b e =
+    let ds = deeds limits first now call b in
+    unmoved (rows_of_all ds b.records) (after_all ds (at_moment now b)) e ∙ unwritten ds (at_moment now b) e
+
+abbrev pub narrow : Full → ℕ → Limits
+narrow full queue = record { full = full; queue = queue; sessions = 1000; retained = 1000 }
+
+-- a session of this client that is away, with nothing
+abbrev pub away : ℕ → List ℕ → Session
+away birth client = fresh (record { birth = birth; client = client; expiry = 0xffffffff; closed = Some 0 })
+
+-- two letters for each number below 1,024
+abbrev pub letters : ℕ → List ℕ
+letters n = let high = n / 32 in (48 + high) ∷ (48 + (n - 32 * high)) ∷ []
+
+-- a copy of the message, and it in the queue at its place
+abbrev pub copy_kept : ℕ → MessageCopy
+copy_kept number = record {
+  publication = number;
+  cause = Direct;
+  qos = ExactlyOnce;
+  retain = false;
+  identifiers = [];
+  content = record { topic = topic; properties = []; payload = hi; arrived = 0 };
+}
+
+abbrev pub entry : ℕ → Phase → Entry
+entry n phase = record { place = n; phase = phase; copy = copy_kept n }
+
+-- so many entries that wait, from a number on
+abbrev pub waiting : ℕ → ℕ → List Entry
+waiting zero n = []
+waiting (suc k) n = entry n Waiting ∷ waiting k (suc n)
+
+abbrev pub with_entries : List Entry → Session → Session
+with_entries queue s = record s { queue = queue }
+
+-- the session with that birth has this queue, and so many publications were accepted
+abbrev pub queued : ℕ → List Entry → ℕ → Broker → Broker
+queued birth queue publications b =
+    record b { records = record b.records { sessions = change_row birth_of birth (with_entries queue) b.records.sessions; publications = publications } }
+
+-- a PUBLISH of QoS 0 to a/b, and its copy
+abbrev pub low : List Prop → Packet
+low ps = Publish (record { delivery = delivery.AtMostOnce; retain = false; topic = topic; properties = ps; payload = hi })
+
+-- a PUBLISH of QoS 1 with RETAIN
+abbrev pub keeps : List ℕ → ℕ → Packet
+keeps name id = Publish (record { delivery = delivery.AtLeastOnce false id; retain = true; topic = name; properties = []; payload = codes "!" })
+
+abbrev pub shared : List ℕ
+shared = codes "$share/g/a/b"
+
+abbrev pub in_group : ℕ → ℕ → CopyId
+in_group number birth = record { publication = number; birth = birth; cause = Share (codes "g/a/b") }
