@@ -28,6 +28,8 @@ use Rattle.mqtt_rules.specs.Packets.{reason, property, connack, pubrec, pubrel, 
 use Rattle.mqtt_rules.specs.Step.{NewLine, Input, BadInput, Pump, Outcome}
 use Rattle.mqtt_rules.proofs.Play.{Event, at, asks, out, hello, in_line, wants_with, wish, options, wants, topic, message, sends, copy_out, direct, subscribed, bytes, sends_again, published}
 
+-- Where a moment is named `now`, the call may come at any.
+
 -- ---- CONNECT
 
 -- with an empty client identifier: it is given one
@@ -47,9 +49,9 @@ greeting_bytes : shortest_of greeting ≡ bytes "20 17 00 00 14 12 00 06 61 75 7
 unfolding varint
 greeting_bytes = refl
 
-nameless_is_named : asks (at 0 NewLine ∷ []) (at 0 (Input 1 nameless)) ≡ out ((1, greeting) ∷ []) [] [] false
+nameless_is_named : (now : ℕ) → asks (at 0 NewLine ∷ []) (at now (Input 1 nameless)) ≡ out ((1, greeting) ∷ []) [] [] false
 unfolding digits
-nameless_is_named = refl
+nameless_is_named now = refl
 
 -- of another version: CONNACK tells of it, and the line closes
 version_4_read : packet_at (bytes "10 0d 00 04 4d 51 54 54 04 02 00 3c 00 00 00") ≡ Err Version
@@ -67,8 +69,8 @@ unfolding varint
 refusal_bytes = refl
 
 -- a second one on a line
-second_connect_is_refused : asks (in_line 1 (hello (codes "r1"))) (at 0 (Input 1 (hello (codes "r1")))) ≡ out ((1, disconnect 0x82) ∷ []) (1 ∷ []) [] false
-second_connect_is_refused = refl
+second_connect_is_refused : (now : ℕ) → asks (in_line 1 (hello (codes "r1"))) (at now (Input 1 (hello (codes "r1")))) ≡ out ((1, disconnect 0x82) ∷ []) (1 ∷ []) [] false
+second_connect_is_refused now = refl
 
 protocol_error_bytes : shortest_of (disconnect 0x82) ≡ bytes "e0 01 82"
 unfolding varint
@@ -80,16 +82,16 @@ message_read : packet_at (bytes "34 0a 00 03 61 2f 62 00 0a 00 68 69") ≡ Ok (s
 unfolding packet_at frame_at lawful_at body_at publish_at delivery_at layout_at block_at items_at items_in text_at blob_at is_utf8 chars encode varint_at groups_at
 message_read = refl
 
-message_enters : asks subscribed (at 0 (Input 2 (sends 10))) ≡ out ((2, pubrec 10 0) ∷ []) [] (Accepted 1 ∷ Entered (direct 1 1) (codes "r1") ∷ []) false
+message_enters : (now : ℕ) → asks subscribed (at now (Input 2 (sends 10))) ≡ out ((2, pubrec 10 0) ∷ []) [] (Accepted 1 ∷ Entered (direct 1 1) (codes "r1") ∷ []) false
 unfolding varint
-message_enters = refl
+message_enters now = refl
 
 received_bytes : shortest_of (pubrec 10 0) ≡ bytes "50 02 00 0a"
 unfolding varint
 received_bytes = refl
 
-message_alone : asks (in_line 1 (hello (codes "p1"))) (at 0 (Input 1 (sends 10))) ≡ out ((1, pubrec 10 0x10) ∷ []) [] (Accepted 1 ∷ []) false
-message_alone = refl
+message_alone : (now : ℕ) → asks (in_line 1 (hello (codes "p1"))) (at now (Input 1 (sends 10))) ≡ out ((1, pubrec 10 0x10) ∷ []) [] (Accepted 1 ∷ []) false
+message_alone now = refl
 
 alone_bytes : shortest_of (pubrec 10 0x10) ≡ bytes "50 03 00 0a 10"
 unfolding varint
@@ -101,13 +103,13 @@ again_read : packet_at (bytes "3c 0a 00 03 61 2f 62 00 0a 00 68 69") ≡ Ok (sen
 unfolding packet_at frame_at lawful_at body_at publish_at delivery_at layout_at block_at items_at items_in text_at blob_at is_utf8 chars encode varint_at groups_at
 again_read = refl
 
-a_repeat_enters_nothing : asks published (at 0 (Input 2 (sends_again 10))) ≡ out ((2, pubrec 10 0) ∷ []) [] [] false
+a_repeat_enters_nothing : (now : ℕ) → asks published (at now (Input 2 (sends_again 10))) ≡ out ((2, pubrec 10 0) ∷ []) [] [] false
 unfolding varint
-a_repeat_enters_nothing = refl
+a_repeat_enters_nothing now = refl
 
-a_repeat_without_dup_enters_nothing : asks published (at 0 (Input 2 (sends 10))) ≡ out ((2, pubrec 10 0) ∷ []) [] [] false
+a_repeat_without_dup_enters_nothing : (now : ℕ) → asks published (at now (Input 2 (sends 10))) ≡ out ((2, pubrec 10 0) ∷ []) [] [] false
 unfolding varint
-a_repeat_without_dup_enters_nothing = refl
+a_repeat_without_dup_enters_nothing now = refl
 
 -- ---- its release, and the release again
 
@@ -115,26 +117,26 @@ release_read : packet_at (bytes "62 02 00 0a") ≡ Ok (pubrel 10 0)
 unfolding packet_at frame_at lawful_at body_at ack_at tail_at varint_at groups_at
 release_read = refl
 
-a_release_is_told : asks published (at 0 (Input 2 (pubrel 10 0))) ≡ out ((2, pubcomp 10 0) ∷ []) [] (Released 2 (codes "p1") 10 ∷ []) false
+a_release_is_told : (now : ℕ) → asks published (at now (Input 2 (pubrel 10 0))) ≡ out ((2, pubcomp 10 0) ∷ []) [] (Released 2 (codes "p1") 10 ∷ []) false
 unfolding varint
-a_release_is_told = refl
+a_release_is_told now = refl
 
 completion_bytes : shortest_of (pubcomp 10 0) ≡ bytes "70 02 00 0a"
 unfolding varint
 completion_bytes = refl
 
-a_second_release_finds_nothing : asks (published ++ at 0 (Input 2 (pubrel 10 0)) ∷ []) (at 0 (Input 2 (pubrel 10 0))) ≡ out ((2, pubcomp 10 0x92) ∷ []) [] [] false
+a_second_release_finds_nothing : (now : ℕ) → asks (published ++ at 0 (Input 2 (pubrel 10 0)) ∷ []) (at now (Input 2 (pubrel 10 0))) ≡ out ((2, pubcomp 10 0x92) ∷ []) [] [] false
 unfolding varint
-a_second_release_finds_nothing = refl
+a_second_release_finds_nothing now = refl
 
 not_found_bytes : shortest_of (pubcomp 10 0x92) ≡ bytes "70 03 00 0a 92"
 unfolding varint
 not_found_bytes = refl
 
 -- once it is released, its identifier stands for a new message
-a_released_identifier_is_new : asks (published ++ at 0 (Input 2 (pubrel 10 0)) ∷ []) (at 0 (Input 2 (sends 10))) ≡ out ((2, pubrec 10 0) ∷ []) [] (Accepted 2 ∷ Entered (direct 2 1) (codes "r1") ∷ []) false
+a_released_identifier_is_new : (now : ℕ) → asks (published ++ at 0 (Input 2 (pubrel 10 0)) ∷ []) (at now (Input 2 (sends 10))) ≡ out ((2, pubrec 10 0) ∷ []) [] (Accepted 2 ∷ Entered (direct 2 1) (codes "r1") ∷ []) false
 unfolding varint
-a_released_identifier_is_new = refl
+a_released_identifier_is_new now = refl
 
 -- ---- Topic Aliases, with a subscriber at QoS 0
 
@@ -166,13 +168,13 @@ an_alias_is_set : asks listener (at 0 (Input 2 (aliased topic 1 (codes "!")))) �
 unfolding varint
 an_alias_is_set = refl
 
-an_alias_stands_for_its_topic : asks alias_set (at 0 (Input 2 (aliased [] 1 (codes "\"")))) ≡ out ((1, plain_with topic [] (codes "\"")) ∷ []) [] (Accepted 2 ∷ []) false
+an_alias_stands_for_its_topic : (now : ℕ) → asks alias_set (at now (Input 2 (aliased [] 1 (codes "\"")))) ≡ out ((1, plain_with topic [] (codes "\"")) ∷ []) [] (Accepted 2 ∷ []) false
 unfolding varint
-an_alias_stands_for_its_topic = refl
+an_alias_stands_for_its_topic now = refl
 
-an_alias_above_the_maximum_closes : asks listener (at 0 (Input 2 (aliased topic 11 (codes "!")))) ≡ out ((2, disconnect 0x94) ∷ []) (2 ∷ []) [] false
+an_alias_above_the_maximum_closes : (now : ℕ) → asks listener (at now (Input 2 (aliased topic 11 (codes "!")))) ≡ out ((2, disconnect 0x94) ∷ []) (2 ∷ []) [] false
 unfolding varint
-an_alias_above_the_maximum_closes = refl
+an_alias_above_the_maximum_closes now = refl
 
 alias_invalid_bytes : shortest_of (disconnect 0x94) ≡ bytes "e0 01 94"
 unfolding varint

@@ -208,28 +208,29 @@ none_is_given_after_it : is_spent (rows_by (Input 1 (sends 10)) (with_numbers to
 unfolding varint
 none_is_given_after_it = refl
 
-abbrev after_stop : Broker
-after_stop = reopened 0 (runs cut_short blank)
+-- the restart comes at whatever moment
+abbrev after_stop : ℕ → Broker
+after_stop now = reopened now (runs cut_short blank)
 
 -- CONNECT of r1: the session is resumed, and the copy is sent again, with DUP
 hello_read : packet_at (bytes "10 14 00 04 4d 51 54 54 05 00 00 00 05 11 ff ff ff ff 00 02 72 31") ≡ Ok (hello (codes "r1"))
 unfolding packet_at frame_at versioned_at lawful_at body_at connect_at fields_at will_at user_name_at password_at layout_at block_at items_at items_in prop_at value_at text_at blob_at is_utf8 chars encode varint_at groups_at
 hello_read = refl
 
-a_session_outlives_a_restart : all_outputs (in_line 1 (hello (codes "r1"))) after_stop ≡ (1, welcome true) ∷ []
+a_session_outlives_a_restart : (now : ℕ) → all_outputs (in_line 1 (hello (codes "r1"))) (after_stop now) ≡ (1, welcome true) ∷ []
 unfolding varint
-a_session_outlives_a_restart = refl
+a_session_outlives_a_restart now = refl
 
 welcome_back_bytes : shortest_of (welcome true) ≡ bytes "20 0e 01 00 0b 21 00 14 22 00 0a 27 00 01 00 00"
 unfolding varint
 welcome_back_bytes = refl
 
-abbrev r1_back : Broker
-r1_back = runs (in_line 1 (hello (codes "r1"))) after_stop
+abbrev r1_back : ℕ → Broker
+r1_back now = runs (in_line 1 (hello (codes "r1"))) (after_stop now)
 
-a_sent_copy_is_sent_again : tells (at 0 (Pump 1)) r1_back ≡ out ((1, copy_out true 1 []) ∷ []) [] [] false
+a_sent_copy_is_sent_again : (now : ℕ) → tells (at now (Pump 1)) (r1_back now) ≡ out ((1, copy_out true 1 []) ∷ []) [] [] false
 unfolding varint
-a_sent_copy_is_sent_again = refl
+a_sent_copy_is_sent_again now = refl
 
 sent_again_bytes : shortest_of (copy_out true 1 []) ≡ bytes "3c 0a 00 03 61 2f 62 00 01 00 68 69"
 unfolding varint
@@ -243,14 +244,14 @@ one_entry_before_the_stop : all_reports cut_short blank ≡ Accepted 1 ∷ Enter
 unfolding varint
 one_entry_before_the_stop = refl
 
-one_end_after_the_stop : all_reports rest_of_handshake after_stop ≡ Ended (direct 1 1) (codes "r1") Taken ∷ []
+one_end_after_the_stop : (now : ℕ) → all_reports rest_of_handshake (after_stop now) ≡ Ended (direct 1 1) (codes "r1") Taken ∷ []
 unfolding varint
-one_end_after_the_stop = refl
+one_end_after_the_stop now = refl
 
 -- ---- answers of the client to that PUBLISH
 
 abbrev sent_again : Broker
-sent_again = step (at 0 (Pump 1)) r1_back
+sent_again = step (at 0 (Pump 1)) (r1_back 0)
 
 -- PUBACK answers no copy of QoS 2
 puback_read : packet_at (bytes "40 02 00 01") ≡ Ok (puback 1 0)

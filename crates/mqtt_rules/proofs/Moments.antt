@@ -83,13 +83,14 @@ what_was_sent_stays : asks sent_in_time (at 9000 Tick) ≡ out [] [] [] false
 unfolding varint
 what_was_sent_stays = refl
 
-its_handshake_goes_on : asks (sent_in_time ++ at 9000 Tick ∷ []) (at 9000 (Input 3 (pubrec 1 0))) ≡ out ((3, pubrel 1 0) ∷ []) [] [] false
+-- and its handshake completes at whatever moments
+its_handshake_goes_on : (now : ℕ) → asks sent_in_time (at now (Input 3 (pubrec 1 0))) ≡ out ((3, pubrel 1 0) ∷ []) [] [] false
 unfolding varint
-its_handshake_goes_on = refl
+its_handshake_goes_on now = refl
 
-it_completes_late : asks (sent_in_time ++ at 9000 Tick ∷ at 9000 (Input 3 (pubrec 1 0)) ∷ []) (at 9000 (Input 3 (pubcomp 1 0))) ≡ out [] [] (Ended (direct 1 1) (codes "r1") Taken ∷ []) false
+its_handshake_ends : (now later : ℕ) → asks (sent_in_time ++ at now (Input 3 (pubrec 1 0)) ∷ []) (at later (Input 3 (pubcomp 1 0))) ≡ out [] [] (Ended (direct 1 1) (codes "r1") Taken ∷ []) false
 unfolding varint
-it_completes_late = refl
+its_handshake_ends now later = refl
 
 -- ---- a Will with a delay of 10 seconds, of a session that ends after 5
 
