@@ -1,6 +1,7 @@
 -- Calls one after the other, on an empty store or on a given one, for the examples.
-use Rattle.std.proofs.Common.{◌≡◌, ℕ, zero, suc, ◌+◌, ◌*◌, ◌-◌, Bool, true, false, List, [], ◌∷◌, ◌++◌, Option, Some, None, refl, ap, ◌∙◌}
-use Rattle.std.specs.Prelude.{◌/◌, codes}
+use Prim.Native.String.{String}
+use Rattle.std.proofs.Common.{ℕ, zero, suc, ◌+◌, ◌-◌, ◌*◌, Bool, true, false, List, [], ◌∷◌, ◌++◌, map, Option, Some, None, ◌≡◌, refl, ap, ◌∙◌}
+use Rattle.std.specs.Prelude.{cond, nat_lt, codes, ◌/◌}
 use Rattle.mqtt_base.specs.declared.session.Qos.{Qos}
 use Rattle.mqtt_base.specs.declared.session.Qos.TheVariants.{ExactlyOnce}
 use Rattle.mqtt_base.specs.declared.session.Cause.TheVariants.{Direct, Share}
@@ -20,19 +21,19 @@ use Rattle.mqtt_codec.specs.Subscriptions.{Subscription as Asked}
 use Rattle.mqtt_codec.specs.Options.{options_byte}
 use Rattle.mqtt_flow.specs.declared.entry.Full.{Full}
 use Rattle.mqtt_flow.specs.declared.entry.Full.TheVariants.{Refuse}
-use Rattle.mqtt_records.specs.declared.message.MessageCopy.{MessageCopy}
-use Rattle.mqtt_records.specs.declared.queue.Entry.{Entry}
 use Rattle.mqtt_records.specs.declared.session.Session.{Session}
-use Rattle.mqtt_records.specs.Order.{change_row}
-use Rattle.mqtt_records.specs.Session.{birth_of, fresh}
-use Rattle.mqtt_records.specs.declared.change.Change.{Change}
 use Rattle.mqtt_records.specs.Records.{nothing, changed_all}
 use Rattle.mqtt_rules.specs.declared.Limits.{Limits}
 use Rattle.mqtt_rules.specs.declared.Report.{Report}
 use Rattle.mqtt_rules.specs.Packets.{property, connack}
-use Rattle.mqtt_rules.specs.State.{Broker, stored}
+use Rattle.mqtt_rules.specs.State.{Broker, session_at, stored}
+use Rattle.mqtt_rules.specs.Step.{Call, NewLine, Input, Outcome, stepped, told, opened, at_moment, deeds, with_moment}
+use Rattle.mqtt_records.specs.declared.message.MessageCopy.{MessageCopy}
+use Rattle.mqtt_records.specs.declared.queue.Entry.{Entry}
+use Rattle.mqtt_records.specs.Order.{change_row}
+use Rattle.mqtt_records.specs.Session.{birth_of, fresh}
+use Rattle.mqtt_records.specs.declared.change.Change.{Change}
 use Rattle.mqtt_rules.specs.Deeds.{Deed, rows_of, rows_of_all, stored_after, after, after_all}
-use Rattle.mqtt_rules.specs.Step.{Call, NewLine, Input, Outcome, at_moment, deeds, with_moment, stepped, told, opened}
 
 abbrev pub usual : Limits
 usual = record { full = Refuse; queue = 1000; sessions = 1000; retained = 1000 }
@@ -143,6 +144,52 @@ direct number birth = record { publication = number; birth = birth; cause = Dire
 abbrev pub subscribed : List Event
 subscribed = at 0 NewLine ∷ at 0 (Input 1 (hello (codes "r1"))) ∷ at 0 (Input 1 (wants 1 topic ExactlyOnce)) ∷ at 0 NewLine ∷ at 0 (Input 2 (hello (codes "p1"))) ∷ []
 
+-- ---- for handshakes and moments
+
+-- bytes by their hexadecimal digits, two and a space for each
+abbrev pub digit : ℕ → ℕ
+digit c = cond (nat_lt c 58) (c - 48) (c - 87)
+
+abbrev pub bytes_of : List ℕ → List ℕ
+bytes_of (high ∷ low ∷ space ∷ rest) = (16 * digit high + digit low) ∷ bytes_of rest
+bytes_of (high ∷ low ∷ []) = (16 * digit high + digit low) ∷ []
+bytes_of rest = []
+
+abbrev pub bytes : String → List ℕ
+bytes text = bytes_of (codes text)
+
+-- all that the events tell, one after the other
+abbrev pub all_outputs : List Event → Broker → List (ℕ × Packet)
+all_outputs [] b = []
+all_outputs (e ∷ es) b = (tells e b).outputs ++ all_outputs es (step e b)
+
+abbrev pub all_reports : List Event → Broker → List Report
+all_reports [] b = []
+all_reports (e ∷ es) b = (tells e b).reports ++ all_reports es (step e b)
+
+-- the sessions that stand, and the identifiers of QoS 2 publications that one of them has open
+abbrev pub births : Broker → List ℕ
+births b = map (λ s. s.birth) b.records.sessions
+
+abbrev pub inbound_of : Option Session → List ℕ
+inbound_of None = []
+inbound_of (Some s) = s.inbound
+
+abbrev pub open_at : ℕ → Broker → List ℕ
+open_at birth b = inbound_of (session_at birth b.records)
+
+-- the PUBLISH of QoS 2 to a/b once more, with DUP
+abbrev pub sends_again : ℕ → Packet
+sends_again id = copy_out true id []
+
+-- with so many identifiers one after the other, from one on, on a line
+abbrev pub burst : ℕ → ℕ → ℕ → List Event
+burst line zero id = []
+burst line (suc k) id = at 0 (Input line (sends id)) ∷ burst line k (1 + id)
+
+-- r1 is there for a/b at QoS 2, and p1 has sent the PUBLISH with identifier 10
+abbrev pub published : List Event
+published = subscribed ++ at 0 (Input 2 (sends 10)) ∷ []
 -- ---- for tables
 
 abbrev pub tells_by : Limits → (ℕ → List ℕ) → Event → Broker → Outcome

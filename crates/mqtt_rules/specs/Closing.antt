@@ -46,7 +46,12 @@ has_due_end now s = is_due now (end_due s.closed s.expiry)
 
 abbrev pub will_message : List ℕ → Will → Message
 will_message client w = record {
-  sender = client; topic = w.topic; qos = w.qos; retain = w.retain; properties = passed_on w.properties; payload = w.payload
+  sender = client;
+  topic = w.topic;
+  qos = w.qos;
+  retain = w.retain;
+  properties = passed_on w.properties;
+  payload = w.payload;
 }
 
 abbrev pub publish_or_refuse : Env → Whose → Message → Option (List Delivery) → Act

@@ -139,7 +139,14 @@ stored_after d r = changed_all (rows_of d r) r
 
 abbrev pub fresh_line : ℕ → ℕ → Line
 fresh_line n now = record {
-  number = n; heard = now; session = None; keep_alive = 0; window = 0; largest = 0; aliases = []; went = []
+  number = n;
+  heard = now;
+  session = None;
+  keep_alive = 0;
+  window = 0;
+  largest = 0;
+  aliases = [];
+  went = [];
 }
 
 abbrev pub line_after : ℕ → LinePart → Line → Line

@@ -112,7 +112,12 @@ publish_by New env l s p m b = publish_new env l s p m (routed env m b) b
 
 abbrev pub message_of : List ℕ → List ℕ → Publish → Message
 message_of client topic p = record {
-  sender = client; topic = topic; qos = delivery_qos p.delivery; retain = p.retain; properties = passed_on p.properties; payload = p.payload
+  sender = client;
+  topic = topic;
+  qos = delivery_qos p.delivery;
+  retain = p.retain;
+  properties = passed_on p.properties;
+  payload = p.payload;
 }
 
 abbrev pub publish_meant : Meaning → Env → Line → Session → Publish → Act

@@ -9,3 +9,6 @@ pub mod Inbound
 pub mod Subscribe
 pub mod Tick
 pub mod Step
+pub mod Laws
+pub mod Flight
+pub mod Numbers

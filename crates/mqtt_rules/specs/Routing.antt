@@ -161,6 +161,6 @@ abbrev pub publish : Env → Origin → Message → List Delivery → Act
 publish env origin m ds b =
     let number = next_publication b.records in
     series (
-        always (Accept number origin m ∷ [])
-        ∷ retain_by m.retain (is_empty m.payload) number m
-        ∷ map (deliver env) ds) b
+    always (Accept number origin m ∷ [])
+    ∷ retain_by m.retain (is_empty m.payload) number m
+    ∷ map (deliver env) ds) b

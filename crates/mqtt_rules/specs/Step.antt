@@ -144,7 +144,10 @@ pub record Outcome : Type 0 where
 
 abbrev pub outcome : Call → List Deed → Outcome
 outcome call ds = record {
-  outputs = filter_map output ds; closed = filter_map closing ds; reports = filter_map report ds; again = is_again call ds
+  outputs = filter_map output ds;
+  closed = filter_map closing ds;
+  reports = filter_map report ds;
+  again = is_again call ds;
 }
 
 abbrev pub told : Limits → (ℕ → List ℕ) → ℕ → Call → Broker → Outcome

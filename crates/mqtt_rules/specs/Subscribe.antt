@@ -110,7 +110,10 @@ refuses code = record { code = code; deeds = []; late = [] }
 
 abbrev pub subscription : ℕ → Session → Wish → Subscription
 subscription number s w = record {
-  filter = w.filter; place = place_among number w.filter s.subscriptions; options = w.options; identifier = w.identifier
+  filter = w.filter;
+  place = place_among number w.filter s.subscriptions;
+  options = w.options;
+  identifier = w.identifier;
 }
 
 abbrev pub grants : Env → ℕ → Session → Wish → List Delivery → Broker → Granted

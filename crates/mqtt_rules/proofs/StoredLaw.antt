@@ -1,0 +1,40 @@
+-- What a step writes, applied to what was stored, is what it stores.
+use Rattle.std.proofs.Common.{◌≡◌, ℕ, List, [], ◌∷◌, ◌++◌, refl, ap, sym, ◌∙◌}
+use Rattle.mqtt_records.specs.declared.records.Records.{Records}
+use Rattle.mqtt_records.specs.declared.change.Counter.TheVariants.{Moment}
+use Rattle.mqtt_records.specs.declared.change.Change.{Change}
+use Rattle.mqtt_records.specs.declared.change.Change.TheVariants.{SetCounter}
+use Rattle.mqtt_records.specs.Records.{changed, changed_all}
+use Rattle.mqtt_rules.specs.State.{Broker, stored}
+use Rattle.mqtt_rules.specs.Deeds.{Deed, after, after_all, rows_of, rows_of_all, stored_after}
+use Rattle.mqtt_rules.specs.Step.{stamped, with_moment, rows_written, done}
+
+-- one list of rows, then another
+pub changed_all_append : (rows more : List Change) (r : Records) → changed_all (rows ++ more) r ≡ changed_all more (changed_all rows r)
+changed_all_append [] more r = refl
+changed_all_append (row ∷ rows) more r = changed_all_append rows more (changed row r)
+
+-- the rows of deeds, one after the other, do what the deeds do
+pub stored_after_all : (ds : List Deed) (b : Broker) → changed_all (rows_of_all ds b.records) b.records ≡ stored (after_all ds b)
+stored_after_all [] b = refl
+stored_after_all (d ∷ ds) b =
+    changed_all_append (rows_of d b.records) (rows_of_all ds (stored_after d b.records)) b.records ∙ stored_after_all ds (after d b)
+
+-- deeds take no time
+pub now_stays : (ds : List Deed) (b : Broker) → (after_all ds b).now ≡ b.now
+now_stays [] b = refl
+now_stays (d ∷ ds) b = now_stays ds (after d b)
+
+abbrev with_now : ℕ → Records → Records
+with_now now r = record r { moment = now }
+
+stamped_stores : (rows : List Change) (now : ℕ) (r : Records) (c : Broker) → changed_all rows r ≡ stored c → now ≡ c.now → changed_all (stamped now rows) r ≡ stored (with_moment rows c)
+stamped_stores [] now r c same times = same
+stamped_stores (row ∷ rows) now r c same times =
+    changed_all_append (row ∷ rows) (SetCounter Moment now ∷ []) r ∙ ap (with_now now) same ∙ ap (λ m. with_now m c.records) times
+
+pub rows_store : (ds : List Deed) (b : Broker) → changed_all (rows_written ds b) (stored b) ≡ stored (done ds b)
+rows_store ds b = stamped_stores (rows_of_all ds b.records) b.now b.records (after_all ds b) (stored_after_all ds b) (sym (now_stays ds b))
+
+pub without_row : (d : Deed) (b : Broker) → rows_of d (stored b) ≡ [] → stored (after d b) ≡ stored b
+without_row d b none = ap (λ rows. changed_all rows b.records) none

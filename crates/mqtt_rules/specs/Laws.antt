@@ -1,0 +1,62 @@
+-- What the laws of a step speak of: tables in order and within their limits, and runs of calls.
+use Rattle.std.specs.Prelude.{ℕ, ◌≤◌, List, [], ◌∷◌, length}
+use Rattle.std.specs.List.{AllByRecursion}
+use Rattle.mqtt_records.specs.declared.subscription.TheConstants.{SUBSCRIPTION_LIMIT}
+use Rattle.mqtt_records.specs.declared.session.TheConstants.{INBOUND_LIMIT}
+use Rattle.mqtt_records.specs.declared.queue.TheConstants.{QUEUE_LIMIT}
+use Rattle.mqtt_records.specs.declared.records.TheConstants.{SESSION_LIMIT, RETAINED_LIMIT}
+use Rattle.mqtt_records.specs.declared.session.Session.{Session}
+use Rattle.mqtt_records.specs.declared.records.Records.{Records}
+use Rattle.mqtt_records.specs.Order.{IsAscending}
+use Rattle.mqtt_records.specs.Session.{birth_of, place_of, number_of, entry_place}
+use Rattle.mqtt_records.specs.Records.{kept_place, nothing}
+use Rattle.mqtt_rules.specs.declared.Limits.{Limits}
+use Rattle.mqtt_rules.specs.State.{Broker, stored}
+use Rattle.mqtt_rules.specs.Step.{Call, stepped, unopened, opened}
+
+-- ---- tables in order
+
+-- rows in the order of their keys, each key once, and no more than the limit
+pub record IsTable {X : Type 0} (key : X → ℕ) (limit : ℕ) (rows : List X) : Type 0 where
+  pub ascending : IsAscending key rows
+  pub within : length rows ≤ limit
+
+-- what a session has: its open identifiers, its subscriptions by place, and its queue by place
+pub record HasTables (s : Session) : Type 0 where
+  pub inbound : IsTable number_of INBOUND_LIMIT s.inbound
+  pub subscriptions : IsTable place_of SUBSCRIPTION_LIMIT s.subscriptions
+  pub queue : IsTable entry_place QUEUE_LIMIT s.queue
+
+-- the sessions by birth, what each has, and the retained messages by place
+pub record IsOrdered (r : Records) : Type 0 where
+  pub sessions : IsTable birth_of SESSION_LIMIT r.sessions
+  pub each : AllByRecursion HasTables r.sessions
+  pub retained : IsTable kept_place RETAINED_LIMIT r.retained
+
+-- ---- open identifiers
+
+-- at most so many as CONNACK's Receive Maximum tells (4.9)
+abbrev pub HasFewOpen : Session → Type 0
+HasFewOpen s = length s.inbound ≤ 20
+
+abbrev pub FewOpen : Records → Type 0
+FewOpen r = AllByRecursion HasFewOpen r.sessions
+
+-- ---- runs
+
+-- a call, or that a broker opens what was stored, each with its moment and with any limits and choice of members
+pub data Event : Type 0 where
+  Asked : (limits : Limits) (choice : ℕ → List ℕ) (now : ℕ) (call : Call) → Event
+  Reopened : (limits : Limits) (choice : ℕ → List ℕ) (now : ℕ) → Event
+
+abbrev pub after_event : Event → Broker → Broker
+after_event (Asked limits choice now call) b = stepped limits choice now call b
+after_event (Reopened limits choice now) b = opened limits choice now (stored b)
+
+abbrev pub after_events : List Event → Broker → Broker
+after_events [] b = b
+after_events (e ∷ es) b = after_events es (after_event e b)
+
+-- before the first event
+abbrev pub blank : Broker
+blank = unopened 0 nothing
