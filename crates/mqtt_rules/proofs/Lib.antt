@@ -7,3 +7,4 @@ pub mod NumberFacts
 pub mod NumberBirths
 pub mod NumberSteps
 pub mod NumberPlaces
+pub mod NumberCopies

@@ -14,7 +14,7 @@ ghost use Rattle.mqtt_rules.specs.Deeds.{new_entry};
 ghost use Rattle.mqtt_rules.specs.Routing.{place_of_kept};
 ghost use Rattle.mqtt_rules.specs.Subscribe.{Wish, has_filter, subscription};
 ghost use Rattle.mqtt_rules.specs.Step.{Call, deeds, stepped, opening, opened, unopened, env_of};
-ghost use Rattle.mqtt_rules.specs.Numbers.{CountsOn, CountOn, NoneFell, IsTimed, HasGivenBirths};
+ghost use Rattle.mqtt_rules.specs.Numbers.{CountsOn, CountOn, NoneFell, IsTimed, HasGivenBirths, HasAcceptedNumbers};
 
 /// Each birth, each publication's number, each granted filter's number and each number of an assigned
 /// client identifier that a step gives is the next one, one above the last that was ever given, and the
@@ -62,6 +62,17 @@ pub fn births_are_new()
     ensures opening { (limits : TheLimits) (choice : ℕ → List ℕ) (now : ℕ) (r : Records)
         → HasGivenBirths r → HasGivenBirths (opened limits choice now r).records }
     ensures next { (r : Records) → HasGivenBirths r → session_at (suc r.births) r ≡ None }
+{}
+
+/// No copy in a queue and no retained message has a number above that of the last publication accepted,
+/// after any step of a broker where none had, and after its opening; so a new publication's number is above
+/// those of all copies and retained messages that stand.
+pub fn copies_are_of_accepted_publications()
+    ensures step { (limits : TheLimits) (choice : ℕ → List ℕ) (now : ℕ) (call : Call) (b : Broker)
+        → HasAcceptedNumbers b.records
+        → HasAcceptedNumbers (stepped limits choice now call b).records }
+    ensures opening { (limits : TheLimits) (choice : ℕ → List ℕ) (now : ℕ) (r : Records)
+        → HasAcceptedNumbers r → HasAcceptedNumbers (opened limits choice now r).records }
 {}
 
 /// A copy that enters a queue gets a place above all that stand there; a message retained for a topic
