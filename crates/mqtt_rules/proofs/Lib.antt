@@ -8,3 +8,4 @@ pub mod NumberBirths
 pub mod NumberSteps
 pub mod NumberPlaces
 pub mod NumberCopies
+pub mod NumberOrder

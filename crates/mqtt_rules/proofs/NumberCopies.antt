@@ -41,15 +41,15 @@ module _ {X : Type 0} (key : X → ℕ) (P : X → Type 0) where
     ]
   ]
 
-  each_cond : (t : Bool) (xs ys : List X) → AllByRecursion P xs → AllByRecursion P ys → AllByRecursion P (cond t xs ys)
+  pub each_cond : (t : Bool) (xs ys : List X) → AllByRecursion P xs → AllByRecursion P ys → AllByRecursion P (cond t xs ys)
   each_cond true xs ys p q = p
   each_cond false xs ys p q = q
 
-  each_put : (limit : ℕ) (row : X) (xs : List X) → P row → AllByRecursion P xs → AllByRecursion P (put_row key limit row xs)
+  pub each_put : (limit : ℕ) (row : X) (xs : List X) → P row → AllByRecursion P xs → AllByRecursion P (put_row key limit row xs)
   each_put limit row xs p h =
       each_cond (has_row key (key row) xs || nat_lt (length xs) limit) (insert_row key row xs) xs (each_insert row xs p h) h
 
-  each_change : (k : ℕ) (f : X → X) (xs : List X) → ((x : X) → P x → P (f x)) → AllByRecursion P xs → AllByRecursion P (change_row key k f xs)
+  pub each_change : (k : ℕ) (f : X → X) (xs : List X) → ((x : X) → P x → P (f x)) → AllByRecursion P xs → AllByRecursion P (change_row key k f xs)
   each_change k f [] kept h = tt
   each_change k f (x ∷ xs) kept h = elim (cases_Bool (nat_eq (key x) k)) [
     | inl same ↦ rw same (kept x h.0, h.1)

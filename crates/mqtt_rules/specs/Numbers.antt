@@ -4,8 +4,9 @@ use Rattle.std.specs.Prelude.{◌≡◌, ℕ, suc, ◌≤◌, List, [], ◌∷�
 use Rattle.std.specs.List.{AllByRecursion}
 use Rattle.mqtt_records.specs.declared.session.Session.{Session}
 use Rattle.mqtt_records.specs.declared.records.Records.{Records}
-use Rattle.mqtt_records.specs.Order.{IsBelow}
-use Rattle.mqtt_records.specs.Session.{birth_of}
+use Rattle.mqtt_records.specs.Order.{IsBelow, IsAscending}
+use Rattle.mqtt_records.specs.Session.{birth_of, place_of, number_of, entry_place}
+use Rattle.mqtt_records.specs.Records.{kept_place}
 use Rattle.mqtt_rules.specs.State.{Broker}
 use Rattle.mqtt_rules.specs.Deeds.{Deed, Accept, Begin, Name, Count}
 
@@ -58,3 +59,11 @@ HasCopiesUpTo n s = AllByRecursion (λ e. e.copy.publication ≤ n) s.queue
 -- each copy in a queue, and each retained message, has the number of a publication that was accepted
 abbrev pub HasAcceptedNumbers : Records → Type 0
 HasAcceptedNumbers r = AllByRecursion (HasCopiesUpTo r.publications) r.sessions × AllByRecursion (λ k. k.publication ≤ r.publications) r.retained
+
+-- of a session: its subscriptions by place, its open identifiers and its copies by place, each once
+abbrev pub IsInOrder : Session → Type 0
+IsInOrder s = IsAscending place_of s.subscriptions × IsAscending number_of s.inbound × IsAscending entry_place s.queue
+
+-- sessions by birth, retained messages by place, and all that sessions have, each once
+abbrev pub AreInOrder : Records → Type 0
+AreInOrder r = IsAscending birth_of r.sessions × AllByRecursion IsInOrder r.sessions × IsAscending kept_place r.retained

@@ -6,3 +6,6 @@ returns-clause-step c = step_accepted
 
 pub returns-clause-opening : goal.returns-clause-opening
 returns-clause-opening c = opening_accepted
+
+pub returns-clause-nothing : goal.returns-clause-nothing
+returns-clause-nothing c = (tt, tt)
