@@ -1,6 +1,6 @@
 -- Where the number of a copy comes from: an accepted publication, or a retained message that stands.
-use Rattle.std.proofs.Common.{◌≡◌, ℕ, ◌+◌, ◌≤◌, ◌⊎◌, inl, inr, Bool, true, false, List, [], ◌∷◌, ◌++◌, filter, map, Option, Some, None, refl, sym, ap, subst, arith}
-use Rattle.std.specs.Prelude.{⊤, suc, flat_map, option_map, not, ◌&&◌}
+use Rattle.std.proofs.Common.{◌≡◌, ℕ, ◌≤◌, ◌⊎◌, inl, inr, Bool, true, false, List, [], ◌∷◌, ◌++◌, filter, map, Option, Some, None, refl, sym, subst, arith}
+use Rattle.std.specs.Prelude.{⊤, flat_map, option_map, not, ◌&&◌}
 use Rattle.std.specs.List.{AllByRecursion}
 use Rattle.std.proofs.lemmas.Bool.{cases_Bool}
 use Rattle.mqtt_base.specs.declared.session.Cause.{Cause}
@@ -13,10 +13,9 @@ use Rattle.mqtt_flow.specs.Outbound.{way_made}
 use Rattle.mqtt_routes.specs.declared.retained.Kept.{Kept}
 use Rattle.mqtt_routes.specs.Retained.{kept_for}
 use Rattle.mqtt_routes.specs.Intended.{Copy}
-use Rattle.mqtt_routes.specs.Acceptance.{Served, Routed, copies_in}
+use Rattle.mqtt_routes.specs.Acceptance.{Routed, copies_in}
 use Rattle.mqtt_records.specs.declared.message.MessageCopy.{MessageCopy}
 use Rattle.mqtt_records.specs.declared.message.Retained.{Retained}
-use Rattle.mqtt_records.specs.declared.queue.Entry.{Entry}
 use Rattle.mqtt_records.specs.declared.session.Session.{Session}
 use Rattle.mqtt_records.specs.declared.records.Records.{Records}
 use Rattle.mqtt_records.specs.Order.{row_at}
@@ -24,7 +23,7 @@ use Rattle.mqtt_records.specs.Session.{entry_place}
 use Rattle.mqtt_records.specs.Records.{changed_all}
 use Rattle.mqtt_rules.specs.Packets.{publish_of}
 use Rattle.mqtt_rules.specs.State.{Line, Broker, Env, session_at, line_of, queue_on}
-use Rattle.mqtt_rules.specs.Deeds.{whose, Message, Part, Resume, Enter, Leave, Deed, Count, At, On, Send, part_rows, part_rows_of, stored_after, after, after_all, always, offer}
+use Rattle.mqtt_rules.specs.Deeds.{whose, Message, Part, Resume, Enter, Leave, Deed, Count, At, On, Send, part_rows, part_rows_of, after, after_all, always, offer}
 use Rattle.mqtt_rules.specs.Outbound.{leave_deeds, since, queue_limits, enter_deeds}
 use Rattle.mqtt_rules.specs.Routing.{Delivery, delivery_of, served_deliveries, deliveries, next_publication, routed_to, finds_place, accepted_if, routed, is_queued, deliver_by, deliver}
 use Rattle.mqtt_rules.specs.Subscribe.{Wish, has_filter, wants_retained, kept_of, message_in, is_brought, retained_delivery, brought_if, brought}

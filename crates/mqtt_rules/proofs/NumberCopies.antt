@@ -1,12 +1,10 @@
 -- Copies in queues and retained messages have numbers of accepted publications, deed by deed and over a step.
-use Rattle.std.proofs.Common.{◌≡◌, ℕ, ◌≤◌, Bool, true, false, cond, not, ◌||◌, List, [], ◌∷◌, length, filter, Option, Some, None, nat_eq, nat_lt, refl, sym, subst, arith, inl, inr}
-use Rattle.std.specs.Prelude.{⊤, suc}
+use Rattle.std.proofs.Common.{◌≡◌, ℕ, ◌≤◌, Bool, true, false, cond, not, ◌||◌, List, [], ◌∷◌, length, Option, Some, None, nat_eq, nat_lt, sym, subst, arith, inl, inr}
+use Rattle.std.specs.Prelude.{⊤}
 use Rattle.std.specs.List.{AllByRecursion}
 use Rattle.std.proofs.lemmas.Bool.{cases_Bool}
-use Rattle.mqtt_base.specs.declared.session.Phase.{Phase}
 use Rattle.mqtt_records.specs.declared.message.MessageCopy.{MessageCopy}
 use Rattle.mqtt_records.specs.declared.message.Retained.{Retained}
-use Rattle.mqtt_records.specs.declared.message.Will.{Will}
 use Rattle.mqtt_records.specs.declared.queue.Entry.{Entry}
 use Rattle.mqtt_records.specs.declared.queue.TheConstants.{QUEUE_LIMIT}
 use Rattle.mqtt_records.specs.declared.session.Columns.{Columns}
@@ -22,7 +20,7 @@ use Rattle.mqtt_records.specs.Session.{birth_of, entry_place, fresh, with_column
 use Rattle.mqtt_records.specs.Records.{changed, changed_all, put_session, with_counter, kept_place}
 use Rattle.mqtt_rules.specs.declared.Limits.{Limits}
 use Rattle.mqtt_rules.specs.State.{Broker, session_at}
-use Rattle.mqtt_rules.specs.Deeds.{Whose, Part, Resume, Close, SetExpiry, DropWill, Subscribe, Unsubscribe, Open, Release, Enter, Mark, Leave, Deed, Accept, Begin, Name, Count, At, Finish, Keep, Forget, part_rows, part_rows_of, rows_of, rows_of_all, after, after_all}
+use Rattle.mqtt_rules.specs.Deeds.{Whose, Part, Resume, Enter, Deed, Accept, Begin, At, Finish, Keep, Forget, part_rows, part_rows_of, rows_of_all, after, after_all}
 use Rattle.mqtt_rules.specs.Step.{Call, deeds, at_moment, env_of, with_moment, done, stepped, opening, unopened, opened}
 use Rattle.mqtt_rules.specs.Numbers.{HasCopiesUpTo, HasAcceptedNumbers}
 use Rattle.mqtt_rules.proofs.Copies.{IsMade, HasNumber, Kinds, kinds_deed, each_filter, each_more}

@@ -22,7 +22,7 @@ use Rattle.mqtt_rules.specs.Deeds.{Deed, rows_of, rows_of_all, after, after_all}
 use Rattle.mqtt_rules.specs.Step.{Call, deeds, at_moment, env_of, with_moment, done, stepped, opening, unopened, opened}
 use Rattle.mqtt_rules.specs.Numbers.{IsInOrder, AreInOrder}
 use Rattle.mqtt_rules.proofs.Copies.{each_filter}
-use Rattle.mqtt_rules.proofs.NumberCopies.{each_cond, each_put, each_change}
+use Rattle.mqtt_rules.proofs.NumberCopies.{each_put, each_change}
 
 -- sessions, and what each has
 abbrev SessionsInOrder : List Session → Type 0

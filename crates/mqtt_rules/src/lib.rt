@@ -7,8 +7,8 @@ mod number_laws;
 use mqtt_base::{CopyId, Ending, Text};
 use mqtt_flow::Full;
 pub use number_laws::{
-    births_and_places_are_unique, births_are_new, copies_are_of_accepted_publications, counted_numbers_are_apart, counters_never_fall, new_places_are_last,
-    numbers_are_new,
+    births_and_places_are_unique, births_are_new, copies_are_of_accepted_publications,
+    counted_numbers_are_apart, counters_never_fall, new_places_are_last, numbers_are_new,
 };
 
 /// The sizes of the tables.
