@@ -1,6 +1,7 @@
 -- Where the number of a copy comes from: an accepted publication, or a retained message that stands.
-use Rattle.std.proofs.Common.{◌≡◌, ℕ, ◌+◌, ◌≤◌, ◌⊎◌, inl, inr, Bool, true, false, List, [], ◌∷◌, ◌++◌, filter, map, Option, Some, None, refl, sym, ap, subst, arith}
-use Rattle.std.specs.Prelude.{⊤, suc, flat_map, option_map, not, ◌&&◌}
+use Rattle.std.proofs.Common.{◌≡◌, ℕ, ◌≤◌, ◌⊎◌, inl, inr, Bool, true, false, List, [], ◌∷◌, ◌++◌, filter, map, Option, Some, None, refl, sym, subst, arith}
+use Rattle.std.specs.Prelude.{⊤, flat_map, option_map, not, ◌&&◌}
+use Rattle.std.specs.List.{AllByRecursion}
 use Rattle.std.proofs.lemmas.Bool.{cases_Bool}
 use Rattle.mqtt_base.specs.declared.session.Cause.{Cause}
 use Rattle.mqtt_base.specs.declared.session.Cause.TheVariants.{Direct, Share}
@@ -12,10 +13,9 @@ use Rattle.mqtt_flow.specs.Outbound.{way_made}
 use Rattle.mqtt_routes.specs.declared.retained.Kept.{Kept}
 use Rattle.mqtt_routes.specs.Retained.{kept_for}
 use Rattle.mqtt_routes.specs.Intended.{Copy}
-use Rattle.mqtt_routes.specs.Acceptance.{Served, Routed, copies_in}
+use Rattle.mqtt_routes.specs.Acceptance.{Routed, copies_in}
 use Rattle.mqtt_records.specs.declared.message.MessageCopy.{MessageCopy}
 use Rattle.mqtt_records.specs.declared.message.Retained.{Retained}
-use Rattle.mqtt_records.specs.declared.queue.Entry.{Entry}
 use Rattle.mqtt_records.specs.declared.session.Session.{Session}
 use Rattle.mqtt_records.specs.declared.records.Records.{Records}
 use Rattle.mqtt_records.specs.Order.{row_at}
@@ -23,7 +23,7 @@ use Rattle.mqtt_records.specs.Session.{entry_place}
 use Rattle.mqtt_records.specs.Records.{changed_all}
 use Rattle.mqtt_rules.specs.Packets.{publish_of}
 use Rattle.mqtt_rules.specs.State.{Line, Broker, Env, session_at, line_of, queue_on}
-use Rattle.mqtt_rules.specs.Deeds.{whose, Message, Part, Resume, Enter, Leave, Deed, Count, At, On, Send, part_rows, part_rows_of, stored_after, after, after_all, always, offer}
+use Rattle.mqtt_rules.specs.Deeds.{whose, Message, Part, Resume, Enter, Leave, Deed, Count, At, On, Send, part_rows, part_rows_of, after, after_all, always, offer}
 use Rattle.mqtt_rules.specs.Outbound.{leave_deeds, since, queue_limits, enter_deeds}
 use Rattle.mqtt_rules.specs.Routing.{Delivery, delivery_of, served_deliveries, deliveries, next_publication, routed_to, finds_place, accepted_if, routed, is_queued, deliver_by, deliver}
 use Rattle.mqtt_rules.specs.Subscribe.{Wish, has_filter, wants_retained, kept_of, message_in, is_brought, retained_delivery, brought_if, brought}
@@ -32,34 +32,30 @@ use Rattle.mqtt_rules.proofs.Goods.{AreGood, good_append, good_cond, good_flat, 
 -- ---- lists
 
 module _ {X : Type 0} (P : X → Type 0) where
-  abbrev pub Each : List X → Type 0
-  Each [] = ⊤
-  Each (x ∷ xs) = P x × Each xs
-
-  pub each_filter : (test : X → Bool) (xs : List X) → Each xs → Each (filter test xs)
+  pub each_filter : (test : X → Bool) (xs : List X) → AllByRecursion P xs → AllByRecursion P (filter test xs)
   each_filter test [] h = tt
   each_filter test (x ∷ xs) h = elim (cases_Bool (test x)) [
     | inl stays ↦ rw stays (h.0, each_filter test xs h.1)
     | inr goes ↦ rw goes (each_filter test xs h.1)
   ]
 
-  pub each_append : (xs ys : List X) → Each xs → Each ys → Each (xs ++ ys)
+  pub each_append : (xs ys : List X) → AllByRecursion P xs → AllByRecursion P ys → AllByRecursion P (xs ++ ys)
   each_append [] ys p q = q
   each_append (x ∷ xs) ys p q = (p.0, each_append xs ys p.1 q)
 
-  pub each_all : ((x : X) → P x) → (xs : List X) → Each xs
+  pub each_all : ((x : X) → P x) → (xs : List X) → AllByRecursion P xs
   each_all h [] = tt
   each_all h (x ∷ xs) = (h x, each_all h xs)
 
-pub each_more : {X : Type 0} (P Q : X → Type 0) → ((x : X) → P x → Q x) → (xs : List X) → Each P xs → Each Q xs
+pub each_more : {X : Type 0} (P Q : X → Type 0) → ((x : X) → P x → Q x) → (xs : List X) → AllByRecursion P xs → AllByRecursion Q xs
 each_more P Q more [] h = tt
 each_more P Q more (x ∷ xs) h = (more x h.0, each_more P Q more xs h.1)
 
-pub each_map : {X Y : Type 0} (P : X → Type 0) (f : Y → X) (ys : List Y) → Each (λ y. P (f y)) ys → Each P (map f ys)
+pub each_map : {X Y : Type 0} (P : X → Type 0) (f : Y → X) (ys : List Y) → AllByRecursion (λ y. P (f y)) ys → AllByRecursion P (map f ys)
 each_map P f [] h = tt
 each_map P f (y ∷ ys) h = (h.0, each_map P f ys h.1)
 
-pub each_flat : {X Y : Type 0} (P : X → Type 0) (f : Y → List X) → ((y : Y) → Each P (f y)) → (ys : List Y) → Each P (flat_map f ys)
+pub each_flat : {X Y : Type 0} (P : X → Type 0) (f : Y → List X) → ((y : Y) → AllByRecursion P (f y)) → (ys : List Y) → AllByRecursion P (flat_map f ys)
 each_flat P f h [] = tt
 each_flat P f h (y ∷ ys) = each_append P (f y) (flat_map f ys) (h y) (each_flat P f h ys)
 
@@ -74,10 +70,10 @@ abbrev pub IsMade : MessageCopy → Records → Type 0
 IsMade copy r = (copy.publication ≤ r.publications) ⊎ HasNumber copy.publication r.retained
 
 abbrev pub AreMade : List Delivery → Records → Type 0
-AreMade ds r = Each (λ d. IsMade d.copy r) ds
+AreMade ds r = AllByRecursion (λ d. IsMade d.copy r) ds
 
 abbrev pub AreNumbered : ℕ → List Delivery → Type 0
-AreNumbered n ds = Each (λ d. d.copy.publication ≡ n) ds
+AreNumbered n ds = AllByRecursion (λ d. d.copy.publication ≡ n) ds
 
 -- of a publication
 numbered_copies : (number now : ℕ) (m : Message) (cause : Cause) (cs : List Copy) → AreNumbered number (map (delivery_of number now m cause) cs)
@@ -105,7 +101,7 @@ made_numbered number ds b same h =
     each_more (λ d. d.copy.publication ≡ number) (λ d. IsMade d.copy b.records) (λ d e. inl (omega (arith, e, same))) ds h
 
 -- of retained messages
-own_numbers : (ks : List Retained) → Each (λ k. HasNumber k.publication ks) ks
+own_numbers : (ks : List Retained) → AllByRecursion (λ k. HasNumber k.publication ks) ks
 own_numbers [] = tt
 own_numbers (k ∷ ks) = (inl refl, each_more (λ x. HasNumber x.publication ks) (λ x. HasNumber x.publication (k ∷ ks)) (λ x h. inr h) ks (own_numbers ks))
 
@@ -138,7 +134,7 @@ pub record Kinds : Type 0 where
   pub publications : ℕ
   pub retained : List Retained
 
-abbrev kinds : Records → Kinds
+abbrev pub kinds : Records → Kinds
 kinds r = record { publications = r.publications; retained = r.retained }
 
 kinds_part : (part : Part) (s : Session) (r : Records) → kinds (changed_all (part_rows part s) r) ≡ kinds r
@@ -150,7 +146,7 @@ kinds_part_of : (part : Part) (o : Option Session) (r : Records) → kinds (chan
 kinds_part_of part None r = refl
 kinds_part_of part (Some s) r = kinds_part part s r
 
-kinds_deed : (d : Deed) (b : Broker) → IsBeside d b → kinds (after d b).records ≡ kinds b.records
+pub kinds_deed : (d : Deed) (b : Broker) → IsBeside d b → kinds (after d b).records ≡ kinds b.records
 kinds_deed (At who part) b beside = kinds_part_of part (session_at who.birth b.records) b.records
 kinds_deed (Count n) b beside = refl
 kinds_deed (On line part) b beside = refl

@@ -26,3 +26,5 @@ pub mod Groups
 pub mod Tables
 pub mod Hostile
 pub mod Own
+pub mod NumberCopies
+pub mod NumberOrder
