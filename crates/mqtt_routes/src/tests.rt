@@ -5,6 +5,7 @@ ghost use Rattle.std.specs.List.{list_any};
 use super::*;
 use mqtt_topic::{SubFilter, TopicFault, TopicName};
 use std::alloc::Global;
+use std::hash::RandomState;
 use std::process::Abort;
 use std::test::Fail;
 
@@ -61,8 +62,9 @@ fn subscription(
 }
 
 /// Sessions 1 to 3, and a second member of the group of 3.
-fn routes(alloc: Global, fourth: u64, qos: u8) -> Result<Routes<u8>, Fail> {
-    let mut routes = Routes::new(alloc);
+fn routes(rt: &HostRuntime, fourth: u64, qos: u8) -> Result<Routes<u8>, Fail> {
+    let alloc = rt.alloc();
+    let mut routes = Routes::new(alloc, RandomState::new(rt)?);
     routes.subscribe(3, subscription(alloc, "$share/g/a/b", 4, 2, None)?)?;
     routes.subscribe(fourth, subscription(alloc, "$share/g/a/b", 5, qos, None)?)?;
     routes.subscribe(1, subscription(alloc, "a/#", 1, 1, Some(1))?)?;
@@ -95,7 +97,7 @@ fn direct(routed: &Routed) -> [(u64, u8, usize); 2] {
 
 #[test]
 fn members_take_their_turns(rt: HostRuntime) -> Result<(), Fail> {
-    let mut routes = routes(rt.alloc(), 4, 1)?;
+    let mut routes = routes(&rt, 4, 1)?;
     let topic = TopicName::parse(rt.alloc(), "a/b")?;
     for expected in [(3, 2), (4, 1), (3, 2), (4, 1)] {
         let routed = routes.route("p", &topic, 2, true, &ALL)?;
@@ -108,7 +110,7 @@ fn members_take_their_turns(rt: HostRuntime) -> Result<(), Fail> {
 
 #[test]
 fn a_full_queue_is_passed_over(rt: HostRuntime) -> Result<(), Fail> {
-    let routes = routes(rt.alloc(), 4, 1)?;
+    let routes = routes(&rt, 4, 1)?;
     let topic = TopicName::parse(rt.alloc(), "a/b")?;
     let full = World {
         full: [3, 0],
@@ -141,7 +143,7 @@ fn a_full_queue_is_passed_over(rt: HostRuntime) -> Result<(), Fail> {
 
 #[test]
 fn a_member_that_is_away_is_no_help(rt: HostRuntime) -> Result<(), Fail> {
-    let routes = routes(rt.alloc(), 5, 0)?;
+    let routes = routes(&rt, 5, 0)?;
     let topic = TopicName::parse(rt.alloc(), "a/b")?;
     let world = World {
         full: [3, 0],
@@ -156,7 +158,7 @@ fn a_member_that_is_away_is_no_help(rt: HostRuntime) -> Result<(), Fail> {
 
 #[test]
 fn no_local_and_retain_are_told_by_subscription(rt: HostRuntime) -> Result<(), Fail> {
-    let mut routes = Routes::<u8>::new(rt.alloc());
+    let mut routes = Routes::<u8>::new(rt.alloc(), RandomState::new(&rt)?);
     let mut first = subscription(rt.alloc(), "a/#", 1, 1, Some(7))?;
     first.no_local = true;
     first.retain_as_published = true;
@@ -179,7 +181,7 @@ fn no_local_and_retain_are_told_by_subscription(rt: HostRuntime) -> Result<(), F
 
 #[test]
 fn a_session_has_a_hundred_subscriptions(rt: HostRuntime) -> Result<(), Fail> {
-    let mut routes = Routes::<u8>::new(rt.alloc());
+    let mut routes = Routes::<u8>::new(rt.alloc(), RandomState::new(&rt)?);
     for place in 1..=100u64 {
         let filter = format!(in rt.alloc(); "a/{place}")?;
         routes.subscribe(
@@ -200,7 +202,7 @@ fn a_session_has_a_hundred_subscriptions(rt: HostRuntime) -> Result<(), Fail> {
 
 #[test]
 fn a_topic_keeps_its_last_message(rt: HostRuntime) -> Result<(), Fail> {
-    let mut routes = Routes::new(rt.alloc());
+    let mut routes = Routes::new(rt.alloc(), RandomState::new(&rt)?);
     for (topic, message) in [
         ("a/1", Some(1u8)),
         ("b", Some(2)),
@@ -222,7 +224,7 @@ fn a_topic_keeps_its_last_message(rt: HostRuntime) -> Result<(), Fail> {
 
 #[test]
 fn a_thousand_topics_are_retained(rt: HostRuntime) -> Result<(), Fail> {
-    let mut routes = Routes::new(rt.alloc());
+    let mut routes = Routes::new(rt.alloc(), RandomState::new(&rt)?);
     for n in 0..1000u16 {
         let topic = format!(in rt.alloc(); "a/{n}")?;
         routes.retain(TopicName::parse(rt.alloc(), topic.as_str())?, Some(n))?;
