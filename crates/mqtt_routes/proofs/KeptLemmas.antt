@@ -1,5 +1,6 @@
 -- Lemmas on a set of retained messages, of which no two are of one topic (MQTT 5.0, 3.3.1.3).
-use Rattle.std.proofs.Common.{◌≡◌, ℕ, ◌≤◌, arith, Bool, true, false, cond, ◌||◌, if◌then◌else◌, List, [], ◌∷◌, ◌++◌, refl, sym, ap, ◌∙◌, Some, is_some}
+use Rattle.std.proofs.Common.{◌≡◌, ℕ, ◌+◌, ◌<◌, ◌≤◌, ◌&&◌, not, nat_lt, arith, Bool, true, false, cond, ◌||◌, if◌then◌else◌, List, [], ◌∷◌, ◌++◌, refl, sym, ap, ◌∙◌, Some, is_some}
+use Rattle.std.proofs.lemmas.Bool.Decides.{nat_tests}
 use Rattle.std.specs.Prelude.{find}
 use Rattle.std.specs.Cmp.Lexicographic.{bytes_decides}
 use Rattle.std.specs.Set.{remove_key, swap_key}
@@ -8,10 +9,18 @@ use Rattle.mqtt_routes.specs.declared.retained.Kept.{Kept}
 use Rattle.mqtt_routes.specs.Retained.{is_of, has_topic, keep, forget}
 use Rattle.mqtt_routes.specs.Keys.{same_topic}
 
--- one more at most
-pub one_at_most : (found : Bool) → (if found then 0 else 1) ≤ 1
-one_at_most true = omega arith
-one_at_most false = omega arith
+below_by : (b : Bool) (n limit : ℕ) → nat_lt n limit ≡ b → (not b && not false) ≡ false → n < limit
+below_by true n limit e h = grind (arith, nat_tests)
+below_by false n limit e h = cc
+
+-- where not all is full and the topic is new, one more fits
+pub fits-new : (n limit : ℕ) (has : Bool) → (not (nat_lt n limit) && not has) ≡ false → has ≡ false → n < limit
+fits-new n limit true h e = cc
+fits-new n limit false h e = below_by (nat_lt n limit) n limit refl h
+
+pub fits : (n limit : ℕ) (has : Bool) → (not (nat_lt n limit) && not has) ≡ false → n ≤ limit → n + (if has then 0 else 1) ≤ limit
+fits n limit true h l = omega (arith, l)
+fits n limit false h l = let below = fits-new n limit false h refl in omega (arith, below)
 
 module _ {M : Type 0} where
   abbrev pub kept : List ℕ → M → Kept M

@@ -1,7 +1,8 @@
 //! Retained messages, by topic (MQTT 5.0, 3.3.1.3).
-ghost use Rattle.std.specs.Prelude.{◌≡◌, [], map, IfErr, IfOk, OnErr, OnOk};
+ghost use Rattle.std.specs.Prelude.{◌≡◌, ◌&&◌, not, nat_lt, length, [], map, IfErr, IfOk, OnErr, OnOk};
 ghost use Rattle.mqtt_topic.specs.Filters.{matching_part_of};
-ghost use Rattle.mqtt_routes.specs.Retained.{keep, forget, kept_for, RefusesKeep};
+ghost use Rattle.mqtt_routes.specs.Retained.{has_topic, keep, forget, kept_for, RefusesKeep};
+ghost use Rattle.mqtt_routes.specs.declared.retained.TheConstants.{RETAINED_LIMIT};
 
 use crate::fault::RoutesFault;
 use crate::slot::Slot;
@@ -53,13 +54,20 @@ impl<M: Drop> Retained<M> {
         }
     }
 
+    /// Whether no message of a topic can be kept: it has none, and `RETAINED_LIMIT` others have.
+    fn is_full(&self, topic: &str) -> bool
+        ensures { result ≡ (not (nat_lt (length self.now) RETAINED_LIMIT) && not (has_topic topic.now self.now)) }
+    {
+        self.slots.len() >= RETAINED_LIMIT && !self.slots.contains(topic)
+    }
+
     /// Keeps a message in place of its topic's.
     pub(crate) fn keep(&mut self, topic: TopicName, message: M) -> Result<(), RoutesFault>
         ensures ok { OnOk result (self.new ≡ keep topic message self.old) }
         ensures err { OnErr result (self.new ≡ self.old) }
         ensures refused { IfErr result (RefusesKeep topic self.old) }
     {
-        if self.slots.len() >= RETAINED_LIMIT && !self.slots.contains(topic.as_str()) {
+        if self.is_full(topic.as_str()) {
             return Err(RoutesFault::Full);
         }
         let kept = Kept { topic, message };
