@@ -56,7 +56,8 @@ impl<M: Drop> Retained<M> {
 
     /// Whether no message of a topic can be kept: it has none, and `RETAINED_LIMIT` others have.
     fn is_full(&self, topic: &str) -> bool
-        ensures { result ≡ (not (nat_lt (length self.now) RETAINED_LIMIT) && not (has_topic topic.now self.now)) }
+        ensures { result
+            ≡ (not (nat_lt (length self.now) RETAINED_LIMIT) && not (has_topic topic.now self.now)) }
     {
         self.slots.len() >= RETAINED_LIMIT && !self.slots.contains(topic)
     }
