@@ -1,67 +1,65 @@
--- Lemmas on where the message of a topic stands (MQTT 5.0, 3.3.1.3).
-use Rattle.std.proofs.Common.{◌≡◌, ℕ, suc, ◌<◌, ◌≤◌, Bool, true, false, cond, List, [], ◌∷◌, ◌++◌, length, get_or, set, remove, refl, sym, ap, ◌∙◌, nat_lt, arith}
+-- Lemmas on a set of retained messages, of which no two are of one topic (MQTT 5.0, 3.3.1.3).
+use Rattle.std.proofs.Common.{◌≡◌, ℕ, ◌+◌, ◌<◌, ◌≤◌, ◌&&◌, not, nat_lt, arith, Bool, true, false, cond, ◌||◌, if◌then◌else◌, List, [], ◌∷◌, ◌++◌, refl, sym, ap, ◌∙◌, Some, is_some}
+use Rattle.std.proofs.lemmas.Bool.Decides.{nat_tests}
+use Rattle.std.specs.Prelude.{find}
+use Rattle.std.specs.Cmp.Lexicographic.{bytes_decides}
+use Rattle.std.specs.Set.{remove_key, swap_key}
+use Rattle.indexmap.specs.IndexSet.{replace_key}
 use Rattle.mqtt_routes.specs.declared.retained.Kept.{Kept}
-use Rattle.mqtt_routes.specs.Retained.{is_of, has_topic, topic_place, keep, forget}
-use Rattle.mqtt_routes.proofs.PlaceLemmas.{has_by, not_below}
+use Rattle.mqtt_routes.specs.Retained.{is_of, has_topic, keep, forget}
+use Rattle.mqtt_routes.specs.Keys.{same_topic}
 
-most_by : (b : Bool) (p n : ℕ) → p ≤ n → cond b 0 (suc p) ≤ suc n
-most_by true p n l = omega arith
-most_by false p n l = omega arith
+below_by : (b : Bool) (n limit : ℕ) → nat_lt n limit ≡ b → (not b && not false) ≡ false → n < limit
+below_by true n limit e h = grind (arith, nat_tests)
+below_by false n limit e h = cc
+
+-- where not all is full and the topic is new, one more fits
+pub fits-new : (n limit : ℕ) (has : Bool) → (not (nat_lt n limit) && not has) ≡ false → has ≡ false → n < limit
+fits-new n limit true h e = cc
+fits-new n limit false h e = below_by (nat_lt n limit) n limit refl h
+
+pub fits : (n limit : ℕ) (has : Bool) → (not (nat_lt n limit) && not has) ≡ false → n ≤ limit → n + (if has then 0 else 1) ≤ limit
+fits n limit true h l = omega (arith, l)
+fits n limit false h l = let below = fits-new n limit false h refl in omega (arith, below)
 
 module _ {M : Type 0} where
-  pub topic_place-below : (text : List ℕ) (ks : List (Kept M)) → nat_lt (topic_place text ks) (length ks) ≡ has_topic text ks
-  topic_place-below text [] = refl
-  topic_place-below text (k ∷ ks) = has_by (is_of text k) (topic_place text ks) (length ks) (has_topic text ks) (topic_place-below text ks)
+  abbrev pub kept : List ℕ → M → Kept M
+  kept topic message = record { topic = topic; message = message }
 
-  abbrev pub row : List ℕ → M → Kept M
-  row topic message = record { topic = topic; message = message }
+  pub forget-remove_key : (text : List ℕ) (ks : List (Kept M)) → remove_key (is_of text) ks ≡ forget text ks
+  forget-remove_key text [] = refl
+  forget-remove_key text (k ∷ ks) = ap (λ (xs : List (Kept M)). cond (is_of text k) ks (k ∷ xs)) (forget-remove_key text ks)
 
-  set_by : (b : Bool) (text : List ℕ) (message : M) (k d : Kept M) (ks : List (Kept M)) (p : ℕ) → (p < length ks → keep text message ks ≡ set ks p (row (get_or ks p d).topic message)) → cond b 0 (suc p) < suc (length ks)
-      → cond b (row k.topic message ∷ ks) (k ∷ keep text message ks) ≡ set (k ∷ ks) (cond b 0 (suc p)) (row (get_or (k ∷ ks) (cond b 0 (suc p)) d).topic message)
-  set_by true text message k d ks p more l = refl
-  set_by false text message k d ks p more l = ap (λ (xs : List (Kept M)). k ∷ xs) (more (omega arith))
+  push_by : (b : Bool) (text : List ℕ) (message : M) (k old : Kept M) (ks : List (Kept M)) → (has_topic text ks ≡ false → keep text message ks ≡ ks ++ kept text message ∷ []) → (b || has_topic text ks) ≡ false
+      → cond b (old ∷ ks) (k ∷ keep text message ks) ≡ k ∷ (ks ++ kept text message ∷ [])
+  push_by true text message k old ks more h = cc
+  push_by false text message k old ks more h = ap (λ (xs : List (Kept M)). k ∷ xs) (more h)
 
-  keep-set : (text : List ℕ) (message : M) (d : Kept M) (ks : List (Kept M)) → topic_place text ks < length ks → keep text message ks ≡ set ks (topic_place text ks) (row (get_or ks (topic_place text ks) d).topic message)
-  keep-set text message d [] l = absurd (omega arith)
-  keep-set text message d (k ∷ ks) l = set_by (is_of text k) text message k d ks (topic_place text ks) (keep-set text message d ks) l
+  keep-push : (text : List ℕ) (message : M) (ks : List (Kept M)) → has_topic text ks ≡ false → keep text message ks ≡ ks ++ kept text message ∷ []
+  keep-push text message [] h = refl
+  keep-push text message (k ∷ ks) h = push_by (is_of text k) text message k (kept k.topic message) ks (keep-push text message ks) h
 
-  push_by : (b : Bool) (text : List ℕ) (message : M) (k : Kept M) (ks : List (Kept M)) (p : ℕ) → (length ks ≤ p → keep text message ks ≡ ks ++ row text message ∷ []) → suc (length ks) ≤ cond b 0 (suc p)
-      → cond b (row k.topic message ∷ ks) (k ∷ keep text message ks) ≡ k ∷ (ks ++ row text message ∷ [])
-  push_by true text message k ks p more l = absurd (omega arith)
-  push_by false text message k ks p more l = ap (λ (xs : List (Kept M)). k ∷ xs) (more (omega arith))
+  swap_by : (b : Bool) (text : List ℕ) (message : M) (k : Kept M) (ks : List (Kept M)) → is_of text k ≡ b → (has_topic text ks ≡ true → swap_key (is_of text) ks (kept text message) ≡ keep text message ks) → (b || has_topic text ks) ≡ true
+      → cond b (kept text message ∷ ks) (k ∷ swap_key (is_of text) ks (kept text message)) ≡ cond b (kept k.topic message ∷ ks) (k ∷ keep text message ks)
+  swap_by true text message k ks e more h = ap (λ t. kept t message ∷ ks) (sym ((bytes_decides k.topic text).0 e))
+  swap_by false text message k ks e more h = ap (λ (xs : List (Kept M)). k ∷ xs) (more h)
 
-  pub keep-push : (text : List ℕ) (message : M) (ks : List (Kept M)) → length ks ≤ topic_place text ks → keep text message ks ≡ ks ++ row text message ∷ []
-  keep-push text message [] l = refl
-  keep-push text message (k ∷ ks) l = push_by (is_of text k) text message k ks (topic_place text ks) (keep-push text message ks) l
+  keep-swap_key : (text : List ℕ) (message : M) (ks : List (Kept M)) → has_topic text ks ≡ true → swap_key (is_of text) ks (kept text message) ≡ keep text message ks
+  keep-swap_key text message [] h = cc
+  keep-swap_key text message (k ∷ ks) h = swap_by (is_of text k) text message k ks refl (keep-swap_key text message ks) h
 
-  remove_by : (b : Bool) (text : List ℕ) (k : Kept M) (ks : List (Kept M)) (p : ℕ) → (p < length ks → forget text ks ≡ remove ks p) → cond b 0 (suc p) < suc (length ks) → cond b ks (k ∷ forget text ks) ≡ remove (k ∷ ks) (cond b 0 (suc p))
-  remove_by true text k ks p more l = refl
-  remove_by false text k ks p more l = ap (λ (xs : List (Kept M)). k ∷ xs) (more (omega arith))
+  keep_by : (b : Bool) (text : List ℕ) (message : M) (ks : List (Kept M)) → has_topic text ks ≡ b → (if b then swap_key (is_of text) ks (kept text message) else ks ++ kept text message ∷ []) ≡ keep text message ks
+  keep_by true text message ks e = keep-swap_key text message ks e
+  keep_by false text message ks e = sym (keep-push text message ks e)
 
-  forget-remove : (text : List ℕ) (ks : List (Kept M)) → topic_place text ks < length ks → forget text ks ≡ remove ks (topic_place text ks)
-  forget-remove text [] l = absurd (omega arith)
-  forget-remove text (k ∷ ks) l = remove_by (is_of text k) text k ks (topic_place text ks) (forget-remove text ks) l
+  -- what the set has after a message replaced its topic's
+  pub keep-replace_key : (text : List ℕ) (message : M) (ks : List (Kept M)) → replace_key same_topic ks (kept text message) ≡ keep text message ks
+  keep-replace_key text message ks = keep_by (has_topic text ks) text message ks refl
 
-  same_by : (b : Bool) (text : List ℕ) (k : Kept M) (ks : List (Kept M)) (p : ℕ) → (length ks ≤ p → forget text ks ≡ ks) → suc (length ks) ≤ cond b 0 (suc p) → cond b ks (k ∷ forget text ks) ≡ k ∷ ks
-  same_by true text k ks p more l = absurd (omega arith)
-  same_by false text k ks p more l = ap (λ (xs : List (Kept M)). k ∷ xs) (more (omega arith))
+  has_by : (b : Bool) (text : List ℕ) (k : Kept M) (ks : List (Kept M)) → is_some (find (is_of text) ks) ≡ has_topic text ks → is_some (cond b (Some k) (find (is_of text) ks)) ≡ (b || has_topic text ks)
+  has_by true text k ks more = refl
+  has_by false text k ks more = more
 
-  pub forget-same : (text : List ℕ) (ks : List (Kept M)) → length ks ≤ topic_place text ks → forget text ks ≡ ks
-  forget-same text [] l = refl
-  forget-same text (k ∷ ks) l = same_by (is_of text k) text k ks (topic_place text ks) (forget-same text ks) l
-
-  pub topic_place-most : (text : List ℕ) (ks : List (Kept M)) → topic_place text ks ≤ length ks
-  topic_place-most text [] = omega arith
-  topic_place-most text (k ∷ ks) = most_by (is_of text k) (topic_place text ks) (length ks) (topic_place-most text ks)
-
-  -- ---- at an index that is that place
-
-  pub keep-at : (text : List ℕ) (message : M) (ks : List (Kept M)) (i : ℕ) (k : Kept M) → i ≡ topic_place text ks → i < length ks → k ≡ get_or ks i k → set ks i (row k.topic message) ≡ keep text message ks
-  keep-at text message ks i k e l is =
-      ap (λ (r : Kept M). set ks i (row r.topic message)) is ∙ ap (λ n. set ks n (row (get_or ks n k).topic message)) e ∙ sym (keep-set text message k ks (rw (← e) l))
-
-  pub forget-at : (text : List ℕ) (ks : List (Kept M)) (i : ℕ) → i ≡ topic_place text ks → i < length ks → remove ks i ≡ forget text ks
-  forget-at text ks i e l = ap (remove ks) e ∙ sym (forget-remove text ks (rw (← e) l))
-
-  pub not-kept : (text : List ℕ) (ks : List (Kept M)) (i : ℕ) → i ≡ topic_place text ks → length ks ≤ i → has_topic text ks ≡ false
-  not-kept text ks i e l = sym (topic_place-below text ks) ∙ not_below (topic_place text ks) (length ks) (rw (← e) l)
+  pub find-has : (text : List ℕ) (ks : List (Kept M)) → is_some (find (is_of text) ks) ≡ has_topic text ks
+  find-has text [] = refl
+  find-has text (k ∷ ks) = has_by (is_of text k) text k ks (find-has text ks)

@@ -2,3 +2,4 @@ pub mod Subscriptions
 pub mod Intended
 pub mod Acceptance
 pub mod Retained
+pub mod Keys

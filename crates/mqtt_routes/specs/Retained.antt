@@ -1,5 +1,5 @@
 -- Retained messages (MQTT 5.0, 3.3.1.3).
-use Rattle.std.specs.Prelude.{◌≡◌, ℕ, suc, ◌<◌, Bool, false, cond, List, [], ◌∷◌, length, filter, bytes_eq, Option, Some, None}
+use Rattle.std.specs.Prelude.{◌≡◌, ℕ, ◌<◌, Bool, false, cond, List, [], ◌∷◌, length, filter, bytes_eq, Option, Some, None}
 use Rattle.std.specs.List.{list_any}
 use Rattle.mqtt_topic.specs.Matching.{is_match}
 use Rattle.mqtt_routes.specs.declared.fault.RoutesFault.{RoutesFault}
@@ -14,11 +14,6 @@ is_of topic k = bytes_eq k.topic topic
 
 abbrev pub has_topic : {M : Type 0} → List ℕ → List (Kept M) → Bool
 has_topic topic ks = list_any (is_of topic) ks
-
--- where a topic stands, or how many there are
-abbrev pub topic_place : {M : Type 0} → List ℕ → List (Kept M) → ℕ
-topic_place topic [] = 0
-topic_place topic (k ∷ ks) = cond (is_of topic k) 0 (suc (topic_place topic ks))
 
 -- a message replaces its topic's, or comes last: topics stand in the order in which they were first retained
 abbrev pub keep : {M : Type 0} → List ℕ → M → List (Kept M) → List (Kept M)

@@ -1,5 +1,5 @@
 -- The subscriptions of sessions (MQTT 5.0, 3.8).
-use Rattle.std.specs.Prelude.{◌≡◌, ℕ, zero, suc, ◌<◌, Bool, false, cond, List, [], ◌∷◌, length, nat_eq, nat_lt, bytes_eq}
+use Rattle.std.specs.Prelude.{◌≡◌, ⊤, ℕ, suc, ◌<◌, Bool, false, cond, List, [], ◌∷◌, length, nat_eq, nat_lt, bytes_eq}
 use Rattle.std.specs.List.{list_any}
 use Rattle.mqtt_routes.specs.declared.fault.RoutesFault.{RoutesFault}
 use Rattle.mqtt_routes.specs.declared.fault.RoutesFault.TheVariants.{Full, Memory}
@@ -29,11 +29,6 @@ abbrev pub without : List ℕ → List Subscription → List Subscription
 without text [] = []
 without text (s ∷ ss) = cond (is_to text s) ss (s ∷ without text ss)
 
--- where the subscription to a filter stands, or how many there are
-abbrev pub place_in : List ℕ → List Subscription → ℕ
-place_in text [] = 0
-place_in text (s ∷ ss) = cond (is_to text s) 0 (suc (place_in text ss))
-
 -- why a subscription isn't put: only a new one is refused
 abbrev pub RefusesPut : Subscription → List Subscription → RoutesFault → Type 0
 RefusesPut new subs Full = (has_filter new.filter subs ≡ false) × (length subs ≡ SUBSCRIPTION_LIMIT)
@@ -41,16 +36,27 @@ RefusesPut new subs Memory = (has_filter new.filter subs ≡ false) × (length s
 
 -- ---- sessions, in the order of their births
 
+abbrev pub subscriber : ℕ → List Subscription → Subscriber
+subscriber birth subs = record { birth = birth; subs = subs }
+
+-- sessions as a map from births has them
+abbrev pub subscribers : List (ℕ × List Subscription) → List Subscriber
+subscribers [] = []
+subscribers (e ∷ es) = subscriber e.0 e.1 ∷ subscribers es
+
+-- each was born before those after it
+abbrev pub AreAfter : ℕ → List Subscriber → Type 0
+AreAfter birth [] = ⊤
+AreAfter birth (x ∷ xs) = (birth < x.birth) × AreAfter birth xs
+
+abbrev pub AreInOrder : List Subscriber → Type 0
+AreInOrder [] = ⊤
+AreInOrder (x ∷ xs) = AreAfter x.birth xs × AreInOrder xs
+
 -- where a session of this birth stands, or would stand
 abbrev pub spot_of : ℕ → List Subscriber → ℕ
 spot_of birth [] = 0
 spot_of birth (x ∷ xs) = cond (nat_lt x.birth birth) (suc (spot_of birth xs)) 0
-
--- whether a session of this birth stands at a place
-abbrev pub is_at : ℕ → ℕ → List Subscriber → Bool
-is_at birth i [] = false
-is_at birth zero (x ∷ xs) = nat_eq x.birth birth
-is_at birth (suc i) (x ∷ xs) = is_at birth i xs
 
 -- the subscriptions of a session
 abbrev pub subs_of : ℕ → List Subscriber → List Subscription

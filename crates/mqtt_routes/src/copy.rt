@@ -47,11 +47,12 @@ impl RoutedCopy {
         ensures ok { OnOk result (self.new ≡ add_to publication.now self.old subscription.now) }
         ensures fault { IfErr result (λ fault. fault ≡ RoutesFault.Memory) }
     {
-        self.qos = self.qos.max(publication.granted(subscription));
-        self.retain = self.retain || (publication.retain && subscription.retain_as_published);
         if let Some(identifier) = subscription.identifier {
             self.identifiers.push(identifier)?;
         }
+        let qos = publication.granted(subscription);
+        let retain = publication.retain && subscription.retain_as_published;
+        (self.qos, self.retain) = (self.qos.max(qos), self.retain || retain);
         Ok(())
     }
 

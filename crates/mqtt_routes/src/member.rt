@@ -3,7 +3,7 @@ ghost use Rattle.std.specs.Prelude.{◌≡◌, IfErr, OnOk};
 ghost use Rattle.mqtt_routes.specs.Intended.{insert_member, insertion_spot};
 
 use crate::fault::RoutesFault;
-use crate::subscriber::Row;
+use crate::row::Row;
 use std::marker::Model;
 
 /// A session and its shared subscription.

@@ -1,11 +1,15 @@
 //! Retained messages, by topic (MQTT 5.0, 3.3.1.3).
-ghost use Rattle.std.specs.Prelude.{◌≡◌, [], map, IfErr, IfOk, OnErr, OnOk};
+ghost use Rattle.std.specs.Prelude.{◌≡◌, ◌&&◌, not, nat_lt, length, [], map, IfErr, IfOk, OnErr, OnOk};
 ghost use Rattle.mqtt_topic.specs.Filters.{matching_part_of};
-ghost use Rattle.mqtt_routes.specs.Retained.{has_topic, topic_place, keep, forget, kept_for, RefusesKeep};
+ghost use Rattle.mqtt_routes.specs.Retained.{has_topic, keep, forget, kept_for, RefusesKeep};
+ghost use Rattle.mqtt_routes.specs.declared.retained.TheConstants.{RETAINED_LIMIT};
 
 use crate::fault::RoutesFault;
+use crate::slot::Slot;
+use indexmap::IndexSet;
 use mqtt_topic::{SubFilter, TopicName};
 use std::alloc::Global;
+use std::hash::RandomState;
 use std::marker::Model;
 
 /// How many topics have a retained message at most (ours).
@@ -24,42 +28,38 @@ pub struct Kept<M> {
 #[derive(Drop)]
 pub(crate) struct Retained<M> {
     alloc: Global,
-    rows: Vec<Kept<M>>,
+    slots: IndexSet<Slot<M>, RandomState>,
 }
 
 impl<M> Model for Retained<M> {
-    ghost use Rattle.std.specs.Prelude.{List, ◌≤◌, vec_len};
+    ghost use Rattle.std.specs.Prelude.{List, ◌≤◌, length};
     ghost use Rattle.mqtt_routes.specs.declared.retained.TheConstants.{RETAINED_LIMIT};
     ghost use Rattle.mqtt_routes.specs.declared.retained.Kept.{Kept};
 
     ghost Value = { List (Kept M) };
 
-    ghost view = { λ r. r.rows.items };
+    ghost view = { λ r. r.slots.keys };
 
-    ghost invariant = { λ r. vec_len r.rows ≤ RETAINED_LIMIT };
+    ghost invariant = { λ r. length r.slots.keys ≤ RETAINED_LIMIT };
 }
 
 impl<M: Drop> Retained<M> {
     /// No message.
-    pub(crate) fn new(alloc: Global) -> Retained<M>
+    pub(crate) fn new(alloc: Global, hasher: RandomState) -> Retained<M>
         ensures { result ≡ [] }
     {
         Retained {
             alloc,
-            rows: Vec::new(alloc),
+            slots: IndexSet::with_hasher(alloc, hasher),
         }
     }
 
-    /// Where a topic stands; the count of all where it doesn't.
-    fn position(&self, topic: &str) -> usize
-        ensures { result ≡ topic_place topic.now self.now }
+    /// Whether no message of a topic can be kept: it has none, and `RETAINED_LIMIT` others have.
+    fn is_full(&self, topic: &str) -> bool
+        ensures { result
+            ≡ (not (nat_lt (length self.now) RETAINED_LIMIT) && not (has_topic topic.now self.now)) }
     {
-        for (i, row) in self.rows.iter().enumerate() {
-            if row.topic.as_str() == topic {
-                return i;
-            }
-        }
-        self.rows.len()
+        self.slots.len() >= RETAINED_LIMIT && !self.slots.contains(topic)
     }
 
     /// Keeps a message in place of its topic's.
@@ -68,15 +68,11 @@ impl<M: Drop> Retained<M> {
         ensures err { OnErr result (self.new ≡ self.old) }
         ensures refused { IfErr result (RefusesKeep topic self.old) }
     {
-        let i = self.position(topic.as_str());
-        if i < self.rows.len() {
-            self.rows[i].message = message;
-            return Ok(());
-        }
-        if i >= RETAINED_LIMIT {
+        if self.is_full(topic.as_str()) {
             return Err(RoutesFault::Full);
         }
-        self.rows.push(Kept { topic, message })?;
+        let kept = Kept { topic, message };
+        self.slots.replace(Slot { kept })?;
         Ok(())
     }
 
@@ -84,10 +80,7 @@ impl<M: Drop> Retained<M> {
     pub(crate) fn forget(&mut self, topic: &str)
         ensures { self.new ≡ forget topic.now self.old }
     {
-        let i = self.position(topic);
-        if i < self.rows.len() {
-            let _row = self.rows.remove(i);
-        }
+        self.slots.shift_remove(topic);
     }
 
     /// The messages that a filter matches, in order.
@@ -97,9 +90,9 @@ impl<M: Drop> Retained<M> {
         ensures fault { IfErr result (λ fault. fault ≡ RoutesFault.Memory) }
     {
         let mut found = Vec::new(self.alloc);
-        for row in &self.rows {
-            if filter.matches(&row.topic) {
-                found.push(row)?;
+        for slot in self.slots.as_slice() {
+            if filter.matches(&slot.kept.topic) {
+                found.push(&slot.kept)?;
             }
         }
         Ok(found)

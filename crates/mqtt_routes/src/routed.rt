@@ -2,12 +2,14 @@
 ghost use Rattle.std.specs.Prelude.{◌≡◌, option_copied};
 
 use crate::copy::RoutedCopy;
+use crate::serve::group_of;
 use std::marker::Model;
 
 /// What becomes of a group of shared subscriptions.
 #[derive(Drop)]
 pub struct Served {
-    pub(crate) group: String,
+    /// $share/NAME/FILTER.
+    pub(crate) filter: String,
     pub(crate) copy: Option<RoutedCopy>,
     /// The place of the chosen member; 0 where there is none.
     pub(crate) turn: u64,
@@ -15,11 +17,12 @@ pub struct Served {
 
 impl Model for Served {
     ghost use Rattle.std.specs.Prelude.{string_bytes};
+    ghost use Rattle.mqtt_topic.specs.Filters.{group_of};
     ghost use Rattle.mqtt_routes.specs.Acceptance.{Served};
 
     ghost Value = { Served };
 
-    ghost view = { λ s. record { group = string_bytes s.group; copy = s.copy } };
+    ghost view = { λ s. record { group = group_of (string_bytes s.filter); copy = s.copy } };
 }
 
 impl Served {
@@ -27,7 +30,7 @@ impl Served {
     pub fn group(&self) -> &str
         ensures { result.now ≡ self.now.group }
     {
-        self.group.as_str()
+        group_of(self.filter.as_str())
     }
 
     /// The chosen member's copy, if there was an eligible member. Takes no memory.

@@ -16,6 +16,7 @@ use crate::subscribers::Subscribers;
 use crate::subscription::Subscription;
 use mqtt_topic::{SubFilter, TopicName};
 use std::alloc::Global;
+use std::hash::RandomState;
 use std::marker::Model;
 
 /// The subscriptions of all sessions, and the retained messages, each of which is an `M`.
@@ -35,15 +36,16 @@ impl<M> Model for Routes<M> {
 }
 
 impl<M: Drop> Routes<M> {
-    /// A table without subscriptions and messages.
-    pub fn new(alloc: Global) -> Routes<M>
+    /// A table without subscriptions and messages. Filters and topics, which strangers choose, are
+    /// hashed by `hasher`.
+    pub fn new(alloc: Global, hasher: RandomState) -> Routes<M>
         ensures sessions { result.sessions ≡ [] }
         ensures retained { result.retained ≡ [] }
     {
         Routes {
             alloc,
-            subscribers: Subscribers::new(alloc),
-            retained: Retained::new(alloc),
+            subscribers: Subscribers::new(alloc, hasher),
+            retained: Retained::new(alloc, hasher),
         }
     }
 
@@ -119,7 +121,8 @@ impl<M: Drop> Routes<M> {
     {
         for served in &routed.served {
             if served.copy().is_some() {
-                self.subscribers.note_turn(served.group(), served.turn);
+                self.subscribers
+                    .note_turn(served.filter.as_str(), served.turn);
             }
         }
     }

@@ -94,7 +94,7 @@ fn is_eligible<S: Sessions>(
 }
 
 /// NAME/FILTER of a shared filter.
-fn group_of(filter: &str) -> &str
+pub(crate) fn group_of(filter: &str) -> &str
     ensures { result.now ≡ group_of filter.now }
 {
     match filter.split_once('/') {
@@ -246,13 +246,13 @@ fn serve_one<S: Sessions>(
     ensures refused { IfErr result (RefusesOne (S.answers at.now) publication.now direct.now
         served.now filter.now members.now) }
 {
-    let group = String::from_str(alloc, group_of(filter))?;
+    let text = String::from_str(alloc, filter)?;
     let Some(i) = candidate(at, publication, direct, served, filter, members, turn) else {
         if group_needs_room(publication, filter, members) {
             return Err(RoutesFault::Full);
         }
         return Ok(Served {
-            group,
+            filter: text,
             copy: None,
             turn: 0,
         });
@@ -262,7 +262,7 @@ fn serve_one<S: Sessions>(
     let row = member.row;
     let turn = row.subscription.place;
     Ok(Served {
-        group,
+        filter: text,
         copy: Some(copy),
         turn,
     })
@@ -294,7 +294,7 @@ pub(crate) fn serve<S: Sessions>(
                 served.as_slice(),
                 members,
                 filter,
-                row.turn,
+                row.turn.get(),
             )?;
             served.push(one)?;
         }

@@ -1,83 +1,63 @@
 //! The subscriptions of one session (MQTT 5.0, 3.8, 3.10).
-ghost use Rattle.std.specs.Prelude.{◌≡◌, [], IfErr, IfOk, OnErr, OnOk};
+ghost use Rattle.std.specs.Prelude.{◌≡◌, [], false, IfErr, IfOk, OnErr, OnOk};
 ghost use Rattle.std.specs.Option.{option_to_list};
 ghost use Rattle.mqtt_routes.specs.Intended.{copies_for, hits_of, members_with};
-ghost use Rattle.mqtt_routes.specs.Subscriptions.{has_filter, place_in, put, without, RefusesPut};
+ghost use Rattle.mqtt_routes.specs.Subscriptions.{has_filter, put, without, RefusesPut};
 
 use crate::answers::Sessions;
 use crate::copy::RoutedCopy;
 use crate::fault::RoutesFault;
 use crate::member::{Member, insert_member};
 use crate::publication::Publication;
+use crate::row::Row;
 use crate::subscription::{SUBSCRIPTION_LIMIT, Subscription};
+use indexmap::IndexSet;
 use std::alloc::Global;
+use std::cell::Cell;
+use std::hash::RandomState;
 use std::marker::Model;
-
-/// A subscription in the table.
-#[derive(Drop)]
-pub(crate) struct Row {
-    pub(crate) subscription: Subscription,
-    /// For a shared one the place of the member that its group chose last; 0 before the first.
-    pub(crate) turn: u64,
-}
-
-impl Model for Row {
-    ghost use Rattle.mqtt_routes.specs.declared.subscription.Subscription.{Subscription};
-
-    ghost Value = { Subscription };
-
-    ghost view = { λ row. row.subscription };
-}
-
-impl Row {
-    /// Notes which member its group chose last. Takes no memory.
-    fn note_turn(&mut self, group: &str, turn: u64)
-        ensures { self.new ≡ self.old }
-    {
-        if self.subscription.filter.group() == Some(group) {
-            self.turn = turn;
-        }
-    }
-}
 
 /// The subscriptions of a session, in the order subscribed.
 #[derive(Drop)]
 pub(crate) struct Subscriptions {
-    rows: Vec<Row>,
+    rows: IndexSet<Row, RandomState>,
 }
 
 impl Model for Subscriptions {
-    ghost use Rattle.std.specs.Prelude.{List, ◌≤◌, vec_len};
+    ghost use Rattle.std.specs.Prelude.{List, ◌≤◌, length};
     ghost use Rattle.mqtt_routes.specs.declared.subscription.TheConstants.{SUBSCRIPTION_LIMIT};
     ghost use Rattle.mqtt_routes.specs.declared.subscription.Subscription.{Subscription};
 
     ghost Value = { List Subscription };
 
-    ghost view = { λ s. s.rows.items };
+    ghost view = { λ s. s.rows.keys };
 
-    ghost invariant = { λ s. vec_len s.rows ≤ SUBSCRIPTION_LIMIT };
+    ghost invariant = { λ s. length s.rows.keys ≤ SUBSCRIPTION_LIMIT };
 }
 
 impl Subscriptions {
     /// No subscription.
-    pub(crate) fn new(alloc: Global) -> Subscriptions
+    pub(crate) fn new(alloc: Global, hasher: RandomState) -> Subscriptions
         ensures { result ≡ [] }
     {
         Subscriptions {
-            rows: Vec::new(alloc),
+            rows: IndexSet::with_hasher(alloc, hasher),
         }
     }
 
-    /// Where the subscription to a filter stands; the count of all where there is none.
-    fn position(&self, filter: &str) -> usize
-        ensures { result ≡ place_in filter.now self.now }
+    /// Puts a subscription to a filter that has none, as the last.
+    fn push(&mut self, subscription: Subscription) -> Result<(), RoutesFault>
+        requires { has_filter subscription.filter self.old ≡ false }
+        ensures ok { OnOk result (self.new ≡ put subscription self.old) }
+        ensures err { OnErr result (self.new ≡ self.old) }
+        ensures refused { IfErr result (RefusesPut subscription self.old) }
     {
-        for (i, row) in self.rows.iter().enumerate() {
-            if row.subscription.filter.as_str() == filter {
-                return i;
-            }
+        if self.rows.len() >= SUBSCRIPTION_LIMIT {
+            return Err(RoutesFault::Full);
         }
-        self.rows.len()
+        let turn = Cell::new(0);
+        self.rows.insert(Row { subscription, turn })?;
+        Ok(())
     }
 
     /// Puts a subscription in place of the one to the same filter, or as the last.
@@ -86,23 +66,16 @@ impl Subscriptions {
         ensures err { OnErr result (self.new ≡ self.old) }
         ensures refused { IfErr result (RefusesPut subscription self.old) }
     {
-        let i = self.position(subscription.filter.as_str());
-        if i < self.rows.len() {
-            let row = &mut self.rows[i];
-            let place = row.subscription.place;
-            row.subscription = Subscription {
-                place,
-                ..subscription
-            };
-            return Ok(());
-        }
-        if i >= SUBSCRIPTION_LIMIT {
-            return Err(RoutesFault::Full);
-        }
-        self.rows.push(Row {
-            subscription,
-            turn: 0,
-        })?;
+        let Some(row) = self.rows.get(subscription.filter.as_str()) else {
+            return self.push(subscription);
+        };
+        let place = row.subscription.place;
+        let turn = Cell::new(row.turn.get());
+        let subscription = Subscription {
+            place,
+            ..subscription
+        };
+        self.rows.replace(Row { subscription, turn })?;
         Ok(())
     }
 
@@ -111,12 +84,7 @@ impl Subscriptions {
         ensures found { result ≡ has_filter filter.now self.old }
         ensures after { self.new ≡ without filter.now self.old }
     {
-        let i = self.position(filter);
-        let found = i < self.rows.len();
-        if found {
-            let _row = self.rows.remove(i);
-        }
-        found
+        self.rows.shift_remove(filter)
     }
 
     /// The direct copy of a publication for the session, if a subscription is for it.
@@ -133,7 +101,7 @@ impl Subscriptions {
     {
         let mut copy = RoutedCopy::new(alloc, birth);
         let mut is_for = false;
-        for row in &self.rows {
+        for row in self.rows.as_slice() {
             let subscription = &row.subscription;
             if publication.is_hit(at, birth, subscription) {
                 copy.add(publication, subscription)?;
@@ -154,7 +122,7 @@ impl Subscriptions {
             ≡ members_with publication.now birth self.now members.old.items) }
         ensures fault { IfErr result (λ fault. fault ≡ RoutesFault.Memory) }
     {
-        for row in &self.rows {
+        for row in self.rows.as_slice() {
             let subscription = &row.subscription;
             if subscription.filter.is_shared() && publication.matches_topic(subscription) {
                 insert_member(members, Member { birth, row })?;
@@ -163,12 +131,10 @@ impl Subscriptions {
         Ok(())
     }
 
-    /// Notes which member a group chose last. Takes no memory.
-    pub(crate) fn note_turn(&mut self, group: &str, turn: u64)
-        ensures { self.new ≡ self.old }
-    {
-        for row in self.rows.iter_mut() {
-            row.note_turn(group, turn);
+    /// Notes which member a group, named by its filter, chose last. Takes no memory.
+    pub(crate) fn note_turn(&self, filter: &str, turn: u64) {
+        if let Some(row) = self.rows.get(filter) {
+            row.turn.set(turn);
         }
     }
 }

@@ -1,7 +1,7 @@
 //! The subscriptions of all sessions, by birth (MQTT 5.0, 3.8, 3.10).
-ghost use Rattle.std.specs.Prelude.{◌≡◌, [], IfErr, IfOk, OnErr, OnOk};
+ghost use Rattle.std.specs.Prelude.{◌≡◌, ◌<◌, [], length, slice_get, Some, IfErr, IfOk, OnErr, OnOk};
 ghost use Rattle.mqtt_routes.specs.Intended.{directs, members};
-ghost use Rattle.mqtt_routes.specs.Subscriptions.{Subscriber, has_filter, spot_of, subs_of, subscribed, unsubscribed, without_session, RefusesPut, is_at};
+ghost use Rattle.mqtt_routes.specs.Subscriptions.{has_filter, spot_of, subs_of, subscriber, subscribed, unsubscribed, without_session, RefusesPut};
 
 use crate::answers::Sessions;
 use crate::copy::RoutedCopy;
@@ -10,57 +10,42 @@ use crate::member::Member;
 use crate::publication::Publication;
 use crate::subscriber::Subscriptions;
 use crate::subscription::Subscription;
+use indexmap::IndexMap;
 use std::alloc::Global;
+use std::hash::RandomState;
 use std::marker::Model;
 
-/// A session with its subscriptions.
-#[derive(Drop)]
-pub(crate) struct Session {
-    pub(crate) birth: u64,
-    pub(crate) subscriptions: Subscriptions,
-}
-
-impl Model for Session {
-    ghost use Rattle.mqtt_routes.specs.Subscriptions.{Subscriber};
-
-    ghost Value = { Subscriber };
-
-    ghost view = { λ s. record { birth = s.birth; subs = s.subscriptions } };
-}
-
-impl Session {
-    /// Notes which member a group chose last. Takes no memory.
-    fn note_turn(&mut self, group: &str, turn: u64)
-        ensures { self.new ≡ self.old }
-    {
-        self.subscriptions.note_turn(group, turn);
-    }
-}
-
-/// All sessions that have subscribed, in the order of births.
+/// All sessions that have subscribed, in the order of births. A session is found by the hash of its
+/// birth; only a new one is put at its place, by a binary search, and moves those that were born
+/// after it: mostly none, since sessions mostly subscribe as they are born.
 #[derive(Drop)]
 pub(crate) struct Subscribers {
     alloc: Global,
-    sessions: Vec<Session>,
+    /// For the filters, which strangers choose; births are ours.
+    hasher: RandomState,
+    sessions: IndexMap<u64, Subscriptions>,
 }
 
 impl Model for Subscribers {
     ghost use Rattle.std.specs.Prelude.{List};
-    ghost use Rattle.mqtt_routes.specs.Subscriptions.{Subscriber};
+    ghost use Rattle.mqtt_routes.specs.Subscriptions.{Subscriber, subscribers, AreInOrder};
 
     ghost Value = { List Subscriber };
 
-    ghost view = { λ s. s.sessions.items };
+    ghost view = { λ s. subscribers s.sessions.entries };
+
+    ghost invariant = { λ s. AreInOrder (subscribers s.sessions.entries) };
 }
 
 impl Subscribers {
     /// No session.
-    pub(crate) fn new(alloc: Global) -> Subscribers
+    pub(crate) fn new(alloc: Global, hasher: RandomState) -> Subscribers
         ensures { result ≡ [] }
     {
         Subscribers {
             alloc,
-            sessions: Vec::new(alloc),
+            hasher,
+            sessions: IndexMap::new(alloc),
         }
     }
 
@@ -68,19 +53,10 @@ impl Subscribers {
     fn spot(&self, birth: u64) -> usize
         ensures { result ≡ spot_of birth self.now }
     {
-        for (i, session) in self.sessions.iter().enumerate() {
-            if session.birth >= birth {
-                return i;
-            }
-        }
-        self.sessions.len()
-    }
-
-    /// Whether a session stands at a place.
-    fn is_at(&self, birth: u64, i: usize) -> bool
-        ensures { result ≡ is_at birth i self.now }
-    {
-        i < self.sessions.len() && self.sessions[i].birth == birth
+        self.sessions
+            .keys()
+            .as_slice()
+            .partition_point(|other| *other < birth)
     }
 
     /// Puts a subscription of a session.
@@ -93,18 +69,13 @@ impl Subscribers {
         ensures err { OnErr result (self.new ≡ self.old) }
         ensures refused { IfErr result (RefusesPut subscription (subs_of birth self.old)) }
     {
-        let i = self.spot(birth);
-        if self.is_at(birth, i) {
-            let session = &mut self.sessions[i];
-            return session.subscriptions.put(subscription);
+        if let Some(subscriptions) = self.sessions.get_mut(&birth) {
+            return subscriptions.put(subscription);
         }
-        let mut subscriptions = Subscriptions::new(self.alloc);
+        let mut subscriptions = Subscriptions::new(self.alloc, self.hasher);
         subscriptions.put(subscription)?;
-        let session = Session {
-            birth,
-            subscriptions,
-        };
-        self.sessions.insert(i, session)?;
+        let i = self.spot(birth);
+        self.sessions.shift_insert(i, birth, subscriptions)?;
         Ok(())
     }
 
@@ -113,23 +84,26 @@ impl Subscribers {
         ensures found { result ≡ has_filter filter.now (subs_of birth self.old) }
         ensures after { self.new ≡ unsubscribed birth filter.now self.old }
     {
-        let i = self.spot(birth);
-        if self.is_at(birth, i) {
-            let session = &mut self.sessions[i];
-            session.subscriptions.remove(filter)
-        } else {
-            false
-        }
+        let Some(subscriptions) = self.sessions.get_mut(&birth) else {
+            return false;
+        };
+        subscriptions.remove(filter)
     }
 
     /// Removes the subscriptions of a session. Takes no memory.
     pub(crate) fn drop_session(&mut self, birth: u64)
         ensures { self.new ≡ without_session birth self.old }
     {
-        let i = self.spot(birth);
-        if self.is_at(birth, i) {
-            let _session = self.sessions.remove(i);
-        }
+        let _subscriptions = self.sessions.shift_remove(&birth);
+    }
+
+    /// The session at a place.
+    fn session_at(&self, i: usize) -> (u64, &Subscriptions)
+        requires { i < length self.now }
+        ensures { slice_get self.now i ≡ Some (subscriber result.0 result.1.now) }
+    {
+        let (birth, subscriptions) = self.sessions.get_index(i).unwrap();
+        (*birth, subscriptions)
     }
 
     /// The direct copies of a publication, by session birth.
@@ -143,9 +117,8 @@ impl Subscribers {
         ensures fault { IfErr result (λ fault. fault ≡ RoutesFault.Memory) }
     {
         let mut copies = Vec::new(self.alloc);
-        for session in &self.sessions {
-            let birth = session.birth;
-            let subscriptions = &session.subscriptions;
+        for i in 0..self.sessions.len() {
+            let (birth, subscriptions) = self.session_at(i);
             if let Some(copy) = subscriptions.direct_copy(self.alloc, publication, at, birth)? {
                 copies.push(copy)?;
             }
@@ -162,19 +135,17 @@ impl Subscribers {
         ensures fault { IfErr result (λ fault. fault ≡ RoutesFault.Memory) }
     {
         let mut found = Vec::new(self.alloc);
-        for session in &self.sessions {
-            let subscriptions = &session.subscriptions;
-            subscriptions.add_members(publication, session.birth, &mut found)?;
+        for i in 0..self.sessions.len() {
+            let (birth, subscriptions) = self.session_at(i);
+            subscriptions.add_members(publication, birth, &mut found)?;
         }
         Ok(found)
     }
 
-    /// Notes which member a group chose last. Takes no memory.
-    pub(crate) fn note_turn(&mut self, group: &str, turn: u64)
-        ensures { self.new ≡ self.old }
-    {
-        for session in self.sessions.iter_mut() {
-            session.note_turn(group, turn);
+    /// Notes which member a group, named by its filter, chose last. Takes no memory.
+    pub(crate) fn note_turn(&self, filter: &str, turn: u64) {
+        for subscriptions in self.sessions.values() {
+            subscriptions.note_turn(filter, turn);
         }
     }
 }

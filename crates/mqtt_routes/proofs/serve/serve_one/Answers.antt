@@ -1,5 +1,6 @@
 use Rattle.std.proofs.Common.{◌∙◌, ap, sym}
 use Rattle.std.proofs.lemmas.Result.{err_from_is_err_and}
+use Rattle.mqtt_topic.specs.Filters.{group_of}
 use Rattle.mqtt_routes.specs.Acceptance.{shared_copy}
 use Rattle.mqtt_routes.proofs.ServeLemmas.{serve_one-candidate, served_same}
 use Rattle.mqtt_routes.proofs.serve.serve_one.Goals as goal
@@ -15,4 +16,4 @@ returns-clause-served g c =
     let members = c.args.members.now in
     let member = c.index-members-i.result in
     let found = serve_one-candidate (g.S.Sessions.answers c.args.at.now) p c.args.direct.now c.args.served.now c.args.filter.now members c.in-Some.i member c.in-Some.ensures.some in
-    (found.0, found.1 ∙ served_same _ _ _ _ (sym (c.in_ok-group.ensures.ok ∙ c.group_of.ensures)) (sym (c.in_ok-copy.ensures.copy ∙ ap (shared_copy p) c.index-members-i.is)))
+    (found.0, found.1 ∙ served_same _ _ _ _ (sym (ap group_of c.in_ok-text.ensures.ok)) (sym (c.in_ok-copy.ensures.copy ∙ ap (shared_copy p) c.index-members-i.is)))

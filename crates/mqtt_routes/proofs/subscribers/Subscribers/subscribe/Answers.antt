@@ -1,63 +1,84 @@
-use Rattle.std.proofs.Common.{◌<◌, true, false, length, sym, ◌∙◌, ap, subst, refl, lit<, arith, IfErr}
-use Rattle.std.proofs.lemmas.List.{get_or_default}
-use Rattle.std.proofs.lemmas.Result.{err_from_is_err_and, on_ok_weaker}
-use Rattle.mqtt_routes.specs.Subscriptions.{Subscriber, is_at, spot_of, subs_of, put, subscribed, RefusesPut}
-use Rattle.mqtt_routes.proofs.SpotLemmas.{at_spot, is_at-below, spot_of-most, row_subs, subs_of-none, subscribed-there, subscribed-new}
+use Rattle.std.proofs.Common.{◌≡◌, ◌≤◌, [], length, nat_eq, subst, sym, ◌∙◌, ap, refl, lit<, arith, IfErr}
+use Rattle.std.proofs.lemmas.Result.{err_from_is_err_and, on_ok_weaker, on_err_weaker}
+use Rattle.std.specs.Map.{set_value}
+use Rattle.indexmap.specs.IndexMap.{insert_entry, insert_index, move_index}
+use Rattle.mqtt_routes.specs.Subscriptions.{AreInOrder, subscribers, spot_of, subs_of, with_subs, put, subscribed, RefusesPut}
+use Rattle.mqtt_routes.proofs.SpotLemmas.{order-with_subs, subs_of-found, subs_of-none, set_value-same, with_subs-found, with_subs-new, spot_of-most}
 use Rattle.mqtt_routes.proofs.subscribers.Subscribers.subscribe.Goals as goal
 
-pub index_mut-session-requires : goal.index_mut-session-requires
-index_mut-session-requires c =
-    let now = c.args.self.now in
-    let here = at_spot c.args.birth c.spot-i.result now c.is_at.result true c.spot-i.ensures c.is_at.ensures c.if-is_at.true in
-    omega (arith, c.spot-i.ensures, is_at-below c.args.birth (spot_of c.args.birth now) now here, ap length c.self.view_is, c.self.inside.sessions.ok.0)
+pub invariant_of-self : goal.invariant_of-self
+invariant_of-self c =
+    let b = c.args.birth in
+    let es = c.self.inside.sessions.entries in
+    let written = c.get_mut.follows.holds c.put.new.self in
+    let is = ap subscribers written.0 ∙ with_subs-found b c.in-Some.subscriptions.now c.put.new.self es c.self.invariant c.in-Some.ensures.value in
+    subst AreInOrder (sym is) (order-with_subs b c.put.new.self (subscribers es) c.self.invariant)
 
-pub returns-then-is_at-clause-ok : goal.returns-then-is_at-clause-ok
-returns-then-is_at-clause-ok c =
-    let xs = c.self.inside.sessions.items in
-    let i = c.spot-i.result in
-    let spot = c.spot-i.ensures ∙ ap (spot_of c.args.birth) (sym c.self.view_is) in
-    let test = c.is_at.ensures ∙ ap (is_at c.args.birth i) (sym c.self.view_is) in
-    let here = at_spot c.args.birth i xs c.is_at.result true spot test c.if-is_at.true in
-    let row : Subscriber = record { birth = c.session.inside.birth; subs = c.session.inside.subscriptions } in
-    let below : i < length xs = omega (arith, spot, is_at-below c.args.birth (spot_of c.args.birth xs) xs here) in
-    let is = c.session.view_is ∙ c.index_mut-session.ensures.value ∙ get_or_default xs i c.index_mut-session.result.now row below in
+pub returns-in-Some-clause-ok : goal.returns-in-Some-clause-ok
+returns-in-Some-clause-ok c =
+    let b = c.args.birth in
+    let es = c.self.inside.sessions.entries in
+    let old = c.in-Some.subscriptions.now in
+    let written = c.get_mut.follows.holds c.put.new.self in
+    let here = subs_of-found b old es c.self.invariant c.in-Some.ensures.value in
     on_ok_weaker c.put.result
-    (λ made. subscribed-there c.args.birth i xs row c.args.subscription c.put.new.self spot here is made ∙ ap (subscribed c.args.birth c.args.subscription) c.self.view_is) c.put.ensures.ok
+    (λ made. ap subscribers written.0 ∙ with_subs-found b old c.put.new.self es c.self.invariant c.in-Some.ensures.value ∙ ap (λ s. with_subs b s (subscribers es)) (made ∙ ap (put c.args.subscription) (sym here)) ∙ ap (subscribed b c.args.subscription) c.self.view_is)
+    c.put.ensures.ok
 
-pub returns-then-is_at-clause-refused : goal.returns-then-is_at-clause-refused
-returns-then-is_at-clause-refused c =
-    let xs = c.self.inside.sessions.items in
-    let i = c.spot-i.result in
-    let spot = c.spot-i.ensures ∙ ap (spot_of c.args.birth) (sym c.self.view_is) in
-    let test = c.is_at.ensures ∙ ap (is_at c.args.birth i) (sym c.self.view_is) in
-    let here = at_spot c.args.birth i xs c.is_at.result true spot test c.if-is_at.true in
-    let row : Subscriber = record { birth = c.session.inside.birth; subs = c.session.inside.subscriptions } in
-    let below : i < length xs = omega (arith, spot, is_at-below c.args.birth (spot_of c.args.birth xs) xs here) in
-    let is = c.session.view_is ∙ c.index_mut-session.ensures.value ∙ get_or_default xs i c.index_mut-session.result.now row below in
-    subst (λ subs. IfErr c.put.result (RefusesPut c.args.subscription subs)) (row_subs c.args.birth i xs row spot here is ∙ ap (subs_of c.args.birth) c.self.view_is) c.put.ensures.refused
+pub returns-in-Some-clause-err : goal.returns-in-Some-clause-err
+returns-in-Some-clause-err c =
+    let b = c.args.birth in
+    let es = c.self.inside.sessions.entries in
+    let old = c.in-Some.subscriptions.now in
+    on_err_weaker c.put.result
+    (λ made. ap subscribers ((c.get_mut.follows.holds c.put.new.self).0 ∙ ap (set_value (nat_eq b) es) made ∙ set_value-same b old es c.in-Some.ensures.value) ∙ c.self.view_is)
+    c.put.ensures.err
 
-pub insert-requires : goal.insert-requires
-insert-requires c = omega (arith, c.spot-i.ensures, spot_of-most c.args.birth c.args.self.now, ap length c.self.view_is, c.self.inside.sessions.ok.0)
-
-pub returns-clause-ok : goal.returns-clause-ok
-returns-clause-ok c =
-    let xs = c.self.inside.sessions.items in
-    let i = c.spot-i.result in
-    let spot = c.spot-i.ensures ∙ ap (spot_of c.args.birth) (sym c.self.view_is) in
-    let test = c.is_at.ensures ∙ ap (is_at c.args.birth i) (sym c.self.view_is) in
-    let none = at_spot c.args.birth i xs c.is_at.result false spot test c.if-is_at.false in
-    c.in_ok-insert.ensures.items ∙ subscribed-new c.args.birth i xs c.args.subscription _ spot none (c.in_ok-put.ensures.ok ∙ ap (put c.args.subscription) c.new-subscriptions.ensures) ∙ ap (subscribed c.args.birth c.args.subscription) c.self.view_is
+pub returns-in-Some-clause-refused : goal.returns-in-Some-clause-refused
+returns-in-Some-clause-refused c =
+    let b = c.args.birth in
+    let here = subs_of-found b c.in-Some.subscriptions.now c.self.inside.sessions.entries c.self.invariant c.in-Some.ensures.value in
+    subst (λ subs. IfErr c.put.result (RefusesPut c.args.subscription subs)) (sym here ∙ ap (subs_of b) c.self.view_is) c.put.ensures.refused
 
 pub returns-in_err-put-clause-refused : goal.returns-in_err-put-clause-refused
 returns-in_err-put-clause-refused c =
-    let now = c.args.self.now in
-    let none = subs_of-none c.args.birth now (at_spot c.args.birth c.spot-i.result now c.is_at.result false c.spot-i.ensures c.is_at.ensures c.if-is_at.false) in
+    let b = c.args.birth in
+    let none = ap (subs_of b) (sym c.self.view_is) ∙ subs_of-none b c.self.inside.sessions.entries (sym c.in_default.ensures.value) in
     let p = err_from_is_err_and c.from_residual.result c.from_residual.ensures.1 in
     rw (p.1, p.2) (subst (λ subs. RefusesPut c.args.subscription subs c.in_err-put.field-0.0) (c.new-subscriptions.ensures ∙ sym none) c.in_err-put.ensures.refused)
 
-pub returns-in_err-insert-clause-refused : goal.returns-in_err-insert-clause-refused
-returns-in_err-insert-clause-refused c =
-    let now = c.args.self.now in
-    let none = subs_of-none c.args.birth now (at_spot c.args.birth c.spot-i.result now c.is_at.result false c.spot-i.ensures c.is_at.ensures c.if-is_at.false) in
-    let p = err_from_is_err_and c.from_residual-in_err-insert.result c.from_residual-in_err-insert.ensures.1 in
+pub shift_insert-requires-clause-in_bounds : goal.shift_insert-requires-clause-in_bounds
+shift_insert-requires-clause-in_bounds c =
+    let b = c.args.birth in
+    let es = c.self.inside.sessions.entries in
+    let spot = c.spot-i.ensures ∙ ap (λ (m : _). spot_of b (subscribers m.entries)) c.get_mut.follows.holds-at-none in
+    rw c.get_mut.follows.holds-at-none (omega (arith, spot, spot_of-most b es))
+
+pub returns-in_err-shift_insert-clause-refused : goal.returns-in_err-shift_insert-clause-refused
+returns-in_err-shift_insert-clause-refused c =
+    let b = c.args.birth in
+    let none = ap (subs_of b) (sym c.self.view_is) ∙ subs_of-none b c.self.inside.sessions.entries (sym c.in_default.ensures.value) in
+    let p = err_from_is_err_and c.from_residual-in_err-shift_insert.result c.from_residual-in_err-shift_insert.ensures.1 in
     rw (p.1, p.2, none) (refl, lit< tt)
+
+pub invariant_of-self-3 : goal.invariant_of-self-3
+invariant_of-self-3 c =
+    let b = c.args.birth in
+    let es = c.self.inside.sessions.entries in
+    let w = c.put-2.new.self in
+    let i = c.spot-i.result in
+    let spot = c.spot-i.ensures ∙ ap (λ (m : _). spot_of b (subscribers m.entries)) c.get_mut.follows.holds-at-none in
+    let put_at = c.in_ok-shift_insert.ensures.entries ∙ ap (λ (m : _). move_index (insert_entry nat_eq m.entries b w) (insert_index nat_eq m b) i) c.get_mut.follows.holds-at-none in
+    let is = ap subscribers put_at ∙ with_subs-new b w i es spot (sym c.in_default.ensures.value) in
+    subst AreInOrder (sym is) (order-with_subs b w (subscribers es) c.self.invariant)
+
+pub returns-clause-ok : goal.returns-clause-ok
+returns-clause-ok c =
+    let b = c.args.birth in
+    let es = c.self.inside.sessions.entries in
+    let w = c.put-2.new.self in
+    let i = c.spot-i.result in
+    let spot = c.spot-i.ensures ∙ ap (λ (m : _). spot_of b (subscribers m.entries)) c.get_mut.follows.holds-at-none in
+    let put_at = c.in_ok-shift_insert.ensures.entries ∙ ap (λ (m : _). move_index (insert_entry nat_eq m.entries b w) (insert_index nat_eq m b) i) c.get_mut.follows.holds-at-none in
+    let none = subs_of-none b es (sym c.in_default.ensures.value) in
+    ap subscribers put_at ∙ with_subs-new b w i es spot (sym c.in_default.ensures.value) ∙ ap (λ s. with_subs b s (subscribers es)) (c.in_ok-put.ensures.ok ∙ ap (put c.args.subscription) (c.new-subscriptions.ensures ∙ sym none)) ∙ ap (subscribed b c.args.subscription) c.self.view_is

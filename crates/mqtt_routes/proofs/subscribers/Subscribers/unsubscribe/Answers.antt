@@ -1,45 +1,36 @@
-use Rattle.std.proofs.Common.{◌<◌, true, false, length, sym, ◌∙◌, ap, arith}
-use Rattle.std.proofs.lemmas.List.{get_or_default}
-use Rattle.mqtt_routes.specs.Subscriptions.{Subscriber, has_filter, is_at, spot_of, subs_of, unsubscribed}
-use Rattle.mqtt_routes.proofs.SpotLemmas.{at_spot, is_at-below, row_subs, subs_of-none, unsubscribed-there, unsubscribed-none}
+use Rattle.std.proofs.Common.{◌≡◌, [], None, nat_eq, subst, sym, ◌∙◌, ap}
+use Rattle.std.specs.Map.{lookup}
+use Rattle.mqtt_routes.specs.Subscriptions.{AreInOrder, subscribers, has_filter, subs_of, unsubscribed}
+use Rattle.mqtt_routes.proofs.SpotLemmas.{order-unsubscribed, subs_of-found, subs_of-none, unsubscribed-found, unsubscribed-none}
 use Rattle.mqtt_routes.proofs.subscribers.Subscribers.unsubscribe.Goals as goal
 
-pub index_mut-session-requires : goal.index_mut-session-requires
-index_mut-session-requires c =
-    let now = c.args.self.now in
-    let here = at_spot c.args.birth c.spot-i.result now c.is_at.result true c.spot-i.ensures c.is_at.ensures c.if-is_at.true in
-    omega (arith, c.spot-i.ensures, is_at-below c.args.birth (spot_of c.args.birth now) now here, ap length c.self.view_is, c.self.inside.sessions.ok.0)
+pub returns-in_default-clause-found : goal.returns-in_default-clause-found
+returns-in_default-clause-found c =
+    let b = c.args.birth in
+    sym (ap (λ xs. has_filter c.args.filter.now (subs_of b xs)) (sym c.self.view_is) ∙ ap (has_filter c.args.filter.now) (subs_of-none b c.self.inside.sessions.entries (sym c.in_default.ensures.value)))
 
-pub returns-then-is_at-clause-found : goal.returns-then-is_at-clause-found
-returns-then-is_at-clause-found c =
-    let xs = c.self.inside.sessions.items in
-    let i = c.spot-i.result in
-    let spot = c.spot-i.ensures ∙ ap (spot_of c.args.birth) (sym c.self.view_is) in
-    let test = c.is_at.ensures ∙ ap (is_at c.args.birth i) (sym c.self.view_is) in
-    let here = at_spot c.args.birth i xs c.is_at.result true spot test c.if-is_at.true in
-    let row : Subscriber = record { birth = c.session.inside.birth; subs = c.session.inside.subscriptions } in
-    let below : i < length xs = omega (arith, spot, is_at-below c.args.birth (spot_of c.args.birth xs) xs here) in
-    let is = c.session.view_is ∙ c.index_mut-session.ensures.value ∙ get_or_default xs i c.index_mut-session.result.now row below in
-    c.remove.ensures.found ∙ ap (has_filter c.args.filter.now) (row_subs c.args.birth i xs row spot here is) ∙ ap (λ ys. has_filter c.args.filter.now (subs_of c.args.birth ys)) c.self.view_is
+pub returns-in_default-clause-after : goal.returns-in_default-clause-after
+returns-in_default-clause-after c =
+    let b = c.args.birth in
+    ap (λ (m : _). subscribers m.entries) c.get_mut.follows.holds-at-none ∙ sym (unsubscribed-none b c.args.filter.now c.self.inside.sessions.entries (sym c.in_default.ensures.value)) ∙ ap (unsubscribed b c.args.filter.now) c.self.view_is
 
-pub returns-then-is_at-clause-after : goal.returns-then-is_at-clause-after
-returns-then-is_at-clause-after c =
-    let xs = c.self.inside.sessions.items in
-    let i = c.spot-i.result in
-    let spot = c.spot-i.ensures ∙ ap (spot_of c.args.birth) (sym c.self.view_is) in
-    let test = c.is_at.ensures ∙ ap (is_at c.args.birth i) (sym c.self.view_is) in
-    let here = at_spot c.args.birth i xs c.is_at.result true spot test c.if-is_at.true in
-    let row : Subscriber = record { birth = c.session.inside.birth; subs = c.session.inside.subscriptions } in
-    let below : i < length xs = omega (arith, spot, is_at-below c.args.birth (spot_of c.args.birth xs) xs here) in
-    let is = c.session.view_is ∙ c.index_mut-session.ensures.value ∙ get_or_default xs i c.index_mut-session.result.now row below in
-    unsubscribed-there c.args.birth i xs row c.args.filter.now c.remove.new.self spot here is c.remove.ensures.after ∙ ap (unsubscribed c.args.birth c.args.filter.now) c.self.view_is
+pub invariant_of-self-2 : goal.invariant_of-self-2
+invariant_of-self-2 c =
+    let b = c.args.birth in
+    let es = c.self.inside.sessions.entries in
+    let written = c.get_mut.follows.holds c.remove.new.self in
+    let is = ap subscribers written.0 ∙ unsubscribed-found b c.in-Some.subscriptions.now c.args.filter.now c.remove.new.self es c.remove.ensures.after c.self.invariant c.in-Some.ensures.value in
+    subst AreInOrder (sym is) (order-unsubscribed b c.args.filter.now (subscribers es) c.self.invariant)
 
-pub returns-else-is_at-clause-found : goal.returns-else-is_at-clause-found
-returns-else-is_at-clause-found c =
-    let now = c.args.self.now in
-    sym (ap (has_filter c.args.filter.now) (subs_of-none c.args.birth now (at_spot c.args.birth c.spot-i.result now c.is_at.result false c.spot-i.ensures c.is_at.ensures c.if-is_at.false)))
+pub returns-clause-found : goal.returns-clause-found
+returns-clause-found c =
+    let b = c.args.birth in
+    let here = subs_of-found b c.in-Some.subscriptions.now c.self.inside.sessions.entries c.self.invariant c.in-Some.ensures.value in
+    c.remove.ensures.found ∙ ap (has_filter c.args.filter.now) (sym here ∙ ap (subs_of b) c.self.view_is)
 
-pub returns-else-is_at-clause-after : goal.returns-else-is_at-clause-after
-returns-else-is_at-clause-after c =
-    let now = c.args.self.now in
-    sym (unsubscribed-none c.args.birth c.args.filter.now now (at_spot c.args.birth c.spot-i.result now c.is_at.result false c.spot-i.ensures c.is_at.ensures c.if-is_at.false))
+pub returns-clause-after : goal.returns-clause-after
+returns-clause-after c =
+    let b = c.args.birth in
+    let es = c.self.inside.sessions.entries in
+    let written = c.get_mut.follows.holds c.remove.new.self in
+    ap subscribers written.0 ∙ unsubscribed-found b c.in-Some.subscriptions.now c.args.filter.now c.remove.new.self es c.remove.ensures.after c.self.invariant c.in-Some.ensures.value ∙ ap (unsubscribed b c.args.filter.now) c.self.view_is
