@@ -2,6 +2,7 @@
 use Rattle.std.proofs.Common.{◌≡◌, ℕ, Bool, true, false, cond, not, List, [], ◌∷◌, ◌++◌, filter, map, Option, Some, None, refl}
 use Rattle.std.specs.Prelude.{⊤, suc, nat_lt, flat_map, find, option_map, Ok, Err}
 use Rattle.mqtt_base.specs.declared.session.Ending.TheVariants.{SessionEnded}
+use Rattle.mqtt_base.specs.declared.session.Phase.{Phase}
 use Rattle.mqtt_base.specs.declared.session.Phase.TheVariants.{Sent, Released as ReleasedPhase, Oversize}
 use Rattle.mqtt_props.specs.declared.table.PropName.TheVariants.{SessionExpiryInterval, SubscriptionIdentifier, TopicAlias}
 use Rattle.mqtt_codec.specs.declared.connect.Connect.{Connect as Greeting}
@@ -22,12 +23,11 @@ use Rattle.mqtt_flow.specs.declared.inflow.Released.{Released}
 use Rattle.mqtt_flow.specs.declared.inflow.Released.TheVariants.{Known, Unknown}
 use Rattle.mqtt_flow.specs.Codes.{success, identifier_in_use, identifier_not_found, quota_exceeded, receive_maximum_exceeded, session_taken_over}
 use Rattle.mqtt_flow.specs.Inbound.{answer_to, answer_to_release, is_open}
-use Rattle.mqtt_flow.specs.Outbound.{Answer, way_made, resumed_with}
+use Rattle.mqtt_flow.specs.Outbound.{Answer, way_made, due_from}
 use Rattle.mqtt_flow.specs.Outbound as rules
 use Rattle.mqtt_records.specs.declared.message.MessageCopy.{MessageCopy}
 use Rattle.mqtt_records.specs.declared.message.Retained.{Retained}
 use Rattle.mqtt_records.specs.declared.message.Will.{Will}
-use Rattle.mqtt_records.specs.declared.queue.Entry.{Entry}
 use Rattle.mqtt_records.specs.declared.session.Session.{Session}
 use Rattle.mqtt_records.specs.Order.{row_at}
 use Rattle.mqtt_records.specs.Session.{entry_place}
@@ -35,7 +35,7 @@ use Rattle.mqtt_rules.specs.Packets.{puback, pubrec, pubcomp, pubrel, suback, un
 use Rattle.mqtt_rules.specs.State.{Line, Broker, Env, session_at, session_named, line_at, line_of, is_connected, queue_on}
 use Rattle.mqtt_rules.specs.Deeds.{Whose, whose, Message, Origin, FromClient, FromWill, Part, Resume, Close, SetExpiry, DropWill, Open, Release, Enter, Mark, Leave, LinePart, Hear, SetAlias, Went, Deed, Accept, Begin, Name, Count, At, Finish, Keep, Forget, RefuseWill, Link, On, Send, Gone, after, after_all, Act, then, series, always, only_if, with_session, of_session, with_line, offer}
 use Rattle.mqtt_rules.specs.Deeds as deeds
-use Rattle.mqtt_rules.specs.Outbound.{of_entry, leave_deeds, turn_deeds, all_turn_deeds, since, queue_limits, enter_deeds}
+use Rattle.mqtt_rules.specs.Outbound.{leave_deeds, turn_deeds, all_turn_deeds, since, queue_limits, enter_deeds}
 use Rattle.mqtt_rules.specs.Routing.{Delivery, is_queued, deliver_by, deliver, retained_of, forgets, retain_by, next_publication, publish, routed, is_wanted}
 use Rattle.mqtt_rules.specs.Closing.{has_due_will, has_due_end, will_message, publish_or_refuse, will_deeds, publish_will, end_session, settle, close_session, close_connected, close, drop_line}
 use Rattle.mqtt_rules.specs.Connect.{largest_of, refusal, refused, of_client, take_over, clear, prepare, will_of, fresh_row, resume, begin_named, joins, connect_by, on_connect}
@@ -43,16 +43,15 @@ use Rattle.mqtt_rules.specs.Inbound.{Meaning, Means, Wrong, meaning, sets_alias,
 use Rattle.mqtt_rules.specs.Subscribe.{Wish, wish_of, brought, has_filter, subscription, grants, granted_by, granted_to, next_number, all_granted, late_sends, subscribe_by, on_subscribe, unsubscribes, drop_codes, unsubscribe_by, on_unsubscribe}
 use Rattle.mqtt_rules.specs.Tick.{is_silent, silence, lapses, has_lapsed, lapse_deeds, is_stale, first_due, due, on_tick}
 use Rattle.mqtt_rules.specs.Step.{Call, NewLine, Input, BadInput, Lost, Pump, Tick, first_packet, next_packet, on_packet, on_fault, late_code, on_pump, can_link, deeds_of, close_if, opening}
+pub use Rattle.mqtt_rules.proofs.Goods.{after_append, AreGood, GoodAct, GoodActs, good_append, good_then, good_series, good_two, good_map, good_flat, good_acts, good_cond, good_if, good_with_session, good_of_session, good_of_client, good_with_line, good_of_entry}
+use Rattle.mqtt_rules.proofs.Copies.{IsMade, AreMade, routed_numbered, brought_made, made_numbered, beside_leaves, beside_deliver, made_stays, are_made_stay, each_filter}
 
--- a list of deeds, then another
-pub after_append : (xs ys : List Deed) (b : Broker) → after_all (xs ++ ys) b ≡ after_all ys (after_all xs b)
-after_append [] ys b = refl
-after_append (x ∷ xs) ys b = after_append xs ys (after x b)
-
--- the parts that open no identifier
-abbrev pub opens_none : Part → Bool
-opens_none (Open id) = false
-opens_none part = true
+-- the parts that open no identifier, bring no copy, and are no turn of the queue
+abbrev pub is_plain : Part → Bool
+is_plain (Open id) = false
+is_plain (Enter copy) = false
+is_plain (Mark place phase) = false
+is_plain part = true
 
 -- what makes deeds good: each kind of deed, on the state that it comes on in a step
 pub record Facts (Good : Deed → Broker → Type 0) : Type 0 where
@@ -60,13 +59,16 @@ pub record Facts (Good : Deed → Broker → Type 0) : Type 0 where
   pub begin_row : (client : List ℕ) (c : Greeting) (b : Broker) → Good (Begin (fresh_row (suc b.records.births) client c) (will_of c)) b
   pub name : (b : Broker) → Good (Name (suc b.records.autos)) b
   pub count : (b : Broker) → Good (Count (next_number b.records)) b
-  pub at_part : (who : Whose) (part : Part) (b : Broker) → opens_none part ≡ true → Good (At who part) b
+  pub at_part : (who : Whose) (part : Part) (b : Broker) → is_plain part ≡ true → Good (At who part) b
   -- an identifier opens where its PUBLISH was new to the session, which stood before the publication's deeds
   pub open_id : (birth : ℕ) (s : Session) (id : ℕ) (env : Env) (m : Message) (ds : List Delivery) (b : Broker)
-      → session_at birth b.records ≡ Some s → answer_to id s.inbound ≡ New
+      → session_at birth b.records ≡ Some s → answer_to id s.inbound ≡ New → routed env m b ≡ Some ds
       → Good (At (whose s) (Open id)) (after_all (publish env FromClient m ds b) b)
+  -- a copy is of an accepted publication, or of a retained message that stands
+  pub enter : (who : Whose) (copy : MessageCopy) (b : Broker) → IsMade copy b.records → Good (At who (Enter copy)) b
   pub finish : (who : Whose) (b : Broker) → Good (Finish who) b
-  pub keep : (kept : Retained) (b : Broker) → Good (Keep kept) b
+  -- a message is retained of the publication that was just accepted
+  pub keep : (kept : Retained) (b : Broker) → kept.publication ≡ b.records.publications → Good (Keep kept) b
   pub forget : (place : ℕ) (b : Broker) → Good (Forget place) b
   pub refuse_will : (who : Whose) (b : Broker) → Good (RefuseWill who) b
   pub link : (b : Broker) → Good (Link (suc b.given)) b
@@ -74,76 +76,15 @@ pub record Facts (Good : Deed → Broker → Type 0) : Type 0 where
   pub send : (line : ℕ) (packet : Packet) (b : Broker) → Good (Send line packet) b
   pub gone : (line : ℕ) (b : Broker) → Good (Gone line) b
 
--- ---- lists of good deeds, whatever is good
+forget_numbers : (k : Option Retained) (b : Broker) → (after_all (forgets k) b).records.publications ≡ b.records.publications
+forget_numbers None b = refl
+forget_numbers (Some k) b = refl
 
-module _ (Good : Deed → Broker → Type 0) where
-  -- each on what the ones before it left
-  abbrev pub AreGood : List Deed → Broker → Type 0
-  AreGood [] b = ⊤
-  AreGood (d ∷ ds) b = Good d b × AreGood ds (after d b)
-
-  -- in every state
-  abbrev pub GoodAct : Act → Type 0
-  GoodAct act = (b : Broker) → AreGood (act b) b
-
-  abbrev pub GoodActs : List Act → Type 0
-  GoodActs [] = ⊤
-  GoodActs (a ∷ more) = GoodAct a × GoodActs more
-
-  pub good_append : (xs ys : List Deed) (b : Broker) → AreGood xs b → AreGood ys (after_all xs b) → AreGood (xs ++ ys) b
-  good_append [] ys b p q = q
-  good_append (x ∷ xs) ys b p q = (p.0, good_append xs ys (after x b) p.1 q)
-
-  pub good_then : (ds : List Deed) (act : Act) (b : Broker) → AreGood ds b → AreGood (act (after_all ds b)) (after_all ds b) → AreGood (then ds act b) b
-  good_then ds act b p q = good_append ds (act (after_all ds b)) b p q
-
-  pub good_series : (acts : List Act) → GoodActs acts → GoodAct (series acts)
-  good_series [] q b = tt
-  good_series (a ∷ acts) q b = good_append (a b) (series acts (after_all (a b) b)) b (q.0 b) (good_series acts q.1 (after_all (a b) b))
-
-  -- two acts, the second of them on what the first left
-  pub good_two : (f g : Act) (b : Broker) → AreGood (f b) b → AreGood (g (after_all (f b) b)) (after_all (f b) b) → AreGood (series (f ∷ g ∷ []) b) b
-  good_two f g b p q =
-      let c = after_all (f b) b in
-      good_append (f b) (g c ++ []) b p (good_append (g c) [] c q tt)
-
-  pub good_map : {X : Type 0} (f : X → Deed) → ((x : X) (b : Broker) → Good (f x) b) → (xs : List X) (b : Broker) → AreGood (map f xs) b
-  good_map f h [] b = tt
-  good_map f h (x ∷ xs) b = (h x b, good_map f h xs (after (f x) b))
-
-  pub good_flat : {X : Type 0} (f : X → List Deed) → ((x : X) (b : Broker) → AreGood (f x) b) → (xs : List X) (b : Broker) → AreGood (flat_map f xs) b
-  good_flat f h [] b = tt
-  good_flat f h (x ∷ xs) b = good_append (f x) (flat_map f xs) b (h x b) (good_flat f h xs (after_all (f x) b))
-
-  pub good_acts : {X : Type 0} (f : X → Act) → ((x : X) → GoodAct (f x)) → (xs : List X) → GoodActs (map f xs)
-  good_acts f h [] = tt
-  good_acts f h (x ∷ xs) = (h x, good_acts f h xs)
-
-  pub good_cond : (t : Bool) (xs ys : List Deed) (b : Broker) → AreGood xs b → AreGood ys b → AreGood (cond t xs ys) b
-  good_cond true xs ys b p q = p
-  good_cond false xs ys b p q = q
-
-  pub good_if : (t : Bool) (act : Act) → GoodAct act → GoodAct (only_if t act)
-  good_if true act h b = h b
-  good_if false act h b = tt
-
-  pub good_with_session : (o : Option Session) (f : Session → Act) (b : Broker) → ((s : Session) → o ≡ Some s → AreGood (f s b) b) → AreGood (with_session o f b) b
-  good_with_session None f b h = tt
-  good_with_session (Some s) f b h = h s refl
-
-  pub good_of_session : (birth : ℕ) (f : Session → Act) → ((s : Session) → GoodAct (f s)) → GoodAct (of_session birth f)
-  good_of_session birth f h b = good_with_session (session_at birth b.records) f b (λ s e. h s b)
-
-  pub good_of_client : (client : List ℕ) (f : Session → Act) → ((s : Session) → GoodAct (f s)) → GoodAct (of_client client f)
-  good_of_client client f h b = good_with_session (session_named client b.records) f b (λ s e. h s b)
-
-  pub good_with_line : (o : Option Line) (f : Line → Act) (b : Broker) → ((l : Line) → o ≡ Some l → AreGood (f l b) b) → AreGood (with_line o f b) b
-  good_with_line None f b h = tt
-  good_with_line (Some l) f b h = h l refl
-
-  pub good_of_entry : (o : Option Entry) (f : Entry → List Deed) (b : Broker) → ((e : Entry) → AreGood (f e) b) → AreGood (of_entry o f) b
-  good_of_entry None f b h = tt
-  good_of_entry (Some e) f b h = h e
+-- retaining a message gives no publication
+retain_numbers : (retain empty : Bool) (number : ℕ) (m : Message) (b : Broker) → (after_all (retain_by retain empty number m b) b).records.publications ≡ b.records.publications
+retain_numbers false empty number m b = refl
+retain_numbers true true number m b = forget_numbers (retained_of m.topic b.records) b
+retain_numbers true false number m b = refl
 
 -- ---- act by act
 
@@ -152,7 +93,7 @@ module _ (Good : Deed → Broker → Type 0) (facts : Facts Good) where
   good_offer None packet b = tt
   good_offer (Some l) packet b = good_cond Good _ (Send l.number packet ∷ []) [] b (facts.send l.number packet b, tt) tt
 
-  pub good_part : (who : Whose) (part : Part) → opens_none part ≡ true → GoodAct Good (always (At who part ∷ []))
+  pub good_part : (who : Whose) (part : Part) → is_plain part ≡ true → GoodAct Good (always (At who part ∷ []))
   good_part who part q b = (facts.at_part who part b q, tt)
 
   -- a session's queue
@@ -161,67 +102,64 @@ module _ (Good : Deed → Broker → Type 0) (facts : Facts Good) where
       good_of_entry Good (row_at entry_place place s.queue) (λ e. At (whose s) (Leave e ending) ∷ []) b (λ e. (facts.at_part (whose s) (Leave e ending) b refl, tt))
   good_leave s t b = tt
 
-  pub good_turn : (now line : ℕ) (s : Session) (t : Turn) (b : Broker) → AreGood Good (turn_deeds now line s t) b
-  good_turn now line s (turns.Send place id) b =
-      good_of_entry Good (row_at entry_place place s.queue) (λ e. At (whose s) (Mark place (Sent id)) ∷ On line (Went place) ∷ Send line (publish_of now false id e.copy) ∷ []) b
-      (λ e. (facts.at_part (whose s) (Mark place (Sent id)) b refl, (facts.on_line line (Went place) _, (facts.send line (publish_of now false id e.copy) _, tt))))
-  good_turn now line s (turns.Resend place id) b =
-      good_of_entry Good (row_at entry_place place s.queue) (λ e. On line (Went place) ∷ Send line (publish_of now true id e.copy) ∷ []) b
-      (λ e. (facts.on_line line (Went place) b, (facts.send line (publish_of now true id e.copy) _, tt)))
-  good_turn now line s (turns.Release place id order) b = (facts.at_part (whose s) (Mark place (ReleasedPhase id order)) b refl, (facts.send line (pubrel id success) _, tt))
-  good_turn now line s (turns.Outgrow place id order) b = (facts.at_part (whose s) (Mark place (Oversize id order)) b refl, (facts.send line (pubrel id success) _, tt))
-  good_turn now line s (turns.Repeat id) b = (facts.send line (pubrel id success) b, tt)
-  good_turn now line s (turns.Unknown id) b = (facts.send line (pubrel id identifier_not_found) b, tt)
-  good_turn now line s (turns.Leave place ending) b = good_leave s (turns.Leave place ending) b
-
-  pub good_turns : (now line : ℕ) (s : Session) (ts : List Turn) (b : Broker) → AreGood Good (all_turn_deeds now line s ts) b
-  good_turns now line s ts b = good_flat Good (turn_deeds now line s) (good_turn now line s) ts b
-
-  pub good_enter : (env : Env) (copy : MessageCopy) (s : Session) (b : Broker) → AreGood Good (enter_deeds env copy s) b
-  good_enter env copy s b =
+  pub good_enter : (env : Env) (copy : MessageCopy) (s : Session) (b : Broker) → IsMade copy b.records → AreGood Good (enter_deeds env copy s) b
+  good_enter env copy s b made =
       let ts = way_made (queue_limits env) (since env s) (queue_on [] s) in
-      good_append Good (flat_map (leave_deeds s) ts) (At (whose s) (Enter copy) ∷ []) b
+      let first = flat_map (leave_deeds s) ts in
+      good_append Good first (At (whose s) (Enter copy) ∷ []) b
       (good_flat Good (leave_deeds s) (good_leave s) ts b)
-      (facts.at_part (whose s) (Enter copy) _ refl, tt)
+      (facts.enter (whose s) copy (after_all first b) (made_stays copy first b (beside_leaves s ts b) made), tt)
 
   -- a publication
-  good_deliver_by : (t : Bool) (env : Env) (d : Delivery) → GoodAct Good (deliver_by t env d)
-  good_deliver_by true env d b = good_of_session Good d.birth (λ s. always (enter_deeds env d.copy s)) (λ s c. good_enter env d.copy s c) b
-  good_deliver_by false env d b = good_offer (line_of d.birth b) (publish_of b.now false 0 d.copy) b
+  good_deliver_by : (t : Bool) (env : Env) (d : Delivery) (b : Broker) → IsMade d.copy b.records → AreGood Good (deliver_by t env d b) b
+  good_deliver_by true env d b made =
+      good_with_session Good (session_at d.birth b.records) (λ s. always (enter_deeds env d.copy s)) b (λ s e. good_enter env d.copy s b made)
+  good_deliver_by false env d b made = good_offer (line_of d.birth b) (publish_of b.now false 0 d.copy) b
 
-  pub good_deliver : (env : Env) (d : Delivery) → GoodAct Good (deliver env d)
-  good_deliver env d b = good_deliver_by (is_queued d) env d b
+  pub good_deliver : (env : Env) (d : Delivery) (b : Broker) → IsMade d.copy b.records → AreGood Good (deliver env d b) b
+  good_deliver env d b made = good_deliver_by (is_queued d) env d b made
+
+  pub good_deliveries : (env : Env) (ds : List Delivery) (b : Broker) → AreMade ds b.records → AreGood Good (series (map (deliver env) ds) b) b
+  good_deliveries env [] b made = tt
+  good_deliveries env (d ∷ ds) b made =
+      let first = deliver env d b in
+      let c = after_all first b in
+      good_append Good first (series (map (deliver env) ds) c) b (good_deliver env d b made.0)
+      (good_deliveries env ds c (are_made_stay ds first b (beside_deliver env d b) made.1))
 
   good_forgets : (k : Option Retained) (b : Broker) → AreGood Good (forgets k) b
   good_forgets None b = tt
   good_forgets (Some k) b = (facts.forget k.place b, tt)
 
-  pub good_retain : (retain empty : Bool) (number : ℕ) (m : Message) → GoodAct Good (retain_by retain empty number m)
-  good_retain false empty number m b = tt
-  good_retain true true number m b = good_forgets (retained_of m.topic b.records) b
-  good_retain true false number m b = (facts.keep _ b, tt)
+  pub good_retain : (retain empty : Bool) (number : ℕ) (m : Message) (b : Broker) → number ≡ b.records.publications → AreGood Good (retain_by retain empty number m b) b
+  good_retain false empty number m b e = tt
+  good_retain true true number m b e = good_forgets (retained_of m.topic b.records) b
+  good_retain true false number m b e = (facts.keep _ b e, tt)
 
-  pub good_publish : (env : Env) (origin : Origin) (m : Message) (ds : List Delivery) → GoodAct Good (publish env origin m ds)
-  good_publish env origin m ds b =
+  pub good_publish : (env : Env) (origin : Origin) (m : Message) (ds : List Delivery) (b : Broker) → routed env m b ≡ Some ds → AreGood Good (publish env origin m ds b) b
+  good_publish env origin m ds b e =
       let number = next_publication b.records in
       let first = Accept number origin m ∷ [] in
       let c = after (Accept number origin m) b in
-      good_append Good first (series (retain_by m.retain (is_empty m.payload) number m ∷ map (deliver env) ds) c) b
+      let next = retain_by m.retain (is_empty m.payload) number m c in
+      let d = after_all next c in
+      good_append Good first (next ++ series (map (deliver env) ds) d) b
       (facts.accept origin m b, tt)
-      (good_series Good (retain_by m.retain (is_empty m.payload) number m ∷ map (deliver env) ds)
-      (good_retain m.retain (is_empty m.payload) number m, good_acts Good (deliver env) (good_deliver env) ds) c)
+      (good_append Good next (series (map (deliver env) ds) d) c
+      (good_retain m.retain (is_empty m.payload) number m c refl)
+      (good_deliveries env ds d (made_numbered number ds d (retain_numbers m.retain (is_empty m.payload) number m c) (routed_numbered env m b ds e))))
 
   -- Wills, ends, settling and closing
-  good_publish_or_refuse : (env : Env) (who : Whose) (m : Message) (ds : Option (List Delivery)) → GoodAct Good (publish_or_refuse env who m ds)
-  good_publish_or_refuse env who m None b = (facts.refuse_will who b, tt)
-  good_publish_or_refuse env who m (Some ds) b = good_publish env FromWill m ds b
+  good_publish_or_refuse : (env : Env) (who : Whose) (m : Message) (ds : Option (List Delivery)) (b : Broker) → routed env m b ≡ ds → AreGood Good (publish_or_refuse env who m ds b) b
+  good_publish_or_refuse env who m None b e = (facts.refuse_will who b, tt)
+  good_publish_or_refuse env who m (Some ds) b e = good_publish env FromWill m ds b e
 
   pub good_will_deeds : (env : Env) (who : Whose) (w : Option Will) → GoodAct Good (will_deeds env who w)
   good_will_deeds env who None b = tt
   good_will_deeds env who (Some w) b =
       let m = will_message who.client w in
-      good_series Good (publish_or_refuse env who m (routed env m b) ∷ always (At who DropWill ∷ []) ∷ [])
-      (good_publish_or_refuse env who m (routed env m b), (good_part who DropWill refl, tt)) b
+      let first = publish_or_refuse env who m (routed env m b) b in
+      good_append Good first (At who DropWill ∷ []) b (good_publish_or_refuse env who m (routed env m b) b refl) (facts.at_part who DropWill _ refl, tt)
 
   pub good_publish_will : (env : Env) (s : Session) → GoodAct Good (publish_will env s)
   good_publish_will env s b = good_will_deeds env (whose s) s.will b
@@ -288,9 +226,13 @@ module _ (Good : Deed → Broker → Type 0) (facts : Facts Good) where
         ),
       ) b
 
+  good_repeats : {X : Type 0} (now line : ℕ) (s : Session) (xs : List X) (id : X → ℕ) (b : Broker) → AreGood Good (all_turn_deeds now line s (map (λ x. turns.Repeat (id x)) xs)) b
+  good_repeats now line s [] id b = tt
+  good_repeats now line s (x ∷ xs) id b = (facts.send line (pubrel (id x) success) b, good_repeats now line s xs id _)
+
   pub good_resume : (l : Line) (c : Greeting) (now : ℕ) (s : Session) (b : Broker) → AreGood Good (resume l c now s) b
   good_resume l c now s b =
-      (facts.at_part (whose s) (Resume _ _) b refl, (facts.on_line l.number _ _, (facts.send l.number _ _, good_turns now l.number s (resumed_with (queue_on [] s)) _)))
+      (facts.at_part (whose s) (Resume _ _) b refl, (facts.on_line l.number _ _, (facts.send l.number _ _, good_repeats now l.number s (due_from [] (queue_on [] s)) (λ d. d.identifier) _)))
 
   pub good_begin_named : (t : Bool) (l : Line) (c : Greeting) (b : Broker) → AreGood Good (begin_named t l c b.records) b
   good_begin_named false l c b = (facts.begin_row c.client_identifier c b, (facts.on_line l.number _ _, (facts.send l.number _ _, tt)))
@@ -332,23 +274,23 @@ module _ (Good : Deed → Broker → Type 0) (facts : Facts Good) where
   alias_stores false (Some n) line topic b = refl
 
   good_opens : (birth : ℕ) (env : Env) (s : Session) (q : Quality) (m : Message) (ds : List Delivery) (b : Broker)
-      → session_at birth b.records ≡ Some s → standing q s.inbound ≡ New
+      → session_at birth b.records ≡ Some s → standing q s.inbound ≡ New → routed env m b ≡ Some ds
       → AreGood Good (opens s q) (after_all (publish env FromClient m ds b) b)
-  good_opens birth env s delivery.AtMostOnce m ds b e n = tt
-  good_opens birth env s (delivery.AtLeastOnce dup id) m ds b e n = tt
-  good_opens birth env s (delivery.ExactlyOnce dup id) m ds b e n = (facts.open_id birth s id env m ds b e n, tt)
+  good_opens birth env s delivery.AtMostOnce m ds b e n r = tt
+  good_opens birth env s (delivery.AtLeastOnce dup id) m ds b e n r = tt
+  good_opens birth env s (delivery.ExactlyOnce dup id) m ds b e n r = (facts.open_id birth s id env m ds b e n r, tt)
 
   good_publish_new : (birth : ℕ) (env : Env) (l : Line) (s : Session) (p : Publication) (m : Message) (ds : Option (List Delivery)) (b : Broker)
-      → session_at birth b.records ≡ Some s → standing p.delivery s.inbound ≡ New
+      → session_at birth b.records ≡ Some s → standing p.delivery s.inbound ≡ New → routed env m b ≡ ds
       → AreGood Good (publish_new env l s p m ds b) b
-  good_publish_new birth env l s p m None b e n = good_answer l.number p.delivery quota_exceeded b
-  good_publish_new birth env l s p m (Some ds) b e n =
+  good_publish_new birth env l s p m None b e n r = good_answer l.number p.delivery quota_exceeded b
+  good_publish_new birth env l s p m (Some ds) b e n r =
       let code = code_accepted (is_wanted env m b.records) in
       let first = publish env FromClient m ds b in
       let c = after_all first b in
       let d = after_all (opens s p.delivery) c in
-      good_append Good first (opens s p.delivery ++ (answer l.number p.delivery code ++ [])) b (good_publish env FromClient m ds b)
-      (good_append Good (opens s p.delivery) (answer l.number p.delivery code ++ []) c (good_opens birth env s p.delivery m ds b e n)
+      good_append Good first (opens s p.delivery ++ (answer l.number p.delivery code ++ [])) b (good_publish env FromClient m ds b r)
+      (good_append Good (opens s p.delivery) (answer l.number p.delivery code ++ []) c (good_opens birth env s p.delivery m ds b e n r)
       (good_append Good (answer l.number p.delivery code) [] d (good_answer l.number p.delivery code d) tt))
 
   good_publish_by : (st : Published) (birth : ℕ) (env : Env) (l : Line) (s : Session) (p : Publication) (m : Message) (b : Broker)
@@ -356,7 +298,7 @@ module _ (Good : Deed → Broker → Type 0) (facts : Facts Good) where
       → AreGood Good (publish_by st env l s p m b) b
   good_publish_by Again birth env l s p m b e n = good_answer l.number p.delivery (code_again p.delivery) b
   good_publish_by Over birth env l s p m b e n = good_drop env receive_maximum_exceeded l b
-  good_publish_by New birth env l s p m b e n = good_publish_new birth env l s p m (routed env m b) b e n
+  good_publish_by New birth env l s p m b e n = good_publish_new birth env l s p m (routed env m b) b e n refl
 
   good_publish_meant : (x : Meaning) (birth : ℕ) (env : Env) (l : Line) (s : Session) (p : Publication) (b : Broker)
       → session_at birth b.records ≡ Some s → AreGood Good (publish_meant x env l s p b) b
@@ -385,17 +327,6 @@ module _ (Good : Deed → Broker → Type 0) (facts : Facts Good) where
   pub good_on_pubrel : (l : Line) (s : Session) (id : ℕ) (b : Broker) → AreGood Good (on_pubrel l s id) b
   good_on_pubrel l s id b = good_release_by (answer_to_release id s.inbound) l s id b
 
-  good_turned : (l : Line) (s : Session) (now : ℕ) (t : Option Turn) (b : Broker) → AreGood Good (turned l s now t) b
-  good_turned l s now None b = tt
-  good_turned l s now (Some t) b = good_turn now l.number s t b
-
-  pub good_answered : (a : Answer) (env : Env) (l : Line) (s : Session) → GoodAct Good (answered a env l s)
-  good_answered (Ok t) env l s b = good_turned l s b.now t b
-  good_answered (Err fault) env l s b = good_drop env 0x82 l b
-
-  pub good_pump : (l : Line) (now : ℕ) (s : Session) (b : Broker) → AreGood Good (pump_deeds l now s) b
-  good_pump l now s b = good_turns now l.number s (pump_turns l now s) b
-
   good_new_expiry : (expiry : Option ℕ) (s : Session) → GoodAct Good (always (new_expiry expiry s))
   good_new_expiry None s b = tt
   good_new_expiry (Some n) s b = (facts.at_part (whose s) (SetExpiry n) b refl, tt)
@@ -409,25 +340,28 @@ module _ (Good : Deed → Broker → Type 0) (facts : Facts Good) where
   good_on_disconnect env l s code expiry b = good_leave_by (is_late_expiry expiry s.expiry) env l s code expiry b
 
   -- SUBSCRIBE and UNSUBSCRIBE
-  good_grants : (env : Env) (s : Session) (w : Wish) (ds : List Delivery) (b : Broker) → AreGood Good (grants env (next_number b.records) s w ds b).deeds b
-  good_grants env s w ds b =
+  good_grants : (env : Env) (s : Session) (w : Wish) (ds : List Delivery) (b : Broker) → AreMade ds b.records → AreGood Good (grants env (next_number b.records) s w ds b).deeds b
+  good_grants env s w ds b made =
       let number = next_number b.records in
       let first : List Deed = Count number ∷ At (whose s) (deeds.Subscribe (subscription number s w)) ∷ [] in
       let c = after_all first b in
-      good_append Good first (series (map (deliver env) (filter is_queued ds)) c) b
+      let queued = filter is_queued ds in
+      good_append Good first (series (map (deliver env) queued) c) b
       (facts.count b, (facts.at_part (whose s) (deeds.Subscribe (subscription number s w)) (after (Count number) b) refl, tt))
-      (good_series Good (map (deliver env) (filter is_queued ds)) (good_acts Good (deliver env) (good_deliver env) (filter is_queued ds)) c)
+      (good_deliveries env queued c (are_made_stay queued first b (tt, (tt, tt)) (each_filter (λ d. IsMade d.copy b.records) is_queued ds made)))
 
-  good_granted_by : (valid has_room : Bool) (env : Env) (s : Session) (w : Wish) (ds : List Delivery) (b : Broker)
+  good_granted_by : (valid has_room : Bool) (env : Env) (s : Session) (w : Wish) (ds : List Delivery) (b : Broker) → AreMade ds b.records
       → AreGood Good (granted_by valid has_room env (next_number b.records) s w ds b).deeds b
-  good_granted_by false has_room env s w ds b = tt
-  good_granted_by true false env s w ds b = tt
-  good_granted_by true true env s w ds b = good_grants env s w ds b
+  good_granted_by false has_room env s w ds b made = tt
+  good_granted_by true false env s w ds b made = tt
+  good_granted_by true true env s w ds b made = good_grants env s w ds b made
 
   good_granted_to : (env : Env) (w : Option Wish) (b : Broker) (s : Option Session) → AreGood Good (granted_to env w b s).deeds b
   good_granted_to env w b None = tt
   good_granted_to env None b (Some s) = tt
-  good_granted_to env (Some w) b (Some s) = good_granted_by _ _ env s w (brought b.now (next_number b.records) s w b.records.retained) b
+  good_granted_to env (Some w) b (Some s) =
+      let number = next_number b.records in
+      good_granted_by _ _ env s w (brought b.now number s w b.records.retained) b (brought_made b.now number s w b.records)
 
   pub good_all_granted : (env : Env) (birth : ℕ) (identifier : Option ℕ) (asked : List Asked) (b : Broker)
       → AreGood Good (all_granted env birth identifier asked b).deeds b
@@ -464,11 +398,11 @@ module _ (Good : Deed → Broker → Type 0) (facts : Facts Good) where
   good_on_unsubscribe line s p b = good_unsubscribe_by (is_open p.identifier s.inbound) line s p b
 
   -- tick
-  abbrev GoodOption : Option Act → Type 0
+  abbrev pub GoodOption : Option Act → Type 0
   GoodOption None = ⊤
   GoodOption (Some act) = GoodAct Good act
 
-  abbrev GoodOptions : List (Option Act) → Type 0
+  abbrev pub GoodOptions : List (Option Act) → Type 0
   GoodOptions [] = ⊤
   GoodOptions (o ∷ os) = GoodOption o × GoodOptions os
 
@@ -481,7 +415,7 @@ module _ (Good : Deed → Broker → Type 0) (facts : Facts Good) where
   good_option f h None = tt
   good_option f h (Some x) = h x
 
-  good_on_tick : (o : Option Act) → GoodOption o → GoodAct Good (on_tick o)
+  pub good_on_tick : (o : Option Act) → GoodOption o → GoodAct Good (on_tick o)
   good_on_tick None q b = tt
   good_on_tick (Some act) q b = q b
 
@@ -492,7 +426,7 @@ module _ (Good : Deed → Broker → Type 0) (facts : Facts Good) where
   good_lapse : (now : ℕ) (s : Session) → GoodAct Good (always (lapse_deeds now s))
   good_lapse now s b = good_flat Good (leave_deeds s) (good_leave s) (lapses now s) b
 
-  good_due : (env : Env) (b : Broker) → GoodOption (due env b)
+  pub good_due : (env : Env) (b : Broker) → GoodOption (due env b)
   good_due env b = good_first
       (option_map (λ l. silence env l.session l) (find (λ l. is_silent b.now l.session l) b.lines)
       ∷ option_map (publish_will env) (find (has_due_will b.now) b.records.sessions)
@@ -516,35 +450,78 @@ module _ (Good : Deed → Broker → Type 0) (facts : Facts Good) where
         ),
       )
 
-  -- ---- a call
-
-  good_next : (birth : ℕ) (env : Env) (l : Line) (packet : Packet) (s : Session) (b : Broker)
-      → session_at birth b.records ≡ Some s → AreGood Good (next_packet env l packet s b) b
-  good_next birth env l (Publish p) s b e = good_on_publish birth env l s p b e
-  good_next birth env l (Puback a) s b e = good_answered (rules.puback a.identifier a.reason.0 (queue_on l.went s)) env l s b
-  good_next birth env l (Pubrec a) s b e = good_answered (rules.pubrec a.identifier a.reason.0 (queue_on l.went s)) env l s b
-  good_next birth env l (Pubrel a) s b e = good_on_pubrel l s a.identifier b
-  good_next birth env l (Pubcomp a) s b e = good_answered (rules.pubcomp a.identifier (queue_on l.went s)) env l s b
-  good_next birth env l (Subscribe p) s b e = good_on_subscribe env l.number s p b
-  good_next birth env l (Unsubscribe p) s b e = good_on_unsubscribe l.number s p b
-  good_next birth env l Pingreq s b e = (facts.send l.number Pingresp b, tt)
-  good_next birth env l (Disconnect n) s b e = good_on_disconnect env l s n.reason.0 (number_at SessionExpiryInterval n.properties) b
-  good_next birth env l packet s b e = good_drop env 0x82 l b
-
-  good_first_packet : (env : Env) (l : Line) (packet : Packet) → GoodAct Good (first_packet env l packet)
+  -- the first packet of a line, and its faults
+  pub good_first_packet : (env : Env) (l : Line) (packet : Packet) → GoodAct Good (first_packet env l packet)
   good_first_packet env l (Connect c) b = good_connect env l c b
   good_first_packet env l packet b = good_close env true l b
 
-  good_on_packet : (env : Env) (l : Line) (packet : Packet) (birth : Option ℕ) → GoodAct Good (on_packet env l packet birth)
-  good_on_packet env l packet None b = good_first_packet env l packet b
-  good_on_packet env l packet (Some birth) b =
-      good_with_session Good (session_at birth b.records) (next_packet env l packet) b (λ s e. good_next birth env l packet s b e)
-
-  good_on_fault : (env : Env) (l : Line) (is_connect : Bool) (code : ℕ) (birth : Option ℕ) → GoodAct Good (on_fault env l is_connect code birth)
+  pub good_on_fault : (env : Env) (l : Line) (is_connect : Bool) (code : ℕ) (birth : Option ℕ) → GoodAct Good (on_fault env l is_connect code birth)
   good_on_fault env l true code None b =
       good_series Good (always (Send l.number (connack false code []) ∷ []) ∷ close env true l ∷ []) ((λ c. (facts.send l.number (connack false code []) c, tt)), (good_close env true l, tt)) b
   good_on_fault env l false code None b = good_close env true l b
   good_on_fault env l is_connect code (Some birth) b = good_drop env (late_code code) l b
+
+  -- all deeds of an opening are good
+  good_close_if : (t : Bool) (env : Env) (s : Session) → GoodAct Good (close_if t env s)
+  good_close_if false env s b = tt
+  good_close_if true env s b =
+      good_series Good (always (At (whose s) (Close b.now) ∷ []) ∷ settle env s.birth ∷ []) (good_part (whose s) (Close b.now) refl, (good_settle env s.birth, tt)) b
+
+  pub good_opening : (env : Env) → GoodAct Good (opening env)
+  good_opening env b =
+      good_series Good (map (λ s. close_if (is_connected s) env s) b.records.sessions)
+      (good_acts Good (λ s. close_if (is_connected s) env s) (λ s. good_close_if (is_connected s) env s) b.records.sessions) b
+
+-- ---- turns of a queue, and with them each call
+
+abbrev pub MarkFact : (Deed → Broker → Type 0) → Type 0
+MarkFact Good = (who : Whose) (place : ℕ) (phase : Phase) (b : Broker) → Good (At who (Mark place phase)) b
+
+module _ (Good : Deed → Broker → Type 0) (facts : Facts Good) (mark : MarkFact Good) where
+  pub good_turn : (now line : ℕ) (s : Session) (t : Turn) (b : Broker) → AreGood Good (turn_deeds now line s t) b
+  good_turn now line s (turns.Send place id) b =
+      good_of_entry Good (row_at entry_place place s.queue) (λ e. At (whose s) (Mark place (Sent id)) ∷ On line (Went place) ∷ Send line (publish_of now false id e.copy) ∷ []) b
+      (λ e. (mark (whose s) place (Sent id) b, (facts.on_line line (Went place) _, (facts.send line (publish_of now false id e.copy) _, tt))))
+  good_turn now line s (turns.Resend place id) b =
+      good_of_entry Good (row_at entry_place place s.queue) (λ e. On line (Went place) ∷ Send line (publish_of now true id e.copy) ∷ []) b
+      (λ e. (facts.on_line line (Went place) b, (facts.send line (publish_of now true id e.copy) _, tt)))
+  good_turn now line s (turns.Release place id order) b = (mark (whose s) place (ReleasedPhase id order) b, (facts.send line (pubrel id success) _, tt))
+  good_turn now line s (turns.Outgrow place id order) b = (mark (whose s) place (Oversize id order) b, (facts.send line (pubrel id success) _, tt))
+  good_turn now line s (turns.Repeat id) b = (facts.send line (pubrel id success) b, tt)
+  good_turn now line s (turns.Unknown id) b = (facts.send line (pubrel id identifier_not_found) b, tt)
+  good_turn now line s (turns.Leave place ending) b = good_leave Good facts s (turns.Leave place ending) b
+
+  pub good_turns : (now line : ℕ) (s : Session) (ts : List Turn) (b : Broker) → AreGood Good (all_turn_deeds now line s ts) b
+  good_turns now line s ts b = good_flat Good (turn_deeds now line s) (good_turn now line s) ts b
+
+  good_turned : (l : Line) (s : Session) (now : ℕ) (t : Option Turn) (b : Broker) → AreGood Good (turned l s now t) b
+  good_turned l s now None b = tt
+  good_turned l s now (Some t) b = good_turn now l.number s t b
+
+  pub good_answered : (a : Answer) (env : Env) (l : Line) (s : Session) → GoodAct Good (answered a env l s)
+  good_answered (Ok t) env l s b = good_turned l s b.now t b
+  good_answered (Err fault) env l s b = good_drop Good facts env 0x82 l b
+
+  pub good_pump : (l : Line) (now : ℕ) (s : Session) (b : Broker) → AreGood Good (pump_deeds l now s) b
+  good_pump l now s b = good_turns now l.number s (pump_turns l now s) b
+
+  good_next : (birth : ℕ) (env : Env) (l : Line) (packet : Packet) (s : Session) (b : Broker)
+      → session_at birth b.records ≡ Some s → AreGood Good (next_packet env l packet s b) b
+  good_next birth env l (Publish p) s b e = good_on_publish Good facts birth env l s p b e
+  good_next birth env l (Puback a) s b e = good_answered (rules.puback a.identifier a.reason.0 (queue_on l.went s)) env l s b
+  good_next birth env l (Pubrec a) s b e = good_answered (rules.pubrec a.identifier a.reason.0 (queue_on l.went s)) env l s b
+  good_next birth env l (Pubrel a) s b e = good_on_pubrel Good facts l s a.identifier b
+  good_next birth env l (Pubcomp a) s b e = good_answered (rules.pubcomp a.identifier (queue_on l.went s)) env l s b
+  good_next birth env l (Subscribe p) s b e = good_on_subscribe Good facts env l.number s p b
+  good_next birth env l (Unsubscribe p) s b e = good_on_unsubscribe Good facts l.number s p b
+  good_next birth env l Pingreq s b e = (facts.send l.number Pingresp b, tt)
+  good_next birth env l (Disconnect n) s b e = good_on_disconnect Good facts env l s n.reason.0 (number_at SessionExpiryInterval n.properties) b
+  good_next birth env l packet s b e = good_drop Good facts env 0x82 l b
+
+  good_on_packet : (env : Env) (l : Line) (packet : Packet) (birth : Option ℕ) → GoodAct Good (on_packet env l packet birth)
+  good_on_packet env l packet None b = good_first_packet Good facts env l packet b
+  good_on_packet env l packet (Some birth) b =
+      good_with_session Good (session_at birth b.records) (next_packet env l packet) b (λ s e. good_next birth env l packet s b e)
 
   good_on_pump : (l : Line) (birth : Option ℕ) → GoodAct Good (on_pump l birth)
   good_on_pump l None b = tt
@@ -557,18 +534,7 @@ module _ (Good : Deed → Broker → Type 0) (facts : Facts Good) where
       good_with_line Good (line_at n b) (λ l. series (always (On n Hear ∷ []) ∷ on_packet env l packet l.session ∷ [])) b
       (λ l e. good_series Good (always (On n Hear ∷ []) ∷ on_packet env l packet l.session ∷ []) ((λ c. (facts.on_line n Hear c, tt)), (good_on_packet env l packet l.session, tt)) b)
   good_deeds env (BadInput n is_connect code) b =
-      good_with_line Good (line_at n b) (λ l. on_fault env l is_connect code l.session) b (λ l e. good_on_fault env l is_connect code l.session b)
-  good_deeds env (Lost n) b = good_with_line Good (line_at n b) (close env true) b (λ l e. good_close env true l b)
+      good_with_line Good (line_at n b) (λ l. on_fault env l is_connect code l.session) b (λ l e. good_on_fault Good facts env l is_connect code l.session b)
+  good_deeds env (Lost n) b = good_with_line Good (line_at n b) (close env true) b (λ l e. good_close Good facts env true l b)
   good_deeds env (Pump n) b = good_with_line Good (line_at n b) (λ l. on_pump l l.session) b (λ l e. good_on_pump l l.session b)
-  good_deeds env Tick b = good_on_tick (due env b) (good_due env b) b
-
-  -- and so are those of an opening
-  good_close_if : (t : Bool) (env : Env) (s : Session) → GoodAct Good (close_if t env s)
-  good_close_if false env s b = tt
-  good_close_if true env s b =
-      good_series Good (always (At (whose s) (Close b.now) ∷ []) ∷ settle env s.birth ∷ []) (good_part (whose s) (Close b.now) refl, (good_settle env s.birth, tt)) b
-
-  pub good_opening : (env : Env) → GoodAct Good (opening env)
-  good_opening env b =
-      good_series Good (map (λ s. close_if (is_connected s) env s) b.records.sessions)
-      (good_acts Good (λ s. close_if (is_connected s) env s) (λ s. good_close_if (is_connected s) env s) b.records.sessions) b
+  good_deeds env Tick b = good_on_tick Good facts (due env b) (good_due Good facts env b) b

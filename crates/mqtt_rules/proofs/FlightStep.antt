@@ -35,8 +35,7 @@ use Rattle.mqtt_rules.specs.Closing.{close, drop_line}
 use Rattle.mqtt_rules.specs.Subscribe.{on_subscribe, on_unsubscribe}
 use Rattle.mqtt_rules.specs.Tick.{due}
 use Rattle.mqtt_rules.specs.Flight.{HasDistinctIdentifiers}
-use Rattle.mqtt_rules.proofs.Acts.{AreGood, after_append, good_cond, good_with_line}
-use Rattle.mqtt_rules.proofs.FlightActs.{PlainFacts, is_plain, good_drop, good_close, good_on_publish, good_on_pubrel, good_on_subscribe, good_on_unsubscribe, good_on_disconnect, good_first_packet, good_on_fault, good_on_tick, good_due, good_opening}
+use Rattle.mqtt_rules.proofs.Acts.{AreGood, Facts, is_plain, after_append, good_cond, good_with_line, good_drop, good_close, good_on_publish, good_on_pubrel, good_on_subscribe, good_on_unsubscribe, good_on_disconnect, good_first_packet, good_on_fault, good_on_tick, good_due, good_opening}
 use Rattle.mqtt_rules.proofs.FlightRows.{found_key, found_behind}
 use Rattle.mqtt_rules.proofs.FlightQueue.{flight-kept}
 use Rattle.mqtt_rules.proofs.FlightRecords.{Unmarked, Sits, flight_of, sits-marked, begin_keeps, remove_keeps, parts_keep}
@@ -60,18 +59,19 @@ unmarked (Enter copy) p = tt
 unmarked (Mark place phase) p = absurd cc
 unmarked (Leave e ending) p = tt
 
-keeping : PlainFacts Keeps
+keeping : Facts Keeps
 keeping = record {
   accept = λ origin m b h. h;
   begin_row = λ client c b h. begin_keeps _ _ b.records h;
   name = λ b h. h;
   count = λ b h. h;
   at_part = λ who part b p h. parts_keep part (session_at who.birth b.records) b.records (unmarked part p) h;
-  open_id = λ birth s id env m ds b there new h.
+  open_id = λ birth s id env m ds b there new is h.
       let r = (after_all (publish env FromClient m ds b) b).records in
       parts_keep (Open id) (session_at s.birth r) r tt h;
   finish = λ who b h. remove_keeps who.birth b.records h;
-  keep = λ kept b h. h;
+  keep = λ kept b is h. h;
+  enter = λ who copy b made h. parts_keep (Enter copy) (session_at who.birth b.records) b.records tt h;
   forget = λ place b h. h;
   refuse_will = λ who b h. h;
   link = λ b h. h;

@@ -1,5 +1,5 @@
 -- Groups of shared subscriptions in the broker's step: who gets a message to a/b (MQTT 5.0, 3.3.4, 4.8.2).
-use Rattle.std.proofs.Common.{◌≡◌, ℕ, Bool, true, false, cond, List, [], ◌∷◌, ◌++◌, refl}
+use Rattle.std.proofs.Common.{◌≡◌, ℕ, Bool, true, false, cond, List, [], ◌∷◌, ◌++◌, refl, Option, Some, None}
 use Rattle.std.specs.Prelude.{codes, nat_eq}
 use Rattle.mqtt_base.specs.Values.{varint}
 use Rattle.mqtt_base.specs.declared.session.Qos.{Qos}
@@ -11,10 +11,14 @@ use Rattle.mqtt_codec.specs.declared.publish.Delivery.TheVariants as delivery
 use Rattle.mqtt_codec.specs.declared.packet.Packet.{Packet}
 use Rattle.mqtt_codec.specs.declared.packet.Packet.TheVariants.{Publish}
 use Rattle.mqtt_flow.specs.declared.entry.Full.TheVariants.{Refuse}
+use Rattle.mqtt_routes.specs.Intended.{Publication, Copy, published, members as members_of, groups}
+use Rattle.mqtt_routes.specs.Acceptance.{Routed, routed}
+use Rattle.mqtt_rules.specs.declared.Limits.{Limits}
 use Rattle.mqtt_rules.specs.declared.Report.TheVariants.{Accepted, Entered}
 use Rattle.mqtt_rules.specs.Packets.{identified, pubrec}
 use Rattle.mqtt_rules.specs.State.{Broker}
-use Rattle.mqtt_rules.specs.Step.{Input, Lost, Pump, Outcome}
+use Rattle.mqtt_rules.specs.Routing.{subscribers, answers}
+use Rattle.mqtt_rules.specs.Step.{Input, Lost, Pump, Outcome, env_of}
 use Rattle.mqtt_rules.proofs.Play.{usual, blank, first, Event, at, runs, tells, asks, out, hello, in_line, wants_with, wish, options, wants, gives_up, topic, message, sends, copy_out, direct, tells_by, runs_by, Keeps, nothing_written, narrow, waiting, queued, low, shared, in_group}
 
 -- ---- the sessions: s1 has two filters that match, s2 one of QoS 0, s3 and s4 are members of a group; p publishes
@@ -105,7 +109,8 @@ full_third b = queued 3 (waiting 2 1) 2 b
 abbrev full_both : Broker → Broker
 full_both b = queued 4 (waiting 2 1) 2 (full_third b)
 
-a_member_without_room_is_passed_over : tells_by (narrow Refuse 2) first (at 0 (Input 5 (sends 10))) (full_third there) ≡ goes_to 3 4 (codes "s4")
+a_member_without_room_is_passed_over : tells_by (narrow Refuse 2) first (at 0 (Input 5 (sends 10))) (full_third there)
+    ≡ goes_to 3 4 (codes "s4")
 unfolding varint
 a_member_without_room_is_passed_over = refl
 
@@ -113,7 +118,8 @@ and_by_any_choice : tells_by (narrow Refuse 2) (nth 1) (at 0 (Input 5 (sends 10)
 unfolding varint
 and_by_any_choice = refl
 
-no_member_has_room : tells_by (narrow Refuse 2) first (at 0 (Input 5 (sends 10))) (full_both there) ≡ out ((5, pubrec 10 0x97) ∷ []) [] [] false
+no_member_has_room : tells_by (narrow Refuse 2) first (at 0 (Input 5 (sends 10))) (full_both there)
+    ≡ out ((5, pubrec 10 0x97) ∷ []) [] [] false
 unfolding varint
 no_member_has_room = refl
 
@@ -123,12 +129,14 @@ no_member_has_room_and_nothing_changed = nothing_written (narrow Refuse 2) (at 0
 
 -- s5, of QoS 0, takes the place of s4
 abbrev with_fifth : List Event
-with_fifth = members AtLeastOnce ++ at 0 (Input 4 (gives_up 2 (shared ∷ []))) ∷ in_line 6 (hello (codes "s5")) ++ at 0 (Input 6 (wants 1 shared AtMostOnce)) ∷ []
+with_fifth = members AtLeastOnce ++ at 0 (Input 4 (gives_up 2 (shared ∷ []))) ∷ in_line 6 (hello (codes "s5"))
+    ++ at 0 (Input 6 (wants 1 shared AtMostOnce)) ∷ []
 
 abbrev fifth_away : Broker
 fifth_away = runs (with_fifth ++ at 0 (Lost 6) ∷ []) blank
 
-one_member_lacks_room_and_one_is_away : tells_by (narrow Refuse 2) first (at 0 (Input 5 (sends 10))) (full_third fifth_away) ≡ out ((5, pubrec 10 0x97) ∷ []) [] [] false
+one_member_lacks_room_and_one_is_away : tells_by (narrow Refuse 2) first (at 0 (Input 5 (sends 10))) (full_third fifth_away)
+    ≡ out ((5, pubrec 10 0x97) ∷ []) [] [] false
 unfolding varint
 one_member_lacks_room_and_one_is_away = refl
 
@@ -143,9 +151,11 @@ a_member_of_lowest_service_needs_no_room = refl
 
 -- a member's direct copy takes the room first
 abbrev also_direct : Broker
-also_direct = runs (in_line 1 (hello (codes "s1")) ++ at 0 (Input 1 (wants 1 topic ExactlyOnce)) ∷ at 0 (Input 1 (wants 2 shared ExactlyOnce)) ∷ in_line 2 (hello (codes "p"))) blank
+also_direct = runs (in_line 1 (hello (codes "s1")) ++ at 0 (Input 1 (wants 1 topic ExactlyOnce))
+    ∷ at 0 (Input 1 (wants 2 shared ExactlyOnce)) ∷ in_line 2 (hello (codes "p"))) blank
 
-the_direct_copy_takes_the_room : tells_by (narrow Refuse 1) first (at 0 (Input 2 (sends 10))) also_direct ≡ out ((2, pubrec 10 0x97) ∷ []) [] [] false
+the_direct_copy_takes_the_room : tells_by (narrow Refuse 1) first (at 0 (Input 2 (sends 10))) also_direct
+    ≡ out ((2, pubrec 10 0x97) ∷ []) [] [] false
 unfolding varint
 the_direct_copy_takes_the_room = refl
 
@@ -195,18 +205,66 @@ a_choice_for_each_group = refl
 
 -- the first group has a new member only, so the other one is older
 abbrev younger_first : List Event
-younger_first = two_groups ++ at 0 (Input 1 (gives_up 3 (shared ∷ []))) ∷ at 0 (Input 2 (gives_up 3 (shared ∷ []))) ∷ at 0 (Input 2 (wants 4 shared ExactlyOnce)) ∷ []
+younger_first = two_groups ++ at 0 (Input 1 (gives_up 3 (shared ∷ []))) ∷ at 0 (Input 2 (gives_up 3 (shared ∷ [])))
+    ∷ at 0 (Input 2 (wants 4 shared ExactlyOnce)) ∷ []
 
 groups_come_by_their_oldest_member : tells (at 0 (Input 3 (sends 10))) (runs younger_first blank)
     ≡ out ((3, pubrec 10 0) ∷ []) [] (Accepted 1 ∷ Entered (in_other 1) (codes "m1") ∷ Entered (in_group 1 2) (codes "m2") ∷ []) false
 unfolding varint
 groups_come_by_their_oldest_member = refl
 
+-- as the table of subscriptions has them
+abbrev to_topic : Publication
+to_topic = published (codes "p") topic 2 false
+
+abbrev groups_in : List Event → List (List ℕ)
+groups_in es = groups (members_of to_topic (subscribers (runs es blank).records))
+
+the_groups_of_the_table : groups_in two_groups ≡ shared ∷ other ∷ []
+unfolding varint
+the_groups_of_the_table = refl
+
+the_older_group_comes_first : groups_in younger_first ≡ other ∷ shared ∷ []
+unfolding varint
+the_older_group_comes_first = refl
+
+-- and as it is routed there
+abbrev goes_where : Limits → ℕ → Broker → Option Routed
+goes_where limits i b = routed (answers (env_of limits (nth i) b) b.records) to_topic (i ∷ []) (subscribers b.records)
+
+abbrev direct_copies : List Copy
+direct_copies = record { birth = 1; qos = 2; retain = false; identifiers = 1 ∷ 2 ∷ [] }
+    ∷ record { birth = 2; qos = 0; retain = false; identifiers = [] } ∷ []
+
+abbrev with_member : ℕ → ℕ → Option Routed
+with_member birth qos = Some (record {
+  direct = direct_copies;
+  served = record { group = codes "g/a/b"; copy = Some (record { birth = birth; qos = qos; retain = false; identifiers = [] }) } ∷ [];
+})
+
+the_first_member_is_routed_to : goes_where usual 0 there ≡ with_member 3 2
+unfolding varint
+the_first_member_is_routed_to = refl
+
+or_the_second : goes_where usual 1 there ≡ with_member 4 1
+unfolding varint
+or_the_second = refl
+
+a_full_member_is_not : goes_where (narrow Refuse 2) 0 (full_third there) ≡ with_member 4 1
+unfolding varint
+a_full_member_is_not = refl
+
+full_members_are_no_route : goes_where (narrow Refuse 2) 0 (full_both there) ≡ None
+unfolding varint
+full_members_are_no_route = refl
+
 -- room is counted as the groups are served
 abbrev one_member : Broker
-one_member = runs (in_line 1 (hello (codes "m1")) ++ at 0 (Input 1 (wants 1 shared ExactlyOnce)) ∷ at 0 (Input 1 (wants 2 other ExactlyOnce)) ∷ in_line 2 (hello (codes "p"))) blank
+one_member = runs (in_line 1 (hello (codes "m1")) ++ at 0 (Input 1 (wants 1 shared ExactlyOnce))
+    ∷ at 0 (Input 1 (wants 2 other ExactlyOnce)) ∷ in_line 2 (hello (codes "p"))) blank
 
-the_first_group_takes_the_room : tells_by (narrow Refuse 1) first (at 0 (Input 2 (sends 10))) one_member ≡ out ((2, pubrec 10 0x97) ∷ []) [] [] false
+the_first_group_takes_the_room : tells_by (narrow Refuse 1) first (at 0 (Input 2 (sends 10))) one_member
+    ≡ out ((2, pubrec 10 0x97) ∷ []) [] [] false
 unfolding varint
 the_first_group_takes_the_room = refl
 
@@ -216,7 +274,14 @@ abbrev retained_message : Packet
 retained_message = Publish (record (message 10) { retain = true })
 
 abbrev its_copy : Bool → Packet
-its_copy retain = Publish (record { delivery = delivery.ExactlyOnce false 1; retain = retain; topic = topic; properties = identified 7 ∷ []; payload = (message 10).payload })
+its_copy retain = Publish (record {
+  delivery = delivery.ExactlyOnce false 1;
+  retain = retain;
+  topic = topic;
+  properties = identified 7
+      ∷ [];
+  payload = (message 10).payload;
+})
 
 abbrev as_published : Bool → List Event
 as_published asked =
@@ -236,9 +301,11 @@ a_group_copy_passes_retain_on = refl
 -- ---- turns: a member that subscribes anew keeps its place, one that gave up comes last; no copy goes to another member
 
 abbrev pair : List Event
-pair = in_line 1 (hello (codes "m1")) ++ at 0 (Input 1 (wants 1 shared ExactlyOnce)) ∷ in_line 2 (hello (codes "m2")) ++ at 0 (Input 2 (wants 1 shared ExactlyOnce)) ∷ in_line 3 (hello (codes "p"))
+pair = in_line 1 (hello (codes "m1")) ++ at 0 (Input 1 (wants 1 shared ExactlyOnce)) ∷ in_line 2 (hello (codes "m2"))
+    ++ at 0 (Input 2 (wants 1 shared ExactlyOnce)) ∷ in_line 3 (hello (codes "p"))
 
-a_member_that_gave_up_comes_last : asks (pair ++ at 0 (Input 1 (gives_up 2 (shared ∷ []))) ∷ at 0 (Input 1 (wants 3 shared ExactlyOnce)) ∷ []) (at 0 (Input 3 (sends 10)))
+a_member_that_gave_up_comes_last : asks (pair ++ at 0 (Input 1 (gives_up 2 (shared ∷ [])))
+    ∷ at 0 (Input 1 (wants 3 shared ExactlyOnce)) ∷ []) (at 0 (Input 3 (sends 10)))
     ≡ out ((3, pubrec 10 0) ∷ []) [] (Accepted 1 ∷ Entered (in_group 1 2) (codes "m2") ∷ []) false
 unfolding varint
 a_member_that_gave_up_comes_last = refl

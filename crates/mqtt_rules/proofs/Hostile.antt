@@ -8,16 +8,18 @@ use Rattle.mqtt_props.specs.Properties.{U32, Text}
 use Rattle.mqtt_codec.specs.declared.connect.Will.{Will}
 use Rattle.mqtt_codec.specs.declared.publish.Delivery.TheVariants as delivery
 use Rattle.mqtt_codec.specs.declared.packet.Packet.{Packet}
-use Rattle.mqtt_codec.specs.declared.packet.Packet.TheVariants.{Connect, Publish, Pingreq, Pingresp, Auth}
+use Rattle.mqtt_codec.specs.declared.packet.Packet.TheVariants.{Publish, Pingreq, Pingresp, Auth}
+use Rattle.mqtt_flow.specs.declared.entry.Full.TheVariants.{Refuse}
 use Rattle.mqtt_records.specs.declared.message.Retained.{Retained}
 use Rattle.mqtt_records.specs.declared.subscription.Subscription.{Subscription}
 use Rattle.mqtt_records.specs.declared.session.Session.{Session}
 use Rattle.mqtt_records.specs.Records.{nothing}
+use Rattle.mqtt_rules.specs.declared.Limits.{Limits}
 use Rattle.mqtt_rules.specs.declared.Report.TheVariants.{Accepted, Entered}
 use Rattle.mqtt_rules.specs.Packets.{property, reason, connack, puback, pubrel, suback, unsuback, disconnect}
 use Rattle.mqtt_rules.specs.State.{Broker}
 use Rattle.mqtt_rules.specs.Step.{Call, NewLine, Input, BadInput, Lost, Pump, Outcome}
-use Rattle.mqtt_rules.proofs.Play.{usual, blank, Event, at, step, runs, tells, asks, out, hello, hello_with, never_expires, welcome, in_line, wants_with, wish, options, wants, gives_up, topic, hi, sends, direct, Keeps, nothing_written, away, letters, keeps}
+use Rattle.mqtt_rules.proofs.Play.{usual, blank, Event, at, step, runs, tells, tells_with, asks, out, hello, hello_with, never_expires, welcome, in_line, wants_with, wish, options, wants, gives_up, topic, hi, sends, direct, Keeps, nothing_written, clean, away, letters, keeps}
 
 -- ---- the answers
 
@@ -42,7 +44,8 @@ linked = at 0 NewLine ∷ []
 abbrev first_fault : ℕ → Outcome
 first_fault code = asks linked (at 0 (BadInput 1 true code))
 
-a_fault_in_connect_is_answered : map first_fault (0x81 ∷ 0x82 ∷ 0x84 ∷ 0x95 ∷ []) ≡ turned_away 0x81 ∷ turned_away 0x82 ∷ turned_away 0x84 ∷ turned_away 0x95 ∷ []
+a_fault_in_connect_is_answered : map first_fault (0x81 ∷ 0x82 ∷ 0x84 ∷ 0x95 ∷ [])
+    ≡ turned_away 0x81 ∷ turned_away 0x82 ∷ turned_away 0x84 ∷ turned_away 0x95 ∷ []
 unfolding varint
 a_fault_in_connect_is_answered = refl
 
@@ -53,7 +56,10 @@ another_fault_is_not = refl
 abbrev first_packet : Packet → Outcome
 first_packet packet = asks linked (at 0 (Input 1 packet))
 
-another_packet_is_not : map first_packet (disconnect 0 ∷ Pingreq ∷ sends 10 ∷ wants 1 topic ExactlyOnce ∷ pubrel 7 0 ∷ Auth (record { reason = reason 0; properties = [] }) ∷ [])
+abbrev auth : Packet
+auth = Auth (record { reason = reason 0x18; properties = [] })
+
+another_packet_is_not : map first_packet (disconnect 0 ∷ Pingreq ∷ sends 10 ∷ wants 1 topic ExactlyOnce ∷ pubrel 7 0 ∷ auth ∷ [])
     ≡ replicate 6 hung_up
 unfolding varint
 another_packet_is_not = refl
@@ -61,15 +67,16 @@ another_packet_is_not = refl
 its_fault_stores_nothing : Keeps usual (at 0 (BadInput 1 true 0x81)) (runs linked blank)
 its_fault_stores_nothing = nothing_written usual (at 0 (BadInput 1 true 0x81)) (runs linked blank) refl
 
-its_packet_stores_nothing : Keeps usual (at 0 (Input 1 (disconnect 0))) (runs linked blank)
-its_packet_stores_nothing = nothing_written usual (at 0 (Input 1 (disconnect 0))) (runs linked blank) refl
+its_packet_stores_nothing : Keeps usual (at 5000 (Input 1 (disconnect 0))) (runs linked blank)
+its_packet_stores_nothing = nothing_written usual (at 5000 (Input 1 (disconnect 0))) (runs linked blank) refl
 
 -- ---- refusals of CONNECT
 
 abbrev will : Will
 will = record { qos = ExactlyOnce; retain = false; properties = []; topic = codes "a/+"; payload = hi }
 
-an_authentication_method : first_packet (hello_with (codes "r1") (property AuthenticationMethod (Text (codes "x")) ∷ []) None) ≡ turned_away 0x8c
+an_authentication_method : first_packet (hello_with (codes "r1") (property AuthenticationMethod (Text (codes "x")) ∷ []) None)
+    ≡ turned_away 0x8c
 unfolding varint
 an_authentication_method = refl
 
@@ -81,7 +88,8 @@ too_small_for_an_answer : first_packet (hello_with (codes "r1") (property Maximu
 unfolding varint
 too_small_for_an_answer = refl
 
-sixty_four_bytes_suffice : first_packet (hello_with (codes "r1") (never_expires ∷ property MaximumPacketSize (U32 64) ∷ []) None) ≡ out ((1, welcome false) ∷ []) [] [] false
+sixty_four_bytes_suffice : first_packet (hello_with (codes "r1") (never_expires ∷ property MaximumPacketSize (U32 64) ∷ []) None)
+    ≡ out ((1, welcome false) ∷ []) [] [] false
 unfolding varint
 sixty_four_bytes_suffice = refl
 
@@ -104,7 +112,9 @@ a_will_to_a_filter : first_packet (hello_with (codes "r1") (never_expires ∷ []
 unfolding varint
 a_will_to_a_filter = refl
 
-the_first_refusal_counts : first_packet (hello_with (codes "auto-9") (property AuthenticationMethod (Text (codes "x")) ∷ property MaximumPacketSize (U32 63) ∷ []) (Some will)) ≡ turned_away 0x8c
+the_first_refusal_counts : first_packet (hello_with (codes "auto-9")
+    (property AuthenticationMethod (Text (codes "x")) ∷ property MaximumPacketSize (U32 63) ∷ []) (Some will))
+    ≡ turned_away 0x8c
 unfolding varint
 the_first_refusal_counts = refl
 
@@ -117,6 +127,12 @@ a_later_fault_is_answered : map later_fault (0x81 ∷ 0x82 ∷ 0x95 ∷ []) ≡ 
 unfolding varint
 a_later_fault_is_answered = refl
 
+-- its session is closed, and nothing else is stored
+a_fault_closes_its_session : (step (at 7 (BadInput 1 false 0x81)) (runs (in_line 1 (hello (codes "r1"))) blank)).records
+    ≡ record nothing { births = 1; moment = 7; sessions = record (away 1 (codes "r1")) { closed = Some 7 } ∷ [] }
+unfolding varint
+a_fault_closes_its_session = refl
+
 another_version_is_a_protocol_error : asks (in_line 1 (hello (codes "r1"))) (at 0 (BadInput 1 true 0x84)) ≡ told_off 0x82
 unfolding varint
 another_version_is_a_protocol_error = refl
@@ -126,7 +142,7 @@ abbrev later_packet : Packet → Outcome
 later_packet packet = asks (in_line 1 (hello (codes "r1"))) (at 0 (Input 1 packet))
 
 a_packet_out_of_place_breaks_the_protocol :
-    map later_packet (hello (codes "r1") ∷ connack false 0 [] ∷ suback 1 (0 ∷ []) ∷ unsuback 1 (0 ∷ []) ∷ Pingresp ∷ Auth (record { reason = reason 0x18; properties = [] }) ∷ [])
+    map later_packet (hello (codes "r1") ∷ connack false 0 [] ∷ suback 1 (0 ∷ []) ∷ unsuback 1 (0 ∷ []) ∷ Pingresp ∷ auth ∷ [])
     ≡ replicate 6 (told_off 0x82)
 unfolding varint
 a_packet_out_of_place_breaks_the_protocol = refl
@@ -145,7 +161,8 @@ mourned =
 abbrev survivors : Broker → List (List ℕ)
 survivors b = map (λ s. s.client) b.records.sessions
 
-a_fault_keeps_the_will : asks mourned (at 0 (BadInput 2 false 0x81)) ≡ out ((2, disconnect 0x81) ∷ []) (2 ∷ []) (Accepted 1 ∷ Entered (direct 1 1) (codes "r1") ∷ []) false
+a_fault_keeps_the_will : asks mourned (at 0 (BadInput 2 false 0x81))
+    ≡ out ((2, disconnect 0x81) ∷ []) (2 ∷ []) (Accepted 1 ∷ Entered (direct 1 1) (codes "r1") ∷ []) false
 unfolding varint
 a_fault_keeps_the_will = refl
 
@@ -157,7 +174,8 @@ and_ends_a_session_of_no_time = refl
 abbrev nowhere : Call → Outcome
 nowhere call = asks (in_line 1 (hello (codes "r1")) ++ at 0 NewLine ∷ at 0 (Lost 2) ∷ []) (at 0 call)
 
-nothing_comes_of_no_line : map nowhere (Input 2 Pingreq ∷ BadInput 2 true 0x81 ∷ Lost 2 ∷ Pump 2 ∷ Input 9 (hello (codes "r1")) ∷ []) ≡ replicate 5 nothing_at_all
+nothing_comes_of_no_line : map nowhere (Input 2 Pingreq ∷ BadInput 2 true 0x81 ∷ Lost 2 ∷ Pump 2 ∷ Input 9 (hello (codes "r1")) ∷ [])
+    ≡ replicate 5 nothing_at_all
 unfolding varint
 nothing_comes_of_no_line = refl
 
@@ -209,9 +227,6 @@ unfolding varint
 one_that_stands_is_resumed = refl
 
 -- the place of a session that Clean Start ends is free again
-abbrev clean : List ℕ → Packet
-clean name = Connect (record { clean_start = true; keep_alive = 0; properties = never_expires ∷ []; client_identifier = name; will = None; user_name = None; password = None })
-
 its_own_place_is_free : tells (at 0 (Input 1 (clean (letters 7)))) (crowd 1000) ≡ out ((1, welcome false) ∷ []) [] [] false
 unfolding varint
 its_own_place_is_free = refl
@@ -221,9 +236,16 @@ abbrev short_lived : List Event
 short_lived = in_line 1 (hello_with (codes "r1") [] None) ++ at 0 NewLine ∷ []
 
 abbrev crowded : Broker
-crowded = let b = runs short_lived blank in record b { records = record b.records { births = 1000; sessions = b.records.sessions ++ crowd_from 999 2 } }
+crowded = let b = runs short_lived blank in record b {
+  records = record b.records {
+    births = 1000;
+    sessions = b.records.sessions
+        ++ crowd_from 999 2;
+  };
+}
 
-the_place_of_one_taken_over_is_free : tells (at 0 (Input 2 (hello (codes "r1")))) crowded ≡ out ((1, disconnect 0x8e) ∷ (2, welcome false) ∷ []) (1 ∷ []) [] false
+the_place_of_one_taken_over_is_free : tells (at 0 (Input 2 (hello (codes "r1")))) crowded
+    ≡ out ((1, disconnect 0x8e) ∷ (2, welcome false) ∷ []) (1 ∷ []) [] false
 unfolding varint
 the_place_of_one_taken_over_is_free = refl
 
@@ -231,7 +253,8 @@ the_place_of_one_taken_over_is_free = refl
 
 abbrev wanted_from : ℕ → ℕ → List Subscription
 wanted_from zero place = []
-wanted_from (suc k) place = record { filter = letters place; place = place; options = options ExactlyOnce; identifier = None } ∷ wanted_from k (suc place)
+wanted_from (suc k) place = record { filter = letters place; place = place; options = options ExactlyOnce; identifier = None }
+    ∷ wanted_from k (suc place)
 
 abbrev with_filters : List Subscription → List Session → List Session
 with_filters subs [] = []
@@ -254,13 +277,15 @@ unfolding varint
 and_nothing_is_stored_of_it = nothing_written usual (at 0 (Input 1 (wants 101 topic AtLeastOnce))) (wanting 100) refl
 
 abbrev some_filters : Packet
-some_filters = wants_with 101 [] (wish (codes "a/#/b") (options ExactlyOnce) ∷ wish topic (options ExactlyOnce) ∷ wish (letters 7) (options AtMostOnce) ∷ [])
+some_filters = wants_with 101 [] (
+    wish (codes "a/#/b") (options ExactlyOnce) ∷ wish topic (options ExactlyOnce) ∷ wish (letters 7) (options AtMostOnce) ∷ [])
 
 each_filter_has_its_code : tells (at 0 (Input 1 some_filters)) (wanting 100) ≡ out ((1, suback 101 (0x8f ∷ 0x97 ∷ 0 ∷ [])) ∷ []) [] [] false
 unfolding varint
 each_filter_has_its_code = refl
 
-one_that_is_given_up_makes_place : tells (at 0 (Input 1 (wants 102 topic AtLeastOnce))) (step (at 0 (Input 1 (gives_up 101 (letters 7 ∷ [])))) (wanting 100))
+one_that_is_given_up_makes_place : tells (at 0 (Input 1 (wants 102 topic AtLeastOnce)))
+    (step (at 0 (Input 1 (gives_up 101 (letters 7 ∷ [])))) (wanting 100))
     ≡ out ((1, suback 102 (1 ∷ [])) ∷ []) [] [] false
 unfolding varint
 one_that_is_given_up_makes_place = refl
@@ -293,7 +318,8 @@ and_nothing_is_retained_of_it : Keeps usual (at 0 (Input 1 (keeps topic 1))) (re
 unfolding varint
 and_nothing_is_retained_of_it = nothing_written usual (at 0 (Input 1 (keeps topic 1))) (retaining 1000) refl
 
-a_topic_that_stands_is_replaced : tells (at 0 (Input 1 (keeps (letters 7) 1))) (retaining 1000) ≡ out ((1, puback 1 0x10) ∷ []) [] (Accepted 1001 ∷ []) false
+a_topic_that_stands_is_replaced : tells (at 0 (Input 1 (keeps (letters 7) 1))) (retaining 1000)
+    ≡ out ((1, puback 1 0x10) ∷ []) [] (Accepted 1001 ∷ []) false
 unfolding varint
 a_topic_that_stands_is_replaced = refl
 
@@ -323,3 +349,26 @@ keeps_low = Publish (record { delivery = delivery.AtMostOnce; retain = true; top
 a_refused_one_of_lowest_service : tells (at 0 (Input 1 keeps_low)) (retaining 1000) ≡ nothing_at_all
 unfolding varint
 a_refused_one_of_lowest_service = refl
+
+-- ---- a table above a smaller limit is full (ours)
+
+abbrev few : Limits
+few = record { full = Refuse; queue = 2; sessions = 2; retained = 2 }
+
+no_session_beside_more_than_the_limit : tells_with few (at 0 (Input 1 (hello (codes "r1")))) (crowd 3) ≡ turned_away 0x97
+unfolding varint
+no_session_beside_more_than_the_limit = refl
+
+those_that_stand_are_resumed : tells_with few (at 0 (Input 1 (hello (letters 3)))) (crowd 3) ≡ out ((1, welcome true) ∷ []) [] [] false
+unfolding varint
+those_that_stand_are_resumed = refl
+
+no_topic_beside_more_than_the_limit : tells_with few (at 0 (Input 1 (keeps topic 1))) (retaining 3)
+    ≡ out ((1, puback 1 0x97) ∷ []) [] [] false
+unfolding varint
+no_topic_beside_more_than_the_limit = refl
+
+those_that_stand_are_replaced : tells_with few (at 0 (Input 1 (keeps (letters 3) 1))) (retaining 3)
+    ≡ out ((1, puback 1 0x10) ∷ []) [] (Accepted 4 ∷ []) false
+unfolding varint
+those_that_stand_are_replaced = refl

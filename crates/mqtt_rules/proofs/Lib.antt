@@ -1,5 +1,7 @@
 pub mod Play
 pub mod Examples
+pub mod Goods
+pub mod Copies
 pub mod StoredLaw
 pub mod Ordered
 pub mod OrderedSteps
@@ -9,7 +11,6 @@ pub mod FlightRows
 pub mod FlightQueue
 pub mod FlightRecords
 pub mod FlightPump
-pub mod FlightActs
 pub mod FlightStep
 pub mod NumberFacts
 pub mod NumberBirths
@@ -25,3 +26,5 @@ pub mod Groups
 pub mod Tables
 pub mod Hostile
 pub mod Own
+pub mod NumberCopies
+pub mod NumberOrder

@@ -7,7 +7,7 @@ use Rattle.mqtt_records.specs.Records.{changed_all}
 use Rattle.mqtt_rules.specs.State.{Broker, session_at}
 use Rattle.mqtt_rules.specs.Deeds.{Part, Resume, Deed, Accept, Begin, Name, Count, At, part_rows, part_rows_of, stored_after, after, after_all}
 use Rattle.mqtt_rules.specs.Numbers.{CountsOn, birth_given, publication_given, grant_given, name_given}
-use Rattle.mqtt_rules.proofs.Acts.{Facts, AreGood}
+use Rattle.mqtt_rules.proofs.Acts.{Facts, MarkFact, AreGood}
 
 -- the counters alone
 pub record Counts : Type 0 where
@@ -58,9 +58,10 @@ next_facts = record {
   name = λ b. refl;
   count = λ b. refl;
   at_part = λ who part b q. tt;
-  open_id = λ birth s id env m ds b e n. tt;
+  enter = λ who copy b made. tt;
+  open_id = λ birth s id env m ds b e n r. tt;
   finish = λ who b. tt;
-  keep = λ kept b. tt;
+  keep = λ kept b e. tt;
   forget = λ place b. tt;
   refuse_will = λ who b. tt;
   link = λ b. tt;
@@ -68,6 +69,9 @@ next_facts = record {
   send = λ line packet b. tt;
   gone = λ line b. tt;
 }
+
+pub next_mark : MarkFact GivesNext
+next_mark who place phase b = tt
 
 -- ---- counting on
 

@@ -13,7 +13,7 @@ use Rattle.mqtt_rules.specs.Deeds.{Deed, after_all, rows_of_all}
 use Rattle.mqtt_rules.specs.Step.{Call, deeds, at_moment, env_of, with_moment, done, stepped, opening, unopened, opened}
 use Rattle.mqtt_rules.specs.Numbers.{CountsOn, CountOn, NoneFell, IsTimed, HasGivenBirths}
 use Rattle.mqtt_rules.proofs.Acts.{AreGood, good_deeds, good_opening}
-use Rattle.mqtt_rules.proofs.NumberFacts.{GivesNext, next_facts, births_count, publications_count, grants_count, names_count, moment_stays, now_stays}
+use Rattle.mqtt_rules.proofs.NumberFacts.{GivesNext, next_facts, next_mark, births_count, publications_count, grants_count, names_count, moment_stays, now_stays}
 use Rattle.mqtt_rules.proofs.NumberBirths.{given_all}
 
 -- ---- numbers that count on
@@ -71,7 +71,7 @@ timed_done ds b h =
 -- ---- steps
 
 step_next : (limits : Limits) (choice : ℕ → List ℕ) (now : ℕ) (call : Call) (b : Broker) → AreGood GivesNext (deeds limits choice now call b) (at_moment now b)
-step_next limits choice now call b = good_deeds GivesNext next_facts (env_of limits choice b) call (at_moment now b)
+step_next limits choice now call b = good_deeds GivesNext next_facts next_mark (env_of limits choice b) call (at_moment now b)
 
 pub step_counts : (limits : Limits) (choice : ℕ → List ℕ) (now : ℕ) (call : Call) (b : Broker) → CountOn (deeds limits choice now call b) b.records (stepped limits choice now call b).records
 step_counts limits choice now call b = count_done (deeds limits choice now call b) (at_moment now b) (step_next limits choice now call b)

@@ -13,14 +13,14 @@ use Rattle.mqtt_props.specs.Properties.{U16, U32}
 use Rattle.mqtt_codec.specs.declared.connect.Will.{Will}
 use Rattle.mqtt_codec.specs.declared.publish.Delivery.TheVariants as delivery
 use Rattle.mqtt_codec.specs.declared.packet.Packet.{Packet}
-use Rattle.mqtt_codec.specs.declared.packet.Packet.TheVariants.{Connect, Publish}
+use Rattle.mqtt_codec.specs.declared.packet.Packet.TheVariants.{Publish}
 use Rattle.mqtt_flow.specs.declared.entry.Full.TheVariants.{Drop}
 use Rattle.mqtt_rules.specs.declared.Report.{Report}
 use Rattle.mqtt_rules.specs.declared.Report.TheVariants.{Accepted, Entered, Ended}
 use Rattle.mqtt_rules.specs.Packets.{property, puback, pubrec, pubrel, pubcomp, suback, disconnect}
 use Rattle.mqtt_rules.specs.State.{Broker}
 use Rattle.mqtt_rules.specs.Step.{NewLine, Input, Lost, Pump, Tick, Outcome}
-use Rattle.mqtt_rules.proofs.Play.{blank, Event, at, asks, tells, runs, runs_with, tells_with, reopened, out, hello_with, hello, never_expires, welcome, in_line, wants_with, wish, options, wants, topic, hi, message, sends, copy_out, direct, subscribed, narrow, entry, queued, keeps, shared, in_group}
+use Rattle.mqtt_rules.proofs.Play.{blank, Event, at, asks, tells, runs, runs_with, tells_with, reopened, out, hello_with, hello, never_expires, welcome, in_line, wants_with, wish, options, wants, topic, hi, message, sends, copy_out, direct, subscribed, narrow, clean, entry, queued, keeps, shared, in_group}
 
 -- what is told where only the answer goes out
 abbrev says : ℕ → Packet → Outcome
@@ -32,7 +32,8 @@ abbrev will : Will
 will = record { qos = ExactlyOnce; retain = false; properties = []; topic = topic; payload = hi }
 
 abbrev mourned : List Event
-mourned = in_line 1 (hello (codes "r1")) ++ at 0 (Input 1 (wants 1 topic ExactlyOnce)) ∷ in_line 2 (hello_with (codes "w1") (property SessionExpiryInterval (U32 0) ∷ []) (Some will))
+mourned = in_line 1 (hello (codes "r1")) ++ at 0 (Input 1 (wants 1 topic ExactlyOnce))
+    ∷ in_line 2 (hello_with (codes "w1") (property SessionExpiryInterval (U32 0) ∷ []) (Some will))
 
 abbrev published : List Report
 published = Accepted 1 ∷ Entered (direct 1 1) (codes "r1") ∷ []
@@ -50,9 +51,6 @@ unfolding varint
 a_lost_line_keeps_it = refl
 
 -- Clean Start: a Will that waits is published, the old session ends, a new one begins (3.1.2.4)
-abbrev clean_hello : List ℕ → Packet
-clean_hello name = Connect (record { clean_start = true; keep_alive = 0; properties = never_expires ∷ []; client_identifier = name; will = None; user_name = None; password = None })
-
 abbrev delayed : Will
 delayed = record will { properties = property WillDelayInterval (U32 10) ∷ [] }
 
@@ -65,8 +63,9 @@ waiting_will =
     ∷ at 0 (Lost 2)
     ∷ at 0 NewLine ∷ []
 
-a_clean_start_publishes_the_will_that_waits : asks waiting_will (at 0 (Input 3 (clean_hello (codes "w1"))))
-    ≡ out ((3, welcome false) ∷ []) [] (published ++ Entered (direct 1 2) (codes "w1") ∷ Ended (direct 1 2) (codes "w1") SessionEnded ∷ []) false
+a_clean_start_publishes_the_will_that_waits : asks waiting_will (at 0 (Input 3 (clean (codes "w1"))))
+    ≡ out ((3, welcome false) ∷ []) []
+    (published ++ Entered (direct 1 2) (codes "w1") ∷ Ended (direct 1 2) (codes "w1") SessionEnded ∷ []) false
 unfolding varint
 a_clean_start_publishes_the_will_that_waits = refl
 
@@ -88,11 +87,13 @@ an_open_one_may_lack_it = refl
 abbrev at_least_once : ℕ → Packet
 at_least_once id = Publish (record (message id) { delivery = delivery.AtLeastOnce false id })
 
-an_open_identifier_is_in_use : asks (subscribed ++ at 0 (Input 2 (sends 10)) ∷ []) (at 0 (Input 2 (at_least_once 10))) ≡ says 2 (puback 10 0x91)
+an_open_identifier_is_in_use : asks (subscribed ++ at 0 (Input 2 (sends 10)) ∷ []) (at 0 (Input 2 (at_least_once 10)))
+    ≡ says 2 (puback 10 0x91)
 unfolding varint
 an_open_identifier_is_in_use = refl
 
-no_local_bars_its_own : asks (in_line 1 (hello (codes "r1")) ++ at 0 (Input 1 (wants_with 1 [] (wish topic (record (options ExactlyOnce) { no_local = true }) ∷ []))) ∷ [])
+no_local_bars_its_own : asks (in_line 1 (hello (codes "r1"))
+    ++ at 0 (Input 1 (wants_with 1 [] (wish topic (record (options ExactlyOnce) { no_local = true }) ∷ []))) ∷ [])
     (at 0 (Input 1 (sends 10))) ≡ out ((1, pubrec 10 0x10) ∷ []) [] (Accepted 1 ∷ []) false
 unfolding varint
 no_local_bars_its_own = refl
@@ -107,7 +108,8 @@ pair qos =
     ++ at 0 (Input 2 (wants 1 shared qos))
     ∷ in_line 3 (hello (codes "p1"))
 
-a_member_that_subscribes_anew_keeps_its_turn : asks (pair ExactlyOnce ++ at 0 (Input 1 (wants 2 shared ExactlyOnce)) ∷ []) (at 0 (Input 3 (sends 10)))
+a_member_that_subscribes_anew_keeps_its_turn : asks (pair ExactlyOnce ++ at 0 (Input 1 (wants 2 shared ExactlyOnce)) ∷ [])
+    (at 0 (Input 3 (sends 10)))
     ≡ out ((3, pubrec 10 0) ∷ []) [] (Accepted 1 ∷ Entered (in_group 1 1) (codes "m1") ∷ []) false
 unfolding varint
 a_member_that_subscribes_anew_keeps_its_turn = refl
@@ -146,7 +148,10 @@ a_sent_one_does_not_expire : asks sent_in_time (at 9000 Tick) ≡ out [] [] [] f
 unfolding varint
 a_sent_one_does_not_expire = refl
 
-it_is_resent_with_no_time_left : asks (sent_in_time ++ at 9000 (Lost 1) ∷ at 9000 NewLine ∷ at 9000 (Input 3 (hello (codes "r1"))) ∷ []) (at 9000 (Pump 3))
+abbrev late_resumption : List Event
+late_resumption = sent_in_time ++ at 9000 (Lost 1) ∷ at 9000 NewLine ∷ at 9000 (Input 3 (hello (codes "r1"))) ∷ []
+
+it_is_resent_with_no_time_left : asks late_resumption (at 9000 (Pump 3))
     ≡ says 3 (copy_out true 1 (property MessageExpiryInterval (U32 0) ∷ []))
 unfolding varint
 it_is_resent_with_no_time_left = refl
@@ -160,7 +165,8 @@ released_in_turn =
     ∷ at 0 (Input 1 (pubrec 2 0)) ∷ at 0 (Input 1 (pubrec 1 0))
     ∷ at 0 (Lost 1) ∷ at 0 NewLine ∷ []
 
-releases_come_in_their_order : asks released_in_turn (at 0 (Input 3 (hello (codes "r1")))) ≡ out ((3, welcome true) ∷ (3, pubrel 2 0) ∷ (3, pubrel 1 0) ∷ []) [] [] false
+releases_come_in_their_order : asks released_in_turn (at 0 (Input 3 (hello (codes "r1"))))
+    ≡ out ((3, welcome true) ∷ (3, pubrel 2 0) ∷ (3, pubrel 1 0) ∷ []) [] [] false
 unfolding varint
 releases_come_in_their_order = refl
 
@@ -171,7 +177,8 @@ abbrev window_of_one : List ℕ → Packet
 window_of_one name = hello_with name (never_expires ∷ property ReceiveMaximum (U16 1) ∷ []) None
 
 abbrev one_released : Broker
-one_released = queued 1 (entry 1 (Released 1 1) ∷ entry 2 Waiting ∷ entry 3 Waiting ∷ []) 3 (runs (subscribed ++ at 0 (Lost 1) ∷ at 0 NewLine ∷ at 0 (Input 3 (window_of_one (codes "r1"))) ∷ []) blank)
+one_released = queued 1 (entry 1 (Released 1 1) ∷ entry 2 Waiting ∷ entry 3 Waiting ∷ []) 3
+    (runs (subscribed ++ at 0 (Lost 1) ∷ at 0 NewLine ∷ at 0 (Input 3 (window_of_one (codes "r1"))) ∷ []) blank)
 
 one_fills_the_window : tells (at 0 (Pump 3)) one_released ≡ says 3 (copy_out false 2 [])
 unfolding varint
@@ -184,7 +191,8 @@ the_end_of_an_older_copy_frees_nothing : tells (at 0 (Pump 3)) ended_released �
 unfolding varint
 the_end_of_an_older_copy_frees_nothing = refl
 
-its_own_end_does : tells (at 0 (Pump 3)) (runs (at 0 (Input 3 (pubrec 2 0)) ∷ at 0 (Input 3 (pubcomp 2 0)) ∷ []) ended_released) ≡ says 3 (copy_out false 1 [])
+its_own_end_does : tells (at 0 (Pump 3)) (runs (at 0 (Input 3 (pubrec 2 0)) ∷ at 0 (Input 3 (pubcomp 2 0)) ∷ []) ended_released)
+    ≡ says 3 (copy_out false 1 [])
 unfolding varint
 its_own_end_does = refl
 
@@ -230,7 +238,9 @@ four_kept =
 abbrev brought : ℕ → Report
 brought number = Entered (record { publication = number; birth = 2; cause = Retained 1 }) (codes "r1")
 
-copies_of_one_step_stay : tells_with (narrow Drop 2) (at 0 (Input 2 (wants_with 1 [] (wish (codes "a/#") (options ExactlyOnce) ∷ wish (codes "b/#") (options ExactlyOnce) ∷ [])))) (runs_with (narrow Drop 2) four_kept blank)
+copies_of_one_step_stay : tells_with (narrow Drop 2)
+    (at 0 (Input 2 (wants_with 1 [] (wish (codes "a/#") (options ExactlyOnce) ∷ wish (codes "b/#") (options ExactlyOnce) ∷ []))))
+    (runs_with (narrow Drop 2) four_kept blank)
     ≡ out ((2, suback 1 (2 ∷ 0x97 ∷ [])) ∷ []) [] (brought 1 ∷ brought 2 ∷ []) false
 unfolding varint
 copies_of_one_step_stay = refl

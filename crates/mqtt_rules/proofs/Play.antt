@@ -282,6 +282,18 @@ low ps = Publish (record { delivery = delivery.AtMostOnce; retain = false; topic
 abbrev pub keeps : List ℕ → ℕ → Packet
 keeps name id = Publish (record { delivery = delivery.AtLeastOnce false id; retain = true; topic = name; properties = []; payload = codes "!" })
 
+-- CONNECT with Clean Start
+abbrev pub clean : List ℕ → Packet
+clean name = Connect (record {
+  clean_start = true;
+  keep_alive = 0;
+  properties = never_expires ∷ [];
+  client_identifier = name;
+  will = None;
+  user_name = None;
+  password = None;
+})
+
 abbrev pub shared : List ℕ
 shared = codes "$share/g/a/b"
 

@@ -30,16 +30,21 @@ matching name filters = map (λ f. is_match f name) filters
 a_leading_slash_makes_an_empty_level : matching (codes "/finance") (codes "/+" ∷ codes "+/+" ∷ codes "+" ∷ []) ≡ true ∷ true ∷ false ∷ []
 a_leading_slash_makes_an_empty_level = refl
 
-a_hash_matches_its_parent : matching (codes "sport") (codes "sport/#" ∷ codes "sport" ∷ codes "#" ∷ codes "sport/+" ∷ []) ≡ true ∷ true ∷ true ∷ false ∷ []
+a_hash_matches_its_parent : matching (codes "sport") (codes "sport/#" ∷ codes "sport" ∷ codes "#" ∷ codes "sport/+" ∷ [])
+    ≡ true ∷ true ∷ true ∷ false ∷ []
 a_hash_matches_its_parent = refl
 
-a_leading_wildcard_skips_a_dollar : matching (codes "$SYS/x") (codes "$SYS/#" ∷ codes "#" ∷ codes "+/x" ∷ codes "$SYS/+" ∷ []) ≡ true ∷ false ∷ false ∷ true ∷ []
+a_leading_wildcard_skips_a_dollar : matching (codes "$SYS/x") (codes "$SYS/#" ∷ codes "#" ∷ codes "+/x" ∷ codes "$SYS/+" ∷ [])
+    ≡ true ∷ false ∷ false ∷ true ∷ []
 a_leading_wildcard_skips_a_dollar = refl
 
-valid_filters : map is_filter (codes "a/#" ∷ codes "a/+/b" ∷ codes "#" ∷ codes "+" ∷ codes "/" ∷ codes "$share/g/a/+" ∷ []) ≡ replicate 6 true
+valid_filters : map is_filter (codes "a/#" ∷ codes "a/+/b" ∷ codes "#" ∷ codes "+" ∷ codes "/" ∷ codes "$share/g/a/+" ∷ [])
+    ≡ replicate 6 true
 valid_filters = refl
 
-no_filters : map is_filter (codes "a/#/b" ∷ codes "a#" ∷ codes "+a" ∷ [] ∷ codes "$share/g" ∷ codes "$share//a" ∷ codes "$share/g/" ∷ codes "$share/g+/a" ∷ []) ≡ replicate 8 false
+no_filters : map is_filter (codes "a/#/b" ∷ codes "a#" ∷ codes "+a" ∷ [] ∷ codes "$share/g" ∷ codes "$share//a" ∷ codes "$share/g/"
+    ∷ codes "$share/g+/a" ∷ [])
+    ≡ replicate 8 false
 no_filters = refl
 
 -- ---- a queue that is full
@@ -120,11 +125,14 @@ nothing_is_dropped_then : Keeps (narrow Drop 2) third_message (with_two Drop (at
 unfolding varint
 nothing_is_dropped_then = nothing_written (narrow Drop 2) third_message (with_two Drop (at 0 (Pump 1) ∷ [])) refl
 
-nor_one_that_was_released : tells_with (narrow Drop 2) third_message (with_two Drop (at 0 (Pump 1) ∷ at 0 (Input 1 (pubrec 1 0)) ∷ at 0 (Input 1 (pubrec 2 0)) ∷ [])) ≡ quota
+nor_one_that_was_released : tells_with (narrow Drop 2) third_message
+    (with_two Drop (at 0 (Pump 1) ∷ at 0 (Input 1 (pubrec 1 0)) ∷ at 0 (Input 1 (pubrec 2 0)) ∷ []))
+    ≡ quota
 unfolding varint
 nor_one_that_was_released = refl
 
-there_is_room_for_two : tells_with (narrow Drop 2) (at 0 (Input 2 (sends 3))) (runs_with (narrow Drop 2) (subscribed ++ at 0 (Input 2 (sends 1)) ∷ []) blank)
+there_is_room_for_two : tells_with (narrow Drop 2) (at 0 (Input 2 (sends 3)))
+    (runs_with (narrow Drop 2) (subscribed ++ at 0 (Input 2 (sends 1)) ∷ []) blank)
     ≡ out ((2, pubrec 3 0) ∷ []) [] (Accepted 2 ∷ Entered (direct 2 1) (codes "r1") ∷ []) false
 unfolding varint
 there_is_room_for_two = refl
@@ -197,7 +205,8 @@ abbrev limited : Packet
 limited = hello_with (codes "r1") (never_expires ∷ property MaximumPacketSize (U32 64) ∷ []) None
 
 abbrev big_queued : Packet → List Event
-big_queued client = in_line 1 client ++ at 0 (Input 1 (wants 1 topic ExactlyOnce)) ∷ in_line 2 (hello (codes "p1")) ++ at 0 (Input 2 big) ∷ []
+big_queued client = in_line 1 client ++ at 0 (Input 1 (wants 1 topic ExactlyOnce)) ∷ in_line 2 (hello (codes "p1"))
+    ++ at 0 (Input 2 big) ∷ []
 
 abbrev too_large : List Report
 too_large = Ended (direct 1 1) (codes "r1") TooLarge ∷ []
@@ -234,7 +243,8 @@ abbrev fitting : ℕ → List Event
 fitting count = in_line 1 limited ++ at 0 (Input 1 (wants 1 topic ExactlyOnce)) ∷ in_line 2 (hello (codes "p1"))
     ++ at 0 (Input 2 (Publish (record (message 10) { payload = replicate count 33 }))) ∷ []
 
-sixty_four_bytes_are_taken : asks (fitting 54) (at 0 (Pump 1)) ≡ out ((1, Publish (record (message 1) { payload = replicate 54 33 })) ∷ []) [] [] false
+sixty_four_bytes_are_taken : asks (fitting 54) (at 0 (Pump 1))
+    ≡ out ((1, Publish (record (message 1) { payload = replicate 54 33 })) ∷ []) [] [] false
 unfolding varint
 sixty_four_bytes_are_taken = refl
 
@@ -260,7 +270,9 @@ unfolding varint
 a_publication_above_the_last = refl
 
 -- also after a restart, and from a new client
-a_restart_gives_no_more : gives_too_much (at 0 (Input 1 (sends 10))) (runs (in_line 1 (hello (codes "p2"))) (opened usual first 0 (counted top).records)) ≡ true
+a_restart_gives_no_more : gives_too_much (at 0 (Input 1 (sends 10)))
+    (runs (in_line 1 (hello (codes "p2"))) (opened usual first 0 (counted top).records))
+    ≡ true
 unfolding varint
 a_restart_gives_no_more = refl
 

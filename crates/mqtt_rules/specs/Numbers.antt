@@ -1,9 +1,12 @@
 -- Numbers that deeds give: births of sessions, numbers of publications, of granted filters and of assigned client
 -- identifiers. Each counts on from the last, and so none is given twice (ours).
 use Rattle.std.specs.Prelude.{◌≡◌, ℕ, suc, ◌≤◌, List, [], ◌∷◌, filter_map, Option, Some, None}
+use Rattle.std.specs.List.{AllByRecursion}
+use Rattle.mqtt_records.specs.declared.session.Session.{Session}
 use Rattle.mqtt_records.specs.declared.records.Records.{Records}
-use Rattle.mqtt_records.specs.Order.{IsBelow}
-use Rattle.mqtt_records.specs.Session.{birth_of}
+use Rattle.mqtt_records.specs.Order.{IsBelow, IsAscending}
+use Rattle.mqtt_records.specs.Session.{birth_of, place_of, number_of, entry_place}
+use Rattle.mqtt_records.specs.Records.{kept_place}
 use Rattle.mqtt_rules.specs.State.{Broker}
 use Rattle.mqtt_rules.specs.Deeds.{Deed, Accept, Begin, Name, Count}
 
@@ -48,3 +51,19 @@ IsTimed b = b.records.moment ≤ b.now
 -- each session that stands has a birth that was given: it is below the next one
 abbrev pub HasGivenBirths : Records → Type 0
 HasGivenBirths r = IsBelow birth_of (suc r.births) r.sessions
+
+-- each copy in the session's queue has a publication's number up to n
+abbrev pub HasCopiesUpTo : ℕ → Session → Type 0
+HasCopiesUpTo n s = AllByRecursion (λ e. e.copy.publication ≤ n) s.queue
+
+-- each copy in a queue, and each retained message, has the number of a publication that was accepted
+abbrev pub HasAcceptedNumbers : Records → Type 0
+HasAcceptedNumbers r = AllByRecursion (HasCopiesUpTo r.publications) r.sessions × AllByRecursion (λ k. k.publication ≤ r.publications) r.retained
+
+-- of a session: its subscriptions by place, its open identifiers and its copies by place, each once
+abbrev pub IsInOrder : Session → Type 0
+IsInOrder s = IsAscending place_of s.subscriptions × IsAscending number_of s.inbound × IsAscending entry_place s.queue
+
+-- sessions by birth, retained messages by place, and all that sessions have, each once
+abbrev pub AreInOrder : Records → Type 0
+AreInOrder r = IsAscending birth_of r.sessions × AllByRecursion IsInOrder r.sessions × IsAscending kept_place r.retained

@@ -7,8 +7,9 @@ ghost use Rattle.mqtt_rules.specs.State.{Broker};
 ghost use Rattle.mqtt_rules.specs.Step.{Call, stepped, opened};
 ghost use Rattle.mqtt_rules.specs.Flight.{HasDistinctIdentifiers};
 
-/// No two copies in flight in a session have the same packet identifier: so it is before the first session, and every
-/// step and every opening keep it, whatever is called, for all limits and whichever members are chosen (2.2.1).
+/// No two copies in flight in a session have the same packet identifier: so it is before the first
+/// session, and every step and every opening keep it, whatever is called, for all limits and
+/// whichever members of groups are chosen (2.2.1).
 pub fn identifiers_in_flight_are_unique()
     ensures nothing { HasDistinctIdentifiers nothing }
     ensures step { (limits : Limits) (choice : ℕ → List ℕ) (now : ℕ) (call : Call) (b : Broker)

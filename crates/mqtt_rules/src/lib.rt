@@ -11,8 +11,8 @@ pub use laws::{at_most_twenty_open, limits_are_kept, stored_part_follows, tables
 use mqtt_base::{CopyId, Ending, Text};
 use mqtt_flow::Full;
 pub use number_laws::{
-    births_are_new, counted_numbers_are_apart, counters_never_fall, new_places_are_last,
-    numbers_are_new,
+    births_and_places_are_unique, births_are_new, copies_are_of_accepted_publications,
+    counted_numbers_are_apart, counters_never_fall, new_places_are_last, numbers_are_new,
 };
 
 /// The sizes of the tables.

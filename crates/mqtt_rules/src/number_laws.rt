@@ -2,7 +2,7 @@
 ghost use Rattle.std.specs.Prelude.{◌≡◌, ◌≤◌, ◌+◌, ℕ, suc, List, None, false, length};
 ghost use Rattle.mqtt_records.specs.Order.{IsAbove, IsAscending, IsBelow};
 ghost use Rattle.mqtt_records.specs.Session.{entry_place, number_of};
-ghost use Rattle.mqtt_records.specs.Records.{kept_place};
+ghost use Rattle.mqtt_records.specs.Records.{nothing, kept_place};
 ghost use Rattle.mqtt_records.specs.declared.message.MessageCopy.{MessageCopy};
 ghost use Rattle.mqtt_records.specs.declared.message.Retained.{Retained};
 ghost use Rattle.mqtt_records.specs.declared.queue.Entry.{Entry};
@@ -14,7 +14,7 @@ ghost use Rattle.mqtt_rules.specs.Deeds.{new_entry};
 ghost use Rattle.mqtt_rules.specs.Routing.{place_of_kept};
 ghost use Rattle.mqtt_rules.specs.Subscribe.{Wish, has_filter, subscription};
 ghost use Rattle.mqtt_rules.specs.Step.{Call, deeds, stepped, opening, opened, unopened, env_of};
-ghost use Rattle.mqtt_rules.specs.Numbers.{CountsOn, CountOn, NoneFell, IsTimed, HasGivenBirths};
+ghost use Rattle.mqtt_rules.specs.Numbers.{CountsOn, CountOn, NoneFell, IsTimed, HasGivenBirths, HasAcceptedNumbers, AreInOrder};
 
 /// Each birth, each publication's number, each granted filter's number and each number of an assigned
 /// client identifier that a step gives is the next one, one above the last that was ever given, and the
@@ -55,13 +55,38 @@ pub fn counters_never_fall()
 {}
 
 /// No session that stands has a birth above the last one given, after any step of a broker where none
-/// had, and after its opening; so the birth of a new session is that of none that stands.
+/// had, and after its opening, and none has where nothing is stored; so the birth of a new session is
+/// that of none that stands.
 pub fn births_are_new()
     ensures step { (limits : TheLimits) (choice : ℕ → List ℕ) (now : ℕ) (call : Call) (b : Broker)
         → HasGivenBirths b.records → HasGivenBirths (stepped limits choice now call b).records }
     ensures opening { (limits : TheLimits) (choice : ℕ → List ℕ) (now : ℕ) (r : Records)
         → HasGivenBirths r → HasGivenBirths (opened limits choice now r).records }
+    ensures nothing { HasGivenBirths nothing }
     ensures next { (r : Records) → HasGivenBirths r → session_at (suc r.births) r ≡ None }
+{}
+
+/// No copy in a queue and no retained message has a number above that of the last publication accepted,
+/// after any step of a broker where none had, and after its opening, and none has where nothing is stored;
+/// so a new publication's number is above those of all copies and retained messages that stand.
+pub fn copies_are_of_accepted_publications()
+    ensures step { (limits : TheLimits) (choice : ℕ → List ℕ) (now : ℕ) (call : Call) (b : Broker)
+        → HasAcceptedNumbers b.records
+        → HasAcceptedNumbers (stepped limits choice now call b).records }
+    ensures opening { (limits : TheLimits) (choice : ℕ → List ℕ) (now : ℕ) (r : Records)
+        → HasAcceptedNumbers r → HasAcceptedNumbers (opened limits choice now r).records }
+    ensures nothing { HasAcceptedNumbers nothing }
+{}
+
+/// Sessions stand in the order of their births, retained messages and the subscriptions and copies of each
+/// session in that of their places, and open identifiers ascend, after any step of a broker where they did,
+/// and after its opening; so no birth, no place and no open identifier comes twice.
+pub fn births_and_places_are_unique()
+    ensures step { (limits : TheLimits) (choice : ℕ → List ℕ) (now : ℕ) (call : Call) (b : Broker)
+        → AreInOrder b.records → AreInOrder (stepped limits choice now call b).records }
+    ensures opening { (limits : TheLimits) (choice : ℕ → List ℕ) (now : ℕ) (r : Records)
+        → AreInOrder r → AreInOrder (opened limits choice now r).records }
+    ensures nothing { AreInOrder nothing }
 {}
 
 /// A copy that enters a queue gets a place above all that stand there; a message retained for a topic

@@ -12,3 +12,6 @@ returns-clause-opening c = opening_given
 
 pub returns-clause-next : goal.returns-clause-next
 returns-clause-next c r low = below_none birth_of (suc r.births) r.sessions low
+
+pub returns-clause-nothing : goal.returns-clause-nothing
+returns-clause-nothing c = tt
