@@ -193,7 +193,7 @@ an_end_leaves_nothing : (runs (cut_short ++ at 0 (Input 1 ends_now) ∷ []) blan
 unfolding varint
 an_end_leaves_nothing = refl
 
--- a number above the last one is refused, and then nothing is written
+-- the last number is given, and none above it (ours)
 abbrev given_publications : ℕ → Records → Records
 given_publications n r = record r { publications = n }
 

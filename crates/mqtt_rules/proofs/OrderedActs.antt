@@ -261,18 +261,20 @@ module _ (env : Env) (P : Records → Type 0) (k : Keeping env P) where
   keeps_settle birth b p = keeps_series P (
       of_session birth (λ s. only_if (has_due_will b.now s) (publish_will env s))
       ∷ of_session birth (λ s. only_if (has_due_end b.now s) (always (end_session s)))
-      ∷ [])
-      (keeps_of P birth (λ s. only_if (has_due_will b.now s) (publish_will env s)) (λ s. keeps_if P (has_due_will b.now s) (publish_will env s) (keeps_publish_will s)),
-      (keeps_of P birth (λ s. only_if (has_due_end b.now s) (always (end_session s))) (λ s. keeps_if P (has_due_end b.now s) (always (end_session s)) (keeps_always (end_session s) (plain_end s))), tt)) b p
+      ∷ []) (
+        keeps_of P birth (λ s. only_if (has_due_will b.now s) (publish_will env s)) (λ s. keeps_if P (has_due_will b.now s) (publish_will env s) (keeps_publish_will s)),
+        (keeps_of P birth (λ s. only_if (has_due_end b.now s) (always (end_session s))) (λ s. keeps_if P (has_due_end b.now s) (always (end_session s)) (keeps_always (end_session s) (plain_end s))), tt),
+      ) b p
 
   keeps_close_session : (keeps_will : Bool) (s : Session) → Keeps P (close_session env keeps_will s)
   keeps_close_session keeps_will s b p = keeps_series P (
       only_if (not keeps_will) (always (At (whose s) DropWill ∷ []))
       ∷ always (At (whose s) (Close b.now) ∷ [])
       ∷ settle env s.birth
-      ∷ [])
-      (keeps_if P (not keeps_will) (always (At (whose s) DropWill ∷ [])) (keeps_always (At (whose s) DropWill ∷ []) (tt, tt)),
-      (keeps_always (At (whose s) (Close b.now) ∷ []) (tt, tt), (keeps_settle s.birth, tt))) b p
+      ∷ []) (
+        keeps_if P (not keeps_will) (always (At (whose s) DropWill ∷ [])) (keeps_always (At (whose s) DropWill ∷ []) (tt, tt)),
+        (keeps_always (At (whose s) (Close b.now) ∷ []) (tt, tt), (keeps_settle s.birth, tt)),
+      ) b p
 
   keeps_connected : (keeps_will : Bool) (o : Option ℕ) → Keeps P (close_connected env keeps_will o)
   keeps_connected keeps_will None b p = p
@@ -300,10 +302,13 @@ module _ (env : Env) (P : Records → Type 0) (k : Keeping env P) where
       of_client c.client_identifier (take_over env)
       ∷ of_client c.client_identifier (λ s. settle env s.birth)
       ∷ only_if c.clean_start (of_client c.client_identifier (clear env))
-      ∷ [])
-      (keeps_client P c.client_identifier (take_over env) keeps_take_over,
-      (keeps_client P c.client_identifier (λ s. settle env s.birth) (λ s. keeps_settle s.birth),
-      (keeps_if P c.clean_start (of_client c.client_identifier (clear env)) (keeps_client P c.client_identifier (clear env) keeps_clear), tt))) b p
+      ∷ []) (
+        keeps_client P c.client_identifier (take_over env) keeps_take_over,
+        (
+          keeps_client P c.client_identifier (λ s. settle env s.birth) (λ s. keeps_settle s.birth),
+          (keeps_if P c.clean_start (of_client c.client_identifier (clear env)) (keeps_client P c.client_identifier (clear env) keeps_clear), tt),
+        ),
+      ) b p
 
   keeps_begin_named : (t : Bool) (l : Line) (c : Greeting) (b : Broker) → length b.records.sessions < env.limits.sessions → P b.records → P (stored (after_all (begin_named t l c b.records) b))
   keeps_begin_named false l c b room p =
@@ -430,8 +435,8 @@ module _ (env : Env) (P : Records → Type 0) (k : Keeping env P) where
       let ds = flat_map (sub.unsubscribes s) (filter (λ f. sub.has_filter f s) x.filters) in
       let told = offer (line_at line b) (unsuback x.identifier (sub.drop_codes s [] x.filters)) in
       plains (ds ++ told) b (plain_append ds told
-        (plain_flat (sub.unsubscribes s) (λ f. (tt, tt)) (filter (λ f. sub.has_filter f s) x.filters))
-        (plain_offer (line_at line b) (unsuback x.identifier (sub.drop_codes s [] x.filters)))) p
+      (plain_flat (sub.unsubscribes s) (λ f. (tt, tt)) (filter (λ f. sub.has_filter f s) x.filters))
+      (plain_offer (line_at line b) (unsuback x.identifier (sub.drop_codes s [] x.filters)))) p
 
   -- ---- packets
 
@@ -503,12 +508,19 @@ module _ (env : Env) (P : Records → Type 0) (k : Keeping env P) where
       ∷ option_map (λ s. always (end_session s)) (find (has_due_end b.now) b.records.sessions)
       ∷ option_map (λ x. always (Forget x.place ∷ [])) (find (is_stale b.now) b.records.retained)
       ∷ option_map (λ s. always (lapse_deeds b.now s)) (find (has_lapsed b.now) b.records.sessions)
-      ∷ [])
-      (keeps_some (λ l. silence env l.session l) (λ l. keeps_silence l.session l) (find (λ l. is_silent b.now l.session l) b.lines),
-      (keeps_some (publish_will env) keeps_publish_will (find (has_due_will b.now) b.records.sessions),
-      (keeps_some (λ s. always (end_session s)) (λ s. keeps_always (end_session s) (plain_end s)) (find (has_due_end b.now) b.records.sessions),
-      (keeps_some (λ x. always (Forget x.place ∷ [])) (λ x. keeps_always (Forget x.place ∷ []) (tt, tt)) (find (is_stale b.now) b.records.retained),
-      (keeps_some (λ s. always (lapse_deeds b.now s)) (λ s. keeps_always (lapse_deeds b.now s) (plain_flat (leave_deeds s) (plain_leave s) (lapses b.now s))) (find (has_lapsed b.now) b.records.sessions), tt)))))
+      ∷ []) (
+        keeps_some (λ l. silence env l.session l) (λ l. keeps_silence l.session l) (find (λ l. is_silent b.now l.session l) b.lines),
+        (
+          keeps_some (publish_will env) keeps_publish_will (find (has_due_will b.now) b.records.sessions),
+          (
+            keeps_some (λ s. always (end_session s)) (λ s. keeps_always (end_session s) (plain_end s)) (find (has_due_end b.now) b.records.sessions),
+            (
+              keeps_some (λ x. always (Forget x.place ∷ [])) (λ x. keeps_always (Forget x.place ∷ []) (tt, tt)) (find (is_stale b.now) b.records.retained),
+              (keeps_some (λ s. always (lapse_deeds b.now s)) (λ s. keeps_always (lapse_deeds b.now s) (plain_flat (leave_deeds s) (plain_leave s) (lapses b.now s))) (find (has_lapsed b.now) b.records.sessions), tt),
+            ),
+          ),
+        ),
+      )
 
   -- ---- calls, and opening
 

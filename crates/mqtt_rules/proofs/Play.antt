@@ -190,6 +190,7 @@ burst line (suc k) id = at 0 (Input line (sends id)) ∷ burst line k (1 + id)
 -- r1 is there for a/b at QoS 2, and p1 has sent the PUBLISH with identifier 10
 abbrev pub published : List Event
 published = subscribed ++ at 0 (Input 2 (sends 10)) ∷ []
+
 -- ---- for tables
 
 abbrev pub tells_by : Limits → (ℕ → List ℕ) → Event → Broker → Outcome

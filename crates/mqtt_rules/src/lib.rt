@@ -8,13 +8,12 @@ mod number_laws;
 
 pub use flight_laws::identifiers_in_flight_are_unique;
 pub use laws::{at_most_twenty_open, limits_are_kept, stored_part_follows, tables_are_ordered};
+use mqtt_base::{CopyId, Ending, Text};
+use mqtt_flow::Full;
 pub use number_laws::{
     births_and_places_are_unique, births_are_new, copies_are_of_accepted_publications,
     counted_numbers_are_apart, counters_never_fall, new_places_are_last, numbers_are_new,
 };
-
-use mqtt_base::{CopyId, Ending, Text};
-use mqtt_flow::Full;
 
 /// The sizes of the tables.
 #[derive(Clone, Copy, Debug, PartialEq, Eq)]
