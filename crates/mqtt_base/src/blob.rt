@@ -15,6 +15,7 @@ use std::marker::Model;
 
 /// Reads the binary data at the front, without the two bytes of its length, and how many bytes it
 /// takes with them (1.5.6). `Short` (1) is its only refusal. Takes no memory.
+#[inline(always)]
 pub fn blob_read(bytes: &[u8]) -> Result<(&[u8], usize), ReadFault>
     ensures exact { Reads (λ b. b.now) result bytes.now (blob_at bytes.now) }
 
@@ -31,6 +32,7 @@ pub fn blob_read(bytes: &[u8]) -> Result<(&[u8], usize), ReadFault>
     blob_by_length(bytes)
 }
 
+#[inline(always)]
 #[tactic(auto, unfolding(crate::specs::Reading::blob_at))]
 fn blob_by_length(bytes: &[u8]) -> Result<(&[u8], usize), ReadFault>
     ensures { Reads (λ b. b.now) result bytes.now (blob_at bytes.now) }

@@ -9,6 +9,7 @@ use crate::fault::ReadFault;
 use std::alloc::AllocError;
 
 /// Reads the byte at the front. `Short` (1) is its only refusal. Takes no memory.
+#[inline(always)]
 pub fn u8_read(bytes: &[u8]) -> Result<(u8, usize), ReadFault>
     ensures { Reads (λ n. n) result bytes.now (u8_at bytes.now) }
 {
@@ -20,6 +21,7 @@ pub fn u8_read(bytes: &[u8]) -> Result<(u8, usize), ReadFault>
 
 /// Reads the big-endian number of two bytes at the front (1.5.2). `Short` (1) is its only refusal.
 /// Takes no memory.
+#[inline(always)]
 pub fn u16_read(bytes: &[u8]) -> Result<(u16, usize), ReadFault>
     ensures { Reads (λ n. n) result bytes.now (number_at w16 bytes.now) }
 {
@@ -31,6 +33,7 @@ pub fn u16_read(bytes: &[u8]) -> Result<(u16, usize), ReadFault>
 
 /// Reads the big-endian number of four bytes at the front (1.5.3). `Short` (1) is its only
 /// refusal. Takes no memory.
+#[inline(always)]
 pub fn u32_read(bytes: &[u8]) -> Result<(u32, usize), ReadFault>
     ensures { Reads (λ n. n) result bytes.now (number_at w32 bytes.now) }
 {

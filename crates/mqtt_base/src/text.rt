@@ -18,6 +18,7 @@ use std::marker::Model;
 ///
 /// It answers `Short` (1) where the input ends inside the text and `BadText` (3) where all bytes
 /// are there and are no well-formed UTF-8 or hold U+0000; never `Overlong`.
+#[inline(always)]
 pub fn text_read(bytes: &[u8]) -> Result<(&str, usize), ReadFault>
     ensures exact { Reads (λ t. t.now) result bytes.now (text_at bytes.now) }
 
@@ -34,6 +35,7 @@ pub fn text_read(bytes: &[u8]) -> Result<(&str, usize), ReadFault>
     text_by_blob(bytes)
 }
 
+#[inline(always)]
 #[tactic(auto, unfolding(crate::specs::Reading::text_at))]
 fn text_by_blob(bytes: &[u8]) -> Result<(&str, usize), ReadFault>
     ensures { Reads (λ t. t.now) result bytes.now (text_at bytes.now) }

@@ -15,6 +15,7 @@ use std::alloc::AllocError;
 ///
 /// It answers `Short` (1) where the input ends inside the integer and `Overlong` (2) where its last
 /// byte of two or more is 00 or its fourth byte has the high bit; never `BadText`.
+#[inline(always)]
 pub fn varint_read(bytes: &[u8]) -> Result<(u32, usize), ReadFault>
     ensures exact { Reads (λ n. n) result bytes.now (varint_at bytes.now) }
     ensures below { IfOk result (λ x. x.0 < 2 ^ 28) }
@@ -33,6 +34,7 @@ pub fn varint_read(bytes: &[u8]) -> Result<(u32, usize), ReadFault>
     varint_by_groups(bytes)
 }
 
+#[inline(always)]
 #[tactic(auto, unfolding(crate::specs::Reading::varint_at))]
 fn varint_by_groups(bytes: &[u8]) -> Result<(u32, usize), ReadFault>
     ensures { Reads (λ n. n) result bytes.now (varint_at bytes.now) }
@@ -48,6 +50,7 @@ fn varint_by_groups(bytes: &[u8]) -> Result<(u32, usize), ReadFault>
 }
 
 /// The groups behind a first byte that has the high bit.
+#[inline(never)]
 #[tactic(auto, unfolding(crate::specs::Reading::groups_at))]
 fn groups_read(bytes: &[u8]) -> Result<(u32, usize), ReadFault>
     ensures exact { Reads (λ n. n) result bytes.now (groups_at 2 bytes.now) }

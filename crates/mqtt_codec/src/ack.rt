@@ -33,6 +33,7 @@ pub struct AckRef<'a> {
     pub properties: PropsRef<'a>,
 }
 
+#[inline(always)]
 #[tactic(auto, unfolding(crate::specs::Ack::ack_at))]
 pub(crate) fn ack_read(kind: Kind, place: Place, body: &[u8]) -> Result<AckRef<'_>, Fault>
     ensures { Gives ack_of result (ack_at kind place body.now) }
@@ -53,6 +54,7 @@ pub(crate) fn ack_read(kind: Kind, place: Place, body: &[u8]) -> Result<AckRef<'
 
 impl AckRef<'_> {
     /// Whether the laws hold.
+    #[inline(always)]
     pub(crate) fn is_lawful(&self, place: Place) -> bool
         ensures { result ≡ lawful_ack place (ack_of self.now) }
     {
@@ -60,6 +62,7 @@ impl AckRef<'_> {
     }
 
     /// Writes the shortest body at the end.
+    #[inline(always)]
     #[tactic(auto, using(std::proofs::lemmas::List::append_assoc))]
     pub(crate) fn push(&self, out: &mut Vec<u8>) -> Result<(), AllocError>
         ensures { OnOk result (out.new.items ≡ out.old.items ++ ack_body (ack_of self.now)) }
@@ -69,6 +72,7 @@ impl AckRef<'_> {
     }
 
     /// How many bytes the shortest body takes.
+    #[inline(always)]
     pub(crate) fn len(&self) -> usize
         ensures value { result ≡ length (ack_body (ack_of self.now)) }
         ensures bound { result < 2 ^ 31 }
@@ -77,6 +81,7 @@ impl AckRef<'_> {
     }
 
     /// An owned copy.
+    #[inline(never)]
     pub(crate) fn to_ack(&self, alloc: Global) -> Result<Ack, AllocError>
         ensures { IfOk result (λ a. a ≡ ack_of self.now) }
     {
@@ -90,6 +95,7 @@ impl AckRef<'_> {
 
 impl Ack {
     /// The same, lent.
+    #[inline(always)]
     pub(crate) fn lend(&self) -> AckRef<'_>
         ensures { ack_of result ≡ self.now }
     {
@@ -101,6 +107,7 @@ impl Ack {
     }
 
     /// Whether its parts have a spelling.
+    #[inline(always)]
     pub(crate) fn fits(&self, kind: Kind, place: Place) -> bool
         ensures { IsTrue result ↔ FitsAck kind place self.now }
     {

@@ -6,6 +6,7 @@ ghost use Rattle.mqtt_codec.specs.Blocks.{Stands};
 use mqtt_props::{Place, PropsRef};
 
 /// Whether the list has a layout in its place.
+#[inline(always)]
 pub(crate) fn stands(properties: &PropsRef<'_>, place: Place) -> bool
     ensures { IsTrue result ↔ Stands place properties.now }
 {

@@ -32,6 +32,7 @@ pub struct ConnackRef<'a> {
     pub properties: PropsRef<'a>,
 }
 
+#[inline(always)]
 fn session_present_read(flags: u8) -> Option<bool>
     ensures { result ≡ session_present_of flags }
 {
@@ -42,6 +43,7 @@ fn session_present_read(flags: u8) -> Option<bool>
     }
 }
 
+#[inline(always)]
 #[tactic(auto, unfolding(crate::specs::Connack::connack_at))]
 pub(crate) fn connack_read(body: &[u8]) -> Result<ConnackRef<'_>, Fault>
     ensures { Gives connack_of result (connack_at body.now) }
@@ -69,6 +71,7 @@ pub(crate) fn connack_read(body: &[u8]) -> Result<ConnackRef<'_>, Fault>
 
 impl ConnackRef<'_> {
     /// Whether the laws hold.
+    #[inline(always)]
     pub(crate) fn is_lawful(&self) -> bool
         ensures { result ≡ lawful_connack (connack_of self.now) }
     {
@@ -76,6 +79,7 @@ impl ConnackRef<'_> {
     }
 
     /// Writes the body at the end.
+    #[inline(always)]
     #[tactic(auto, using(std::proofs::lemmas::List::append_assoc))]
     pub(crate) fn push(&self, out: &mut Vec<u8>) -> Result<(), AllocError>
         ensures { OnOk result (out.new.items ≡ out.old.items ++ connack_body (connack_of self.now)) }
@@ -86,6 +90,7 @@ impl ConnackRef<'_> {
     }
 
     /// How many bytes the body takes.
+    #[inline(always)]
     pub(crate) fn len(&self) -> usize
         ensures value { result ≡ length (connack_body (connack_of self.now)) }
         ensures bound { result < 2 ^ 31 }
@@ -94,6 +99,7 @@ impl ConnackRef<'_> {
     }
 
     /// An owned copy.
+    #[inline(never)]
     pub(crate) fn to_connack(&self, alloc: Global) -> Result<Connack, AllocError>
         ensures { IfOk result (λ c. c ≡ connack_of self.now) }
     {
@@ -107,6 +113,7 @@ impl ConnackRef<'_> {
 
 impl Connack {
     /// The same, lent.
+    #[inline(always)]
     pub(crate) fn lend(&self) -> ConnackRef<'_>
         ensures { connack_of result ≡ self.now }
     {
@@ -118,6 +125,7 @@ impl Connack {
     }
 
     /// Whether its parts have a spelling.
+    #[inline(always)]
     pub(crate) fn fits(&self) -> bool
         ensures { IsTrue result ↔ FitsConnack self.now }
     {

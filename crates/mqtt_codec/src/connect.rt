@@ -83,6 +83,7 @@ pub struct ConnectRef<'a> {
     pub password: Option<&'a [u8]>,
 }
 
+#[inline(always)]
 #[tactic(auto, unfolding(crate::specs::Connect::will_at))]
 fn will_read(flags: Option<WillFlags>, bytes: &[u8]) -> Result<(Option<WillRef<'_>>, usize), Fault>
     ensures { Reads (option_map will_of) result bytes.now (will_at flags bytes.now) }
@@ -107,6 +108,7 @@ fn will_read(flags: Option<WillFlags>, bytes: &[u8]) -> Result<(Option<WillRef<'
     Ok((Some(will), first + second + third))
 }
 
+#[inline(always)]
 #[tactic(auto, unfolding(crate::specs::Connect::user_name_at))]
 fn user_name_read(flag: bool, bytes: &[u8]) -> Result<(Option<&str>, usize), Fault>
     ensures { Reads (option_map (λ t. t.now)) result bytes.now (user_name_at flag bytes.now) }
@@ -118,6 +120,7 @@ fn user_name_read(flag: bool, bytes: &[u8]) -> Result<(Option<&str>, usize), Fau
     Ok((Some(name), taken))
 }
 
+#[inline(always)]
 #[tactic(auto, unfolding(crate::specs::Connect::password_at))]
 fn password_read(flag: bool, bytes: &[u8]) -> Result<(Option<&[u8]>, usize), Fault>
     ensures { Reads (option_map (λ p. p.now)) result bytes.now (password_at flag bytes.now) }
@@ -129,6 +132,7 @@ fn password_read(flag: bool, bytes: &[u8]) -> Result<(Option<&[u8]>, usize), Fau
     Ok((Some(password), taken))
 }
 
+#[inline(always)]
 #[tactic(auto, unfolding(crate::specs::Connect::fields_at))]
 fn fields_read(flags: Flags, bytes: &[u8]) -> Result<ConnectRef<'_>, Fault>
     ensures { Gives connect_of result (fields_at flags bytes.now) }
@@ -160,12 +164,14 @@ fn fields_read(flags: Flags, bytes: &[u8]) -> Result<ConnectRef<'_>, Fault>
     })
 }
 
+#[inline(always)]
 pub(crate) fn is_version_5(protocol: &str, version: u8) -> bool
     ensures { result ≡ is_version_5 protocol.now version }
 {
     protocol == "MQTT" && version == 5
 }
 
+#[inline(always)]
 #[tactic(auto, unfolding(crate::specs::Connect::connect_at))]
 pub(crate) fn connect_read(body: &[u8]) -> Result<ConnectRef<'_>, Fault>
     ensures { Gives connect_of result (connect_at body.now) }
@@ -187,6 +193,7 @@ pub(crate) fn connect_read(body: &[u8]) -> Result<ConnectRef<'_>, Fault>
 
 impl WillRef<'_> {
     /// Writes the fields at the end.
+    #[inline(always)]
     #[tactic(auto, using(std::proofs::lemmas::List::append_assoc))]
     fn push(&self, out: &mut Vec<u8>) -> Result<(), AllocError>
         requires { FitsWill (will_of self.now) }
@@ -198,6 +205,7 @@ impl WillRef<'_> {
     }
 
     /// How many bytes the fields take.
+    #[inline(always)]
     fn len(&self) -> usize
         requires { FitsWill (will_of self.now) }
         ensures value { result ≡ length (will_field (will_of self.now)) }
@@ -207,6 +215,7 @@ impl WillRef<'_> {
     }
 
     /// An owned copy.
+    #[inline(never)]
     fn to_will(&self, alloc: Global) -> Result<Will, AllocError>
         requires { FitsWill (will_of self.now) }
         ensures { IfOk result (λ w. w ≡ will_of self.now) }
@@ -223,6 +232,7 @@ impl WillRef<'_> {
 
 impl Will {
     /// The same, lent.
+    #[inline(always)]
     fn lend(&self) -> WillRef<'_>
         ensures { will_of result ≡ self.now }
     {
@@ -236,6 +246,7 @@ impl Will {
     }
 
     /// Whether its parts have a spelling.
+    #[inline(always)]
     fn fits(&self) -> bool
         ensures { IsTrue result ↔ FitsWill self.now }
     {
@@ -246,6 +257,7 @@ impl Will {
 }
 
 /// Writes the Will's fields at the end, if there is one.
+#[inline(always)]
 fn will_push(out: &mut Vec<u8>, will: &Option<WillRef<'_>>) -> Result<(), AllocError>
     requires { FitsOptional FitsWill (option_map will_of will.now) }
     ensures { OnOk result (out.new.items ≡ out.old.items ++ optional will_field (option_map will_of will.now)) }
@@ -257,6 +269,7 @@ fn will_push(out: &mut Vec<u8>, will: &Option<WillRef<'_>>) -> Result<(), AllocE
 }
 
 /// Writes a text or binary data at the end, if there is any.
+#[inline(always)]
 fn blob_push_some(out: &mut Vec<u8>, bytes: Option<&[u8]>) -> Result<(), AllocError>
     requires { FitsOptional (λ b. length b < 2 ^ 16) (option_map (λ b. b.now) bytes) }
     ensures { OnOk result (out.new.items ≡ out.old.items ++ optional blob (option_map (λ b. b.now) bytes.entry)) }
@@ -267,6 +280,7 @@ fn blob_push_some(out: &mut Vec<u8>, bytes: Option<&[u8]>) -> Result<(), AllocEr
     }
 }
 
+#[inline(always)]
 fn will_flags_of(will: &Option<WillRef<'_>>) -> Option<WillFlags>
     ensures { result ≡ option_map will_flags_of (option_map will_of will.now) }
 {
@@ -280,6 +294,7 @@ fn will_flags_of(will: &Option<WillRef<'_>>) -> Option<WillFlags>
 }
 
 impl ConnectRef<'_> {
+    #[inline(always)]
     fn flags(&self) -> Flags
         ensures { result ≡ flags_of_connect (connect_of self.now) }
     {
@@ -292,6 +307,7 @@ impl ConnectRef<'_> {
     }
 
     /// Whether the laws hold.
+    #[inline(always)]
     pub(crate) fn is_lawful(&self) -> bool
         ensures { result ≡ lawful_connect (connect_of self.now) }
     {
@@ -303,6 +319,7 @@ impl ConnectRef<'_> {
     }
 
     /// Writes the body at the end.
+    #[inline(always)]
     #[tactic(auto, using(std::proofs::lemmas::List::append_assoc))]
     pub(crate) fn push(&self, out: &mut Vec<u8>) -> Result<(), AllocError>
         requires { FitsConnect (connect_of self.now) }
@@ -315,6 +332,7 @@ impl ConnectRef<'_> {
     }
 
     /// Writes what follows the flags at the end.
+    #[inline(always)]
     #[tactic(auto, using(std::proofs::lemmas::List::append_assoc))]
     fn push_fields(&self, out: &mut Vec<u8>) -> Result<(), AllocError>
         requires { FitsConnect (connect_of self.now) }
@@ -329,6 +347,7 @@ impl ConnectRef<'_> {
     }
 
     /// How many bytes the body takes.
+    #[inline(always)]
     pub(crate) fn len(&self) -> usize
         requires { FitsConnect (connect_of self.now) }
         ensures value { result ≡ length (connect_body (connect_of self.now)) }
@@ -351,6 +370,7 @@ impl ConnectRef<'_> {
     }
 
     /// An owned copy.
+    #[inline(never)]
     pub(crate) fn to_connect(&self, alloc: Global) -> Result<Connect, AllocError>
         requires { FitsConnect (connect_of self.now) }
         ensures { IfOk result (λ c. c ≡ connect_of self.now) }
@@ -378,6 +398,7 @@ impl ConnectRef<'_> {
 
 impl Connect {
     /// The same, lent.
+    #[inline(always)]
     pub(crate) fn lend(&self) -> ConnectRef<'_>
         ensures { connect_of result ≡ self.now }
     {
@@ -402,6 +423,7 @@ impl Connect {
     }
 
     /// Whether its parts have a spelling.
+    #[inline(always)]
     pub(crate) fn fits(&self) -> bool
         ensures { IsTrue result ↔ FitsConnect self.now }
     {
@@ -415,6 +437,7 @@ impl Connect {
     }
 }
 
+#[inline(always)]
 fn will_fits(will: &Option<Will>) -> bool
     ensures { IsTrue result ↔ FitsOptional FitsWill will.now }
 {
@@ -424,6 +447,7 @@ fn will_fits(will: &Option<Will>) -> bool
     }
 }
 
+#[inline(always)]
 fn user_name_fits(name: &Option<Text>) -> bool
     ensures { IsTrue result ↔ FitsOptional FitsText name.now }
 {
@@ -436,6 +460,7 @@ fn user_name_fits(name: &Option<Text>) -> bool
     }
 }
 
+#[inline(always)]
 fn password_fits(password: &Option<Blob>) -> bool
     ensures { IsTrue result ↔ FitsOptional (λ p. length p < 2 ^ 16) password.now }
 {
@@ -449,6 +474,7 @@ fn password_fits(password: &Option<Blob>) -> bool
 }
 
 /// Writes a text at the end, if there is one.
+#[inline(always)]
 fn text_push_some(out: &mut Vec<u8>, text: Option<&str>) -> Result<(), AllocError>
     requires { FitsOptional FitsText (option_map (λ t. t.now) text) }
     ensures { OnOk result (out.new.items ≡ out.old.items ++ optional blob (option_map (λ t. t.now) text.entry)) }

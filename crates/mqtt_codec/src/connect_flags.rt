@@ -21,6 +21,7 @@ pub struct Flags {
     pub password: bool,
 }
 
+#[inline(always)]
 pub(crate) fn qos_of(number: u8) -> Option<Qos>
     ensures { result ≡ qos_of number }
 {
@@ -32,6 +33,7 @@ pub(crate) fn qos_of(number: u8) -> Option<Qos>
     }
 }
 
+#[inline(always)]
 fn will_flags(will: bool, qos: u8, retain: bool) -> Option<Option<WillFlags>>
     ensures { result ≡ will_flags will qos retain }
 {
@@ -46,6 +48,7 @@ fn will_flags(will: bool, qos: u8, retain: bool) -> Option<Option<WillFlags>>
 }
 
 /// What the byte says, if it is lawful.
+#[inline(always)]
 pub(crate) fn flags_read(byte: u8) -> Option<Flags>
     ensures { result ≡ flags_of byte }
 {
@@ -61,6 +64,7 @@ pub(crate) fn flags_read(byte: u8) -> Option<Flags>
     })
 }
 
+#[inline(always)]
 fn will_bits(will: Option<WillFlags>) -> u8
     ensures value { result ≡ will_bits will }
     ensures bound { result ≤ 52 }
@@ -80,6 +84,7 @@ fn will_bits(will: Option<WillFlags>) -> u8
 
 impl Flags {
     /// The byte that says so.
+    #[inline(always)]
     pub(crate) fn byte(self) -> u8
         ensures { result ≡ flags_byte self }
     {

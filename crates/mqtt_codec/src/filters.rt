@@ -35,6 +35,7 @@ impl<'a> Model for FiltersRef<'a> {
 }
 
 /// The filter at the front, and how many bytes it takes.
+#[inline(always)]
 #[tactic(auto, unfolding(crate::specs::Filters::filter_at))]
 fn filter_read(bytes: &[u8]) -> Result<(&str, usize), Fault>
     ensures exact { Reads (λ t. t.now) result bytes.now (filter_at bytes.now) }
@@ -57,6 +58,7 @@ fn walk(bytes: &[u8]) -> Result<(), Fault>
 }
 
 /// The filters that are the bytes.
+#[inline(always)]
 pub(crate) fn filters_read(bytes: &[u8]) -> Result<FiltersRef<'_>, Fault>
     ensures { Gives (λ fs. fs) result (items_at Malformed filter_at bytes.now) }
 {
@@ -66,6 +68,7 @@ pub(crate) fn filters_read(bytes: &[u8]) -> Result<FiltersRef<'_>, Fault>
 
 impl<'a> FiltersRef<'a> {
     /// The same list, lent once more. Takes no memory.
+    #[inline(always)]
     pub fn again(&self) -> FiltersRef<'a>
         ensures { result ≡ self.now }
     {
@@ -88,6 +91,7 @@ impl<'a> FiltersRef<'a> {
     }
 
     /// Whether there is none. Takes no memory.
+    #[inline(always)]
     pub fn is_empty(&self) -> bool
         ensures { result ≡ (length self.now == 0) }
     {

@@ -7,7 +7,7 @@ ghost use Rattle.mqtt_codec.specs.declared.packet.Packet.{Packet};
 ghost use Rattle.mqtt_codec.specs.Heads.{first};
 ghost use Rattle.mqtt_codec.specs.Reading.{Gives};
 ghost use Rattle.mqtt_codec.specs.Packets.{head, Fits, Spells, Refusal, is_lawful, shortest_body, shortest_of, HasSpelling, IsShortest};
-ghost use Rattle.mqtt_codec.specs.Frames.{frame_at, body_at, empty_at, versioned_at, version_at, lawful_at, packet_at, packet_of};
+ghost use Rattle.mqtt_codec.specs.Frames.{frame_at, empty_at, versioned_at, version_at, lawful_at, packet_at, packet_of};
 
 use crate::ack::ack_read;
 use crate::connack::connack_read;
@@ -27,6 +27,7 @@ use std::alloc::{AllocError, Global};
 /// Bytes: a Remaining Length is below it, since it is a Variable Byte Integer (2.1.4).
 const BODY_LIMIT: usize = 268_435_456;
 
+#[inline(always)]
 #[tactic(auto, unfolding(crate::specs::Frames::frame_at))]
 fn frame_read(frame: &[u8]) -> Result<(Head, &[u8]), Fault>
     ensures { Gives (λ x. (x.0, x.1.now)) result (frame_at frame.now) }
@@ -45,6 +46,7 @@ fn frame_read(frame: &[u8]) -> Result<(Head, &[u8]), Fault>
     Ok((head, body))
 }
 
+#[inline(always)]
 #[tactic(auto, unfolding(crate::specs::Frames::empty_at))]
 fn empty_read(body: &[u8]) -> Result<(), Fault>
     ensures { Gives (λ u. u) result (empty_at body.now) }
@@ -55,38 +57,8 @@ fn empty_read(body: &[u8]) -> Result<(), Fault>
     }
 }
 
-#[tactic(auto, unfolding(crate::specs::Frames::body_at))]
-fn body_read(head: Head, body: &[u8]) -> Result<PacketRef<'_>, Fault>
-    ensures { Gives packet_of result (body_at head body.now) }
-{
-    Ok(match head {
-        Head::Connect => PacketRef::Connect(connect_read(body)?),
-        Head::Connack => PacketRef::Connack(connack_read(body)?),
-        Head::Publish { dup, qos, retain } => PacketRef::Publish(publish_read(
-            dup, qos, retain, body,
-        )?),
-        Head::Puback => PacketRef::Puback(ack_read(Kind::Puback, Place::Puback, body)?),
-        Head::Pubrec => PacketRef::Pubrec(ack_read(Kind::Pubrec, Place::Pubrec, body)?),
-        Head::Pubrel => PacketRef::Pubrel(ack_read(Kind::Pubrel, Place::Pubrel, body)?),
-        Head::Pubcomp => PacketRef::Pubcomp(ack_read(Kind::Pubcomp, Place::Pubcomp, body)?),
-        Head::Subscribe => PacketRef::Subscribe(subscribe_read(body)?),
-        Head::Suback => PacketRef::Suback(suback_read(Kind::Suback, Place::Suback, body)?),
-        Head::Unsubscribe => PacketRef::Unsubscribe(unsubscribe_read(body)?),
-        Head::Unsuback => PacketRef::Unsuback(suback_read(Kind::Unsuback, Place::Unsuback, body)?),
-        Head::Pingreq => {
-            empty_read(body)?;
-            PacketRef::Pingreq
-        }
-        Head::Pingresp => {
-            empty_read(body)?;
-            PacketRef::Pingresp
-        }
-        Head::Disconnect => PacketRef::Disconnect(disconnect_read(body)?),
-        Head::Auth => PacketRef::Auth(auth_read(body)?),
-    })
-}
-
 /// Whether a CONNECT's body begins with the protocol's name and the version.
+#[inline(always)]
 #[tactic(auto, unfolding(crate::specs::Frames::versioned_at))]
 fn versioned_read(body: &[u8]) -> Result<bool, ReadFault>
     ensures { Gives (λ b. b) result (versioned_at body.now) }
@@ -97,6 +69,7 @@ fn versioned_read(body: &[u8]) -> Result<bool, ReadFault>
     Ok(is_version_5(protocol, version))
 }
 
+#[inline(always)]
 fn version_read(head: Head, body: &[u8]) -> Result<(), Fault>
     ensures { Gives (λ u. u) result (version_at head body.now) }
 {
@@ -109,21 +82,61 @@ fn version_read(head: Head, body: &[u8]) -> Result<(), Fault>
     }
 }
 
-#[tactic(auto, unfolding(crate::specs::Frames::lawful_at))]
+/// Gives the packet of a part that is read and keeps its laws. Each kind ends here by itself, so that
+/// no packet is moved.
+macro_rules! lawful_part {
+    ($packet:ident, $body:ident) => {{
+        let Ok(()) = empty_read($body) else {
+            return Err(Fault::Malformed);
+        };
+        Ok(PacketRef::$packet)
+    }};
+    ($packet:ident, $read:ident at its place, $body:ident) => {
+        lawful_part!(
+            $packet,
+            $read(Kind::$packet, Place::$packet, $body),
+            is_lawful(Place::$packet)
+        )
+    };
+    ($packet:ident, $read:expr, $test:ident($($place:expr)?)) => {{
+        let Ok(part) = $read else {
+            return Err(Fault::Malformed);
+        };
+        if !part.$test($($place)?) {
+            return Err(Fault::Protocol);
+        }
+        Ok(PacketRef::$packet(part))
+    }};
+}
+
+#[inline(always)]
+#[tactic(auto, unfolding(crate::specs::Frames::lawful_at, crate::specs::Frames::body_at))]
 fn lawful_read(head: Head, body: &[u8]) -> Result<PacketRef<'_>, Fault>
     ensures { Gives packet_of result (lawful_at head body.now) }
 {
     version_read(head, body)?;
-    let Ok(packet) = body_read(head, body) else {
-        return Err(Fault::Malformed);
-    };
-    if packet.is_lawful() {
-        Ok(packet)
-    } else {
-        Err(Fault::Protocol)
+    match head {
+        Head::Connect => lawful_part!(Connect, connect_read(body), is_lawful()),
+        Head::Connack => lawful_part!(Connack, connack_read(body), is_lawful()),
+        Head::Publish { dup, qos, retain } => {
+            lawful_part!(Publish, publish_read(dup, qos, retain, body), is_lawful())
+        }
+        Head::Puback => lawful_part!(Puback, ack_read at its place, body),
+        Head::Pubrec => lawful_part!(Pubrec, ack_read at its place, body),
+        Head::Pubrel => lawful_part!(Pubrel, ack_read at its place, body),
+        Head::Pubcomp => lawful_part!(Pubcomp, ack_read at its place, body),
+        Head::Subscribe => lawful_part!(Subscribe, subscribe_read(body), is_lawful()),
+        Head::Suback => lawful_part!(Suback, suback_read at its place, body),
+        Head::Unsubscribe => lawful_part!(Unsubscribe, unsubscribe_read(body), is_lawful()),
+        Head::Unsuback => lawful_part!(Unsuback, suback_read at its place, body),
+        Head::Pingreq => lawful_part!(Pingreq, body),
+        Head::Pingresp => lawful_part!(Pingresp, body),
+        Head::Disconnect => lawful_part!(Disconnect, disconnect_read(body), is_lawful_disconnect()),
+        Head::Auth => lawful_part!(Auth, auth_read(body), is_lawful_auth()),
     }
 }
 
+#[inline(always)]
 #[tactic(auto, unfolding(crate::specs::Frames::packet_at))]
 fn packet_read(frame: &[u8]) -> Result<PacketRef<'_>, Fault>
     ensures { Gives packet_of result (packet_at frame.now) }
@@ -139,6 +152,7 @@ fn packet_read(frame: &[u8]) -> Result<PacketRef<'_>, Fault>
 /// `Malformed` (1) where the bytes have no layout, `Protocol` (2) where they have one and a law is
 /// broken, `Version` (4) where they are a CONNECT of another protocol or version; never `TooLarge`
 /// or `Memory`.
+#[inline(always)]
 pub fn look_at(frame: &[u8]) -> Result<PacketRef<'_>, Fault>
     ensures exact { Gives packet_of result (packet_at frame.now) }
     // What is read is spelled so, and keeps its laws.
@@ -165,6 +179,7 @@ pub fn decode(alloc: Global, frame: &[u8]) -> Result<Packet, Fault>
 
 impl PacketRef<'_> {
     /// The first byte.
+    #[inline(always)]
     fn first_byte(&self) -> u8
         ensures { result ≡ first (head (packet_of self.now)) }
     {
@@ -188,6 +203,7 @@ impl PacketRef<'_> {
     }
 
     /// How many bytes the shortest body takes.
+    #[inline(always)]
     fn body_len(&self) -> usize
         requires { Fits (packet_of self.now) }
         ensures { result ≡ length (shortest_body (packet_of self.now)) }
@@ -212,6 +228,7 @@ impl PacketRef<'_> {
     }
 
     /// Writes the shortest body at the end.
+    #[inline(always)]
     fn push_body(&self, out: &mut Vec<u8>) -> Result<(), AllocError>
         requires { Fits (packet_of self.now) }
         ensures { OnOk result (out.new.items ≡ out.old.items ++ shortest_body (packet_of self.now)) }
@@ -258,6 +275,7 @@ pub fn encode(alloc: Global, packet: &Packet) -> Result<Vec<u8>, Fault>
     Ok(encode_lent(alloc, &packet.lend())?)
 }
 
+#[inline(always)]
 #[tactic(auto, using(std::proofs::lemmas::List::append_assoc))]
 fn encode_lent(alloc: Global, packet: &PacketRef<'_>) -> Result<Vec<u8>, AllocError>
     requires { HasSpelling (packet_of packet.now) }

@@ -48,6 +48,7 @@ pub enum Head {
 }
 
 /// What the first byte says, if its type and flags are lawful.
+#[inline(always)]
 pub fn head_read(first: u8) -> Option<Head>
     ensures { result ≡ head_of first }
 {

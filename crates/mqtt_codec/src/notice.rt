@@ -30,6 +30,7 @@ pub struct NoticeRef<'a> {
     pub properties: PropsRef<'a>,
 }
 
+#[inline(always)]
 #[tactic(auto, unfolding(crate::specs::Notice::disconnect_at))]
 pub(crate) fn disconnect_read(body: &[u8]) -> Result<NoticeRef<'_>, Fault>
     ensures { Gives notice_of result (disconnect_at body.now) }
@@ -42,6 +43,7 @@ pub(crate) fn disconnect_read(body: &[u8]) -> Result<NoticeRef<'_>, Fault>
     Ok(NoticeRef { reason, properties })
 }
 
+#[inline(always)]
 #[tactic(auto, unfolding(crate::specs::Notice::auth_at))]
 pub(crate) fn auth_read(body: &[u8]) -> Result<NoticeRef<'_>, Fault>
     ensures { Gives notice_of result (auth_at body.now) }
@@ -66,6 +68,7 @@ pub(crate) fn auth_read(body: &[u8]) -> Result<NoticeRef<'_>, Fault>
 
 impl NoticeRef<'_> {
     /// Whether the laws of DISCONNECT hold: those of its block.
+    #[inline(always)]
     pub(crate) fn is_lawful_disconnect(&self) -> bool
         ensures { result ≡ keeps_laws Place.Disconnect self.now.properties }
     {
@@ -73,6 +76,7 @@ impl NoticeRef<'_> {
     }
 
     /// Whether the laws of AUTH hold.
+    #[inline(always)]
     pub(crate) fn is_lawful_auth(&self) -> bool
         ensures { result ≡ lawful_auth (notice_of self.now) }
     {
@@ -82,6 +86,7 @@ impl NoticeRef<'_> {
     }
 
     /// Writes the shortest body of DISCONNECT at the end.
+    #[inline(always)]
     pub(crate) fn push_disconnect(&self, out: &mut Vec<u8>) -> Result<(), AllocError>
         ensures { OnOk result (out.new.items ≡ out.old.items ++ disconnect_body (notice_of self.now)) }
     {
@@ -89,6 +94,7 @@ impl NoticeRef<'_> {
     }
 
     /// Writes the shortest body of AUTH at the end.
+    #[inline(always)]
     #[tactic(auto, using(std::proofs::lemmas::List::append_assoc))]
     pub(crate) fn push_auth(&self, out: &mut Vec<u8>) -> Result<(), AllocError>
         ensures { OnOk result (out.new.items ≡ out.old.items ++ auth_body (notice_of self.now)) }
@@ -101,6 +107,7 @@ impl NoticeRef<'_> {
     }
 
     /// How many bytes the shortest body of DISCONNECT takes.
+    #[inline(always)]
     pub(crate) fn disconnect_len(&self) -> usize
         ensures value { result ≡ length (disconnect_body (notice_of self.now)) }
         ensures bound { result < 2 ^ 31 }
@@ -109,6 +116,7 @@ impl NoticeRef<'_> {
     }
 
     /// How many bytes the shortest body of AUTH takes.
+    #[inline(always)]
     pub(crate) fn auth_len(&self) -> usize
         ensures value { result ≡ length (auth_body (notice_of self.now)) }
         ensures bound { result < 2 ^ 31 }
@@ -121,6 +129,7 @@ impl NoticeRef<'_> {
     }
 
     /// An owned copy.
+    #[inline(never)]
     pub(crate) fn to_notice(&self, alloc: Global) -> Result<Notice, AllocError>
         ensures { IfOk result (λ n. n ≡ notice_of self.now) }
     {
@@ -133,6 +142,7 @@ impl NoticeRef<'_> {
 
 impl Notice {
     /// The same, lent.
+    #[inline(always)]
     pub(crate) fn lend(&self) -> NoticeRef<'_>
         ensures { notice_of result ≡ self.now }
     {
@@ -143,6 +153,7 @@ impl Notice {
     }
 
     /// Whether its parts have a spelling.
+    #[inline(always)]
     pub(crate) fn fits(&self, kind: Kind, place: Place) -> bool
         ensures { IsTrue result ↔ FitsNotice kind place self.now }
     {

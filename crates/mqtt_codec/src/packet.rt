@@ -132,6 +132,7 @@ impl PacketRef<'_> {
     }
 
     /// Whether the laws hold.
+    #[inline(always)]
     pub(crate) fn is_lawful(&self) -> bool
         ensures { result ≡ is_lawful (packet_of self.now) }
     {
@@ -155,34 +156,38 @@ impl PacketRef<'_> {
     }
 
     /// An owned copy; want of memory is its only refusal.
+    #[inline(always)]
     pub fn to_packet(&self, alloc: Global) -> Result<Packet, AllocError>
         requires { Fits (packet_of self.now) }
         ensures { IfOk result (λ p. p ≡ packet_of self.now) }
     {
-        Ok(match self {
-            PacketRef::Connect(connect) => Packet::Connect(connect.to_connect(alloc)?),
-            PacketRef::Connack(connack) => Packet::Connack(connack.to_connack(alloc)?),
-            PacketRef::Publish(publish) => Packet::Publish(publish.to_publish(alloc)?),
-            PacketRef::Puback(ack) => Packet::Puback(ack.to_ack(alloc)?),
-            PacketRef::Pubrec(ack) => Packet::Pubrec(ack.to_ack(alloc)?),
-            PacketRef::Pubrel(ack) => Packet::Pubrel(ack.to_ack(alloc)?),
-            PacketRef::Pubcomp(ack) => Packet::Pubcomp(ack.to_ack(alloc)?),
-            PacketRef::Subscribe(subscribe) => Packet::Subscribe(subscribe.to_subscribe(alloc)?),
-            PacketRef::Suback(suback) => Packet::Suback(suback.to_suback(alloc)?),
-            PacketRef::Unsubscribe(unsubscribe) => Packet::Unsubscribe(unsubscribe.to_unsubscribe(
+        match self {
+            PacketRef::Connect(connect) => Ok(Packet::Connect(connect.to_connect(alloc)?)),
+            PacketRef::Connack(connack) => Ok(Packet::Connack(connack.to_connack(alloc)?)),
+            PacketRef::Publish(publish) => Ok(Packet::Publish(publish.to_publish(alloc)?)),
+            PacketRef::Puback(ack) => Ok(Packet::Puback(ack.to_ack(alloc)?)),
+            PacketRef::Pubrec(ack) => Ok(Packet::Pubrec(ack.to_ack(alloc)?)),
+            PacketRef::Pubrel(ack) => Ok(Packet::Pubrel(ack.to_ack(alloc)?)),
+            PacketRef::Pubcomp(ack) => Ok(Packet::Pubcomp(ack.to_ack(alloc)?)),
+            PacketRef::Subscribe(subscribe) => Ok(Packet::Subscribe(subscribe.to_subscribe(
                 alloc,
-            )?),
-            PacketRef::Unsuback(suback) => Packet::Unsuback(suback.to_suback(alloc)?),
-            PacketRef::Pingreq => Packet::Pingreq,
-            PacketRef::Pingresp => Packet::Pingresp,
-            PacketRef::Disconnect(notice) => Packet::Disconnect(notice.to_notice(alloc)?),
-            PacketRef::Auth(notice) => Packet::Auth(notice.to_notice(alloc)?),
-        })
+            )?)),
+            PacketRef::Suback(suback) => Ok(Packet::Suback(suback.to_suback(alloc)?)),
+            PacketRef::Unsubscribe(unsubscribe) => Ok(Packet::Unsubscribe(
+                unsubscribe.to_unsubscribe(alloc)?,
+            )),
+            PacketRef::Unsuback(suback) => Ok(Packet::Unsuback(suback.to_suback(alloc)?)),
+            PacketRef::Pingreq => Ok(Packet::Pingreq),
+            PacketRef::Pingresp => Ok(Packet::Pingresp),
+            PacketRef::Disconnect(notice) => Ok(Packet::Disconnect(notice.to_notice(alloc)?)),
+            PacketRef::Auth(notice) => Ok(Packet::Auth(notice.to_notice(alloc)?)),
+        }
     }
 }
 
 impl Packet {
     /// The same packet, lent. Takes no memory.
+    #[inline(always)]
     pub fn lend(&self) -> PacketRef<'_>
         ensures { packet_of result ≡ self.now }
     {
@@ -206,6 +211,7 @@ impl Packet {
     }
 
     /// Whether its parts have a spelling.
+    #[inline(always)]
     pub(crate) fn fits(&self) -> bool
         ensures { IsTrue result ↔ Fits self.now }
     {

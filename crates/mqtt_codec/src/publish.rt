@@ -65,6 +65,7 @@ pub struct PublishRef<'a> {
     pub payload: &'a [u8],
 }
 
+#[inline(always)]
 #[tactic(auto, unfolding(crate::specs::Publish::delivery_at))]
 fn delivery_read(dup: bool, qos: Qos, bytes: &[u8]) -> Result<(Delivery, usize), ReadFault>
     ensures { Reads (λ d. d) result bytes.now (delivery_at dup qos bytes.now) }
@@ -82,6 +83,7 @@ fn delivery_read(dup: bool, qos: Qos, bytes: &[u8]) -> Result<(Delivery, usize),
     }
 }
 
+#[inline(always)]
 #[tactic(auto, unfolding(crate::specs::Publish::publish_at))]
 pub(crate) fn publish_read(
     dup: bool,
@@ -110,6 +112,7 @@ pub(crate) fn publish_read(
 
 impl Delivery {
     /// Its quality of service (3.3.1.2). Takes no memory.
+    #[inline(always)]
     pub fn qos(self) -> Qos
         ensures exact { result ≡ delivery_qos self }
 
@@ -125,6 +128,7 @@ impl Delivery {
     }
 
     /// Whether it is marked as sent once more (3.3.1.1). Takes no memory.
+    #[inline(always)]
     pub fn dup(self) -> bool
         ensures { result ≡ delivery_dup self }
     {
@@ -135,6 +139,7 @@ impl Delivery {
     }
 
     /// Its packet identifier; QoS 0 has none (2.2.1). Takes no memory.
+    #[inline(always)]
     pub fn identifier(self) -> Option<u16>
         ensures { result ≡ delivery_identifier self }
     {
@@ -145,6 +150,7 @@ impl Delivery {
         }
     }
 
+    #[inline(always)]
     fn has_lawful_identifier(self) -> bool
         ensures { result ≡ lawful_identifier self }
     {
@@ -155,6 +161,7 @@ impl Delivery {
         }
     }
 
+    #[inline(always)]
     fn push(self, out: &mut Vec<u8>) -> Result<(), AllocError>
         ensures { OnOk result (out.new.items ≡ out.old.items ++ identifier_field self) }
     {
@@ -168,6 +175,7 @@ impl Delivery {
 
 impl PublishRef<'_> {
     /// Whether the laws of PUBLISH hold.
+    #[inline(always)]
     pub(crate) fn is_lawful(&self) -> bool
         ensures { result ≡ lawful_publish (publish_of self.now) }
     {
@@ -177,6 +185,7 @@ impl PublishRef<'_> {
     }
 
     /// Writes the body at the end.
+    #[inline(always)]
     #[tactic(auto, using(std::proofs::lemmas::List::append_assoc))]
     pub(crate) fn push(&self, out: &mut Vec<u8>) -> Result<(), AllocError>
         requires { FitsPublish (publish_of self.now) }
@@ -189,6 +198,7 @@ impl PublishRef<'_> {
     }
 
     /// How many bytes the body takes.
+    #[inline(always)]
     pub(crate) fn len(&self) -> usize
         requires { FitsPublish (publish_of self.now) }
         ensures { result ≡ length (publish_body (publish_of self.now)) }
@@ -201,6 +211,7 @@ impl PublishRef<'_> {
     }
 
     /// An owned copy.
+    #[inline(never)]
     pub(crate) fn to_publish(&self, alloc: Global) -> Result<Publish, AllocError>
         requires { FitsPublish (publish_of self.now) }
         ensures { IfOk result (λ p. p ≡ publish_of self.now) }
@@ -217,6 +228,7 @@ impl PublishRef<'_> {
 
 impl PublishRef<'_> {
     /// The first byte.
+    #[inline(always)]
     pub(crate) fn first_byte(&self) -> u8
         ensures { result ≡ first (delivery_head self.now.delivery self.now.retain) }
     {
@@ -232,6 +244,7 @@ impl PublishRef<'_> {
 }
 
 impl Delivery {
+    #[inline(always)]
     fn fits(self) -> bool
         ensures { IsTrue result ↔ FitsDelivery self }
     {
@@ -247,6 +260,7 @@ impl Delivery {
 
 impl Publish {
     /// Whether its parts have a spelling.
+    #[inline(always)]
     pub(crate) fn fits(&self) -> bool
         ensures { IsTrue result ↔ FitsPublish self.now }
     {
@@ -256,6 +270,7 @@ impl Publish {
     }
 
     /// The same, lent.
+    #[inline(always)]
     pub(crate) fn lend(&self) -> PublishRef<'_>
         ensures { publish_of result ≡ self.now }
     {

@@ -33,12 +33,14 @@ pub struct SubackRef<'a> {
     pub codes: &'a [u8],
 }
 
+#[inline(always)]
 fn are_codes(kind: Kind, codes: &[u8]) -> bool
     ensures { result ≡ are_codes kind codes.now }
 {
     codes.iter().all(|code| Reason(*code).allowed(kind))
 }
 
+#[inline(always)]
 #[tactic(auto, unfolding(crate::specs::Suback::suback_at))]
 pub(crate) fn suback_read(kind: Kind, place: Place, body: &[u8]) -> Result<SubackRef<'_>, Fault>
     ensures { Gives suback_of result (suback_at kind place body.now) }
@@ -61,6 +63,7 @@ pub(crate) fn suback_read(kind: Kind, place: Place, body: &[u8]) -> Result<Subac
 
 impl SubackRef<'_> {
     /// Whether the laws hold.
+    #[inline(always)]
     pub(crate) fn is_lawful(&self, place: Place) -> bool
         ensures { result ≡ lawful_suback place (suback_of self.now) }
     {
@@ -68,6 +71,7 @@ impl SubackRef<'_> {
     }
 
     /// Writes the body at the end.
+    #[inline(always)]
     #[tactic(auto, using(std::proofs::lemmas::List::append_assoc))]
     pub(crate) fn push(&self, out: &mut Vec<u8>) -> Result<(), AllocError>
         ensures { OnOk result (out.new.items ≡ out.old.items ++ suback_body (suback_of self.now)) }
@@ -78,6 +82,7 @@ impl SubackRef<'_> {
     }
 
     /// How many bytes the body takes.
+    #[inline(always)]
     pub(crate) fn len(&self) -> usize
         ensures { result ≡ length (suback_body (suback_of self.now)) }
     {
@@ -85,6 +90,7 @@ impl SubackRef<'_> {
     }
 
     /// An owned copy.
+    #[inline(never)]
     pub(crate) fn to_suback(&self, alloc: Global) -> Result<Suback, AllocError>
         ensures { IfOk result (λ s. s ≡ suback_of self.now) }
     {
@@ -98,6 +104,7 @@ impl SubackRef<'_> {
 
 impl Suback {
     /// The same, lent.
+    #[inline(always)]
     pub(crate) fn lend(&self) -> SubackRef<'_>
         ensures { suback_of result ≡ self.now }
     {
@@ -109,6 +116,7 @@ impl Suback {
     }
 
     /// Whether its parts have a spelling.
+    #[inline(always)]
     pub(crate) fn fits(&self, kind: Kind, place: Place) -> bool
         ensures { IsTrue result ↔ FitsSuback kind place self.now }
     {

@@ -33,6 +33,7 @@ pub struct SubscribeRef<'a> {
     pub subscriptions: SubscriptionsRef<'a>,
 }
 
+#[inline(always)]
 #[tactic(auto, unfolding(crate::specs::Subscribe::subscribe_at))]
 pub(crate) fn subscribe_read(body: &[u8]) -> Result<SubscribeRef<'_>, Fault>
     ensures { Gives subscribe_of result (subscribe_at body.now) }
@@ -53,6 +54,7 @@ pub(crate) fn subscribe_read(body: &[u8]) -> Result<SubscribeRef<'_>, Fault>
 
 impl SubscribeRef<'_> {
     /// Whether the laws hold.
+    #[inline(always)]
     pub(crate) fn is_lawful(&self) -> bool
         ensures { result ≡ lawful_subscribe (subscribe_of self.now) }
     {
@@ -63,6 +65,7 @@ impl SubscribeRef<'_> {
     }
 
     /// Writes the body at the end.
+    #[inline(always)]
     #[tactic(auto, using(std::proofs::lemmas::List::append_assoc))]
     pub(crate) fn push(&self, out: &mut Vec<u8>) -> Result<(), AllocError>
         ensures { OnOk result (out.new.items ≡ out.old.items ++ subscribe_body (subscribe_of self.now)) }
@@ -73,6 +76,7 @@ impl SubscribeRef<'_> {
     }
 
     /// How many bytes the body takes.
+    #[inline(always)]
     pub(crate) fn len(&self) -> usize
         ensures { result ≡ length (subscribe_body (subscribe_of self.now)) }
     {
@@ -80,6 +84,7 @@ impl SubscribeRef<'_> {
     }
 
     /// An owned copy.
+    #[inline(never)]
     pub(crate) fn to_subscribe(&self, alloc: Global) -> Result<Subscribe, AllocError>
         ensures { IfOk result (λ s. s ≡ subscribe_of self.now) }
     {
@@ -93,6 +98,7 @@ impl SubscribeRef<'_> {
 
 impl Subscribe {
     /// The same, lent.
+    #[inline(always)]
     pub(crate) fn lend(&self) -> SubscribeRef<'_>
         ensures { subscribe_of result ≡ self.now }
     {
@@ -104,6 +110,7 @@ impl Subscribe {
     }
 
     /// Whether its parts have a spelling.
+    #[inline(always)]
     pub(crate) fn fits(&self) -> bool
         ensures { IsTrue result ↔ FitsSubscribe self.now }
     {

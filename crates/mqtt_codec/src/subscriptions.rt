@@ -48,6 +48,7 @@ impl<'a> Model for SubscriptionsRef<'a> {
 }
 
 /// The filter at the front with its options, and how many bytes they take.
+#[inline(always)]
 #[tactic(auto, unfolding(crate::specs::Subscriptions::subscription_at))]
 fn subscription_read(bytes: &[u8]) -> Result<(SubscriptionRef<'_>, usize), Fault>
     ensures exact { Reads subscription_of result bytes.now (subscription_at bytes.now) }
@@ -73,12 +74,14 @@ impl SubscriptionRef<'_> {
         options_read(self.options)
     }
 
+    #[inline(always)]
     fn is_shared(&self) -> bool
         ensures { result ≡ is_shared self.now.filter.now }
     {
         self.filter.as_bytes().starts_with(b"$share/")
     }
 
+    #[inline(always)]
     fn is_lawful(&self) -> bool
         ensures { result ≡ lawful_subscription (subscription_of self.now) }
     {
@@ -101,6 +104,7 @@ fn walk(bytes: &[u8]) -> Result<(), Fault>
 }
 
 /// The filters with options that are the bytes.
+#[inline(always)]
 pub(crate) fn subscriptions_read(bytes: &[u8]) -> Result<SubscriptionsRef<'_>, Fault>
     ensures { Gives (λ ws. ws) result (items_at Malformed subscription_at bytes.now) }
 {
@@ -110,6 +114,7 @@ pub(crate) fn subscriptions_read(bytes: &[u8]) -> Result<SubscriptionsRef<'_>, F
 
 impl<'a> SubscriptionsRef<'a> {
     /// The same list, lent once more. Takes no memory.
+    #[inline(always)]
     pub fn again(&self) -> SubscriptionsRef<'a>
         ensures { result ≡ self.now }
     {
@@ -132,6 +137,7 @@ impl<'a> SubscriptionsRef<'a> {
     }
 
     /// Whether there is none. Takes no memory.
+    #[inline(always)]
     pub fn is_empty(&self) -> bool
         ensures { result ≡ (length self.now == 0) }
     {
@@ -139,6 +145,7 @@ impl<'a> SubscriptionsRef<'a> {
     }
 
     /// Whether each keeps its laws.
+    #[inline(always)]
     pub(crate) fn all_lawful(&self) -> bool
         ensures { result ≡ list_all lawful_subscription self.now }
     {

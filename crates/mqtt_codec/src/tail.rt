@@ -9,6 +9,7 @@ use crate::fault::Fault;
 use mqtt_props::{Place, PropsRef, layout_read};
 use std::alloc::AllocError;
 
+#[inline(always)]
 #[tactic(auto, unfolding(crate::specs::Tails::tail_at))]
 pub(crate) fn tail_read(place: Place, bytes: &[u8]) -> Result<(u8, PropsRef<'_>), Fault>
     ensures { Gives (λ x. x) result (tail_at place bytes.now) }
@@ -29,6 +30,7 @@ pub(crate) fn tail_read(place: Place, bytes: &[u8]) -> Result<(u8, PropsRef<'_>)
 }
 
 /// Writes the shortest tail at the end.
+#[inline(always)]
 #[tactic(auto, using(std::proofs::lemmas::List::append_assoc))]
 pub(crate) fn tail_push(
     out: &mut Vec<u8>,
@@ -49,6 +51,7 @@ pub(crate) fn tail_push(
 }
 
 /// How many bytes the shortest tail takes.
+#[inline(always)]
 pub(crate) fn tail_len(code: u8, properties: &PropsRef<'_>) -> usize
     ensures value { result ≡ length (tail code properties.now) }
     ensures bound { result < 2 ^ 30 }

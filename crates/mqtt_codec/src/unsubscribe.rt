@@ -33,6 +33,7 @@ pub struct UnsubscribeRef<'a> {
     pub filters: FiltersRef<'a>,
 }
 
+#[inline(always)]
 #[tactic(auto, unfolding(crate::specs::Unsubscribe::unsubscribe_at))]
 pub(crate) fn unsubscribe_read(body: &[u8]) -> Result<UnsubscribeRef<'_>, Fault>
     ensures { Gives unsubscribe_of result (unsubscribe_at body.now) }
@@ -53,6 +54,7 @@ pub(crate) fn unsubscribe_read(body: &[u8]) -> Result<UnsubscribeRef<'_>, Fault>
 
 impl UnsubscribeRef<'_> {
     /// Whether the laws hold.
+    #[inline(always)]
     pub(crate) fn is_lawful(&self) -> bool
         ensures { result ≡ lawful_unsubscribe (unsubscribe_of self.now) }
     {
@@ -62,6 +64,7 @@ impl UnsubscribeRef<'_> {
     }
 
     /// Writes the body at the end.
+    #[inline(always)]
     #[tactic(auto, using(std::proofs::lemmas::List::append_assoc))]
     pub(crate) fn push(&self, out: &mut Vec<u8>) -> Result<(), AllocError>
         ensures { OnOk result (out.new.items ≡ out.old.items ++ unsubscribe_body (unsubscribe_of self.now)) }
@@ -72,6 +75,7 @@ impl UnsubscribeRef<'_> {
     }
 
     /// How many bytes the body takes.
+    #[inline(always)]
     pub(crate) fn len(&self) -> usize
         ensures { result ≡ length (unsubscribe_body (unsubscribe_of self.now)) }
     {
@@ -79,6 +83,7 @@ impl UnsubscribeRef<'_> {
     }
 
     /// An owned copy.
+    #[inline(never)]
     pub(crate) fn to_unsubscribe(&self, alloc: Global) -> Result<Unsubscribe, AllocError>
         ensures { IfOk result (λ s. s ≡ unsubscribe_of self.now) }
     {
@@ -92,6 +97,7 @@ impl UnsubscribeRef<'_> {
 
 impl Unsubscribe {
     /// The same, lent.
+    #[inline(always)]
     pub(crate) fn lend(&self) -> UnsubscribeRef<'_>
         ensures { unsubscribe_of result ≡ self.now }
     {
@@ -103,6 +109,7 @@ impl Unsubscribe {
     }
 
     /// Whether its parts have a spelling.
+    #[inline(always)]
     pub(crate) fn fits(&self) -> bool
         ensures { IsTrue result ↔ FitsUnsubscribe self.now }
     {

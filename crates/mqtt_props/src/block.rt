@@ -22,27 +22,18 @@ pub fn look_at(bytes: &[u8], place: Place) -> Result<(PropsRef<'_>, usize), Prop
     lawful_read(bytes, place)
 }
 
-#[tactic(auto, unfolding(crate::specs::Laws::lawful_at))]
+#[tactic(auto, using(crate::proofs::Placed::lawful_by_layout))]
 fn lawful_read(bytes: &[u8], place: Place) -> Result<(PropsRef<'_>, usize), PropFault>
     ensures { Reads (λ ps. ps) result bytes.now (lawful_at place bytes.now) }
 {
-    let Ok((props, taken)) = block_read(bytes) else {
-        return Err(PropFault::Malformed);
-    };
-    if !props.may_stand_in(place) {
-        return Err(PropFault::Malformed);
-    }
-    if !props.has_no_repeat(place) {
-        return Err(PropFault::Twice);
-    }
-    if !props.has_lawful_values() {
-        return Err(PropFault::BadValue);
-    }
+    let (props, taken) = block_read(bytes, place)?;
+    props.laws_test(place)?;
     Ok((props, taken))
 }
 
 /// Lends the block at the front whose properties may stand there, be it lawful or not, and how many
 /// bytes it takes. Takes no memory.
+#[inline(always)]
 pub fn layout_read(bytes: &[u8], place: Place) -> Result<(PropsRef<'_>, usize), PropFault>
     ensures exact { Reads (λ ps. ps) result bytes.now (layout_at place bytes.now) }
     ensures found { IfOk result (λ x. Begins place x.0 (drop x.1 bytes.now) bytes.now) }
@@ -51,20 +42,7 @@ pub fn layout_read(bytes: &[u8], place: Place) -> Result<(PropsRef<'_>, usize), 
     ensures refused { IfErr result (λ fault. (fault ≡ PropFault.Malformed)
         × Refuses place bytes.now fault) }
 {
-    placed_read(bytes, place)
-}
-
-#[tactic(auto, unfolding(crate::specs::Laws::layout_at))]
-fn placed_read(bytes: &[u8], place: Place) -> Result<(PropsRef<'_>, usize), PropFault>
-    ensures { Reads (λ ps. ps) result bytes.now (layout_at place bytes.now) }
-{
-    let Ok((props, taken)) = block_read(bytes) else {
-        return Err(PropFault::Malformed);
-    };
-    if !props.may_stand_in(place) {
-        return Err(PropFault::Malformed);
-    }
-    Ok((props, taken))
+    block_read(bytes, place)
 }
 
 /// Reads the lawful block at the front, and how many bytes it takes.

@@ -1,10 +1,11 @@
 //! The laws of a block, tested on lists (2.2.2.2 and the sections of the properties).
 
-ghost use Rattle.std.specs.Prelude.{◌≡◌, ◌↔◌, IsTrue};
-ghost use Rattle.std.specs.List.{list_all};
-ghost use Rattle.mqtt_props.specs.Laws.{all_may_stand, may_repeat, none_repeats, has_no_wildcard, is_lawful_value, values_are_lawful, is_lawful};
+ghost use Rattle.std.specs.Prelude.{◌≡◌, ◌||◌, not};
+ghost use Rattle.mqtt_props.specs.declared.table.PropName.TheVariants.{AuthenticationData, AuthenticationMethod};
+ghost use Rattle.mqtt_props.specs.Laws.{all_may_stand, may_repeat, has_no_wildcard, is_lawful_value, is_lawful, laws_of, is_seen, see};
 ghost use Rattle.mqtt_props.specs.Views.{prop_of};
 
+use crate::fault::PropFault;
 use crate::list::PropsRef;
 use crate::place::Place;
 use crate::table::PropName;
@@ -42,6 +43,34 @@ fn is_without_wildcard(topic: &[u8]) -> bool
     !topic.contains(&b'+') && !topic.contains(&b'#')
 }
 
+/// Whether the identifier of that name is among those seen, a bit each.
+fn is_seen(name: PropName, seen: u64) -> bool
+    ensures { result ≡ is_seen name seen }
+{
+    (seen >> name.id()) & 1 == 1
+}
+
+/// The identifiers that were seen, a bit each, and that of the name.
+fn see(name: PropName, seen: u64) -> u64
+    ensures { result ≡ see name seen }
+{
+    seen | 1 << name.id()
+}
+
+/// Whether the property may stand behind those that were seen.
+fn may_follow(place: Place, name: PropName, seen: u64) -> bool
+    ensures { result ≡ (not (is_seen name seen) || may_repeat place name) }
+{
+    !is_seen(name, seen) || may_repeat_in(place, name)
+}
+
+/// Whether Authentication Method was seen if Authentication Data was (3.1.2.11.10).
+fn has_method_for_data(seen: u64) -> bool
+    ensures { result ≡ (not (is_seen AuthenticationData seen) || is_seen AuthenticationMethod seen) }
+{
+    !is_seen(PropName::AuthenticationData, seen) || is_seen(PropName::AuthenticationMethod, seen)
+}
+
 impl<'a> PropsRef<'a> {
     /// Whether each property may stand in that place.
     pub fn may_stand_in(&self, place: Place) -> bool
@@ -58,44 +87,33 @@ impl<'a> PropsRef<'a> {
     }
 
     /// Whether the list keeps the laws of a block in that place.
+    #[inline(always)]
     pub fn is_lawful(&self, place: Place) -> bool
         ensures { result ≡ is_lawful place self.now }
     {
-        self.has_no_repeat(place) && self.has_lawful_values()
+        self.is_empty() || self.reborrow().laws_test(place).is_ok()
     }
 
-    /// Whether no property stands twice that may stand once.
-    pub(crate) fn has_no_repeat(&self, place: Place) -> bool
-        ensures { result ≡ none_repeats place self.now }
+    /// Tests the laws: `Twice` where a property stands twice that may stand once, and else `BadValue`
+    /// where a value breaks a law.
+    pub(crate) fn laws_test(&self, place: Place) -> Result<(), PropFault>
+        ensures { result ≡ laws_of place self.now }
     {
+        let mut seen = 0;
+        let mut good = true;
         let mut rest = self.reborrow();
         while let Some((prop, after)) = rest.split_first() {
-            if !may_repeat_in(place, prop.name) && after.has(prop.name) {
-                return false;
+            if !may_follow(place, prop.name, seen) {
+                return Err(PropFault::Twice);
             }
+            good = has_lawful_value(&prop) && good;
+            seen = see(prop.name, seen);
             rest = after;
         }
-        true
-    }
-
-    /// Whether the values keep their laws.
-    pub(crate) fn has_lawful_values(&self) -> bool
-        ensures { result ≡ values_are_lawful self.now }
-    {
-        self.each_value_is_lawful()
-            && (!self.has(PropName::AuthenticationData) || self.has(PropName::AuthenticationMethod))
-    }
-
-    fn each_value_is_lawful(&self) -> bool
-        ensures { result ≡ list_all (λ p. is_lawful_value p.name p.value) self.now }
-    {
-        let mut rest = self.reborrow();
-        while let Some((prop, after)) = rest.split_first() {
-            if !has_lawful_value(&prop) {
-                return false;
-            }
-            rest = after;
+        if good && has_method_for_data(seen) {
+            Ok(())
+        } else {
+            Err(PropFault::BadValue)
         }
-        true
     }
 }

@@ -5,20 +5,20 @@ use Rattle.std.proofs.lemmas.Result.{err_from_is_err_and}
 use Rattle.std.proofs.lemmas.Bool.{eqb-true}
 use Rattle.mqtt_base.proofs.Items.{begins, goes_on, fails, finds}
 use Rattle.mqtt_props.specs.declared.fault.PropFault.TheVariants.{Malformed}
-use Rattle.mqtt_props.specs.Reading.{prop_at}
+use Rattle.mqtt_props.specs.Laws.{placed_at}
 use Rattle.mqtt_props.proofs.list.pairs_test.Goals as goal
 
 pub loop-rest-init : goal.loop-rest-init
-loop-rest-init c = begins Malformed prop_at c.args.pairs.now
+loop-rest-init c = begins Malformed (placed_at c.args.place) c.args.pairs.now
 
 pub returns-in_err-taken : goal.returns-in_err-taken
 returns-in_err-taken c =
     let p = err_from_is_err_and c.from_residual.result c.from_residual.ensures.1 in
-    rw (p.1, p.2) (fails Malformed prop_at c.loop-rest.rest.now c.args.pairs.now c.in_err-taken.field-0.0 (grind arith) c.in_err-taken.ensures.exact c.loop-rest.invariant)
+    rw (p.1, p.2) (fails Malformed (placed_at c.args.place) c.loop-rest.rest.now c.args.pairs.now c.in_err-taken.field-0.0 (grind arith) c.in_err-taken.ensures.exact c.loop-rest.invariant)
 
 pub loop-rest-preserved : goal.loop-rest-preserved
 loop-rest-preserved c =
-    rw take_rest (goes_on Malformed prop_at _ _ _ _ c.in_ok-taken.ensures.progress c.in_ok-taken.ensures.exact.0 c.in_ok-taken.ensures.exact.1 c.loop-rest.invariant)
+    rw take_rest (goes_on Malformed (placed_at c.args.place) _ _ _ _ c.in_ok-taken.ensures.progress c.in_ok-taken.ensures.exact.0 c.in_ok-taken.ensures.exact.1 c.loop-rest.invariant)
 
 pub returns : goal.returns
-returns c = finds Malformed prop_at c.loop-rest.rest.now c.args.pairs.now (eqb-true _ _ (sym c.loop-rest-test.ensures)) c.loop-rest.invariant
+returns c = finds Malformed (placed_at c.args.place) c.loop-rest.rest.now c.args.pairs.now (eqb-true _ _ (sym c.loop-rest-test.ensures)) c.loop-rest.invariant
