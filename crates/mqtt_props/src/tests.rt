@@ -222,44 +222,56 @@ const TABLE: [(u32, ValueKind, &[u8], &[u8], &[u8]); 27] = [
 
 fn fault_of(block: &[u8], place: Place) -> Option<PropFault> {
     match look_at(block, place) {
-        Ok(_) => None,
+        Ok((props, _)) => {
+            drop(props);
+            None
+        }
         Err(fault) => Some(fault),
     }
 }
 
+// A caller's proof doesn't see the rows behind this call, and is the shorter for it.
+fn table() -> &'static [(u32, ValueKind, &'static [u8], &'static [u8], &'static [u8])] {
+    &TABLE
+}
+
+/// A property of this block may stand in this place, or not; a block that is cut never may.
+fn assert_stands(rt: &impl Abort, stands: bool, place: Place, block: &[u8], cut: &[u8]) {
+    let want = if stands {
+        None
+    } else {
+        Some(PropFault::Malformed)
+    };
+    assert_eq!(rt; fault_of(block, place), want, "{block:?} in {place:?}");
+    assert_eq!(rt;
+        layout_read(block, place).is_ok(),
+        stands,
+        "{block:?} in {place:?}"
+    );
+    assert_eq!(rt;
+        fault_of(cut, place),
+        Some(PropFault::Malformed),
+        "{cut:?} in {place:?}"
+    );
+}
+
 #[test]
-fn each_property_stands_in_its_places_alone(rt: HostRuntime) -> Result<(), Fail> {
-    for (id, kind, bits, block, cut) in TABLE {
+fn each_property_stands_in_its_places_alone(rt: HostRuntime) {
+    for (id, _, bits, block, cut) in table() {
         for (place, bit) in PLACES.iter().zip(bits.iter()) {
             let stands = *bit == b'x';
-            let want = if stands {
-                None
-            } else {
-                Some(PropFault::Malformed)
-            };
-            assert_eq!(rt; allowed(id, *place), stands, "{id} in {place:?}");
-            assert_eq!(rt; fault_of(block, *place), want, "{id} in {place:?}");
-            assert_eq!(rt;
-                layout_read(block, *place).is_ok(),
-                stands,
-                "{id} in {place:?}"
-            );
-            assert_eq!(rt;
-                fault_of(cut, *place),
-                Some(PropFault::Malformed),
-                "{id} cut in {place:?}"
-            );
+            assert_eq!(rt; allowed(*id, *place), stands, "{id} in {place:?}");
+            assert_stands(&rt, stands, *place, block, cut);
         }
     }
-    Ok(())
 }
 
 #[test]
 fn each_identifier_is_of_a_name_and_a_kind(rt: HostRuntime) {
-    for (id, kind, _, _, _) in TABLE {
-        let name = PropName::from_id(id).expect(&rt, "it is an identifier");
-        assert_eq!(rt; name.kind(), kind, "{id}");
-        assert_eq!(rt; u32::from(name.id()), id);
+    for (id, kind, _, _, _) in table() {
+        let name = PropName::from_id(*id).expect(&rt, "it is an identifier");
+        assert_eq!(rt; name.kind(), *kind, "{id}");
+        assert_eq!(rt; u32::from(name.id()), *id);
     }
 }
 
@@ -497,39 +509,60 @@ fn a_block_is_written_as_it_was_read(rt: HostRuntime) -> Result<(), Fail> {
 }
 
 #[test]
-fn a_list_tells_its_properties(rt: HostRuntime) -> Result<(), Fail> {
+fn a_list_tells_what_it_has(rt: HostRuntime) {
     let (props, taken) = look_at(&PUBLISH, Place::Publish).expect(&rt, "it is read");
     assert_eq!(rt; taken, 15);
-    assert_eq!(rt; props.len(), 4);
-    assert_eq!(rt; props.block_len(), 15);
+    assert_eq!(rt; (props.len(), props.block_len()), (4, 15));
     assert!(rt; !props.is_empty());
     assert!(rt; props.may_stand_in(Place::Publish) && !props.may_stand_in(Place::Will));
     assert!(rt; props.is_lawful(Place::Publish));
     assert!(rt; props.has(PropName::TopicAlias) && !props.has(PropName::ContentType));
+}
+
+#[test]
+fn a_list_gives_the_value_of_a_name(rt: HostRuntime) {
+    let (props, _) = look_at(&PUBLISH, Place::Publish).expect(&rt, "it is read");
     let alias = PropRef {
         name: PropName::TopicAlias,
         value: ValueRef::U16(5),
     };
     assert_eq!(rt; props.get(PropName::TopicAlias), Some(alias));
     assert_eq!(rt; props.get(PropName::ContentType), None);
-    let mut rest = props.reborrow();
-    for name in [
-        PropName::PayloadFormatIndicator,
-        PropName::TopicAlias,
-        PropName::UserProperty,
-        PropName::SubscriptionIdentifier,
-    ] {
-        let (prop, after) = rest.split_first().expect(&rt, "one more property");
-        assert_eq!(rt; prop.name, name);
-        assert!(rt; prop.fits() && prop.value.kind() == name.kind(), "{name:?}");
-        rest = after;
+}
+
+/// The names of up to five properties in their order.
+fn names_of(props: PropsRef<'_>) -> [Option<PropName>; 5] {
+    let mut names = [None; 5];
+    let mut rest = props;
+    for name in &mut names {
+        if let Some((prop, after)) = rest.split_first() {
+            *name = Some(prop.name);
+            rest = after;
+        }
     }
-    assert!(rt; rest.split_first().is_none());
+    names
+}
+
+#[test]
+fn a_list_gives_its_properties_in_their_order(rt: HostRuntime) {
+    let (props, _) = look_at(&PUBLISH, Place::Publish).expect(&rt, "it is read");
+    let (first, _) = props.split_first().expect(&rt, "a property");
+    assert!(rt; first.fits() && first.value.kind() == first.name.kind());
+    let want = [
+        Some(PropName::PayloadFormatIndicator),
+        Some(PropName::TopicAlias),
+        Some(PropName::UserProperty),
+        Some(PropName::SubscriptionIdentifier),
+        None,
+    ];
+    assert_eq!(rt; names_of(props.reborrow()), want);
+}
+
+#[test]
+fn an_empty_list_has_nothing(rt: HostRuntime) {
     let none = PropsRef::empty();
-    assert!(rt; none.is_empty());
-    assert_eq!(rt; none.len(), 0);
-    assert_eq!(rt; none.block_len(), 1);
-    Ok(())
+    assert!(rt; none.is_empty() && none.split_first().is_none());
+    assert_eq!(rt; (none.len(), none.block_len()), (0, 1));
 }
 
 #[test]
