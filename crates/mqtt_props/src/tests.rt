@@ -634,9 +634,10 @@ fn a_property_is_added_behind_the_others(rt: HostRuntime) {
     };
     assert_eq!(rt; list.push(rt.alloc(), identifier), Ok(()));
     let block = block_of(rt.alloc(), list).expect(&rt, "there is memory");
-    assert_eq!(rt; block[0], 17);
-    assert_eq!(rt; &block[1..15], &PUBLISH[1..15]);
-    assert_eq!(rt; &block[15..], &[0x0b, 0xac, 2][..]);
+    let want = [
+        17, 1, 1, 0x23, 0, 5, 0x26, 0, 1, b'k', 0, 1, b'v', 0x0b, 7, 0x0b, 0xac, 2,
+    ];
+    assert_eq!(rt; &block[..], &want[..]);
 }
 
 #[test]
@@ -647,9 +648,11 @@ fn a_list_is_added_behind_another(rt: HostRuntime) {
     assert_eq!(rt; list.append(rt.alloc(), &props), Ok(()));
     assert_eq!(rt; list.append(rt.alloc(), &props), Ok(()));
     let block = block_of(rt.alloc(), list).expect(&rt, "there is memory");
-    assert_eq!(rt; block[0], 28);
-    assert_eq!(rt; &block[1..15], &PUBLISH[1..15]);
-    assert_eq!(rt; &block[15..], &PUBLISH[1..15]);
+    let want = [
+        28, 1, 1, 0x23, 0, 5, 0x26, 0, 1, b'k', 0, 1, b'v', 0x0b, 7, 1, 1, 0x23, 0, 5, 0x26, 0, 1,
+        b'k', 0, 1, b'v', 0x0b, 7,
+    ];
+    assert_eq!(rt; &block[..], &want[..]);
 }
 
 #[test]
