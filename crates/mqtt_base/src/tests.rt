@@ -278,28 +278,46 @@ fn packet_types_have_the_numbers_of_table_2_1(rt: HostRuntime) {
 }
 
 #[test]
-fn owned_values_are_what_they_were_made_of(rt: HostRuntime) -> Result<(), Fail> {
-    let alloc = rt.alloc();
+fn texts_may_hold_all_but_u_0000(rt: HostRuntime) {
     for (text, holds) in [("", true), ("\u{feff}a\u{1}", true), ("a\0b", false)] {
         assert_eq!(rt; Text::may_hold(text), holds, "at {text:?}");
     }
-    let name = "caf\u{e9}";
-    assert!(rt; Text::may_hold(name) && Text::may_hold("drink"));
-    let text = Text::new(alloc, name)?;
+}
+
+// A test with several owned values and a `?` after each is dear to prove: each way out drops them.
+#[test]
+fn a_clone_of_a_text_outlives_its_source(rt: HostRuntime) -> Result<(), Fail> {
+    assert!(rt; Text::may_hold("caf\u{e9}"));
+    let text = Text::new(rt.alloc(), "caf\u{e9}")?;
     let copy = text.clone()?;
     drop(text);
-    assert_eq!(rt; copy.as_str(), name, "a clone outlives its source");
+    assert_eq!(rt; copy.as_str(), "caf\u{e9}");
+    Ok(())
+}
 
-    let blob = Blob::new(alloc, &[0, 0xff])?;
+#[test]
+fn a_clone_of_binary_data_has_its_bytes(rt: HostRuntime) -> Result<(), Fail> {
+    let blob = Blob::new(rt.alloc(), &[0, 0xff])?;
     let other = blob.clone()?;
     assert!(rt; blob == other);
-    assert_eq!(rt; blob.share()?.as_slice(), [0, 0xff].as_slice());
     assert_eq!(rt; other.as_slice(), [0, 0xff].as_slice());
+    Ok(())
+}
 
-    let pair = Pair::new(alloc, "drink", name)?;
+#[test]
+fn shared_binary_data_has_its_bytes(rt: HostRuntime) -> Result<(), Fail> {
+    let blob = Blob::new(rt.alloc(), &[0, 0xff])?;
+    assert_eq!(rt; blob.share()?.as_slice(), [0, 0xff].as_slice());
+    Ok(())
+}
+
+#[test]
+fn a_clone_of_a_pair_has_its_texts(rt: HostRuntime) -> Result<(), Fail> {
+    assert!(rt; Text::may_hold("caf\u{e9}") && Text::may_hold("drink"));
+    let pair = Pair::new(rt.alloc(), "drink", "caf\u{e9}")?;
     let other = pair.clone()?;
     assert!(rt; pair == other);
     assert_eq!(rt; other.name.as_str(), "drink");
-    assert!(rt; other.value == copy);
+    assert_eq!(rt; other.value.as_str(), "caf\u{e9}");
     Ok(())
 }

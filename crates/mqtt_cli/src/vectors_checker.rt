@@ -70,8 +70,10 @@ fn is_right(alloc: Global, vector: &Vector) -> Result<bool, AllocError> {
         Gives::Refusal(Fault::TooLarge) => in_one_piece(alloc, vector.frame),
         _ => decode(alloc, vector.frame).map(Some),
     };
-    let parts = byte_by_byte(alloc, vector.frame);
-    Ok(is_known(alloc, vector, whole)? && is_known(alloc, vector, parts)?)
+    if !is_known(alloc, vector, whole)? {
+        return Ok(false);
+    }
+    is_known(alloc, vector, byte_by_byte(alloc, vector.frame))
 }
 
 /// The packet that a framer gives of a frame that comes in one piece.
@@ -86,7 +88,11 @@ fn byte_by_byte(alloc: Global, frame: &[u8]) -> Result<Option<Packet>, Fault> {
     let mut rest = frame;
     while let Some((first, after)) = rest.split_first() {
         if let Some(packet) = next_of(&mut framer, &[*first])? {
-            return Ok(if after.is_empty() { Some(packet) } else { None });
+            if after.is_empty() {
+                return Ok(Some(packet));
+            }
+            drop(packet);
+            return Ok(None);
         }
         rest = after;
     }
@@ -111,13 +117,28 @@ fn is_known(
     vector: &Vector,
     found: Result<Option<Packet>, Fault>,
 ) -> Result<bool, AllocError> {
-    match (vector.gives, found) {
-        (_, Err(Fault::Memory)) => Err(AllocError),
-        (Gives::Refusal(known), Err(fault)) => Ok(fault == known),
-        (Gives::Packet { line, shortest }, Ok(Some(packet))) => {
-            is_shown(alloc, &packet, vector.frame.len(), line, shortest)
+    match found {
+        Ok(Some(packet)) => {
+            let is_known = is_known_packet(alloc, vector, &packet);
+            drop(packet);
+            is_known
         }
-        _ => Ok(false),
+        Ok(None) => Ok(false),
+        Err(Fault::Memory) => Err(AllocError),
+        Err(fault) => match vector.gives {
+            Gives::Refusal(known) => Ok(fault == known),
+            Gives::Packet { .. } => Ok(false),
+        },
+    }
+}
+
+/// Whether a packet is the one that is known.
+fn is_known_packet(alloc: Global, vector: &Vector, packet: &Packet) -> Result<bool, AllocError> {
+    match vector.gives {
+        Gives::Packet { line, shortest } => {
+            is_shown(alloc, packet, vector.frame.len(), line, shortest)
+        }
+        Gives::Refusal(_) => Ok(false),
     }
 }
 

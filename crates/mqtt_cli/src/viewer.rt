@@ -169,7 +169,9 @@ fn push_given(
     ensures { OnOk result (string_bytes text.new ≡ string_bytes text.old ++ line payload
         (record { place = place; size = size; packet = packet })) }
 {
-    push_packet(alloc, text, payload, place, size, &packet)
+    let pushed = push_packet(alloc, text, payload, place, size, &packet);
+    drop(packet);
+    pushed
 }
 
 /// Writes the line of a fault.

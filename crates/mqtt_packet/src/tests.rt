@@ -2,7 +2,7 @@
 
 ghost use Rattle.std.specs.Prelude.{◌<◌};
 
-use crate::{Fault, Framer, MAX_SIZE, Packet, PacketRef, encode, lawful};
+use crate::{Fault, Framer, MAX_SIZE, Packet, PacketRef, Publish, encode, lawful};
 use std::alloc::Global;
 use std::fmt::Write;
 use std::process::Abort;
@@ -23,8 +23,9 @@ fn cut_text(alloc: Global, stream: &[u8], step: usize) -> Result<String, Fail>
         for _ in 0..=stream.len() {
             match framer.next() {
                 Ok(Some((packet, place))) => {
+                    let frame = frame_of(alloc, packet);
                     write!(text, "{place} ")?;
-                    write_frame(&mut text, frame_of(alloc, packet))?;
+                    write_frame(&mut text, frame)?;
                     write!(text, ", ")?;
                 }
                 Ok(None) => break,
@@ -43,10 +44,61 @@ fn cut_text(alloc: Global, stream: &[u8], step: usize) -> Result<String, Fail>
 
 /// What a packet that was given is encoded to.
 fn frame_of(alloc: Global, packet: Packet) -> Result<Vec<u8>, Fault> {
-    if lawful(&packet) {
+    let frame = if lawful(&packet) {
         encode(alloc, &packet)
     } else {
         Err(Fault::Protocol)
+    };
+    drop(packet);
+    frame
+}
+
+/// Whether a framer says that no packet is whole.
+fn waits(framer: &mut Framer) -> bool {
+    match framer.next() {
+        Ok(None) => true,
+        Ok(Some((packet, _))) => {
+            drop(packet);
+            false
+        }
+        Err(_) => false,
+    }
+}
+
+/// The PUBLISH that a framer gives, with its place.
+fn next_publish(framer: &mut Framer) -> Option<(Publish, u64)> {
+    match framer.next() {
+        Ok(Some((Packet::Publish(publish), place))) => Some((publish, place)),
+        Ok(Some((packet, _))) => {
+            drop(packet);
+            None
+        }
+        _ => None,
+    }
+}
+
+/// The place of the PINGREQ that a framer gives.
+fn next_pingreq(framer: &mut Framer) -> Option<u64> {
+    match framer.next() {
+        Ok(Some((packet, place))) => {
+            let is_pingreq = matches!(&packet, Packet::Pingreq);
+            drop(packet);
+            if is_pingreq { Some(place) } else { None }
+        }
+        _ => None,
+    }
+}
+
+/// The place of the PINGREQ that a framer has first, or the fault that stands there.
+fn pingreq_first(framer: &Framer) -> Result<Option<u64>, (Fault, u64)> {
+    match framer.look() {
+        Ok(Some((packet, place))) => {
+            let is_pingreq = matches!(&packet, PacketRef::Pingreq);
+            drop(packet);
+            Ok(if is_pingreq { Some(place) } else { None })
+        }
+        Ok(None) => Ok(None),
+        Err(fault) => Err(fault),
     }
 }
 
@@ -121,17 +173,14 @@ fn the_greatest_packet_is_read(rt: HostRuntime) -> Result<(), Fail> {
     for step in [1, 4096, 65_536] {
         let mut framer = Framer::new(rt.alloc());
         for piece in bytes.as_slice().chunks(step) {
-            let Ok(None) = framer.next() else {
-                return Ok(assert!(rt; false, "no packet is whole, in pieces of {step}"));
-            };
-            let Ok(taken) = framer.feed(piece) else {
-                return Ok(assert!(rt; false, "no fault stands, in pieces of {step}"));
-            };
-            assert_eq!(rt; taken, piece.len());
+            assert!(rt;
+                waits(&mut framer),
+                "no packet is whole, in pieces of {step}"
+            );
+            assert_eq!(rt; framer.feed(piece), Ok(piece.len()), "in pieces of {step}");
         }
-        let Ok(Some((Packet::Publish(publish), 0))) = framer.next() else {
-            return Ok(assert!(rt; false, "a PUBLISH is given, in pieces of {step}"));
-        };
+        let (publish, place) = next_publish(&mut framer).expect(&rt, "a PUBLISH is given");
+        assert_eq!(rt; place, 0);
         assert_eq!(rt; publish.topic.as_str(), "a");
         assert_eq!(rt; publish.payload.len(), 65_528);
         assert_eq!(rt; (framer.held(), framer.place()), (0, 65_536));
@@ -143,60 +192,42 @@ fn the_greatest_packet_is_read(rt: HostRuntime) -> Result<(), Fail> {
 fn a_full_framer_takes_no_more(rt: HostRuntime) -> Result<(), Fail> {
     let bytes = greatest(rt.alloc())?;
     let mut framer = Framer::new(rt.alloc());
-    let Ok(2) = framer.feed(&[0xc0, 0]) else {
-        return Ok(assert!(rt; false, "two bytes fit"));
-    };
-    let Ok(taken) = framer.feed(bytes.as_slice()) else {
-        return Ok(assert!(rt; false, "no fault stands"));
-    };
-    assert_eq!(rt; taken, 65_534);
-    let Ok(0) = framer.feed(&[0x61]) else {
-        return Ok(assert!(rt; false, "nothing fits"));
-    };
+    assert_eq!(rt; framer.feed(&[0xc0, 0]), Ok(2), "two bytes fit");
+    assert_eq!(rt; framer.feed(bytes.as_slice()), Ok(65_534));
+    assert_eq!(rt; framer.feed(&[0x61]), Ok(0), "nothing fits");
     Ok(())
 }
 
 #[test]
-fn a_fault_stands_until_it_is_given_back(rt: HostRuntime) -> Result<(), Fail> {
+fn a_fault_stands_until_it_is_given_back(rt: HostRuntime) {
+    let malformed = (Fault::Malformed, 2);
     let mut framer = Framer::new(rt.alloc());
-    let Ok(5) = framer.feed(&[0xc0, 0, 0xc0, 1, 0]) else {
-        return Ok(assert!(rt; false, "five bytes fit"));
-    };
-    let Ok(Some((PacketRef::Pingreq, 0))) = framer.look() else {
-        return Ok(assert!(rt; false, "a PINGREQ stands first"));
-    };
-    let Ok(Some((Packet::Pingreq, 0))) = framer.next() else {
-        return Ok(assert!(rt; false, "a PINGREQ is given"));
-    };
-    let Err((Fault::Malformed, 2)) = framer.look() else {
-        return Ok(assert!(rt; false, "a PINGREQ has no body"));
-    };
-    let Err((Fault::Malformed, 2)) = framer.feed(&[0]) else {
-        return Ok(assert!(rt; false, "the fault stands first"));
-    };
+    assert_eq!(rt; framer.feed(&[0xc0, 0, 0xc0, 1, 0]), Ok(5));
+    assert_eq!(rt; pingreq_first(&framer), Ok(Some(0)));
+    assert_eq!(rt; next_pingreq(&mut framer), Some(0));
+    assert_eq!(rt;
+        pingreq_first(&framer),
+        Err(malformed),
+        "a PINGREQ has no body"
+    );
+    assert_eq!(rt; framer.feed(&[0]), Err(malformed), "the fault stands first");
     framer.give_back(2);
-    assert_eq!(rt; framer.held(), 1);
-    assert_eq!(rt; framer.place(), 2);
-    let Ok(None) = framer.next() else {
-        return Ok(assert!(rt; false, "one byte waits"));
-    };
-    let Ok(1) = framer.feed(&[0]) else {
-        return Ok(assert!(rt; false, "no fault stands"));
-    };
-    let Ok(Some((Packet::Pingreq, 2))) = framer.next() else {
-        return Ok(assert!(rt; false, "a PINGREQ is given"));
-    };
-    Ok(())
+    assert_eq!(rt; (framer.held(), framer.place()), (1, 2));
+    assert!(rt; waits(&mut framer), "one byte waits");
+    assert_eq!(rt; framer.feed(&[0]), Ok(1), "no fault stands");
+    assert_eq!(rt; next_pingreq(&mut framer), Some(2));
 }
 
 /// Whether a packet that was given is the PUBLISH of `!` to `a/b`.
 fn is_worked_publish(packet: Packet) -> bool {
-    match &packet {
+    let found = match &packet {
         Packet::Publish(publish) => {
             publish.topic.as_str() == "a/b" && publish.payload.as_slice() == b"!".as_slice()
         }
         _ => false,
-    }
+    };
+    drop(packet);
+    found
 }
 
 /// The same with the Nth growth refused: after want of memory the framer is as it was.

@@ -4,6 +4,8 @@ use crate::{
     Place, PropFault, PropList, PropName, PropRef, PropsRef, ValueKind, ValueRef, allowed,
     layout_read, look_at, read, write,
 };
+use std::alloc::Global;
+use std::process::Abort;
 use std::test::Fail;
 
 const PLACES: [Place; 14] = [
@@ -220,39 +222,57 @@ const TABLE: [(u32, ValueKind, &[u8], &[u8], &[u8]); 27] = [
 
 fn fault_of(block: &[u8], place: Place) -> Option<PropFault> {
     match look_at(block, place) {
-        Ok(_) => None,
+        Ok((props, _)) => {
+            drop(props);
+            None
+        }
         Err(fault) => Some(fault),
     }
 }
 
+// A caller's proof doesn't see the rows behind this call, and is the shorter for it.
+fn table() -> &'static [(u32, ValueKind, &'static [u8], &'static [u8], &'static [u8])] {
+    &TABLE
+}
+
+/// A property of this block may stand in this place, or not; a block that is cut never may.
+fn assert_stands(rt: &impl Abort, stands: bool, place: Place, block: &[u8], cut: &[u8]) {
+    let want = if stands {
+        None
+    } else {
+        Some(PropFault::Malformed)
+    };
+    assert_eq!(rt; fault_of(block, place), want, "{block:?} in {place:?}");
+    assert_eq!(rt;
+        layout_read(block, place).is_ok(),
+        stands,
+        "{block:?} in {place:?}"
+    );
+    assert_eq!(rt;
+        fault_of(cut, place),
+        Some(PropFault::Malformed),
+        "{cut:?} in {place:?}"
+    );
+}
+
 #[test]
-fn each_property_stands_in_its_places_alone(rt: HostRuntime) -> Result<(), Fail> {
-    for (id, kind, bits, block, cut) in TABLE {
+fn each_property_stands_in_its_places_alone(rt: HostRuntime) {
+    for (id, _, bits, block, cut) in table() {
         for (place, bit) in PLACES.iter().zip(bits.iter()) {
             let stands = *bit == b'x';
-            let want = if stands {
-                None
-            } else {
-                Some(PropFault::Malformed)
-            };
-            assert_eq!(rt; allowed(id, *place), stands, "{id} in {place:?}");
-            assert_eq!(rt; fault_of(block, *place), want, "{id} in {place:?}");
-            assert_eq!(rt;
-                layout_read(block, *place).is_ok(),
-                stands,
-                "{id} in {place:?}"
-            );
-            assert_eq!(rt;
-                fault_of(cut, *place),
-                Some(PropFault::Malformed),
-                "{id} cut in {place:?}"
-            );
+            assert_eq!(rt; allowed(*id, *place), stands, "{id} in {place:?}");
+            assert_stands(&rt, stands, *place, block, cut);
         }
-        let name = PropName::from_id(id);
-        assert_eq!(rt; name.map(|n| n.kind()), Some(kind), "{id}");
-        assert_eq!(rt; name.map(|n| u32::from(n.id())), Some(id), "{id}");
     }
-    Ok(())
+}
+
+#[test]
+fn each_identifier_is_of_a_name_and_a_kind(rt: HostRuntime) {
+    for (id, kind, _, _, _) in table() {
+        let name = PropName::from_id(*id).expect(&rt, "it is an identifier");
+        assert_eq!(rt; name.kind(), *kind, "{id}");
+        assert_eq!(rt; u32::from(name.id()), *id);
+    }
 }
 
 #[test]
@@ -489,39 +509,60 @@ fn a_block_is_written_as_it_was_read(rt: HostRuntime) -> Result<(), Fail> {
 }
 
 #[test]
-fn a_list_tells_its_properties(rt: HostRuntime) -> Result<(), Fail> {
+fn a_list_tells_what_it_has(rt: HostRuntime) {
     let (props, taken) = look_at(&PUBLISH, Place::Publish).expect(&rt, "it is read");
     assert_eq!(rt; taken, 15);
-    assert_eq!(rt; props.len(), 4);
-    assert_eq!(rt; props.block_len(), 15);
+    assert_eq!(rt; (props.len(), props.block_len()), (4, 15));
     assert!(rt; !props.is_empty());
     assert!(rt; props.may_stand_in(Place::Publish) && !props.may_stand_in(Place::Will));
     assert!(rt; props.is_lawful(Place::Publish));
     assert!(rt; props.has(PropName::TopicAlias) && !props.has(PropName::ContentType));
+}
+
+#[test]
+fn a_list_gives_the_value_of_a_name(rt: HostRuntime) {
+    let (props, _) = look_at(&PUBLISH, Place::Publish).expect(&rt, "it is read");
     let alias = PropRef {
         name: PropName::TopicAlias,
         value: ValueRef::U16(5),
     };
     assert_eq!(rt; props.get(PropName::TopicAlias), Some(alias));
     assert_eq!(rt; props.get(PropName::ContentType), None);
-    let mut rest = props.reborrow();
-    for name in [
-        PropName::PayloadFormatIndicator,
-        PropName::TopicAlias,
-        PropName::UserProperty,
-        PropName::SubscriptionIdentifier,
-    ] {
-        let (prop, after) = rest.split_first().expect(&rt, "one more property");
-        assert_eq!(rt; prop.name, name);
-        assert!(rt; prop.fits() && prop.value.kind() == name.kind(), "{name:?}");
-        rest = after;
+}
+
+/// The names of up to five properties in their order.
+fn names_of(props: PropsRef<'_>) -> [Option<PropName>; 5] {
+    let mut names = [None; 5];
+    let mut rest = props;
+    for name in &mut names {
+        if let Some((prop, after)) = rest.split_first() {
+            *name = Some(prop.name);
+            rest = after;
+        }
     }
-    assert!(rt; rest.split_first().is_none());
+    names
+}
+
+#[test]
+fn a_list_gives_its_properties_in_their_order(rt: HostRuntime) {
+    let (props, _) = look_at(&PUBLISH, Place::Publish).expect(&rt, "it is read");
+    let (first, _) = props.split_first().expect(&rt, "a property");
+    assert!(rt; first.fits() && first.value.kind() == first.name.kind());
+    let want = [
+        Some(PropName::PayloadFormatIndicator),
+        Some(PropName::TopicAlias),
+        Some(PropName::UserProperty),
+        Some(PropName::SubscriptionIdentifier),
+        None,
+    ];
+    assert_eq!(rt; names_of(props.reborrow()), want);
+}
+
+#[test]
+fn an_empty_list_has_nothing(rt: HostRuntime) {
     let none = PropsRef::empty();
-    assert!(rt; none.is_empty());
-    assert_eq!(rt; none.len(), 0);
-    assert_eq!(rt; none.block_len(), 1);
-    Ok(())
+    assert!(rt; none.is_empty() && none.split_first().is_none());
+    assert_eq!(rt; (none.len(), none.block_len()), (0, 1));
 }
 
 #[test]
@@ -549,37 +590,86 @@ fn a_fault_has_its_number_and_its_text(rt: HostRuntime) -> Result<(), Fail> {
     Ok(())
 }
 
+/// The list of the block `PUBLISH`.
+fn publish_list(rt: &impl Abort, alloc: Global) -> PropList {
+    let (list, _) = read(alloc, &PUBLISH, Place::Publish).expect(rt, "it is read");
+    list
+}
+
+/// The block of a list.
+fn block_of(alloc: Global, list: PropList) -> Result<Vec<u8>, PropFault> {
+    let mut out = Vec::new(alloc);
+    list.lend().push_block(&mut out)?;
+    Ok(out)
+}
+
 #[test]
-fn a_list_is_made_from_others(rt: HostRuntime) -> Result<(), Fail> {
+fn a_list_is_made_without_a_property(rt: HostRuntime) {
     let (props, _) = look_at(&PUBLISH, Place::Publish).expect(&rt, "it is read");
-    let mut list = props
+    let list = props
         .without(rt.alloc(), PropName::TopicAlias)
         .expect(&rt, "there is memory");
     assert_eq!(rt; list.lend().len(), 3);
-    let before = list.clone().expect(&rt, "there is memory");
+    let block = block_of(rt.alloc(), list).expect(&rt, "there is memory");
+    let want = [11, 1, 1, 0x26, 0, 1, b'k', 0, 1, b'v', 0x0b, 7];
+    assert_eq!(rt; &block[..], &want[..]);
+}
+
+#[test]
+fn a_list_is_made_of_one_property_alone(rt: HostRuntime) {
+    let (props, _) = look_at(&PUBLISH, Place::Publish).expect(&rt, "it is read");
+    let list = props
+        .only(rt.alloc(), PropName::UserProperty)
+        .expect(&rt, "there is memory");
+    let block = block_of(rt.alloc(), list).expect(&rt, "there is memory");
+    assert_eq!(rt; &block[..], &[7, 0x26, 0, 1, b'k', 0, 1, b'v'][..]);
+}
+
+#[test]
+fn a_property_is_added_behind_the_others(rt: HostRuntime) {
+    let mut list = publish_list(&rt, rt.alloc());
     let identifier = PropRef {
         name: PropName::SubscriptionIdentifier,
         value: ValueRef::VarInt(300),
     };
     assert_eq!(rt; list.push(rt.alloc(), identifier), Ok(()));
-    let users = props
-        .only(rt.alloc(), PropName::UserProperty)
-        .expect(&rt, "there is memory");
-    assert_eq!(rt; list.append(rt.alloc(), &users.lend()), Ok(()));
-    assert_eq!(rt; before.lend().len(), 3, "a clone stays as it is");
-    let mut out = Vec::new(rt.alloc());
-    assert_eq!(rt; list.lend().push_block(&mut out), Ok(()));
+    let block = block_of(rt.alloc(), list).expect(&rt, "there is memory");
     let want = [
-        21, 1, 1, 0x26, 0, 1, b'k', 0, 1, b'v', 0x0b, 7, 0x0b, 0xac, 2, 0x26, 0, 1, b'k', 0, 1,
-        b'v',
+        17, 1, 1, 0x23, 0, 5, 0x26, 0, 1, b'k', 0, 1, b'v', 0x0b, 7, 0x0b, 0xac, 2,
     ];
-    assert_eq!(rt; &out[..], &want[..]);
-    assert!(rt; PropList::new().lend().is_empty());
-    Ok(())
+    assert_eq!(rt; &block[..], &want[..]);
 }
 
 #[test]
-fn a_property_without_spelling_is_not_added(rt: HostRuntime) -> Result<(), Fail> {
+fn a_list_is_added_behind_another(rt: HostRuntime) {
+    let mut list = PropList::new();
+    assert!(rt; list.lend().is_empty());
+    let (props, _) = look_at(&PUBLISH, Place::Publish).expect(&rt, "it is read");
+    assert_eq!(rt; list.append(rt.alloc(), &props), Ok(()));
+    assert_eq!(rt; list.append(rt.alloc(), &props), Ok(()));
+    let block = block_of(rt.alloc(), list).expect(&rt, "there is memory");
+    let want = [
+        28, 1, 1, 0x23, 0, 5, 0x26, 0, 1, b'k', 0, 1, b'v', 0x0b, 7, 1, 1, 0x23, 0, 5, 0x26, 0, 1,
+        b'k', 0, 1, b'v', 0x0b, 7,
+    ];
+    assert_eq!(rt; &block[..], &want[..]);
+}
+
+#[test]
+fn a_clone_stays_as_it_is(rt: HostRuntime) {
+    let mut list = publish_list(&rt, rt.alloc());
+    let before = list.clone().expect(&rt, "there is memory");
+    let why = PropRef {
+        name: PropName::ReasonString,
+        value: ValueRef::Text("why"),
+    };
+    assert_eq!(rt; list.push(rt.alloc(), why), Ok(()));
+    assert_eq!(rt; list.lend().len(), 5);
+    assert_eq!(rt; before.lend().len(), 4);
+}
+
+#[test]
+fn a_property_without_spelling_is_not_added(rt: HostRuntime) {
     let rows = [
         ("another kind", PropName::TopicAlias, ValueRef::U32(5)),
         (
@@ -605,6 +695,19 @@ fn a_property_without_spelling_is_not_added(rt: HostRuntime) -> Result<(), Fail>
         );
         assert!(rt; list.lend().is_empty(), "{text}");
     }
+}
+
+/// The property is owned and lent again, and is found in a list that it is added to.
+fn assert_added(rt: &impl Abort, alloc: Global, list: &mut PropList, prop: PropRef<'_>) {
+    assert!(rt; prop.fits(), "{prop:?}");
+    let own = prop.to_prop(alloc).expect(rt, "there is memory");
+    assert_eq!(rt; own.lend(), prop);
+    assert_eq!(rt; list.push(alloc, own.lend()), Ok(()), "{prop:?}");
+    assert_eq!(rt; list.lend().get(prop.name), Some(prop));
+}
+
+#[test]
+fn a_property_of_each_kind_of_value_is_added(rt: HostRuntime) {
     let values = [
         (PropName::MaximumQos, ValueRef::Byte(1)),
         (PropName::ServerKeepAlive, ValueRef::U16(60)),
@@ -617,66 +720,88 @@ fn a_property_without_spelling_is_not_added(rt: HostRuntime) -> Result<(), Fail>
         (PropName::AuthenticationData, ValueRef::Binary(&[0, 255])),
         (PropName::UserProperty, ValueRef::Pair("", "")),
     ];
+    let mut list = PropList::new();
     for (name, value) in values {
-        let prop = PropRef { name, value };
-        assert!(rt; prop.fits(), "{name:?}");
-        let own = prop.to_prop(rt.alloc()).expect(&rt, "there is memory");
-        assert_eq!(rt; own.lend(), prop, "{name:?}");
-        assert_eq!(rt; list.push(rt.alloc(), own.lend()), Ok(()), "{name:?}");
-        assert_eq!(rt; list.lend().get(name), Some(prop), "{name:?}");
+        assert_added(&rt, rt.alloc(), &mut list, PropRef { name, value });
     }
     assert_eq!(rt; list.lend().len(), 7);
-    Ok(())
 }
 
 // To be run with each allocation failing in turn: every answer is the right one or want of memory,
 // and want of memory changes nothing.
-#[test]
-fn want_of_memory_changes_nothing(rt: HostRuntime) -> Result<(), Fail> {
-    let mut out = Vec::new(rt.alloc());
-    let mut list = PropList::new();
-    match read(rt.alloc(), &PUBLISH, Place::Publish) {
-        Ok((all, taken)) => {
-            assert_eq!(rt; taken, 15);
-            list = all;
-        }
-        Err(fault) => assert_eq!(rt; fault, PropFault::Memory),
-    }
-    let len = list.lend().len();
-    match write(&list, &mut out) {
-        Ok(()) => assert_eq!(rt; out.len(), list.lend().block_len()),
+
+/// A call that changes a list, and the length that it leaves after Ok.
+fn assert_memory_changes_nothing(
+    rt: &impl Abort,
+    found: Result<(), PropFault>,
+    len: usize,
+    before: usize,
+    after: usize,
+) {
+    match found {
+        Ok(()) => assert_eq!(rt; len, after),
         Err(fault) => {
             assert_eq!(rt; fault, PropFault::Memory);
-            assert!(rt; out.is_empty());
+            assert_eq!(rt; len, before);
         }
     }
+}
+
+/// The list of the block `PUBLISH`, or an empty one for want of memory.
+fn list_or_none(rt: &impl Abort, alloc: Global) -> PropList {
+    match read(alloc, &PUBLISH, Place::Publish) {
+        Ok((list, taken)) => {
+            assert_eq!(rt; taken, 15);
+            list
+        }
+        Err(fault) => {
+            assert_eq!(rt; fault, PropFault::Memory);
+            PropList::new()
+        }
+    }
+}
+
+#[test]
+fn want_of_memory_writes_nothing(rt: HostRuntime) {
+    let list = list_or_none(&rt, rt.alloc());
+    let mut out = Vec::new(rt.alloc());
+    let found = write(&list, &mut out);
+    assert_memory_changes_nothing(&rt, found, out.len(), 0, list.lend().block_len());
+}
+
+#[test]
+fn want_of_memory_adds_no_property(rt: HostRuntime) {
+    let mut list = list_or_none(&rt, rt.alloc());
+    let before = list.lend().len();
     let prop = PropRef {
         name: PropName::ReasonString,
         value: ValueRef::Text("why"),
     };
-    match list.push(rt.alloc(), prop) {
-        Ok(()) => assert_eq!(rt; list.lend().len(), len + 1),
-        Err(fault) => {
-            assert_eq!(rt; fault, PropFault::Memory);
-            assert_eq!(rt; list.lend().len(), len);
-        }
+    let found = list.push(rt.alloc(), prop);
+    let after = before.saturating_add(1);
+    assert_memory_changes_nothing(&rt, found, list.lend().len(), before, after);
+}
+
+#[test]
+fn want_of_memory_adds_no_list(rt: HostRuntime) {
+    let mut list = list_or_none(&rt, rt.alloc());
+    let before = list.lend().len();
+    let (props, _) = look_at(&PUBLISH, Place::Publish).expect(&rt, "it is read");
+    let found = list.append(rt.alloc(), &props);
+    let after = before.saturating_add(props.len());
+    assert_memory_changes_nothing(&rt, found, list.lend().len(), before, after);
+}
+
+#[test]
+fn what_is_made_from_a_list_is_right_or_want_of_memory(rt: HostRuntime) {
+    let (props, _) = look_at(&PUBLISH, Place::Publish).expect(&rt, "it is read");
+    if let Ok(more) = props.only(rt.alloc(), PropName::UserProperty) {
+        assert_eq!(rt; more.lend().len(), 1);
     }
-    let len = list.lend().len();
-    if let Ok(more) = list.lend().only(rt.alloc(), PropName::UserProperty) {
-        let count = more.lend().len();
-        match list.append(rt.alloc(), &more.lend()) {
-            Ok(()) => assert_eq!(rt; list.lend().len(), len + count),
-            Err(fault) => {
-                assert_eq!(rt; fault, PropFault::Memory);
-                assert_eq!(rt; list.lend().len(), len);
-            }
-        }
-    }
-    if let Ok(less) = list.lend().without(rt.alloc(), PropName::TopicAlias) {
+    if let Ok(less) = props.without(rt.alloc(), PropName::TopicAlias) {
         assert!(rt; !less.lend().has(PropName::TopicAlias));
     }
-    if let Ok(copy) = list.lend().to_list(rt.alloc()) {
-        assert_eq!(rt; copy.lend().len(), list.lend().len());
+    if let Ok(copy) = props.to_list(rt.alloc()) {
+        assert_eq!(rt; copy.lend().len(), props.len());
     }
-    Ok(())
 }

@@ -1,31 +1,72 @@
-//! What each packet tells of its fields, and lists that are made (3.1 to 3.15).
+//! What each packet tells of its fields (3.1 to 3.15).
 
 use super::vectors::VECTORS;
 use crate::{
-    Ack, Fault, Filters, Packet, PacketRef, Subscribe, Subscriptions, Unsubscribe, encode, lawful,
-    look_at, options_read,
+    ConnackRef, ConnectRef, Delivery, Fault, NoticeRef, Packet, PacketRef, PublishRef, SubackRef,
+    SubscribeRef, UnsubscribeRef, WillRef, look_at, options_read,
 };
-use mqtt_base::{Kind, Qos, Reason, RetainHandling, SubscriptionOptions, Text};
-use mqtt_props::{PropList, PropName};
+use mqtt_base::{Kind, Qos, Reason, RetainHandling};
+use mqtt_props::PropName;
+use std::alloc::Global;
+use std::process::Abort;
 use std::test::Fail;
 
-#[test]
-fn a_connect_tells_its_will_and_names(rt: HostRuntime) -> Result<(), Fail> {
-    // Flags: User Name, Password, Will at QoS 2 with RETAIN, no Clean Start.
-    let frame = [
-        0x10, 0x27, 0, 4, b'M', b'Q', b'T', b'T', 5, 0xf4, 0x01, 0x2c, 5, 0x11, 0, 0, 0, 9, 0, 2,
-        b'p', b'1', 2, 0x01, 1, 0, 3, b'a', b'/', b'w', 0, 2, 0, 0xff, 0, 1, b'u', 0, 2, 7, 0,
-    ];
-    let Ok(PacketRef::Connect(connect)) = look_at(&frame[..]) else {
-        panic!(rt; "it is a CONNECT");
-    };
-    assert!(rt; !connect.clean_start, "Clean Start");
-    assert_eq!(rt; connect.keep_alive, 300);
-    assert_eq!(rt; connect.client_identifier, "p1");
-    assert_eq!(rt; connect.properties.len(), 1);
-    assert_eq!(rt; connect.user_name, Some("u"));
-    assert_eq!(rt; connect.password, Some(&[7, 0][..]));
-    let will = connect.will.expect(&rt, "there is a Will");
+fn connect_of(frame: &[u8]) -> Option<ConnectRef<'_>> {
+    match look_at(frame) {
+        Ok(PacketRef::Connect(connect)) => Some(connect),
+        _ => None,
+    }
+}
+
+fn connack_of(frame: &[u8]) -> Option<ConnackRef<'_>> {
+    match look_at(frame) {
+        Ok(PacketRef::Connack(connack)) => Some(connack),
+        _ => None,
+    }
+}
+
+fn publish_of(frame: &[u8]) -> Option<PublishRef<'_>> {
+    match look_at(frame) {
+        Ok(PacketRef::Publish(publish)) => Some(publish),
+        _ => None,
+    }
+}
+
+fn subscribe_of(frame: &[u8]) -> Option<SubscribeRef<'_>> {
+    match look_at(frame) {
+        Ok(PacketRef::Subscribe(subscribe)) => Some(subscribe),
+        _ => None,
+    }
+}
+
+fn suback_of(frame: &[u8]) -> Option<SubackRef<'_>> {
+    match look_at(frame) {
+        Ok(PacketRef::Suback(suback)) => Some(suback),
+        _ => None,
+    }
+}
+
+fn unsubscribe_of(frame: &[u8]) -> Option<UnsubscribeRef<'_>> {
+    match look_at(frame) {
+        Ok(PacketRef::Unsubscribe(unsubscribe)) => Some(unsubscribe),
+        _ => None,
+    }
+}
+
+fn disconnect_of(frame: &[u8]) -> Option<NoticeRef<'_>> {
+    match look_at(frame) {
+        Ok(PacketRef::Disconnect(notice)) => Some(notice),
+        _ => None,
+    }
+}
+
+// Flags: User Name, Password, Will at QoS 2 with RETAIN, no Clean Start.
+const CONNECT: &[u8] = &[
+    0x10, 0x27, 0, 4, b'M', b'Q', b'T', b'T', 5, 0xf4, 0x01, 0x2c, 5, 0x11, 0, 0, 0, 9, 0, 2, b'p',
+    b'1', 2, 0x01, 1, 0, 3, b'a', b'/', b'w', 0, 2, 0, 0xff, 0, 1, b'u', 0, 2, 7, 0,
+];
+
+fn assert_will(rt: &impl Abort, will: WillRef<'_>) {
     assert_eq!(rt; will.qos, Qos::ExactlyOnce);
     assert!(rt; will.retain, "RETAIN of the Will");
     assert_eq!(rt; will.topic, "a/w");
@@ -34,109 +75,138 @@ fn a_connect_tells_its_will_and_names(rt: HostRuntime) -> Result<(), Fail> {
         will.properties.has(PropName::PayloadFormatIndicator),
         "its property"
     );
-    Ok(())
 }
 
 #[test]
-fn a_publish_tells_its_delivery(rt: HostRuntime) -> Result<(), Fail> {
-    let rows: [(&str, &[u8], Qos, bool, Option<u16>, bool); 4] = [
-        (
-            "QoS 0",
-            &[0x30, 5, 0, 1, b'a', 0, 9],
-            Qos::AtMostOnce,
-            false,
-            None,
-            false,
-        ),
-        (
-            "QoS 0 with RETAIN",
-            &[0x31, 5, 0, 1, b'a', 0, 9],
-            Qos::AtMostOnce,
-            false,
-            None,
-            true,
-        ),
-        (
-            "QoS 1 once more",
-            &[0x3a, 7, 0, 1, b'a', 1, 2, 0, 9],
-            Qos::AtLeastOnce,
-            true,
-            Some(258),
-            false,
-        ),
-        (
-            "QoS 2 with RETAIN",
-            &[0x35, 7, 0, 1, b'a', 0, 7, 0, 9],
-            Qos::ExactlyOnce,
-            false,
-            Some(7),
-            true,
-        ),
-    ];
-    for (text, frame, qos, dup, identifier, retain) in rows {
-        let Ok(PacketRef::Publish(publish)) = look_at(frame) else {
-            panic!(rt; "it is a PUBLISH");
-        };
-        assert_eq!(rt; publish.delivery.qos(), qos, "{text}");
-        assert_eq!(rt; publish.delivery.dup(), dup, "{text}");
-        assert_eq!(rt; publish.delivery.identifier(), identifier, "{text}");
-        assert_eq!(rt; publish.retain, retain, "{text}");
-        assert_eq!(rt; publish.topic, "a", "{text}");
-        assert_eq!(rt; publish.payload, &[9][..], "{text}");
-    }
-    Ok(())
+fn a_connect_tells_its_will_and_names(rt: HostRuntime) {
+    let connect = connect_of(CONNECT).expect(&rt, "it is a CONNECT");
+    assert!(rt; !connect.clean_start, "Clean Start");
+    assert_eq!(rt; connect.keep_alive, 300);
+    assert_eq!(rt; connect.client_identifier, "p1");
+    assert_eq!(rt; connect.properties.len(), 1);
+    assert_eq!(rt; connect.user_name, Some("u"));
+    assert_eq!(rt; connect.password, Some(&[7, 0][..]));
+    assert_will(&rt, connect.will.expect(&rt, "there is a Will"));
+}
+
+/// A PUBLISH of the byte 9 to the topic `a` tells its delivery and RETAIN.
+fn assert_publish(rt: &impl Abort, frame: &[u8], delivery: Delivery, retain: bool) {
+    let publish = publish_of(frame).expect(rt, "it is a PUBLISH");
+    assert_eq!(rt; publish.delivery, delivery, "{frame:?}");
+    assert_eq!(rt; publish.retain, retain, "{frame:?}");
+    assert_eq!(rt; publish.topic, "a", "{frame:?}");
+    assert_eq!(rt; publish.payload, &[9][..], "{frame:?}");
 }
 
 #[test]
-fn the_other_packets_tell_their_fields(rt: HostRuntime) -> Result<(), Fail> {
-    match look_at(VECTORS[4]) {
-        Ok(PacketRef::Connack(connack)) => {
-            assert!(rt; !connack.session_present, "Session Present");
-            assert_eq!(rt; connack.reason, Reason::SUCCESS);
-            assert_eq!(rt; connack.properties.len(), 4);
-        }
-        _ => panic!(rt; "it is a CONNACK"),
-    }
-    match look_at(VECTORS[5]) {
-        Ok(PacketRef::Subscribe(subscribe)) => {
-            assert_eq!(rt; subscribe.identifier, 1);
-            let (first, rest) = subscribe
-                .subscriptions
-                .split_first()
-                .expect(&rt, "a filter");
-            assert_eq!(rt; first.filter, "a/b");
-            assert_eq!(rt; first.options, 2);
-            assert!(rt;
-                rest.is_empty() && !subscribe.subscriptions.is_empty(),
-                "one filter"
-            );
-        }
-        _ => panic!(rt; "it is a SUBSCRIBE"),
-    }
-    match look_at(VECTORS[6]) {
-        Ok(PacketRef::Suback(suback)) => assert_eq!(rt; suback.codes, &[2][..]),
-        _ => panic!(rt; "it is a SUBACK"),
-    }
-    match look_at(&[0xa2, 7, 0, 2, 0, 0, 2, 0x61, 0x23]) {
-        Ok(PacketRef::Unsubscribe(unsubscribe)) => {
-            let filters = unsubscribe.filters.again();
-            let (first, rest) = filters.split_first().expect(&rt, "a filter");
-            assert_eq!(rt; first, "a#");
-            assert!(rt; rest.is_empty() && !filters.is_empty(), "one filter");
-        }
-        _ => panic!(rt; "it is an UNSUBSCRIBE"),
-    }
-    match look_at(&[0xe0, 7, 4, 5, 0x11, 0, 0, 0, 0x0a]) {
-        Ok(PacketRef::Disconnect(notice)) => {
-            assert_eq!(rt; notice.reason, Reason::DISCONNECT_WITH_WILL_MESSAGE);
-        }
-        _ => panic!(rt; "it is a DISCONNECT"),
-    }
-    Ok(())
+fn a_publish_tells_its_delivery(rt: HostRuntime) {
+    let repeated = Delivery::AtLeastOnce {
+        dup: true,
+        identifier: 258,
+    };
+    let exact = Delivery::ExactlyOnce {
+        dup: false,
+        identifier: 7,
+    };
+    let once = Delivery::AtMostOnce;
+    assert_publish(&rt, &[0x30, 5, 0, 1, b'a', 0, 9], once, false);
+    assert_publish(&rt, &[0x31, 5, 0, 1, b'a', 0, 9], once, true);
+    assert_publish(&rt, &[0x3a, 7, 0, 1, b'a', 1, 2, 0, 9], repeated, false);
+    assert_publish(&rt, &[0x35, 7, 0, 1, b'a', 0, 7, 0, 9], exact, true);
+}
+
+fn assert_delivery(rt: &impl Abort, found: Delivery, qos: Qos, dup: bool, identifier: Option<u16>) {
+    assert_eq!(rt; found.qos(), qos, "{found:?}");
+    assert_eq!(rt; found.dup(), dup, "{found:?}");
+    assert_eq!(rt; found.identifier(), identifier, "{found:?}");
 }
 
 #[test]
-fn each_packet_tells_its_kind_and_its_properties(rt: HostRuntime) -> Result<(), Fail> {
+fn a_delivery_tells_its_parts(rt: HostRuntime) {
+    let repeated = Delivery::AtLeastOnce {
+        dup: true,
+        identifier: 258,
+    };
+    let exact = Delivery::ExactlyOnce {
+        dup: false,
+        identifier: 7,
+    };
+    assert_delivery(&rt, Delivery::AtMostOnce, Qos::AtMostOnce, false, None);
+    assert_delivery(&rt, repeated, Qos::AtLeastOnce, true, Some(258));
+    assert_delivery(&rt, exact, Qos::ExactlyOnce, false, Some(7));
+}
+
+#[test]
+fn a_connack_tells_its_code(rt: HostRuntime) {
+    let connack = connack_of(VECTORS[4]).expect(&rt, "it is a CONNACK");
+    assert!(rt; !connack.session_present, "Session Present");
+    assert_eq!(rt; connack.reason, Reason::SUCCESS);
+    assert_eq!(rt; connack.properties.len(), 4);
+}
+
+#[test]
+fn a_subscribe_tells_its_filters(rt: HostRuntime) {
+    let subscribe = subscribe_of(VECTORS[5]).expect(&rt, "it is a SUBSCRIBE");
+    assert_eq!(rt; subscribe.identifier, 1);
+    assert!(rt; !subscribe.subscriptions.is_empty(), "one filter");
+    let (first, rest) = subscribe
+        .subscriptions
+        .split_first()
+        .expect(&rt, "a filter");
+    assert_eq!(rt; first.filter, "a/b");
+    assert_eq!(rt; first.options, 2);
+    assert!(rt; rest.is_empty(), "one filter");
+}
+
+#[test]
+fn a_suback_tells_its_codes(rt: HostRuntime) {
+    let suback = suback_of(VECTORS[6]).expect(&rt, "it is a SUBACK");
+    assert_eq!(rt; suback.codes, &[2][..]);
+}
+
+#[test]
+fn an_unsubscribe_tells_its_filters(rt: HostRuntime) {
+    let frame = [0xa2, 7, 0, 2, 0, 0, 2, 0x61, 0x23];
+    let unsubscribe = unsubscribe_of(&frame).expect(&rt, "it is an UNSUBSCRIBE");
+    let filters = unsubscribe.filters.again();
+    assert!(rt; !filters.is_empty(), "one filter");
+    let (first, rest) = filters.split_first().expect(&rt, "a filter");
+    assert_eq!(rt; first, "a#");
+    assert!(rt; rest.is_empty(), "one filter");
+}
+
+#[test]
+fn a_disconnect_tells_its_code(rt: HostRuntime) {
+    let frame = [0xe0, 7, 4, 5, 0x11, 0, 0, 0, 0x0a];
+    let notice = disconnect_of(&frame).expect(&rt, "it is a DISCONNECT");
+    assert_eq!(rt; notice.reason, Reason::DISCONNECT_WITH_WILL_MESSAGE);
+}
+
+/// The kind of a packet, and how many properties its own block has.
+fn told(packet: &PacketRef<'_>) -> (Kind, usize) {
+    (packet.kind(), packet.properties().len())
+}
+
+/// The same of an owned packet.
+fn owned_told(packet: Packet) -> (Kind, usize) {
+    let lent = packet.lend();
+    let found = told(&lent);
+    drop(lent);
+    drop(packet);
+    found
+}
+
+/// What a frame's packet tells, looked at and owned; `None` where there is none.
+fn both_told(alloc: Global, frame: &[u8]) -> Option<((Kind, usize), (Kind, usize))> {
+    let packet = look_at(frame).ok()?;
+    let looked_at = told(&packet);
+    let owned = packet.to_packet(alloc);
+    drop(packet);
+    Some((looked_at, owned_told(owned.ok()?)))
+}
+
+#[test]
+fn each_packet_tells_its_kind_and_its_properties(rt: HostRuntime) {
     let rows: [(&[u8], Kind, usize); 16] = [
         (
             // The property of the Will isn't one of the packet.
@@ -164,14 +234,13 @@ fn each_packet_tells_its_kind_and_its_properties(rt: HostRuntime) -> Result<(), 
         (&[0xf0, 6, 0x18, 4, 0x15, 0, 1, 0x61], Kind::Auth, 1),
     ];
     for (frame, kind, count) in rows {
-        let packet = look_at(frame).expect(&rt, "it is a packet");
-        assert_eq!(rt; packet.kind(), kind);
-        assert_eq!(rt; packet.properties().len(), count, "{kind:?}");
-        let owned = packet.to_packet(rt.alloc()).expect(&rt, "there is memory");
-        assert_eq!(rt; owned.lend().kind(), kind);
-        assert_eq!(rt; owned.lend().properties().len(), count, "{kind:?}");
+        let want = (kind, count);
+        assert_eq!(rt;
+            both_told(rt.alloc(), frame),
+            Some((want, want)),
+            "{frame:?}"
+        );
     }
-    Ok(())
 }
 
 // 4.13, and Table 2-6 of 2.4.
@@ -209,95 +278,5 @@ fn options_are_read_where_their_bits_are_lawful(rt: HostRuntime) -> Result<(), F
     let options = options_read(0x16).expect(&rt, "they are lawful");
     assert_eq!(rt; options.qos, Qos::ExactlyOnce);
     assert_eq!(rt; options.retain_handling, RetainHandling::SendIfNew);
-    Ok(())
-}
-
-#[test]
-fn lists_of_filters_are_made(rt: HostRuntime) -> Result<(), Fail> {
-    let alloc = rt.alloc();
-    assert!(rt;
-        Text::may_hold("a/b") && Text::may_hold("#"),
-        "they are texts"
-    );
-    let first = Text::new(alloc, "a/b").expect(&rt, "there is memory");
-    let second = Text::new(alloc, "#").expect(&rt, "there is memory");
-    let mut filters = Filters::new();
-    assert!(rt; filters.lend().is_empty(), "no filter");
-    assert!(rt; filters.push(alloc, &first).is_ok(), "there is memory");
-    let one = filters.clone().expect(&rt, "there is memory");
-    assert!(rt; filters.push(alloc, &second).is_ok(), "there is memory");
-    let unsubscribe = Packet::Unsubscribe(Unsubscribe {
-        identifier: 2,
-        properties: PropList::new(),
-        filters,
-    });
-    assert!(rt; lawful(&unsubscribe), "it has a spelling");
-    let frame = encode(alloc, &unsubscribe).expect(&rt, "there is memory");
-    assert_eq!(rt;
-        &frame[..],
-        &[0xa2, 11, 0, 2, 0, 0, 3, b'a', b'/', b'b', 0, 1, b'#'][..]
-    );
-    let (_, rest) = one.lend().split_first().expect(&rt, "one filter");
-    assert!(rt; rest.is_empty(), "a clone stays as it is");
-    let options = SubscriptionOptions {
-        qos: Qos::ExactlyOnce,
-        no_local: true,
-        retain_as_published: false,
-        retain_handling: RetainHandling::DoNotSend,
-    };
-    let mut subscriptions = Subscriptions::new();
-    assert!(rt; subscriptions.lend().is_empty(), "no filter");
-    assert!(rt;
-        subscriptions.push(alloc, &first, options).is_ok(),
-        "there is memory"
-    );
-    let copy = subscriptions.clone().expect(&rt, "there is memory");
-    let (found, _) = copy.lend().split_first().expect(&rt, "one filter");
-    assert_eq!(rt; found.options(), Some(options));
-    let subscribe = Packet::Subscribe(Subscribe {
-        identifier: 1,
-        properties: PropList::new(),
-        subscriptions,
-    });
-    assert!(rt; lawful(&subscribe), "it has a spelling");
-    let frame = encode(alloc, &subscribe).expect(&rt, "there is memory");
-    assert_eq!(rt;
-        &frame[..],
-        &[0x82, 9, 0, 1, 0, 0, 3, b'a', b'/', b'b', 0x26][..]
-    );
-    Ok(())
-}
-
-#[test]
-fn a_packet_that_breaks_a_law_or_has_no_layout_is_not_lawful(rt: HostRuntime) -> Result<(), Fail> {
-    let rows = [
-        (
-            "no filter",
-            Packet::Unsubscribe(Unsubscribe {
-                identifier: 2,
-                properties: PropList::new(),
-                filters: Filters::new(),
-            }),
-        ),
-        (
-            "a foreign code",
-            Packet::Pubrel(Ack {
-                identifier: 2,
-                reason: Reason::QUOTA_EXCEEDED,
-                properties: PropList::new(),
-            }),
-        ),
-        (
-            "identifier 0",
-            Packet::Puback(Ack {
-                identifier: 0,
-                reason: Reason::SUCCESS,
-                properties: PropList::new(),
-            }),
-        ),
-    ];
-    for (text, packet) in rows {
-        assert!(rt; !lawful(&packet), "{text}");
-    }
     Ok(())
 }

@@ -1,8 +1,8 @@
 //! Flags, fields and lengths that no packet has (2.1, 3.1 to 3.15).
 
-use super::assert_gives;
 use super::vectors::VECTORS;
-use crate::{Fault, look_at};
+use super::{assert_gives, fault_of};
+use crate::Fault;
 use std::alloc::Global;
 use std::process::Abort;
 use std::test::Fail;
@@ -23,22 +23,25 @@ const FIRST_BYTES: [u8; 24] = [
     0x82, 0x90, 0xa2, 0xb0, 0xc0, 0xd0, 0xe0, 0xf0,
 ];
 
+/// A body of the first byte's type, so that only its flags decide.
+fn body_of(first: u8) -> &'static [u8] {
+    match first / 16 {
+        1 => b"\x00\x04MQTT\x05\x02\x00\x3c\x00\x00\x00",
+        2 => &[0, 0, 0],
+        3 if first / 2 % 4 == 0 => &[0, 1, b'a', 0],
+        3 => &[0, 1, b'a', 0, 1, 0],
+        4 | 5 | 6 | 7 => &[0, 1],
+        8 => &[0, 1, 0, 0, 1, b'a', 0],
+        9 | 11 => &[0, 1, 0, 0],
+        10 => &[0, 1, 0, 0, 1, b'a'],
+        _ => &[],
+    }
+}
+
 #[test]
 fn a_first_byte_with_other_flags_begins_no_packet(rt: HostRuntime) -> Result<(), Fail> {
     for first in 0..=255u8 {
-        // A body of the first byte's type, so that only its flags decide.
-        let body: &[u8] = match first / 16 {
-            1 => &VECTORS[3][2..],
-            2 => &[0, 0, 0],
-            3 if first / 2 % 4 == 0 => &[0, 1, b'a', 0],
-            3 => &[0, 1, b'a', 0, 1, 0],
-            4 | 5 | 6 | 7 => &[0, 1],
-            8 => &[0, 1, 0, 0, 1, b'a', 0],
-            9 | 11 => &[0, 1, 0, 0],
-            10 => &[0, 1, 0, 0, 1, b'a'],
-            _ => &[],
-        };
-        let frame = framed(&rt, rt.alloc(), first, body)?;
+        let frame = framed(&rt, rt.alloc(), first, body_of(first))?;
         let want = if FIRST_BYTES.contains(&first) {
             Ok(&frame[..])
         } else {
@@ -51,36 +54,53 @@ fn a_first_byte_with_other_flags_begins_no_packet(rt: HostRuntime) -> Result<(),
 
 // 3.1.2.3: bit 0 is reserved, bit 1 Clean Start, 2 Will, 3 and 4 its QoS, 5 its RETAIN, 6 Password,
 // 7 User Name.
+
+/// Whether no bit of the flags contradicts another.
+fn may_stand(flags: u8) -> bool {
+    let has_will = flags / 4 % 2 == 1;
+    let will_qos = flags / 8 % 4;
+    let will_retain = flags / 32 % 2 == 1;
+    flags % 2 == 0
+        && if has_will {
+            will_qos < 3
+        } else {
+            will_qos == 0 && !will_retain
+        }
+}
+
+/// The body of a CONNECT with these flags, and with the fields that they ask for.
+fn connect_body(alloc: Global, flags: u8) -> Result<Vec<u8>, Fail> {
+    let mut body = Vec::from_slice(alloc, b"\x00\x04MQTT\x05")?;
+    body.extend_from_slice(&[flags, 0, 10, 0, 0, 1, b'c'])?;
+    if flags / 4 % 2 == 1 {
+        body.extend_from_slice(&[0, 0, 1, b'w', 0, 1, 0x21])?;
+    }
+    if flags / 128 == 1 {
+        body.extend_from_slice(&[0, 1, b'u'])?;
+    }
+    if flags / 64 % 2 == 1 {
+        body.extend_from_slice(&[0, 1, 0xff])?;
+    }
+    Ok(body)
+}
+
+/// The CONNECT with these flags is read and written again, or is malformed.
+fn assert_flags(rt: &impl Abort, alloc: Global, flags: u8) -> Result<(), Fail> {
+    let body = connect_body(alloc, flags)?;
+    let frame = framed(rt, alloc, 0x10, &body)?;
+    let want = if may_stand(flags) {
+        Ok(&frame[..])
+    } else {
+        Err(Fault::Malformed)
+    };
+    assert_gives(rt, alloc, "flags of CONNECT", &frame, want);
+    Ok(())
+}
+
 #[test]
 fn connect_flags_that_contradict_are_malformed(rt: HostRuntime) -> Result<(), Fail> {
     for flags in 0..=255u8 {
-        let has_will = flags / 4 % 2 == 1;
-        let will_qos = flags / 8 % 4;
-        let will_retain = flags / 32 % 2 == 1;
-        let mut body = Vec::new(rt.alloc());
-        body.extend_from_slice(&[0, 4, b'M', b'Q', b'T', b'T', 5, flags, 0, 10, 0, 0, 1, b'c'])?;
-        if has_will {
-            body.extend_from_slice(&[0, 0, 1, b'w', 0, 1, 0x21])?;
-        }
-        if flags / 128 == 1 {
-            body.extend_from_slice(&[0, 1, b'u'])?;
-        }
-        if flags / 64 % 2 == 1 {
-            body.extend_from_slice(&[0, 1, 0xff])?;
-        }
-        let frame = framed(&rt, rt.alloc(), 0x10, &body)?;
-        let stands = flags % 2 == 0
-            && if has_will {
-                will_qos < 3
-            } else {
-                will_qos == 0 && !will_retain
-            };
-        let want = if stands {
-            Ok(&frame[..])
-        } else {
-            Err(Fault::Malformed)
-        };
-        assert_gives(&rt, rt.alloc(), "flags of CONNECT", &frame, want);
+        assert_flags(&rt, rt.alloc(), flags)?;
     }
     Ok(())
 }
@@ -197,9 +217,9 @@ fn a_frame_cut_short_is_malformed(rt: HostRuntime) -> Result<(), Fail> {
     let mut count = 0u32;
     for (row, frame) in VECTORS.iter().enumerate() {
         for len in 0..frame.len() {
-            let front = &frame[..len];
-            assert!(rt;
-                matches!(look_at(front), Err(Fault::Malformed)),
+            assert_eq!(rt;
+                fault_of(&frame[..len]),
+                Some(Fault::Malformed),
                 "{row} cut at {len}"
             );
             count = count.wrapping_add(1);

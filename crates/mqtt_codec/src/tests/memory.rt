@@ -1,11 +1,23 @@
 //! Want of memory, to be run with each allocation failing in turn.
 
 use super::vectors::VECTORS;
-use crate::{Fault, decode, encode, lawful, look_at};
-use std::test::Fail;
+use super::{encoded_again, fault_of};
+use crate::Fault;
+use std::alloc::Global;
+use std::process::Abort;
+
+/// A packet is decoded and encoded as it was spelled, or memory was wanting; a frame that is none
+/// is refused for what it is.
+fn assert_memory_alone_is_told(rt: &impl Abort, alloc: Global, frame: &[u8]) {
+    let want = fault_of(frame).unwrap_or(Fault::Memory);
+    match encoded_again(alloc, frame) {
+        Ok(bytes) => assert_eq!(rt; &bytes[..], frame),
+        Err(fault) => assert_eq!(rt; fault, want),
+    }
+}
 
 #[test]
-fn want_of_memory_is_told_and_nothing_else_changes(rt: HostRuntime) -> Result<(), Fail> {
+fn want_of_memory_is_told_and_nothing_else_changes(rt: HostRuntime) {
     let frames: [&[u8]; 8] = [
         // CONNECT with a Will, User Name and Password.
         &[
@@ -21,24 +33,6 @@ fn want_of_memory_is_told_and_nothing_else_changes(rt: HostRuntime) -> Result<()
         &[0x50, 8, 0, 7, 0, 4, 0x1f, 0, 1, b'w'],
     ];
     for frame in frames {
-        let stands = look_at(frame).is_ok();
-        match decode(rt.alloc(), frame) {
-            Ok(packet) => {
-                assert!(rt; stands && lawful(&packet), "it is a packet");
-                match encode(rt.alloc(), &packet) {
-                    Ok(bytes) => assert_eq!(rt; &bytes[..], frame),
-                    Err(fault) => assert_eq!(rt; fault, Fault::Memory),
-                }
-            }
-            Err(fault) => {
-                let want = if stands {
-                    Fault::Memory
-                } else {
-                    Fault::Malformed
-                };
-                assert_eq!(rt; fault, want);
-            }
-        }
+        assert_memory_alone_is_told(&rt, rt.alloc(), frame);
     }
-    Ok(())
 }
