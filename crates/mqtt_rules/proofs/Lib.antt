@@ -6,3 +6,4 @@ pub mod OrderedSteps
 pub mod OrderedActs
 pub mod OrderedRoom
 pub mod OrderedLimits
+pub mod OrderedAccepted
