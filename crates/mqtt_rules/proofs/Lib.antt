@@ -7,3 +7,4 @@ pub mod OrderedActs
 pub mod OrderedRoom
 pub mod OrderedLimits
 pub mod OrderedAccepted
+pub mod OrderedQueues
