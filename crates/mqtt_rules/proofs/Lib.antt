@@ -8,3 +8,4 @@ pub mod OrderedRoom
 pub mod OrderedLimits
 pub mod OrderedAccepted
 pub mod OrderedQueues
+pub mod OrderedEnters

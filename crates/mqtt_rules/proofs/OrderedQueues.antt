@@ -50,7 +50,7 @@ pub length-mapped : {X Y : Type 0} (f : X → Y) (xs : List X) → length (map f
 length-mapped f [] = refl
 length-mapped f (x ∷ xs) = ap suc (length-mapped f xs)
 
-length-append_one : {X : Type 0} (xs : List X) (x : X) → length (xs ++ x ∷ []) ≡ suc (length xs)
+pub length-append_one : {X : Type 0} (xs : List X) (x : X) → length (xs ++ x ∷ []) ≡ suc (length xs)
 length-append_one [] x = refl
 length-append_one (y ∷ ys) x = ap suc (length-append_one ys x)
 
@@ -102,6 +102,9 @@ below_next q = below_greatest (next_of entry_place q) q (omega arith)
 below_front : (n : ℕ) (xs ys : List Entry) → IsBelow entry_place n (xs ++ ys) → IsBelow entry_place n xs
 below_front n [] ys low = tt
 below_front n (x ∷ xs) ys low = (low.0, below_front n xs ys low.1)
+
+pub below_own : (q : List Entry) → IsBelow entry_place (next_of entry_place q) q
+below_own q = below_next q
 
 -- ---- which entries stay
 
@@ -169,7 +172,7 @@ both_are : (x y : Bool) → (x && y) ≡ true → y ≡ true
 both_are true y h = h
 both_are false y h = absurd cc
 
-dropped_gives : (k first birth : ℕ) (q : List Entry) → AllByRecursion (GivesWay first q) (dropped k first (map (entry_on [] birth) q))
+pub dropped_gives : (k first birth : ℕ) (q : List Entry) → AllByRecursion (GivesWay first q) (dropped k first (map (entry_on [] birth) q))
 dropped_gives k first birth [] = tt
 dropped_gives zero first birth (e ∷ es) = tt
 dropped_gives (suc k) first birth (e ∷ es) = elim (cases_Bool (gives_way first (entry_on [] birth e))) [
@@ -180,7 +183,7 @@ dropped_gives (suc k) first birth (e ∷ es) = elim (cases_Bool (gives_way first
 ]
 
 -- a property of the turns that each of them keeps
-leaving_flow : (first birth : ℕ) (whole : List Entry) (ts : List Turn) (q : List Entry) → AllByRecursion (GivesWay first whole) ts → map (entry_on [] birth) (leaving ts q) ≡ flow.after_all ts (map (entry_on [] birth) q)
+pub leaving_flow : (first birth : ℕ) (whole : List Entry) (ts : List Turn) (q : List Entry) → AllByRecursion (GivesWay first whole) ts → map (entry_on [] birth) (leaving ts q) ≡ flow.after_all ts (map (entry_on [] birth) q)
 leaving_flow first birth whole [] q all = refl
 leaving_flow first birth whole (turns.Leave place ending ∷ ts) q all =
     leaving_flow first birth whole ts (remove_row entry_place place q) all.1 ∙ ap (flow.after_all ts) (mapped_filter place birth q)
@@ -266,7 +269,7 @@ later_place p ts q n None is next all =
       | inr not_so ↦ rw not_so (below_front (next_of entry_place (rest ++ n ∷ [])) rest (n ∷ []) (below_next (rest ++ n ∷ [])))
     ]))
 
-stay_more : (full : Full) (p : Entry → Bool) (ts : List Turn) (q : List Entry) (n : Entry) → n.place ≡ next_of entry_place (leaving ts q) → AllByRecursion (GivesWay (first_place p q) q) ts
+pub stay_more : (full : Full) (p : Entry → Bool) (ts : List Turn) (q : List Entry) (n : Entry) → n.place ≡ next_of entry_place (leaving ts q) → AllByRecursion (GivesWay (first_place p q) q) ts
     → stay full (first_place p (leaving ts q ++ n ∷ [])) (leaving ts q ++ n ∷ []) ≤ suc (stay full (first_place p q) q)
 stay_more Refuse p ts q n next all = let one = length-append_one (leaving ts q) n in let less = length_leaving ts q in omega (arith, one, less)
 stay_more Drop p ts q n next all =
