@@ -9,3 +9,4 @@ pub mod OrderedLimits
 pub mod OrderedAccepted
 pub mod OrderedQueues
 pub mod OrderedEnters
+pub mod OrderedFull

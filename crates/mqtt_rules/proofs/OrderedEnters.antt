@@ -47,7 +47,7 @@ use Rattle.mqtt_rules.proofs.OrderedQueues.{count_filtered, length-mapped, stay,
 -- ---- a row found and changed
 
 module _ {X : Type 0} (key : X → ℕ) where
-  change_here : (k : ℕ) (f : X → X) (xs : List X) (x : X) → ((y : X) → key (f y) ≡ key y) → row_at key k xs ≡ Some x → row_at key k (change_row key k f xs) ≡ Some (f x)
+  pub change_here : (k : ℕ) (f : X → X) (xs : List X) (x : X) → ((y : X) → key (f y) ≡ key y) → row_at key k xs ≡ Some x → row_at key k (change_row key k f xs) ≡ Some (f x)
   change_here k f [] x kept found = absurd cc
   change_here k f (y ∷ ys) x kept found = elim (cases_Bool (nat_eq (key y) k)) [
     | inl same ↦
@@ -58,7 +58,7 @@ module _ {X : Type 0} (key : X → ℕ) where
     | inr other ↦ rw (other, other) (change_here k f ys x kept (rw other at found))
   ]
 
-  change_other : (j k : ℕ) (f : X → X) (xs : List X) → ((y : X) → key (f y) ≡ key y) → nat_eq j k ≡ false → row_at key k (change_row key j f xs) ≡ row_at key k xs
+  pub change_other : (j k : ℕ) (f : X → X) (xs : List X) → ((y : X) → key (f y) ≡ key y) → nat_eq j k ≡ false → row_at key k (change_row key j f xs) ≡ row_at key k xs
   change_other j k f [] kept differ = refl
   change_other j k f (y ∷ ys) kept differ = elim (cases_Bool (nat_eq (key y) j)) [
     | inl same ↦
@@ -69,7 +69,7 @@ module _ {X : Type 0} (key : X → ℕ) where
     | inr other ↦ rw other (ap (λ (o : Option X). cond (nat_eq (key y) k) (Some y) o) (change_other j k f ys kept differ))
   ]
 
-  all_found : (P : X → Type 0) (k : ℕ) (xs : List X) (x : X) → AllByRecursion P xs → row_at key k xs ≡ Some x → P x
+  pub all_found : (P : X → Type 0) (k : ℕ) (xs : List X) (x : X) → AllByRecursion P xs → row_at key k xs ≡ Some x → P x
   all_found P k [] x all found = absurd cc
   all_found P k (y ∷ ys) x all found = elim (cases_Bool (nat_eq (key y) k)) [
     | inl same ↦
@@ -157,7 +157,7 @@ at_other part None q = tt
 at_other part (Some s) q = part_other part s q
 
 -- all deeds but an entering
-abbrev IsStill : Deed → Type 0
+abbrev pub IsStill : Deed → Type 0
 IsStill (At who part) = IsPlainPart part
 IsStill deed = Unit {0}
 
@@ -180,7 +180,7 @@ deed_other (On line part) r q = tt
 deed_other (Send line packet) r q = tt
 deed_other (Gone line) r q = tt
 
-still_one : (d : Deed) → IsPlain d → IsStill d
+pub still_one : (d : Deed) → IsPlain d → IsStill d
 still_one (At who part) p = p
 still_one (Begin row will) p = tt
 still_one (Keep kept) p = tt
@@ -201,13 +201,13 @@ pub record ShortQueues (env : Env) (r : Records) : Type 0 where
   pub ordered : IsOrdered r
   pub short : AreShort env.limits.queue r.sessions
 
-still_short : (env : Env) (d : Deed) (r : Records) → IsStill d → ShortQueues env r → ShortQueues env (stored_after d r)
+pub still_short : (env : Env) (d : Deed) (r : Records) → IsStill d → ShortQueues env r → ShortQueues env (stored_after d r)
 still_short env d r q h = record {
   ordered = changed_all-ordered (rows_of d r) r h.ordered;
   short = changes_short env.limits.queue (rows_of d r) r (deed_other d r q) h.short;
 }
 
-plain_short : (env : Env) (ds : List Deed) (b : Broker) → ArePlain ds → ShortQueues env b.records → ShortQueues env (stored (after_all ds b))
+pub plain_short : (env : Env) (ds : List Deed) (b : Broker) → ArePlain ds → ShortQueues env b.records → ShortQueues env (stored (after_all ds b))
 plain_short env [] b q h = h
 plain_short env (d ∷ ds) b q h = plain_short env ds (after d b) q.1 (still_short env d b.records (still_one d q.0) h)
 
@@ -269,13 +269,13 @@ leaves first s (turns.Unknown id ∷ ts) now b all found = absurd all.0
 
 -- ---- a copy enters
 
-some_same : (x y : Session) → Some x ≡ Some y → x ≡ y
+pub some_same : (x y : Session) → Some x ≡ Some y → x ≡ y
 some_same x y is = cc
 
-abbrev new_of : Env → Entry → Bool
+abbrev pub new_of : Env → Entry → Bool
 new_of env e = is_new env.start e.copy
 
-abbrev own_stay : Env → Session → ℕ
+abbrev pub own_stay : Env → Session → ℕ
 own_stay env s = stay env.limits.full (since env s) s.queue
 
 flow_ascends : (birth : ℕ) (q : List Entry) → IsAscending entry_place q → flow.Ascends (map (entry_on [] birth) q)
@@ -287,14 +287,14 @@ flow_ascends birth (e ∷ es) up = (flow_above birth e.place es up.0, flow_ascen
     flow_above birth n (e ∷ es) up = (up.0, flow_above birth n es up.1)
 
 -- what an entering makes: its session's queue is within the limit, and at most one more stays
-record Entered (env : Env) (s : Session) (ss new : List Session) : Type 0 where
-  mine : Session
-  found : row_at birth_of s.birth new ≡ Some mine
-  within : length mine.queue ≤ env.limits.queue
-  stays : own_stay env mine ≤ suc (own_stay env s)
-  others : (other : ℕ) → nat_eq s.birth other ≡ false → row_at birth_of other new ≡ row_at birth_of other ss
+pub record Entered (env : Env) (s : Session) (ss new : List Session) : Type 0 where
+  pub mine : Session
+  pub found : row_at birth_of s.birth new ≡ Some mine
+  pub within : length mine.queue ≤ env.limits.queue
+  pub stays : own_stay env mine ≤ suc (own_stay env s)
+  pub others : (other : ℕ) → nat_eq s.birth other ≡ false → row_at birth_of other new ≡ row_at birth_of other ss
 
-enters : (env : Env) (copy : MessageCopy) (s : Session) (b : Broker) → env.limits.queue ≤ QUEUE_LIMIT → HasTables s → session_at s.birth b.records ≡ Some s → own_stay env s < env.limits.queue → ShortQueues env b.records
+pub enters : (env : Env) (copy : MessageCopy) (s : Session) (b : Broker) → env.limits.queue ≤ QUEUE_LIMIT → HasTables s → session_at s.birth b.records ≡ Some s → own_stay env s < env.limits.queue → ShortQueues env b.records
     → Entered env s b.records.sessions (stored (after_all (enter_deeds env copy s) b)).sessions × ShortQueues env (stored (after_all (enter_deeds env copy s) b))
 enters env copy s b small tables found free short =
     let first = since env s in
