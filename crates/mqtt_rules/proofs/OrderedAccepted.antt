@@ -1,9 +1,9 @@
 -- A publication that is accepted makes no more copies for a session than its queue has room for.
-use Rattle.std.proofs.Common.{◌≡◌, ℕ, zero, suc, ◌+◌, ◌<◌, ◌≤◌, Bool, true, false, cond, not, ◌&&◌, ◌||◌, List, [], ◌∷◌, ◌++◌, length, filter, map, Option, Some, None, nat_eq, nat_lt, refl, ap, sym, subst, ◌∙◌, arith, inl, inr}
-use Rattle.std.specs.Prelude.{flat_map, option_map, slice_index_or, bytes_eq}
+use Rattle.std.proofs.Common.{◌≡◌, ℕ, zero, suc, ◌+◌, ◌<◌, ◌≤◌, Bool, true, false, not, ◌&&◌, ◌||◌, List, [], ◌∷◌, ◌++◌, length, filter, map, Option, Some, None, nat_eq, nat_lt, refl, ap, sym, subst, ◌∙◌, arith, inl, inr}
+use Rattle.std.specs.Prelude.{flat_map, option_map, slice_index_or}
 use Rattle.std.specs.List.{AllByRecursion, list_all, list_any}
 use Rattle.std.specs.Option.{option_and_then}
-use Rattle.std.proofs.lemmas.Bool.{cases_Bool, ltb-true, eqb-true, lt-ltb, le-ltb}
+use Rattle.std.proofs.lemmas.Bool.{cases_Bool, ltb-true, eqb-true, lt-ltb}
 use Rattle.std.proofs.lemmas.List.Sums.{length-filter}
 use Rattle.mqtt_base.specs.declared.session.Cause.{Cause}
 use Rattle.mqtt_base.specs.declared.session.Cause.TheVariants.{Direct, Share}
@@ -14,7 +14,6 @@ use Rattle.mqtt_routes.specs.Intended.{Publication, Answers, Copy, Member, grant
 use Rattle.mqtt_routes.specs.Acceptance.{Served, Routed, copies_in, copies_of, uses, needs_room, has_room_beside, is_eligible, later_choices, first_choice, chosen, shared_copy, outcome, eligible_of, serve_one, serve, has_room, with_direct, routed_beside}
 use Rattle.mqtt_routes.specs.Acceptance as acceptance
 use Rattle.mqtt_records.specs.declared.session.Session.{Session}
-use Rattle.mqtt_records.specs.declared.records.Records.{Records}
 use Rattle.mqtt_records.specs.Order.{IsAbove, IsAscending}
 use Rattle.mqtt_records.specs.Session.{birth_of}
 use Rattle.mqtt_records.proofs.OrderLemmas.{apart}
@@ -22,7 +21,7 @@ use Rattle.mqtt_rules.specs.Packets.{quality}
 use Rattle.mqtt_rules.specs.State.{Broker, Env, session_at}
 use Rattle.mqtt_rules.specs.Deeds.{Message}
 use Rattle.mqtt_rules.specs.Outbound.{room_at}
-use Rattle.mqtt_rules.specs.Routing.{subscriber_of, subscribers, publication_of, answers, finds_place, Delivery, delivery_of, served_deliveries, deliveries, next_publication, routed_to, accepted_if, routed, is_queued_at, is_queued}
+use Rattle.mqtt_rules.specs.Routing.{subscriber_of, publication_of, answers, finds_place, Delivery, delivery_of, served_deliveries, deliveries, next_publication, routed_to, accepted_if, routed, is_queued_at, is_queued}
 
 -- ---- counting
 
@@ -100,11 +99,11 @@ few_direct at p birth (s ∷ ss) up fits =
         let parts = both_true (has_room at c) (list_all (has_room at) rest) fits in
         many_one birth c rest (at.room birth)
         (λ queued same.
-            let free : nat_lt 0 (at.room c.birth) ≡ true = or_left (acceptance.is_queued c) (nat_lt 0 (at.room c.birth)) queued parts.0 in
-            let here : c.birth ≡ birth = eqb-true c.birth birth same in
-            let some : 0 < at.room birth = subst (λ (n : ℕ). 0 < at.room n) here (ltb-true 0 (at.room c.birth) free) in
-            let zero_rest = none same in
-            omega (arith, some, zero_rest))
+        let free : nat_lt 0 (at.room c.birth) ≡ true = or_left (acceptance.is_queued c) (nat_lt 0 (at.room c.birth)) queued parts.0 in
+        let here : c.birth ≡ birth = eqb-true c.birth birth same in
+        let some : 0 < at.room birth = subst (λ (n : ℕ). 0 < at.room n) here (ltb-true 0 (at.room c.birth) free) in
+        let zero_rest = none same in
+        omega (arith, some, zero_rest))
         (few parts.1)
 
 -- ---- copies of groups: a member is eligible only where its queue has room beside the others

@@ -1,6 +1,6 @@
 -- What every deed keeps, every act keeps, and every step: the acts one by one.
-use Rattle.std.proofs.Common.{◌≡◌, ℕ, suc, ◌<◌, ◌≤◌, Bool, true, false, cond, not, ◌&&◌, ◌||◌, List, [], ◌∷◌, ◌++◌, length, filter, map, Option, Some, None, nat_eq, nat_lt, refl, ap, sym, subst, ◌∙◌, arith, inl, inr}
-use Rattle.std.specs.Prelude.{nat_le, flat_map, find, option_map, is_none, decimal, Ok, Err}
+use Rattle.std.proofs.Common.{◌≡◌, ℕ, suc, ◌<◌, Bool, true, false, cond, not, ◌&&◌, ◌||◌, List, [], ◌∷◌, ◌++◌, length, filter, map, Option, Some, None, nat_eq, nat_lt, refl, ap, sym, subst, ◌∙◌, inl, inr}
+use Rattle.std.specs.Prelude.{nat_le, flat_map, find, option_map, decimal, Ok, Err}
 use Rattle.std.proofs.lemmas.Bool.{cases_Bool, ltb-true, eqb-true}
 use Rattle.mqtt_base.specs.declared.session.Ending.TheVariants.{SessionEnded}
 use Rattle.mqtt_props.specs.declared.table.PropName.TheVariants.{SessionExpiryInterval, SubscriptionIdentifier, TopicAlias}
@@ -25,29 +25,23 @@ use Rattle.mqtt_flow.specs.Codes.{session_taken_over, quota_exceeded, identifier
 use Rattle.mqtt_flow.specs.Inbound.{is_open, answer_to_release}
 use Rattle.mqtt_flow.specs.Outbound.{Answer, resumed_with}
 use Rattle.mqtt_flow.specs.Outbound as flow
-use Rattle.mqtt_records.specs.declared.message.MessageCopy.{MessageCopy}
-use Rattle.mqtt_records.specs.declared.message.Retained.{Retained}
 use Rattle.mqtt_records.specs.declared.message.Will.{Will}
 use Rattle.mqtt_records.specs.declared.queue.Entry.{Entry}
 use Rattle.mqtt_records.specs.declared.session.Session.{Session}
 use Rattle.mqtt_records.specs.declared.session.Columns.{Columns}
 use Rattle.mqtt_records.specs.declared.records.Records.{Records}
 use Rattle.mqtt_records.specs.declared.change.Change.{Change}
-use Rattle.mqtt_records.specs.declared.change.Counter.TheVariants.{Autos}
 use Rattle.mqtt_records.specs.declared.subscription.TheConstants.{SUBSCRIPTION_LIMIT}
 use Rattle.mqtt_records.specs.Order.{row_at}
 use Rattle.mqtt_records.specs.Session.{birth_of, entry_place}
-use Rattle.mqtt_records.specs.Records.{with_counter}
-use Rattle.mqtt_rules.specs.declared.Limits.{Limits}
 use Rattle.mqtt_rules.specs.Packets.{number_at, connack, disconnect, publish_of, suback, unsuback}
 use Rattle.mqtt_rules.specs.State.{Line, Broker, Env, stored, session_at, session_named, line_at, line_of, is_connected, queue_on}
-use Rattle.mqtt_rules.specs.Deeds.{Whose, whose, Message, Origin, FromClient, FromWill, Part, Resume, Close, SetExpiry, DropWill, Open, Release, Enter, Mark, Leave, Hear, Deed, Accept, Begin, Name, Count, At, Finish, Keep, Forget, RefuseWill, Link, On, Send, Gone, Act, after, after_all, rows_of_all, stored_after, then, always, series, only_if, with_session, of_session, with_line, offer}
-use Rattle.mqtt_rules.specs.Deeds as deed
-use Rattle.mqtt_rules.specs.Outbound.{of_entry, at_place, leave_deeds, turn_deeds, all_turn_deeds, room}
+use Rattle.mqtt_rules.specs.Deeds.{Whose, whose, Message, Origin, FromClient, FromWill, Part, Close, DropWill, Enter, Leave, Hear, Deed, Accept, Begin, Name, Count, At, Finish, Keep, Forget, Link, On, Send, Gone, Act, after, after_all, rows_of_all, stored_after, then, always, series, only_if, with_session, of_session, with_line, offer}
+use Rattle.mqtt_rules.specs.Outbound.{of_entry, leave_deeds, turn_deeds, all_turn_deeds, room}
 use Rattle.mqtt_rules.specs.Routing.{Delivery, routed, publish, is_queued, is_wanted}
 use Rattle.mqtt_rules.specs.Closing.{will_message, publish_or_refuse, will_deeds, publish_will, end_session, settle, close_session, close_connected, close, drop_line, has_due_will, has_due_end}
-use Rattle.mqtt_rules.specs.Connect.{largest_of, refusal, refused, of_client, take_over, clear, prepare, greet, expiry_of, will_of, granted_to, resume, fresh_row, begin, begin_named, auto, joins, joins_after, connect_by, on_connect}
-use Rattle.mqtt_rules.specs.Inbound.{Meaning, Means, Wrong, meaning, sets_alias, standing, answer, opens, code_again, code_accepted, publish_new, publish_by, message_of, publish_meant, on_publish, release_by, on_pubrel, turned, answered, on_puback, on_pubrec, on_pubcomp, pump_turns, pump_deeds, is_late_expiry, new_expiry, leave_by, on_disconnect}
+use Rattle.mqtt_rules.specs.Connect.{largest_of, refusal, refused, of_client, take_over, clear, prepare, greet, will_of, granted_to, resume, fresh_row, begin_named, auto, joins, connect_by, on_connect}
+use Rattle.mqtt_rules.specs.Inbound.{Meaning, Means, Wrong, meaning, sets_alias, standing, answer, opens, code_again, code_accepted, publish_new, publish_by, message_of, publish_meant, release_by, on_pubrel, turned, answered, pump_turns, pump_deeds, is_late_expiry, new_expiry, leave_by}
 use Rattle.mqtt_rules.specs.Subscribe as sub
 use Rattle.mqtt_rules.specs.Tick.{is_silent, silence, lapses, has_lapsed, lapse_deeds, is_stale, first_due, due, on_tick}
 use Rattle.mqtt_rules.specs.Step.{Call, NewLine, Input, BadInput, Lost, Pump, Tick, first_packet, next_packet, on_packet, late_code, on_fault, on_pump, can_link, deeds_of, with_moment, done, close_if, opening}
@@ -261,18 +255,20 @@ module _ (env : Env) (P : Records → Type 0) (k : Keeping env P) where
   keeps_settle birth b p = keeps_series P (
       of_session birth (λ s. only_if (has_due_will b.now s) (publish_will env s))
       ∷ of_session birth (λ s. only_if (has_due_end b.now s) (always (end_session s)))
-      ∷ [])
-      (keeps_of P birth (λ s. only_if (has_due_will b.now s) (publish_will env s)) (λ s. keeps_if P (has_due_will b.now s) (publish_will env s) (keeps_publish_will s)),
-      (keeps_of P birth (λ s. only_if (has_due_end b.now s) (always (end_session s))) (λ s. keeps_if P (has_due_end b.now s) (always (end_session s)) (keeps_always (end_session s) (plain_end s))), tt)) b p
+      ∷ []) (
+        keeps_of P birth (λ s. only_if (has_due_will b.now s) (publish_will env s)) (λ s. keeps_if P (has_due_will b.now s) (publish_will env s) (keeps_publish_will s)),
+        (keeps_of P birth (λ s. only_if (has_due_end b.now s) (always (end_session s))) (λ s. keeps_if P (has_due_end b.now s) (always (end_session s)) (keeps_always (end_session s) (plain_end s))), tt),
+      ) b p
 
   keeps_close_session : (keeps_will : Bool) (s : Session) → Keeps P (close_session env keeps_will s)
   keeps_close_session keeps_will s b p = keeps_series P (
       only_if (not keeps_will) (always (At (whose s) DropWill ∷ []))
       ∷ always (At (whose s) (Close b.now) ∷ [])
       ∷ settle env s.birth
-      ∷ [])
-      (keeps_if P (not keeps_will) (always (At (whose s) DropWill ∷ [])) (keeps_always (At (whose s) DropWill ∷ []) (tt, tt)),
-      (keeps_always (At (whose s) (Close b.now) ∷ []) (tt, tt), (keeps_settle s.birth, tt))) b p
+      ∷ []) (
+        keeps_if P (not keeps_will) (always (At (whose s) DropWill ∷ [])) (keeps_always (At (whose s) DropWill ∷ []) (tt, tt)),
+        (keeps_always (At (whose s) (Close b.now) ∷ []) (tt, tt), (keeps_settle s.birth, tt)),
+      ) b p
 
   keeps_connected : (keeps_will : Bool) (o : Option ℕ) → Keeps P (close_connected env keeps_will o)
   keeps_connected keeps_will None b p = p
@@ -300,10 +296,13 @@ module _ (env : Env) (P : Records → Type 0) (k : Keeping env P) where
       of_client c.client_identifier (take_over env)
       ∷ of_client c.client_identifier (λ s. settle env s.birth)
       ∷ only_if c.clean_start (of_client c.client_identifier (clear env))
-      ∷ [])
-      (keeps_client P c.client_identifier (take_over env) keeps_take_over,
-      (keeps_client P c.client_identifier (λ s. settle env s.birth) (λ s. keeps_settle s.birth),
-      (keeps_if P c.clean_start (of_client c.client_identifier (clear env)) (keeps_client P c.client_identifier (clear env) keeps_clear), tt))) b p
+      ∷ []) (
+        keeps_client P c.client_identifier (take_over env) keeps_take_over,
+        (
+          keeps_client P c.client_identifier (λ s. settle env s.birth) (λ s. keeps_settle s.birth),
+          (keeps_if P c.clean_start (of_client c.client_identifier (clear env)) (keeps_client P c.client_identifier (clear env) keeps_clear), tt),
+        ),
+      ) b p
 
   keeps_begin_named : (t : Bool) (l : Line) (c : Greeting) (b : Broker) → length b.records.sessions < env.limits.sessions → P b.records → P (stored (after_all (begin_named t l c b.records) b))
   keeps_begin_named false l c b room p =
@@ -430,8 +429,8 @@ module _ (env : Env) (P : Records → Type 0) (k : Keeping env P) where
       let ds = flat_map (sub.unsubscribes s) (filter (λ f. sub.has_filter f s) x.filters) in
       let told = offer (line_at line b) (unsuback x.identifier (sub.drop_codes s [] x.filters)) in
       plains (ds ++ told) b (plain_append ds told
-        (plain_flat (sub.unsubscribes s) (λ f. (tt, tt)) (filter (λ f. sub.has_filter f s) x.filters))
-        (plain_offer (line_at line b) (unsuback x.identifier (sub.drop_codes s [] x.filters)))) p
+      (plain_flat (sub.unsubscribes s) (λ f. (tt, tt)) (filter (λ f. sub.has_filter f s) x.filters))
+      (plain_offer (line_at line b) (unsuback x.identifier (sub.drop_codes s [] x.filters)))) p
 
   -- ---- packets
 
@@ -503,12 +502,19 @@ module _ (env : Env) (P : Records → Type 0) (k : Keeping env P) where
       ∷ option_map (λ s. always (end_session s)) (find (has_due_end b.now) b.records.sessions)
       ∷ option_map (λ x. always (Forget x.place ∷ [])) (find (is_stale b.now) b.records.retained)
       ∷ option_map (λ s. always (lapse_deeds b.now s)) (find (has_lapsed b.now) b.records.sessions)
-      ∷ [])
-      (keeps_some (λ l. silence env l.session l) (λ l. keeps_silence l.session l) (find (λ l. is_silent b.now l.session l) b.lines),
-      (keeps_some (publish_will env) keeps_publish_will (find (has_due_will b.now) b.records.sessions),
-      (keeps_some (λ s. always (end_session s)) (λ s. keeps_always (end_session s) (plain_end s)) (find (has_due_end b.now) b.records.sessions),
-      (keeps_some (λ x. always (Forget x.place ∷ [])) (λ x. keeps_always (Forget x.place ∷ []) (tt, tt)) (find (is_stale b.now) b.records.retained),
-      (keeps_some (λ s. always (lapse_deeds b.now s)) (λ s. keeps_always (lapse_deeds b.now s) (plain_flat (leave_deeds s) (plain_leave s) (lapses b.now s))) (find (has_lapsed b.now) b.records.sessions), tt)))))
+      ∷ []) (
+        keeps_some (λ l. silence env l.session l) (λ l. keeps_silence l.session l) (find (λ l. is_silent b.now l.session l) b.lines),
+        (
+          keeps_some (publish_will env) keeps_publish_will (find (has_due_will b.now) b.records.sessions),
+          (
+            keeps_some (λ s. always (end_session s)) (λ s. keeps_always (end_session s) (plain_end s)) (find (has_due_end b.now) b.records.sessions),
+            (
+              keeps_some (λ x. always (Forget x.place ∷ [])) (λ x. keeps_always (Forget x.place ∷ []) (tt, tt)) (find (is_stale b.now) b.records.retained),
+              (keeps_some (λ s. always (lapse_deeds b.now s)) (λ s. keeps_always (lapse_deeds b.now s) (plain_flat (leave_deeds s) (plain_leave s) (lapses b.now s))) (find (has_lapsed b.now) b.records.sessions), tt),
+            ),
+          ),
+        ),
+      )
 
   -- ---- calls, and opening
 

@@ -1,11 +1,8 @@
 -- No queue outgrows its limit: every deed but an entering keeps that, and a copy enters where there is room.
-use Rattle.std.proofs.Common.{◌≡◌, ℕ, zero, suc, ◌+◌, ◌-◌, ◌<◌, ◌≤◌, Bool, true, false, cond, not, ◌&&◌, ◌||◌, List, [], ◌∷◌, ◌++◌, length, filter, map, Option, Some, None, nat_eq, nat_lt, refl, ap, sym, subst, ◌∙◌, arith, inl, inr}
-use Rattle.std.specs.Prelude.{flat_map, find, option_map, is_some, nat_le}
+use Rattle.std.proofs.Common.{◌≡◌, ℕ, suc, ◌+◌, ◌-◌, ◌<◌, ◌≤◌, Bool, true, false, cond, not, List, [], ◌∷◌, ◌++◌, length, map, Option, Some, None, nat_eq, refl, ap, sym, subst, ◌∙◌, arith, inl, inr}
+use Rattle.std.specs.Prelude.{flat_map, is_some}
 use Rattle.std.specs.List.{AllByRecursion}
-use Rattle.std.proofs.lemmas.Bool.{cases_Bool, ltb-true, eqb-true, lt-ltb}
-use Rattle.std.proofs.lemmas.Cmp.{nat_eq_equiv}
-use Rattle.mqtt_topic.specs.Names.{is_empty}
-use Rattle.mqtt_flow.specs.declared.entry.Entry.{Entry as FlowEntry}
+use Rattle.std.proofs.lemmas.Bool.{cases_Bool, eqb-true, lt-ltb}
 use Rattle.mqtt_flow.specs.declared.entry.Turn.{Turn}
 use Rattle.mqtt_flow.specs.declared.entry.Turn.TheVariants as turns
 use Rattle.mqtt_flow.specs.Outbound.{staying, way_made, has_room}
@@ -13,13 +10,11 @@ use Rattle.mqtt_flow.specs.Queue as flow
 use Rattle.mqtt_flow.proofs.OutRoom.{below_limit}
 use Rattle.mqtt_base.specs.declared.session.Ending.{Ending}
 use Rattle.mqtt_records.specs.declared.message.MessageCopy.{MessageCopy}
-use Rattle.mqtt_records.specs.declared.message.Retained.{Retained}
 use Rattle.mqtt_records.specs.declared.message.Will.{Will}
 use Rattle.mqtt_records.specs.declared.queue.Entry.{Entry}
 use Rattle.mqtt_records.specs.declared.queue.TheConstants.{QUEUE_LIMIT}
 use Rattle.mqtt_records.specs.declared.session.Session.{Session}
 use Rattle.mqtt_records.specs.declared.session.Columns.{Columns}
-use Rattle.mqtt_records.specs.declared.subscription.Subscription.{Subscription}
 use Rattle.mqtt_records.specs.declared.records.Records.{Records}
 use Rattle.mqtt_records.specs.declared.records.TheConstants.{SESSION_LIMIT}
 use Rattle.mqtt_records.specs.declared.change.Counter.{Counter}
@@ -28,21 +23,16 @@ use Rattle.mqtt_records.specs.declared.change.Change.{Change}
 use Rattle.mqtt_records.specs.declared.change.Change.TheVariants.{SetCounter, PutSession, RemoveSession, PutWill, RemoveWill, PutSubscription, RemoveSubscription, PutInbound, RemoveInbound, PutCopy, SetCopy, RemoveCopy, PutRetained, RemoveRetained}
 use Rattle.mqtt_records.specs.Order.{IsAbove, IsAscending, row_at, has_row, put_row, remove_row, change_row}
 use Rattle.mqtt_records.specs.Session.{birth_of, entry_place, fresh, with_columns, with_will, with_subscription, without_subscription, with_open, without_open, with_copy, in_phase, with_phase, without_copy}
-use Rattle.mqtt_records.specs.Records.{with_counter, put_session, changed, changed_all}
-use Rattle.mqtt_records.proofs.OrderLemmas.{apart}
+use Rattle.mqtt_records.specs.Records.{with_counter, changed, changed_all}
 use Rattle.mqtt_records.proofs.LookUps.{put_row-last}
-use Rattle.mqtt_rules.specs.Packets.{publish_of}
-use Rattle.mqtt_rules.specs.State.{Line, Broker, Env, stored, session_at, line_of, entry_on, queue_on, next_of}
+use Rattle.mqtt_rules.specs.State.{Broker, Env, stored, session_at, entry_on, queue_on, next_of}
 use Rattle.mqtt_rules.specs.Deeds.{Whose, whose, Message, Origin, Part, Resume, Close, SetExpiry, DropWill, Open, Release, Enter, Mark, Leave, Deed, Accept, Begin, Name, Count, At, Finish, Keep, Forget, RefuseWill, Link, On, Send, Gone, Act, after, after_all, rows_of, part_rows, part_rows_of, will_row, begin_rows, new_entry, stored_after, then, always, series, of_session, offer}
 use Rattle.mqtt_rules.specs.Deeds as deed
-use Rattle.mqtt_rules.specs.Outbound.{of_entry, at_place, leave_deeds, is_new, first_given, since, queue_limits, room, room_at, enter_deeds}
-use Rattle.mqtt_rules.specs.Routing.{Delivery, retained_of, next_publication, routed, is_queued, deliver_by, deliver, forgets, retain_by, publish}
-use Rattle.mqtt_rules.specs.Subscribe as sub
-use Rattle.mqtt_rules.specs.Laws.{IsTable, HasTables, IsOrdered}
-use Rattle.mqtt_rules.proofs.Ordered.{length-filter_le, length-change_row, all-filter, all-change_row, all-put_row, either, changed-ordered, changed_all-ordered}
-use Rattle.mqtt_rules.proofs.OrderedActs.{after_append, IsPlainPart, IsPlain, ArePlain, plain_leave, plain_flat, brought_to, Keeping, birth_found}
-use Rattle.mqtt_rules.proofs.OrderedAccepted.{is_to, accepted_within}
-use Rattle.mqtt_rules.proofs.OrderedQueues.{count_filtered, length-mapped, stay, stay_is, stay_le, leaving, GivesWay, dropped_gives, leaving_flow, first_place, stay_more, below_own, length-append_one}
+use Rattle.mqtt_rules.specs.Outbound.{of_entry, leave_deeds, is_new, since, queue_limits, enter_deeds}
+use Rattle.mqtt_rules.specs.Laws.{HasTables, IsOrdered}
+use Rattle.mqtt_rules.proofs.Ordered.{length-filter_le, length-change_row, all-filter, all-change_row, all-put_row, either, changed_all-ordered}
+use Rattle.mqtt_rules.proofs.OrderedActs.{after_append, IsPlainPart, IsPlain, ArePlain, plain_leave, plain_flat, birth_found}
+use Rattle.mqtt_rules.proofs.OrderedQueues.{length-mapped, stay, stay_is, leaving, GivesWay, dropped_gives, leaving_flow, first_place, stay_more, below_own, length-append_one}
 
 -- ---- a row found and changed
 
@@ -342,7 +332,7 @@ enters env copy s b small tables found free short =
     let after_it : ShortQueues env d.records = record {
       ordered = changed_all-ordered (rows_of (At (whose s) (Enter copy)) c.records) c.records before.ordered;
       short = subst (AreShort env.limits.queue) (sym is) (all_changed birth_of (IsShort env.limits.queue) s.birth (with_copy n) c.records.sessions
-        (λ x there. let it : left.mine ≡ x = some_same left.mine x (sym left.found ∙ there) in subst (λ (y : Session). length (with_copy n y).queue ≤ env.limits.queue) it long)
-        before.short);
+          (λ x there. let it : left.mine ≡ x = some_same left.mine x (sym left.found ∙ there) in subst (λ (y : Session). length (with_copy n y).queue ≤ env.limits.queue) it long)
+          before.short);
     } in
     subst (λ (x : Broker). Entered env s b.records.sessions x.records.sessions × ShortQueues env x.records) (sym (after_append ds (At (whose s) (Enter copy) ∷ []) b)) (entered, after_it)

@@ -1,5 +1,5 @@
 -- Every step, and every opening, keeps each queue within the limit.
-use Rattle.std.proofs.Common.{◌≡◌, ℕ, zero, suc, ◌+◌, ◌-◌, ◌<◌, ◌≤◌, Bool, true, false, cond, not, ◌&&◌, ◌||◌, List, [], ◌∷◌, ◌++◌, length, filter, map, Option, Some, None, nat_eq, nat_lt, refl, ap, sym, subst, ◌∙◌, arith, inl, inr}
+use Rattle.std.proofs.Common.{◌≡◌, ℕ, suc, ◌+◌, ◌≤◌, Bool, true, false, cond, ◌&&◌, List, [], ◌∷◌, length, filter, map, Option, Some, None, nat_eq, refl, ap, sym, subst, ◌∙◌, arith, inl, inr}
 use Rattle.std.specs.Prelude.{nat_le}
 use Rattle.std.specs.List.{AllByRecursion}
 use Rattle.std.proofs.lemmas.Bool.{cases_Bool, eqb-true}
@@ -8,7 +8,6 @@ use Rattle.std.proofs.lemmas.Bool.Decides.{nat_tests}
 use Rattle.mqtt_topic.specs.Names.{is_empty}
 use Rattle.mqtt_codec.specs.declared.packet.Packet.{Packet}
 use Rattle.mqtt_records.specs.declared.message.Retained.{Retained}
-use Rattle.mqtt_records.specs.declared.message.MessageCopy.{MessageCopy}
 use Rattle.mqtt_records.specs.declared.queue.TheConstants.{QUEUE_LIMIT}
 use Rattle.mqtt_records.specs.declared.session.Session.{Session}
 use Rattle.mqtt_records.specs.declared.subscription.Subscription.{Subscription}
@@ -20,7 +19,7 @@ use Rattle.mqtt_records.specs.Session.{birth_of, with_subscription}
 use Rattle.mqtt_records.specs.Records.{changed_all}
 use Rattle.mqtt_rules.specs.declared.Limits.{Limits}
 use Rattle.mqtt_rules.specs.Packets.{publish_of, size_of}
-use Rattle.mqtt_rules.specs.State.{Line, Broker, Env, stored, session_at, line_of, queue_on}
+use Rattle.mqtt_rules.specs.State.{Line, Broker, Env, stored, session_at, line_of}
 use Rattle.mqtt_rules.specs.Deeds.{whose, Message, Origin, Part, Deed, Accept, Count, At, Keep, Forget, Act, after, after_all, part_rows_of, stored_after, then, always, series, with_session, of_session, offer}
 use Rattle.mqtt_rules.specs.Deeds as deed
 use Rattle.mqtt_rules.specs.Outbound.{since, room, room_at, enter_deeds}
@@ -31,9 +30,9 @@ use Rattle.mqtt_rules.specs.Laws.{HasTables, IsOrdered}
 use Rattle.mqtt_rules.proofs.Ordered.{length-filter_le, all-filter, changed-ordered}
 use Rattle.mqtt_rules.proofs.OrderedActs.{both, brought_to, Keeping, birth_found}
 use Rattle.mqtt_rules.proofs.OrderedAccepted.{is_to, accepted_within}
-use Rattle.mqtt_rules.proofs.OrderedQueues.{stay, stay_is, stay_le}
+use Rattle.mqtt_rules.proofs.OrderedQueues.{stay_is, stay_le}
 use Rattle.mqtt_rules.proofs.OrderedLimits.{step_keeps, opening_keeps}
-use Rattle.mqtt_rules.proofs.OrderedEnters.{change_here, change_other, all_found, IsShort, AreShort, ShortQueues, still_short, plain_short, own_stay, Entered, enters, some_same, still_one}
+use Rattle.mqtt_rules.proofs.OrderedEnters.{change_here, change_other, all_found, IsShort, AreShort, ShortQueues, still_short, own_stay, enters, some_same, still_one}
 
 -- the copies still to be delivered fit
 abbrev Fits : Env → List Delivery → List Session → Type 0

@@ -1,30 +1,24 @@
 -- A copy enters a queue only where there is room for it.
-use Rattle.std.proofs.Common.{◌≡◌, ℕ, zero, suc, ◌+◌, ◌-◌, ◌<◌, ◌≤◌, Bool, true, false, cond, not, ◌&&◌, ◌||◌, List, [], ◌∷◌, ◌++◌, length, filter, map, Option, Some, None, nat_eq, nat_lt, refl, ap, sym, subst, ◌∙◌, arith, inl, inr, ◌⊎◌}
-use Rattle.std.specs.Prelude.{flat_map, find, option_map, is_some, nat_le, bytes_eq}
-use Rattle.std.specs.List.{AllByRecursion, count_by}
-use Rattle.std.proofs.lemmas.Bool.{cases_Bool, ltb-true, eqb-true, lt-ltb}
+use Rattle.std.proofs.Common.{◌≡◌, ℕ, zero, suc, ◌<◌, ◌≤◌, Bool, true, false, not, ◌&&◌, List, [], ◌∷◌, ◌++◌, length, filter, map, Option, Some, None, nat_eq, nat_lt, refl, ap, sym, subst, ◌∙◌, arith, inl, inr, ◌⊎◌}
+use Rattle.std.specs.Prelude.{find, is_some}
+use Rattle.std.specs.List.{AllByRecursion}
+use Rattle.std.proofs.lemmas.Bool.{cases_Bool, ltb-true, lt-ltb}
 use Rattle.std.proofs.lemmas.Cmp.{nat_eq_equiv}
-use Rattle.std.proofs.lemmas.List.Sums.{length-filter, count_by-le-length}
+use Rattle.std.proofs.lemmas.List.Sums.{length-filter}
 use Rattle.mqtt_flow.specs.declared.entry.Entry.{Entry as FlowEntry}
 use Rattle.mqtt_flow.specs.declared.entry.Full.{Full}
 use Rattle.mqtt_flow.specs.declared.entry.Full.TheVariants.{Refuse, Drop}
 use Rattle.mqtt_flow.specs.declared.entry.Turn.{Turn}
 use Rattle.mqtt_flow.specs.declared.entry.Turn.TheVariants as turns
-use Rattle.mqtt_flow.specs.Outbound.{is_waiting, gives_way, staying, dropped, way_made, has_room}
+use Rattle.mqtt_flow.specs.Outbound.{is_waiting, gives_way, staying, dropped}
 use Rattle.mqtt_flow.specs.Queue as flow
-use Rattle.mqtt_flow.proofs.OutRoom.{below_limit}
 use Rattle.mqtt_records.specs.declared.queue.Entry.{Entry}
-use Rattle.mqtt_records.specs.declared.queue.TheConstants.{QUEUE_LIMIT}
-use Rattle.mqtt_records.specs.declared.message.MessageCopy.{MessageCopy}
-use Rattle.mqtt_records.specs.declared.session.Session.{Session}
-use Rattle.mqtt_records.specs.declared.records.Records.{Records}
-use Rattle.mqtt_records.specs.Order.{IsAbove, IsAscending, IsBelow, row_at, has_row, put_row, remove_row, change_row}
-use Rattle.mqtt_records.specs.Session.{birth_of, entry_place}
+use Rattle.mqtt_records.specs.Order.{IsBelow, row_at, has_row, remove_row}
+use Rattle.mqtt_records.specs.Session.{entry_place}
 use Rattle.mqtt_records.proofs.OrderLemmas.{apart}
-use Rattle.mqtt_records.proofs.LookUps.{put_row-last}
 use Rattle.mqtt_routes.specs.Intended.{greatest}
-use Rattle.mqtt_rules.specs.State.{Env, entry_on, queue_on, next_of}
-use Rattle.mqtt_rules.specs.Outbound.{is_new, first_given, since, queue_limits, room}
+use Rattle.mqtt_rules.specs.State.{entry_on, next_of}
+use Rattle.mqtt_rules.specs.Outbound.{first_given}
 use Rattle.mqtt_rules.proofs.Ordered.{length-filter_le, either}
 use Rattle.mqtt_rules.proofs.OrderedAccepted.{count_append}
 
