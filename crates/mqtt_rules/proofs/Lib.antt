@@ -28,3 +28,7 @@ pub mod Hostile
 pub mod Own
 pub mod NumberCopies
 pub mod NumberOrder
+pub mod OrderedAccepted
+pub mod OrderedQueues
+pub mod OrderedEnters
+pub mod OrderedFull

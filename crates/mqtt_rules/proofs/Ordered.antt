@@ -1,6 +1,6 @@
 -- Every change keeps the tables in order and within their limits.
-use Rattle.std.proofs.Common.{◌≡◌, ℕ, suc, ◌<◌, ◌≤◌, Bool, true, false, cond, not, ◌||◌, List, [], ◌∷◌, length, filter, nat_eq, nat_lt, refl, ap, sym, subst, ◌∙◌, arith, inl, inr}
-use Rattle.std.specs.Prelude.{Option, Some, None, bytes_eq, slice_set}
+use Rattle.std.proofs.Common.{◌≡◌, ℕ, suc, ◌<◌, ◌≤◌, Bool, true, false, cond, not, ◌||◌, List, [], ◌∷◌, length, filter, nat_eq, nat_lt, refl, ap, ◌∙◌, arith, inl, inr}
+use Rattle.std.specs.Prelude.{Some, None, bytes_eq, slice_set}
 use Rattle.std.specs.List.{AllByRecursion}
 use Rattle.std.proofs.lemmas.Bool.{cases_Bool, ltb-true}
 use Rattle.std.proofs.lemmas.List.{length-set}
@@ -15,7 +15,7 @@ use Rattle.mqtt_records.specs.declared.change.Counter.{Counter}
 use Rattle.mqtt_records.specs.declared.change.Counter.TheVariants.{Births, Publications, Subscribes, Autos, Moment}
 use Rattle.mqtt_records.specs.declared.change.Change.{Change}
 use Rattle.mqtt_records.specs.declared.change.Change.TheVariants.{SetCounter, PutSession, RemoveSession, PutWill, RemoveWill, PutSubscription, RemoveSubscription, PutInbound, RemoveInbound, PutCopy, SetCopy, RemoveCopy, PutRetained, RemoveRetained}
-use Rattle.mqtt_records.specs.Order.{IsAbove, IsAscending, has_row, insert_row, put_row, remove_row, change_row, front_len}
+use Rattle.mqtt_records.specs.Order.{IsAscending, has_row, insert_row, put_row, remove_row, change_row, front_len}
 use Rattle.mqtt_records.specs.Session.{birth_of, place_of, number_of, entry_place, fresh, with_columns, with_will, without_filter, with_subscription, without_subscription, with_open, without_open, with_copy, in_phase, with_phase, without_copy}
 use Rattle.mqtt_records.specs.Records.{kept_place, nothing, with_counter, put_session, in_session, changed, changed_all}
 use Rattle.mqtt_records.proofs.OrderLemmas.{insert-found, put-ascending, filter-ascending, change-ascending}

@@ -1,6 +1,6 @@
 -- What every deed keeps, every act keeps, and every step: the acts one by one.
-use Rattle.std.proofs.Common.{◌≡◌, ℕ, suc, ◌<◌, ◌≤◌, Bool, true, false, cond, not, ◌&&◌, ◌||◌, List, [], ◌∷◌, ◌++◌, length, filter, map, Option, Some, None, nat_eq, nat_lt, refl, ap, sym, subst, ◌∙◌, arith, inl, inr}
-use Rattle.std.specs.Prelude.{nat_le, flat_map, find, option_map, is_none, decimal, Ok, Err}
+use Rattle.std.proofs.Common.{◌≡◌, ℕ, suc, ◌<◌, Bool, true, false, cond, not, ◌&&◌, ◌||◌, List, [], ◌∷◌, ◌++◌, length, filter, map, Option, Some, None, nat_eq, nat_lt, refl, ap, sym, subst, ◌∙◌, inl, inr}
+use Rattle.std.specs.Prelude.{nat_le, flat_map, find, option_map, decimal, Ok, Err}
 use Rattle.std.proofs.lemmas.Bool.{cases_Bool, ltb-true, eqb-true}
 use Rattle.mqtt_base.specs.declared.session.Ending.TheVariants.{SessionEnded}
 use Rattle.mqtt_props.specs.declared.table.PropName.TheVariants.{SessionExpiryInterval, SubscriptionIdentifier, TopicAlias}
@@ -25,29 +25,23 @@ use Rattle.mqtt_flow.specs.Codes.{session_taken_over, quota_exceeded, identifier
 use Rattle.mqtt_flow.specs.Inbound.{is_open, answer_to_release}
 use Rattle.mqtt_flow.specs.Outbound.{Answer, resumed_with}
 use Rattle.mqtt_flow.specs.Outbound as flow
-use Rattle.mqtt_records.specs.declared.message.MessageCopy.{MessageCopy}
-use Rattle.mqtt_records.specs.declared.message.Retained.{Retained}
 use Rattle.mqtt_records.specs.declared.message.Will.{Will}
 use Rattle.mqtt_records.specs.declared.queue.Entry.{Entry}
 use Rattle.mqtt_records.specs.declared.session.Session.{Session}
 use Rattle.mqtt_records.specs.declared.session.Columns.{Columns}
 use Rattle.mqtt_records.specs.declared.records.Records.{Records}
 use Rattle.mqtt_records.specs.declared.change.Change.{Change}
-use Rattle.mqtt_records.specs.declared.change.Counter.TheVariants.{Autos}
 use Rattle.mqtt_records.specs.declared.subscription.TheConstants.{SUBSCRIPTION_LIMIT}
 use Rattle.mqtt_records.specs.Order.{row_at}
 use Rattle.mqtt_records.specs.Session.{birth_of, entry_place}
-use Rattle.mqtt_records.specs.Records.{with_counter}
-use Rattle.mqtt_rules.specs.declared.Limits.{Limits}
 use Rattle.mqtt_rules.specs.Packets.{number_at, connack, disconnect, publish_of, suback, unsuback}
 use Rattle.mqtt_rules.specs.State.{Line, Broker, Env, stored, session_at, session_named, line_at, line_of, is_connected, queue_on}
-use Rattle.mqtt_rules.specs.Deeds.{Whose, whose, Message, Origin, FromClient, FromWill, Part, Resume, Close, SetExpiry, DropWill, Open, Release, Enter, Mark, Leave, Hear, Deed, Accept, Begin, Name, Count, At, Finish, Keep, Forget, RefuseWill, Link, On, Send, Gone, Act, after, after_all, rows_of_all, stored_after, then, always, series, only_if, with_session, of_session, with_line, offer}
-use Rattle.mqtt_rules.specs.Deeds as deed
-use Rattle.mqtt_rules.specs.Outbound.{of_entry, at_place, leave_deeds, turn_deeds, all_turn_deeds, room}
+use Rattle.mqtt_rules.specs.Deeds.{Whose, whose, Message, Origin, FromClient, FromWill, Part, Close, DropWill, Enter, Leave, Hear, Deed, Accept, Begin, Name, Count, At, Finish, Keep, Forget, Link, On, Send, Gone, Act, after, after_all, rows_of_all, stored_after, then, always, series, only_if, with_session, of_session, with_line, offer}
+use Rattle.mqtt_rules.specs.Outbound.{of_entry, leave_deeds, turn_deeds, all_turn_deeds, room}
 use Rattle.mqtt_rules.specs.Routing.{Delivery, routed, publish, is_queued, is_wanted}
 use Rattle.mqtt_rules.specs.Closing.{will_message, publish_or_refuse, will_deeds, publish_will, end_session, settle, close_session, close_connected, close, drop_line, has_due_will, has_due_end}
-use Rattle.mqtt_rules.specs.Connect.{largest_of, refusal, refused, of_client, take_over, clear, prepare, greet, expiry_of, will_of, granted_to, resume, fresh_row, begin, begin_named, auto, joins, joins_after, connect_by, on_connect}
-use Rattle.mqtt_rules.specs.Inbound.{Meaning, Means, Wrong, meaning, sets_alias, standing, answer, opens, code_again, code_accepted, publish_new, publish_by, message_of, publish_meant, on_publish, release_by, on_pubrel, turned, answered, on_puback, on_pubrec, on_pubcomp, pump_turns, pump_deeds, is_late_expiry, new_expiry, leave_by, on_disconnect}
+use Rattle.mqtt_rules.specs.Connect.{largest_of, refusal, refused, of_client, take_over, clear, prepare, greet, will_of, granted_to, resume, fresh_row, begin_named, auto, joins, connect_by, on_connect}
+use Rattle.mqtt_rules.specs.Inbound.{Meaning, Means, Wrong, meaning, sets_alias, standing, answer, opens, code_again, code_accepted, publish_new, publish_by, message_of, publish_meant, release_by, on_pubrel, turned, answered, pump_turns, pump_deeds, is_late_expiry, new_expiry, leave_by}
 use Rattle.mqtt_rules.specs.Subscribe as sub
 use Rattle.mqtt_rules.specs.Tick.{is_silent, silence, lapses, has_lapsed, lapse_deeds, is_stale, first_due, due, on_tick}
 use Rattle.mqtt_rules.specs.Step.{Call, NewLine, Input, BadInput, Lost, Pump, Tick, first_packet, next_packet, on_packet, late_code, on_fault, on_pump, can_link, deeds_of, with_moment, done, close_if, opening}

@@ -1,11 +1,10 @@
 -- What all deeds keep is kept by each step and each opening: the limits on sessions and retained messages.
 use Rattle.std.proofs.Common.{ℕ, ◌≤◌, List, length}
 use Rattle.mqtt_records.specs.declared.records.Records.{Records}
-use Rattle.mqtt_records.specs.Records.{kept_place}
 use Rattle.mqtt_rules.specs.declared.Limits.{Limits}
-use Rattle.mqtt_rules.specs.State.{Broker, Env, stored}
-use Rattle.mqtt_rules.specs.Step.{Call, deeds, deeds_of, stepped, at_moment, env_of, opening, unopened, opened}
-use Rattle.mqtt_rules.specs.Laws.{IsTable, IsOrdered}
+use Rattle.mqtt_rules.specs.State.{Broker, stored}
+use Rattle.mqtt_rules.specs.Step.{Call, deeds, stepped, at_moment, env_of, opening, unopened, opened}
+use Rattle.mqtt_rules.specs.Laws.{IsOrdered}
 use Rattle.mqtt_rules.proofs.OrderedActs.{Keeping, keeps_call, keeps_opening, keeps_done}
 use Rattle.mqtt_rules.proofs.OrderedRoom.{FewSessions, FewRetained, sessions_keeping, retained_keeping}
 

@@ -42,6 +42,12 @@ HasFewOpen s = length s.inbound ≤ 20
 abbrev pub FewOpen : Records → Type 0
 FewOpen r = AllByRecursion HasFewOpen r.sessions
 
+-- ---- queues
+
+-- each queue has at most so many copies
+abbrev pub QueuesWithin : ℕ → Records → Type 0
+QueuesWithin limit r = AllByRecursion (λ s. length s.queue ≤ limit) r.sessions
+
 -- ---- runs
 
 -- a call, or that a broker opens what was stored, each with its moment and with any limits and choice of members

@@ -9,9 +9,11 @@ ghost use Rattle.mqtt_rules.specs.Deeds.{Whose, LinePart, Deed, RefuseWill, Link
 ghost use Rattle.mqtt_rules.specs.Deeds.{rows_of, after};
 ghost use Rattle.mqtt_rules.specs.Step.{Call, deeds, stepped, opening, unopened, opened};
 ghost use Rattle.mqtt_rules.specs.Step.{env_of, at_moment, rows_written};
-ghost use Rattle.mqtt_rules.specs.Laws.{IsOrdered, FewOpen, Event, after_events, blank};
+ghost use Rattle.mqtt_rules.specs.Laws.{IsOrdered, FewOpen, QueuesWithin};
+ghost use Rattle.mqtt_rules.specs.Laws.{Event, after_events, blank};
 
 use crate::Limits;
+use mqtt_records::QUEUE_LIMIT;
 
 /// The rows that a step writes make of what was stored before it what is stored after it, and so do
 /// those of an opening; a deed without a row leaves what is stored alone (4.1).
@@ -59,9 +61,9 @@ pub fn at_most_twenty_open()
         → FewOpen (stored (stepped limits choice now call b)) }
 {}
 
-/// Within the limits that a broker was given, which may be smaller than the tables' own: a step, and an
-/// opening, that finds no more sessions than `limits.sessions` leaves no more, and likewise retained
-/// messages (ours).
+/// The limits that a broker was given hold, though they may be smaller than the tables' own: a step, or
+/// an opening, that finds no more sessions than `limits.sessions` leaves no more, and so it is with
+/// retained messages and `limits.retained`, and with the copies in each queue and `limits.queue` (ours).
 pub fn limits_are_kept()
     ensures sessions { (limits : Limits) (choice : ℕ → List ℕ) (now : ℕ) (call : Call) (b : Broker)
         → length (stored b).sessions ≤ limits.sessions
@@ -77,4 +79,14 @@ pub fn limits_are_kept()
         → IsOrdered r
         → length r.retained ≤ limits.retained
         → length (stored (opened limits choice now r)).retained ≤ limits.retained }
+    ensures queues { (limits : Limits) (choice : ℕ → List ℕ) (now : ℕ) (call : Call) (b : Broker)
+        → limits.queue ≤ QUEUE_LIMIT
+        → IsOrdered (stored b)
+        → QueuesWithin limits.queue (stored b)
+        → QueuesWithin limits.queue (stored (stepped limits choice now call b)) }
+    ensures queues_opened { (limits : Limits) (choice : ℕ → List ℕ) (now : ℕ) (r : Records)
+        → limits.queue ≤ QUEUE_LIMIT
+        → IsOrdered r
+        → QueuesWithin limits.queue r
+        → QueuesWithin limits.queue (stored (opened limits choice now r)) }
 {}

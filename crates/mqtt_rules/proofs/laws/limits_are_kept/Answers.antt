@@ -1,4 +1,5 @@
 use Rattle.mqtt_rules.proofs.OrderedLimits.{step_sessions, opening_sessions, step_retained, opening_retained}
+use Rattle.mqtt_rules.proofs.OrderedFull.{step_queues, opening_queues}
 use Rattle.mqtt_rules.proofs.laws.limits_are_kept.Goals as goal
 
 pub returns-clause-sessions : goal.returns-clause-sessions
@@ -12,3 +13,9 @@ returns-clause-retained c = step_retained
 
 pub returns-clause-retained_opened : goal.returns-clause-retained_opened
 returns-clause-retained_opened c = opening_retained
+
+pub returns-clause-queues : goal.returns-clause-queues
+returns-clause-queues c = step_queues
+
+pub returns-clause-queues_opened : goal.returns-clause-queues_opened
+returns-clause-queues_opened c = opening_queues

@@ -1,4 +1,3 @@
-use Rattle.std.proofs.Common.{refl}
 use Rattle.mqtt_rules.specs.Step.{deeds, at_moment, env_of, opening, unopened}
 use Rattle.mqtt_rules.proofs.StoredLaw.{rows_store, without_row}
 use Rattle.mqtt_rules.proofs.laws.stored_part_follows.Goals as goal

@@ -1,0 +1,222 @@
+-- Every step, and every opening, keeps each queue within the limit.
+use Rattle.std.proofs.Common.{◌≡◌, ℕ, suc, ◌+◌, ◌≤◌, Bool, true, false, cond, ◌&&◌, List, [], ◌∷◌, length, filter, map, Option, Some, None, nat_eq, refl, ap, sym, subst, ◌∙◌, arith, inl, inr}
+use Rattle.std.specs.Prelude.{nat_le}
+use Rattle.std.specs.List.{AllByRecursion}
+use Rattle.std.proofs.lemmas.Bool.{cases_Bool, eqb-true}
+use Rattle.std.proofs.lemmas.Cmp.{nat_eq_equiv}
+use Rattle.std.proofs.lemmas.Bool.Decides.{nat_tests}
+use Rattle.mqtt_topic.specs.Names.{is_empty}
+use Rattle.mqtt_codec.specs.declared.packet.Packet.{Packet}
+use Rattle.mqtt_records.specs.declared.message.Retained.{Retained}
+use Rattle.mqtt_records.specs.declared.queue.TheConstants.{QUEUE_LIMIT}
+use Rattle.mqtt_records.specs.declared.session.Session.{Session}
+use Rattle.mqtt_records.specs.declared.subscription.Subscription.{Subscription}
+use Rattle.mqtt_records.specs.declared.records.Records.{Records}
+use Rattle.mqtt_records.specs.declared.change.Counter.TheVariants.{Moment}
+use Rattle.mqtt_records.specs.declared.change.Change.TheVariants.{SetCounter}
+use Rattle.mqtt_records.specs.Order.{row_at, change_row}
+use Rattle.mqtt_records.specs.Session.{birth_of, with_subscription}
+use Rattle.mqtt_records.specs.Records.{changed_all}
+use Rattle.mqtt_rules.specs.declared.Limits.{Limits}
+use Rattle.mqtt_rules.specs.Packets.{publish_of, size_of}
+use Rattle.mqtt_rules.specs.State.{Line, Broker, Env, stored, session_at, line_of}
+use Rattle.mqtt_rules.specs.Deeds.{whose, Message, Origin, Part, Deed, Accept, Count, At, Keep, Forget, Act, after, after_all, part_rows_of, stored_after, then, always, series, with_session, of_session, offer}
+use Rattle.mqtt_rules.specs.Deeds as deed
+use Rattle.mqtt_rules.specs.Outbound.{since, room, room_at, enter_deeds}
+use Rattle.mqtt_rules.specs.Routing.{Delivery, retained_of, next_publication, routed, is_queued, deliver_by, deliver, forgets, retain_by, publish}
+use Rattle.mqtt_rules.specs.Subscribe as sub
+use Rattle.mqtt_rules.specs.Step.{Call, stepped, env_of, unopened, opened}
+use Rattle.mqtt_rules.specs.Laws.{HasTables, IsOrdered}
+use Rattle.mqtt_rules.proofs.Ordered.{length-filter_le, all-filter, changed-ordered}
+use Rattle.mqtt_rules.proofs.OrderedActs.{both, brought_to, Keeping, birth_found}
+use Rattle.mqtt_rules.proofs.OrderedAccepted.{is_to, accepted_within}
+use Rattle.mqtt_rules.proofs.OrderedQueues.{stay_is, stay_le}
+use Rattle.mqtt_rules.proofs.OrderedLimits.{step_keeps, opening_keeps}
+use Rattle.mqtt_rules.proofs.OrderedEnters.{change_here, change_other, all_found, IsShort, AreShort, ShortQueues, still_short, own_stay, enters, some_same, still_one}
+
+-- the copies still to be delivered fit
+abbrev Fits : Env → List Delivery → List Session → Type 0
+Fits env ds ss = (birth : ℕ) (s : Session) → row_at birth_of birth ss ≡ Some s → own_stay env s + length (filter (is_to birth) ds) ≤ env.limits.queue
+
+-- what a list of deeds leaves of a state
+abbrev Good : Env → List Delivery → Broker → Type 0
+Good env ds b = ShortQueues env b.records × Fits env ds b.records.sessions
+
+fewer_fit : (env : Env) (d : Delivery) (ds : List Delivery) (ss : List Session) → Fits env (d ∷ ds) ss → Fits env ds ss
+fewer_fit env d ds ss fits birth s found =
+    let all = fits birth s found in
+    let less : length (filter (is_to birth) ds) ≤ length (filter (is_to birth) (d ∷ ds)) = elim (cases_Bool (is_to birth d)) [ inl so ↦ rw so (omega arith) | inr not_so ↦ rw not_so (omega arith) ] in
+    omega (arith, all, less)
+
+one_fits : (env : Env) (d : Delivery) (ds : List Delivery) (ss : List Session) (s : Session) → is_queued d ≡ true → Fits env (d ∷ ds) ss → row_at birth_of d.birth ss ≡ Some s → own_stay env s + suc (length (filter (is_to d.birth) ds)) ≤ env.limits.queue
+one_fits env d ds ss s queued fits found =
+    let so : is_to d.birth d ≡ true = rw (queued, nat_eq_equiv.refl d.birth) refl in
+    let all = fits d.birth s found in
+    let one : length (filter (is_to d.birth) (d ∷ ds)) ≡ suc (length (filter (is_to d.birth) ds)) = rw so refl in
+    omega (arith, all, one)
+
+own_birth : (birth : ℕ) (s : Session) (ss : List Session) → s.birth ≡ birth → row_at birth_of birth ss ≡ Some s → row_at birth_of s.birth ss ≡ Some s
+own_birth birth s ss same found = ap (λ n. row_at birth_of n ss) same ∙ found
+
+birth_is : (birth : ℕ) (ss : List Session) (s : Session) → row_at birth_of birth ss ≡ Some s → s.birth ≡ birth
+birth_is birth ss s found = birth_found birth ss s found
+
+delivered : (env : Env) (d : Delivery) (ds : List Delivery) (b : Broker) (o : Option Session) → env.limits.queue ≤ QUEUE_LIMIT → is_queued d ≡ true → session_at d.birth b.records ≡ o → Good env (d ∷ ds) b
+    → Good env ds (after_all (with_session o (λ s. always (enter_deeds env d.copy s)) b) b)
+delivered env d ds b None small queued is good = (good.0, fewer_fit env d ds b.records.sessions good.1)
+delivered env d ds b (Some s) small queued is good =
+    let ss = b.records.sessions in
+    let mine = birth_is d.birth ss s is in
+    let own = own_birth d.birth s ss mine is in
+    let all = one_fits env d ds ss s queued good.1 is in
+    let tables = all_found birth_of HasTables d.birth ss s good.0.ordered.each is in
+    let made = enters env d.copy s b small tables own (omega (arith, all)) good.0 in
+    let new = (after_all (enter_deeds env d.copy s) b).records.sessions in
+    let e = made.0 in (
+      made.1,
+      λ birth x found. elim (cases_Bool (nat_eq s.birth birth)) [
+        | inl same ↦
+            let at : s.birth ≡ birth = eqb-true s.birth birth same in
+            let it : e.mine ≡ x = some_same e.mine x (sym e.found ∙ ap (λ n. row_at birth_of n new) at ∙ found) in
+            let to : d.birth ≡ birth = sym mine ∙ at in
+            let bound : own_stay env e.mine + length (filter (is_to d.birth) ds) ≤ env.limits.queue = (let stays = e.stays in omega (arith, stays, all)) in
+            let there : own_stay env e.mine + length (filter (is_to birth) ds) ≤ env.limits.queue = subst (λ (n : ℕ). own_stay env e.mine + length (filter (is_to n) ds) ≤ env.limits.queue) to bound in
+            subst (λ (y : Session). own_stay env y + length (filter (is_to birth) ds) ≤ env.limits.queue) it there
+        | inr other ↦ fewer_fit env d ds ss good.1 birth x (sym (e.others birth other) ∙ found)
+      ],
+    )
+
+offered : (l : Option Line) (p : Packet) (b : Broker) → stored (after_all (offer l p) b) ≡ stored b
+offered None p b = refl
+offered (Some l) p b = offered_if (nat_le (size_of p) l.largest) l p b
+  where
+    offered_if : (t : Bool) (l : Line) (p : Packet) (b : Broker) → stored (after_all (cond t (deed.Send l.number p ∷ []) []) b) ≡ stored b
+    offered_if true l p b = refl
+    offered_if false l p b = refl
+
+deliver_good : (t : Bool) (env : Env) (d : Delivery) (ds : List Delivery) (b : Broker) → env.limits.queue ≤ QUEUE_LIMIT → is_queued d ≡ t → Good env (d ∷ ds) b → Good env ds (after_all (deliver_by t env d b) b)
+deliver_good true env d ds b small is good = delivered env d ds b (session_at d.birth b.records) small is refl good
+deliver_good false env d ds b small is good =
+    subst (λ (r : Records). ShortQueues env r × Fits env ds r.sessions) (sym (offered (line_of d.birth b) (publish_of b.now false 0 d.copy) b)) (good.0, fewer_fit env d ds b.records.sessions good.1)
+
+all_delivered : (env : Env) (ds : List Delivery) (b : Broker) → env.limits.queue ≤ QUEUE_LIMIT → Good env ds b → ShortQueues env (stored (after_all (series (map (deliver env) ds) b) b))
+all_delivered env [] b small good = good.0
+all_delivered env (d ∷ ds) b small good =
+    let first = deliver env d b in
+    let c = after_all first b in
+    both (ShortQueues env) first (series (map (deliver env) ds) c) b (all_delivered env ds c small (deliver_good (is_queued d) env d ds b small refl good))
+
+-- ---- a publication
+
+within_room : (env : Env) (s : Session) (n : ℕ) → n ≤ room env s → length s.queue ≤ env.limits.queue → own_stay env s + n ≤ env.limits.queue
+within_room env s n le short =
+    let same = stay_is env.limits.full (since env s) s.birth s.queue in
+    let fewer = stay_le env.limits.full (since env s) s.queue in
+    omega (arith, same, fewer, le, short)
+
+accepted_fit : (env : Env) (m : Message) (b : Broker) (ds : List Delivery) → routed env m b ≡ Some ds → ShortQueues env b.records → Fits env ds b.records.sessions
+accepted_fit env m b ds is short birth s found =
+    let few = accepted_within env m b ds birth is short.ordered.sessions.ascending in
+    let le : length (filter (is_to birth) ds) ≤ room env s = subst (λ (o : Option Session). length (filter (is_to birth) ds) ≤ room_at env o) found few in
+    within_room env s (length (filter (is_to birth) ds)) le (all_found birth_of (IsShort env.limits.queue) birth b.records.sessions s short.short found)
+
+forgets_good : (env : Env) (ds : List Delivery) (o : Option Retained) (b : Broker) → Good env ds b → Good env ds (after_all (forgets o) b)
+forgets_good env ds None b good = good
+forgets_good env ds (Some k) b good = (still_short env (Forget k.place) b.records tt good.0, good.1)
+
+retain_good : (env : Env) (ds : List Delivery) (t e : Bool) (number : ℕ) (m : Message) (b : Broker) → Good env ds b → Good env ds (after_all (retain_by t e number m b) b)
+retain_good env ds false e number m b good = good
+retain_good env ds true true number m b good = forgets_good env ds (retained_of m.topic b.records) b good
+retain_good env ds true false number m b good = (still_short env (Keep _) b.records tt good.0, good.1)
+
+publishes_short : (env : Env) (origin : Origin) (m : Message) (ds : List Delivery) (b : Broker) → env.limits.queue ≤ QUEUE_LIMIT → routed env m b ≡ Some ds → ShortQueues env b.records → ShortQueues env (stored (after_all (publish env origin m ds b) b))
+publishes_short env origin m ds b small is short =
+    let number = next_publication b.records in
+    let first : List Deed = Accept number origin m ∷ [] in
+    let c = after_all first b in
+    let kept = retain_by m.retain (is_empty m.payload) number m c in
+    let good : Good env ds c = (still_short env (Accept number origin m) b.records tt short, accepted_fit env m b ds is short) in
+    both (ShortQueues env) first (series (retain_by m.retain (is_empty m.payload) number m ∷ map (deliver env) ds) c) b
+    (both (ShortQueues env) kept (series (map (deliver env) ds) (after_all kept c)) c
+    (all_delivered env ds (after_all kept c) small (retain_good env ds m.retain (is_empty m.payload) number m c good)))
+
+-- ---- retained messages for a subscription
+
+abbrev IsFor : ℕ → Delivery → Type 0
+IsFor birth d = d.birth ≡ birth
+
+brought_for : (t : Bool) (now number : ℕ) (s : Session) (w : sub.Wish) (ks : List Retained) → AllByRecursion (IsFor s.birth) (sub.brought_if t now number s w ks)
+brought_for false now number s w ks = tt
+brought_for true now number s w ks = each_for s.birth number w _
+  where
+    each_for : (birth number : ℕ) (w : sub.Wish) (ks : List Retained) → AllByRecursion (IsFor birth) (map (sub.retained_delivery birth number w) ks)
+    each_for birth number w [] = tt
+    each_for birth number w (k ∷ ks) = (refl, each_for birth number w ks)
+
+none_for : (birth other : ℕ) (ds : List Delivery) → nat_eq birth other ≡ false → AllByRecursion (IsFor birth) ds → length (filter (is_to other) ds) ≡ 0
+none_for birth other [] differ all = refl
+none_for birth other (d ∷ ds) differ all =
+    let not_it : nat_eq d.birth other ≡ false = ap (λ n. nat_eq n other) all.0 ∙ differ in
+    let not_so : is_to other d ≡ false = and_false (is_queued d) (nat_eq d.birth other) not_it in
+    rw not_so (none_for birth other ds differ all.1)
+  where
+    and_false : (x y : Bool) → y ≡ false → (x && y) ≡ false
+    and_false true y is = is
+    and_false false y is = refl
+
+granted_fit : (env : Env) (s : Session) (x : Subscription) (ds : List Delivery) (ss new : List Session) → new ≡ change_row birth_of s.birth (with_subscription x) ss
+    → row_at birth_of s.birth ss ≡ Some s → AllByRecursion (IsFor s.birth) ds → length ds ≤ room env s → AreShort env.limits.queue ss → Fits env ds new
+granted_fit env s x ds ss new is found all le short birth y there = elim (cases_Bool (nat_eq s.birth birth)) [
+  | inl same ↦
+      let at : s.birth ≡ birth = eqb-true s.birth birth same in
+      let mine : row_at birth_of s.birth new ≡ Some (with_subscription x s) = ap (row_at birth_of s.birth) is ∙ change_here birth_of s.birth (with_subscription x) ss s (λ z. refl) found in
+      let it : with_subscription x s ≡ y = some_same (with_subscription x s) y (sym mine ∙ ap (λ n. row_at birth_of n new) at ∙ there) in
+      let fewer = length-filter_le (is_to birth) ds in
+      let bound : own_stay env s + length (filter (is_to birth) ds) ≤ env.limits.queue = within_room env s (length (filter (is_to birth) ds)) (omega (arith, fewer, le)) (all_found birth_of (IsShort env.limits.queue) s.birth ss s short found) in
+      subst (λ (z : Session). own_stay env z + length (filter (is_to birth) ds) ≤ env.limits.queue) it bound
+  | inr other ↦
+      let old : row_at birth_of birth ss ≡ Some y = sym (ap (row_at birth_of birth) is ∙ change_other birth_of s.birth birth (with_subscription x) ss (λ z. refl) other) ∙ there in
+      let none = none_for s.birth birth ds other all in
+      let long = all_found birth_of (IsShort env.limits.queue) birth ss y short old in
+      let fewer = stay_le env.limits.full (since env y) y.queue in
+      omega (arith, none, long, fewer)
+]
+
+grants_short : (env : Env) (w : sub.Wish) (s : Session) (b : Broker) → env.limits.queue ≤ QUEUE_LIMIT → session_at s.birth b.records ≡ Some s → length (filter is_queued (brought_to w s b)) ≤ room env s → ShortQueues env b.records
+    → ShortQueues env (stored (after_all (sub.grants env (sub.next_number b.records) s w (brought_to w s b) b).deeds b))
+grants_short env w s b small found le short =
+    let number = sub.next_number b.records in
+    let x = sub.subscription number s w in
+    let ds = filter is_queued (brought_to w s b) in
+    let count = Count number in
+    let put = At (whose s) (deed.Subscribe x) in
+    let first : List Deed = count ∷ put ∷ [] in
+    let c = after_all first b in
+    let is : c.records.sessions ≡ change_row birth_of s.birth (with_subscription x) b.records.sessions
+    = ap (λ (o : Option Session). (changed_all (part_rows_of (deed.Subscribe x) o) (stored_after count b.records)).sessions) found
+    in
+    let all = all-filter (IsFor s.birth) is_queued (brought_to w s b) (brought_for _ b.now number s w b.records.retained) in
+    let still = still_short env put (stored_after count b.records) tt (still_short env count b.records tt short) in
+    both (ShortQueues env) first (series (map (deliver env) ds) c) b
+    (all_delivered env ds c small (still, granted_fit env s x ds b.records.sessions c.records.sessions is found all le short.short))
+
+pub queues_keeping : (env : Env) → env.limits.queue ≤ QUEUE_LIMIT → Keeping env (ShortQueues env)
+queues_keeping env small = record {
+  plain = λ d r q p. still_short env d r (still_one d q) p;
+  begin = λ row will r room p. still_short env (deed.Begin row will) r tt p;
+  publish = λ origin m ds b is p. publishes_short env origin m ds b small is p;
+  grants = λ w s b found fits p. grants_short env w s b small found (grind (arith, nat_tests)) p;
+  moment = λ now r p. record { ordered = changed-ordered (SetCounter Moment now) r p.ordered; short = p.short };
+}
+
+pub step_queues : (limits : Limits) (choice : ℕ → List ℕ) (now : ℕ) (call : Call) (b : Broker) → limits.queue ≤ QUEUE_LIMIT → IsOrdered (stored b) → AreShort limits.queue (stored b).sessions
+    → AreShort limits.queue (stored (stepped limits choice now call b)).sessions
+step_queues limits choice now call b small ordered short =
+    let env = env_of limits choice b in
+    (step_keeps limits choice now call b (ShortQueues env) (queues_keeping env small) (record { ordered = ordered; short = short })).short
+
+pub opening_queues : (limits : Limits) (choice : ℕ → List ℕ) (now : ℕ) (r : Records) → limits.queue ≤ QUEUE_LIMIT → IsOrdered r → AreShort limits.queue r.sessions
+    → AreShort limits.queue (stored (opened limits choice now r)).sessions
+opening_queues limits choice now r small ordered short =
+    let env = env_of limits choice (unopened now r) in
+    (opening_keeps limits choice now r (ShortQueues env) (queues_keeping env small) (record { ordered = ordered; short = short })).short
