@@ -344,40 +344,6 @@ fn with_payload_shows_the_first_sixteen_bytes(rt: HostRuntime) -> Result<(), Fai
     Ok(())
 }
 
-// The bytes of examples/board.client.mqtt: what mosquitto_sub sent in a session with mosquitto 2.0.
-#[test]
-fn what_another_client_sent_has_its_view(rt: HostRuntime) -> Result<(), Fail> {
-    let sent: [&[u8]; 6] = [
-        b"\x10(\x00\x04MQTT\x05\x00\x00<\x16!\x00\x0a&\x00\x04si",
-        b"te\x00\x05attic\x11\x00\x00\x01,\x00\x05board",
-        b"\x82,\x00\x01\x02\x0b\x07\x00\x12home/+/tempera",
-        b"ture\x02\x00\x0f$share/g/home/#\x02",
-        b"@\x02\x00\x01@\x02\x00\x02P\x02\x00\x03P\x02\x00\x04",
-        b"p\x02\x00\x03p\x02\x00\x04@\x02\x00\x05@\x02\x00\x06\xe0\x01\x04",
-    ];
-    let mut input = Vec::new(rt.alloc());
-    for part in sent {
-        input.extend_from_slice(part)?;
-    }
-    let found = shown(rt.alloc(), input.as_slice(), false)?;
-    assert_eq!(rt;
-        found.0.as_str(),
-        "0 CONNECT 42 client=board clean=0 keep=60 will=0 props=3\n\
-         42 SUBSCRIBE 46 id=1 filter=home/+/temperature:02 filter=$share/g/home/#:02 props=1\n\
-         88 PUBACK 4 id=1 code=00\n\
-         92 PUBACK 4 id=2 code=00\n\
-         96 PUBREC 4 id=3 code=00\n\
-         100 PUBREC 4 id=4 code=00\n\
-         104 PUBCOMP 4 id=3 code=00\n\
-         108 PUBCOMP 4 id=4 code=00\n\
-         112 PUBACK 4 id=5 code=00\n\
-         116 PUBACK 4 id=6 code=00\n\
-         120 DISCONNECT 3 code=04\n"
-    );
-    assert!(rt; found.1 == Status::Whole);
-    Ok(())
-}
-
 /// Three packets, of which each has a line.
 const PACKETS: &[u8] = b"\xc0\x00\x30\x07\x00\x03a/b\x00!\xc0\x00";
 

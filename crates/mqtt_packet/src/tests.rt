@@ -65,14 +65,24 @@ fn waits(framer: &mut Framer) -> bool {
     }
 }
 
+/// The PUBLISH that a packet is.
+fn publish_of(packet: Packet) -> Option<Publish> {
+    match packet {
+        Packet::Publish(publish) => Some(publish),
+        other => {
+            drop(other);
+            None
+        }
+    }
+}
+
 /// The PUBLISH that a framer gives, with its place.
 fn next_publish(framer: &mut Framer) -> Option<(Publish, u64)> {
     match framer.next() {
-        Ok(Some((Packet::Publish(publish), place))) => Some((publish, place)),
-        Ok(Some((packet, _))) => {
-            drop(packet);
-            None
-        }
+        Ok(Some((packet, place))) => match publish_of(packet) {
+            Some(publish) => Some((publish, place)),
+            None => None,
+        },
         _ => None,
     }
 }
@@ -211,6 +221,7 @@ fn a_fault_stands_until_it_is_given_back(rt: HostRuntime) {
         "a PINGREQ has no body"
     );
     assert_eq!(rt; framer.feed(&[0]), Err(malformed), "the fault stands first");
+    assert!(rt; framer.held() == 3, "three bytes are held");
     framer.give_back(2);
     assert_eq!(rt; (framer.held(), framer.place()), (1, 2));
     assert!(rt; waits(&mut framer), "one byte waits");
