@@ -1,5 +1,5 @@
 -- Worked lives of sessions: what keeps a Will, Clean Start, resumption, takeover, restarts, silence (MQTT 5.0, 3.1.2, 3.1.3.2, 3.1.4, 3.14, 4.1).
-use Rattle.std.proofs.Common.{◌≡◌, ℕ, true, false, List, [], ◌∷◌, ◌++◌, Option, Some, None, refl}
+use Rattle.std.proofs.Common.{◌≡◌, ℕ, Bool, true, false, List, [], ◌∷◌, ◌++◌, Option, Some, None, refl}
 use Rattle.std.specs.Prelude.{codes}
 use Rattle.mqtt_base.specs.Values.{varint}
 use Rattle.mqtt_base.specs.declared.session.Qos.TheVariants.{ExactlyOnce}
@@ -15,7 +15,7 @@ use Rattle.mqtt_rules.specs.declared.Report.TheVariants.{Accepted, Entered, Ende
 use Rattle.mqtt_rules.specs.Packets.{reason, property, disconnect}
 use Rattle.mqtt_rules.specs.State.{Broker}
 use Rattle.mqtt_rules.specs.Step.{NewLine, Input, Lost, Pump, Tick}
-use Rattle.mqtt_rules.proofs.Play.{blank, Event, at, step, runs, runs_with, tells_with, asks, reopened, out, never_expires, hello_with, hello, welcome, in_line, wants, topic, sends, copy_out, direct, births, all_outputs, all_reports}
+use Rattle.mqtt_rules.proofs.Play.{blank, Event, at, step, runs, runs_with, tells_with, asks, reopened, out, never_expires, hello_with, hello, welcome, in_line, wants_with, wish, options, wants, topic, sends, copy_out, direct, births, all_outputs, all_reports}
 use Rattle.mqtt_rules.proofs.Examples.{nameless}
 use Rattle.mqtt_rules.proofs.Moments.{will_with, delayed, mourner, absent}
 
@@ -51,6 +51,21 @@ a_will_is_published_once : all_reports (with_will forever at_once ++ at 0 (Lost 
     ≡ Accepted 1 ∷ Entered (direct 1 1) (codes "r1") ∷ []
 unfolding varint
 a_will_is_published_once = refl
+
+-- its sender is the client: No Local bars it
+abbrev own_wish : Bool → Packet
+own_wish no_local = wants_with 1 [] (wish topic (record (options ExactlyOnce) { no_local = no_local }) ∷ [])
+
+abbrev own_will : Bool → List Event
+own_will no_local = in_line 1 (hello_with (codes "w1") forever at_once) ++ at 0 (Input 1 (own_wish no_local)) ∷ []
+
+ones_will_comes_back : asks (own_will false) (at 0 (Lost 1)) ≡ out [] (1 ∷ []) (Accepted 1 ∷ Entered (direct 1 1) (codes "w1") ∷ []) false
+unfolding varint
+ones_will_comes_back = refl
+
+no_local_bars_ones_will : asks (own_will true) (at 0 (Lost 1)) ≡ out [] (1 ∷ []) (Accepted 1 ∷ []) false
+unfolding varint
+no_local_bars_ones_will = refl
 
 abbrev leaves_for : ℕ → Packet
 leaves_for seconds = Disconnect (record { reason = reason 0; properties = ends_after seconds })

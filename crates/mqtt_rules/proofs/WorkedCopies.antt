@@ -147,6 +147,15 @@ then_the_other : asks (sent_both ++ at 0 (Pump 3) ∷ at 0 (Input 3 (pubrec 1 0)
 unfolding varint
 then_the_other = refl
 
+-- a copy that ended has left the window, though the next one has its place in the queue
+abbrev one_at_a_time : List Event
+one_at_a_time = in_line 1 (hello_with (codes "r1") (never_expires ∷ property ReceiveMaximum (U16 1) ∷ []) None) ++ at 0 (Input 1 (wants 1 topic ExactlyOnce)) ∷ in_line 2 (hello (codes "p1"))
+
+one_after_the_other : all_outputs (at 0 (Input 2 (sends 1)) ∷ at 0 (Pump 1) ∷ at 0 (Input 1 (pubrec 1 0)) ∷ at 0 (Input 1 (pubcomp 1 0)) ∷ at 0 (Input 2 (sends 2)) ∷ at 0 (Pump 1) ∷ []) (runs one_at_a_time blank)
+    ≡ (2, pubrec 1 0) ∷ (1, copy_out false 1 []) ∷ (1, pubrel 1 0) ∷ (2, pubrec 2 0) ∷ (1, copy_out false 1 []) ∷ []
+unfolding varint
+one_after_the_other = refl
+
 -- ---- what a PUBLISH passes on
 
 abbrev user : Prop
