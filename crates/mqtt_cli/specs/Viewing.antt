@@ -3,7 +3,7 @@ use Rattle.std.specs.Prelude.{◌≡◌, ℕ, ◌<◌, ◌==◌, Bool, if◌then
 use Rattle.std.specs.List.{flat_map}
 use Rattle.std.specs.Io.KnownBytes.{Appends}
 use Rattle.mqtt_codec.specs.declared.fault.Fault.{Fault}
-use Rattle.mqtt_packet.specs.declared.front.TheConstants.{MAX_SIZE}
+use Rattle.mqtt_base.specs.declared.limits.TheConstants.{PACKET_LIMIT}
 use Rattle.mqtt_packet.specs.Front.{first_of}
 use Rattle.mqtt_packet.specs.Stream.{Framing, Item, Ending, short_at, fault_at, IsCut, IsStream}
 use Rattle.mqtt_cli.specs.declared.viewer.Status.{Status}
@@ -37,7 +37,7 @@ pub record WritesFront (with_payload : Bool) (input : List ℕ) (before after : 
 
 -- A framer holds no whole packet any more: none is whole, or this fault stands first.
 abbrev pub IsDrained : Framing → Option (Fault × ℕ) → Type 0
-IsDrained f None = (first_of f.held ≡ Ok None) × (length f.held < MAX_SIZE)
+IsDrained f None = (first_of f.held ≡ Ok None) × (length f.held < PACKET_LIMIT)
 IsDrained f (Some e) = (first_of f.held ≡ Err e.0) × (e.1 ≡ f.place)
 
 -- A framer was fed more bytes and gave the packets in them, and a text grew by their lines.

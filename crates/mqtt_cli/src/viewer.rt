@@ -8,7 +8,8 @@ ghost use Rattle.mqtt_cli.specs.View.{line, fault_line, rest_line};
 ghost use Rattle.mqtt_cli.specs.Viewing.{IsDrained, AddsLines, WritesLines, Views, WritesFront};
 
 use crate::text::{push_fault, push_packet, push_rest};
-use mqtt_packet::{Fault, Framer, MAX_SIZE, Packet};
+use mqtt_base::PACKET_LIMIT;
+use mqtt_packet::{Fault, Framer, Packet};
 use std::alloc::{AllocError, Global};
 use std::io::{ErrorKind, Read, Write};
 use thiserror::Error;
@@ -86,7 +87,7 @@ fn view_by<R: Read, W: Write>(
 {
     let mut framer = Framer::new(alloc);
     for _ in 0..u64::MAX {
-        let room = chunk.len().min(MAX_SIZE - framer.held());
+        let room = chunk.len().min(PACKET_LIMIT - framer.held());
         let count = match reader.read(&mut chunk[..room]) {
             Ok(count) => count,
             Err(error) if error.kind() == ErrorKind::Interrupted => continue,
@@ -116,7 +117,7 @@ fn write_packets<W: Write>(
     payload: bool,
 ) -> Result<Option<(Fault, u64)>, ViewFault>
     requires waits { first_of framer.old.held ≡ Ok None }
-    requires room { length framer.old.held + length piece.now ≤ MAX_SIZE }
+    requires room { length framer.old.held + length piece.now ≤ PACKET_LIMIT }
     ensures lines { OnOk result (WritesLines payload framer.old piece.now framer.new
         (W.contents writer.old) (W.contents writer.new)) }
     ensures drained { IfOk result (IsDrained framer.new) }

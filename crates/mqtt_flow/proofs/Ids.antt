@@ -4,7 +4,7 @@ use Rattle.std.proofs.lemmas.List.Sums.{length-filter, count_by-le-length}
 use Rattle.std.proofs.lemmas.Bool.Decides.{nat_tests}
 use Rattle.mqtt_flow.specs.declared.inflow.Published.{Published}
 use Rattle.mqtt_flow.specs.declared.inflow.Published.TheVariants.{New, Again, Over}
-use Rattle.mqtt_flow.specs.declared.inflow.TheConstants.{OPEN_LIMIT}
+use Rattle.mqtt_base.specs.declared.limits.TheConstants.{OPEN_LIMIT}
 use Rattle.mqtt_flow.specs.Inbound.{is_open, answer_to, ids_on, open_after, ids_with, ids_without}
 use Rattle.mqtt_flow.specs.Publisher.{lowest_from, free_identifier}
 

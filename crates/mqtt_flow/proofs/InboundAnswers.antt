@@ -2,7 +2,7 @@
 use Rattle.std.proofs.Common.{◌≡◌, inl, inr, ⊎_elim, ℕ, ◌≤◌, Bool, true, false, ◌&&◌, List, [], ◌∷◌, map, nat_eq, refl, ◌∙◌, Option, Some, None, option_map, slice_get, eqb-true}
 use Rattle.std.specs.List.{list_any}
 use Rattle.std.proofs.lemmas.Option.{slice_get-map}
-use Rattle.mqtt_flow.specs.Codes.{is_success}
+use Rattle.mqtt_base.specs.Codes.{is_success}
 use Rattle.mqtt_flow.specs.Inbound.{is_open}
 use Rattle.mqtt_flow.specs.Line.{sent_on}
 use Rattle.mqtt_flow.specs.Publisher.{Fate, sent_1, ended_1, sent, released, ended, FromPublisher, PUBREL, ToPublisher, PUBACK, PUBREC, PUBCOMP, acknowledged, received, on_puback, on_pubrec, on_pubcomp, is_sent, pubrel_if, pubrel_for}

@@ -1,7 +1,7 @@
 -- What the broker reads keeps the invariant.
 use Rattle.std.proofs.Common.{◌≡◌, inl, inr, ℕ, Bool, true, false, List, [], ◌∷◌, ◌++◌, refl, sym, ◌∙◌, subst, arith, Option, Some, None, slice_get, true≢false}
 use Rattle.std.specs.List.{list_any}
-use Rattle.mqtt_flow.specs.Codes.{success, identifier_in_use, identifier_not_found, receive_maximum_exceeded, quota_exceeded, is_success}
+use Rattle.mqtt_base.specs.Codes.{success, identifier_in_use, identifier_not_found, receive_maximum_exceeded, quota_exceeded, is_success}
 use Rattle.mqtt_flow.specs.declared.inflow.Released.{Released}
 use Rattle.mqtt_flow.specs.declared.inflow.Released.TheVariants.{Known, Unknown}
 use Rattle.mqtt_flow.specs.Inbound.{answer_to, open_after, answer_to_release, ids_without}

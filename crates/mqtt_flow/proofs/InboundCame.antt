@@ -1,6 +1,6 @@
 -- A packet that comes tells the stage of its identifier.
 use Rattle.std.proofs.Common.{◌≡◌, ℕ, ◌≤◌, Bool, true, false, List, [], ◌∷◌, refl, ◌∙◌}
-use Rattle.mqtt_flow.specs.Codes.{is_success}
+use Rattle.mqtt_base.specs.Codes.{is_success}
 use Rattle.mqtt_flow.specs.Inbound.{is_open}
 use Rattle.mqtt_flow.specs.Publisher.{Fate, FromPublisher, PUBLISH_1, PUBLISH_2, PUBREL, ToPublisher, PUBACK, PUBREC, PUBCOMP}
 use Rattle.mqtt_flow.specs.InboundWorld.{count_of}

@@ -1,7 +1,7 @@
 -- The fates of the messages, seen from one identifier.
 use Rattle.std.proofs.Common.{◌≡◌, ◌⊎◌, inl, inr, ⊎_elim, ℕ, zero, suc, ◌+◌, Bool, true, false, List, [], ◌∷◌, ◌++◌, length, map, nat_eq, if◌then◌else◌, refl, sym, ap, ◌∙◌, arith, Some, slice_get, append-nil, append_assoc, add-zero, eqb-true}
 use Rattle.std.proofs.lemmas.Bool.Decides.{nat_tests}
-use Rattle.mqtt_flow.specs.Codes.{is_success}
+use Rattle.mqtt_base.specs.Codes.{is_success}
 use Rattle.mqtt_flow.specs.Inbound.{is_open}
 use Rattle.mqtt_flow.specs.Publisher.{Fate, sent_1, ended_1, sent, released, ended, FromPublisher, PUBLISH_1, PUBLISH_2, PUBREL, in_flight, resent_from, acknowledged, received, on_puback, on_pubrec, on_pubcomp, on_new_session}
 use Rattle.mqtt_flow.proofs.Ids.{test_cases, same_id}

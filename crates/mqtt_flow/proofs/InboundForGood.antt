@@ -1,7 +1,7 @@
 -- A message whose handshake has ended stays as it is.
 use Rattle.std.proofs.Common.{◌≡◌, ℕ, zero, suc, Bool, true, false, List, [], ◌∷◌, ◌++◌, length, map, if◌then◌else◌, nat_lt, refl, sym, ◌∙◌, subst, ap, Option, Some, None, option_map, slice_get}
 use Rattle.std.proofs.lemmas.Option.{slice_get-map}
-use Rattle.mqtt_flow.specs.declared.inflow.TheConstants.{OPEN_LIMIT}
+use Rattle.mqtt_base.specs.declared.limits.TheConstants.{OPEN_LIMIT}
 use Rattle.mqtt_flow.specs.Line.{Link, away, asked, live, sent_on}
 use Rattle.mqtt_flow.specs.Publisher.{Qos, Fate, sent_1, ended_1, sent, released, ended, FromPublisher, CONNECT, PUBLISH_1, PUBLISH_2, PUBREL, ToPublisher, CONNACK, CONNACK_REFUSED, PUBACK, PUBREC, PUBCOMP, DISCONNECT, in_flight, free_identifier, first_fate, first_packet, resent_from, pubrel_for, on_new_session, on_puback, on_pubrec, on_pubcomp, IsEnded}
 use Rattle.mqtt_flow.specs.InboundWorld.{World, Choice, takes, takes_unheard, refuses, Event, publish, to_broker, old_to_broker, to_end, give_up, break, connect, close, close_old, restart, send_one, send_all, send_unsent, on_connack, publisher_reads, on_connect, on_old_connect, taken_over, broker_reads, broker_reads_old, on_give_up, on_join, step, start, run, after, fate_of}

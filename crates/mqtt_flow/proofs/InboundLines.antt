@@ -1,6 +1,6 @@
 -- What happens to the lines, and what the broker reads of the one that was given up, keeps the invariant.
 use Rattle.std.proofs.Common.{◌≡◌, inl, inr, ℕ, Bool, true, false, List, [], ◌∷◌, ◌++◌, refl, sym, ◌∙◌, subst, arith, true≢false}
-use Rattle.mqtt_flow.specs.Codes.{success, session_taken_over, identifier_in_use, quota_exceeded, is_success}
+use Rattle.mqtt_base.specs.Codes.{success, session_taken_over, identifier_in_use, quota_exceeded, is_success}
 use Rattle.mqtt_flow.specs.Inbound.{answer_to, open_after, ids_without}
 use Rattle.mqtt_flow.specs.Line.{Link, away, asked, live, sent_on}
 use Rattle.mqtt_flow.specs.Publisher.{Fate, FromPublisher, CONNECT, PUBLISH_1, PUBLISH_2, PUBREL, ToPublisher, CONNACK, CONNACK_REFUSED, PUBACK, PUBREC, PUBCOMP, DISCONNECT}

@@ -4,7 +4,7 @@ use Rattle.std.proofs.lemmas.List.Elements.{filter-append}
 use Rattle.std.proofs.lemmas.Grind.{common_steps}
 use Rattle.mqtt_flow.specs.declared.inflow.Published.{Published}
 use Rattle.mqtt_flow.specs.declared.inflow.Published.TheVariants.{New, Again, Over}
-use Rattle.mqtt_flow.specs.Codes.{is_success}
+use Rattle.mqtt_base.specs.Codes.{is_success}
 use Rattle.mqtt_flow.specs.Inbound.{is_open, answer_to, open_after, ids_without}
 use Rattle.mqtt_flow.specs.Line.{sent_on}
 use Rattle.mqtt_flow.specs.Publisher.{Fate, sent_1, ended_1, sent, released, ended, FromPublisher, PUBLISH_1, PUBLISH_2, PUBREL, ToPublisher, PUBACK, PUBREC, PUBCOMP}

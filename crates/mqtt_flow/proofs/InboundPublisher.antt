@@ -1,8 +1,8 @@
 -- CONNACK and all else that the publisher reads keeps the invariant.
 use Rattle.std.proofs.Common.{◌≡◌, ◌⊎◌, arith, inl, inr, ⊎_elim, ℕ, ◌≤◌, Bool, true, false, List, [], ◌∷◌, length, map, refl, sym, ap, ◌∙◌, subst, Option, Some, None, option_map, slice_get}
 use Rattle.std.proofs.lemmas.Option.{slice_get-map}
-use Rattle.mqtt_flow.specs.declared.inflow.TheConstants.{OPEN_LIMIT}
-use Rattle.mqtt_flow.specs.Codes.{is_success}
+use Rattle.mqtt_base.specs.declared.limits.TheConstants.{OPEN_LIMIT}
+use Rattle.mqtt_base.specs.Codes.{is_success}
 use Rattle.mqtt_flow.specs.Inbound.{is_open}
 use Rattle.mqtt_flow.specs.Line.{Link, away, asked, live, sent_on}
 use Rattle.mqtt_flow.specs.Publisher.{Fate, sent_1, ended_1, sent, released, ended, FromPublisher, ToPublisher, CONNACK, CONNACK_REFUSED, PUBACK, PUBREC, PUBCOMP, DISCONNECT, in_flight, resent_from, on_new_session}

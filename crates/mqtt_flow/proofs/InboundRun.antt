@@ -1,7 +1,7 @@
 -- Each event keeps the invariant, and what it says of a message.
 use Rattle.std.proofs.Common.{◌≡◌, inl, inr, ℕ, ◌≤◌, Bool, true, false, ◌||◌, List, [], ◌∷◌, ◌++◌, length, refl, sym, ◌∙◌, subst, arith, Option, Some, None}
-use Rattle.mqtt_flow.specs.declared.inflow.TheConstants.{OPEN_LIMIT}
-use Rattle.mqtt_flow.specs.Codes.{session_taken_over}
+use Rattle.mqtt_base.specs.declared.limits.TheConstants.{OPEN_LIMIT}
+use Rattle.mqtt_base.specs.Codes.{session_taken_over}
 use Rattle.mqtt_flow.specs.Line.{Link, away, asked, live, sent_on}
 use Rattle.mqtt_flow.specs.Publisher.{Qos, Finish, completed, refused, forgotten, Fate, sent_1, ended_1, sent, released, ended, FromPublisher, CONNECT, ToPublisher, DISCONNECT, IsExactlyOnce}
 use Rattle.mqtt_flow.specs.InboundWorld.{World, Choice, Event, publish, to_broker, old_to_broker, to_end, give_up, break, connect, close, close_old, restart, send_unsent, closed_by, taken_over, on_connect, on_old_connect, on_give_up, on_join, broker_reads, broker_reads_old, step, start, run, fate_of, accepted_count}

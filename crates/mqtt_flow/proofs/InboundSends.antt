@@ -3,7 +3,7 @@ use Rattle.std.proofs.Common.{◌≡◌, inl, inr, ℕ, zero, suc, Bool, true, f
 use Rattle.std.specs.List.{list_any}
 use Rattle.std.proofs.lemmas.List.Elements.{filter-append}
 use Rattle.std.proofs.lemmas.List.Folds.{list_any-append}
-use Rattle.mqtt_flow.specs.declared.inflow.TheConstants.{OPEN_LIMIT}
+use Rattle.mqtt_base.specs.declared.limits.TheConstants.{OPEN_LIMIT}
 use Rattle.mqtt_flow.specs.Inbound.{is_open}
 use Rattle.mqtt_flow.specs.Line.{Link, away, asked, live, sent_on}
 use Rattle.mqtt_flow.specs.Publisher.{Qos, qos_1, qos_2, Fate, sent_1, ended_1, sent, released, ended, FromPublisher, PUBLISH_1, PUBLISH_2, ToPublisher, CONNACK, CONNACK_REFUSED, PUBACK, PUBREC, PUBCOMP, DISCONNECT, in_flight, free_identifier, first_fate, first_packet, resent_from, pubrel_if}

@@ -1,8 +1,8 @@
 -- Where the handshake of one identifier stands: its message, the packets that may be under way, whether it is open.
 use Rattle.std.proofs.Common.{◌≡◌, ◌⊎◌, inl, inr, ⊎_elim, ℕ, suc, ◌≤◌, Bool, true, false, cond, List, [], ◌∷◌, ◌++◌, length, nat_eq, if◌then◌else◌, filter, sym, ◌∙◌, subst, Option, Some, None, slice_get, eqb-true, arith}
 use Rattle.std.specs.List.{list_any}
-use Rattle.mqtt_flow.specs.declared.inflow.TheConstants.{OPEN_LIMIT}
-use Rattle.mqtt_flow.specs.Codes.{is_success}
+use Rattle.mqtt_base.specs.declared.limits.TheConstants.{OPEN_LIMIT}
+use Rattle.mqtt_base.specs.Codes.{is_success}
 use Rattle.mqtt_flow.specs.Inbound.{is_open}
 use Rattle.mqtt_flow.specs.Line.{Link, away, asked, live}
 use Rattle.mqtt_flow.specs.Publisher.{Finish, completed, refused, forgotten, Fate, sent_1, ended_1, sent, released, ended, FromPublisher, CONNECT, PUBLISH_1, PUBLISH_2, PUBREL, ToPublisher, CONNACK, CONNACK_REFUSED, PUBACK, PUBREC, PUBCOMP, DISCONNECT, in_flight}

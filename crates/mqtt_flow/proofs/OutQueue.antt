@@ -5,7 +5,7 @@ use Rattle.mqtt_flow.specs.declared.entry.Entry.{Entry}
 use Rattle.mqtt_flow.specs.declared.entry.QueuedCopy.{QueuedCopy}
 use Rattle.mqtt_flow.specs.declared.entry.Turn.{Turn}
 use Rattle.mqtt_flow.specs.declared.entry.Turn.TheVariants.{Send, Resend, Release, Outgrow, Repeat, Unknown, Leave}
-use Rattle.mqtt_flow.specs.declared.entry.TheConstants.{LAST_NUMBER, QUEUE_LIMIT}
+use Rattle.mqtt_base.specs.declared.limits.TheConstants.{LAST_NUMBER, QUEUE_LIMIT}
 use Rattle.mqtt_flow.specs.Queue.{identifier_of, also, identifiers, order_of, greatest_place, greatest_order, at_place, marked, after, order_given, Above, Ascends, IsQueue, entering, next_place}
 use Rattle.mqtt_flow.specs.Outbound.{unsent, anew, pushed}
 use Rattle.mqtt_flow.proofs.OutIds.{test_cases}

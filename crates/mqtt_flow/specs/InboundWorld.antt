@@ -1,11 +1,11 @@
 -- One inbound hop: a publisher, a session, the line between them and the line that was given up last (4.3, 4.4).
 use Rattle.std.specs.Prelude.{ℕ, Bool, true, false, ◌||◌, List, [], ◌∷◌, ◌++◌, length, map, nat_eq, nat_lt, if◌then◌else◌, count_by, Option, slice_get}
-use Rattle.mqtt_flow.specs.declared.inflow.TheConstants.{OPEN_LIMIT}
+use Rattle.mqtt_base.specs.declared.limits.TheConstants.{OPEN_LIMIT}
 use Rattle.mqtt_flow.specs.declared.inflow.Published.{Published}
 use Rattle.mqtt_flow.specs.declared.inflow.Published.TheVariants.{New, Again, Over}
 use Rattle.mqtt_flow.specs.declared.inflow.Released.{Released}
 use Rattle.mqtt_flow.specs.declared.inflow.Released.TheVariants.{Known, Unknown}
-use Rattle.mqtt_flow.specs.Codes.{success, no_matching_subscribers, session_taken_over, identifier_in_use, identifier_not_found, receive_maximum_exceeded, quota_exceeded}
+use Rattle.mqtt_base.specs.Codes.{success, no_matching_subscribers, session_taken_over, identifier_in_use, identifier_not_found, receive_maximum_exceeded, quota_exceeded}
 use Rattle.mqtt_flow.specs.Inbound.{answer_to, open_after, answer_to_release, ids_without}
 use Rattle.mqtt_flow.specs.Line.{Link, away, asked, live, sent_on}
 use Rattle.mqtt_flow.specs.Publisher.{Qos, Fate, FromPublisher, CONNECT, PUBLISH_1, PUBLISH_2, PUBREL, ToPublisher, CONNACK, CONNACK_REFUSED, PUBACK, PUBREC, PUBCOMP, DISCONNECT, in_flight, free_identifier, first_fate, first_packet, resent_from, on_new_session, on_puback, on_pubrec, on_pubcomp, pubrel_for}

@@ -8,7 +8,7 @@ use Rattle.mqtt_base.specs.declared.Qos.{Qos}
 use Rattle.mqtt_base.specs.declared.Qos.TheVariants.{AtMostOnce, AtLeastOnce, ExactlyOnce}
 use Rattle.mqtt_flow.specs.declared.fault.FlowFault.{FlowFault}
 use Rattle.mqtt_flow.specs.declared.fault.FlowFault.TheVariants.{Full, WrongStep, Memory}
-use Rattle.mqtt_flow.specs.declared.entry.TheConstants.{PUMP_LIMIT}
+use Rattle.mqtt_base.specs.declared.limits.TheConstants.{PUMP_LIMIT}
 use Rattle.mqtt_flow.specs.declared.entry.QueuedCopy.{QueuedCopy}
 use Rattle.mqtt_flow.specs.declared.entry.Due.{Due}
 use Rattle.mqtt_flow.specs.declared.entry.Entry.{Entry}

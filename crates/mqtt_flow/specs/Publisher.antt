@@ -1,7 +1,7 @@
 -- A conforming publisher: what becomes of its messages, and what it sends for them (4.3.2, 4.3.3, 4.4, 4.9).
 use Rattle.std.specs.Prelude.{ℕ, zero, suc, Bool, true, false, ◌&&◌, List, [], ◌∷◌, length, nat_eq, if◌then◌else◌, Option, Some, None, ⊤}
 use Rattle.std.specs.List.{list_any}
-use Rattle.mqtt_flow.specs.Codes.{is_success}
+use Rattle.mqtt_base.specs.Codes.{is_success}
 use Rattle.mqtt_flow.specs.Inbound.{is_open}
 
 -- at least once (4.3.2), exactly once (4.3.3)

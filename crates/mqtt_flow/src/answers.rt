@@ -4,10 +4,10 @@ ghost use Rattle.std.specs.Prelude.{◌≡◌, ◌≤◌};
 ghost use Rattle.mqtt_flow.specs.Queue.{next_order};
 ghost use Rattle.mqtt_flow.specs.Outbound.{answered, is_refusal, order_asked, outcome, puback, pubcomp, pubrec};
 
-use crate::entry::{LAST_NUMBER, Turn};
+use crate::entry::Turn;
 use crate::fault::FlowFault;
 use crate::outflow::Outflow;
-use mqtt_base::{Ending, Phase, Qos, Reason};
+use mqtt_base::{Ending, LAST_NUMBER, Phase, Qos, Reason};
 
 /// The end that a reason code gives.
 fn ending_of(code: Reason) -> Ending

@@ -2,15 +2,6 @@
 
 use mqtt_base::{CopyId, Ending, Phase, Qos};
 
-/// The most copies that a queue holds (ours).
-pub const QUEUE_LIMIT: usize = 1_000;
-
-/// The greatest place, and the greatest order of release (ours).
-pub const LAST_NUMBER: u64 = 1 << 62;
-
-/// The most PUBLISH that go out in one call of `pump` (ours).
-pub const PUMP_LIMIT: u16 = 16;
-
 /// What a queue knows of a copy. Topic, properties and payload stand elsewhere.
 #[derive(Drop)]
 pub struct QueuedCopy {

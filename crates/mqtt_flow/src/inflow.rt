@@ -5,11 +5,9 @@ ghost use Rattle.mqtt_flow.specs.Inbound.{is_open, answer_to, open_after, answer
 ghost use Rattle.mqtt_flow.specs.Inflow.{StandsAt, BelongsAt};
 
 use crate::fault::FlowFault;
+use mqtt_base::OPEN_LIMIT;
 use std::alloc::Global;
 use std::marker::Model;
-
-/// The most identifiers that a session has open: the Receive Maximum of its CONNACK (4.9; the number is ours).
-pub const OPEN_LIMIT: usize = 20;
 
 /// What a QoS 2 PUBLISH is (4.3.3).
 #[derive(Clone, Copy, Debug, PartialEq, Eq)]

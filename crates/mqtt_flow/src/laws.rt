@@ -6,7 +6,7 @@ ghost use Rattle.mqtt_flow.specs.Publisher.{IsExactlyOnce, IsEnded, completed, r
 ghost use Rattle.mqtt_flow.specs.InboundWorld.{Event, after, fate_of, accepted_count};
 ghost use Rattle.mqtt_flow.specs.declared.inflow.Published.TheVariants.{New};
 
-use crate::inflow::OPEN_LIMIT;
+use mqtt_base::OPEN_LIMIT;
 
 /// A PUBLISH opens its own identifier, a PUBREL closes its own, and neither concerns another (4.3.3).
 pub fn own_identifier_alone()

@@ -17,11 +17,9 @@ mod queueing;
 #[cfg(test)]
 mod tests;
 
-pub use entry::{
-    Entry, Full, LAST_NUMBER, PUMP_LIMIT, QUEUE_LIMIT, QueueLimits, QueuedCopy, Turn, Way,
-};
+pub use entry::{Entry, Full, QueueLimits, QueuedCopy, Turn, Way};
 pub use fault::FlowFault;
-pub use inflow::{Inflow, OPEN_LIMIT, Published, Released};
+pub use inflow::{Inflow, Published, Released};
 pub use laws::{inbound_once, own_identifier_alone};
 pub use outbound_laws::{outbound_once, pump_in_order};
 pub use outflow::Outflow;

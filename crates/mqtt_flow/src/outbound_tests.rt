@@ -1,7 +1,7 @@
 //! A queue of outbound copies at work: windows, resumptions, expiry, a full queue.
 
 use super::*;
-use mqtt_base::{Cause, CopyId, Ending, Qos, Reason};
+use mqtt_base::{Cause, CopyId, Ending, QUEUE_LIMIT, Qos, Reason};
 use std::alloc::Global;
 use std::process::Abort;
 use std::test::*;

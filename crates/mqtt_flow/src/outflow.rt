@@ -6,11 +6,11 @@ ghost use Rattle.mqtt_flow.specs.Queue.{IsQueue, after, after_all, greatest_give
 ghost use Rattle.mqtt_flow.specs.Outbound.{KeptOut, anew, answered, entered, expired, has_room, is_refusal, outcome, puback, pubcomp, pubrec, pump, pushed, resumed_with, unsent, way_made};
 
 use crate::change::{apply, forget};
-use crate::entry::{Entry, LAST_NUMBER, QUEUE_LIMIT, QueueLimits, QueuedCopy, Turn, Way};
+use crate::entry::{Entry, QueueLimits, QueuedCopy, Turn, Way};
 use crate::fault::FlowFault;
 use crate::plan::{dropped, due, expired, greatest_order, greatest_place, has_room, holds};
 use crate::pump::pump;
-use mqtt_base::Phase;
+use mqtt_base::{LAST_NUMBER, Phase, QUEUE_LIMIT};
 use std::alloc::Global;
 use std::marker::Model;
 

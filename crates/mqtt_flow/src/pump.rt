@@ -5,10 +5,10 @@ ghost use Rattle.mqtt_flow.specs.FreeIdentifier.{closed_in};
 ghost use Rattle.mqtt_flow.specs.Queue.{greatest_order};
 ghost use Rattle.mqtt_flow.specs.Outbound.{first_step, freed, in_room, later_step, pace, paced, pump, pump_step};
 
-use crate::entry::{Entry, PUMP_LIMIT, Turn, Way};
+use crate::entry::{Entry, Turn, Way};
 use crate::fault::FlowFault;
 use crate::plan::{greatest_order, identifiers, in_window, is_large, is_late, lowest_free};
-use mqtt_base::{Ending, Phase, Qos};
+use mqtt_base::{Ending, PUMP_LIMIT, Phase, Qos};
 use std::alloc::Global;
 use std::marker::Model;
 

@@ -5,11 +5,12 @@ ghost use Rattle.std.specs.Prelude.{◌≡◌, ◌+◌, ◌<◌, ◌≤◌, true
 ghost use Rattle.mqtt_flow.specs.Queue.{next_order, next_place};
 ghost use Rattle.mqtt_flow.specs.Outbound.{KeptOut, anew, entered, expired, has_room, lapsed, pump, pumped, resumed_with, way_made, way_open};
 
-use crate::entry::{LAST_NUMBER, QUEUE_LIMIT, QueueLimits, QueuedCopy, Turn, Way};
+use crate::entry::{QueueLimits, QueuedCopy, Turn, Way};
 use crate::fault::FlowFault;
 use crate::outflow::Outflow;
 use crate::plan::{dropped, due, expired, has_room};
 use crate::pump::pump;
+use mqtt_base::{LAST_NUMBER, QUEUE_LIMIT};
 use std::alloc::Global;
 
 impl Outflow {

@@ -7,7 +7,7 @@ use Rattle.mqtt_base.specs.declared.fault.ReadFault.{ReadFault}
 use Rattle.mqtt_base.specs.Reading.{◌>>=◌, groups_at, varint_at}
 use Rattle.mqtt_codec.specs.declared.fault.Fault.{Fault}
 use Rattle.mqtt_codec.specs.declared.fault.Fault.TheVariants.{TooLarge}
-use Rattle.mqtt_packet.specs.declared.front.TheConstants.{MAX_SIZE}
+use Rattle.mqtt_base.specs.declared.limits.TheConstants.{PACKET_LIMIT}
 use Rattle.mqtt_codec.specs.declared.head.Head.{Head}
 use Rattle.mqtt_codec.specs.declared.packet.Packet.{Packet}
 use Rattle.mqtt_codec.specs.Heads.{head_of}
@@ -161,7 +161,7 @@ size_by_stays bytes t (Err Overlong) l = inr refl
 size_by_stays bytes t (Err BadText) l = inr refl
 size_by_stays bytes t (Ok x) l =
     rw (taken_same bytes x.1 t l)
-    (large_stays (ltb MAX_SIZE (1 + (length bytes - length x.1) + x.0)) (length x.1) (length (x.1 ++ t)) x.0 (1 + (length bytes - length x.1) + x.0) (omega (arith, length-append x.1 t)))
+    (large_stays (ltb PACKET_LIMIT (1 + (length bytes - length x.1) + x.0)) (length x.1) (length (x.1 ++ t)) x.0 (1 + (length bytes - length x.1) + x.0) (omega (arith, length-append x.1 t)))
 
 size_stays_by : (bytes t : List ℕ) → LeavesMore t (varint_at bytes) (varint_at (bytes ++ t))
     → Stays Waiting (size_by (length bytes) (varint_at bytes)) (size_by (length (bytes ++ t)) (varint_at (bytes ++ t)))
@@ -190,7 +190,7 @@ size_by_within : (count n : ℕ) (r : Read) → Within count r → size_by count
 size_by_within count n (Err Short) l e = absurd cc
 size_by_within count n (Err Overlong) l e = absurd cc
 size_by_within count n (Err BadText) l e = absurd cc
-size_by_within count n (Ok x) l e = whole_within (ltb MAX_SIZE (1 + (count - length x.1) + x.0)) (ltb (length x.1) x.0) count (length x.1) x.0 n l refl e
+size_by_within count n (Ok x) l e = whole_within (ltb PACKET_LIMIT (1 + (count - length x.1) + x.0)) (ltb (length x.1) x.0) count (length x.1) x.0 n l refl e
 
 behind_within : (head : Option Head) (bytes : List ℕ) (n : ℕ) → size_behind head bytes ≡ Ok (Some n) → (n ≤ 1 + length bytes) × (0 < n)
 behind_within None bytes n e = absurd cc

@@ -5,7 +5,7 @@ use Rattle.mqtt_base.specs.declared.fault.ReadFault.TheVariants.{Overlong}
 use Rattle.mqtt_base.specs.Reading.{varint_at}
 use Rattle.mqtt_codec.specs.declared.fault.Fault.{Fault}
 use Rattle.mqtt_codec.specs.declared.fault.Fault.TheVariants.{Malformed, TooLarge}
-use Rattle.mqtt_packet.specs.declared.front.TheConstants.{MAX_SIZE}
+use Rattle.mqtt_base.specs.declared.limits.TheConstants.{PACKET_LIMIT}
 use Rattle.mqtt_codec.specs.declared.head.Head.{Head}
 use Rattle.mqtt_codec.specs.Heads.{head_of}
 use Rattle.mqtt_packet.specs.Front.{size_at, first_of}
@@ -53,9 +53,9 @@ unfolding first_of size_at
 at_overlong b head length e o = rw (e, o) refl
 
 pub at_length : (b n : ℕ) (head : Head) (bytes : List ℕ) → head_of b ≡ Some head → varint_at bytes ≡ Ok (n, [])
-    → MAX_SIZE < 1 + length bytes + n → first_of (b ∷ bytes) ≡ Err TooLarge
+    → PACKET_LIMIT < 1 + length bytes + n → first_of (b ∷ bytes) ≡ Err TooLarge
 unfolding first_of size_at
 at_length b n head bytes e v l =
     let none : List ℕ = [] in
-    let above : MAX_SIZE < 1 + (length bytes - length none) + n = omega (arith, l) in
-    rw (e, v, lt-ltb MAX_SIZE (1 + (length bytes - length none) + n) above) refl
+    let above : PACKET_LIMIT < 1 + (length bytes - length none) + n = omega (arith, l) in
+    rw (e, v, lt-ltb PACKET_LIMIT (1 + (length bytes - length none) + n) above) refl

@@ -6,7 +6,7 @@ use Rattle.mqtt_base.specs.declared.fault.ReadFault.TheVariants.{Short, Overlong
 use Rattle.mqtt_base.specs.Reading.{groups_at, varint_at}
 use Rattle.mqtt_codec.specs.declared.fault.Fault.{Fault}
 use Rattle.mqtt_codec.specs.declared.fault.Fault.TheVariants.{TooLarge}
-use Rattle.mqtt_packet.specs.declared.front.TheConstants.{MAX_SIZE}
+use Rattle.mqtt_base.specs.declared.limits.TheConstants.{PACKET_LIMIT}
 use Rattle.mqtt_codec.specs.declared.head.Head.{Head}
 use Rattle.mqtt_codec.specs.declared.packet.Packet.{Packet}
 use Rattle.mqtt_codec.specs.Heads.{head_of}
@@ -61,7 +61,7 @@ size_is_by false true size n e = absurd cc
 size_is_by false false size n e = cc
 
 size_is : (count n : ℕ) (x : ℕ × List ℕ) → size_by count (Ok x) ≡ Ok (Some n) → 1 + (count - length x.1) + x.0 ≡ n
-size_is count n x e = size_is_by (ltb MAX_SIZE (1 + (count - length x.1) + x.0)) (ltb (length x.1) x.0) (1 + (count - length x.1) + x.0) n e
+size_is count n x e = size_is_by (ltb PACKET_LIMIT (1 + (count - length x.1) + x.0)) (ltb (length x.1) x.0) (1 + (count - length x.1) + x.0) n e
 
 few_by : (large few : Bool) (left len size : ℕ) → ltb left len ≡ few → cond large (Err TooLarge) (cond few (Ok None) (Ok (Some size))) ≡ Ok None → left < len
 few_by true few left len size t e = absurd cc
@@ -81,7 +81,7 @@ longer_by bytes t n (Err Overlong) s w short more e f = absurd cc
 longer_by bytes t n (Err BadText) s w short more e f = absurd cc
 longer_by bytes t n (Ok x) s w short (inl bad) e f = absurd cc
 longer_by bytes t n (Ok x) s w short (inr same) e f =
-    let few : length x.1 < x.0 = few_by (ltb MAX_SIZE (1 + (length bytes - length x.1) + x.0)) (ltb (length x.1) x.0) (length x.1) x.0 (1 + (length bytes - length x.1) + x.0) refl e in
+    let few : length x.1 < x.0 = few_by (ltb PACKET_LIMIT (1 + (length bytes - length x.1) + x.0)) (ltb (length x.1) x.0) (length x.1) x.0 (1 + (length bytes - length x.1) + x.0) refl e in
     let whole : size_by (length (bytes ++ t)) (Ok (x.0, x.1 ++ t)) ≡ Ok (Some n) = ap (size_by (length (bytes ++ t))) (sym same) ∙ f in
     omega (arith, size_is (length (bytes ++ t)) n (x.0, x.1 ++ t) whole, few, w, length-append bytes t, length-append x.1 t)
 

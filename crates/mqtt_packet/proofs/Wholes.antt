@@ -10,7 +10,7 @@ use Rattle.mqtt_base.proofs.Steps.{IsBytes, IsBytes-take}
 use Rattle.mqtt_base.proofs.Varints.{varint_rereads}
 use Rattle.mqtt_codec.specs.declared.fault.Fault.{Fault}
 use Rattle.mqtt_codec.specs.declared.fault.Fault.TheVariants.{TooLarge}
-use Rattle.mqtt_packet.specs.declared.front.TheConstants.{MAX_SIZE}
+use Rattle.mqtt_base.specs.declared.limits.TheConstants.{PACKET_LIMIT}
 use Rattle.mqtt_codec.specs.declared.head.Head.{Head}
 use Rattle.mqtt_codec.specs.declared.packet.Packet.{Packet}
 use Rattle.mqtt_codec.specs.declared.packet.Packet.TheVariants as packets
@@ -30,7 +30,7 @@ use Rattle.mqtt_packet.proofs.Cuts.{fault_stays}
 framed_size : (h : Head) (body : List ℕ) → length (framed h body) ≡ 1 + length (varint (length body)) + length body
 framed_size h body = omega (arith, length-append (varint (length body)) body)
 
-size_whole : (h : Head) (body more : List ℕ) → IsHead h → length body < 2 ^ 28 → length (framed h body) ≤ MAX_SIZE
+size_whole : (h : Head) (body more : List ℕ) → IsHead h → length body < 2 ^ 28 → length (framed h body) ≤ PACKET_LIMIT
     → size_at (framed h body ++ more) ≡ Ok (Some (length (framed h body)))
 unfolding size_at
 size_whole h body more is lt small =
@@ -38,67 +38,67 @@ size_whole h body more is lt small =
     let read : varint_at ((v ++ body) ++ more) ≡ Ok (length body, body ++ more) = ap varint_at (append_assoc v body more) ∙ varint_rereads (length body) (body ++ more) lt in
     let size = framed_size h body in
     let taken : length ((v ++ body) ++ more) - length (body ++ more) ≡ length v = omega (arith, length-append (v ++ body) more, length-append v body, length-append body more) in
-    let below : 1 + length v + length body ≤ MAX_SIZE = omega (arith, size, small) in
+    let below : 1 + length v + length body ≤ PACKET_LIMIT = omega (arith, size, small) in
     let here : length body ≤ length (body ++ more) = omega (arith, length-append body more) in
-    rw (is, read, taken, le-ltb MAX_SIZE (1 + length v + length body) below, le-ltb (length (body ++ more)) (length body) here, size) refl
+    rw (is, read, taken, le-ltb PACKET_LIMIT (1 + length v + length body) below, le-ltb (length (body ++ more)) (length body) here, size) refl
 
-framed_whole : (p : Packet) (body more : List ℕ) → length body < 2 ^ 28 → length (framed (head p) body) ≤ MAX_SIZE → packet_at (framed (head p) body) ≡ Ok p
+framed_whole : (p : Packet) (body more : List ℕ) → length body < 2 ^ 28 → length (framed (head p) body) ≤ PACKET_LIMIT → packet_at (framed (head p) body) ≡ Ok p
     → first_of (framed (head p) body ++ more) ≡ Ok (Some (p, length (framed (head p) body)))
 unfolding first_of
 framed_whole p body more lt small read =
     let bytes = framed (head p) body in
     rw (size_whole (head p) body more (is_head p) lt small, take_at bytes more (length bytes) refl, read) refl
 
-pub first_whole : (p : Packet) (bytes more : List ℕ) → Spells p bytes → length bytes ≤ MAX_SIZE → first_of (bytes ++ more) ≡ Ok (Some (p, length bytes))
+pub first_whole : (p : Packet) (bytes more : List ℕ) → Spells p bytes → length bytes ≤ PACKET_LIMIT → first_of (bytes ++ more) ≡ Ok (Some (p, length bytes))
 first_whole p bytes more s small =
     let body = s.0.1.0 in
     let lt = s.0.1.2 in
     let frame = s.0.1.3 in
-    let small2 : length (framed (head p) body) ≤ MAX_SIZE = omega (arith, small, ap length frame) in
+    let small2 : length (framed (head p) body) ≤ PACKET_LIMIT = omega (arith, small, ap length frame) in
     let read : packet_at (framed (head p) body) ≡ Ok p = ap packet_at (sym frame) ∙ packet_again bytes p s in
     subst (λ (bs : List ℕ). first_of (bs ++ more) ≡ Ok (Some (p, length bs))) (sym frame) (framed_whole p body more lt small2 read)
 
 -- ---- and nothing else is
 
-below_by : (large few : Bool) (size n : ℕ) → ltb MAX_SIZE size ≡ large → cond large (Err TooLarge) (cond few (Ok None) (Ok (Some size))) ≡ Ok (Some n) → n ≤ MAX_SIZE
+below_by : (large few : Bool) (size n : ℕ) → ltb PACKET_LIMIT size ≡ large → cond large (Err TooLarge) (cond few (Ok None) (Ok (Some size))) ≡ Ok (Some n) → n ≤ PACKET_LIMIT
 below_by true few size n t e = absurd cc
 below_by false true size n t e = absurd cc
 below_by false false size n t e =
     let same : size ≡ n = cc e in
-    let below : size ≤ MAX_SIZE = ltb-false MAX_SIZE size t in
+    let below : size ≤ PACKET_LIMIT = ltb-false PACKET_LIMIT size t in
     omega arith
 
-size_by_below : (count n : ℕ) (r : Result (ℕ × List ℕ) ReadFault) → size_by count r ≡ Ok (Some n) → n ≤ MAX_SIZE
+size_by_below : (count n : ℕ) (r : Result (ℕ × List ℕ) ReadFault) → size_by count r ≡ Ok (Some n) → n ≤ PACKET_LIMIT
 size_by_below count n (Err Short) e = absurd cc
 size_by_below count n (Err Overlong) e = absurd cc
 size_by_below count n (Err BadText) e = absurd cc
-size_by_below count n (Ok x) e = below_by (ltb MAX_SIZE (1 + (count - length x.1) + x.0)) (ltb (length x.1) x.0) (1 + (count - length x.1) + x.0) n refl e
+size_by_below count n (Ok x) e = below_by (ltb PACKET_LIMIT (1 + (count - length x.1) + x.0)) (ltb (length x.1) x.0) (1 + (count - length x.1) + x.0) n refl e
 
-behind_below : (h : Option Head) (bytes : List ℕ) (n : ℕ) → size_behind h bytes ≡ Ok (Some n) → n ≤ MAX_SIZE
+behind_below : (h : Option Head) (bytes : List ℕ) (n : ℕ) → size_behind h bytes ≡ Ok (Some n) → n ≤ PACKET_LIMIT
 behind_below None bytes n e = absurd cc
 behind_below (Some h) bytes n e = size_by_below (length bytes) n (varint_at bytes) e
 
-size_below : (bytes : List ℕ) (n : ℕ) → size_at bytes ≡ Ok (Some n) → n ≤ MAX_SIZE
+size_below : (bytes : List ℕ) (n : ℕ) → size_at bytes ≡ Ok (Some n) → n ≤ PACKET_LIMIT
 unfolding size_at
 size_below [] n e = absurd cc
 size_below (b ∷ bytes) n e = behind_below (head_of b) bytes n e
 
 sized_spells : (bytes : List ℕ) (p : Packet) (n m : ℕ) (r : Result Packet Fault) → IsBytes bytes → size_at bytes ≡ Ok (Some m) → packet_at (take m bytes) ≡ r → with_size m r ≡ Ok (Some (p, n))
-    → Spells p (take n bytes) × (n ≤ MAX_SIZE)
+    → Spells p (take n bytes) × (n ≤ PACKET_LIMIT)
 sized_spells bytes p n m (Err f) fits s read e = absurd cc
 sized_spells bytes p n m (Ok q) fits s read e =
     let same : m ≡ n = ap found_size e in
     let packet : q ≡ p = ap (found_packet p) e in
     let spells : Spells q (take m bytes) = packet_takes (take m bytes) q (IsBytes-take m bytes fits) read in
-    subst (λ (k : ℕ). Spells p (take k bytes) × (k ≤ MAX_SIZE)) same (subst (λ (x : Packet). Spells x (take m bytes)) packet spells, size_below bytes m s)
+    subst (λ (k : ℕ). Spells p (take k bytes) × (k ≤ PACKET_LIMIT)) same (subst (λ (x : Packet). Spells x (take m bytes)) packet spells, size_below bytes m s)
 
 first_by_spells : (bytes : List ℕ) (p : Packet) (n : ℕ) (r : Result (Option ℕ) Fault) → IsBytes bytes → size_at bytes ≡ r → first_by bytes r ≡ Ok (Some (p, n))
-    → Spells p (take n bytes) × (n ≤ MAX_SIZE)
+    → Spells p (take n bytes) × (n ≤ PACKET_LIMIT)
 first_by_spells bytes p n (Err f) fits s e = absurd cc
 first_by_spells bytes p n (Ok None) fits s e = absurd cc
 first_by_spells bytes p n (Ok (Some m)) fits s e = sized_spells bytes p n m (packet_at (take m bytes)) fits s refl e
 
-pub first_spells : (bytes : List ℕ) (p : Packet) (n : ℕ) → IsBytes bytes → first_of bytes ≡ Ok (Some (p, n)) → Spells p (take n bytes) × (n ≤ MAX_SIZE)
+pub first_spells : (bytes : List ℕ) (p : Packet) (n : ℕ) → IsBytes bytes → first_of bytes ≡ Ok (Some (p, n)) → Spells p (take n bytes) × (n ≤ PACKET_LIMIT)
 unfolding first_of
 first_spells bytes p n fits e = first_by_spells bytes p n (size_at bytes) fits refl e
 
@@ -151,7 +151,7 @@ found_ends {X} view bytes (Ok (Some x)) fits given = first_ends bytes (view x.0)
 found_ends {X} view bytes (Err f) fits given = tt
 
 -- where a fault stands, no stream that goes on so begins with a packet
-pub fault_final : (bytes later spelling more : List ℕ) (f : Fault) (p : Packet) → first_of bytes ≡ Err f → Spells p spelling → length spelling ≤ MAX_SIZE
+pub fault_final : (bytes later spelling more : List ℕ) (f : Fault) (p : Packet) → first_of bytes ≡ Err f → Spells p spelling → length spelling ≤ PACKET_LIMIT
     → bytes ++ later ≢ spelling ++ more
 fault_final bytes later spelling more f p e s small = λ same.
     let clash = sym (fault_stays bytes later f e) ∙ ap first_of same ∙ first_whole p spelling more s small in

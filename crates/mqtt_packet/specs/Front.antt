@@ -5,7 +5,7 @@ use Rattle.mqtt_base.specs.declared.fault.ReadFault.TheVariants.{Short, Overlong
 use Rattle.mqtt_base.specs.Reading.{varint_at}
 use Rattle.mqtt_codec.specs.declared.fault.Fault.{Fault}
 use Rattle.mqtt_codec.specs.declared.fault.Fault.TheVariants.{Malformed, TooLarge}
-use Rattle.mqtt_packet.specs.declared.front.TheConstants.{MAX_SIZE}
+use Rattle.mqtt_base.specs.declared.limits.TheConstants.{PACKET_LIMIT}
 use Rattle.mqtt_codec.specs.declared.head.Head.{Head}
 use Rattle.mqtt_codec.specs.declared.packet.Packet.{Packet}
 use Rattle.mqtt_codec.specs.declared.packet.Packet.TheVariants as packets
@@ -13,13 +13,13 @@ use Rattle.mqtt_codec.specs.Heads.{head_of}
 use Rattle.mqtt_codec.specs.Frames.{packet_at}
 
 -- Behind a first byte, of count bytes: the Remaining Length and what follows it. A packet above
--- MAX_SIZE is refused as soon as its length is known.
+-- PACKET_LIMIT is refused as soon as its length is known.
 abbrev pub size_by : ℕ → Result (ℕ × List ℕ) ReadFault → Result (Option ℕ) Fault
 size_by count (Err Short) = Ok None
 size_by count (Err Overlong) = Err Malformed
 size_by count (Err BadText) = Err Malformed
 size_by count (Ok x) =
-    if nat_lt MAX_SIZE (1 + (count - length x.1) + x.0) then Err TooLarge
+    if nat_lt PACKET_LIMIT (1 + (count - length x.1) + x.0) then Err TooLarge
     else if nat_lt (length x.1) x.0 then Ok None
     else Ok (Some (1 + (count - length x.1) + x.0))
 

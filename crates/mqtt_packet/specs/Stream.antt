@@ -3,7 +3,7 @@ use Rattle.std.specs.Prelude.{◌≡◌, ◌≢◌, ℕ, ◌+◌, ◌-◌, ◌%�
 use Rattle.mqtt_codec.specs.declared.fault.Fault.{Fault}
 use Rattle.mqtt_codec.specs.declared.fault.Fault.TheVariants.{Memory}
 use Rattle.mqtt_codec.specs.declared.packet.Packet.{Packet}
-use Rattle.mqtt_packet.specs.declared.front.TheConstants.{MAX_SIZE}
+use Rattle.mqtt_base.specs.declared.limits.TheConstants.{PACKET_LIMIT}
 use Rattle.mqtt_codec.specs.Packets.{Spells}
 use Rattle.mqtt_packet.specs.Front.{first_of}
 
@@ -39,10 +39,10 @@ IsStream stream items ending = (end : ℕ) × (rest : List ℕ) × IsCut 0 strea
 
 -- ---- packets one after the other
 
--- each of the packets with a spelling, of at most MAX_SIZE bytes
+-- each of the packets with a spelling, of at most PACKET_LIMIT bytes
 abbrev pub AreSpelled : List (Packet × List ℕ) → Type 0
 AreSpelled [] = Unit {0}
-AreSpelled (x ∷ xs) = Spells x.0 x.1 × (length x.1 ≤ MAX_SIZE) × AreSpelled xs
+AreSpelled (x ∷ xs) = Spells x.0 x.1 × (length x.1 ≤ PACKET_LIMIT) × AreSpelled xs
 
 -- the spellings, one after the other
 abbrev pub joined_bytes : List (Packet × List ℕ) → List ℕ

@@ -2,14 +2,14 @@
 
 ghost use Rattle.std.specs.Prelude.{◌≡◌, ◌≢◌, ◌-◌, ◌<◌, ◌≤◌, ◌++◌, length, take, drop, min, IfOk, IfErr, IfNone, IfSome, OnErr, OnOk, OnSome, IsOk};
 ghost use Rattle.mqtt_codec.specs.declared.fault.Fault.{Fault};
-ghost use Rattle.mqtt_packet.specs.declared.front.TheConstants.{MAX_SIZE};
+ghost use Rattle.mqtt_base.specs.declared.limits.TheConstants.{PACKET_LIMIT};
 ghost use Rattle.mqtt_packet.specs.Front.{first_of};
 ghost use Rattle.mqtt_packet.specs.Stream.{Framing, empty, without_last, Stands, Refuses, Finds, CutsFirst, Gives};
 ghost use Rattle.mqtt_codec.specs.Frames.{packet_of};
 
-use crate::front::{MAX_SIZE, first_read};
+use crate::front::first_read;
 use bytes::{Bytes, BytesMut};
-use mqtt_base::Text;
+use mqtt_base::{PACKET_LIMIT, Text};
 use mqtt_codec::{Fault, Packet, PacketRef, Publish};
 use std::alloc::{AllocError, Global};
 use std::marker::Model;
@@ -28,7 +28,7 @@ impl Model for Framer {
 
     ghost view = { λ f. record { held = f.bytes.items; place = f.place } };
 
-    ghost invariant = { λ f. length f.bytes.items ≤ MAX_SIZE };
+    ghost invariant = { λ f. length f.bytes.items ≤ PACKET_LIMIT };
 }
 
 impl Framer {
@@ -46,7 +46,7 @@ impl Framer {
     /// How many bytes are held. Takes no memory.
     pub fn held(&self) -> usize
         ensures exact { result ≡ length self.now.held }
-        ensures within { result ≤ MAX_SIZE }
+        ensures within { result ≤ PACKET_LIMIT }
     {
         self.bytes.len()
     }
@@ -60,7 +60,7 @@ impl Framer {
 
     /// Takes as many bytes as fit, from the front of the piece, and answers how many.
     pub fn feed(&mut self, piece: &[u8]) -> Result<usize, (Fault, u64)>
-        ensures answer { IfOk result (λ n. n ≡ min (length piece.now) (MAX_SIZE - length self.old.held)) }
+        ensures answer { IfOk result (λ n. n ≡ min (length piece.now) (PACKET_LIMIT - length self.old.held)) }
         ensures ok { IfOk result (λ n.
             self.new ≡ record self.old { held = self.old.held ++ take n piece.now }) }
 
@@ -74,7 +74,7 @@ impl Framer {
         if let Err(fault) = first_read(self.bytes.as_slice()) {
             return Err((fault, self.place));
         }
-        let count = piece.len().min(MAX_SIZE - self.bytes.len());
+        let count = piece.len().min(PACKET_LIMIT - self.bytes.len());
         match self.bytes.extend_from_slice(&piece[..count]) {
             Ok(()) => Ok(count),
             Err(_) => Err((Fault::Memory, self.place)),
@@ -100,7 +100,7 @@ impl Framer {
         ensures found { IfOk result (λ found. Gives self.old found self.new) }
 
         // Where no packet is whole, at least one more byte fits. With a packet there is less to hold.
-        ensures partial { IfOk result (λ found. IfNone found (length self.new.held < MAX_SIZE)) }
+        ensures partial { IfOk result (λ found. IfNone found (length self.new.held < PACKET_LIMIT)) }
         ensures shorter { IfOk result (λ found. OnSome found (length self.new.held < length self.old.held)) }
         ensures stands { (fault : Fault) → first_of self.old.held ≡ Err fault
             → result ≡ Err (fault, self.old.place) }
@@ -132,7 +132,7 @@ impl Framer {
 #[inline(always)]
 fn first_cut(bytes: &mut BytesMut, alloc: Global) -> Result<Option<(Packet, usize)>, Fault>
     ensures found { IfOk result (λ found. CutsFirst bytes.old.items found bytes.new.items) }
-    ensures partial { IfOk result (λ found. IfNone found (length bytes.old.items < MAX_SIZE)) }
+    ensures partial { IfOk result (λ found. IfNone found (length bytes.old.items < PACKET_LIMIT)) }
     ensures within { IfOk result (λ found. IfSome found (λ x. (0 < x.1) × (x.1 ≤ length bytes.old.items))) }
     ensures stands { (fault : Fault) → first_of bytes.old.items ≡ Err fault → result ≡ Err fault }
     ensures refused { IfErr result (λ fault. fault ≢ Fault.Memory → first_of bytes.old.items ≡ Err fault) }

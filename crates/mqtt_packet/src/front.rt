@@ -5,11 +5,8 @@ ghost use Rattle.mqtt_packet.specs.Front.{size_at, first_of, GivesFirst, EndsWit
 ghost use Rattle.mqtt_codec.specs.Packets.{Fits};
 ghost use Rattle.mqtt_codec.specs.Frames.{packet_of};
 
-use mqtt_base::{ReadFault, varint_read};
+use mqtt_base::{PACKET_LIMIT, ReadFault, varint_read};
 use mqtt_codec::{Fault, PacketRef, head_read, look_at};
-
-/// The greatest size of a packet, in bytes, fixed header included (ours; 3.1.2.11.4).
-pub const MAX_SIZE: usize = 65_536;
 
 /// The size of the whole packet at the front, if it has come.
 #[inline(always)]
@@ -17,7 +14,7 @@ pub const MAX_SIZE: usize = 65_536;
 fn size_read(bytes: &[u8]) -> Result<Option<usize>, Fault>
     ensures exact { result ≡ size_at bytes.now }
     ensures within { IfOk result (λ found. IfSome found (λ size. (0 < size) × (size ≤ length bytes.now))) }
-    ensures partial { IfOk result (λ found. IfNone found (length bytes.now < MAX_SIZE)) }
+    ensures partial { IfOk result (λ found. IfNone found (length bytes.now < PACKET_LIMIT)) }
 {
     let Some((first, rest)) = bytes.split_first() else {
         return Ok(None);
@@ -30,7 +27,7 @@ fn size_read(bytes: &[u8]) -> Result<Option<usize>, Fault>
         Err(ReadFault::Overlong | ReadFault::BadText) => Err(Fault::Malformed),
         Ok((len, taken)) => {
             let size = 1 + taken + len as usize;
-            if size > MAX_SIZE {
+            if size > PACKET_LIMIT {
                 Err(Fault::TooLarge)
             } else if bytes.len() < size {
                 Ok(None)
@@ -47,7 +44,7 @@ fn front_read(bytes: &[u8]) -> Result<Option<(PacketRef<'_>, usize)>, Fault>
     ensures exact { GivesFirst packet_of result (first_of bytes.now) }
     ensures fits { IfOk result (λ found. IfSome found (λ x. Fits (packet_of x.0))) }
     ensures within { IfOk result (λ found. IfSome found (λ x. (0 < x.1) × (x.1 ≤ length bytes.now))) }
-    ensures partial { IfOk result (λ found. IfNone found (length bytes.now < MAX_SIZE)) }
+    ensures partial { IfOk result (λ found. IfNone found (length bytes.now < PACKET_LIMIT)) }
 {
     let Some(size) = size_read(bytes)? else {
         return Ok(None);
@@ -62,7 +59,7 @@ pub(crate) fn first_read(bytes: &[u8]) -> Result<Option<(PacketRef<'_>, usize)>,
     ensures exact { GivesFirst packet_of result (first_of bytes.now) }
     ensures fits { IfOk result (λ found. IfSome found (λ x. Fits (packet_of x.0))) }
     ensures within { IfOk result (λ found. IfSome found (λ x. (0 < x.1) × (x.1 ≤ length bytes.now))) }
-    ensures partial { IfOk result (λ found. IfNone found (length bytes.now < MAX_SIZE)) }
+    ensures partial { IfOk result (λ found. IfNone found (length bytes.now < PACKET_LIMIT)) }
     ensures payload { IfOk result (λ found. IfSome found (λ x. EndsWithPayload (packet_of x.0) x.1 bytes.now)) }
 {
     front_read(bytes)

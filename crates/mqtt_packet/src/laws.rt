@@ -5,7 +5,7 @@ ghost use Rattle.mqtt_base.specs.Reading.{varint_at};
 ghost use Rattle.mqtt_base.specs.declared.fault.ReadFault.TheVariants.{Overlong};
 ghost use Rattle.mqtt_codec.specs.declared.fault.Fault.{Fault};
 ghost use Rattle.mqtt_codec.specs.declared.fault.Fault.TheVariants.{Malformed, TooLarge};
-ghost use Rattle.mqtt_packet.specs.declared.front.TheConstants.{MAX_SIZE};
+ghost use Rattle.mqtt_base.specs.declared.limits.TheConstants.{PACKET_LIMIT};
 ghost use Rattle.mqtt_codec.specs.declared.head.Head.{Head};
 ghost use Rattle.mqtt_codec.specs.declared.packet.Packet.{Packet};
 ghost use Rattle.mqtt_codec.specs.Packets.{Spells};
@@ -17,13 +17,13 @@ ghost use Rattle.mqtt_packet.specs.Stream.{AreSpelled, joined_bytes, items_from,
 /// that goes on so begins with one.
 pub fn first_spelled()
     ensures whole { (packet : Packet) (bytes more : List ℕ)
-        → Spells packet bytes → length bytes ≤ MAX_SIZE
+        → Spells packet bytes → length bytes ≤ PACKET_LIMIT
         → first_of (bytes ++ more) ≡ Ok (Some (packet, length bytes)) }
     ensures found { (bytes : List ℕ) (packet : Packet) (n : ℕ)
         → ((i : ℕ) → slice_index bytes i < 256) → first_of bytes ≡ Ok (Some (packet, n))
-        → Spells packet (take n bytes) × (n ≤ MAX_SIZE) }
+        → Spells packet (take n bytes) × (n ≤ PACKET_LIMIT) }
     ensures fault { (bytes later spelling more : List ℕ) (fault : Fault) (packet : Packet)
-        → first_of bytes ≡ Err fault → Spells packet spelling → length spelling ≤ MAX_SIZE
+        → first_of bytes ≡ Err fault → Spells packet spelling → length spelling ≤ PACKET_LIMIT
         → bytes ++ later ≢ spelling ++ more }
 {}
 
@@ -50,7 +50,7 @@ pub fn moments()
     ensures overlong { (b : ℕ) (head : Head) (len : List ℕ) → head_of b ≡ Some head
         → varint_at len ≡ Err Overlong → first_of (b ∷ len) ≡ Err Malformed }
     ensures too_large { (b n : ℕ) (head : Head) (len : List ℕ) → head_of b ≡ Some head
-        → varint_at len ≡ Ok (n, []) → MAX_SIZE < 1 + length len + n
+        → varint_at len ≡ Ok (n, []) → PACKET_LIMIT < 1 + length len + n
         → first_of (b ∷ len) ≡ Err TooLarge }
     ensures last_byte { (front : List ℕ) (packet : Packet) (n more : ℕ)
         → first_of front ≡ Ok (Some (packet, n)) → n ≤ more

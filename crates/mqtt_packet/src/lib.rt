@@ -8,7 +8,6 @@ mod laws;
 mod tests;
 
 pub use framer::Framer;
-pub use front::MAX_SIZE;
 pub use laws::{any_pieces, first_spelled, joined_cut, moments, one_cut};
 pub use mqtt_codec::{
     Ack, AckRef, Connack, ConnackRef, Connect, ConnectRef, Delivery, Fault, Filters, FiltersRef,

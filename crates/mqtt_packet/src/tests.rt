@@ -2,7 +2,8 @@
 
 ghost use Rattle.std.specs.Prelude.{◌<◌};
 
-use crate::{Fault, Framer, MAX_SIZE, Packet, PacketRef, Publish, encode, lawful};
+use crate::{Fault, Framer, Packet, PacketRef, Publish, encode, lawful};
+use mqtt_base::PACKET_LIMIT;
 use std::alloc::Global;
 use std::fmt::Write;
 use std::process::Abort;
@@ -179,7 +180,7 @@ fn greatest(alloc: Global) -> Result<Vec<u8>, Fail> {
 #[test]
 fn the_greatest_packet_is_read(rt: HostRuntime) -> Result<(), Fail> {
     let bytes = greatest(rt.alloc())?;
-    assert_eq!(rt; bytes.len(), MAX_SIZE);
+    assert_eq!(rt; bytes.len(), PACKET_LIMIT);
     for step in [1, 4096, 65_536] {
         let mut framer = Framer::new(rt.alloc());
         for piece in bytes.as_slice().chunks(step) {

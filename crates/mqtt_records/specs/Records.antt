@@ -1,10 +1,7 @@
 -- All that is kept, what a change makes of it, and which changes fit (4.1).
 use Rattle.std.specs.Prelude.{◌≡◌, ℕ, ◌<◌, ◌≤◌, true, cond, List, [], ◌∷◌, length, Option, Some, None}
 use Rattle.std.specs.List.{All}
-use Rattle.mqtt_records.specs.declared.subscription.TheConstants.{SUBSCRIPTION_LIMIT}
-use Rattle.mqtt_records.specs.declared.session.TheConstants.{INBOUND_LIMIT}
-use Rattle.mqtt_records.specs.declared.queue.TheConstants.{QUEUE_LIMIT}
-use Rattle.mqtt_records.specs.declared.records.TheConstants.{SESSION_LIMIT, RETAINED_LIMIT}
+use Rattle.mqtt_base.specs.declared.limits.TheConstants.{SUBSCRIPTION_LIMIT, OPEN_LIMIT, QUEUE_LIMIT, SESSION_LIMIT, RETAINED_LIMIT}
 use Rattle.mqtt_records.specs.declared.message.Retained.{Retained}
 use Rattle.mqtt_records.specs.declared.subscription.Subscription.{Subscription}
 use Rattle.mqtt_records.specs.declared.session.Session.{Session}
@@ -103,7 +100,7 @@ Fits (PutSubscription birth subscription) r = HasSession birth
     (λ session. TakesSubscription subscription (without_filter subscription.filter session.subscriptions)) r
 Fits (RemoveSubscription birth text) r = Unit {0}
 Fits (PutInbound birth identifier) r = HasSession birth
-    (λ session. HasRoomFor number_of INBOUND_LIMIT identifier session.inbound) r
+    (λ session. HasRoomFor number_of OPEN_LIMIT identifier session.inbound) r
 Fits (RemoveInbound birth identifier) r = Unit {0}
 Fits (PutCopy birth entry) r = HasSession birth
     (λ session. HasRoomFor entry_place QUEUE_LIMIT entry.place session.queue) r

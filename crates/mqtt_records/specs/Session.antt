@@ -1,9 +1,7 @@
 -- What is kept of a session, and how a part of it changes (4.1).
 use Rattle.std.specs.Prelude.{◌≡◌, refl, ℕ, not, bytes_eq, List, [], filter, Option, Some, None}
 use Rattle.mqtt_base.specs.declared.session.Phase.{Phase}
-use Rattle.mqtt_records.specs.declared.subscription.TheConstants.{SUBSCRIPTION_LIMIT}
-use Rattle.mqtt_records.specs.declared.session.TheConstants.{INBOUND_LIMIT}
-use Rattle.mqtt_records.specs.declared.queue.TheConstants.{QUEUE_LIMIT}
+use Rattle.mqtt_base.specs.declared.limits.TheConstants.{SUBSCRIPTION_LIMIT, OPEN_LIMIT, QUEUE_LIMIT}
 use Rattle.mqtt_records.specs.declared.message.Will.{Will}
 use Rattle.mqtt_records.specs.declared.queue.Entry.{Entry}
 use Rattle.mqtt_records.specs.declared.subscription.Subscription.{Subscription}
@@ -68,7 +66,7 @@ abbrev pub without_subscription : List ℕ → Session → Session
 without_subscription text session = record session { subscriptions = without_filter text session.subscriptions }
 
 abbrev pub with_open : ℕ → Session → Session
-with_open identifier session = record session { inbound = put_row number_of INBOUND_LIMIT identifier session.inbound }
+with_open identifier session = record session { inbound = put_row number_of OPEN_LIMIT identifier session.inbound }
 
 abbrev pub without_open : ℕ → Session → Session
 without_open identifier session = record session { inbound = remove_row number_of identifier session.inbound }

@@ -21,11 +21,11 @@ pub use laws::{
 };
 pub use memory::MemKeep;
 pub use message::{Content, MessageCopy, Retained, SubscriptionIdentifiers, Will};
-pub use queue::{Entry, QUEUE_LIMIT};
-pub use records::{RETAINED_LIMIT, Records, SESSION_LIMIT};
+pub use queue::Entry;
+pub use records::Records;
 pub use rows::{Boxed, Editable, Row, Rows};
-pub use session::{Columns, INBOUND_LIMIT, Session, SessionPart, SessionRow};
-pub use subscription::{SUBSCRIPTION_LIMIT, Subscription};
+pub use session::{Columns, Session, SessionPart, SessionRow};
+pub use subscription::Subscription;
 
 #[cfg(test)]
 mod tests;

@@ -6,9 +6,6 @@ use crate::rows::{Editable, Row};
 use mqtt_base::Phase;
 use std::alloc::AllocError;
 
-/// How many copies a queue has at most (ours).
-pub const QUEUE_LIMIT: usize = 1000;
-
 /// A copy in a session's queue (4.3, 4.6).
 #[derive(Drop)]
 pub struct Entry {

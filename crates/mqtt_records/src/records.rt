@@ -7,12 +7,8 @@ use crate::change::{Change, Counter};
 use crate::message::Retained;
 use crate::rows::{Boxed, Rows};
 use crate::session::{Session, SessionPart, SessionRow};
+use mqtt_base::{RETAINED_LIMIT, SESSION_LIMIT};
 use std::alloc::{AllocError, Global};
-
-/// How many sessions there are at most (ours).
-pub const SESSION_LIMIT: usize = 1000;
-/// How many topics have a retained message at most (ours).
-pub const RETAINED_LIMIT: usize = 1000;
 
 /// All that is kept.
 #[derive(Drop)]

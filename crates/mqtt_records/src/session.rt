@@ -3,16 +3,12 @@ ghost use Rattle.std.specs.Prelude.{◌≡◌, IfOk};
 ghost use Rattle.mqtt_records.specs.Session.{fresh};
 
 use crate::message::Will;
-use crate::queue::{Entry, QUEUE_LIMIT};
+use crate::queue::Entry;
 use crate::rows::{Boxed, Editable, Row, Rows};
-use crate::subscription::{SUBSCRIPTION_LIMIT, Subscription};
-use mqtt_base::{Phase, Text};
+use crate::subscription::Subscription;
+use mqtt_base::{OPEN_LIMIT, Phase, QUEUE_LIMIT, SUBSCRIPTION_LIMIT, Text};
 use std::alloc::{AllocError, Global};
 use std::marker::Model;
-
-/// How many identifiers of QoS 2 publications from the client are open at most: our Receive Maximum
-/// (4.9).
-pub const INBOUND_LIMIT: usize = 20;
 
 impl Row for u16 {
     ghost key_of = { λ identifier. identifier };
@@ -40,7 +36,7 @@ pub struct Session {
     /// The subscriptions, by place.
     pub subscriptions: Rows<Boxed<Subscription>, SUBSCRIPTION_LIMIT>,
     /// The open identifiers of QoS 2 publications from the client, ascending (4.3.3).
-    pub inbound: Rows<u16, INBOUND_LIMIT>,
+    pub inbound: Rows<u16, OPEN_LIMIT>,
     /// The copies that haven't ended, by place.
     pub queue: Rows<Boxed<Entry>, QUEUE_LIMIT>,
 }

@@ -3,11 +3,8 @@ ghost use Rattle.std.specs.Prelude.{◌≡◌};
 ghost use Rattle.mqtt_records.specs.Session.{without_filter, put_subscription};
 
 use crate::rows::{Boxed, Row, Rows};
-use mqtt_base::{SubscriptionOptions, Text};
+use mqtt_base::{SUBSCRIPTION_LIMIT, SubscriptionOptions, Text};
 use std::alloc::AllocError;
-
-/// How many subscriptions a session has at most (ours).
-pub const SUBSCRIPTION_LIMIT: usize = 100;
 
 /// A subscription (3.8).
 #[derive(Drop)]

@@ -2,12 +2,14 @@
 
 use crate::faulty::{Failure, FaultyKeep};
 use crate::{
-    Boxed, Change, Columns, Content, Counter, Entry, INBOUND_LIMIT, Keep, KeepError, MemKeep,
-    MessageCopy, QUEUE_LIMIT, Records, Retained, Rows, SESSION_LIMIT, SUBSCRIPTION_LIMIT,
-    SessionRow, Subscription, SubscriptionIdentifiers, Will,
+    Boxed, Change, Columns, Content, Counter, Entry, Keep, KeepError, MemKeep, MessageCopy,
+    Records, Retained, Rows, SessionRow, Subscription, SubscriptionIdentifiers, Will,
 };
 use bytes::Bytes;
-use mqtt_base::{Cause, Phase, Qos, RetainHandling, SubscriptionOptions, Text};
+use mqtt_base::{
+    Cause, OPEN_LIMIT, Phase, QUEUE_LIMIT, Qos, RetainHandling, SESSION_LIMIT, SUBSCRIPTION_LIMIT,
+    SubscriptionOptions, Text,
+};
 use mqtt_props::PropList;
 use std::alloc::{AllocError, Global};
 use std::test::Fail;
@@ -353,16 +355,16 @@ fn want_of_memory_changes_nothing(rt: HostRuntime) -> Result<(), Fail> {
 
 #[test]
 fn a_list_is_in_order_and_has_its_limit(rt: HostRuntime) -> Result<(), Fail> {
-    let mut open: Rows<u16, INBOUND_LIMIT> = Rows::new(rt.alloc())?;
+    let mut open: Rows<u16, OPEN_LIMIT> = Rows::new(rt.alloc())?;
     // 40, 38 .. 2, from the greatest down
     for turn in 0..20 {
         open.put(40 - 2 * turn);
     }
-    assert_eq!(rt; open.len(), INBOUND_LIMIT, "our Receive Maximum");
+    assert_eq!(rt; open.len(), OPEN_LIMIT, "our Receive Maximum");
     open.put(5);
     assert!(rt; !open.has(5), "there is no room for another");
     open.put(40);
-    assert_eq!(rt; open.len(), INBOUND_LIMIT, "one of them is there already");
+    assert_eq!(rt; open.len(), OPEN_LIMIT, "one of them is there already");
     assert_eq!(rt; open.at(0), Some(&2), "the lowest");
     assert_eq!(rt; open.at(19), Some(&40), "the highest");
     assert_eq!(rt; open.at(20), None, "past the end");
@@ -385,12 +387,7 @@ fn a_list_is_in_order_and_has_its_limit(rt: HostRuntime) -> Result<(), Fail> {
 #[test]
 fn limits_and_numbers_of_faults_are_fixed(rt: HostRuntime) -> Result<(), Fail> {
     assert_eq!(rt;
-        [
-            SESSION_LIMIT,
-            SUBSCRIPTION_LIMIT,
-            INBOUND_LIMIT,
-            QUEUE_LIMIT
-        ],
+        [SESSION_LIMIT, SUBSCRIPTION_LIMIT, OPEN_LIMIT, QUEUE_LIMIT],
         [1000, 100, 20, 1000]
     );
     let faults = [

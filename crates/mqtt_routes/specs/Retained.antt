@@ -4,7 +4,7 @@ use Rattle.std.specs.List.{list_any}
 use Rattle.mqtt_topic.specs.Matching.{is_match}
 use Rattle.mqtt_routes.specs.declared.fault.RoutesFault.{RoutesFault}
 use Rattle.mqtt_routes.specs.declared.fault.RoutesFault.TheVariants.{Full, Memory}
-use Rattle.mqtt_routes.specs.declared.retained.TheConstants.{RETAINED_LIMIT}
+use Rattle.mqtt_base.specs.declared.limits.TheConstants.{RETAINED_LIMIT}
 use Rattle.mqtt_routes.specs.declared.retained.Kept.{Kept}
 use Rattle.mqtt_routes.specs.Subscriptions.{Subscriber}
 

@@ -3,7 +3,7 @@ use Rattle.std.specs.Prelude.{◌≡◌, ⊤, ℕ, suc, ◌<◌, Bool, false, co
 use Rattle.std.specs.List.{list_any}
 use Rattle.mqtt_routes.specs.declared.fault.RoutesFault.{RoutesFault}
 use Rattle.mqtt_routes.specs.declared.fault.RoutesFault.TheVariants.{Full, Memory}
-use Rattle.mqtt_routes.specs.declared.subscription.TheConstants.{SUBSCRIPTION_LIMIT}
+use Rattle.mqtt_base.specs.declared.limits.TheConstants.{SUBSCRIPTION_LIMIT}
 use Rattle.mqtt_routes.specs.declared.subscription.Subscription.{Subscription}
 
 -- a session with its subscriptions, in the order subscribed

@@ -2,18 +2,16 @@
 ghost use Rattle.std.specs.Prelude.{◌≡◌, ◌&&◌, not, nat_lt, length, [], map, IfErr, IfOk, OnErr, OnOk};
 ghost use Rattle.mqtt_topic.specs.Filters.{matching_part_of};
 ghost use Rattle.mqtt_routes.specs.Retained.{has_topic, keep, forget, kept_for, RefusesKeep};
-ghost use Rattle.mqtt_routes.specs.declared.retained.TheConstants.{RETAINED_LIMIT};
+ghost use Rattle.mqtt_base.specs.declared.limits.TheConstants.{RETAINED_LIMIT};
 
 use crate::fault::RoutesFault;
 use crate::slot::Slot;
 use indexmap::IndexSet;
+use mqtt_base::RETAINED_LIMIT;
 use mqtt_topic::{SubFilter, TopicName};
 use std::alloc::Global;
 use std::hash::RandomState;
 use std::marker::Model;
-
-/// How many topics have a retained message at most (ours).
-pub const RETAINED_LIMIT: usize = 1000;
 
 /// The retained message of a topic.
 #[derive(Drop)]
@@ -33,7 +31,7 @@ pub(crate) struct Retained<M> {
 
 impl<M> Model for Retained<M> {
     ghost use Rattle.std.specs.Prelude.{List, ◌≤◌, length};
-    ghost use Rattle.mqtt_routes.specs.declared.retained.TheConstants.{RETAINED_LIMIT};
+    ghost use Rattle.mqtt_base.specs.declared.limits.TheConstants.{RETAINED_LIMIT};
     ghost use Rattle.mqtt_routes.specs.declared.retained.Kept.{Kept};
 
     ghost Value = { List (Kept M) };

@@ -10,8 +10,9 @@ use crate::fault::RoutesFault;
 use crate::member::{Member, insert_member};
 use crate::publication::Publication;
 use crate::row::Row;
-use crate::subscription::{SUBSCRIPTION_LIMIT, Subscription};
+use crate::subscription::Subscription;
 use indexmap::IndexSet;
+use mqtt_base::SUBSCRIPTION_LIMIT;
 use std::alloc::Global;
 use std::cell::Cell;
 use std::hash::RandomState;
@@ -25,7 +26,7 @@ pub(crate) struct Subscriptions {
 
 impl Model for Subscriptions {
     ghost use Rattle.std.specs.Prelude.{List, ◌≤◌, length};
-    ghost use Rattle.mqtt_routes.specs.declared.subscription.TheConstants.{SUBSCRIPTION_LIMIT};
+    ghost use Rattle.mqtt_base.specs.declared.limits.TheConstants.{SUBSCRIPTION_LIMIT};
     ghost use Rattle.mqtt_routes.specs.declared.subscription.Subscription.{Subscription};
 
     ghost Value = { List Subscription };

@@ -1,9 +1,6 @@
 //! What a client asked for (MQTT 5.0, 3.8.2.1.2, 3.8.3.1).
 use mqtt_topic::SubFilter;
 
-/// How many subscriptions a session has at most (ours).
-pub const SUBSCRIPTION_LIMIT: usize = 100;
-
 /// A subscription of a session (3.8).
 #[derive(Debug, Drop)]
 pub struct Subscription {

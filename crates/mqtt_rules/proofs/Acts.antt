@@ -21,7 +21,7 @@ use Rattle.mqtt_flow.specs.declared.inflow.Published.{Published}
 use Rattle.mqtt_flow.specs.declared.inflow.Published.TheVariants.{New, Again, Over}
 use Rattle.mqtt_flow.specs.declared.inflow.Released.{Released}
 use Rattle.mqtt_flow.specs.declared.inflow.Released.TheVariants.{Known, Unknown}
-use Rattle.mqtt_flow.specs.Codes.{success, identifier_in_use, identifier_not_found, quota_exceeded, receive_maximum_exceeded, session_taken_over}
+use Rattle.mqtt_base.specs.Codes.{success, identifier_in_use, identifier_not_found, quota_exceeded, receive_maximum_exceeded, session_taken_over}
 use Rattle.mqtt_flow.specs.Inbound.{answer_to, answer_to_release, is_open}
 use Rattle.mqtt_flow.specs.Outbound.{Answer, way_made, due_from}
 use Rattle.mqtt_flow.specs.Outbound as rules

@@ -1,10 +1,7 @@
 -- All that is stored stays in the order of its keys, change by change and over a step.
 use Rattle.std.proofs.Common.{◌≡◌, ℕ, Bool, true, false, cond, not, List, [], ◌∷◌, Some, None, nat_eq, bytes_eq, refl}
 use Rattle.std.specs.List.{AllByRecursion}
-use Rattle.mqtt_records.specs.declared.session.TheConstants.{INBOUND_LIMIT}
-use Rattle.mqtt_records.specs.declared.subscription.TheConstants.{SUBSCRIPTION_LIMIT}
-use Rattle.mqtt_records.specs.declared.queue.TheConstants.{QUEUE_LIMIT}
-use Rattle.mqtt_records.specs.declared.records.TheConstants.{SESSION_LIMIT, RETAINED_LIMIT}
+use Rattle.mqtt_base.specs.declared.limits.TheConstants.{OPEN_LIMIT, SUBSCRIPTION_LIMIT, QUEUE_LIMIT, SESSION_LIMIT, RETAINED_LIMIT}
 use Rattle.mqtt_records.specs.declared.session.Columns.{Columns}
 use Rattle.mqtt_records.specs.declared.session.Session.{Session}
 use Rattle.mqtt_records.specs.declared.records.Records.{Records}
@@ -62,7 +59,7 @@ order_changed (PutSubscription birth sub) r h =
     (λ s o. (put-ascending place_of SUBSCRIPTION_LIMIT sub (without_filter sub.filter s.subscriptions) (filter-ascending place_of (λ x. not (bytes_eq x.filter sub.filter)) s.subscriptions o.0), o.1, o.2)) h
 order_changed (RemoveSubscription birth text) r h =
     order_in birth (without_subscription text) r (λ s. refl) (λ s o. (filter-ascending place_of (λ x. not (bytes_eq x.filter text)) s.subscriptions o.0, o.1, o.2)) h
-order_changed (PutInbound birth id) r h = order_in birth (with_open id) r (λ s. refl) (λ s o. (o.0, put-ascending number_of INBOUND_LIMIT id s.inbound o.1, o.2)) h
+order_changed (PutInbound birth id) r h = order_in birth (with_open id) r (λ s. refl) (λ s o. (o.0, put-ascending number_of OPEN_LIMIT id s.inbound o.1, o.2)) h
 order_changed (RemoveInbound birth id) r h = order_in birth (without_open id) r (λ s. refl) (λ s o. (o.0, remove-ascending number_of id s.inbound o.1, o.2)) h
 order_changed (PutCopy birth e) r h = order_in birth (with_copy e) r (λ s. refl) (λ s o. (o.0, o.1, put-ascending entry_place QUEUE_LIMIT e s.queue o.2)) h
 order_changed (SetCopy birth place phase) r h =

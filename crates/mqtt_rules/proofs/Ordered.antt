@@ -6,10 +6,7 @@ use Rattle.std.proofs.lemmas.Bool.{cases_Bool, ltb-true}
 use Rattle.std.proofs.lemmas.List.{length-set}
 use Rattle.mqtt_records.specs.declared.session.Session.{Session}
 use Rattle.mqtt_records.specs.declared.session.Columns.{Columns}
-use Rattle.mqtt_records.specs.declared.session.TheConstants.{INBOUND_LIMIT}
-use Rattle.mqtt_records.specs.declared.queue.TheConstants.{QUEUE_LIMIT}
-use Rattle.mqtt_records.specs.declared.subscription.TheConstants.{SUBSCRIPTION_LIMIT}
-use Rattle.mqtt_records.specs.declared.records.TheConstants.{SESSION_LIMIT, RETAINED_LIMIT}
+use Rattle.mqtt_base.specs.declared.limits.TheConstants.{OPEN_LIMIT, QUEUE_LIMIT, SUBSCRIPTION_LIMIT, SESSION_LIMIT, RETAINED_LIMIT}
 use Rattle.mqtt_records.specs.declared.records.Records.{Records}
 use Rattle.mqtt_records.specs.declared.change.Counter.{Counter}
 use Rattle.mqtt_records.specs.declared.change.Counter.TheVariants.{Births, Publications, Subscribes, Autos, Moment}
@@ -125,7 +122,7 @@ empty-table : {X : Type 0} (key : X → ℕ) (limit : ℕ) → IsTable key limit
 empty-table key limit = record { ascending = tt; within = omega arith }
 
 fresh-tables : (row : Columns) → HasTables (fresh row)
-fresh-tables row = record { inbound = empty-table number_of INBOUND_LIMIT; subscriptions = empty-table place_of SUBSCRIPTION_LIMIT; queue = empty-table entry_place QUEUE_LIMIT }
+fresh-tables row = record { inbound = empty-table number_of OPEN_LIMIT; subscriptions = empty-table place_of SUBSCRIPTION_LIMIT; queue = empty-table entry_place QUEUE_LIMIT }
 
 -- a part that keeps births and tables
 record IsKeeping (f : Session → Session) : Type 0 where
@@ -204,7 +201,7 @@ changed-ordered (PutInbound birth id) r h = in_session-ordered birth (with_open 
     (record {
       birth = λ s. refl;
       tables = λ s t. record {
-        inbound = put-table number_of INBOUND_LIMIT id s.inbound t.inbound;
+        inbound = put-table number_of OPEN_LIMIT id s.inbound t.inbound;
         subscriptions = t.subscriptions;
         queue = t.queue;
       };
@@ -213,7 +210,7 @@ changed-ordered (RemoveInbound birth id) r h = in_session-ordered birth (without
     (record {
       birth = λ s. refl;
       tables = λ s t. record {
-        inbound = remove-table number_of INBOUND_LIMIT id s.inbound t.inbound;
+        inbound = remove-table number_of OPEN_LIMIT id s.inbound t.inbound;
         subscriptions = t.subscriptions;
         queue = t.queue;
       };

@@ -21,7 +21,7 @@ use Rattle.mqtt_flow.specs.declared.inflow.Published.{Published}
 use Rattle.mqtt_flow.specs.declared.inflow.Published.TheVariants.{New, Again, Over}
 use Rattle.mqtt_flow.specs.declared.inflow.Released.{Released}
 use Rattle.mqtt_flow.specs.declared.inflow.Released.TheVariants.{Known, Unknown}
-use Rattle.mqtt_flow.specs.Codes.{session_taken_over, quota_exceeded, identifier_in_use, receive_maximum_exceeded}
+use Rattle.mqtt_base.specs.Codes.{session_taken_over, quota_exceeded, identifier_in_use, receive_maximum_exceeded}
 use Rattle.mqtt_flow.specs.Inbound.{is_open, answer_to_release}
 use Rattle.mqtt_flow.specs.Outbound.{Answer, resumed_with}
 use Rattle.mqtt_flow.specs.Outbound as flow
@@ -31,7 +31,7 @@ use Rattle.mqtt_records.specs.declared.session.Session.{Session}
 use Rattle.mqtt_records.specs.declared.session.Columns.{Columns}
 use Rattle.mqtt_records.specs.declared.records.Records.{Records}
 use Rattle.mqtt_records.specs.declared.change.Change.{Change}
-use Rattle.mqtt_records.specs.declared.subscription.TheConstants.{SUBSCRIPTION_LIMIT}
+use Rattle.mqtt_base.specs.declared.limits.TheConstants.{SUBSCRIPTION_LIMIT}
 use Rattle.mqtt_records.specs.Order.{row_at}
 use Rattle.mqtt_records.specs.Session.{birth_of, entry_place}
 use Rattle.mqtt_rules.specs.Packets.{number_at, connack, disconnect, publish_of, suback, unsuback}

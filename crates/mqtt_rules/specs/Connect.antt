@@ -8,7 +8,7 @@ use Rattle.mqtt_props.specs.Laws.{has}
 use Rattle.mqtt_codec.specs.declared.connect.Connect.{Connect}
 use Rattle.mqtt_codec.specs.declared.connect.Will.{Will as WillAsked}
 use Rattle.mqtt_topic.specs.Names.{is_topic_name, is_empty}
-use Rattle.mqtt_flow.specs.Codes.{success, session_taken_over, quota_exceeded}
+use Rattle.mqtt_base.specs.Codes.{success, session_taken_over, quota_exceeded}
 use Rattle.mqtt_flow.specs.Outbound.{resumed_with}
 use Rattle.mqtt_records.specs.declared.message.Will.{Will}
 use Rattle.mqtt_records.specs.declared.session.Columns.{Columns}

@@ -16,7 +16,7 @@ use Rattle.mqtt_flow.specs.declared.inflow.Published.{Published}
 use Rattle.mqtt_flow.specs.declared.inflow.Published.TheVariants.{New, Again, Over}
 use Rattle.mqtt_flow.specs.declared.inflow.Released.{Released}
 use Rattle.mqtt_flow.specs.declared.inflow.Released.TheVariants.{Known, Unknown}
-use Rattle.mqtt_flow.specs.Codes.{success, no_matching_subscribers, identifier_in_use, identifier_not_found, receive_maximum_exceeded, quota_exceeded}
+use Rattle.mqtt_base.specs.Codes.{success, no_matching_subscribers, identifier_in_use, identifier_not_found, receive_maximum_exceeded, quota_exceeded}
 use Rattle.mqtt_flow.specs.Inbound.{answer_to, answer_to_release}
 use Rattle.mqtt_flow.specs.Outbound.{Answer, pump}
 use Rattle.mqtt_flow.specs.Outbound as rules

@@ -1,10 +1,7 @@
 -- What the laws of a step speak of: tables in order and within their limits, and runs of calls.
 use Rattle.std.specs.Prelude.{ℕ, ◌≤◌, List, [], ◌∷◌, length}
 use Rattle.std.specs.List.{AllByRecursion}
-use Rattle.mqtt_records.specs.declared.subscription.TheConstants.{SUBSCRIPTION_LIMIT}
-use Rattle.mqtt_records.specs.declared.session.TheConstants.{INBOUND_LIMIT}
-use Rattle.mqtt_records.specs.declared.queue.TheConstants.{QUEUE_LIMIT}
-use Rattle.mqtt_records.specs.declared.records.TheConstants.{SESSION_LIMIT, RETAINED_LIMIT}
+use Rattle.mqtt_base.specs.declared.limits.TheConstants.{SUBSCRIPTION_LIMIT, OPEN_LIMIT, QUEUE_LIMIT, SESSION_LIMIT, RETAINED_LIMIT}
 use Rattle.mqtt_records.specs.declared.session.Session.{Session}
 use Rattle.mqtt_records.specs.declared.records.Records.{Records}
 use Rattle.mqtt_records.specs.Order.{IsAscending}
@@ -23,7 +20,7 @@ pub record IsTable {X : Type 0} (key : X → ℕ) (limit : ℕ) (rows : List X) 
 
 -- what a session has: its open identifiers, its subscriptions by place, and its queue by place
 pub record HasTables (s : Session) : Type 0 where
-  pub inbound : IsTable number_of INBOUND_LIMIT s.inbound
+  pub inbound : IsTable number_of OPEN_LIMIT s.inbound
   pub subscriptions : IsTable place_of SUBSCRIPTION_LIMIT s.subscriptions
   pub queue : IsTable entry_place QUEUE_LIMIT s.queue
 

@@ -8,7 +8,7 @@ use Rattle.mqtt_flow.specs.declared.entry.Turn.TheVariants as turns
 use Rattle.mqtt_flow.specs.declared.entry.QueueLimits.{QueueLimits}
 use Rattle.mqtt_flow.specs.declared.entry.Way.{Way}
 use Rattle.mqtt_flow.specs.Outbound.{staying, way_made}
-use Rattle.mqtt_flow.specs.Codes.{success, identifier_not_found}
+use Rattle.mqtt_base.specs.Codes.{success, identifier_not_found}
 use Rattle.mqtt_records.specs.declared.message.MessageCopy.{MessageCopy}
 use Rattle.mqtt_records.specs.declared.queue.Entry.{Entry}
 use Rattle.mqtt_records.specs.declared.session.Session.{Session}

@@ -16,12 +16,12 @@ use Rattle.mqtt_codec.specs.Heads.{qos_number}
 use Rattle.mqtt_topic.specs.Filters.{is_filter, begins_share}
 use Rattle.mqtt_routes.specs.declared.retained.Kept.{Kept}
 use Rattle.mqtt_routes.specs.Retained.{kept_for}
-use Rattle.mqtt_flow.specs.Codes.{identifier_in_use, quota_exceeded}
+use Rattle.mqtt_base.specs.Codes.{identifier_in_use, quota_exceeded}
 use Rattle.mqtt_flow.specs.Inbound.{is_open}
 use Rattle.mqtt_records.specs.declared.message.MessageCopy.{MessageCopy}
 use Rattle.mqtt_records.specs.declared.message.Retained.{Retained}
 use Rattle.mqtt_records.specs.declared.subscription.Subscription.{Subscription}
-use Rattle.mqtt_records.specs.declared.subscription.TheConstants.{SUBSCRIPTION_LIMIT}
+use Rattle.mqtt_base.specs.declared.limits.TheConstants.{SUBSCRIPTION_LIMIT}
 use Rattle.mqtt_records.specs.declared.session.Session.{Session}
 use Rattle.mqtt_records.specs.declared.records.Records.{Records}
 use Rattle.mqtt_rules.specs.Packets.{number_at, quality, is_expired, publish_of, suback, unsuback}

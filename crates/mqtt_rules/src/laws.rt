@@ -13,7 +13,7 @@ ghost use Rattle.mqtt_rules.specs.Laws.{IsOrdered, FewOpen, QueuesWithin};
 ghost use Rattle.mqtt_rules.specs.Laws.{Event, after_events, blank};
 
 use crate::Limits;
-use mqtt_records::QUEUE_LIMIT;
+use mqtt_base::QUEUE_LIMIT;
 
 /// The rows that a step writes make of what was stored before it what is stored after it, and so do
 /// those of an opening; a deed without a row leaves what is stored alone (4.1).

@@ -1,5 +1,5 @@
 use Rattle.std.proofs.Common.{◌≡◌, ◌≤◌, drop}
-use Rattle.mqtt_flow.specs.declared.entry.TheConstants.{LAST_NUMBER}
+use Rattle.mqtt_base.specs.declared.limits.TheConstants.{LAST_NUMBER}
 use Rattle.mqtt_flow.specs.Queue.{after_all, greatest_given}
 use Rattle.mqtt_flow.proofs.outflow.Outflow.take_all.Given as goal
 
