@@ -8,14 +8,10 @@ mod fault;
 mod inflow;
 mod laws;
 mod outbound_laws;
-#[cfg(test)]
-mod outbound_tests;
 mod outflow;
 mod plan;
 mod pump;
 mod queueing;
-#[cfg(test)]
-mod tests;
 
 pub use entry::{Entry, Full, QueueLimits, QueuedCopy, Turn, Way};
 pub use fault::FlowFault;

@@ -1,7 +1,7 @@
 //! A queue of outbound copies at work: windows, resumptions, expiry, a full queue.
 
-use super::*;
-use mqtt_base::{Cause, CopyId, Ending, QUEUE_LIMIT, Qos, Reason};
+use mqtt_base::{Cause, CopyId, Ending, LAST_NUMBER, QUEUE_LIMIT, Qos, Reason};
+use mqtt_flow::{FlowFault, Full, Outflow, QueueLimits, QueuedCopy, Turn, Way};
 use std::alloc::Global;
 use std::process::Abort;
 use std::test::*;

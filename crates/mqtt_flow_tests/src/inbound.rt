@@ -1,6 +1,6 @@
 //! Handshakes as they run, and each growth refused.
 
-use super::*;
+use mqtt_flow::{FlowFault, Inflow, Published, Released};
 use std::test::*;
 
 /// The life of one identifier (4.3.3).
