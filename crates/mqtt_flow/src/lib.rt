@@ -15,7 +15,7 @@ mod queueing;
 
 pub use entry::{Entry, Full, QueueLimits, QueuedCopy, Turn, Way};
 pub use fault::FlowFault;
-pub use inflow::{Inflow, Published, Released};
+pub use inflow::{Inflow, Published, ReleaseAnswer};
 pub use laws::{inbound_once, own_identifier_alone};
 pub use outbound_laws::{outbound_once, pump_in_order};
 pub use outflow::Outflow;

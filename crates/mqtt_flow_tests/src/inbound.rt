@@ -1,6 +1,6 @@
 //! Handshakes as they run, and each growth refused.
 
-use mqtt_flow::{FlowFault, Inflow, Published, Released};
+use mqtt_flow::{FlowFault, Inflow, Published, ReleaseAnswer};
 use std::test::*;
 
 /// The life of one identifier (4.3.3).
@@ -12,9 +12,9 @@ fn a_repeat_is_not_new(rt: HostRuntime) -> Result<(), FlowFault> {
     assert!(rt; flow.is_open(7), "open until PUBREL");
     assert_eq!(rt; flow.would_publish(7), Published::Again, "after it");
     assert_eq!(rt; flow.publish(7)?, Published::Again, "its repeat");
-    assert_eq!(rt; flow.release(7), Released::Known, "the first PUBREL");
+    assert_eq!(rt; flow.release(7), ReleaseAnswer::Known, "the first PUBREL");
     assert!(rt; !flow.is_open(7), "closed by PUBREL");
-    assert_eq!(rt; flow.release(7), Released::Unknown, "its repeat");
+    assert_eq!(rt; flow.release(7), ReleaseAnswer::Unknown, "its repeat");
     assert_eq!(rt; flow.publish(7)?, Published::New, "another message");
     Ok(())
 }
@@ -32,10 +32,10 @@ fn the_twenty_first_is_over(rt: HostRuntime) -> Result<(), FlowFault> {
     for id in [1, 31, 65535] {
         assert_eq!(rt; flow.would_publish(id), Published::Over, "{id} would be");
         assert_eq!(rt; flow.publish(id)?, Published::Over, "{id} is the 21st");
-        assert_eq!(rt; flow.release(id), Released::Unknown, "{id} did not open");
+        assert_eq!(rt; flow.release(id), ReleaseAnswer::Unknown, "{id} did not open");
         assert_eq!(rt; flow.ids().len(), 20, "{id} changed nothing");
     }
-    assert_eq!(rt; flow.release(30), Released::Known, "30 is released");
+    assert_eq!(rt; flow.release(30), ReleaseAnswer::Known, "30 is released");
     assert_eq!(rt; flow.publish(1)?, Published::New, "there is room for 1");
     Ok(())
 }
