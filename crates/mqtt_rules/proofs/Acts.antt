@@ -19,10 +19,11 @@ use Rattle.mqtt_flow.specs.declared.entry.Turn.{Turn}
 use Rattle.mqtt_flow.specs.declared.entry.Turn.TheVariants as turns
 use Rattle.mqtt_flow.specs.declared.inflow.Published.{Published}
 use Rattle.mqtt_flow.specs.declared.inflow.Published.TheVariants.{New, Again, Over}
-use Rattle.mqtt_flow.specs.declared.inflow.Released.{Released}
-use Rattle.mqtt_flow.specs.declared.inflow.Released.TheVariants.{Known, Unknown}
+use Rattle.mqtt_flow.specs.declared.inflow.ReleaseAnswer.{ReleaseAnswer}
+use Rattle.mqtt_flow.specs.declared.inflow.ReleaseAnswer.TheVariants.{Known, Unknown}
 use Rattle.mqtt_base.specs.Codes.{success, identifier_in_use, identifier_not_found, quota_exceeded, receive_maximum_exceeded, session_taken_over}
-use Rattle.mqtt_flow.specs.Inbound.{answer_to, answer_to_release, is_open}
+use Rattle.mqtt_flow.specs.Identifiers.{is_among}
+use Rattle.mqtt_flow.specs.Inbound.{answer_to, answer_to_release}
 use Rattle.mqtt_flow.specs.Outbound.{Answer, way_made, due_from}
 use Rattle.mqtt_flow.specs.Outbound as rules
 use Rattle.mqtt_records.specs.declared.message.MessageCopy.{MessageCopy}
@@ -320,7 +321,7 @@ module _ (Good : Deed → Broker → Type 0) (facts : Facts Good) where
   good_on_publish birth env l s p b e = good_publish_meant (meaning p l.aliases) birth env l s p b e
 
   -- other packets
-  good_release_by : (x : Released) (l : Line) (s : Session) (id : ℕ) (b : Broker) → AreGood Good (release_by x l s id) b
+  good_release_by : (x : ReleaseAnswer) (l : Line) (s : Session) (id : ℕ) (b : Broker) → AreGood Good (release_by x l s id) b
   good_release_by Known l s id b = (facts.at_part (whose s) (Release id) b refl, (facts.send l.number (pubcomp id success) _, tt))
   good_release_by Unknown l s id b = (facts.send l.number (pubcomp id identifier_not_found) b, tt)
 
@@ -385,7 +386,7 @@ module _ (Good : Deed → Broker → Type 0) (facts : Facts Good) where
       (good_flat Good (λ d. late_sends line b.now d b) (λ d c. good_offer (line_at line b) (publish_of b.now false 0 d.copy) c) a.late _)
 
   pub good_on_subscribe : (env : Env) (line : ℕ) (s : Session) (p : Asking) → GoodAct Good (on_subscribe env line s p)
-  good_on_subscribe env line s p b = good_subscribe_by (is_open p.identifier s.inbound) env line s p b
+  good_on_subscribe env line s p b = good_subscribe_by (is_among p.identifier s.inbound) env line s p b
 
   good_unsubscribe_by : (t : Bool) (line : ℕ) (s : Session) (p : GivingUp) → GoodAct Good (unsubscribe_by t line s p)
   good_unsubscribe_by true line s p b = good_offer (line_at line b) (unsuback p.identifier (map (λ f. identifier_in_use) p.filters)) b
@@ -395,7 +396,7 @@ module _ (Good : Deed → Broker → Type 0) (facts : Facts Good) where
       (good_offer (line_at line b) (unsuback p.identifier (drop_codes s [] p.filters)) _)
 
   pub good_on_unsubscribe : (line : ℕ) (s : Session) (p : GivingUp) → GoodAct Good (on_unsubscribe line s p)
-  good_on_unsubscribe line s p b = good_unsubscribe_by (is_open p.identifier s.inbound) line s p b
+  good_on_unsubscribe line s p b = good_unsubscribe_by (is_among p.identifier s.inbound) line s p b
 
   -- tick
   abbrev pub GoodOption : Option Act → Type 0

@@ -19,10 +19,11 @@ use Rattle.mqtt_flow.specs.declared.entry.Turn.{Turn}
 use Rattle.mqtt_flow.specs.declared.entry.Turn.TheVariants as turns
 use Rattle.mqtt_flow.specs.declared.inflow.Published.{Published}
 use Rattle.mqtt_flow.specs.declared.inflow.Published.TheVariants.{New, Again, Over}
-use Rattle.mqtt_flow.specs.declared.inflow.Released.{Released}
-use Rattle.mqtt_flow.specs.declared.inflow.Released.TheVariants.{Known, Unknown}
+use Rattle.mqtt_flow.specs.declared.inflow.ReleaseAnswer.{ReleaseAnswer}
+use Rattle.mqtt_flow.specs.declared.inflow.ReleaseAnswer.TheVariants.{Known, Unknown}
 use Rattle.mqtt_base.specs.Codes.{session_taken_over, quota_exceeded, identifier_in_use, receive_maximum_exceeded}
-use Rattle.mqtt_flow.specs.Inbound.{is_open, answer_to_release}
+use Rattle.mqtt_flow.specs.Identifiers.{is_among}
+use Rattle.mqtt_flow.specs.Inbound.{answer_to_release}
 use Rattle.mqtt_flow.specs.Outbound.{Answer, resumed_with}
 use Rattle.mqtt_flow.specs.Outbound as flow
 use Rattle.mqtt_records.specs.declared.message.Will.{Will}
@@ -138,7 +139,7 @@ plain_alias true a line topic = tt
 plain_alias false None line topic = tt
 plain_alias false (Some n) line topic = (tt, tt)
 
-plain_release : (r : Released) (l : Line) (s : Session) (id : ℕ) → ArePlain (release_by r l s id)
+plain_release : (r : ReleaseAnswer) (l : Line) (s : Session) (id : ℕ) → ArePlain (release_by r l s id)
 plain_release Known l s id = (tt, (tt, tt))
 plain_release Unknown l s id = (tt, tt)
 
@@ -444,8 +445,8 @@ module _ (env : Env) (P : Records → Type 0) (k : Keeping env P) where
   keeps_next l (packets.Pubrec a) s b p = keeps_answered (flow.pubrec a.identifier a.reason.0 (queue_on l.went s)) l s b p
   keeps_next l (packets.Pubrel a) s b p = plains (on_pubrel l s a.identifier) b (plain_release (answer_to_release a.identifier s.inbound) l s a.identifier) p
   keeps_next l (packets.Pubcomp a) s b p = keeps_answered (flow.pubcomp a.identifier (queue_on l.went s)) l s b p
-  keeps_next l (packets.Subscribe x) s b p = keeps_subscribe_by (is_open x.identifier s.inbound) l.number s x b p
-  keeps_next l (packets.Unsubscribe x) s b p = keeps_unsubscribe_by (is_open x.identifier s.inbound) l.number s x b p
+  keeps_next l (packets.Subscribe x) s b p = keeps_subscribe_by (is_among x.identifier s.inbound) l.number s x b p
+  keeps_next l (packets.Unsubscribe x) s b p = keeps_unsubscribe_by (is_among x.identifier s.inbound) l.number s x b p
   keeps_next l packets.Pingreq s b p = p
   keeps_next l (packets.Disconnect n) s b p =
       let e = number_at SessionExpiryInterval n.properties in

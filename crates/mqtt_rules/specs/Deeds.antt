@@ -7,7 +7,7 @@ use Rattle.mqtt_base.specs.declared.session.Ending.{Ending}
 use Rattle.mqtt_props.specs.Properties.{Prop}
 use Rattle.mqtt_codec.specs.declared.packet.Packet.{Packet}
 use Rattle.mqtt_topic.specs.Aliases.{with_topic}
-use Rattle.mqtt_flow.specs.FreeIdentifier.{closed_in}
+use Rattle.mqtt_flow.specs.Identifiers.{ids_without}
 use Rattle.mqtt_records.specs.declared.message.MessageCopy.{MessageCopy}
 use Rattle.mqtt_records.specs.declared.message.Retained.{Retained}
 use Rattle.mqtt_records.specs.declared.message.Will.{Will}
@@ -162,7 +162,7 @@ on_line now n part (l ∷ ls) = cond (nat_eq l.number n) (line_after now part l 
 
 -- a copy that left its session's queue is sent on its line no longer
 abbrev pub without_place : ℕ → ℕ → Line → Line
-without_place birth place l = cond (is_of l.session birth) (record l { went = closed_in place l.went }) l
+without_place birth place l = cond (is_of l.session birth) (record l { went = ids_without place l.went }) l
 
 abbrev pub lines_at : ℕ → Part → List Line → List Line
 lines_at birth (Leave e ending) ls = map (without_place birth e.place) ls

@@ -2,7 +2,7 @@
 use Rattle.std.specs.Prelude.{ℕ, suc, ◌+◌, ◌^◌, min, Bool, false, List, find, map, nat_eq, bytes_eq, Option, Some, None, is_none}
 use Rattle.mqtt_flow.specs.declared.entry.Entry.{Entry as FlowEntry}
 use Rattle.mqtt_flow.specs.declared.entry.QueuedCopy.{QueuedCopy}
-use Rattle.mqtt_flow.specs.FreeIdentifier.{has}
+use Rattle.mqtt_flow.specs.Identifiers.{is_among}
 use Rattle.mqtt_base.specs.declared.session.CopyId.{CopyId}
 use Rattle.mqtt_props.specs.declared.table.PropName.TheVariants.{MessageExpiryInterval}
 use Rattle.mqtt_records.specs.declared.message.MessageCopy.{MessageCopy}
@@ -80,7 +80,7 @@ queued_copy birth copy = record {
 }
 
 abbrev pub entry_on : List ℕ → ℕ → Entry → FlowEntry
-entry_on went birth e = record { place = e.place; copy = queued_copy birth e.copy; phase = e.phase; here = has e.place went }
+entry_on went birth e = record { place = e.place; copy = queued_copy birth e.copy; phase = e.phase; here = is_among e.place went }
 
 -- the queue, with the copies whose PUBLISH went out on a line
 abbrev pub queue_on : List ℕ → Session → List FlowEntry
