@@ -1,23 +1,16 @@
-//! What no clause says: values from outside, and that calls succeed (2.1, 3.1 to 3.15, 4.13).
+//! What the tests share (2.1, 4.13).
 //!
 //! A packet, owned or lent, is let go by `drop`, whose proof each type has once. One that goes out
 //! of scope is proved to go at each way out, field by field, for each of fifteen variants: a minute
 //! for each such function.
 
-use crate::{Fault, Packet, decode, encode, lawful, look_at};
+use mqtt_codec::{Fault, Packet, decode, encode, lawful, look_at};
 use std::alloc::Global;
 use std::process::Abort;
 
-mod fields;
-mod layouts;
-mod lists;
-mod memory;
-mod rules;
-mod sweeps;
-mod vectors;
 
 /// The fault of a frame that is looked at, or `None` where it gives a packet.
-fn fault_of(frame: &[u8]) -> Option<Fault> {
+pub(crate) fn fault_of(frame: &[u8]) -> Option<Fault> {
     match look_at(frame) {
         Ok(packet) => {
             drop(packet);
@@ -28,7 +21,7 @@ fn fault_of(frame: &[u8]) -> Option<Fault> {
 }
 
 /// What a packet encodes to, or the fault of one that breaks a law.
-fn frame_of(alloc: Global, packet: Packet) -> Result<Vec<u8>, Fault> {
+pub(crate) fn frame_of(alloc: Global, packet: Packet) -> Result<Vec<u8>, Fault> {
     let frame = if lawful(&packet) {
         encode(alloc, &packet)
     } else {
@@ -39,7 +32,7 @@ fn frame_of(alloc: Global, packet: Packet) -> Result<Vec<u8>, Fault> {
 }
 
 /// What the packet of the frame encodes to, or why there is none.
-fn encoded_again(alloc: Global, frame: &[u8]) -> Result<Vec<u8>, Fault> {
+pub(crate) fn encoded_again(alloc: Global, frame: &[u8]) -> Result<Vec<u8>, Fault> {
     match decode(alloc, frame) {
         Ok(packet) => frame_of(alloc, packet),
         Err(fault) => Err(fault),
@@ -47,7 +40,7 @@ fn encoded_again(alloc: Global, frame: &[u8]) -> Result<Vec<u8>, Fault> {
 }
 
 /// The frame gives a packet that encodes so, or that fault.
-fn assert_gives(
+pub(crate) fn assert_gives(
     rt: &impl Abort,
     alloc: Global,
     text: &str,

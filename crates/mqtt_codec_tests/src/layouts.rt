@@ -1,8 +1,8 @@
 //! Flags, fields and lengths that no packet has (2.1, 3.1 to 3.15).
 
-use super::vectors::VECTORS;
-use super::{assert_gives, fault_of};
-use crate::Fault;
+use crate::vectors::VECTORS;
+use crate::common::{assert_gives, fault_of};
+use mqtt_codec::Fault;
 use std::alloc::Global;
 use std::process::Abort;
 use std::test::Fail;
@@ -104,10 +104,9 @@ fn connect_flags_that_contradict_are_malformed(rt: HostRuntime) -> Result<(), Fa
     }
     Ok(())
 }
-
-#[test]
-fn what_has_no_layout_is_malformed(rt: HostRuntime) -> Result<(), Fail> {
-    let rows: [(&str, &[u8]); 33] = [
+/// Frames of which none has a layout.
+fn frames_without_layout() -> &'static [(&'static str, &'static [u8])] {
+    &[
         ("no byte", &[]),
         ("a first byte alone", &[0xc0]),
         ("a length of five bytes", &[0xc0, 0x80, 0x80, 0x80, 0x80, 0]),
@@ -164,8 +163,12 @@ fn what_has_no_layout_is_malformed(rt: HostRuntime) -> Result<(), Fail> {
                 0x10, 0x0e, 0, 4, b'M', b'Q', b'T', b'T', 5, 2, 0, 0x3c, 0, 0, 0, 0,
             ],
         ),
-    ];
-    for (text, frame) in rows {
+    ]
+}
+
+#[test]
+fn what_has_no_layout_is_malformed(rt: HostRuntime) -> Result<(), Fail> {
+    for &(text, frame) in frames_without_layout() {
         assert_gives(&rt, rt.alloc(), text, frame, Err(Fault::Malformed));
     }
     Ok(())

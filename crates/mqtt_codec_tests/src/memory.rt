@@ -1,8 +1,8 @@
 //! Want of memory, to be run with each allocation failing in turn.
 
-use super::vectors::VECTORS;
-use super::{encoded_again, fault_of};
-use crate::Fault;
+use crate::vectors::VECTORS;
+use crate::common::{encoded_again, fault_of};
+use mqtt_codec::Fault;
 use std::alloc::Global;
 use std::process::Abort;
 

@@ -1,7 +1,7 @@
 //! What each packet tells of its fields (3.1 to 3.15).
 
-use super::vectors::VECTORS;
-use crate::{
+use crate::vectors::VECTORS;
+use mqtt_codec::{
     ConnackRef, ConnectRef, Delivery, Fault, NoticeRef, Packet, PacketRef, PublishRef, SubackRef,
     SubscribeRef, UnsubscribeRef, WillRef, look_at, options_read,
 };
@@ -204,10 +204,9 @@ fn both_told(alloc: Global, frame: &[u8]) -> Option<((Kind, usize), (Kind, usize
     drop(packet);
     Some((looked_at, owned_told(owned.ok()?)))
 }
-
-#[test]
-fn each_packet_tells_its_kind_and_its_properties(rt: HostRuntime) {
-    let rows: [(&[u8], Kind, usize); 16] = [
+/// Frames with the kind of their packet, and how many properties it has.
+fn kinds() -> &'static [(&'static [u8], Kind, usize)] {
+    &[
         (
             // The property of the Will isn't one of the packet.
             &[
@@ -232,8 +231,12 @@ fn each_packet_tells_its_kind_and_its_properties(rt: HostRuntime) {
         (VECTORS[7], Kind::Disconnect, 0),
         (&[0xe0, 7, 4, 5, 0x11, 0, 0, 0, 0x0a], Kind::Disconnect, 1),
         (&[0xf0, 6, 0x18, 4, 0x15, 0, 1, 0x61], Kind::Auth, 1),
-    ];
-    for (frame, kind, count) in rows {
+    ]
+}
+
+#[test]
+fn each_packet_tells_its_kind_and_its_properties(rt: HostRuntime) {
+    for &(frame, kind, count) in kinds() {
         let want = (kind, count);
         assert_eq!(rt;
             both_told(rt.alloc(), frame),

@@ -1,13 +1,12 @@
 //! Each law of packets broken once, and kept once beside it (3.1 to 3.15, 4.13.1).
 
-use super::assert_gives;
-use crate::Fault;
+use crate::common::assert_gives;
+use mqtt_codec::Fault;
 use std::test::Fail;
-
 // The laws of blocks are tests of mqtt_props: one row here shows that each packet asks for them.
-#[test]
-fn a_broken_law_is_a_protocol_error(rt: HostRuntime) -> Result<(), Fail> {
-    let rows: [(&str, &[u8]); 26] = [
+/// Frames that break a law.
+fn broken_laws() -> &'static [(&'static str, &'static [u8])] {
+    &[
         (
             "PUBLISH at QoS 1 with identifier 0",
             &[0x32, 6, 0, 1, b'a', 0, 0, 0],
@@ -78,16 +77,19 @@ fn a_broken_law_is_a_protocol_error(rt: HostRuntime) -> Result<(), Fail> {
             "UNSUBACK with a Reason String twice",
             &[0xb0, 12, 0, 1, 8, 0x1f, 0, 1, b'w', 0x1f, 0, 1, b'w', 0],
         ),
-    ];
-    for (text, frame) in rows {
+    ]
+}
+
+#[test]
+fn a_broken_law_is_a_protocol_error(rt: HostRuntime) -> Result<(), Fail> {
+    for &(text, frame) in broken_laws() {
         assert_gives(&rt, rt.alloc(), text, frame, Err(Fault::Protocol));
     }
     Ok(())
 }
-
-#[test]
-fn a_law_that_is_kept_at_its_edge_gives_the_packet(rt: HostRuntime) -> Result<(), Fail> {
-    let rows: [(&str, &[u8]); 11] = [
+/// Frames that keep a law at its edge.
+fn laws_at_their_edge() -> &'static [(&'static str, &'static [u8])] {
+    &[
         ("identifier 1", &[0x32, 6, 0, 1, b'a', 0, 1, 0]),
         ("identifier 65,535", &[0x62, 2, 0xff, 0xff]),
         (
@@ -122,8 +124,12 @@ fn a_law_that_is_kept_at_its_edge_gives_the_packet(rt: HostRuntime) -> Result<()
             "a User Property twice",
             &[0xe0, 12, 0, 10, 0x26, 0, 0, 0, 0, 0x26, 0, 0, 0, 0],
         ),
-    ];
-    for (text, frame) in rows {
+    ]
+}
+
+#[test]
+fn a_law_that_is_kept_at_its_edge_gives_the_packet(rt: HostRuntime) -> Result<(), Fail> {
+    for &(text, frame) in laws_at_their_edge() {
         assert_gives(&rt, rt.alloc(), text, frame, Ok(frame));
     }
     Ok(())

@@ -1,11 +1,11 @@
 //! Frames with what they give, worked by hand from the standard (3.1 to 3.15).
 
-use super::assert_gives;
-use crate::Fault;
+use crate::common::assert_gives;
+use mqtt_codec::Fault;
 use std::test::Fail;
 
 /// Ten packets, and twelve frames that are none.
-pub(super) const VECTORS: [&[u8]; 22] = [
+pub(crate) const VECTORS: [&[u8]; 22] = [
     &[0xc0, 0x00],
     &[0x30, 0x07, 0x00, 0x03, 0x61, 0x2f, 0x62, 0x00, 0x21],
     &[0x40, 0x03, 0x00, 0x0a, 0x00],
@@ -47,10 +47,9 @@ pub(super) const VECTORS: [&[u8]; 22] = [
     &[0x40, 0x03, 0x00, 0x0a, 0x01],
     &[0x30, 0xfd, 0xff, 0x03],
 ];
-
-#[test]
-fn a_packet_is_read_and_written_again(rt: HostRuntime) -> Result<(), Fail> {
-    let rows: [(&str, &[u8]); 9] = [
+/// Vectors that are packets.
+fn packets() -> &'static [(&'static str, &'static [u8])] {
+    &[
         ("PINGREQ", VECTORS[0]),
         ("PUBLISH at QoS 0", VECTORS[1]),
         ("CONNECT", VECTORS[3]),
@@ -60,16 +59,19 @@ fn a_packet_is_read_and_written_again(rt: HostRuntime) -> Result<(), Fail> {
         ("DISCONNECT with 93", VECTORS[7]),
         ("PUBREC with 10", VECTORS[8]),
         ("PUBLISH at QoS 2 with two properties", VECTORS[9]),
-    ];
-    for (text, frame) in rows {
+    ]
+}
+
+#[test]
+fn a_packet_is_read_and_written_again(rt: HostRuntime) -> Result<(), Fail> {
+    for &(text, frame) in packets() {
         assert_gives(&rt, rt.alloc(), text, frame, Ok(frame));
     }
     Ok(())
 }
-
-#[test]
-fn a_frame_that_is_no_packet_has_its_fault(rt: HostRuntime) -> Result<(), Fail> {
-    let rows: [(&str, &[u8], Fault); 12] = [
+/// Vectors that are none, with their faults.
+fn faults() -> &'static [(&'static str, &'static [u8], Fault)] {
+    &[
         ("AUTH 18 without a method", VECTORS[10], Fault::Protocol),
         ("PUBREL with the flags 0000", VECTORS[11], Fault::Malformed),
         ("PUBLISH at QoS 3", VECTORS[12], Fault::Malformed),
@@ -86,16 +88,19 @@ fn a_frame_that_is_no_packet_has_its_fault(rt: HostRuntime) -> Result<(), Fail> 
         ("a length of two bytes for 0", VECTORS[19], Fault::Malformed),
         ("PUBACK with a foreign code", VECTORS[20], Fault::Malformed),
         ("a length without its body", VECTORS[21], Fault::Malformed),
-    ];
-    for (text, frame, fault) in rows {
+    ]
+}
+
+#[test]
+fn a_frame_that_is_no_packet_has_its_fault(rt: HostRuntime) -> Result<(), Fail> {
+    for &(text, frame, fault) in faults() {
         assert_gives(&rt, rt.alloc(), text, frame, Err(fault));
     }
     Ok(())
 }
-
-#[test]
-fn each_spelling_is_written_as_the_shortest(rt: HostRuntime) -> Result<(), Fail> {
-    let rows: [(&str, &[u8], &[u8]); 15] = [
+/// Spellings, with the shortest of each.
+fn spellings() -> &'static [(&'static str, &'static [u8], &'static [u8])] {
+    &[
         (
             "PUBACK of two bytes",
             &[0x40, 2, 0, 0x0a],
@@ -165,8 +170,12 @@ fn each_spelling_is_written_as_the_shortest(rt: HostRuntime) -> Result<(), Fail>
         ),
         ("AUTH 00 with an empty block", &[0xf0, 2, 0, 0], &[0xf0, 0]),
         ("AUTH of no byte", &[0xf0, 0], &[0xf0, 0]),
-    ];
-    for (text, frame, want) in rows {
+    ]
+}
+
+#[test]
+fn each_spelling_is_written_as_the_shortest(rt: HostRuntime) -> Result<(), Fail> {
+    for &(text, frame, want) in spellings() {
         assert_gives(&rt, rt.alloc(), text, frame, Ok(want));
     }
     Ok(())
