@@ -26,12 +26,12 @@ use Rattle.mqtt_flow.specs.Identifiers.{is_among}
 use Rattle.mqtt_flow.specs.Inbound.{answer_to, answer_to_release}
 use Rattle.mqtt_flow.specs.Outbound.{Answer, way_made, due_from}
 use Rattle.mqtt_flow.specs.Outbound as rules
-use Rattle.mqtt_records.specs.declared.message.MessageCopy.{MessageCopy}
-use Rattle.mqtt_records.specs.declared.message.Retained.{Retained}
-use Rattle.mqtt_records.specs.declared.message.Will.{Will}
+use Rattle.mqtt_message.specs.declared.message.MessageCopy.{MessageCopy}
+use Rattle.mqtt_message.specs.declared.message.RetainedMessage.{RetainedMessage}
+use Rattle.mqtt_message.specs.declared.message.Will.{Will}
 use Rattle.mqtt_records.specs.declared.session.Session.{Session}
-use Rattle.mqtt_records.specs.Order.{row_at}
-use Rattle.mqtt_records.specs.Session.{entry_place}
+use Rattle.mqtt_rows.specs.Order.{row_at}
+use Rattle.mqtt_records.specs.Session.{copy_place}
 use Rattle.mqtt_rules.specs.Packets.{puback, pubrec, pubcomp, pubrel, suback, unsuback, connack, disconnect, publish_of, number_at}
 use Rattle.mqtt_rules.specs.State.{Line, Broker, Env, session_at, session_named, line_at, line_of, is_connected, queue_on}
 use Rattle.mqtt_rules.specs.Deeds.{Whose, whose, Message, Origin, FromClient, FromWill, Part, Resume, Close, SetExpiry, DropWill, Open, Release, Enter, Mark, Leave, LinePart, Hear, SetAlias, Went, Deed, Accept, Begin, Name, Count, At, Finish, Keep, Forget, RefuseWill, Link, On, Send, Gone, after, after_all, Act, then, series, always, only_if, with_session, of_session, with_line, offer}
@@ -69,7 +69,7 @@ pub record Facts (Good : Deed → Broker → Type 0) : Type 0 where
   pub enter : (who : Whose) (copy : MessageCopy) (b : Broker) → IsMade copy b.records → Good (At who (Enter copy)) b
   pub finish : (who : Whose) (b : Broker) → Good (Finish who) b
   -- a message is retained of the publication that was just accepted
-  pub keep : (kept : Retained) (b : Broker) → kept.publication ≡ b.records.publications → Good (Keep kept) b
+  pub keep : (kept : RetainedMessage) (b : Broker) → kept.publication ≡ b.records.publications → Good (Keep kept) b
   pub forget : (place : ℕ) (b : Broker) → Good (Forget place) b
   pub refuse_will : (who : Whose) (b : Broker) → Good (RefuseWill who) b
   pub link : (b : Broker) → Good (Link (suc b.given)) b
@@ -77,7 +77,7 @@ pub record Facts (Good : Deed → Broker → Type 0) : Type 0 where
   pub send : (line : ℕ) (packet : Packet) (b : Broker) → Good (Send line packet) b
   pub gone : (line : ℕ) (b : Broker) → Good (Gone line) b
 
-forget_numbers : (k : Option Retained) (b : Broker) → (after_all (forgets k) b).records.publications ≡ b.records.publications
+forget_numbers : (k : Option RetainedMessage) (b : Broker) → (after_all (forgets k) b).records.publications ≡ b.records.publications
 forget_numbers None b = refl
 forget_numbers (Some k) b = refl
 
@@ -100,7 +100,7 @@ module _ (Good : Deed → Broker → Type 0) (facts : Facts Good) where
   -- a session's queue
   pub good_leave : (s : Session) (t : Turn) (b : Broker) → AreGood Good (leave_deeds s t) b
   good_leave s (turns.Leave place ending) b =
-      good_of_entry Good (row_at entry_place place s.queue) (λ e. At (whose s) (Leave e ending) ∷ []) b (λ e. (facts.at_part (whose s) (Leave e ending) b refl, tt))
+      good_of_entry Good (row_at copy_place place s.queue) (λ e. At (whose s) (Leave e ending) ∷ []) b (λ e. (facts.at_part (whose s) (Leave e ending) b refl, tt))
   good_leave s t b = tt
 
   pub good_enter : (env : Env) (copy : MessageCopy) (s : Session) (b : Broker) → IsMade copy b.records → AreGood Good (enter_deeds env copy s) b
@@ -128,7 +128,7 @@ module _ (Good : Deed → Broker → Type 0) (facts : Facts Good) where
       good_append Good first (series (map (deliver env) ds) c) b (good_deliver env d b made.0)
       (good_deliveries env ds c (are_made_stay ds first b (beside_deliver env d b) made.1))
 
-  good_forgets : (k : Option Retained) (b : Broker) → AreGood Good (forgets k) b
+  good_forgets : (k : Option RetainedMessage) (b : Broker) → AreGood Good (forgets k) b
   good_forgets None b = tt
   good_forgets (Some k) b = (facts.forget k.place b, tt)
 
@@ -481,10 +481,10 @@ MarkFact Good = (who : Whose) (place : ℕ) (phase : Phase) (b : Broker) → Goo
 module _ (Good : Deed → Broker → Type 0) (facts : Facts Good) (mark : MarkFact Good) where
   pub good_turn : (now line : ℕ) (s : Session) (t : Turn) (b : Broker) → AreGood Good (turn_deeds now line s t) b
   good_turn now line s (turns.Send place id) b =
-      good_of_entry Good (row_at entry_place place s.queue) (λ e. At (whose s) (Mark place (Sent id)) ∷ On line (Went place) ∷ Send line (publish_of now false id e.copy) ∷ []) b
+      good_of_entry Good (row_at copy_place place s.queue) (λ e. At (whose s) (Mark place (Sent id)) ∷ On line (Went place) ∷ Send line (publish_of now false id e.copy) ∷ []) b
       (λ e. (mark (whose s) place (Sent id) b, (facts.on_line line (Went place) _, (facts.send line (publish_of now false id e.copy) _, tt))))
   good_turn now line s (turns.Resend place id) b =
-      good_of_entry Good (row_at entry_place place s.queue) (λ e. On line (Went place) ∷ Send line (publish_of now true id e.copy) ∷ []) b
+      good_of_entry Good (row_at copy_place place s.queue) (λ e. On line (Went place) ∷ Send line (publish_of now true id e.copy) ∷ []) b
       (λ e. (facts.on_line line (Went place) b, (facts.send line (publish_of now true id e.copy) _, tt)))
   good_turn now line s (turns.Release place id order) b = (mark (whose s) place (ReleasedPhase id order) b, (facts.send line (pubrel id success) _, tt))
   good_turn now line s (turns.Outgrow place id order) b = (mark (whose s) place (Oversize id order) b, (facts.send line (pubrel id success) _, tt))
