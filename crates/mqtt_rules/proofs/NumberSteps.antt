@@ -8,7 +8,7 @@ use Rattle.mqtt_records.specs.Order.{IsAbove, IsAscending}
 use Rattle.mqtt_records.specs.Session.{number_of}
 use Rattle.mqtt_records.proofs.OrderLemmas.{above_less}
 use Rattle.mqtt_rules.specs.declared.Limits.{Limits}
-use Rattle.mqtt_rules.specs.State.{Broker, top}
+use Rattle.mqtt_rules.specs.State.{Broker, top, MemberChoice}
 use Rattle.mqtt_rules.specs.Deeds.{Deed, after_all, rows_of_all}
 use Rattle.mqtt_rules.specs.Step.{Call, deeds, at_moment, env_of, with_moment, done, stepped, opening, unopened, opened}
 use Rattle.mqtt_rules.specs.Numbers.{CountsOn, CountOn, NoneFell, IsTimed, HasGivenBirths}
@@ -70,41 +70,41 @@ timed_done ds b h =
 
 -- ---- steps
 
-step_next : (limits : Limits) (choice : ℕ → List ℕ) (now : ℕ) (call : Call) (b : Broker) → AreGood GivesNext (deeds limits choice now call b) (at_moment now b)
+step_next : (limits : Limits) (choice : MemberChoice) (now : ℕ) (call : Call) (b : Broker) → AreGood GivesNext (deeds limits choice now call b) (at_moment now b)
 step_next limits choice now call b = good_deeds GivesNext next_facts next_mark (env_of limits choice b) call (at_moment now b)
 
-pub step_counts : (limits : Limits) (choice : ℕ → List ℕ) (now : ℕ) (call : Call) (b : Broker) → CountOn (deeds limits choice now call b) b.records (stepped limits choice now call b).records
+pub step_counts : (limits : Limits) (choice : MemberChoice) (now : ℕ) (call : Call) (b : Broker) → CountOn (deeds limits choice now call b) b.records (stepped limits choice now call b).records
 step_counts limits choice now call b = count_done (deeds limits choice now call b) (at_moment now b) (step_next limits choice now call b)
 
-pub step_fell : (limits : Limits) (choice : ℕ → List ℕ) (now : ℕ) (call : Call) (b : Broker) → NoneFell b.records (stepped limits choice now call b).records
+pub step_fell : (limits : Limits) (choice : MemberChoice) (now : ℕ) (call : Call) (b : Broker) → NoneFell b.records (stepped limits choice now call b).records
 step_fell limits choice now call b = none_fell (deeds limits choice now call b) b.records (stepped limits choice now call b).records (step_counts limits choice now call b)
 
-pub step_timed : (limits : Limits) (choice : ℕ → List ℕ) (now : ℕ) (call : Call) (b : Broker) → IsTimed b
+pub step_timed : (limits : Limits) (choice : MemberChoice) (now : ℕ) (call : Call) (b : Broker) → IsTimed b
     → (b.records.moment ≤ (stepped limits choice now call b).records.moment) × IsTimed (stepped limits choice now call b)
 step_timed limits choice now call b h =
     let more = le-max_left b.now (min now top) in
     timed_done (deeds limits choice now call b) (at_moment now b) (omega (arith, h, more))
 
-pub step_given : (limits : Limits) (choice : ℕ → List ℕ) (now : ℕ) (call : Call) (b : Broker) → HasGivenBirths b.records → HasGivenBirths (stepped limits choice now call b).records
+pub step_given : (limits : Limits) (choice : MemberChoice) (now : ℕ) (call : Call) (b : Broker) → HasGivenBirths b.records → HasGivenBirths (stepped limits choice now call b).records
 step_given limits choice now call b h = given_done (deeds limits choice now call b) (at_moment now b) (step_next limits choice now call b) h
 
 -- ---- opening
 
-opening_next : (limits : Limits) (choice : ℕ → List ℕ) (now : ℕ) (r : Records) → AreGood GivesNext (opening (env_of limits choice (unopened now r)) (unopened now r)) (unopened now r)
+opening_next : (limits : Limits) (choice : MemberChoice) (now : ℕ) (r : Records) → AreGood GivesNext (opening (env_of limits choice (unopened now r)) (unopened now r)) (unopened now r)
 opening_next limits choice now r = good_opening GivesNext next_facts (env_of limits choice (unopened now r)) (unopened now r)
 
-pub opening_counts : (limits : Limits) (choice : ℕ → List ℕ) (now : ℕ) (r : Records)
+pub opening_counts : (limits : Limits) (choice : MemberChoice) (now : ℕ) (r : Records)
     → CountOn (opening (env_of limits choice (unopened now r)) (unopened now r)) r (opened limits choice now r).records
 opening_counts limits choice now r =
     count_done (opening (env_of limits choice (unopened now r)) (unopened now r)) (unopened now r) (opening_next limits choice now r)
 
-pub opening_fell : (limits : Limits) (choice : ℕ → List ℕ) (now : ℕ) (r : Records) → NoneFell r (opened limits choice now r).records
+pub opening_fell : (limits : Limits) (choice : MemberChoice) (now : ℕ) (r : Records) → NoneFell r (opened limits choice now r).records
 opening_fell limits choice now r = none_fell (opening (env_of limits choice (unopened now r)) (unopened now r)) r (opened limits choice now r).records (opening_counts limits choice now r)
 
-pub opening_timed : (limits : Limits) (choice : ℕ → List ℕ) (now : ℕ) (r : Records) → (r.moment ≤ (opened limits choice now r).records.moment) × IsTimed (opened limits choice now r)
+pub opening_timed : (limits : Limits) (choice : MemberChoice) (now : ℕ) (r : Records) → (r.moment ≤ (opened limits choice now r).records.moment) × IsTimed (opened limits choice now r)
 opening_timed limits choice now r =
     timed_done (opening (env_of limits choice (unopened now r)) (unopened now r)) (unopened now r) (le-max_left r.moment (min now top))
 
-pub opening_given : (limits : Limits) (choice : ℕ → List ℕ) (now : ℕ) (r : Records) → HasGivenBirths r → HasGivenBirths (opened limits choice now r).records
+pub opening_given : (limits : Limits) (choice : MemberChoice) (now : ℕ) (r : Records) → HasGivenBirths r → HasGivenBirths (opened limits choice now r).records
 opening_given limits choice now r h =
     given_done (opening (env_of limits choice (unopened now r)) (unopened now r)) (unopened now r) (opening_next limits choice now r) h

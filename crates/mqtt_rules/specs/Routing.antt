@@ -98,7 +98,7 @@ abbrev pub next_publication : Records → ℕ
 next_publication r = suc r.publications
 
 abbrev pub routed_to : Env → Message → Records → Option Routed
-routed_to env m r = acceptance.routed (answers env r) (publication_of m) (env.choice (next_publication r)) (subscribers r)
+routed_to env m r = acceptance.routed (answers env r) (publication_of m) (env.choice (next_publication r) m.sender) (subscribers r)
 
 abbrev pub accepted_if : Bool → Option (List Delivery) → Option (List Delivery)
 accepted_if true ds = ds

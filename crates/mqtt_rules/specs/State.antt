@@ -36,11 +36,15 @@ pub record Broker : Type 0 where
 abbrev pub stored : Broker → Records
 stored b = b.records
 
--- what surrounds a step: the limits; the free choice, for the publication of each number, of a member for each group in
--- order; and what was stored before the step
+-- the free choice, for the publication of a number by a sender, of a member for each group in order; a Will that is refused
+-- takes no number, so when several sessions close in one step the number alone doesn't tell their publications apart (ours)
+abbrev pub MemberChoice : Type 0
+MemberChoice = ℕ → List ℕ → List ℕ
+
+-- what surrounds a step: the limits, the free choice, and what was stored before the step
 pub record Env : Type 0 where
   pub limits : Limits
-  pub choice : ℕ → List ℕ
+  pub choice : MemberChoice
   pub start : Records
 
 -- ---- who is there

@@ -16,7 +16,7 @@ use Rattle.mqtt_records.specs.Records.{changed_all}
 use Rattle.mqtt_rules.specs.declared.Limits.{Limits}
 use Rattle.mqtt_rules.specs.declared.Report.{Report}
 use Rattle.mqtt_rules.specs.Packets.{connack, number_at}
-use Rattle.mqtt_rules.specs.State.{Line, Broker, Env, session_at, line_at, is_connected, queue_on, top}
+use Rattle.mqtt_rules.specs.State.{Line, Broker, Env, session_at, line_at, is_connected, queue_on, top, MemberChoice}
 use Rattle.mqtt_rules.specs.Deeds.{whose, Close, Hear, Deed, Link, On, Send, At, Act, after_all, rows_of_all, always, series, of_session, with_line, output, closing, report}
 use Rattle.mqtt_rules.specs.Closing.{close, drop_line, settle}
 use Rattle.mqtt_rules.specs.Connect.{on_connect}
@@ -94,10 +94,10 @@ deeds_of env Tick b = on_tick (due env b) b
 abbrev pub at_moment : ℕ → Broker → Broker
 at_moment now b = record b { now = max b.now (min now top) }
 
-abbrev pub env_of : Limits → (ℕ → List ℕ) → Broker → Env
+abbrev pub env_of : Limits → MemberChoice → Broker → Env
 env_of limits choice b = record { limits = limits; choice = choice; start = b.records }
 
-abbrev pub deeds : Limits → (ℕ → List ℕ) → ℕ → Call → Broker → List Deed
+abbrev pub deeds : Limits → MemberChoice → ℕ → Call → Broker → List Deed
 deeds limits choice now call b = deeds_of (env_of limits choice b) call (at_moment now b)
 
 -- ---- the state after a step
@@ -117,7 +117,7 @@ with_moment (row ∷ rows) b = record b { records = record b.records { moment = 
 abbrev pub done : List Deed → Broker → Broker
 done ds b = with_moment (rows_of_all ds b.records) (after_all ds b)
 
-abbrev pub stepped : Limits → (ℕ → List ℕ) → ℕ → Call → Broker → Broker
+abbrev pub stepped : Limits → MemberChoice → ℕ → Call → Broker → Broker
 stepped limits choice now call b = done (deeds limits choice now call b) (at_moment now b)
 
 -- ---- what a step answers
@@ -150,12 +150,12 @@ outcome call ds = record {
   again = is_again call ds;
 }
 
-abbrev pub told : Limits → (ℕ → List ℕ) → ℕ → Call → Broker → Outcome
+abbrev pub told : Limits → MemberChoice → ℕ → Call → Broker → Outcome
 told limits choice now call b = outcome call (deeds limits choice now call b)
 
 -- Broker step: some choice of the members leads from one state to the other, with this outcome
 pub record BrokerStep (limits : Limits) (old : Broker) (now : ℕ) (call : Call) (out : Outcome) (new : Broker) : Type 0 where
-  pub choice : ℕ → List ℕ
+  pub choice : MemberChoice
   pub new_is : new ≡ stepped limits choice now call old
   pub out_is : out ≡ told limits choice now call old
 
@@ -192,7 +192,7 @@ opening env b = series (map (λ s. close_if (is_connected s) env s) b.records.se
 abbrev pub unopened : ℕ → Records → Broker
 unopened now r = record { records = r; lines = []; given = 0; now = max r.moment (min now top) }
 
-abbrev pub opened : Limits → (ℕ → List ℕ) → ℕ → Records → Broker
+abbrev pub opened : Limits → MemberChoice → ℕ → Records → Broker
 opened limits choice now r = let b = unopened now r in done (opening (env_of limits choice b) b) b
 
 -- ---- the copy that has an identifier in the queue of a line's session
