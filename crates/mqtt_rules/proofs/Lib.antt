@@ -1,5 +1,6 @@
 pub mod Play
 pub mod Examples
+pub mod ExamplesSpent
 pub mod Goods
 pub mod Copies
 pub mod StoredLaw

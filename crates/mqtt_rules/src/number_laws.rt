@@ -16,6 +16,8 @@ ghost use Rattle.mqtt_rules.specs.Subscribe.{Wish, has_filter, subscription};
 ghost use Rattle.mqtt_rules.specs.Step.{Call, deeds, stepped, opening, opened, unopened, env_of};
 ghost use Rattle.mqtt_rules.specs.Numbers.{CountsOn, CountOn, NoneFell, IsTimed, HasGivenBirths, HasAcceptedNumbers, AreInOrder};
 
+use mqtt_base::LAST_NUMBER;
+
 /// Each birth, each publication's number, each granted filter's number and each number of an assigned
 /// client identifier that a step gives is the next one, one above the last that was ever given, and the
 /// counter after the step is the last given; likewise when a broker opens.
@@ -39,7 +41,8 @@ pub fn counted_numbers_are_apart()
 {}
 
 /// No counter falls, whatever is asked of the broker, nor when it opens. The stored moment doesn't fall
-/// where it isn't above the greatest moment handed in, as it never is once the broker is open.
+/// where it isn't above the greatest moment handed in, as it never is once the broker is open on what a
+/// store has, whose moment is at most the last one.
 pub fn counters_never_fall()
     ensures step { (limits : TheLimits) (choice : MemberChoice) (now : ℕ) (call : Call) (b : Broker)
         → NoneFell b.records (stepped limits choice now call b).records }
@@ -50,6 +53,7 @@ pub fn counters_never_fall()
         → (b.records.moment ≤ (stepped limits choice now call b).records.moment)
         × IsTimed (stepped limits choice now call b) }
     ensures opening_moment { (limits : TheLimits) (choice : MemberChoice) (now : ℕ) (r : Records)
+        → r.moment ≤ LAST_NUMBER
         → (r.moment ≤ (opened limits choice now r).records.moment)
         × IsTimed (opened limits choice now r) }
 {}
