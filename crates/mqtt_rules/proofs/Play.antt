@@ -77,7 +77,7 @@ abbrev pub reopened : ℕ → Broker → Broker
 reopened now b = opened usual first now b.records
 
 abbrev pub out : List (ℕ × Packet) → List ℕ → List Report → Bool → Outcome
-out outputs closed reports again = record { outputs = outputs; closed = closed; reports = reports; again = again }
+out outputs closed reports again = record { outputs = outputs; closed = closed; reports = reports; taken = 0; again = again }
 
 -- ---- packets
 

@@ -6,6 +6,7 @@ use Rattle.mqtt_base.specs.declared.session.CopyId.{CopyId}
 use Rattle.mqtt_props.specs.declared.table.PropName.TheVariants.{SessionExpiryInterval}
 use Rattle.mqtt_codec.specs.declared.packet.Packet.{Packet}
 use Rattle.mqtt_codec.specs.declared.packet.Packet.TheVariants.{Connect, Publish, Puback, Pubrec, Pubrel, Pubcomp, Subscribe, Unsubscribe, Pingreq, Pingresp, Disconnect}
+use Rattle.mqtt_codec.specs.Packets.{shortest_of}
 use Rattle.mqtt_flow.specs.Queue.{holder, order_of}
 use Rattle.mqtt_records.specs.declared.change.Counter.{Counter}
 use Rattle.mqtt_records.specs.declared.change.Counter.TheVariants.{Births, Publications, Subscribes, Autos, Moment}
@@ -134,16 +135,25 @@ is_again Tick ds = cond (is_none_done ds) false true
 is_again call ds = false
 
 pub record Outcome : Type 0 where
-  pub outputs : List (ℕ × Packet)
+  pub outputs : List (ℕ × Packet)  -- in order, each with its line
   pub closed : List ℕ
   pub reports : List Report
+  pub taken : ℕ  -- bytes of a piece
   pub again : Bool
+
+abbrev pub nothing_told : Outcome
+nothing_told = record { outputs = []; closed = []; reports = []; taken = 0; again = false }
+
+-- its packets as they go out, each in its shortest spelling (2.1.4)
+abbrev pub bytes_out : Outcome → List (ℕ × List ℕ)
+bytes_out out = map (λ x. (x.0, shortest_of x.1)) out.outputs
 
 abbrev pub outcome : Call → List Deed → Outcome
 outcome call ds = record {
   outputs = filter_map output ds;
   closed = filter_map closing ds;
   reports = filter_map report ds;
+  taken = 0;
   again = is_again call ds;
 }
 
