@@ -20,7 +20,7 @@ use Rattle.mqtt_records.specs.Order.{IsAscending, row_at}
 use Rattle.mqtt_records.specs.Session.{entry_place}
 use Rattle.mqtt_records.proofs.LookUps.{row_at-here}
 use Rattle.mqtt_rules.specs.declared.Limits.{Limits}
-use Rattle.mqtt_rules.specs.State.{Line, Broker, Env, session_at, entry_on, queue_on}
+use Rattle.mqtt_rules.specs.State.{Line, Broker, Env, session_at, entry_on, queue_on, MemberChoice}
 use Rattle.mqtt_rules.specs.Routing.{publish}
 use Rattle.mqtt_rules.specs.Deeds.{Whose, whose, FromClient, Part, Resume, Close, SetExpiry, DropWill, Open, Release, Enter, Mark, Leave, Hear, Deed, Link, Send, At, On, after, after_all, rows_of_all, series, always, with_session, with_line}
 use Rattle.mqtt_rules.specs.Deeds as deeds
@@ -218,13 +218,13 @@ moment_keeps : (rows : List Change) (b : Broker) → HasDistinctIdentifiers b.re
 moment_keeps [] b h = h
 moment_keeps (row ∷ rows) b h = h
 
-pub step_keeps : (limits : Limits) (choice : ℕ → List ℕ) (now : ℕ) (call : Call) (b : Broker) → HasDistinctIdentifiers b.records → HasDistinctIdentifiers (stepped limits choice now call b).records
+pub step_keeps : (limits : Limits) (choice : MemberChoice) (now : ℕ) (call : Call) (b : Broker) → HasDistinctIdentifiers b.records → HasDistinctIdentifiers (stepped limits choice now call b).records
 step_keeps limits choice now call b h =
     let c = at_moment now b in
     let ds = step_deeds limits choice now call b in
     moment_keeps (rows_of_all ds c.records) (after_all ds c) (leads_call (env_of limits choice b) anyone Distinct (λ d x. ⊤) (flight_law (env_of limits choice b)) call c h (call_of_anyone call c)).1
 
-pub opening_keeps : (limits : Limits) (choice : ℕ → List ℕ) (now : ℕ) (r : Records) → HasDistinctIdentifiers r → HasDistinctIdentifiers (opened limits choice now r).records
+pub opening_keeps : (limits : Limits) (choice : MemberChoice) (now : ℕ) (r : Records) → HasDistinctIdentifiers r → HasDistinctIdentifiers (opened limits choice now r).records
 opening_keeps limits choice now r h =
     let b = unopened now r in
     let env = env_of limits choice b in

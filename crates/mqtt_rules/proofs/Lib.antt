@@ -1,5 +1,7 @@
 pub mod Play
 pub mod Examples
+pub mod ExamplesSpent
+pub mod ExamplesPiece
 pub mod Goods
 pub mod Copies
 pub mod StoredLaw

@@ -18,7 +18,7 @@ use Rattle.mqtt_records.specs.Order.{has_row, insert_row, put_row, change_row}
 use Rattle.mqtt_records.specs.Session.{birth_of, entry_place, fresh, with_columns, with_will, with_subscription, without_subscription, with_open, without_open, with_copy, with_phase, without_copy, in_phase}
 use Rattle.mqtt_records.specs.Records.{changed, changed_all, put_session, with_counter, kept_place}
 use Rattle.mqtt_rules.specs.declared.Limits.{Limits}
-use Rattle.mqtt_rules.specs.State.{Broker, Env, session_at}
+use Rattle.mqtt_rules.specs.State.{Broker, Env, session_at, MemberChoice}
 use Rattle.mqtt_rules.specs.Deeds.{Whose, Part, Resume, Enter, Deed, Accept, Begin, At, Finish, Keep, Forget, part_rows, part_rows_of, rows_of_all, after, after_all}
 use Rattle.mqtt_rules.specs.Step.{Call, deeds, at_moment, env_of, with_moment, done, stepped, opening, unopened, opened}
 use Rattle.mqtt_rules.specs.Numbers.{HasCopiesUpTo, HasAcceptedNumbers}
@@ -215,11 +215,11 @@ moment_accepted (row ∷ rows) b h = h
 accepted_done : (ds : List Deed) (b : Broker) → AreGood OfAccepted ds b → HasAcceptedNumbers b.records → HasAcceptedNumbers (done ds b).records
 accepted_done ds b q h = moment_accepted (rows_of_all ds b.records) (after_all ds b) (accepted_all ds b q h)
 
-pub step_accepted : (limits : Limits) (choice : ℕ → List ℕ) (now : ℕ) (call : Call) (b : Broker) → HasAcceptedNumbers b.records → HasAcceptedNumbers (stepped limits choice now call b).records
+pub step_accepted : (limits : Limits) (choice : MemberChoice) (now : ℕ) (call : Call) (b : Broker) → HasAcceptedNumbers b.records → HasAcceptedNumbers (stepped limits choice now call b).records
 step_accepted limits choice now call b h =
     accepted_done (deeds limits choice now call b) (at_moment now b) ((leads_deeds (env_of limits choice b) (λ c. ⊤) OfAccepted (accepted_law (env_of limits choice b)) accepted_mark call (at_moment now b) tt).0) h
 
-pub opening_accepted : (limits : Limits) (choice : ℕ → List ℕ) (now : ℕ) (r : Records) → HasAcceptedNumbers r → HasAcceptedNumbers (opened limits choice now r).records
+pub opening_accepted : (limits : Limits) (choice : MemberChoice) (now : ℕ) (r : Records) → HasAcceptedNumbers r → HasAcceptedNumbers (opened limits choice now r).records
 opening_accepted limits choice now r h =
     let b = unopened now r in
     accepted_done (opening (env_of limits choice b) b) b ((leads_opened (env_of limits choice b) (λ c. ⊤) OfAccepted (accepted_law (env_of limits choice b)) accepted_mark b tt).0) h
