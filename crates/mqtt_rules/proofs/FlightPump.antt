@@ -18,7 +18,7 @@ use Rattle.mqtt_flow.specs.Pacing.{Pacing}
 use Rattle.mqtt_flow.specs.Queue.{identifier_of, also, identifiers}
 use Rattle.mqtt_flow.specs.Outbound.{Verdict, pass, end, outgrow, send, resend, first_time, too_large, once_more, is_late, is_large, verdict_by, verdict, in_room, step_on, step_by, freed, paced, then_on, pump_from, pace, pump}
 use Rattle.mqtt_flow.proofs.Identifiers.{is_among-push, is_among-ids_without_other, free_is_free}
-use Rattle.mqtt_records.specs.declared.queue.Entry.{Entry}
+use Rattle.mqtt_message.specs.declared.queue.CopyRow.{CopyRow}
 use Rattle.mqtt_records.specs.declared.session.Session.{Session}
 use Rattle.mqtt_rows.specs.Order.{IsAbove, IsAscending, row_at, remove_row, change_row}
 use Rattle.mqtt_records.specs.Session.{copy_place, in_phase}
@@ -37,7 +37,7 @@ use Rattle.mqtt_rules.proofs.FlightRecords.{Sits, flight_of, sits-marked, sits-l
 -- ---- the identifiers in use
 
 -- they hold all that a queue has
-abbrev pub Covers : List ℕ → List Entry → Type 0
+abbrev pub Covers : List ℕ → List CopyRow → Type 0
 Covers used queue = (place id : ℕ) → identifier_at place queue ≡ Some id → is_among id used ≡ true
 
 covers-also : (o : Option ℕ) (id : ℕ) (used : List ℕ) → is_among id used ≡ true → is_among id (also o used) ≡ true
@@ -72,7 +72,7 @@ covers-kept place phase e used queue there same covers other id h = elim (identi
 ]
 
 -- the identifier of a copy that leaves is free, for no other copy has it
-covers-closed : (place j : ℕ) (used : List ℕ) (queue : List Entry) → identifier_at place queue ≡ Some j → IsFlight queue → Covers used queue → Covers (ids_without j used) (remove_row entry_place place queue)
+covers-closed : (place j : ℕ) (used : List ℕ) (queue : List CopyRow) → identifier_at place queue ≡ Some j → IsFlight queue → Covers used queue → Covers (ids_without j used) (remove_row copy_place place queue)
 covers-closed place j used queue its flight covers other id h =
     let left = identifier-removed other place id queue h in
     let apart_ids : nat_eq id j ≡ false = apart id j (λ same.

@@ -270,5 +270,5 @@ pub accepted_within : (env : Env) (m : Message) (b : Broker) (ds : List Delivery
 accepted_within env m b ds birth is up =
     let r = b.records in
     made_within (answers env r) birth (next_publication r) b.now m (routed_to env m r) ds
-    (λ x found. routed_within (answers env r) (publication_of m) birth (env.choice (next_publication r)) r.sessions x up found)
+    (λ x found. routed_within (answers env r) (publication_of m) birth (env.choice (next_publication r) m.sender) r.sessions x up found)
     (accepted_is (finds_place env m r) (option_map (deliveries (next_publication r) b.now m) (routed_to env m r)) ds is)

@@ -19,7 +19,7 @@ use Rattle.mqtt_records.specs.Session.{birth_of, with_subscription}
 use Rattle.mqtt_records.specs.Records.{changed_all}
 use Rattle.mqtt_rules.specs.declared.Limits.{Limits}
 use Rattle.mqtt_rules.specs.Packets.{publish_of, size_of}
-use Rattle.mqtt_rules.specs.State.{Line, Broker, Env, stored, session_at, line_of}
+use Rattle.mqtt_rules.specs.State.{Line, Broker, Env, stored, session_at, line_of, MemberChoice}
 use Rattle.mqtt_rules.specs.Deeds.{whose, Message, Origin, Part, Deed, Accept, Count, At, Keep, Forget, Act, after, after_all, part_rows_of, stored_after, then, always, series, with_session, of_session, offer}
 use Rattle.mqtt_rules.specs.Deeds as deed
 use Rattle.mqtt_rules.specs.Outbound.{since, room, room_at, enter_deeds}
@@ -28,7 +28,8 @@ use Rattle.mqtt_rules.specs.Subscribe as sub
 use Rattle.mqtt_rules.specs.Step.{Call, stepped, env_of, unopened, opened}
 use Rattle.mqtt_rules.specs.Laws.{HasTables, IsOrdered}
 use Rattle.mqtt_rules.proofs.Ordered.{length-filter_le, all-filter, changed-ordered}
-use Rattle.mqtt_rules.proofs.OrderedActs.{both, brought_to, Keeping, birth_found}
+use Rattle.mqtt_rules.proofs.OrderedActs.{both, Keeping, birth_found}
+use Rattle.mqtt_rules.proofs.Acts.{brought_to}
 use Rattle.mqtt_rules.proofs.OrderedAccepted.{is_to, accepted_within}
 use Rattle.mqtt_rules.proofs.OrderedQueues.{stay_is, stay_le}
 use Rattle.mqtt_rules.proofs.OrderedLimits.{step_keeps, opening_keeps}
@@ -209,13 +210,13 @@ queues_keeping env small = record {
   moment = λ now r p. record { ordered = changed-ordered (SetCounter Moment now) r p.ordered; short = p.short };
 }
 
-pub step_queues : (limits : Limits) (choice : ℕ → List ℕ) (now : ℕ) (call : Call) (b : Broker) → limits.queue ≤ QUEUE_LIMIT → IsOrdered (stored b) → AreShort limits.queue (stored b).sessions
+pub step_queues : (limits : Limits) (choice : MemberChoice) (now : ℕ) (call : Call) (b : Broker) → limits.queue ≤ QUEUE_LIMIT → IsOrdered (stored b) → AreShort limits.queue (stored b).sessions
     → AreShort limits.queue (stored (stepped limits choice now call b)).sessions
 step_queues limits choice now call b small ordered short =
     let env = env_of limits choice b in
     (step_keeps limits choice now call b (ShortQueues env) (queues_keeping env small) (record { ordered = ordered; short = short })).short
 
-pub opening_queues : (limits : Limits) (choice : ℕ → List ℕ) (now : ℕ) (r : Records) → limits.queue ≤ QUEUE_LIMIT → IsOrdered r → AreShort limits.queue r.sessions
+pub opening_queues : (limits : Limits) (choice : MemberChoice) (now : ℕ) (r : Records) → limits.queue ≤ QUEUE_LIMIT → IsOrdered r → AreShort limits.queue r.sessions
     → AreShort limits.queue (stored (opened limits choice now r)).sessions
 opening_queues limits choice now r small ordered short =
     let env = env_of limits choice (unopened now r) in

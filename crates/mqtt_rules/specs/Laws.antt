@@ -8,7 +8,7 @@ use Rattle.mqtt_rows.specs.Order.{IsAscending}
 use Rattle.mqtt_records.specs.Session.{birth_of, place_of, number_of, copy_place}
 use Rattle.mqtt_records.specs.Records.{kept_place, nothing}
 use Rattle.mqtt_rules.specs.declared.Limits.{Limits}
-use Rattle.mqtt_rules.specs.State.{Broker, stored}
+use Rattle.mqtt_rules.specs.State.{Broker, stored, MemberChoice}
 use Rattle.mqtt_rules.specs.Step.{Call, stepped, unopened, opened}
 
 -- ---- tables in order
@@ -49,8 +49,8 @@ QueuesWithin limit r = AllByRecursion (λ s. length s.queue ≤ limit) r.session
 
 -- a call, or that a broker opens what was stored, each with its moment and with any limits and choice of members
 pub data Event : Type 0 where
-  Asked : (limits : Limits) (choice : ℕ → List ℕ) (now : ℕ) (call : Call) → Event
-  Reopened : (limits : Limits) (choice : ℕ → List ℕ) (now : ℕ) → Event
+  Asked : (limits : Limits) (choice : MemberChoice) (now : ℕ) (call : Call) → Event
+  Reopened : (limits : Limits) (choice : MemberChoice) (now : ℕ) → Event
 
 abbrev pub after_event : Event → Broker → Broker
 after_event (Asked limits choice now call) b = stepped limits choice now call b

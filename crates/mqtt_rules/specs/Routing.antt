@@ -18,7 +18,6 @@ use Rattle.mqtt_records.specs.declared.subscription.Subscription.{Subscription}
 use Rattle.mqtt_records.specs.declared.session.Session.{Session}
 use Rattle.mqtt_records.specs.declared.records.Records.{Records}
 use Rattle.mqtt_records.specs.Records.{kept_place}
-use Rattle.mqtt_rules.specs.declared.Limits.{Limits}
 use Rattle.mqtt_rules.specs.Packets.{quality, publish_of}
 use Rattle.mqtt_rules.specs.State.{Broker, Env, session_at, is_connected, line_of, next_of}
 use Rattle.mqtt_rules.specs.Deeds.{Message, Origin, Deed, Accept, Keep, Forget, Act, always, series, of_session, offer}
@@ -97,7 +96,7 @@ abbrev pub next_publication : Records → ℕ
 next_publication r = suc r.publications
 
 abbrev pub routed_to : Env → Message → Records → Option Routed
-routed_to env m r = acceptance.routed (answers env r) (publication_of m) (env.choice (next_publication r)) (subscribers r)
+routed_to env m r = acceptance.routed (answers env r) (publication_of m) (env.choice (next_publication r) m.sender) (subscribers r)
 
 abbrev pub accepted_if : Bool → Option (List Delivery) → Option (List Delivery)
 accepted_if true ds = ds

@@ -1,13 +1,11 @@
 -- SUBSCRIBE and UNSUBSCRIBE, filter by filter (MQTT 5.0, 3.8 to 3.11).
 use Rattle.std.specs.Prelude.{ℕ, suc, min, Bool, true, false, not, ◌&&◌, ◌||◌, List, [], ◌∷◌, ◌++◌, length, filter, find, map, flat_map, nat_lt, nat_le, bytes_eq, Option, Some, None}
 use Rattle.std.specs.List.{list_any}
-use Rattle.mqtt_base.specs.declared.session.Qos.{Qos}
 use Rattle.mqtt_base.specs.declared.session.Cause.TheVariants.{Retained as RetainedBy}
 use Rattle.mqtt_base.specs.declared.session.RetainHandling.{RetainHandling}
 use Rattle.mqtt_base.specs.declared.session.RetainHandling.TheVariants.{SendAlways, SendIfNew, DoNotSend}
 use Rattle.mqtt_base.specs.declared.session.SubscriptionOptions.{SubscriptionOptions}
 use Rattle.mqtt_props.specs.declared.table.PropName.TheVariants.{SubscriptionIdentifier}
-use Rattle.mqtt_props.specs.Properties.{Prop}
 use Rattle.mqtt_codec.specs.declared.subscribe.Subscribe.{Subscribe}
 use Rattle.mqtt_codec.specs.declared.unsubscribe.Unsubscribe.{Unsubscribe}
 use Rattle.mqtt_codec.specs.Subscriptions.{Subscription as Asked}
@@ -18,8 +16,8 @@ use Rattle.mqtt_routes.specs.declared.retained.Kept.{Kept}
 use Rattle.mqtt_routes.specs.Retained.{kept_for}
 use Rattle.mqtt_base.specs.Codes.{identifier_in_use, quota_exceeded}
 use Rattle.mqtt_flow.specs.Identifiers.{is_among}
-use Rattle.mqtt_records.specs.declared.message.MessageCopy.{MessageCopy}
-use Rattle.mqtt_records.specs.declared.message.Retained.{Retained}
+use Rattle.mqtt_message.specs.declared.message.MessageCopy.{MessageCopy}
+use Rattle.mqtt_message.specs.declared.message.RetainedMessage.{RetainedMessage}
 use Rattle.mqtt_records.specs.declared.subscription.Subscription.{Subscription}
 use Rattle.mqtt_base.specs.declared.limits.TheConstants.{SUBSCRIPTION_LIMIT}
 use Rattle.mqtt_records.specs.declared.session.Session.{Session}
