@@ -7,7 +7,7 @@ use Rattle.mqtt_base.specs.declared.Phase.TheVariants.{Waiting, Sent, Released, 
 use Rattle.mqtt_base.specs.declared.Qos.TheVariants.{AtLeastOnce, ExactlyOnce}
 use Rattle.mqtt_flow.specs.declared.entry.Entry.{Entry}
 use Rattle.mqtt_flow.specs.Receiver.{Body, Handed, handed, Rising}
-use Rattle.mqtt_flow.specs.OutboundWorld.{Message, Lot, standing, past, World, body}
+use Rattle.mqtt_flow.specs.OutboundWorld.{TopicAndPayload, Lot, standing, past, World, body}
 
 -- a copy that was sent doesn't wait again
 abbrev pub MayFollow : Phase → Phase → Type 0
@@ -67,15 +67,15 @@ Once w = (n : ℕ) → handed n w.ledger ≤ 1
 
 -- a copy of QoS 2 that was taken is handed over once (4.3.3)
 abbrev pub TakenOnce : World → Type 0
-TakenOnce w = (n : ℕ) (e : Entry) (m : Message) → slice_get w.copies n ≡ Some (past Taken e m) → e.copy.qos ≡ ExactlyOnce → handed n w.ledger ≡ 1
+TakenOnce w = (n : ℕ) (e : Entry) (m : TopicAndPayload) → slice_get w.copies n ≡ Some (past Taken e m) → e.copy.qos ≡ ExactlyOnce → handed n w.ledger ≡ 1
 
 -- and so it is from the PUBREC on that was taken (4.3.3)
 abbrev pub ReleasedOnce : World → Type 0
-ReleasedOnce w = (n i order : ℕ) (e : Entry) (m : Message) → slice_get w.copies n ≡ Some (standing e m) → e.phase ≡ Released i order → handed n w.ledger ≡ 1
+ReleasedOnce w = (n i order : ℕ) (e : Entry) (m : TopicAndPayload) → slice_get w.copies n ≡ Some (standing e m) → e.phase ≡ Released i order → handed n w.ledger ≡ 1
 
 -- a copy that expired, or gave way in a full queue, is never handed over
 abbrev pub Unhanded : Ending → World → Type 0
-Unhanded ending w = (n : ℕ) (e : Entry) (m : Message) → slice_get w.copies n ≡ Some (past ending e m) → handed n w.ledger ≡ 0
+Unhanded ending w = (n : ℕ) (e : Entry) (m : TopicAndPayload) → slice_get w.copies n ≡ Some (past ending e m) → handed n w.ledger ≡ 0
 
 -- copies are handed over in the order in which they entered (4.6)
 abbrev pub InOrder : World → Type 0
@@ -87,7 +87,7 @@ Carried w = Carries w.copies w.ledger × Carries w.copies w.reads
 
 -- a copy of QoS 1 that was taken was read (4.3.2)
 abbrev pub TakenRead : World → Type 0
-TakenRead w = (n : ℕ) (e : Entry) (m : Message) → slice_get w.copies n ≡ Some (past Taken e m) → e.copy.qos ≡ AtLeastOnce → 1 ≤ handed n w.reads
+TakenRead w = (n : ℕ) (e : Entry) (m : TopicAndPayload) → slice_get w.copies n ≡ Some (past Taken e m) → e.copy.qos ≡ AtLeastOnce → 1 ≤ handed n w.reads
 
 -- each copy goes on as it may
 abbrev pub GoOn : World → World → Type 0

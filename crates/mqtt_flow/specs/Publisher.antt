@@ -2,7 +2,6 @@
 use Rattle.std.specs.Prelude.{ℕ, zero, suc, Bool, true, false, ◌&&◌, List, [], ◌∷◌, length, nat_eq, if◌then◌else◌, Option, Some, None, ⊤}
 use Rattle.std.specs.List.{list_any}
 use Rattle.mqtt_base.specs.Codes.{is_success}
-use Rattle.mqtt_flow.specs.Inbound.{is_open}
 
 -- at least once (4.3.2), exactly once (4.3.3)
 pub data Qos : Type 0 where
@@ -47,15 +46,6 @@ in_flight (ended_1 by ∷ fates) = in_flight fates
 in_flight (sent id ∷ fates) = id ∷ in_flight fates
 in_flight (released id ∷ fates) = id ∷ in_flight fates
 in_flight (ended by ∷ fates) = in_flight fates
-
--- the lowest identifier from `id` on that isn't used, among the first `more + 1`
-abbrev pub lowest_from : ℕ → ℕ → List ℕ → ℕ
-lowest_from zero id used = id
-lowest_from (suc more) id used = if is_open id used then lowest_from more (suc id) used else id
-
--- the lowest one from 1 on (2.2.1)
-abbrev pub free_identifier : List ℕ → ℕ
-free_identifier used = lowest_from (length used) 1 used
 
 -- a message goes out
 abbrev pub first_fate : Qos → ℕ → Fate

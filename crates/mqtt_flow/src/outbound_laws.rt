@@ -4,7 +4,7 @@ ghost use Rattle.std.specs.Prelude.{ℕ, List};
 ghost use Rattle.mqtt_base.specs.declared.Ending.TheVariants.{Expired, Dropped};
 ghost use Rattle.mqtt_flow.specs.declared.entry.Entry.{Entry};
 ghost use Rattle.mqtt_flow.specs.declared.entry.Way.{Way};
-ghost use Rattle.mqtt_flow.specs.FreeIdentifier.{free_identifier};
+ghost use Rattle.mqtt_flow.specs.Identifiers.{free_identifier};
 ghost use Rattle.mqtt_flow.specs.Pumping.{InQueueOrder, WithinWindow, IsLowestFree};
 ghost use Rattle.mqtt_flow.specs.OutboundWorld.{Event, run, start};
 ghost use Rattle.mqtt_flow.specs.OutboundCourse.{Once, TakenOnce, ReleasedOnce, Unhanded, InOrder, GoOn, Carried, TakenRead};

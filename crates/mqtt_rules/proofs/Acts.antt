@@ -19,18 +19,19 @@ use Rattle.mqtt_flow.specs.declared.entry.Turn.{Turn}
 use Rattle.mqtt_flow.specs.declared.entry.Turn.TheVariants as turns
 use Rattle.mqtt_flow.specs.declared.inflow.Published.{Published}
 use Rattle.mqtt_flow.specs.declared.inflow.Published.TheVariants.{New, Again, Over}
-use Rattle.mqtt_flow.specs.declared.inflow.Released.{Released}
-use Rattle.mqtt_flow.specs.declared.inflow.Released.TheVariants.{Known, Unknown}
+use Rattle.mqtt_flow.specs.declared.inflow.ReleaseAnswer.{ReleaseAnswer}
+use Rattle.mqtt_flow.specs.declared.inflow.ReleaseAnswer.TheVariants.{Known, Unknown}
 use Rattle.mqtt_base.specs.Codes.{success, identifier_in_use, identifier_not_found, quota_exceeded, receive_maximum_exceeded, session_taken_over}
-use Rattle.mqtt_flow.specs.Inbound.{answer_to, answer_to_release, is_open}
+use Rattle.mqtt_flow.specs.Identifiers.{is_among}
+use Rattle.mqtt_flow.specs.Inbound.{answer_to, answer_to_release}
 use Rattle.mqtt_flow.specs.Outbound.{Answer, way_made, due_from}
 use Rattle.mqtt_flow.specs.Outbound as rules
-use Rattle.mqtt_records.specs.declared.message.MessageCopy.{MessageCopy}
-use Rattle.mqtt_records.specs.declared.message.Retained.{Retained}
-use Rattle.mqtt_records.specs.declared.message.Will.{Will}
+use Rattle.mqtt_message.specs.declared.message.MessageCopy.{MessageCopy}
+use Rattle.mqtt_message.specs.declared.message.RetainedMessage.{RetainedMessage}
+use Rattle.mqtt_message.specs.declared.message.Will.{Will}
 use Rattle.mqtt_records.specs.declared.session.Session.{Session}
-use Rattle.mqtt_records.specs.Order.{row_at}
-use Rattle.mqtt_records.specs.Session.{entry_place}
+use Rattle.mqtt_rows.specs.Order.{row_at}
+use Rattle.mqtt_records.specs.Session.{copy_place}
 use Rattle.mqtt_rules.specs.Packets.{puback, pubrec, pubcomp, pubrel, suback, unsuback, connack, disconnect, publish_of, number_at}
 use Rattle.mqtt_rules.specs.State.{Line, Broker, Env, session_at, session_named, line_at, line_of, is_connected, queue_on}
 use Rattle.mqtt_rules.specs.Deeds.{Whose, whose, Message, Origin, FromClient, FromWill, Part, Resume, Close, SetExpiry, DropWill, Open, Release, Enter, Mark, Leave, LinePart, Hear, SetAlias, Went, Deed, Accept, Begin, Name, Count, At, Finish, Keep, Forget, RefuseWill, Link, On, Send, Gone, after, after_all, Act, then, series, always, only_if, with_session, of_session, with_line, offer}
@@ -68,7 +69,7 @@ pub record Facts (Good : Deed → Broker → Type 0) : Type 0 where
   pub enter : (who : Whose) (copy : MessageCopy) (b : Broker) → IsMade copy b.records → Good (At who (Enter copy)) b
   pub finish : (who : Whose) (b : Broker) → Good (Finish who) b
   -- a message is retained of the publication that was just accepted
-  pub keep : (kept : Retained) (b : Broker) → kept.publication ≡ b.records.publications → Good (Keep kept) b
+  pub keep : (kept : RetainedMessage) (b : Broker) → kept.publication ≡ b.records.publications → Good (Keep kept) b
   pub forget : (place : ℕ) (b : Broker) → Good (Forget place) b
   pub refuse_will : (who : Whose) (b : Broker) → Good (RefuseWill who) b
   pub link : (b : Broker) → Good (Link (suc b.given)) b
@@ -76,7 +77,7 @@ pub record Facts (Good : Deed → Broker → Type 0) : Type 0 where
   pub send : (line : ℕ) (packet : Packet) (b : Broker) → Good (Send line packet) b
   pub gone : (line : ℕ) (b : Broker) → Good (Gone line) b
 
-forget_numbers : (k : Option Retained) (b : Broker) → (after_all (forgets k) b).records.publications ≡ b.records.publications
+forget_numbers : (k : Option RetainedMessage) (b : Broker) → (after_all (forgets k) b).records.publications ≡ b.records.publications
 forget_numbers None b = refl
 forget_numbers (Some k) b = refl
 
@@ -99,7 +100,7 @@ module _ (Good : Deed → Broker → Type 0) (facts : Facts Good) where
   -- a session's queue
   pub good_leave : (s : Session) (t : Turn) (b : Broker) → AreGood Good (leave_deeds s t) b
   good_leave s (turns.Leave place ending) b =
-      good_of_entry Good (row_at entry_place place s.queue) (λ e. At (whose s) (Leave e ending) ∷ []) b (λ e. (facts.at_part (whose s) (Leave e ending) b refl, tt))
+      good_of_entry Good (row_at copy_place place s.queue) (λ e. At (whose s) (Leave e ending) ∷ []) b (λ e. (facts.at_part (whose s) (Leave e ending) b refl, tt))
   good_leave s t b = tt
 
   pub good_enter : (env : Env) (copy : MessageCopy) (s : Session) (b : Broker) → IsMade copy b.records → AreGood Good (enter_deeds env copy s) b
@@ -127,7 +128,7 @@ module _ (Good : Deed → Broker → Type 0) (facts : Facts Good) where
       good_append Good first (series (map (deliver env) ds) c) b (good_deliver env d b made.0)
       (good_deliveries env ds c (are_made_stay ds first b (beside_deliver env d b) made.1))
 
-  good_forgets : (k : Option Retained) (b : Broker) → AreGood Good (forgets k) b
+  good_forgets : (k : Option RetainedMessage) (b : Broker) → AreGood Good (forgets k) b
   good_forgets None b = tt
   good_forgets (Some k) b = (facts.forget k.place b, tt)
 
@@ -320,7 +321,7 @@ module _ (Good : Deed → Broker → Type 0) (facts : Facts Good) where
   good_on_publish birth env l s p b e = good_publish_meant (meaning p l.aliases) birth env l s p b e
 
   -- other packets
-  good_release_by : (x : Released) (l : Line) (s : Session) (id : ℕ) (b : Broker) → AreGood Good (release_by x l s id) b
+  good_release_by : (x : ReleaseAnswer) (l : Line) (s : Session) (id : ℕ) (b : Broker) → AreGood Good (release_by x l s id) b
   good_release_by Known l s id b = (facts.at_part (whose s) (Release id) b refl, (facts.send l.number (pubcomp id success) _, tt))
   good_release_by Unknown l s id b = (facts.send l.number (pubcomp id identifier_not_found) b, tt)
 
@@ -385,7 +386,7 @@ module _ (Good : Deed → Broker → Type 0) (facts : Facts Good) where
       (good_flat Good (λ d. late_sends line b.now d b) (λ d c. good_offer (line_at line b) (publish_of b.now false 0 d.copy) c) a.late _)
 
   pub good_on_subscribe : (env : Env) (line : ℕ) (s : Session) (p : Asking) → GoodAct Good (on_subscribe env line s p)
-  good_on_subscribe env line s p b = good_subscribe_by (is_open p.identifier s.inbound) env line s p b
+  good_on_subscribe env line s p b = good_subscribe_by (is_among p.identifier s.inbound) env line s p b
 
   good_unsubscribe_by : (t : Bool) (line : ℕ) (s : Session) (p : GivingUp) → GoodAct Good (unsubscribe_by t line s p)
   good_unsubscribe_by true line s p b = good_offer (line_at line b) (unsuback p.identifier (map (λ f. identifier_in_use) p.filters)) b
@@ -395,7 +396,7 @@ module _ (Good : Deed → Broker → Type 0) (facts : Facts Good) where
       (good_offer (line_at line b) (unsuback p.identifier (drop_codes s [] p.filters)) _)
 
   pub good_on_unsubscribe : (line : ℕ) (s : Session) (p : GivingUp) → GoodAct Good (on_unsubscribe line s p)
-  good_on_unsubscribe line s p b = good_unsubscribe_by (is_open p.identifier s.inbound) line s p b
+  good_on_unsubscribe line s p b = good_unsubscribe_by (is_among p.identifier s.inbound) line s p b
 
   -- tick
   abbrev pub GoodOption : Option Act → Type 0
@@ -480,10 +481,10 @@ MarkFact Good = (who : Whose) (place : ℕ) (phase : Phase) (b : Broker) → Goo
 module _ (Good : Deed → Broker → Type 0) (facts : Facts Good) (mark : MarkFact Good) where
   pub good_turn : (now line : ℕ) (s : Session) (t : Turn) (b : Broker) → AreGood Good (turn_deeds now line s t) b
   good_turn now line s (turns.Send place id) b =
-      good_of_entry Good (row_at entry_place place s.queue) (λ e. At (whose s) (Mark place (Sent id)) ∷ On line (Went place) ∷ Send line (publish_of now false id e.copy) ∷ []) b
+      good_of_entry Good (row_at copy_place place s.queue) (λ e. At (whose s) (Mark place (Sent id)) ∷ On line (Went place) ∷ Send line (publish_of now false id e.copy) ∷ []) b
       (λ e. (mark (whose s) place (Sent id) b, (facts.on_line line (Went place) _, (facts.send line (publish_of now false id e.copy) _, tt))))
   good_turn now line s (turns.Resend place id) b =
-      good_of_entry Good (row_at entry_place place s.queue) (λ e. On line (Went place) ∷ Send line (publish_of now true id e.copy) ∷ []) b
+      good_of_entry Good (row_at copy_place place s.queue) (λ e. On line (Went place) ∷ Send line (publish_of now true id e.copy) ∷ []) b
       (λ e. (facts.on_line line (Went place) b, (facts.send line (publish_of now true id e.copy) _, tt)))
   good_turn now line s (turns.Release place id order) b = (mark (whose s) place (ReleasedPhase id order) b, (facts.send line (pubrel id success) _, tt))
   good_turn now line s (turns.Outgrow place id order) b = (mark (whose s) place (Oversize id order) b, (facts.send line (pubrel id success) _, tt))

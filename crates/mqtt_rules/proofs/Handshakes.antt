@@ -22,7 +22,7 @@ use Rattle.mqtt_codec.specs.Tails.{tail_at}
 use Rattle.mqtt_codec.specs.Ack.{ack_at}
 use Rattle.mqtt_codec.specs.Packets.{shortest_of}
 use Rattle.mqtt_codec.specs.Frames.{frame_at, body_at, versioned_at, lawful_at, packet_at}
-use Rattle.mqtt_records.specs.declared.message.MessageCopy.{MessageCopy}
+use Rattle.mqtt_message.specs.declared.message.MessageCopy.{MessageCopy}
 use Rattle.mqtt_records.specs.declared.session.Session.{Session}
 use Rattle.mqtt_records.specs.declared.records.Records.{Records}
 use Rattle.mqtt_records.specs.declared.change.Counter.TheVariants.{Publications, Moment}
@@ -135,8 +135,7 @@ cut_short = published ++ at 0 (Pump 1) ∷ []
 -- what is stored then: two sessions, r1's subscription, p1's open identifier, and the copy with its packet identifier
 abbrev its_copy : MessageCopy
 its_copy = record {
-  publication = 1;
-  cause = Direct;
+  id = record { publication = 1; birth = 1; cause = Direct };
   qos = ExactlyOnce;
   retain = false;
   identifiers = [];

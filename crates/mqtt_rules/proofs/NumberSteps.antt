@@ -4,9 +4,9 @@ use Rattle.std.specs.Prelude.{min}
 use Rattle.std.proofs.Math.Nat.{le-max_left}
 use Rattle.mqtt_records.specs.declared.change.Change.{Change}
 use Rattle.mqtt_records.specs.declared.records.Records.{Records}
-use Rattle.mqtt_records.specs.Order.{IsAbove, IsAscending}
+use Rattle.mqtt_rows.specs.Order.{IsAbove, IsAscending}
 use Rattle.mqtt_records.specs.Session.{number_of}
-use Rattle.mqtt_records.proofs.OrderLemmas.{above_less}
+use Rattle.mqtt_rows.proofs.OrderLemmas.{above_less}
 use Rattle.mqtt_rules.specs.declared.Limits.{Limits}
 use Rattle.mqtt_rules.specs.State.{Broker, top}
 use Rattle.mqtt_rules.specs.Deeds.{Deed, after_all, rows_of_all}

@@ -19,21 +19,22 @@ use Rattle.mqtt_flow.specs.declared.entry.Turn.{Turn}
 use Rattle.mqtt_flow.specs.declared.entry.Turn.TheVariants as turns
 use Rattle.mqtt_flow.specs.declared.inflow.Published.{Published}
 use Rattle.mqtt_flow.specs.declared.inflow.Published.TheVariants.{New, Again, Over}
-use Rattle.mqtt_flow.specs.declared.inflow.Released.{Released}
-use Rattle.mqtt_flow.specs.declared.inflow.Released.TheVariants.{Known, Unknown}
+use Rattle.mqtt_flow.specs.declared.inflow.ReleaseAnswer.{ReleaseAnswer}
+use Rattle.mqtt_flow.specs.declared.inflow.ReleaseAnswer.TheVariants.{Known, Unknown}
 use Rattle.mqtt_base.specs.Codes.{session_taken_over, quota_exceeded, identifier_in_use, receive_maximum_exceeded}
-use Rattle.mqtt_flow.specs.Inbound.{is_open, answer_to_release}
+use Rattle.mqtt_flow.specs.Identifiers.{is_among}
+use Rattle.mqtt_flow.specs.Inbound.{answer_to_release}
 use Rattle.mqtt_flow.specs.Outbound.{Answer, resumed_with}
 use Rattle.mqtt_flow.specs.Outbound as flow
-use Rattle.mqtt_records.specs.declared.message.Will.{Will}
-use Rattle.mqtt_records.specs.declared.queue.Entry.{Entry}
+use Rattle.mqtt_message.specs.declared.message.Will.{Will}
+use Rattle.mqtt_message.specs.declared.queue.CopyRow.{CopyRow}
 use Rattle.mqtt_records.specs.declared.session.Session.{Session}
 use Rattle.mqtt_records.specs.declared.session.Columns.{Columns}
 use Rattle.mqtt_records.specs.declared.records.Records.{Records}
 use Rattle.mqtt_records.specs.declared.change.Change.{Change}
 use Rattle.mqtt_base.specs.declared.limits.TheConstants.{SUBSCRIPTION_LIMIT}
-use Rattle.mqtt_records.specs.Order.{row_at}
-use Rattle.mqtt_records.specs.Session.{birth_of, entry_place}
+use Rattle.mqtt_rows.specs.Order.{row_at}
+use Rattle.mqtt_records.specs.Session.{birth_of, copy_place}
 use Rattle.mqtt_rules.specs.Packets.{number_at, connack, disconnect, publish_of, suback, unsuback}
 use Rattle.mqtt_rules.specs.State.{Line, Broker, Env, stored, session_at, session_named, line_at, line_of, is_connected, queue_on}
 use Rattle.mqtt_rules.specs.Deeds.{Whose, whose, Message, Origin, FromClient, FromWill, Part, Close, DropWill, Enter, Leave, Hear, Deed, Accept, Begin, Name, Count, At, Finish, Keep, Forget, Link, On, Send, Gone, Act, after, after_all, rows_of_all, stored_after, then, always, series, only_if, with_session, of_session, with_line, offer}
@@ -89,12 +90,12 @@ pub plain_offer : (l : Option Line) (p : Packet) → ArePlain (offer l p)
 plain_offer None p = tt
 plain_offer (Some l) p = plain_cond _ (Send l.number p ∷ []) [] (tt, tt) tt
 
-plain_of_entry : (o : Option Entry) (f : Entry → List Deed) → ((e : Entry) → ArePlain (f e)) → ArePlain (of_entry o f)
+plain_of_entry : (o : Option CopyRow) (f : CopyRow → List Deed) → ((e : CopyRow) → ArePlain (f e)) → ArePlain (of_entry o f)
 plain_of_entry None f h = tt
 plain_of_entry (Some e) f h = h e
 
 pub plain_leave : (s : Session) (t : Turn) → ArePlain (leave_deeds s t)
-plain_leave s (turns.Leave place ending) = plain_of_entry (row_at entry_place place s.queue) (λ e. At (whose s) (Leave e ending) ∷ []) (λ e. (tt, tt))
+plain_leave s (turns.Leave place ending) = plain_of_entry (row_at copy_place place s.queue) (λ e. At (whose s) (Leave e ending) ∷ []) (λ e. (tt, tt))
 plain_leave s (turns.Send place id) = tt
 plain_leave s (turns.Resend place id) = tt
 plain_leave s (turns.Release place id order) = tt
@@ -103,8 +104,8 @@ plain_leave s (turns.Repeat id) = tt
 plain_leave s (turns.Unknown id) = tt
 
 plain_turn : (now line : ℕ) (s : Session) (t : Turn) → ArePlain (turn_deeds now line s t)
-plain_turn now line s (turns.Send place id) = plain_of_entry (row_at entry_place place s.queue) _ (λ e. (tt, (tt, (tt, tt))))
-plain_turn now line s (turns.Resend place id) = plain_of_entry (row_at entry_place place s.queue) _ (λ e. (tt, (tt, tt)))
+plain_turn now line s (turns.Send place id) = plain_of_entry (row_at copy_place place s.queue) _ (λ e. (tt, (tt, (tt, tt))))
+plain_turn now line s (turns.Resend place id) = plain_of_entry (row_at copy_place place s.queue) _ (λ e. (tt, (tt, tt)))
 plain_turn now line s (turns.Release place id order) = (tt, (tt, tt))
 plain_turn now line s (turns.Outgrow place id order) = (tt, (tt, tt))
 plain_turn now line s (turns.Repeat id) = (tt, tt)
@@ -138,7 +139,7 @@ plain_alias true a line topic = tt
 plain_alias false None line topic = tt
 plain_alias false (Some n) line topic = (tt, tt)
 
-plain_release : (r : Released) (l : Line) (s : Session) (id : ℕ) → ArePlain (release_by r l s id)
+plain_release : (r : ReleaseAnswer) (l : Line) (s : Session) (id : ℕ) → ArePlain (release_by r l s id)
 plain_release Known l s id = (tt, (tt, tt))
 plain_release Unknown l s id = (tt, tt)
 
@@ -444,8 +445,8 @@ module _ (env : Env) (P : Records → Type 0) (k : Keeping env P) where
   keeps_next l (packets.Pubrec a) s b p = keeps_answered (flow.pubrec a.identifier a.reason.0 (queue_on l.went s)) l s b p
   keeps_next l (packets.Pubrel a) s b p = plains (on_pubrel l s a.identifier) b (plain_release (answer_to_release a.identifier s.inbound) l s a.identifier) p
   keeps_next l (packets.Pubcomp a) s b p = keeps_answered (flow.pubcomp a.identifier (queue_on l.went s)) l s b p
-  keeps_next l (packets.Subscribe x) s b p = keeps_subscribe_by (is_open x.identifier s.inbound) l.number s x b p
-  keeps_next l (packets.Unsubscribe x) s b p = keeps_unsubscribe_by (is_open x.identifier s.inbound) l.number s x b p
+  keeps_next l (packets.Subscribe x) s b p = keeps_subscribe_by (is_among x.identifier s.inbound) l.number s x b p
+  keeps_next l (packets.Unsubscribe x) s b p = keeps_unsubscribe_by (is_among x.identifier s.inbound) l.number s x b p
   keeps_next l packets.Pingreq s b p = p
   keeps_next l (packets.Disconnect n) s b p =
       let e = number_at SessionExpiryInterval n.properties in

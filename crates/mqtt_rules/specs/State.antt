@@ -2,14 +2,14 @@
 use Rattle.std.specs.Prelude.{ℕ, suc, ◌+◌, ◌^◌, min, Bool, false, List, find, map, nat_eq, bytes_eq, Option, Some, None, is_none}
 use Rattle.mqtt_flow.specs.declared.entry.Entry.{Entry as FlowEntry}
 use Rattle.mqtt_flow.specs.declared.entry.QueuedCopy.{QueuedCopy}
-use Rattle.mqtt_flow.specs.FreeIdentifier.{has}
+use Rattle.mqtt_flow.specs.Identifiers.{is_among}
 use Rattle.mqtt_base.specs.declared.session.CopyId.{CopyId}
 use Rattle.mqtt_props.specs.declared.table.PropName.TheVariants.{MessageExpiryInterval}
-use Rattle.mqtt_records.specs.declared.message.MessageCopy.{MessageCopy}
-use Rattle.mqtt_records.specs.declared.queue.Entry.{Entry}
+use Rattle.mqtt_message.specs.declared.message.MessageCopy.{MessageCopy}
+use Rattle.mqtt_message.specs.declared.queue.CopyRow.{CopyRow}
 use Rattle.mqtt_records.specs.declared.session.Session.{Session}
 use Rattle.mqtt_records.specs.declared.records.Records.{Records}
-use Rattle.mqtt_records.specs.Order.{row_at}
+use Rattle.mqtt_rows.specs.Order.{row_at}
 use Rattle.mqtt_records.specs.Session.{birth_of}
 use Rattle.mqtt_routes.specs.Intended.{greatest}
 use Rattle.mqtt_rules.specs.declared.Limits.{Limits}
@@ -67,12 +67,9 @@ line_of birth b = find (λ l. is_of l.session birth) b.lines
 
 -- ---- a session's queue as the session rules see it
 
-abbrev pub copy_id : ℕ → MessageCopy → CopyId
-copy_id birth copy = record { publication = copy.publication; birth = birth; cause = copy.cause }
-
-abbrev pub queued_copy : ℕ → MessageCopy → QueuedCopy
-queued_copy birth copy = record {
-  id = copy_id birth copy;
+abbrev pub queued_copy : MessageCopy → QueuedCopy
+queued_copy copy = record {
+  id = copy.id;
   qos = copy.qos;
   size = size_of (publish_of copy.content.arrived false 1 copy);
   arrived = copy.content.arrived;
@@ -80,11 +77,11 @@ queued_copy birth copy = record {
 }
 
 abbrev pub entry_on : List ℕ → ℕ → Entry → FlowEntry
-entry_on went birth e = record { place = e.place; copy = queued_copy birth e.copy; phase = e.phase; here = has e.place went }
+entry_on went birth e = record { place = e.place; copy = queued_copy birth e.copy; phase = e.phase; here = is_among e.place went }
 
 -- the queue, with the copies whose PUBLISH went out on a line
 abbrev pub queue_on : List ℕ → Session → List FlowEntry
-queue_on went s = map (entry_on went s.birth) s.queue
+queue_on went s = map (entry_on went) s.queue
 
 -- ---- numbers and moments
 

@@ -9,7 +9,7 @@ use Rattle.mqtt_codec.specs.declared.packet.Packet.TheVariants.{Connect, Publish
 use Rattle.mqtt_flow.specs.Queue.{holder, order_of}
 use Rattle.mqtt_records.specs.declared.change.Counter.TheVariants.{Moment}
 use Rattle.mqtt_records.specs.declared.change.Change.{Change}
-use Rattle.mqtt_records.specs.declared.change.Change.TheVariants.{SetCounter, PutSession, RemoveSession, PutWill, RemoveWill, PutSubscription, RemoveSubscription, PutInbound, RemoveInbound, PutCopy, SetCopy, RemoveCopy, PutRetained, RemoveRetained}
+use Rattle.mqtt_records.specs.declared.change.Change.TheVariants.{SetCounter, PutSession, SetSession, RemoveSession, PutWill, RemoveWill, PutSubscription, RemoveSubscription, PutInbound, RemoveInbound, PutCopy, SetCopy, RemoveCopy, PutRetained, RemoveRetained}
 use Rattle.mqtt_records.specs.declared.session.Session.{Session}
 use Rattle.mqtt_records.specs.declared.records.Records.{Records}
 use Rattle.mqtt_records.specs.Records.{changed_all}
@@ -164,6 +164,7 @@ pub record BrokerStep (limits : Limits) (old : Broker) (now : ℕ) (call : Call)
 abbrev pub number_given : Change → ℕ
 number_given (SetCounter counter value) = value
 number_given (PutSession row) = row.birth
+number_given (SetSession row) = row.birth
 number_given (RemoveSession birth) = 0
 number_given (PutWill birth will) = 0
 number_given (RemoveWill birth) = 0

@@ -1,7 +1,7 @@
 use Rattle.mqtt_flow.specs.Publisher.{completed, refused}
 use Rattle.mqtt_flow.specs.InboundWorld.{after}
-use Rattle.mqtt_flow.proofs.InboundRun.{is_good, once, unsent_is, ended_is, ended_1_is, few}
-use Rattle.mqtt_flow.proofs.InboundForGood.{for_good}
+use Rattle.mqtt_flow.proofs.inbound.Runs.{is_good, once, unsent_is, ended_is, ended_1_is, few}
+use Rattle.mqtt_flow.proofs.inbound.ForGood.{for_good}
 use Rattle.mqtt_flow.proofs.laws.inbound_once.Goals as goal
 
 pub returns-clause-once : goal.returns-clause-once

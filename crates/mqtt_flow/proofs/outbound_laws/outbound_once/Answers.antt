@@ -1,5 +1,5 @@
 use Rattle.mqtt_flow.specs.OutboundWorld.{run, start}
-use Rattle.mqtt_flow.proofs.OutLaw.{good_run, once_of, taken_of, released_of, expired_of, dropped_of, in_order_of, read_of, carried_run, course_run}
+use Rattle.mqtt_flow.proofs.outbound.HopLaw.{good_run, once_of, taken_of, released_of, expired_of, dropped_of, in_order_of, read_of, carried_run, course_run}
 use Rattle.mqtt_flow.proofs.outbound_laws.outbound_once.Goals as goal
 
 pub returns-clause-once : goal.returns-clause-once
