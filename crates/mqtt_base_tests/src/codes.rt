@@ -19,10 +19,10 @@ fn faults_say_what_they_mean(rt: HostRuntime) -> Result<(), Fail> {
         ),
     ];
     for (fault, number, text) in texts {
-        assert_eq!(rt; fault as u8, number, "{fault:?}");
+        assert!(rt; fault as u8 == number, "{fault:?}");
         let mut shown = String::new(rt.alloc());
         write!(shown, "{fault}")?;
-        assert_eq!(rt; shown.as_str(), text, "{fault:?}");
+        assert!(rt; shown.as_str() == text, "{fault:?}");
     }
     Ok(())
 }
@@ -76,9 +76,8 @@ fn codes_of_kinds() -> &'static [(Kind, &'static [u8])] {
 fn reason_codes_stand_in_the_packets_of_the_table(rt: HostRuntime) {
     for (kind, codes) in codes_of_kinds() {
         for code in 0..=255 {
-            assert_eq!(rt;
-                Reason(code).allowed(*kind),
-                codes.contains(&code),
+            assert!(rt;
+                Reason(code).allowed(*kind) == codes.contains(&code),
                 "{kind:?} {code}"
             );
         }
@@ -145,11 +144,11 @@ fn failures() -> &'static [(Reason, u8)] {
 #[test]
 fn reason_codes_have_the_names_of_table_2_6(rt: HostRuntime) {
     for (reason, code) in successes() {
-        assert_eq!(rt; *reason, Reason(*code));
+        assert!(rt; *reason == Reason(*code));
         assert!(rt; !reason.is_error(), "{reason:?}");
     }
     for (reason, code) in failures() {
-        assert_eq!(rt; *reason, Reason(*code));
+        assert!(rt; *reason == Reason(*code));
         assert!(rt; reason.is_error(), "{reason:?}");
     }
 }
@@ -178,17 +177,17 @@ fn kinds() -> &'static [(Kind, u8)] {
 #[test]
 fn packet_types_have_the_numbers_of_table_2_1(rt: HostRuntime) {
     for (kind, number) in kinds() {
-        assert_eq!(rt; *kind as u8, *number, "{kind:?}");
+        assert!(rt; *kind as u8 == *number, "{kind:?}");
     }
 }
 
 #[test]
 fn services_have_the_numbers_of_the_options_byte(rt: HostRuntime) {
     // Bits 0 and 1, and bits 4 and 5 (3.8.3.1).
-    assert_eq!(rt; Qos::AtMostOnce as u8, 0);
-    assert_eq!(rt; Qos::AtLeastOnce as u8, 1);
-    assert_eq!(rt; Qos::ExactlyOnce as u8, 2);
-    assert_eq!(rt; RetainHandling::SendAlways as u8, 0);
-    assert_eq!(rt; RetainHandling::SendIfNew as u8, 1);
-    assert_eq!(rt; RetainHandling::DoNotSend as u8, 2);
+    assert!(rt; Qos::AtMostOnce as u8 == 0);
+    assert!(rt; Qos::AtLeastOnce as u8 == 1);
+    assert!(rt; Qos::ExactlyOnce as u8 == 2);
+    assert!(rt; RetainHandling::SendAlways as u8 == 0);
+    assert!(rt; RetainHandling::SendIfNew as u8 == 1);
+    assert!(rt; RetainHandling::DoNotSend as u8 == 2);
 }

@@ -21,18 +21,17 @@ fn varints_are_those_of_table_1_1(rt: HostRuntime) {
         (321, &[0xc1, 0x02]),
     ];
     for (value, bytes) in rows {
-        assert_eq!(rt;
-            varint_read(bytes),
-            Ok((value, bytes.len())),
+        assert!(rt;
+            varint_read(bytes) == Ok((value, bytes.len())),
             "reading {value}"
         );
         let mut out = [0xee; 4];
         assert!(rt; value < 268_435_456);
-        assert_eq!(rt; varint_len(value), bytes.len(), "length of {value}");
+        assert!(rt; varint_len(value) == bytes.len(), "length of {value}");
         let len = varint_write(value, &mut out);
-        assert_eq!(rt; len, bytes.len(), "writing {value}");
+        assert!(rt; len == bytes.len(), "writing {value}");
         assert!(rt; len <= 4);
-        assert_eq!(rt; &out[..len], bytes, "writing {value}");
+        assert!(rt; &out[..len] == bytes, "writing {value}");
     }
 }
 
@@ -50,17 +49,17 @@ fn varints_that_end_early_or_are_too_long_are_refused(rt: HostRuntime) {
         (&[0xff, 0xff, 0xff, 0x80], ReadFault::Overlong),
     ];
     for (bytes, fault) in rows {
-        assert_eq!(rt; varint_read(bytes), Err(fault), "at {bytes:?}");
+        assert!(rt; varint_read(bytes) == Err(fault), "at {bytes:?}");
     }
 }
 
 #[test]
 fn what_follows_a_value_is_left(rt: HostRuntime) {
-    assert_eq!(rt; varint_read(&[0x7f, 0x00, 0xff]), Ok((127, 1)));
-    assert_eq!(rt; text_read(&[0, 1, 0x41, 0x42]), Ok(("A", 3)));
-    assert_eq!(rt; blob_read(&[0, 1, 0x00, 0x42]), Ok(([0x00].as_slice(), 3)));
-    assert_eq!(rt; u8_read(&[0xff, 1]), Ok((255, 1)));
-    assert_eq!(rt; u32_read(&[0, 1, 0, 2, 9]), Ok((65_538, 4)));
+    assert!(rt; varint_read(&[0x7f, 0x00, 0xff]) == Ok((127, 1)));
+    assert!(rt; text_read(&[0, 1, 0x41, 0x42]) == Ok(("A", 3)));
+    assert!(rt; blob_read(&[0, 1, 0x00, 0x42]) == Ok(([0x00].as_slice(), 3)));
+    assert!(rt; u8_read(&[0xff, 1]) == Ok((255, 1)));
+    assert!(rt; u32_read(&[0, 1, 0, 2, 9]) == Ok((65_538, 4)));
 }
 
 #[test]
@@ -69,10 +68,7 @@ fn values_are_written_at_the_end(rt: HostRuntime) -> Result<(), Fail> {
     varint_push(&mut out, 321)?;
     u16_push(&mut out, 10)?;
     blob_push(&mut out, b"a/b")?;
-    assert_eq!(rt;
-        out.as_slice(),
-        [0xc1, 0x02, 0, 10, 0, 3, b'a', b'/', b'b'].as_slice()
-    );
+    assert!(rt; out.as_slice() == [0xc1, 0x02, 0, 10, 0, 3, b'a', b'/', b'b'].as_slice());
     Ok(())
 }
 
@@ -82,11 +78,11 @@ fn a_refused_growth_leaves_what_stood(rt: HostRuntime) -> Result<(), Fail> {
     let mut out = Vec::with_capacity(rt.alloc(), 1)?;
     out.push(0xaa)?;
     if blob_push(&mut out, b"a/b").is_err() {
-        assert_eq!(rt; out.as_slice(), [0xaa].as_slice(), "binary data");
+        assert!(rt; out.as_slice() == [0xaa].as_slice(), "binary data");
     }
     let before = out.len();
     if varint_push(&mut out, 268_435_455).is_err() {
-        assert_eq!(rt; out.len(), before, "a variable byte integer");
+        assert!(rt; out.len() == before, "a variable byte integer");
     }
     Ok(())
 }

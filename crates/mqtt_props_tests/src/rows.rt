@@ -1,6 +1,6 @@
 //! The property table as the tests know it (2.2.2.2).
 
-use crate::{Place, ValueKind};
+use mqtt_props::{Place, ValueKind};
 
 pub(super) const PLACES: [Place; 14] = [
     Place::Connect,
@@ -218,3 +218,8 @@ const TABLE: [(u32, ValueKind, &[u8], &[u8], &[u8]); 27] = [
 pub(super) fn table() -> &'static [(u32, ValueKind, &'static [u8], &'static [u8], &'static [u8])] {
     &TABLE
 }
+
+// A block of four properties of a PUBLISH, and two bytes behind it.
+pub(super) const PUBLISH: [u8; 17] = [
+    14, 1, 1, 0x23, 0, 5, 0x26, 0, 1, b'k', 0, 1, b'v', 0x0b, 7, 0xaa, 0xbb,
+];
