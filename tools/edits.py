@@ -31,37 +31,38 @@ class Function:
         return "::".join(it for it in [self.owner[0] if self.owner else "", self.name] if it)
 
     def paths(self):
-        """Returns the paths by which a check may know the function, the likeliest first, and its module at the end."""
+        """Returns the paths by which a check may know the function, the likeliest first."""
         modules = "::".join(self.modules)
         kind, of = self.owner or ("", "")
-        owners = [of + kind_ for kind_ in ("", "Impl")] if of != kind else [kind]
-        owners = [plain(it) for it in owners] if self.owner else [""]
-        found = ["::".join(it for it in [modules, owner, *self.outer, self.name] if it) for owner in owners]
-        return [*found, self.name, modules]
+        owners = [plain(of), plain(of + "Impl")] if of != kind else [kind] if kind else []
+        whole = ["::".join(it for it in [modules, owner, *self.outer, self.name] if it) for owner in owners or [""]]
+        # (a method may be named by the module of its type, so the end of its name comes first)
+        return [*["::".join([it, *self.outer, self.name]) for it in owners if it], *whole, self.name]
 
     def pattern(self, crate):
         """Returns what the names of this function, and of the closures in it, look like in the lines of a check."""
         kind, of = self.owner or ("", "")
+        modules = "".join(rf"{it}::" for it in self.modules)
         if not self.owner:
             owner = ""
         elif of == kind:
-            # (an impl for some parameters alone has these in its name)
-            owner = rf"{re.escape(kind)}(?:\+[\w+]+)?::"
+            # (an impl for some parameters alone has these in its name; a method may be named by the module of its type)
+            owner, modules = rf"{re.escape(kind)}(?:\+[\w+]+)?::", r"(?:\w+::)*?"
         else:
-            owner = rf"[\w+]*{re.escape(plain(kind))}[\w+]*{re.escape(of[len(kind):])}[\w+]*::"
-        way = "::".join([crate, *map(re.escape, self.modules)])
+            owner, modules = rf"[\w+]*{re.escape(plain(kind))}[\w+]*{re.escape(of[len(kind):])}[\w+]*::", r"(?:\w+::)*?"
         outer = "".join(rf"{re.escape(it)}::" for it in self.outer)
-        return re.compile(rf"{way}::(?:fn::)?{owner}{outer}{re.escape(self.name)}(?:(?:::|\+).*)?$")
+        return re.compile(rf"{crate}::{modules}(?:fn::)?{owner}{outer}{re.escape(self.name)}(?:(?:::|\+).*)?$")
 
     def names_in(self, crate, names):
         """Returns those of the names of a check that are this function's own, and not those of a like one."""
         pattern = self.pattern(crate)
         found = [it for it in names if pattern.match(it)]
-        exact = [f"{crate}::{it}" for it in self.paths()[:-2]]
+        exact = [f"{crate}::{it}" for it in self.paths() if it.startswith("::".join(self.modules))]
         # (SessionRowImpl is the impl of Row for Session where there is a type SessionRow)
         for it in reversed(exact):
             if it in found:
-                return [other for other in found if other == it or other.startswith((f"{it}::", f"{it}+")) or "::fn::" in other]
+                closures = f"{crate}::{'::'.join([*self.modules, 'fn'])}::{it.removeprefix(crate + '::').removeprefix('::'.join(self.modules) + '::')}::"
+                return [other for other in found if other == it or other.startswith((f"{it}::", f"{it}+", closures))]
         return found
 
 
