@@ -4,6 +4,7 @@ pub mod BrokerReads
 pub mod Came
 pub mod Fates
 pub mod ForGood
+pub mod Heard
 pub mod Lines
 pub mod Messages
 pub mod OpenLists

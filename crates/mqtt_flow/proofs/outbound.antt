@@ -2,6 +2,7 @@
 pub mod BrokerReads
 pub mod Carried
 pub mod Course
+pub mod Growing
 pub mod HopLaw
 pub mod Lives
 pub mod LivesCourse

@@ -1,5 +1,5 @@
 -- A conforming receiver, its line, and the line that it gave up last (MQTT 5.0, 4.3, 4.4).
-use Rattle.std.specs.Prelude.{ℕ, ◌+◌, ◌<◌, Bool, true, false, cond, ◌||◌, List, [], ◌∷◌, ◌++◌, nat_eq, if◌then◌else◌, All, ⊤}
+use Rattle.std.specs.Prelude.{◌≡◌, ℕ, ◌+◌, ◌<◌, Bool, true, false, cond, ◌||◌, List, [], ◌∷◌, ◌++◌, nat_eq, if◌then◌else◌, All, ⊤}
 use Rattle.mqtt_base.specs.Codes.{success, identifier_not_found}
 use Rattle.mqtt_flow.specs.Identifiers.{is_among, ids_without}
 use Rattle.mqtt_flow.specs.Line.{Link, away, asked, live, sent_on}
@@ -55,6 +55,30 @@ spared (connect c ∷ rest) = connect c ∷ rest
 spared (puback i code ∷ rest) = []
 spared (pubrec i code ∷ rest) = []
 spared (pubcomp i code ∷ rest) = []
+
+-- no CONNECT is under way
+abbrev pub HasNoConnect : List Answer → Type 0
+HasNoConnect [] = ⊤
+HasNoConnect (connect c ∷ rest) = ⊥
+HasNoConnect (puback i code ∷ rest) = HasNoConnect rest
+HasNoConnect (pubrec i code ∷ rest) = HasNoConnect rest
+HasNoConnect (pubcomp i code ∷ rest) = HasNoConnect rest
+
+-- or one alone
+abbrev pub IsConnectAlone : List Answer → Type 0
+IsConnectAlone [] = ⊤
+IsConnectAlone (connect c ∷ rest) = rest ≡ []
+IsConnectAlone (puback i code ∷ rest) = HasNoConnect rest
+IsConnectAlone (pubrec i code ∷ rest) = HasNoConnect rest
+IsConnectAlone (pubcomp i code ∷ rest) = HasNoConnect rest
+
+-- by whether the session is connected there: an answer is under way only where it is, a CONNECT only where it isn't yet
+abbrev pub IsHeard : Bool → List Answer → Type 0
+IsHeard linked [] = ⊤
+IsHeard linked (connect c ∷ rest) = linked ≡ false
+IsHeard linked (puback i code ∷ rest) = linked ≡ true
+IsHeard linked (pubrec i code ∷ rest) = linked ≡ true
+IsHeard linked (pubcomp i code ∷ rest) = linked ≡ true
 
 -- the receiver reads
 abbrev pub kept_after : ℕ → List ℕ → List ℕ

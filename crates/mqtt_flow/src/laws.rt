@@ -4,7 +4,7 @@ ghost use Rattle.std.specs.Prelude.{◌≡◌, ◌≢◌, ℕ, ◌≤◌, true, 
 ghost use Rattle.mqtt_flow.specs.Identifiers.{ids_without, is_among};
 ghost use Rattle.mqtt_flow.specs.Inbound.{answer_to, open_after, IsOpenList};
 ghost use Rattle.mqtt_flow.specs.Publisher.{IsExactlyOnce, IsEnded, completed, refused, ended_1, ended};
-ghost use Rattle.mqtt_flow.specs.InboundWorld.{Event, after, fate_of, accepted_count};
+ghost use Rattle.mqtt_flow.specs.InboundWorld.{Event, after, fate_of, accepted_count, ConnectsAlone, Heard};
 ghost use Rattle.mqtt_flow.specs.declared.inflow.Published.TheVariants.{New};
 
 use mqtt_base::OPEN_LIMIT;
@@ -45,4 +45,8 @@ pub fn inbound_once()
 
     // The session never has more identifiers open than its Receive Maximum (4.9).
     ensures within { (events : List Event) → length (after events).ids ≤ OPEN_LIMIT }
+
+    // What is under way on the publisher's line, and on the one that it gave up last.
+    ensures alone { (events : List Event) → ConnectsAlone (after events) }
+    ensures heard { (events : List Event) → Heard (after events) }
 {}

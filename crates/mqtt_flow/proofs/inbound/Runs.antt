@@ -120,11 +120,11 @@ fresh_keeps w (close code) h = inr (fresh_closes code w h)
 fresh_keeps w close_old h = inr (fresh_drops w h)
 fresh_keeps w restart h = inr (fresh_lines w away false [] [] [] (inl refl) (blank_away refl refl refl refl) h)
 
-good_keeps : (w : World) (e : Event) → Good w → Good (step w e)
+pub good_keeps : (w : World) (e : Event) → Good w → Good (step w e)
 good_keeps w e (inl h) = keeps w e h
 good_keeps w e (inr h) = fresh_keeps w e h
 
-begins : Good start
+pub begins : Good start
 begins = inl (record {
   each = λ j. (free, record { holds = refl; of_old = inl refl; of_up = inl refl; of_down = inl refl; open_is = refl; fits = tt });
   told = λ n. refl;

@@ -25,10 +25,10 @@ carries_push fs [] x c h = (h, tt)
 carries_push fs (y ∷ hs) x c h = (c.0, carries_push fs hs x c.1 h)
 
 -- nothing is read
-abbrev Quiet : World → World → Type 0
+abbrev pub Quiet : World → World → Type 0
 Quiet w w' = (w'.ledger ≡ w.ledger) × (w'.reads ≡ w.reads)
 
-silent : (w : World) → Quiet w w
+pub silent : (w : World) → Quiet w w
 silent w = (refl, refl)
 
 replying : (r : Reply) (rest : List Answer) (cs : List Life) (w : World) → Quiet w (replied r rest cs w)
@@ -51,21 +51,21 @@ connecting_old false c false rest w = silent w
 connecting_old true true r rest w = silent w
 connecting_old true false r rest w = silent w
 
-ups_quiet : (r : Bool) (order : List ℕ) (up : List Answer) (w : World) → Quiet w (up_comes r order up w)
+pub ups_quiet : (r : Bool) (order : List ℕ) (up : List Answer) (w : World) → Quiet w (up_comes r order up w)
 ups_quiet r order [] w = silent w
 ups_quiet r order (connect c ∷ rest) w = connecting w.stands c r order rest w
 ups_quiet r order (puback i code ∷ rest) w = replying (puback_reply (find i w.copies)) rest _ w
 ups_quiet r order (pubrec i code ∷ rest) w = replying (pubrec_reply i code (find i w.copies)) rest _ w
 ups_quiet r order (pubcomp i code ∷ rest) w = replying (pubcomp_reply (find i w.copies)) rest _ w
 
-olds_quiet : (r : Bool) (old : List Answer) (w : World) → Quiet w (old_comes r old w)
+pub olds_quiet : (r : Bool) (old : List Answer) (w : World) → Quiet w (old_comes r old w)
 olds_quiet r [] w = silent w
 olds_quiet r (connect c ∷ rest) w = connecting_old w.stands c r rest w
 olds_quiet r (puback i code ∷ rest) w = replying_old (puback_reply (find i w.copies)) rest _ w
 olds_quiet r (pubrec i code ∷ rest) w = replying_old (pubrec_reply i code (find i w.copies)) rest _ w
 olds_quiet r (pubcomp i code ∷ rest) w = replying_old (pubcomp_reply (find i w.copies)) rest _ w
 
-pump_quiet : (i : ℕ) (w : World) → Quiet w (pump_one i w)
+pub pump_quiet : (i : ℕ) (w : World) → Quiet w (pump_one i w)
 pump_quiet i w = silent w
 
 connack_quiet : (l : Link) (p : Bool) (rest : List Output) (w : World) → Quiet w (read_connack l p rest w)
@@ -73,17 +73,17 @@ connack_quiet away p rest w = silent w
 connack_quiet asked p rest w = silent w
 connack_quiet live p rest w = silent w
 
-enter_quiet : (s : Bool) (b : Body) (w : World) → Quiet w (enters_in s b w)
+pub enter_quiet : (s : Bool) (b : Body) (w : World) → Quiet w (enters_in s b w)
 enter_quiet true b w = silent w
 enter_quiet false b w = silent w
 
-gives_quiet : (c : Bool) (l : Link) (w : World) → Quiet w (gives_up c l w)
+pub gives_quiet : (c : Bool) (l : Link) (w : World) → Quiet w (gives_up c l w)
 gives_quiet true l w = silent w
 gives_quiet false away w = silent w
 gives_quiet false asked w = silent w
 gives_quiet false live w = silent w
 
-joins_quiet : (l : Link) (c : Bool) (w : World) → Quiet w (joins l c w)
+pub joins_quiet : (l : Link) (c : Bool) (w : World) → Quiet w (joins l c w)
 joins_quiet away c w = silent w
 joins_quiet asked c w = silent w
 joins_quiet live c w = silent w

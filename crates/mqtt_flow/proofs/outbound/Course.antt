@@ -2,19 +2,20 @@
 use Rattle.std.proofs.Common.{◌≡◌, ℕ, zero, suc, Bool, true, false, List, [], ◌∷◌, ◌++◌, map, nat_lt, if◌then◌else◌, refl, sym, ap, ◌∙◌, subst, Option, Some, None, slice_get, option_map}
 use Rattle.std.proofs.lemmas.Option.{slice_get-map}
 use Rattle.mqtt_base.specs.declared.Ending.{Ending}
-use Rattle.mqtt_base.specs.declared.Ending.TheVariants.{Taken, Refused}
+use Rattle.mqtt_base.specs.declared.Ending.TheVariants.{Taken, Refused, Expired, TooLarge, SessionEnded, Dropped}
 use Rattle.mqtt_flow.specs.Line.{Link, away, asked, live}
 use Rattle.mqtt_flow.specs.Receiver.{Body, Output, Answer, connect, puback, pubrec, pubcomp, read_publish, read_connack, down_comes, gives_up, joins}
 use Rattle.mqtt_flow.proofs.outbound.Lives.{Mark, sent, released, Life, waiting, in_flight, ended, body_of, pids, find, pumped, anew, cut, Lapse, lapse_at, cause, Turn, stay, over, turned, answered, on_puback, on_pubrec, on_pubcomp, Reply, wrong, says, puback_reply, pubrec_reply, pubcomp_reply}
 use Rattle.mqtt_flow.proofs.outbound.LivesWorld.{World, Event, enter, finish, pump, to_broker, old_to_broker, to_end, give_up, break_line, make_line, close, close_old, restart, enters_in, pump_one, unused_of, connects, connects_old, replied, replied_old, up_comes, old_comes, step, run}
 use Rattle.mqtt_flow.specs.Receiver as q
-use Rattle.mqtt_flow.proofs.outbound.LivesCourse.{Of_sent, Next, Goes_on}
+use Rattle.mqtt_flow.proofs.outbound.LivesCourse.{Of_sent, Of_taken, Of_large, Of_released, Next, Goes_on}
 use Rattle.mqtt_flow.proofs.outbound.Sends.{get_lapse, get_pumped}
 use Rattle.mqtt_flow.proofs.outbound.Steps.{get_answered}
 
 next_same : (f : Life) → Next f f
 next_same (waiting b) = refl
-next_same (in_flight i m b) = refl
+next_same (in_flight i (sent h) b) = refl
+next_same (in_flight i (released h t) b) = (refl, refl)
 next_same (ended e b) = refl
 
 pub same : (f : Option Life) → Goes_on f f
@@ -23,18 +24,58 @@ same (Some f) = next_same f
 
 pub next_body : (f g : Life) → Next f g → body_of g ≡ body_of f
 next_body (waiting b) g h = h
-next_body (in_flight i m b) (waiting c) h = absurd h
-next_body (in_flight i m b) (in_flight j p c) h = h
-next_body (in_flight i m b) (ended e c) h = h.1
+next_body (in_flight i (sent x) b) (waiting c) h = absurd h
+next_body (in_flight i (sent x) b) (in_flight j p c) h = h
+next_body (in_flight i (sent x) b) (ended e c) h = h.1
+next_body (in_flight i (released x t) b) (waiting c) h = absurd h
+next_body (in_flight i (released x t) b) (in_flight j (sent y) c) h = absurd h
+next_body (in_flight i (released x t) b) (in_flight j (released y u) c) h = h.1
+next_body (in_flight i (released x t) b) (ended e c) h = h.1
 next_body (ended e b) g h = ap body_of h
+
+-- a released copy was sent
+taken_sent : (e : Ending) → Of_taken e → Of_sent e
+taken_sent Taken h = tt
+taken_sent Refused h = tt
+taken_sent Expired h = absurd h
+taken_sent TooLarge h = tt
+taken_sent SessionEnded h = tt
+taken_sent Dropped h = absurd h
+
+large_sent : (e : Ending) → Of_large e → Of_sent e
+large_sent Taken h = tt
+large_sent Refused h = tt
+large_sent Expired h = absurd h
+large_sent TooLarge h = tt
+large_sent SessionEnded h = tt
+large_sent Dropped h = absurd h
+
+released_sent : (t : Bool) (e : Ending) → Of_released t e → Of_sent e
+released_sent true e h = taken_sent e h
+released_sent false e h = large_sent e h
+
+released_cut : (t : Bool) → Of_released t SessionEnded
+released_cut true = tt
+released_cut false = tt
 
 next_next : (f g k : Life) → Next f g → Next g k → Next f k
 next_next (waiting b) g k x y = next_body g k y ∙ x
-next_next (in_flight i m b) (waiting c) k x y = absurd x
-next_next (in_flight i m b) (in_flight j p c) (waiting d) x y = absurd y
-next_next (in_flight i m b) (in_flight j p c) (in_flight l r d) x y = y ∙ x
-next_next (in_flight i m b) (in_flight j p c) (ended e d) x y = (y.0, y.1 ∙ x)
-next_next (in_flight i m b) (ended e c) k x y = subst (Next (in_flight i m b)) (sym y) x
+next_next (in_flight i (sent h) b) (waiting c) k x y = absurd x
+next_next (in_flight i (sent h) b) (in_flight j (sent p) c) (waiting d) x y = absurd y
+next_next (in_flight i (sent h) b) (in_flight j (sent p) c) (in_flight l r d) x y = y ∙ x
+next_next (in_flight i (sent h) b) (in_flight j (sent p) c) (ended e d) x y = (y.0, y.1 ∙ x)
+next_next (in_flight i (sent h) b) (in_flight j (released p t) c) (waiting d) x y = absurd y
+next_next (in_flight i (sent h) b) (in_flight j (released p t) c) (in_flight l (sent r) d) x y = absurd y
+next_next (in_flight i (sent h) b) (in_flight j (released p t) c) (in_flight l (released r u) d) x y = y.1 ∙ x
+next_next (in_flight i (sent h) b) (in_flight j (released p t) c) (ended e d) x y = (released_sent t e y.0, y.1 ∙ x)
+next_next (in_flight i (sent h) b) (ended e c) k x y = subst (Next (in_flight i (sent h) b)) (sym y) x
+next_next (in_flight i (released h t) b) (waiting c) k x y = absurd x
+next_next (in_flight i (released h t) b) (in_flight j (sent p) c) k x y = absurd x
+next_next (in_flight i (released h t) b) (in_flight j (released p u) c) (waiting d) x y = absurd y
+next_next (in_flight i (released h t) b) (in_flight j (released p u) c) (in_flight l (sent r) d) x y = absurd y
+next_next (in_flight i (released h t) b) (in_flight j (released p u) c) (in_flight l (released r v) d) x y = (y.0 ∙ x.0, y.1 ∙ x.1)
+next_next (in_flight i (released h t) b) (in_flight j (released p u) c) (ended e d) x y = (subst (λ v. Of_released v e) x.0 y.0, y.1 ∙ x.1)
+next_next (in_flight i (released h t) b) (ended e c) k x y = subst (Next (in_flight i (released h t) b)) (sym y) x
 next_next (ended e b) g k x y = let z : Next (ended e b) k = subst (λ g. Next g k) x y in z
 
 pub trans : (f g k : Option Life) → Goes_on f g → Goes_on g k → Goes_on f k
@@ -47,43 +88,51 @@ trans (Some f) (Some g) (Some k) x y = next_next f g k x y
 on_anew : (f : Option Life) → Goes_on f (option_map anew f)
 on_anew None = tt
 on_anew (Some (waiting b)) = refl
-on_anew (Some (in_flight i m b)) = refl
+on_anew (Some (in_flight i (sent h) b)) = refl
+on_anew (Some (in_flight i (released h t) b)) = (refl, refl)
 on_anew (Some (ended e b)) = refl
 
 on_cut : (f : Option Life) → Goes_on f (option_map cut f)
 on_cut None = tt
 on_cut (Some (waiting b)) = refl
-on_cut (Some (in_flight i m b)) = (tt, refl)
+on_cut (Some (in_flight i (sent h) b)) = (tt, refl)
+on_cut (Some (in_flight i (released h t) b)) = (released_cut t, refl)
 on_cut (Some (ended e b)) = refl
 
-abbrev Fair : Turn → Type 0
-Fair (stay m) = Unit {0}
-Fair (over e) = Of_sent e
+abbrev Fair : Mark → Turn → Type 0
+Fair (sent h) (stay m) = Unit {0}
+Fair (sent h) (over e) = Of_sent e
+Fair (released h t) (stay (sent k)) = ⊥
+Fair (released h t) (stay (released k u)) = u ≡ t
+Fair (released h t) (over e) = Of_released t e
 
-on_turn : (i : ℕ) (m : Mark) (b : Body) (t : Turn) → Fair t → Next (in_flight i m b) (turned i t b)
-on_turn i m b (stay x) h = refl
-on_turn i m b (over e) h = (h, refl)
+on_turn : (i : ℕ) (m : Mark) (b : Body) (t : Turn) → Fair m t → Next (in_flight i m b) (turned i t b)
+on_turn i (sent y) b (stay x) h = refl
+on_turn i (sent y) b (over e) h = (h, refl)
+on_turn i (released y t) b (stay (sent k)) h = absurd h
+on_turn i (released y t) b (stay (released k u)) h = (h, refl)
+on_turn i (released y t) b (over e) h = (h, refl)
 
-on_answer : (i : ℕ) (g : Mark → Body → Turn) → ((m : Mark) (b : Body) → Fair (g m b)) → (f : Option Life) → Goes_on f (option_map (answered i g) f)
+on_answer : (i : ℕ) (g : Mark → Body → Turn) → ((m : Mark) (b : Body) → Fair m (g m b)) → (f : Option Life) → Goes_on f (option_map (answered i g) f)
 on_answer i g fair f = get_answered (Goes_on f) i g f (λ j m b e s p. trans f (Some (in_flight j m b)) (Some (turned j (g m b) b)) p (on_turn j m b (g m b) (fair m b))) (same f)
 
-if_fair : (c : Bool) (s t : Turn) → Fair s → Fair t → Fair (if c then s else t)
-if_fair true s t x y = x
-if_fair false s t x y = y
+if_fair : (m : Mark) (c : Bool) (s t : Turn) → Fair m s → Fair m t → Fair m (if c then s else t)
+if_fair m true s t x y = x
+if_fair m false s t x y = y
 
 fair_end : (c : Bool) (d e : Ending) → Of_sent d → Of_sent e → Of_sent (if c then d else e)
 fair_end true d e x y = x
 fair_end false d e x y = y
 
-fair_puback : (code : ℕ) (m : Mark) (b : Body) → Fair (on_puback code m b)
-fair_puback code (sent h) b = if_fair b.twice (stay (sent h)) (over (if nat_lt code 128 then Taken else Refused)) tt (fair_end (nat_lt code 128) Taken Refused tt tt)
-fair_puback code (released h t) b = tt
+fair_puback : (code : ℕ) (m : Mark) (b : Body) → Fair m (on_puback code m b)
+fair_puback code (sent h) b = if_fair (sent h) b.twice (stay (sent h)) (over (if nat_lt code 128 then Taken else Refused)) tt (fair_end (nat_lt code 128) Taken Refused tt tt)
+fair_puback code (released h t) b = refl
 
-fair_pubrec : (code : ℕ) (m : Mark) (b : Body) → Fair (on_pubrec code m b)
-fair_pubrec code (sent h) b = if_fair b.twice (if nat_lt code 128 then stay (released h true) else over Refused) (stay (sent h)) (if_fair (nat_lt code 128) (stay (released h true)) (over Refused) tt tt) tt
-fair_pubrec code (released h t) b = tt
+fair_pubrec : (code : ℕ) (m : Mark) (b : Body) → Fair m (on_pubrec code m b)
+fair_pubrec code (sent h) b = if_fair (sent h) b.twice (if nat_lt code 128 then stay (released h true) else over Refused) (stay (sent h)) (if_fair (sent h) (nat_lt code 128) (stay (released h true)) (over Refused) tt tt) tt
+fair_pubrec code (released h t) b = refl
 
-fair_pubcomp : (m : Mark) (b : Body) → Fair (on_pubcomp m b)
+fair_pubcomp : (m : Mark) (b : Body) → Fair m (on_pubcomp m b)
 fair_pubcomp (sent h) b = tt
 fair_pubcomp (released h true) b = tt
 fair_pubcomp (released h false) b = tt
