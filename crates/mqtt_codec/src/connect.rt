@@ -11,6 +11,7 @@ ghost use Rattle.mqtt_codec.specs.Connect.{will_at, will_of, will_field, user_na
 use crate::blocks::stands;
 use crate::connect_flags::{Flags, WillFlags, flags_read};
 use crate::fault::Fault;
+use crate::owned::both;
 use mqtt_base::{Blob, Qos, Text, blob_push, blob_read, text_read, u8_read, u16_push, u16_read};
 use mqtt_props::{Place, PropList, PropsRef, layout_read};
 use std::alloc::{AllocError, Global};
@@ -220,12 +221,16 @@ impl WillRef<'_> {
         requires { FitsWill (will_of self.now) }
         ensures { IfOk result (λ w. w ≡ will_of self.now) }
     {
+        let topic = Text::new(alloc, self.topic)?;
+        let (topic, payload) = both(topic, Blob::new(alloc, self.payload))?;
+        let properties = self.properties.to_list(alloc);
+        let ((topic, payload), properties) = both((topic, payload), properties)?;
         Ok(Will {
             qos: self.qos,
             retain: self.retain,
-            properties: self.properties.to_list(alloc)?,
-            topic: Text::new(alloc, self.topic)?,
-            payload: Blob::new(alloc, self.payload)?,
+            properties,
+            topic,
+            payload,
         })
     }
 }
@@ -290,6 +295,42 @@ fn will_flags_of(will: &Option<WillRef<'_>>) -> Option<WillFlags>
             retain: will.retain,
         }),
         None => None,
+    }
+}
+
+/// An owned copy of a text, if there is one.
+#[inline(always)]
+fn to_text(alloc: Global, text: Option<&str>) -> Result<Option<Text>, AllocError>
+    requires { FitsOptional FitsText (option_map (λ t. t.now) text) }
+    ensures { IfOk result (λ copy. copy ≡ option_map (λ t. t.now) text.entry) }
+{
+    match text {
+        Some(text) => Text::new(alloc, text).map(Some),
+        None => Ok(None),
+    }
+}
+
+/// An owned copy of binary data, if there is any.
+#[inline(always)]
+fn to_blob(alloc: Global, bytes: Option<&[u8]>) -> Result<Option<Blob>, AllocError>
+    requires { FitsOptional (λ b. length b < 2 ^ 16) (option_map (λ b. b.now) bytes) }
+    ensures { IfOk result (λ copy. copy ≡ option_map (λ b. b.now) bytes.entry) }
+{
+    match bytes {
+        Some(bytes) => Blob::new(alloc, bytes).map(Some),
+        None => Ok(None),
+    }
+}
+
+/// An owned copy of the Will, if there is one.
+#[inline(always)]
+fn to_will(alloc: Global, will: &Option<WillRef<'_>>) -> Result<Option<Will>, AllocError>
+    requires { FitsOptional FitsWill (option_map will_of will.now) }
+    ensures { IfOk result (λ copy. copy ≡ option_map will_of will.now) }
+{
+    match will {
+        Some(will) => will.to_will(alloc).map(Some),
+        None => Ok(None),
     }
 }
 
@@ -375,23 +416,20 @@ impl ConnectRef<'_> {
         requires { FitsConnect (connect_of self.now) }
         ensures { IfOk result (λ c. c ≡ connect_of self.now) }
     {
+        let client_identifier = Text::new(alloc, self.client_identifier)?;
+        let names = both(client_identifier, to_text(alloc, self.user_name))?;
+        let secrets = both(names, to_blob(alloc, self.password))?;
+        let properties = both(secrets, self.properties.to_list(alloc))?;
+        let all = both(properties, to_will(alloc, &self.will))?;
+        let ((((client_identifier, user_name), password), properties), will) = all;
         Ok(Connect {
             clean_start: self.clean_start,
             keep_alive: self.keep_alive,
-            properties: self.properties.to_list(alloc)?,
-            client_identifier: Text::new(alloc, self.client_identifier)?,
-            will: match &self.will {
-                Some(will) => Some(will.to_will(alloc)?),
-                None => None,
-            },
-            user_name: match self.user_name {
-                Some(name) => Some(Text::new(alloc, name)?),
-                None => None,
-            },
-            password: match self.password {
-                Some(password) => Some(Blob::new(alloc, password)?),
-                None => None,
-            },
+            properties,
+            client_identifier,
+            will,
+            user_name,
+            password,
         })
     }
 }

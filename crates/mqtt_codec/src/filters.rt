@@ -119,9 +119,8 @@ impl<'a> FiltersRef<'a> {
     pub(crate) fn to_list(&self, alloc: Global) -> Result<Filters, AllocError>
         ensures { IfOk result (λ list. list ≡ self.now) }
     {
-        Ok(Filters {
-            bytes: Bytes::copy_from_slice(alloc, self.bytes)?,
-        })
+        let bytes = Bytes::copy_from_slice(alloc, self.bytes)?;
+        Ok(Filters { bytes })
     }
 }
 

@@ -20,12 +20,9 @@ use crate::publish::publish_read;
 use crate::suback::suback_read;
 use crate::subscribe::subscribe_read;
 use crate::unsubscribe::unsubscribe_read;
-use mqtt_base::{Kind, ReadFault, text_read, u8_read, varint_push, varint_read};
+use mqtt_base::{Kind, ReadFault, VARINT_LIMIT, text_read, u8_read, varint_push, varint_read};
 use mqtt_props::Place;
 use std::alloc::{AllocError, Global};
-
-/// Bytes: a Remaining Length is below it, since it is a Variable Byte Integer (2.1.4).
-const BODY_LIMIT: usize = 268_435_456;
 
 #[inline(always)]
 #[tactic(auto, unfolding(crate::specs::Frames::frame_at))]
@@ -103,6 +100,7 @@ macro_rules! lawful_part {
             return Err(Fault::Malformed);
         };
         if !part.$test($($place)?) {
+            drop(part);
             return Err(Fault::Protocol);
         }
         Ok(PacketRef::$packet(part))
@@ -174,7 +172,9 @@ pub fn decode(alloc: Global, frame: &[u8]) -> Result<Packet, Fault>
     ensures refused { IfErr result (λ fault. (fault ≡ faults.Memory) ⊎ Refusal fault frame.now) }
 {
     let packet = look_at(frame)?;
-    Ok(packet.to_packet(alloc)?)
+    let owned = packet.to_packet(alloc);
+    drop(packet);
+    Ok(owned?)
 }
 
 impl PacketRef<'_> {
@@ -212,16 +212,14 @@ impl PacketRef<'_> {
             PacketRef::Connect(connect) => connect.len(),
             PacketRef::Connack(connack) => connack.len(),
             PacketRef::Publish(publish) => publish.len(),
-            PacketRef::Puback(ack) => ack.len(),
-            PacketRef::Pubrec(ack) => ack.len(),
-            PacketRef::Pubrel(ack) => ack.len(),
-            PacketRef::Pubcomp(ack) => ack.len(),
+            PacketRef::Puback(ack)
+            | PacketRef::Pubrec(ack)
+            | PacketRef::Pubrel(ack)
+            | PacketRef::Pubcomp(ack) => ack.len(),
             PacketRef::Subscribe(subscribe) => subscribe.len(),
-            PacketRef::Suback(suback) => suback.len(),
+            PacketRef::Suback(suback) | PacketRef::Unsuback(suback) => suback.len(),
             PacketRef::Unsubscribe(unsubscribe) => unsubscribe.len(),
-            PacketRef::Unsuback(suback) => suback.len(),
-            PacketRef::Pingreq => 0,
-            PacketRef::Pingresp => 0,
+            PacketRef::Pingreq | PacketRef::Pingresp => 0,
             PacketRef::Disconnect(notice) => notice.disconnect_len(),
             PacketRef::Auth(notice) => notice.auth_len(),
         }
@@ -237,16 +235,14 @@ impl PacketRef<'_> {
             PacketRef::Connect(connect) => connect.push(out),
             PacketRef::Connack(connack) => connack.push(out),
             PacketRef::Publish(publish) => publish.push(out),
-            PacketRef::Puback(ack) => ack.push(out),
-            PacketRef::Pubrec(ack) => ack.push(out),
-            PacketRef::Pubrel(ack) => ack.push(out),
-            PacketRef::Pubcomp(ack) => ack.push(out),
+            PacketRef::Puback(ack)
+            | PacketRef::Pubrec(ack)
+            | PacketRef::Pubrel(ack)
+            | PacketRef::Pubcomp(ack) => ack.push(out),
             PacketRef::Subscribe(subscribe) => subscribe.push(out),
-            PacketRef::Suback(suback) => suback.push(out),
+            PacketRef::Suback(suback) | PacketRef::Unsuback(suback) => suback.push(out),
             PacketRef::Unsubscribe(unsubscribe) => unsubscribe.push(out),
-            PacketRef::Unsuback(suback) => suback.push(out),
-            PacketRef::Pingreq => Ok(()),
-            PacketRef::Pingresp => Ok(()),
+            PacketRef::Pingreq | PacketRef::Pingresp => Ok(()),
             PacketRef::Disconnect(notice) => notice.push_disconnect(out),
             PacketRef::Auth(notice) => notice.push_auth(out),
         }
@@ -261,7 +257,7 @@ pub fn lawful(packet: &Packet) -> bool
         return false;
     }
     let lent = packet.lend();
-    lent.body_len() < BODY_LIMIT && lent.is_lawful()
+    lent.body_len() < VARINT_LIMIT as usize && lent.is_lawful()
 }
 
 /// Writes the shortest spelling of the packet (2.1); `Memory` (5) is its only refusal.

@@ -13,14 +13,13 @@ mod head;
 mod laws;
 mod notice;
 mod options;
+mod owned;
 mod packet;
 mod publish;
 mod suback;
 mod subscribe;
 mod subscriptions;
 mod tail;
-#[cfg(test)]
-mod tests;
 mod unsubscribe;
 
 pub use ack::{Ack, AckRef};

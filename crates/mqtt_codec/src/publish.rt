@@ -9,6 +9,7 @@ ghost use Rattle.mqtt_codec.specs.Publish.{delivery_head, delivery_qos, delivery
 
 use crate::blocks::stands;
 use crate::fault::Fault;
+use crate::owned::both;
 use bytes::Bytes;
 use mqtt_base::{Qos, ReadFault, Text, blob_push, text_read, u16_push, u16_read};
 use mqtt_props::{Place, PropList, PropName, PropsRef, layout_read};
@@ -216,12 +217,16 @@ impl PublishRef<'_> {
         requires { FitsPublish (publish_of self.now) }
         ensures { IfOk result (λ p. p ≡ publish_of self.now) }
     {
+        let topic = Text::new(alloc, self.topic)?;
+        let (topic, properties) = both(topic, self.properties.to_list(alloc))?;
+        let payload = Bytes::copy_from_slice(alloc, self.payload);
+        let ((topic, properties), payload) = both((topic, properties), payload)?;
         Ok(Publish {
             delivery: self.delivery,
             retain: self.retain,
-            topic: Text::new(alloc, self.topic)?,
-            properties: self.properties.to_list(alloc)?,
-            payload: Bytes::copy_from_slice(alloc, self.payload)?,
+            topic,
+            properties,
+            payload,
         })
     }
 }

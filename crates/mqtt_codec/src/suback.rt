@@ -6,6 +6,7 @@ ghost use Rattle.mqtt_codec.specs.Suback.{are_codes, suback_at, suback_of, subac
 
 use crate::blocks::stands;
 use crate::fault::Fault;
+use crate::owned::both;
 use bytes::Bytes;
 use mqtt_base::{Kind, Reason, u16_push, u16_read};
 use mqtt_props::{Place, PropList, PropsRef, layout_read};
@@ -94,10 +95,12 @@ impl SubackRef<'_> {
     pub(crate) fn to_suback(&self, alloc: Global) -> Result<Suback, AllocError>
         ensures { IfOk result (λ s. s ≡ suback_of self.now) }
     {
+        let properties = self.properties.to_list(alloc)?;
+        let (properties, codes) = both(properties, Bytes::copy_from_slice(alloc, self.codes))?;
         Ok(Suback {
             identifier: self.identifier,
-            properties: self.properties.to_list(alloc)?,
-            codes: Bytes::copy_from_slice(alloc, self.codes)?,
+            properties,
+            codes,
         })
     }
 }

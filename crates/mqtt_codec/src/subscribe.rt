@@ -6,6 +6,7 @@ ghost use Rattle.mqtt_codec.specs.Subscribe.{subscribe_at, subscribe_of, subscri
 
 use crate::blocks::stands;
 use crate::fault::Fault;
+use crate::owned::both;
 use crate::subscriptions::{Subscriptions, SubscriptionsRef, subscriptions_read};
 use mqtt_base::{u16_push, u16_read};
 use mqtt_props::{Place, PropList, PropsRef, layout_read};
@@ -88,10 +89,12 @@ impl SubscribeRef<'_> {
     pub(crate) fn to_subscribe(&self, alloc: Global) -> Result<Subscribe, AllocError>
         ensures { IfOk result (λ s. s ≡ subscribe_of self.now) }
     {
+        let properties = self.properties.to_list(alloc)?;
+        let (properties, subscriptions) = both(properties, self.subscriptions.to_list(alloc))?;
         Ok(Subscribe {
             identifier: self.identifier,
-            properties: self.properties.to_list(alloc)?,
-            subscriptions: self.subscriptions.to_list(alloc)?,
+            properties,
+            subscriptions,
         })
     }
 }

@@ -180,9 +180,8 @@ impl<'a> SubscriptionsRef<'a> {
     pub(crate) fn to_list(&self, alloc: Global) -> Result<Subscriptions, AllocError>
         ensures { IfOk result (λ list. list ≡ self.now) }
     {
-        Ok(Subscriptions {
-            bytes: Bytes::copy_from_slice(alloc, self.bytes)?,
-        })
+        let bytes = Bytes::copy_from_slice(alloc, self.bytes)?;
+        Ok(Subscriptions { bytes })
     }
 }
 

@@ -7,6 +7,7 @@ ghost use Rattle.mqtt_codec.specs.Unsubscribe.{unsubscribe_at, unsubscribe_of, u
 use crate::blocks::stands;
 use crate::fault::Fault;
 use crate::filters::{Filters, FiltersRef, filters_read};
+use crate::owned::both;
 use mqtt_base::{u16_push, u16_read};
 use mqtt_props::{Place, PropList, PropsRef, layout_read};
 use std::alloc::{AllocError, Global};
@@ -87,10 +88,12 @@ impl UnsubscribeRef<'_> {
     pub(crate) fn to_unsubscribe(&self, alloc: Global) -> Result<Unsubscribe, AllocError>
         ensures { IfOk result (λ s. s ≡ unsubscribe_of self.now) }
     {
+        let properties = self.properties.to_list(alloc)?;
+        let (properties, filters) = both(properties, self.filters.to_list(alloc))?;
         Ok(Unsubscribe {
             identifier: self.identifier,
-            properties: self.properties.to_list(alloc)?,
-            filters: self.filters.to_list(alloc)?,
+            properties,
+            filters,
         })
     }
 }

@@ -1,12 +1,16 @@
 pub mod Play
 pub mod Examples
+pub mod ExamplesSpent
+pub mod ExamplesPiece
 pub mod Goods
 pub mod Copies
 pub mod StoredLaw
 pub mod Ordered
 pub mod OrderedSteps
 pub mod OrderedActs
+pub mod Leads
 pub mod Acts
+pub mod ByDeeds
 pub mod FlightRows
 pub mod FlightQueue
 pub mod FlightRecords

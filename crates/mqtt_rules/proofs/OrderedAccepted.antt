@@ -14,9 +14,9 @@ use Rattle.mqtt_routes.specs.Intended.{Publication, Answers, Copy, Member, grant
 use Rattle.mqtt_routes.specs.Acceptance.{Served, Routed, copies_in, copies_of, uses, needs_room, has_room_beside, is_eligible, later_choices, first_choice, chosen, shared_copy, outcome, eligible_of, serve_one, serve, has_room, with_direct, routed_beside}
 use Rattle.mqtt_routes.specs.Acceptance as acceptance
 use Rattle.mqtt_records.specs.declared.session.Session.{Session}
-use Rattle.mqtt_records.specs.Order.{IsAbove, IsAscending}
+use Rattle.mqtt_rows.specs.Order.{IsAbove, IsAscending}
 use Rattle.mqtt_records.specs.Session.{birth_of}
-use Rattle.mqtt_records.proofs.OrderLemmas.{apart}
+use Rattle.mqtt_rows.proofs.OrderLemmas.{apart}
 use Rattle.mqtt_rules.specs.Packets.{quality}
 use Rattle.mqtt_rules.specs.State.{Broker, Env, session_at}
 use Rattle.mqtt_rules.specs.Deeds.{Message}
@@ -270,5 +270,5 @@ pub accepted_within : (env : Env) (m : Message) (b : Broker) (ds : List Delivery
 accepted_within env m b ds birth is up =
     let r = b.records in
     made_within (answers env r) birth (next_publication r) b.now m (routed_to env m r) ds
-    (λ x found. routed_within (answers env r) (publication_of m) birth (env.choice (next_publication r)) r.sessions x up found)
+    (λ x found. routed_within (answers env r) (publication_of m) birth (env.choice (next_publication r) m.sender) r.sessions x up found)
     (accepted_is (finds_place env m r) (option_map (deliveries (next_publication r) b.now m) (routed_to env m r)) ds is)

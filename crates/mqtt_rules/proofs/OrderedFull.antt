@@ -7,19 +7,19 @@ use Rattle.std.proofs.lemmas.Cmp.{nat_eq_equiv}
 use Rattle.std.proofs.lemmas.Bool.Decides.{nat_tests}
 use Rattle.mqtt_topic.specs.Names.{is_empty}
 use Rattle.mqtt_codec.specs.declared.packet.Packet.{Packet}
-use Rattle.mqtt_records.specs.declared.message.Retained.{Retained}
+use Rattle.mqtt_message.specs.declared.message.RetainedMessage.{RetainedMessage}
 use Rattle.mqtt_base.specs.declared.limits.TheConstants.{QUEUE_LIMIT}
 use Rattle.mqtt_records.specs.declared.session.Session.{Session}
 use Rattle.mqtt_records.specs.declared.subscription.Subscription.{Subscription}
 use Rattle.mqtt_records.specs.declared.records.Records.{Records}
 use Rattle.mqtt_records.specs.declared.change.Counter.TheVariants.{Moment}
 use Rattle.mqtt_records.specs.declared.change.Change.TheVariants.{SetCounter}
-use Rattle.mqtt_records.specs.Order.{row_at, change_row}
+use Rattle.mqtt_rows.specs.Order.{row_at, change_row}
 use Rattle.mqtt_records.specs.Session.{birth_of, with_subscription}
 use Rattle.mqtt_records.specs.Records.{changed_all}
 use Rattle.mqtt_rules.specs.declared.Limits.{Limits}
 use Rattle.mqtt_rules.specs.Packets.{publish_of, size_of}
-use Rattle.mqtt_rules.specs.State.{Line, Broker, Env, stored, session_at, line_of}
+use Rattle.mqtt_rules.specs.State.{Line, Broker, Env, stored, session_at, line_of, MemberChoice}
 use Rattle.mqtt_rules.specs.Deeds.{whose, Message, Origin, Part, Deed, Accept, Count, At, Keep, Forget, Act, after, after_all, part_rows_of, stored_after, then, always, series, with_session, of_session, offer}
 use Rattle.mqtt_rules.specs.Deeds as deed
 use Rattle.mqtt_rules.specs.Outbound.{since, room, room_at, enter_deeds}
@@ -28,7 +28,8 @@ use Rattle.mqtt_rules.specs.Subscribe as sub
 use Rattle.mqtt_rules.specs.Step.{Call, stepped, env_of, unopened, opened}
 use Rattle.mqtt_rules.specs.Laws.{HasTables, IsOrdered}
 use Rattle.mqtt_rules.proofs.Ordered.{length-filter_le, all-filter, changed-ordered}
-use Rattle.mqtt_rules.proofs.OrderedActs.{both, brought_to, Keeping, birth_found}
+use Rattle.mqtt_rules.proofs.OrderedActs.{both, Keeping, birth_found}
+use Rattle.mqtt_rules.proofs.Acts.{brought_to}
 use Rattle.mqtt_rules.proofs.OrderedAccepted.{is_to, accepted_within}
 use Rattle.mqtt_rules.proofs.OrderedQueues.{stay_is, stay_le}
 use Rattle.mqtt_rules.proofs.OrderedLimits.{step_keeps, opening_keeps}
@@ -120,7 +121,7 @@ accepted_fit env m b ds is short birth s found =
     let le : length (filter (is_to birth) ds) ≤ room env s = subst (λ (o : Option Session). length (filter (is_to birth) ds) ≤ room_at env o) found few in
     within_room env s (length (filter (is_to birth) ds)) le (all_found birth_of (IsShort env.limits.queue) birth b.records.sessions s short.short found)
 
-forgets_good : (env : Env) (ds : List Delivery) (o : Option Retained) (b : Broker) → Good env ds b → Good env ds (after_all (forgets o) b)
+forgets_good : (env : Env) (ds : List Delivery) (o : Option RetainedMessage) (b : Broker) → Good env ds b → Good env ds (after_all (forgets o) b)
 forgets_good env ds None b good = good
 forgets_good env ds (Some k) b good = (still_short env (Forget k.place) b.records tt good.0, good.1)
 
@@ -145,11 +146,11 @@ publishes_short env origin m ds b small is short =
 abbrev IsFor : ℕ → Delivery → Type 0
 IsFor birth d = d.birth ≡ birth
 
-brought_for : (t : Bool) (now number : ℕ) (s : Session) (w : sub.Wish) (ks : List Retained) → AllByRecursion (IsFor s.birth) (sub.brought_if t now number s w ks)
+brought_for : (t : Bool) (now number : ℕ) (s : Session) (w : sub.Wish) (ks : List RetainedMessage) → AllByRecursion (IsFor s.birth) (sub.brought_if t now number s w ks)
 brought_for false now number s w ks = tt
 brought_for true now number s w ks = each_for s.birth number w _
   where
-    each_for : (birth number : ℕ) (w : sub.Wish) (ks : List Retained) → AllByRecursion (IsFor birth) (map (sub.retained_delivery birth number w) ks)
+    each_for : (birth number : ℕ) (w : sub.Wish) (ks : List RetainedMessage) → AllByRecursion (IsFor birth) (map (sub.retained_delivery birth number w) ks)
     each_for birth number w [] = tt
     each_for birth number w (k ∷ ks) = (refl, each_for birth number w ks)
 
@@ -209,13 +210,13 @@ queues_keeping env small = record {
   moment = λ now r p. record { ordered = changed-ordered (SetCounter Moment now) r p.ordered; short = p.short };
 }
 
-pub step_queues : (limits : Limits) (choice : ℕ → List ℕ) (now : ℕ) (call : Call) (b : Broker) → limits.queue ≤ QUEUE_LIMIT → IsOrdered (stored b) → AreShort limits.queue (stored b).sessions
+pub step_queues : (limits : Limits) (choice : MemberChoice) (now : ℕ) (call : Call) (b : Broker) → limits.queue ≤ QUEUE_LIMIT → IsOrdered (stored b) → AreShort limits.queue (stored b).sessions
     → AreShort limits.queue (stored (stepped limits choice now call b)).sessions
 step_queues limits choice now call b small ordered short =
     let env = env_of limits choice b in
     (step_keeps limits choice now call b (ShortQueues env) (queues_keeping env small) (record { ordered = ordered; short = short })).short
 
-pub opening_queues : (limits : Limits) (choice : ℕ → List ℕ) (now : ℕ) (r : Records) → limits.queue ≤ QUEUE_LIMIT → IsOrdered r → AreShort limits.queue r.sessions
+pub opening_queues : (limits : Limits) (choice : MemberChoice) (now : ℕ) (r : Records) → limits.queue ≤ QUEUE_LIMIT → IsOrdered r → AreShort limits.queue r.sessions
     → AreShort limits.queue (stored (opened limits choice now r)).sessions
 opening_queues limits choice now r small ordered short =
     let env = env_of limits choice (unopened now r) in

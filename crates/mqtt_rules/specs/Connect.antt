@@ -1,5 +1,5 @@
 -- CONNECT: its refusals, and its effects in order (MQTT 5.0, 3.1, 3.2).
-use Rattle.std.specs.Prelude.{ℕ, suc, Bool, true, false, cond, not, ◌&&◌, List, [], ◌∷◌, ◌++◌, length, map, nat_lt, Option, Some, None, is_none, decimal, codes, option_map}
+use Rattle.std.specs.Prelude.{ℕ, suc, Bool, true, false, cond, not, ◌&&◌, List, [], ◌∷◌, ◌++◌, length, nat_lt, Option, Some, None, is_none, decimal, codes, option_map}
 use Rattle.std.specs.List.{starts_with}
 use Rattle.std.specs.Prelude.{nat_eq}
 use Rattle.mqtt_props.specs.declared.table.PropName.TheVariants.{SessionExpiryInterval, AssignedClientIdentifier, AuthenticationMethod, WillDelayInterval, ReceiveMaximum, TopicAliasMaximum, MaximumPacketSize}
@@ -10,11 +10,10 @@ use Rattle.mqtt_codec.specs.declared.connect.Will.{Will as WillAsked}
 use Rattle.mqtt_topic.specs.Names.{is_topic_name, is_empty}
 use Rattle.mqtt_base.specs.Codes.{success, session_taken_over, quota_exceeded}
 use Rattle.mqtt_flow.specs.Outbound.{resumed_with}
-use Rattle.mqtt_records.specs.declared.message.Will.{Will}
+use Rattle.mqtt_message.specs.declared.message.Will.{Will}
 use Rattle.mqtt_records.specs.declared.session.Columns.{Columns}
 use Rattle.mqtt_records.specs.declared.session.Session.{Session}
 use Rattle.mqtt_records.specs.declared.records.Records.{Records}
-use Rattle.mqtt_rules.specs.declared.Limits.{Limits}
 use Rattle.mqtt_rules.specs.Packets.{number_or, property, connack}
 use Rattle.mqtt_rules.specs.State.{Line, Env, session_named, line_of, queue_on}
 use Rattle.mqtt_rules.specs.Deeds.{whose, Resume, Greet, Deed, Begin, Name, At, On, Send, Gone, Act, after_all, always, series, only_if, with_session, with_line}
@@ -39,9 +38,9 @@ abbrev pub has_bad_topic : Option WillAsked → Bool
 has_bad_topic None = false
 has_bad_topic (Some w) = not (is_topic_name w.topic)
 
--- the client's Maximum Packet Size, above any size where it is absent (3.1.2.11.4)
+-- the client's Maximum Packet Size; absent it is the greatest that there is, above the size of any packet (3.1.2.11.4)
 abbrev pub largest_of : Connect → ℕ
-largest_of c = number_or 0x100000000 MaximumPacketSize c.properties
+largest_of c = number_or 0xffffffff MaximumPacketSize c.properties
 
 -- the front of the client identifiers that the broker assigns (ours)
 abbrev pub auto : List ℕ

@@ -1,7 +1,5 @@
 -- What a connected client sends, SUBSCRIBE and UNSUBSCRIBE aside (MQTT 5.0, 3.3 to 3.7, 3.14, 4.3, 4.4).
-use Rattle.std.specs.Prelude.{ℕ, Bool, true, false, cond, not, ◌&&◌, ◌||◌, List, [], ◌∷◌, nat_eq, nat_lt, Option, Some, None, Result, Ok, Err}
-use Rattle.mqtt_base.specs.declared.session.Qos.{Qos}
-use Rattle.mqtt_base.specs.declared.session.Qos.TheVariants as qos
+use Rattle.std.specs.Prelude.{ℕ, Bool, true, false, cond, not, ◌&&◌, ◌||◌, List, [], ◌∷◌, nat_eq, nat_lt, Option, Some, None, Ok, Err}
 use Rattle.mqtt_props.specs.declared.table.PropName.TheVariants.{SubscriptionIdentifier, TopicAlias}
 use Rattle.mqtt_props.specs.Laws.{has}
 use Rattle.mqtt_codec.specs.declared.publish.Delivery.{Delivery}
@@ -10,12 +8,11 @@ use Rattle.mqtt_codec.specs.declared.publish.Publish.{Publish}
 use Rattle.mqtt_codec.specs.Publish.{delivery_qos}
 use Rattle.mqtt_topic.specs.Names.{is_topic_name, is_empty}
 use Rattle.mqtt_topic.specs.Aliases.{topic_of}
-use Rattle.mqtt_flow.specs.declared.fault.FlowFault.{FlowFault}
 use Rattle.mqtt_flow.specs.declared.entry.Turn.{Turn}
 use Rattle.mqtt_flow.specs.declared.inflow.Published.{Published}
 use Rattle.mqtt_flow.specs.declared.inflow.Published.TheVariants.{New, Again, Over}
-use Rattle.mqtt_flow.specs.declared.inflow.Released.{Released}
-use Rattle.mqtt_flow.specs.declared.inflow.Released.TheVariants.{Known, Unknown}
+use Rattle.mqtt_flow.specs.declared.inflow.ReleaseAnswer.{ReleaseAnswer}
+use Rattle.mqtt_flow.specs.declared.inflow.ReleaseAnswer.TheVariants.{Known, Unknown}
 use Rattle.mqtt_base.specs.Codes.{success, no_matching_subscribers, identifier_in_use, identifier_not_found, receive_maximum_exceeded, quota_exceeded}
 use Rattle.mqtt_flow.specs.Inbound.{answer_to, answer_to_release}
 use Rattle.mqtt_flow.specs.Outbound.{Answer, pump}
@@ -132,7 +129,7 @@ on_publish env l s p b = publish_meant (meaning p l.aliases) env l s p b
 
 -- ---- PUBREL (4.3.3)
 
-abbrev pub release_by : Released → Line → Session → ℕ → List Deed
+abbrev pub release_by : ReleaseAnswer → Line → Session → ℕ → List Deed
 release_by Known l s id = At (whose s) (Release id) ∷ Send l.number (pubcomp id success) ∷ []
 release_by Unknown l s id = Send l.number (pubcomp id identifier_not_found) ∷ []
 

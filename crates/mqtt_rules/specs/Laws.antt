@@ -4,11 +4,11 @@ use Rattle.std.specs.List.{AllByRecursion}
 use Rattle.mqtt_base.specs.declared.limits.TheConstants.{SUBSCRIPTION_LIMIT, OPEN_LIMIT, QUEUE_LIMIT, SESSION_LIMIT, RETAINED_LIMIT}
 use Rattle.mqtt_records.specs.declared.session.Session.{Session}
 use Rattle.mqtt_records.specs.declared.records.Records.{Records}
-use Rattle.mqtt_records.specs.Order.{IsAscending}
-use Rattle.mqtt_records.specs.Session.{birth_of, place_of, number_of, entry_place}
+use Rattle.mqtt_rows.specs.Order.{IsAscending}
+use Rattle.mqtt_records.specs.Session.{birth_of, place_of, number_of, copy_place}
 use Rattle.mqtt_records.specs.Records.{kept_place, nothing}
 use Rattle.mqtt_rules.specs.declared.Limits.{Limits}
-use Rattle.mqtt_rules.specs.State.{Broker, stored}
+use Rattle.mqtt_rules.specs.State.{Broker, stored, MemberChoice}
 use Rattle.mqtt_rules.specs.Step.{Call, stepped, unopened, opened}
 
 -- ---- tables in order
@@ -22,7 +22,7 @@ pub record IsTable {X : Type 0} (key : X → ℕ) (limit : ℕ) (rows : List X) 
 pub record HasTables (s : Session) : Type 0 where
   pub inbound : IsTable number_of OPEN_LIMIT s.inbound
   pub subscriptions : IsTable place_of SUBSCRIPTION_LIMIT s.subscriptions
-  pub queue : IsTable entry_place QUEUE_LIMIT s.queue
+  pub queue : IsTable copy_place QUEUE_LIMIT s.queue
 
 -- the sessions by birth, what each has, and the retained messages by place
 pub record IsOrdered (r : Records) : Type 0 where
@@ -49,8 +49,8 @@ QueuesWithin limit r = AllByRecursion (λ s. length s.queue ≤ limit) r.session
 
 -- a call, or that a broker opens what was stored, each with its moment and with any limits and choice of members
 pub data Event : Type 0 where
-  Asked : (limits : Limits) (choice : ℕ → List ℕ) (now : ℕ) (call : Call) → Event
-  Reopened : (limits : Limits) (choice : ℕ → List ℕ) (now : ℕ) → Event
+  Asked : (limits : Limits) (choice : MemberChoice) (now : ℕ) (call : Call) → Event
+  Reopened : (limits : Limits) (choice : MemberChoice) (now : ℕ) → Event
 
 abbrev pub after_event : Event → Broker → Broker
 after_event (Asked limits choice now call) b = stepped limits choice now call b

@@ -12,13 +12,12 @@ use Rattle.mqtt_routes.specs.Intended.{Publication, Answers, Copy, published}
 use Rattle.mqtt_routes.specs.Intended as intended
 use Rattle.mqtt_routes.specs.Acceptance.{Served, Routed, copies_in}
 use Rattle.mqtt_routes.specs.Acceptance as acceptance
-use Rattle.mqtt_records.specs.declared.message.MessageCopy.{MessageCopy}
-use Rattle.mqtt_records.specs.declared.message.Retained.{Retained}
+use Rattle.mqtt_message.specs.declared.message.MessageCopy.{MessageCopy}
+use Rattle.mqtt_message.specs.declared.message.RetainedMessage.{RetainedMessage}
 use Rattle.mqtt_records.specs.declared.subscription.Subscription.{Subscription}
 use Rattle.mqtt_records.specs.declared.session.Session.{Session}
 use Rattle.mqtt_records.specs.declared.records.Records.{Records}
 use Rattle.mqtt_records.specs.Records.{kept_place}
-use Rattle.mqtt_rules.specs.declared.Limits.{Limits}
 use Rattle.mqtt_rules.specs.Packets.{quality, publish_of}
 use Rattle.mqtt_rules.specs.State.{Broker, Env, session_at, is_connected, line_of, next_of}
 use Rattle.mqtt_rules.specs.Deeds.{Message, Origin, Deed, Accept, Keep, Forget, Act, always, series, of_session, offer}
@@ -58,10 +57,10 @@ answers env r = record {
 
 -- ---- acceptance
 
-abbrev pub is_topic : List ℕ → Retained → Bool
+abbrev pub is_topic : List ℕ → RetainedMessage → Bool
 is_topic topic k = bytes_eq k.content.topic topic
 
-abbrev pub retained_of : List ℕ → Records → Option Retained
+abbrev pub retained_of : List ℕ → Records → Option RetainedMessage
 retained_of topic r = find (is_topic topic) r.retained
 
 -- a message that is to be retained finds a place (ours)
@@ -79,8 +78,7 @@ abbrev pub delivery_of : ℕ → ℕ → Message → Cause → Copy → Delivery
 delivery_of number now m cause c = record {
   birth = c.birth;
   copy = record {
-    publication = number;
-    cause = cause;
+    id = record { publication = number; birth = c.birth; cause = cause };
     qos = quality c.qos;
     retain = c.retain;
     identifiers = c.identifiers;
@@ -98,7 +96,7 @@ abbrev pub next_publication : Records → ℕ
 next_publication r = suc r.publications
 
 abbrev pub routed_to : Env → Message → Records → Option Routed
-routed_to env m r = acceptance.routed (answers env r) (publication_of m) (env.choice (next_publication r)) (subscribers r)
+routed_to env m r = acceptance.routed (answers env r) (publication_of m) (env.choice (next_publication r) m.sender) (subscribers r)
 
 abbrev pub accepted_if : Bool → Option (List Delivery) → Option (List Delivery)
 accepted_if true ds = ds
@@ -133,11 +131,11 @@ abbrev pub deliver : Env → Delivery → Act
 deliver env d b = deliver_by (is_queued d) env d b
 
 -- the message retained for a topic, in the place of the one before it (3.3.1.3)
-abbrev pub place_of_kept : Option Retained → List Retained → ℕ
+abbrev pub place_of_kept : Option RetainedMessage → List RetainedMessage → ℕ
 place_of_kept None ks = next_of kept_place ks
 place_of_kept (Some k) ks = k.place
 
-abbrev pub kept_message : ℕ → ℕ → Message → ℕ → Retained
+abbrev pub kept_message : ℕ → ℕ → Message → ℕ → RetainedMessage
 kept_message number now m place = record {
   place = place;
   sender = m.sender;
@@ -146,7 +144,7 @@ kept_message number now m place = record {
   content = record { topic = m.topic; properties = m.properties; payload = m.payload; arrived = now };
 }
 
-abbrev pub forgets : Option Retained → List Deed
+abbrev pub forgets : Option RetainedMessage → List Deed
 forgets None = []
 forgets (Some k) = Forget k.place ∷ []
 

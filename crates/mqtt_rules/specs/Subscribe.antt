@@ -1,13 +1,11 @@
 -- SUBSCRIBE and UNSUBSCRIBE, filter by filter (MQTT 5.0, 3.8 to 3.11).
 use Rattle.std.specs.Prelude.{ℕ, suc, min, Bool, true, false, not, ◌&&◌, ◌||◌, List, [], ◌∷◌, ◌++◌, length, filter, find, map, flat_map, nat_lt, nat_le, bytes_eq, Option, Some, None}
 use Rattle.std.specs.List.{list_any}
-use Rattle.mqtt_base.specs.declared.session.Qos.{Qos}
 use Rattle.mqtt_base.specs.declared.session.Cause.TheVariants.{Retained as RetainedBy}
 use Rattle.mqtt_base.specs.declared.session.RetainHandling.{RetainHandling}
 use Rattle.mqtt_base.specs.declared.session.RetainHandling.TheVariants.{SendAlways, SendIfNew, DoNotSend}
 use Rattle.mqtt_base.specs.declared.session.SubscriptionOptions.{SubscriptionOptions}
 use Rattle.mqtt_props.specs.declared.table.PropName.TheVariants.{SubscriptionIdentifier}
-use Rattle.mqtt_props.specs.Properties.{Prop}
 use Rattle.mqtt_codec.specs.declared.subscribe.Subscribe.{Subscribe}
 use Rattle.mqtt_codec.specs.declared.unsubscribe.Unsubscribe.{Unsubscribe}
 use Rattle.mqtt_codec.specs.Subscriptions.{Subscription as Asked}
@@ -17,9 +15,9 @@ use Rattle.mqtt_topic.specs.Filters.{is_filter, begins_share}
 use Rattle.mqtt_routes.specs.declared.retained.Kept.{Kept}
 use Rattle.mqtt_routes.specs.Retained.{kept_for}
 use Rattle.mqtt_base.specs.Codes.{identifier_in_use, quota_exceeded}
-use Rattle.mqtt_flow.specs.Inbound.{is_open}
-use Rattle.mqtt_records.specs.declared.message.MessageCopy.{MessageCopy}
-use Rattle.mqtt_records.specs.declared.message.Retained.{Retained}
+use Rattle.mqtt_flow.specs.Identifiers.{is_among}
+use Rattle.mqtt_message.specs.declared.message.MessageCopy.{MessageCopy}
+use Rattle.mqtt_message.specs.declared.message.RetainedMessage.{RetainedMessage}
 use Rattle.mqtt_records.specs.declared.subscription.Subscription.{Subscription}
 use Rattle.mqtt_base.specs.declared.limits.TheConstants.{SUBSCRIPTION_LIMIT}
 use Rattle.mqtt_records.specs.declared.session.Session.{Session}
@@ -61,40 +59,39 @@ wants_retained SendIfNew is_old = not is_old
 wants_retained DoNotSend is_old = false
 
 -- as the table of retained messages sees it
-abbrev pub kept_of : Retained → Kept Retained
+abbrev pub kept_of : RetainedMessage → Kept RetainedMessage
 kept_of k = record { topic = k.content.topic; message = k }
 
-abbrev pub message_in : Kept Retained → Retained
+abbrev pub message_in : Kept RetainedMessage → RetainedMessage
 message_in k = k.message
 
 -- No Local bars one's own; an expired one isn't sent
-abbrev pub is_brought : ℕ → Session → Wish → Retained → Bool
+abbrev pub is_brought : ℕ → Session → Wish → RetainedMessage → Bool
 is_brought now s w k = not (w.options.no_local && bytes_eq s.client k.sender) && not (is_expired now k.content)
 
 abbrev pub identifiers_of : Option ℕ → List ℕ
 identifiers_of None = []
 identifiers_of (Some n) = n ∷ []
 
-abbrev pub retained_copy : ℕ → Wish → Retained → MessageCopy
-retained_copy number w k = record {
-  publication = k.publication;
-  cause = RetainedBy number;
+abbrev pub retained_copy : ℕ → ℕ → Wish → RetainedMessage → MessageCopy
+retained_copy birth number w k = record {
+  id = record { publication = k.publication; birth = birth; cause = RetainedBy number };
   qos = quality (min (qos_number k.qos) (qos_number w.options.qos));
   retain = true;
   identifiers = identifiers_of w.identifier;
   content = k.content;
 }
 
-abbrev pub retained_delivery : ℕ → ℕ → Wish → Retained → Delivery
-retained_delivery birth number w k = record { birth = birth; copy = retained_copy number w k }
+abbrev pub retained_delivery : ℕ → ℕ → Wish → RetainedMessage → Delivery
+retained_delivery birth number w k = record { birth = birth; copy = retained_copy birth number w k }
 
 -- in the order in which their topics were first retained
-abbrev pub brought_if : Bool → ℕ → ℕ → Session → Wish → List Retained → List Delivery
+abbrev pub brought_if : Bool → ℕ → ℕ → Session → Wish → List RetainedMessage → List Delivery
 brought_if false now number s w ks = []
 brought_if true now number s w ks =
     map (retained_delivery s.birth number w) (filter (is_brought now s w) (map message_in (kept_for w.filter (map kept_of ks))))
 
-abbrev pub brought : ℕ → ℕ → Session → Wish → List Retained → List Delivery
+abbrev pub brought : ℕ → ℕ → Session → Wish → List RetainedMessage → List Delivery
 brought now number s w ks =
     brought_if (not (begins_share w.filter) && wants_retained w.options.retain_handling (has_filter w.filter s)) now number s w ks
 
@@ -180,7 +177,7 @@ subscribe_by false env line s p b =
 
 -- an identifier that is open for a QoS 2 PUBLISH is in use (2.2.1)
 abbrev pub on_subscribe : Env → ℕ → Session → Subscribe → Act
-on_subscribe env line s p b = subscribe_by (is_open p.identifier s.inbound) env line s p b
+on_subscribe env line s p b = subscribe_by (is_among p.identifier s.inbound) env line s p b
 
 -- ---- UNSUBSCRIBE (3.10, 3.11)
 
@@ -204,4 +201,4 @@ unsubscribe_by false line s p b =
     flat_map (unsubscribes s) (filter (λ f. has_filter f s) p.filters) ++ offer (line_at line b) (unsuback p.identifier (drop_codes s [] p.filters))
 
 abbrev pub on_unsubscribe : ℕ → Session → Unsubscribe → Act
-on_unsubscribe line s p b = unsubscribe_by (is_open p.identifier s.inbound) line s p b
+on_unsubscribe line s p b = unsubscribe_by (is_among p.identifier s.inbound) line s p b

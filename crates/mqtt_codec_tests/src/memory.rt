@@ -1,0 +1,38 @@
+//! Want of memory, to be run with each allocation failing in turn.
+
+use crate::vectors::VECTORS;
+use crate::common::{encoded_again, fault_of};
+use mqtt_codec::Fault;
+use std::alloc::Global;
+use std::process::Abort;
+
+/// A packet is decoded and encoded as it was spelled, or memory was wanting; a frame that is none
+/// is refused for what it is.
+fn assert_memory_alone_is_told(rt: &impl Abort, alloc: Global, frame: &[u8]) {
+    let want = fault_of(frame).unwrap_or(Fault::Memory);
+    match encoded_again(alloc, frame) {
+        Ok(bytes) => assert_eq!(rt; &bytes[..], frame),
+        Err(fault) => assert_eq!(rt; fault, want),
+    }
+}
+
+#[test]
+fn want_of_memory_is_told_and_nothing_else_changes(rt: HostRuntime) {
+    let frames: [&[u8]; 8] = [
+        // CONNECT with a Will, User Name and Password.
+        &[
+            0x10, 0x1b, 0, 4, b'M', b'Q', b'T', b'T', 5, 0xc6, 0, 10, 0, 0, 1, b'c', 0, 0, 1, b'w',
+            0, 1, 0x21, 0, 1, b'u', 0, 1, 0xff,
+        ],
+        VECTORS[4],
+        VECTORS[9],
+        VECTORS[5],
+        VECTORS[6],
+        &[0xa2, 7, 0, 2, 0, 0, 2, 0x61, 0x23],
+        &[0xe0, 7, 4, 5, 0x11, 0, 0, 0, 0x0a],
+        &[0x50, 8, 0, 7, 0, 4, 0x1f, 0, 1, b'w'],
+    ];
+    for frame in frames {
+        assert_memory_alone_is_told(&rt, rt.alloc(), frame);
+    }
+}
