@@ -15,22 +15,22 @@ use Rattle.mqtt_flow.specs.declared.entry.Turn.TheVariants as turns
 use Rattle.mqtt_flow.specs.declared.inflow.Published.TheVariants.{New}
 use Rattle.mqtt_flow.specs.Inbound.{answer_to}
 use Rattle.mqtt_flow.specs.Outbound.{Answer, way_made}
-use Rattle.mqtt_records.specs.declared.message.MessageCopy.{MessageCopy}
-use Rattle.mqtt_records.specs.declared.message.Retained.{Retained}
-use Rattle.mqtt_records.specs.declared.message.Will.{Will}
-use Rattle.mqtt_records.specs.declared.queue.Entry.{Entry}
+use Rattle.mqtt_message.specs.declared.message.MessageCopy.{MessageCopy}
+use Rattle.mqtt_message.specs.declared.message.RetainedMessage.{RetainedMessage}
+use Rattle.mqtt_message.specs.declared.message.Will.{Will}
+use Rattle.mqtt_message.specs.declared.queue.CopyRow.{CopyRow}
 use Rattle.mqtt_records.specs.declared.session.Session.{Session}
 use Rattle.mqtt_records.specs.declared.subscription.Subscription.{Subscription}
-use Rattle.mqtt_records.specs.Order.{row_at}
-use Rattle.mqtt_records.specs.Session.{birth_of, entry_place}
+use Rattle.mqtt_rows.specs.Order.{row_at}
+use Rattle.mqtt_records.specs.Session.{birth_of, copy_place}
 use Rattle.mqtt_rules.specs.Packets.{connack, pubrel, publish_of}
 use Rattle.mqtt_rules.specs.State.{Line, Broker, Env, session_at, session_named, line_of, queue_on}
 use Rattle.mqtt_rules.specs.Deeds.{Whose, whose, Message, Origin, FromClient, Part, Resume, Close, DropWill, Open, Enter, Mark, Leave, LinePart, Hear, Greet, SetAlias, Went, Deed, Accept, Begin, Name, Count, At, Finish, Keep, Forget, RefuseWill, Link, On, Send, Gone, after, after_all, series, always, with_session, offer}
 use Rattle.mqtt_rules.specs.Deeds as deeds
 use Rattle.mqtt_rules.specs.Outbound.{leave_deeds, turn_deeds, since, queue_limits, enter_deeds}
-use Rattle.mqtt_rules.specs.Routing.{Delivery, is_queued, deliver_by, deliver, retained_of, forgets, finds_place, place_of_kept, kept_message, retain_by, next_publication, publish, routed, accepted_if}
+use Rattle.mqtt_rules.specs.Routing.{CopyTo, is_queued, deliver_by, deliver, retained_of, forgets, finds_place, place_of_kept, kept_message, retain_by, next_publication, publish, accepted_copies, accepted_if}
 use Rattle.mqtt_rules.specs.Closing.{end_session}
-use Rattle.mqtt_rules.specs.Connect.{expiry_of, will_of, fresh_row, greet, begin, begin_named, auto, granted_to}
+use Rattle.mqtt_rules.specs.Connect.{expiry_of, will_of, fresh_row, greet, begin, begin_named, auto, connack_properties}
 use Rattle.mqtt_rules.specs.Inbound.{pump_turns, pump_deeds}
 use Rattle.mqtt_rules.specs.Subscribe as sub
 use Rattle.mqtt_rules.specs.Step.{Call, deeds_of, opening}
@@ -55,12 +55,12 @@ pub record DeedLaw (env : Env) (about : About) (Keeps : Broker → Type 0) (Good
   pub forget : (place : ℕ) (b : Broker) → Keeps b → Good (Forget place) b
   -- a copy is of an accepted publication, or of a retained message that stands
   pub enter : (who : Whose) (copy : MessageCopy) (b : Broker) → Keeps b → IsMade copy b.records → Good (At who (Enter copy)) b
-  pub leave : (who : Whose) (e : Entry) (ending : Ending) (b : Broker) → Keeps b → Good (At who (Leave e ending)) b
+  pub leave : (who : Whose) (e : CopyRow) (ending : Ending) (b : Broker) → Keeps b → Good (At who (Leave e ending)) b
   pub refuse_will : (who : Whose) (b : Broker) → Keeps b → about.session who.birth → Good (RefuseWill who) b
   -- an identifier opens where its PUBLISH was new to the session, which stood before the publication's deeds
-  pub open_id : (s : Session) (id : ℕ) (m : Message) (ds : List Delivery) (b : Broker)
+  pub open_id : (s : Session) (id : ℕ) (m : Message) (ds : List CopyTo) (b : Broker)
       → Keeps b → Keeps (after_all (publish env FromClient m ds b) b) → about.session s.birth
-      → session_at s.birth b.records ≡ Some s → answer_to id s.inbound ≡ New → routed env m b ≡ Some ds
+      → session_at s.birth b.records ≡ Some s → answer_to id s.inbound ≡ New → accepted_copies env m b ≡ Some ds
       → Good (At (whose s) (Open id)) (after_all (publish env FromClient m ds b) b)
   pub alone : (who : Whose) (part : Part) (b : Broker) → Keeps b → about.session who.birth → is_alone part ≡ true → Good (At who part) b
   pub close : (who : Whose) (moment : ℕ) (b : Broker) → Keeps b → about.session who.birth → Good (At who (Close moment)) b
@@ -93,7 +93,7 @@ pub record TurnLaw (about : About) (Keeps : Broker → Type 0) (Good : Deed → 
   pub turns : (a : Answer) (t : Turn) (l : Line) (s : Session) (b : Broker)
       → Keeps b → about.line l → about.session s.birth → session_at s.birth b.records ≡ Some s → IsAnswer a l s → a ≡ Ok (Some t) → Leads Keeps Good (turn_deeds b.now l.number s t) b
 
-forget_numbers : (k : Option Retained) (b : Broker) → (after_all (forgets k) b).records.publications ≡ b.records.publications
+forget_numbers : (k : Option RetainedMessage) (b : Broker) → (after_all (forgets k) b).records.publications ≡ b.records.publications
 forget_numbers None b = refl
 forget_numbers (Some k) b = refl
 
@@ -103,10 +103,10 @@ retain_numbers false empty number m b = refl
 retain_numbers true true number m b = forget_numbers (retained_of m.topic b.records) b
 retain_numbers true false number m b = refl
 
-pub place_found : (env : Env) (m : Message) (b : Broker) (ds : List Delivery) → routed env m b ≡ Some ds → finds_place env m b.records ≡ true
+pub place_found : (env : Env) (m : Message) (b : Broker) (ds : List CopyTo) → accepted_copies env m b ≡ Some ds → finds_place env m b.records ≡ true
 place_found env m b ds e = accepted (finds_place env m b.records) _ ds e
   where
-    accepted : (t : Bool) (o : Option (List Delivery)) (ds : List Delivery) → accepted_if t o ≡ Some ds → t ≡ true
+    accepted : (t : Bool) (o : Option (List CopyTo)) (ds : List CopyTo) → accepted_if t o ≡ Some ds → t ≡ true
     accepted true o ds e = refl
     accepted false o ds e = absurd cc
 
@@ -131,7 +131,7 @@ module _ (env : Env) (about : About) (Keeps : Broker → Type 0) (Good : Deed �
 
   leads_left : (s : Session) (place : ℕ) (ending : Ending) (b : Broker) → Keeps b → Led (leave_deeds s (turns.Leave place ending)) b
   leads_left s place ending b k =
-      leads_of_entry Keeps Good (row_at entry_place place s.queue) (λ e. At (whose s) (Leave e ending) ∷ []) b k
+      leads_of_entry Keeps Good (row_at copy_place place s.queue) (λ e. At (whose s) (Leave e ending) ∷ []) b k
       (λ e is. one (At (whose s) (Leave e ending)) b k (law.leave (whose s) e ending b k))
 
   pub leads_leave : (s : Session) (t : Turn) (b : Broker) → Keeps b → Led (leave_deeds s t) b
@@ -153,12 +153,12 @@ module _ (env : Env) (about : About) (Keeps : Broker → Type 0) (Good : Deed �
 
   -- ---- publications
 
-  leads_deliver_by : (t : Bool) (d : Delivery) (b : Broker) → Keeps b → IsMade d.copy b.records → Led (deliver_by t env d b) b
+  leads_deliver_by : (t : Bool) (d : CopyTo) (b : Broker) → Keeps b → IsMade d.copy b.records → Led (deliver_by t env d b) b
   leads_deliver_by true d b k made =
       leads_with_session Keeps Good (session_at d.birth b.records) (λ s. always (enter_deeds env d.copy s)) b k (λ s e. leads_enter d.copy s b k made)
   leads_deliver_by false d b k made = leads_offer (line_of d.birth b) (publish_of b.now false 0 d.copy) b k
 
-  pub leads_deliveries : (ds : List Delivery) (b : Broker) → Keeps b → AreMade ds b.records → Led (series (map (deliver env) ds) b) b
+  pub leads_deliveries : (ds : List CopyTo) (b : Broker) → Keeps b → AreMade ds b.records → Led (series (map (deliver env) ds) b) b
   leads_deliveries [] b k made = nothing b k
   leads_deliveries (d ∷ ds) b k made =
       let first = deliver env d b in
@@ -166,7 +166,7 @@ module _ (env : Env) (about : About) (Keeps : Broker → Type 0) (Good : Deed �
       leads_append Keeps Good first (series (map (deliver env) ds) c) b (leads_deliver_by (is_queued d) d b k made.0)
       (λ h. leads_deliveries ds c h (are_made_stay ds first b (beside_deliver env d b) made.1))
 
-  leads_forgets : (o : Option Retained) (b : Broker) → Keeps b → Led (forgets o) b
+  leads_forgets : (o : Option RetainedMessage) (b : Broker) → Keeps b → Led (forgets o) b
   leads_forgets None b k = nothing b k
   leads_forgets (Some x) b k = one (Forget x.place) b k (law.forget x.place b k)
 
@@ -176,7 +176,7 @@ module _ (env : Env) (about : About) (Keeps : Broker → Type 0) (Good : Deed �
   leads_retain true true m b k said is none found = leads_forgets (retained_of m.topic b.records) b k
   leads_retain true false m b k said is none found = one (Keep _) b k (law.keep m b k said is none found)
 
-  pub leads_publish : (origin : Origin) (m : Message) (ds : List Delivery) (b : Broker) → Keeps b → about.message m → routed env m b ≡ Some ds → Led (publish env origin m ds b) b
+  pub leads_publish : (origin : Origin) (m : Message) (ds : List CopyTo) (b : Broker) → Keeps b → about.message m → accepted_copies env m b ≡ Some ds → Led (publish env origin m ds b) b
   leads_publish origin m ds b k said e =
       let number = next_publication b.records in
       let c = after (Accept number origin m) b in
@@ -207,7 +207,7 @@ module _ (env : Env) (about : About) (Keeps : Broker → Type 0) (Good : Deed �
   leads_ended s b k its = leads_append Keeps Good (map (λ e. At (whose s) (Leave e SessionEnded)) s.queue) (Finish (whose s) ∷ []) b (all_leave s.queue b k)
       (λ h. one (Finish (whose s)) _ h (law.finish (whose s) _ h its))
     where
-      all_leave : (q : List Entry) (b : Broker) → Keeps b → Led (map (λ e. At (whose s) (Leave e SessionEnded)) q) b
+      all_leave : (q : List CopyRow) (b : Broker) → Keeps b → Led (map (λ e. At (whose s) (Leave e SessionEnded)) q) b
       all_leave [] b k = nothing b k
       all_leave (e ∷ q) b k =
           let d = At (whose s) (Leave e SessionEnded) in
@@ -217,10 +217,10 @@ module _ (env : Env) (about : About) (Keeps : Broker → Type 0) (Good : Deed �
       → Led (begin l c is_assigned client (suc b.records.births)) b
   leads_born l c is_assigned client b k good =
       let d = Begin (fresh_row (suc b.records.births) client c) (will_of c) in
-      let told = Send l.number (connack false success (granted_to is_assigned client)) in
+      let told = Send l.number (connack false success (connack_properties is_assigned client)) in
       more d (greet l c (suc b.records.births) ∷ told ∷ []) b k good
       (λ h. more (greet l c (suc b.records.births)) (told ∷ []) (after d b) h (law.on_line l.number _ (after d b) h)
-      (λ g. one told _ g (law.send l.number (connack false success (granted_to is_assigned client)) _ g)))
+      (λ g. one told _ g (law.send l.number (connack false success (connack_properties is_assigned client)) _ g)))
 
   leads_begin : (t : Bool) (l : Line) (c : Greeting) (b : Broker)
       → Keeps b → about.packet (packets.Connect c) → IsAdmitted c → about.client c.client_identifier b → session_named c.client_identifier b.records ≡ None → nat_lt (length b.records.sessions) env.limits.sessions ≡ true
@@ -231,7 +231,7 @@ module _ (env : Env) (about : About) (Keeps : Broker → Type 0) (Good : Deed �
       more d (begin l c true (auto ++ decimal (suc b.records.autos)) (suc b.records.births)) b k (law.name b k)
       (λ h. leads_born l c true (auto ++ decimal (suc b.records.autos)) (after d b) h (law.begin_assigned c b k h came taken room))
 
-  pub leads_grants : (w : sub.Wish) (s : Session) (b : Broker) → Keeps b → about.session s.birth → IsGranted env w s b → Led (sub.grants env (sub.next_number b.records) s w (brought_to w s b) b).deeds b
+  pub leads_grants : (w : sub.Wish) (s : Session) (b : Broker) → Keeps b → about.session s.birth → IsGranted env w s b → Led (sub.granted_filter env (sub.next_number b.records) s w (brought_to w s b) b).deeds b
   leads_grants w s b k its granted =
       let number = sub.next_number b.records in
       let x = sub.subscription number s w in
@@ -248,13 +248,13 @@ module _ (env : Env) (about : About) (Keeps : Broker → Type 0) (Good : Deed �
   module _ (mark : MarkLaw Keeps Good) where
     leads_turn : (now line : ℕ) (s : Session) (t : Turn) (b : Broker) → Keeps b → Led (turn_deeds now line s t) b
     leads_turn now line s (turns.Send place id) b k =
-        leads_of_entry Keeps Good (row_at entry_place place s.queue) (λ e. At (whose s) (Mark place (Sent id)) ∷ On line (Went place) ∷ Send line (publish_of now false id e.copy) ∷ []) b k
+        leads_of_entry Keeps Good (row_at copy_place place s.queue) (λ e. At (whose s) (Mark place (Sent id)) ∷ On line (Went place) ∷ Send line (publish_of now false id e.copy) ∷ []) b k
         (λ e is. let d = At (whose s) (Mark place (Sent id)) in
         more d (On line (Went place) ∷ Send line (publish_of now false id e.copy) ∷ []) b k (mark (whose s) place (Sent id) b k)
         (λ h. more (On line (Went place)) (Send line (publish_of now false id e.copy) ∷ []) (after d b) h (law.on_line line (Went place) (after d b) h)
         (λ g. one (Send line (publish_of now false id e.copy)) _ g (law.send line (publish_of now false id e.copy) _ g))))
     leads_turn now line s (turns.Resend place id) b k =
-        leads_of_entry Keeps Good (row_at entry_place place s.queue) (λ e. On line (Went place) ∷ Send line (publish_of now true id e.copy) ∷ []) b k
+        leads_of_entry Keeps Good (row_at copy_place place s.queue) (λ e. On line (Went place) ∷ Send line (publish_of now true id e.copy) ∷ []) b k
         (λ e is. more (On line (Went place)) (Send line (publish_of now true id e.copy) ∷ []) b k (law.on_line line (Went place) b k)
         (λ g. one (Send line (publish_of now true id e.copy)) _ g (law.send line (publish_of now true id e.copy) _ g)))
     leads_turn now line s (turns.Release place id order) b k =
@@ -290,7 +290,7 @@ module _ (env : Env) (about : About) (Keeps : Broker → Type 0) (Good : Deed �
           more (At (whose s) (Resume (expiry_of c) (will_of c))) (greet l c s.birth ∷ []) b k (law.resume (whose s) (expiry_of c) (will_of c) b k own)
           (λ h. one (greet l c s.birth) _ h (law.on_line l.number _ _ h)));
       begins = λ l c b k its none came taken name is room. tell (begin_named (is_empty c.client_identifier) l c b.records) b (leads_begin (is_empty c.client_identifier) l c b k came taken name is room);
-      grants = λ w s b k its granted. tell (sub.grants env (sub.next_number b.records) s w (brought_to w s b) b).deeds b (leads_grants w s b k its granted);
+      grants = λ w s b k its granted. tell (sub.granted_filter env (sub.next_number b.records) s w (brought_to w s b) b).deeds b (leads_grants w s b k its granted);
       pumps = turn.pumps;
       turns = turn.turns;
       lapses = λ s b k among. tell (lapse_deeds b.now s) b (leads_flat Keeps Good (leave_deeds s) (leads_leave s) (lapses b.now s) b k);
