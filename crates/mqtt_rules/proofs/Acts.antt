@@ -36,11 +36,11 @@ use Rattle.mqtt_rules.specs.State.{Line, Broker, Env, session_at, session_named,
 use Rattle.mqtt_rules.specs.Deeds.{Whose, whose, Message, Origin, FromClient, FromWill, Part, Resume, Close, SetExpiry, DropWill, Open, Release, Enter, Mark, Leave, LinePart, Hear, SetAlias, Went, Deed, Accept, Begin, Name, Count, At, Finish, Keep, Forget, RefuseWill, Link, On, Send, Gone, after, after_all, Act, then, series, always, only_if, with_session, of_session, with_line, offer}
 use Rattle.mqtt_rules.specs.Deeds as deeds
 use Rattle.mqtt_rules.specs.Outbound.{leave_deeds, turn_deeds, all_turn_deeds, since, queue_limits, enter_deeds}
-use Rattle.mqtt_rules.specs.Routing.{Delivery, is_queued, deliver_by, deliver, retained_of, forgets, retain_by, next_publication, publish, routed, is_wanted}
+use Rattle.mqtt_rules.specs.Routing.{CopyTo, is_queued, deliver_by, deliver, retained_of, forgets, retain_by, next_publication, publish, accepted_copies, is_wanted}
 use Rattle.mqtt_rules.specs.Closing.{has_due_will, has_due_end, will_message, publish_or_refuse, will_deeds, publish_will, end_session, settle, close_session, close_connected, close, drop_line}
 use Rattle.mqtt_rules.specs.Connect.{largest_of, refusal, refused, of_client, take_over, clear, prepare, will_of, fresh_row, resume, begin_named, joins, connect_by, on_connect}
-use Rattle.mqtt_rules.specs.Inbound.{Meaning, Means, Wrong, meaning, sets_alias, standing, answer, opens, code_again, code_accepted, publish_new, publish_by, message_of, publish_meant, on_publish, release_by, on_pubrel, turned, answered, pump_turns, pump_deeds, is_late_expiry, new_expiry, leave_by, on_disconnect}
-use Rattle.mqtt_rules.specs.Subscribe.{Wish, wish_of, brought, has_filter, subscription, grants, granted_by, granted_to, next_number, all_granted, late_sends, subscribe_by, on_subscribe, unsubscribes, drop_codes, unsubscribe_by, on_unsubscribe}
+use Rattle.mqtt_rules.specs.Inbound.{Meaning, Means, Wrong, meaning, sets_alias, standing, answer, opens, code_again, code_accepted, publish_new, publish_by, message_of, publish_meant, on_publish, release_by, on_pubrel, turned, on_answer, pump_turns, pump_deeds, is_late_expiry, new_expiry, leave_by, on_disconnect}
+use Rattle.mqtt_rules.specs.Subscribe.{Wish, wish_of, brought, has_filter, subscription, granted_filter, answer_by, filter_answer_of, next_number, filter_answers, late_sends, subscribe_by, on_subscribe, unsubscribes, drop_codes, unsubscribe_by, on_unsubscribe}
 use Rattle.mqtt_rules.specs.Tick.{is_silent, silence, lapses, has_lapsed, lapse_deeds, is_stale, first_due, due, on_tick}
 use Rattle.mqtt_rules.specs.Step.{Call, NewLine, Input, BadInput, Lost, Pump, Tick, first_packet, next_packet, on_packet, on_fault, late_code, on_pump, can_link, deeds_of, close_if, opening}
 pub use Rattle.mqtt_rules.proofs.Goods.{after_append, AreGood, GoodAct, GoodActs, good_append, good_then, good_series, good_two, good_map, good_flat, good_acts, good_cond, good_if, good_with_session, good_of_session, good_of_client, good_with_line, good_of_entry}
@@ -61,8 +61,8 @@ pub record Facts (Good : Deed → Broker → Type 0) : Type 0 where
   pub count : (b : Broker) → Good (Count (next_number b.records)) b
   pub at_part : (who : Whose) (part : Part) (b : Broker) → is_plain part ≡ true → Good (At who part) b
   -- an identifier opens where its PUBLISH was new to the session, which stood before the publication's deeds
-  pub open_id : (birth : ℕ) (s : Session) (id : ℕ) (env : Env) (m : Message) (ds : List Delivery) (b : Broker)
-      → session_at birth b.records ≡ Some s → answer_to id s.inbound ≡ New → routed env m b ≡ Some ds
+  pub open_id : (birth : ℕ) (s : Session) (id : ℕ) (env : Env) (m : Message) (ds : List CopyTo) (b : Broker)
+      → session_at birth b.records ≡ Some s → answer_to id s.inbound ≡ New → accepted_copies env m b ≡ Some ds
       → Good (At (whose s) (Open id)) (after_all (publish env FromClient m ds b) b)
   -- a copy is of an accepted publication, or of a retained message that stands
   pub enter : (who : Whose) (copy : MessageCopy) (b : Broker) → IsMade copy b.records → Good (At who (Enter copy)) b
@@ -111,15 +111,15 @@ module _ (Good : Deed → Broker → Type 0) (facts : Facts Good) where
       (facts.enter (whose s) copy (after_all first b) (made_stays copy first b (beside_leaves s ts b) made), tt)
 
   -- a publication
-  good_deliver_by : (t : Bool) (env : Env) (d : Delivery) (b : Broker) → IsMade d.copy b.records → AreGood Good (deliver_by t env d b) b
+  good_deliver_by : (t : Bool) (env : Env) (d : CopyTo) (b : Broker) → IsMade d.copy b.records → AreGood Good (deliver_by t env d b) b
   good_deliver_by true env d b made =
       good_with_session Good (session_at d.birth b.records) (λ s. always (enter_deeds env d.copy s)) b (λ s e. good_enter env d.copy s b made)
   good_deliver_by false env d b made = good_offer (line_of d.birth b) (publish_of b.now false 0 d.copy) b
 
-  pub good_deliver : (env : Env) (d : Delivery) (b : Broker) → IsMade d.copy b.records → AreGood Good (deliver env d b) b
+  pub good_deliver : (env : Env) (d : CopyTo) (b : Broker) → IsMade d.copy b.records → AreGood Good (deliver env d b) b
   good_deliver env d b made = good_deliver_by (is_queued d) env d b made
 
-  pub good_deliveries : (env : Env) (ds : List Delivery) (b : Broker) → AreMade ds b.records → AreGood Good (series (map (deliver env) ds) b) b
+  pub good_deliveries : (env : Env) (ds : List CopyTo) (b : Broker) → AreMade ds b.records → AreGood Good (series (map (deliver env) ds) b) b
   good_deliveries env [] b made = tt
   good_deliveries env (d ∷ ds) b made =
       let first = deliver env d b in
@@ -136,7 +136,7 @@ module _ (Good : Deed → Broker → Type 0) (facts : Facts Good) where
   good_retain true true number m b e = good_forgets (retained_of m.topic b.records) b
   good_retain true false number m b e = (facts.keep _ b e, tt)
 
-  pub good_publish : (env : Env) (origin : Origin) (m : Message) (ds : List Delivery) (b : Broker) → routed env m b ≡ Some ds → AreGood Good (publish env origin m ds b) b
+  pub good_publish : (env : Env) (origin : Origin) (m : Message) (ds : List CopyTo) (b : Broker) → accepted_copies env m b ≡ Some ds → AreGood Good (publish env origin m ds b) b
   good_publish env origin m ds b e =
       let number = next_publication b.records in
       let first = Accept number origin m ∷ [] in
@@ -150,7 +150,7 @@ module _ (Good : Deed → Broker → Type 0) (facts : Facts Good) where
       (good_deliveries env ds d (made_numbered number ds d (retain_numbers m.retain (is_empty m.payload) number m c) (routed_numbered env m b ds e))))
 
   -- Wills, ends, settling and closing
-  good_publish_or_refuse : (env : Env) (who : Whose) (m : Message) (ds : Option (List Delivery)) (b : Broker) → routed env m b ≡ ds → AreGood Good (publish_or_refuse env who m ds b) b
+  good_publish_or_refuse : (env : Env) (who : Whose) (m : Message) (ds : Option (List CopyTo)) (b : Broker) → accepted_copies env m b ≡ ds → AreGood Good (publish_or_refuse env who m ds b) b
   good_publish_or_refuse env who m None b e = (facts.refuse_will who b, tt)
   good_publish_or_refuse env who m (Some ds) b e = good_publish env FromWill m ds b e
 
@@ -158,8 +158,8 @@ module _ (Good : Deed → Broker → Type 0) (facts : Facts Good) where
   good_will_deeds env who None b = tt
   good_will_deeds env who (Some w) b =
       let m = will_message who.client w in
-      let first = publish_or_refuse env who m (routed env m b) b in
-      good_append Good first (At who DropWill ∷ []) b (good_publish_or_refuse env who m (routed env m b) b refl) (facts.at_part who DropWill _ refl, tt)
+      let first = publish_or_refuse env who m (accepted_copies env m b) b in
+      good_append Good first (At who DropWill ∷ []) b (good_publish_or_refuse env who m (accepted_copies env m b) b refl) (facts.at_part who DropWill _ refl, tt)
 
   pub good_publish_will : (env : Env) (s : Session) → GoodAct Good (publish_will env s)
   good_publish_will env s b = good_will_deeds env (whose s) s.will b
@@ -273,15 +273,15 @@ module _ (Good : Deed → Broker → Type 0) (facts : Facts Good) where
   alias_stores false None line topic b = refl
   alias_stores false (Some n) line topic b = refl
 
-  good_opens : (birth : ℕ) (env : Env) (s : Session) (q : Quality) (m : Message) (ds : List Delivery) (b : Broker)
-      → session_at birth b.records ≡ Some s → standing q s.inbound ≡ New → routed env m b ≡ Some ds
+  good_opens : (birth : ℕ) (env : Env) (s : Session) (q : Quality) (m : Message) (ds : List CopyTo) (b : Broker)
+      → session_at birth b.records ≡ Some s → standing q s.inbound ≡ New → accepted_copies env m b ≡ Some ds
       → AreGood Good (opens s q) (after_all (publish env FromClient m ds b) b)
   good_opens birth env s delivery.AtMostOnce m ds b e n r = tt
   good_opens birth env s (delivery.AtLeastOnce dup id) m ds b e n r = tt
   good_opens birth env s (delivery.ExactlyOnce dup id) m ds b e n r = (facts.open_id birth s id env m ds b e n r, tt)
 
-  good_publish_new : (birth : ℕ) (env : Env) (l : Line) (s : Session) (p : Publication) (m : Message) (ds : Option (List Delivery)) (b : Broker)
-      → session_at birth b.records ≡ Some s → standing p.delivery s.inbound ≡ New → routed env m b ≡ ds
+  good_publish_new : (birth : ℕ) (env : Env) (l : Line) (s : Session) (p : Publication) (m : Message) (ds : Option (List CopyTo)) (b : Broker)
+      → session_at birth b.records ≡ Some s → standing p.delivery s.inbound ≡ New → accepted_copies env m b ≡ ds
       → AreGood Good (publish_new env l s p m ds b) b
   good_publish_new birth env l s p m None b e n r = good_answer l.number p.delivery quota_exceeded b
   good_publish_new birth env l s p m (Some ds) b e n r =
@@ -298,7 +298,7 @@ module _ (Good : Deed → Broker → Type 0) (facts : Facts Good) where
       → AreGood Good (publish_by st env l s p m b) b
   good_publish_by Again birth env l s p m b e n = good_answer l.number p.delivery (code_again p.delivery) b
   good_publish_by Over birth env l s p m b e n = good_drop env receive_maximum_exceeded l b
-  good_publish_by New birth env l s p m b e n = good_publish_new birth env l s p m (routed env m b) b e n refl
+  good_publish_by New birth env l s p m b e n = good_publish_new birth env l s p m (accepted_copies env m b) b e n refl
 
   good_publish_meant : (x : Meaning) (birth : ℕ) (env : Env) (l : Line) (s : Session) (p : Publication) (b : Broker)
       → session_at birth b.records ≡ Some s → AreGood Good (publish_meant x env l s p b) b
@@ -340,7 +340,7 @@ module _ (Good : Deed → Broker → Type 0) (facts : Facts Good) where
   good_on_disconnect env l s code expiry b = good_leave_by (is_late_expiry expiry s.expiry) env l s code expiry b
 
   -- SUBSCRIBE and UNSUBSCRIBE
-  good_grants : (env : Env) (s : Session) (w : Wish) (ds : List Delivery) (b : Broker) → AreMade ds b.records → AreGood Good (grants env (next_number b.records) s w ds b).deeds b
+  good_grants : (env : Env) (s : Session) (w : Wish) (ds : List CopyTo) (b : Broker) → AreMade ds b.records → AreGood Good (granted_filter env (next_number b.records) s w ds b).deeds b
   good_grants env s w ds b made =
       let number = next_number b.records in
       let first : List Deed = Count number ∷ At (whose s) (deeds.Subscribe (subscription number s w)) ∷ [] in
@@ -350,13 +350,13 @@ module _ (Good : Deed → Broker → Type 0) (facts : Facts Good) where
       (facts.count b, (facts.at_part (whose s) (deeds.Subscribe (subscription number s w)) (after (Count number) b) refl, tt))
       (good_deliveries env queued c (are_made_stay queued first b (tt, (tt, tt)) (each_filter (λ d. IsMade d.copy b.records) is_queued ds made)))
 
-  good_granted_by : (valid has_room : Bool) (env : Env) (s : Session) (w : Wish) (ds : List Delivery) (b : Broker) → AreMade ds b.records
-      → AreGood Good (granted_by valid has_room env (next_number b.records) s w ds b).deeds b
+  good_granted_by : (valid has_room : Bool) (env : Env) (s : Session) (w : Wish) (ds : List CopyTo) (b : Broker) → AreMade ds b.records
+      → AreGood Good (answer_by valid has_room env (next_number b.records) s w ds b).deeds b
   good_granted_by false has_room env s w ds b made = tt
   good_granted_by true false env s w ds b made = tt
   good_granted_by true true env s w ds b made = good_grants env s w ds b made
 
-  good_granted_to : (env : Env) (w : Option Wish) (b : Broker) (s : Option Session) → AreGood Good (granted_to env w b s).deeds b
+  good_granted_to : (env : Env) (w : Option Wish) (b : Broker) (s : Option Session) → AreGood Good (filter_answer_of env w b s).deeds b
   good_granted_to env w b None = tt
   good_granted_to env None b (Some s) = tt
   good_granted_to env (Some w) b (Some s) =
@@ -364,19 +364,19 @@ module _ (Good : Deed → Broker → Type 0) (facts : Facts Good) where
       good_granted_by _ _ env s w (brought b.now number s w b.records.retained) b (brought_made b.now number s w b.records)
 
   pub good_all_granted : (env : Env) (birth : ℕ) (identifier : Option ℕ) (asked : List Asked) (b : Broker)
-      → AreGood Good (all_granted env birth identifier asked b).deeds b
+      → AreGood Good (filter_answers env birth identifier asked b).deeds b
   good_all_granted env birth identifier [] b = tt
   good_all_granted env birth identifier (a ∷ rest) b =
-      let g = granted_to env (wish_of identifier a) b (session_at birth b.records) in
+      let g = filter_answer_of env (wish_of identifier a) b (session_at birth b.records) in
       let c = after_all g.deeds b in
-      good_append Good g.deeds (all_granted env birth identifier rest c).deeds b
+      good_append Good g.deeds (filter_answers env birth identifier rest c).deeds b
       (good_granted_to env (wish_of identifier a) b (session_at birth b.records))
       (good_all_granted env birth identifier rest c)
 
   good_subscribe_by : (t : Bool) (env : Env) (line : ℕ) (s : Session) (p : Asking) → GoodAct Good (subscribe_by t env line s p)
   good_subscribe_by true env line s p b = good_offer (line_at line b) (suback p.identifier (map (λ a. identifier_in_use) p.subscriptions)) b
   good_subscribe_by false env line s p b =
-      let a = all_granted env s.birth (number_at SubscriptionIdentifier p.properties) p.subscriptions b in
+      let a = filter_answers env s.birth (number_at SubscriptionIdentifier p.properties) p.subscriptions b in
       let told = offer (line_at line b) (suback p.identifier a.codes) in
       good_append Good (a.deeds ++ told) (flat_map (λ d. late_sends line b.now d b) a.late) b
       (good_append Good a.deeds told b
@@ -498,7 +498,7 @@ module _ (Good : Deed → Broker → Type 0) (facts : Facts Good) (mark : MarkFa
   good_turned l s now None b = tt
   good_turned l s now (Some t) b = good_turn now l.number s t b
 
-  pub good_answered : (a : Answer) (env : Env) (l : Line) (s : Session) → GoodAct Good (answered a env l s)
+  pub good_answered : (a : Answer) (env : Env) (l : Line) (s : Session) → GoodAct Good (on_answer a env l s)
   good_answered (Ok t) env l s b = good_turned l s b.now t b
   good_answered (Err fault) env l s b = good_drop Good facts env 0x82 l b
 

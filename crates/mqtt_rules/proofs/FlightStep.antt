@@ -29,7 +29,7 @@ use Rattle.mqtt_rules.specs.Routing.{publish}
 use Rattle.mqtt_rules.specs.Deeds.{Whose, whose, FromClient, Part, Resume, Close, SetExpiry, DropWill, Open, Release, Enter, Mark, Leave, Hear, Deed, Link, Send, At, On, after, after_all, rows_of_all, series, always, with_session, with_line}
 use Rattle.mqtt_rules.specs.Deeds as deeds
 use Rattle.mqtt_rules.specs.Outbound.{of_entry, turn_deeds}
-use Rattle.mqtt_rules.specs.Inbound.{turned, answered, pump_deeds, on_publish, on_pubrel, on_disconnect}
+use Rattle.mqtt_rules.specs.Inbound.{turned, on_answer, pump_deeds, on_publish, on_pubrel, on_disconnect}
 use Rattle.mqtt_rules.specs.Step.{first_packet, Call, NewLine, Input, BadInput, Lost, Pump, Tick, next_packet, on_packet, on_fault, on_pump, can_link, deeds_of, deeds as step_deeds, env_of, at_moment, with_moment, stepped, unopened, opening, opened}
 use Rattle.mqtt_rules.specs.Closing.{close, drop_line}
 use Rattle.mqtt_rules.specs.Subscribe.{on_subscribe, on_unsubscribe}
@@ -125,7 +125,7 @@ turned_keeps : (l : Line) (s : Session) (now : ℕ) (t : Option Turn) (b : Broke
 turned_keeps l s now None b kept there h = h
 turned_keeps l s now (Some t) b kept there h = turn_keeps now l.number s t b kept there h
 
-answered_keeps : (a : Answer) (env : Env) (l : Line) (s : Session) (b : Broker) → KeptAnswer s a → session_at s.birth b.records ≡ Some s → HasDistinctIdentifiers b.records → HasDistinctIdentifiers (after_all (answered a env l s b) b).records
+answered_keeps : (a : Answer) (env : Env) (l : Line) (s : Session) (b : Broker) → KeptAnswer s a → session_at s.birth b.records ≡ Some s → HasDistinctIdentifiers b.records → HasDistinctIdentifiers (after_all (on_answer a env l s b) b).records
 answered_keeps (Ok t) env l s b kept there h = turned_keeps l s b.now t b kept there h
 answered_keeps (Err fault) env l s b kept there h = all_keep (drop_line env 0x82 l b) b (good_drop Keeps keeping env 0x82 l b) h
 
@@ -194,13 +194,13 @@ pubrec_kept s i code order (Some x) source = pubrec_by_kept s x.phase x.copy.qos
 
 -- ---- a packet
 
-puback_keeps : (env : Env) (l : Line) (s : Session) (id code : ℕ) (b : Broker) → session_at s.birth b.records ≡ Some s → HasDistinctIdentifiers b.records → HasDistinctIdentifiers (after_all (answered (rules.puback id code (queue_on l.went s)) env l s b) b).records
+puback_keeps : (env : Env) (l : Line) (s : Session) (id code : ℕ) (b : Broker) → session_at s.birth b.records ≡ Some s → HasDistinctIdentifiers b.records → HasDistinctIdentifiers (after_all (on_answer (rules.puback id code (queue_on l.went s)) env l s b) b).records
 puback_keeps env l s id code b there h = answered_keeps (rules.puback id code (queue_on l.went s)) env l s b (puback_kept s code (holder id (queue_on l.went s))) there h
 
-pubcomp_keeps : (env : Env) (l : Line) (s : Session) (id : ℕ) (b : Broker) → session_at s.birth b.records ≡ Some s → HasDistinctIdentifiers b.records → HasDistinctIdentifiers (after_all (answered (rules.pubcomp id (queue_on l.went s)) env l s b) b).records
+pubcomp_keeps : (env : Env) (l : Line) (s : Session) (id : ℕ) (b : Broker) → session_at s.birth b.records ≡ Some s → HasDistinctIdentifiers b.records → HasDistinctIdentifiers (after_all (on_answer (rules.pubcomp id (queue_on l.went s)) env l s b) b).records
 pubcomp_keeps env l s id b there h = answered_keeps (rules.pubcomp id (queue_on l.went s)) env l s b (pubcomp_kept s (holder id (queue_on l.went s))) there h
 
-pubrec_keeps : (env : Env) (l : Line) (s : Session) (id code : ℕ) (b : Broker) → session_at s.birth b.records ≡ Some s → HasDistinctIdentifiers b.records → HasDistinctIdentifiers (after_all (answered (rules.pubrec id code (queue_on l.went s)) env l s b) b).records
+pubrec_keeps : (env : Env) (l : Line) (s : Session) (id code : ℕ) (b : Broker) → session_at s.birth b.records ≡ Some s → HasDistinctIdentifiers b.records → HasDistinctIdentifiers (after_all (on_answer (rules.pubrec id code (queue_on l.went s)) env l s b) b).records
 pubrec_keeps env l s id code b there h =
     let queue = queue_on l.went s in
     let up = (flight_of s.birth s.queue b.records (record { session = s; there = there; its_queue = refl; distinct = h })).places in

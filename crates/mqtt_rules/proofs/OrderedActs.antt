@@ -38,10 +38,10 @@ use Rattle.mqtt_rules.specs.Packets.{number_at, connack, disconnect, publish_of,
 use Rattle.mqtt_rules.specs.State.{Line, Broker, Env, stored, session_at, session_named, line_at, line_of, is_connected, queue_on}
 use Rattle.mqtt_rules.specs.Deeds.{Whose, whose, Message, Origin, FromClient, FromWill, Part, Close, DropWill, Enter, Leave, Hear, Deed, Accept, Begin, Name, Count, At, Finish, Keep, Forget, Link, On, Send, Gone, Act, after, after_all, rows_of_all, stored_after, then, always, series, only_if, with_session, of_session, with_line, offer}
 use Rattle.mqtt_rules.specs.Outbound.{of_entry, leave_deeds, turn_deeds, all_turn_deeds, room}
-use Rattle.mqtt_rules.specs.Routing.{Delivery, routed, publish, is_queued, is_wanted}
+use Rattle.mqtt_rules.specs.Routing.{CopyTo, accepted_copies, publish, is_queued, is_wanted}
 use Rattle.mqtt_rules.specs.Closing.{will_message, publish_or_refuse, will_deeds, publish_will, end_session, settle, close_session, close_connected, close, drop_line, has_due_will, has_due_end}
-use Rattle.mqtt_rules.specs.Connect.{largest_of, refusal, refused, of_client, take_over, clear, prepare, greet, will_of, granted_to, resume, fresh_row, begin_named, auto, joins, connect_by, on_connect}
-use Rattle.mqtt_rules.specs.Inbound.{Meaning, Means, Wrong, meaning, sets_alias, standing, answer, opens, code_again, code_accepted, publish_new, publish_by, message_of, publish_meant, release_by, on_pubrel, turned, answered, pump_turns, pump_deeds, is_late_expiry, new_expiry, leave_by}
+use Rattle.mqtt_rules.specs.Connect.{largest_of, refusal, refused, of_client, take_over, clear, prepare, greet, will_of, connack_properties, resume, fresh_row, begin_named, auto, joins, connect_by, on_connect}
+use Rattle.mqtt_rules.specs.Inbound.{Meaning, Means, Wrong, meaning, sets_alias, standing, answer, opens, code_again, code_accepted, publish_new, publish_by, message_of, publish_meant, release_by, on_pubrel, turned, on_answer, pump_turns, pump_deeds, is_late_expiry, new_expiry, leave_by}
 use Rattle.mqtt_rules.specs.Subscribe as sub
 use Rattle.mqtt_rules.specs.Tick.{is_silent, silence, lapses, has_lapsed, lapse_deeds, is_stale, first_due, due, on_tick}
 use Rattle.mqtt_rules.specs.Step.{Call, NewLine, Input, BadInput, Lost, Pump, Tick, first_packet, next_packet, on_packet, late_code, on_fault, on_pump, can_link, deeds_of, with_moment, done, close_if, opening}
@@ -150,7 +150,7 @@ plain_expiry : (e : Option ℕ) (s : Session) → ArePlain (new_expiry e s)
 plain_expiry None s = tt
 plain_expiry (Some n) s = (tt, tt)
 
-plain_late : (line now : ℕ) (b : Broker) (ds : List Delivery) → ArePlain (flat_map (λ d. sub.late_sends line now d b) ds)
+plain_late : (line now : ℕ) (b : Broker) (ds : List CopyTo) → ArePlain (flat_map (λ d. sub.late_sends line now d b) ds)
 plain_late line now b ds = plain_flat (λ d. sub.late_sends line now d b) (λ d. plain_offer (line_at line b) (publish_of now false 0 d.copy)) ds
 
 -- ---- acts one after the other
@@ -198,18 +198,18 @@ module _ (P : Records → Type 0) where
 -- ---- what the deeds of a step have to keep
 
 -- the copies that the retained messages for a wish make
-abbrev pub brought_to : sub.Wish → Session → Broker → List Delivery
+abbrev pub brought_to : sub.Wish → Session → Broker → List CopyTo
 brought_to w s b = sub.brought b.now (sub.next_number b.records) s w b.records.retained
 
 pub record Keeping (env : Env) (P : Records → Type 0) : Type 0 where
   pub plain : (d : Deed) (r : Records) → IsPlain d → P r → P (stored_after d r)
   pub begin : (row : Columns) (will : Option Will) (r : Records) → length r.sessions < env.limits.sessions → P r → P (stored_after (Begin row will) r)
-  pub publish : (origin : Origin) (m : Message) (ds : List Delivery) (b : Broker) → routed env m b ≡ Some ds → P b.records → P (stored (after_all (publish env origin m ds b) b))
+  pub publish : (origin : Origin) (m : Message) (ds : List CopyTo) (b : Broker) → accepted_copies env m b ≡ Some ds → P b.records → P (stored (after_all (publish env origin m ds b) b))
   pub grants : (w : sub.Wish) (s : Session) (b : Broker)
       → session_at s.birth b.records ≡ Some s
       → nat_le (length (filter is_queued (brought_to w s b))) (room env s) ≡ true
       → P b.records
-      → P (stored (after_all (sub.grants env (sub.next_number b.records) s w (brought_to w s b) b).deeds b))
+      → P (stored (after_all (sub.granted_filter env (sub.next_number b.records) s w (brought_to w s b) b).deeds b))
   pub moment : (now : ℕ) (r : Records) → P r → P (record r { moment = now })
 
 pub birth_found : (birth : ℕ) (ss : List Session) (s : Session) → row_at birth_of birth ss ≡ Some s → s.birth ≡ birth
@@ -236,7 +236,7 @@ module _ (env : Env) (P : Records → Type 0) (k : Keeping env P) where
 
   -- ---- Wills, settling, closing
 
-  keeps_publish_or : (who : Whose) (m : Message) (b : Broker) (o : Option (List Delivery)) → routed env m b ≡ o → P b.records → P (stored (after_all (publish_or_refuse env who m o b) b))
+  keeps_publish_or : (who : Whose) (m : Message) (b : Broker) (o : Option (List CopyTo)) → accepted_copies env m b ≡ o → P b.records → P (stored (after_all (publish_or_refuse env who m o b) b))
   keeps_publish_or who m b None is p = p
   keeps_publish_or who m b (Some ds) is p = k.publish FromWill m ds b is p
 
@@ -244,8 +244,8 @@ module _ (env : Env) (P : Records → Type 0) (k : Keeping env P) where
   keeps_will who None b p = p
   keeps_will who (Some w) b p =
       let m = will_message who.client w in
-      follows P (publish_or_refuse env who m (routed env m b) b) (series (always (At who DropWill ∷ []) ∷ [])) b
-      (keeps_publish_or who m b (routed env m b) refl p)
+      follows P (publish_or_refuse env who m (accepted_copies env m b) b) (series (always (At who DropWill ∷ []) ∷ [])) b
+      (keeps_publish_or who m b (accepted_copies env m b) refl p)
       (keeps_series P (always (At who DropWill ∷ []) ∷ []) (keeps_always (At who DropWill ∷ []) (tt, tt), tt))
 
   keeps_publish_will : (s : Session) → Keeps P (publish_will env s)
@@ -308,14 +308,14 @@ module _ (env : Env) (P : Records → Type 0) (k : Keeping env P) where
   keeps_begin_named false l c b room p =
       let row = fresh_row (suc b.records.births) c.client_identifier c in
       let d = Begin row (will_of c) in
-      plains (greet l c (suc b.records.births) ∷ Send l.number (connack false 0 (granted_to false c.client_identifier)) ∷ []) (after d b) (tt, (tt, tt))
+      plains (greet l c (suc b.records.births) ∷ Send l.number (connack false 0 (connack_properties false c.client_identifier)) ∷ []) (after d b) (tt, (tt, tt))
       (k.begin row (will_of c) b.records room p)
   keeps_begin_named true l c b room p =
       let client = auto ++ decimal (suc b.records.autos) in
       let row = fresh_row (suc b.records.births) client c in
       let d = Begin row (will_of c) in
       let n = Name (suc b.records.autos) in
-      plains (greet l c (suc b.records.births) ∷ Send l.number (connack false 0 (granted_to true client)) ∷ []) (after d (after n b)) (tt, (tt, tt))
+      plains (greet l c (suc b.records.births) ∷ Send l.number (connack false 0 (connack_properties true client)) ∷ []) (after d (after n b)) (tt, (tt, tt))
       (k.begin row (will_of c) (stored_after n b.records) room (k.plain n b.records tt p))
 
   keeps_joined : (t : Bool) (l : Line) (c : Greeting) (b : Broker) (ds : List Deed)
@@ -341,7 +341,7 @@ module _ (env : Env) (P : Records → Type 0) (k : Keeping env P) where
 
   -- ---- PUBLISH
 
-  keeps_new : (l : Line) (s : Session) (x : Publication) (m : Message) (b : Broker) (o : Option (List Delivery)) → routed env m b ≡ o → P b.records → P (stored (after_all (publish_new env l s x m o b) b))
+  keeps_new : (l : Line) (s : Session) (x : Publication) (m : Message) (b : Broker) (o : Option (List CopyTo)) → accepted_copies env m b ≡ o → P b.records → P (stored (after_all (publish_new env l s x m o b) b))
   keeps_new l s x m b None is p = plains (answer l.number x.delivery quota_exceeded) b (plain_answer l.number x.delivery quota_exceeded) p
   keeps_new l s x m b (Some ds) is p =
       let code = code_accepted (is_wanted env m b.records) in
@@ -353,7 +353,7 @@ module _ (env : Env) (P : Records → Type 0) (k : Keeping env P) where
   keeps_publish_by : (is : Published) (l : Line) (s : Session) (x : Publication) (m : Message) → Keeps P (publish_by is env l s x m)
   keeps_publish_by Again l s x m b p = plains (answer l.number x.delivery (code_again x.delivery)) b (plain_answer l.number x.delivery (code_again x.delivery)) p
   keeps_publish_by Over l s x m b p = keeps_drop receive_maximum_exceeded l b p
-  keeps_publish_by New l s x m b p = keeps_new l s x m b (routed env m b) refl p
+  keeps_publish_by New l s x m b p = keeps_new l s x m b (accepted_copies env m b) refl p
 
   keeps_meant : (meant : Meaning) (l : Line) (s : Session) (x : Publication) → Keeps P (publish_meant meant env l s x)
   keeps_meant (Wrong code) l s x b p = keeps_drop code l b p
@@ -366,7 +366,7 @@ module _ (env : Env) (P : Records → Type 0) (k : Keeping env P) where
 
   -- ---- answers, DISCONNECT
 
-  keeps_answered : (a : Answer) (l : Line) (s : Session) → Keeps P (answered a env l s)
+  keeps_answered : (a : Answer) (l : Line) (s : Session) → Keeps P (on_answer a env l s)
   keeps_answered (Ok t) l s b p = plains (turned l s b.now t) b (plain_turned l s b.now t) p
   keeps_answered (Err fault) l s b p = keeps_drop 0x82 l b p
 
@@ -377,15 +377,15 @@ module _ (env : Env) (P : Records → Type 0) (k : Keeping env P) where
 
   -- ---- SUBSCRIBE, UNSUBSCRIBE
 
-  keeps_granted_by : (v a : Bool) (number : ℕ) (s : Session) (w : sub.Wish) (ds : List Delivery) (b : Broker)
-      → (a ≡ true → P (stored (after_all (sub.grants env number s w ds b).deeds b)))
+  keeps_granted_by : (v a : Bool) (number : ℕ) (s : Session) (w : sub.Wish) (ds : List CopyTo) (b : Broker)
+      → (a ≡ true → P (stored (after_all (sub.granted_filter env number s w ds b).deeds b)))
       → P b.records
-      → P (stored (after_all (sub.granted_by v a env number s w ds b).deeds b))
+      → P (stored (after_all (sub.answer_by v a env number s w ds b).deeds b))
   keeps_granted_by false a number s w ds b h p = p
   keeps_granted_by true false number s w ds b h p = p
   keeps_granted_by true true number s w ds b h p = h refl
 
-  keeps_granted : (w : sub.Wish) (s : Session) (b : Broker) → session_at s.birth b.records ≡ Some s → P b.records → P (stored (after_all (sub.granted env w b s).deeds b))
+  keeps_granted : (w : sub.Wish) (s : Session) (b : Broker) → session_at s.birth b.records ≡ Some s → P b.records → P (stored (after_all (sub.filter_answer env w b s).deeds b))
   keeps_granted w s b at p =
       let ds = brought_to w s b in
       let fits = sub.has_filter w.filter s || nat_lt (length s.subscriptions) SUBSCRIPTION_LIMIT in
@@ -393,19 +393,19 @@ module _ (env : Env) (P : Records → Type 0) (k : Keeping env P) where
       keeps_granted_by (is_filter w.filter) (fits && has_room) (sub.next_number b.records) s w ds b
       (λ both_are. k.grants w s b at (second fits has_room both_are) p) p
 
-  keeps_granted_to : (birth : ℕ) (w : Option sub.Wish) (b : Broker) (o : Option Session) → session_at birth b.records ≡ o → P b.records → P (stored (after_all (sub.granted_to env w b o).deeds b))
+  keeps_granted_to : (birth : ℕ) (w : Option sub.Wish) (b : Broker) (o : Option Session) → session_at birth b.records ≡ o → P b.records → P (stored (after_all (sub.filter_answer_of env w b o).deeds b))
   keeps_granted_to birth w b None is p = p
   keeps_granted_to birth None b (Some s) is p = p
   keeps_granted_to birth (Some w) b (Some s) is p =
       let same : s.birth ≡ birth = birth_found birth b.records.sessions s is in
       keeps_granted w s b (ap (λ n. session_at n b.records) same ∙ is) p
 
-  keeps_all_granted : (birth : ℕ) (identifier : Option ℕ) (asked : List Wanted) (b : Broker) → P b.records → P (stored (after_all (sub.all_granted env birth identifier asked b).deeds b))
+  keeps_all_granted : (birth : ℕ) (identifier : Option ℕ) (asked : List Wanted) (b : Broker) → P b.records → P (stored (after_all (sub.filter_answers env birth identifier asked b).deeds b))
   keeps_all_granted birth identifier [] b p = p
   keeps_all_granted birth identifier (a ∷ rest) b p =
       let w = sub.wish_of identifier a in
-      let ds = (sub.granted_to env w b (session_at birth b.records)).deeds in
-      let more = (sub.all_granted env birth identifier rest (after_all ds b)).deeds in
+      let ds = (sub.filter_answer_of env w b (session_at birth b.records)).deeds in
+      let more = (sub.filter_answers env birth identifier rest (after_all ds b)).deeds in
       both P ds more b (keeps_all_granted birth identifier rest (after_all ds b) (keeps_granted_to birth w b (session_at birth b.records) refl p))
 
   keeps_subscribe_by : (t : Bool) (line : ℕ) (s : Session) (x : Subscribing) → Keeps P (sub.subscribe_by t env line s x)
@@ -414,7 +414,7 @@ module _ (env : Env) (P : Records → Type 0) (k : Keeping env P) where
       plains (offer (line_at line b) (suback x.identifier codes)) b (plain_offer (line_at line b) (suback x.identifier codes)) p
   keeps_subscribe_by false line s x b p =
       let identifier = number_at SubscriptionIdentifier x.properties in
-      let a = sub.all_granted env s.birth identifier x.subscriptions b in
+      let a = sub.filter_answers env s.birth identifier x.subscriptions b in
       let told = offer (line_at line b) (suback x.identifier a.codes) in
       let late = flat_map (λ d. sub.late_sends line b.now d b) a.late in
       both P (a.deeds ++ told) late b (plains late (after_all (a.deeds ++ told) b) (plain_late line b.now b a.late)
