@@ -8,7 +8,9 @@ pub mod StoredLaw
 pub mod Ordered
 pub mod OrderedSteps
 pub mod OrderedActs
+pub mod Leads
 pub mod Acts
+pub mod ByDeeds
 pub mod FlightRows
 pub mod FlightQueue
 pub mod FlightRecords

@@ -1,5 +1,6 @@
 -- Numbers, counters and births over a whole step, and over an opening.
 use Rattle.std.proofs.Common.{◌≡◌, ℕ, ◌+◌, ◌≤◌, List, [], ◌∷◌, length, arith}
+use Rattle.std.specs.Prelude.{⊤}
 use Rattle.std.proofs.Math.Nat.{le-max_left, le-min}
 use Rattle.mqtt_base.specs.declared.limits.TheConstants.{LAST_NUMBER}
 use Rattle.mqtt_records.specs.declared.change.Change.{Change}
@@ -12,8 +13,9 @@ use Rattle.mqtt_rules.specs.State.{Broker, capped, MemberChoice}
 use Rattle.mqtt_rules.specs.Deeds.{Deed, after_all, rows_of_all}
 use Rattle.mqtt_rules.specs.Step.{Call, deeds, at_moment, env_of, with_moment, done, stepped, opening, unopened, opened}
 use Rattle.mqtt_rules.specs.Numbers.{CountsOn, CountOn, NoneFell, IsTimed, HasGivenBirths}
-use Rattle.mqtt_rules.proofs.Acts.{AreGood, good_deeds, good_opening}
-use Rattle.mqtt_rules.proofs.NumberFacts.{GivesNext, next_facts, next_mark, births_count, publications_count, grants_count, names_count, moment_stays, now_stays}
+use Rattle.mqtt_rules.proofs.Goods.{AreGood}
+use Rattle.mqtt_rules.proofs.ByDeeds.{leads_deeds, leads_opened}
+use Rattle.mqtt_rules.proofs.NumberFacts.{GivesNext, next_law, next_mark, births_count, publications_count, grants_count, names_count, moment_stays, now_stays}
 use Rattle.mqtt_rules.proofs.NumberBirths.{given_all}
 
 -- ---- numbers that count on
@@ -71,7 +73,7 @@ timed_done ds b h =
 -- ---- steps
 
 step_next : (limits : Limits) (choice : MemberChoice) (now : ℕ) (call : Call) (b : Broker) → AreGood GivesNext (deeds limits choice now call b) (at_moment now b)
-step_next limits choice now call b = good_deeds GivesNext next_facts next_mark (env_of limits choice b) call (at_moment now b)
+step_next limits choice now call b = (leads_deeds (env_of limits choice b) (λ c. ⊤) GivesNext (next_law (env_of limits choice b)) next_mark call (at_moment now b) tt).0
 
 pub step_counts : (limits : Limits) (choice : MemberChoice) (now : ℕ) (call : Call) (b : Broker) → CountOn (deeds limits choice now call b) b.records (stepped limits choice now call b).records
 step_counts limits choice now call b = count_done (deeds limits choice now call b) (at_moment now b) (step_next limits choice now call b)
@@ -91,7 +93,10 @@ step_given limits choice now call b h = given_done (deeds limits choice now call
 -- ---- opening
 
 opening_next : (limits : Limits) (choice : MemberChoice) (now : ℕ) (r : Records) → AreGood GivesNext (opening (env_of limits choice (unopened now r)) (unopened now r)) (unopened now r)
-opening_next limits choice now r = good_opening GivesNext next_facts (env_of limits choice (unopened now r)) (unopened now r)
+opening_next limits choice now r =
+    let b = unopened now r in
+    let env = env_of limits choice b in
+    (leads_opened env (λ c. ⊤) GivesNext (next_law env) next_mark b tt).0
 
 pub opening_counts : (limits : Limits) (choice : MemberChoice) (now : ℕ) (r : Records)
     → CountOn (opening (env_of limits choice (unopened now r)) (unopened now r)) r (opened limits choice now r).records

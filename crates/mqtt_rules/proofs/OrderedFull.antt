@@ -28,7 +28,8 @@ use Rattle.mqtt_rules.specs.Subscribe as sub
 use Rattle.mqtt_rules.specs.Step.{Call, stepped, env_of, unopened, opened}
 use Rattle.mqtt_rules.specs.Laws.{HasTables, IsOrdered}
 use Rattle.mqtt_rules.proofs.Ordered.{length-filter_le, all-filter, changed-ordered}
-use Rattle.mqtt_rules.proofs.OrderedActs.{both, brought_to, Keeping, birth_found}
+use Rattle.mqtt_rules.proofs.OrderedActs.{both, Keeping, birth_found}
+use Rattle.mqtt_rules.proofs.Acts.{brought_to}
 use Rattle.mqtt_rules.proofs.OrderedAccepted.{is_to, accepted_within}
 use Rattle.mqtt_rules.proofs.OrderedQueues.{stay_is, stay_le}
 use Rattle.mqtt_rules.proofs.OrderedLimits.{step_keeps, opening_keeps}

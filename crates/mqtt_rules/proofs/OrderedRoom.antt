@@ -30,7 +30,8 @@ use Rattle.mqtt_rules.specs.Subscribe as sub
 use Rattle.mqtt_rules.specs.State.{queue_on}
 use Rattle.mqtt_rules.specs.Laws.{IsTable}
 use Rattle.mqtt_rules.proofs.Ordered.{length-filter_le, length-change_row, length-insert_row, length-insert_found, filter-table, either}
-use Rattle.mqtt_rules.proofs.OrderedActs.{IsPlain, ArePlain, plain_leave, plain_flat, plain_offer, Keeps, both, follows, keeps_series, keeps_map, keeps_of, brought_to, Keeping, birth_found}
+use Rattle.mqtt_rules.proofs.OrderedActs.{IsPlain, ArePlain, plain_leave, plain_flat, plain_offer, Keeps, both, follows, keeps_series, keeps_map, keeps_of, Keeping, birth_found}
+use Rattle.mqtt_rules.proofs.Acts.{brought_to}
 
 -- ---- all deeds but those that a session begins with, or a retained message is kept with
 
