@@ -73,26 +73,25 @@ abbrev pub identifiers_of : Option ℕ → List ℕ
 identifiers_of None = []
 identifiers_of (Some n) = n ∷ []
 
-abbrev pub retained_copy : ℕ → Wish → RetainedMessage → MessageCopy
-retained_copy number w k = record {
-  publication = k.publication;
-  cause = RetainedBy number;
+abbrev pub retained_copy : ℕ → ℕ → Wish → RetainedMessage → MessageCopy
+retained_copy birth number w k = record {
+  id = record { publication = k.publication; birth = birth; cause = RetainedBy number };
   qos = quality (min (qos_number k.qos) (qos_number w.options.qos));
   retain = true;
   identifiers = identifiers_of w.identifier;
   content = k.content;
 }
 
-abbrev pub retained_copy_to : ℕ → ℕ → Wish → Retained → CopyTo
-retained_copy_to birth number w k = record { birth = birth; copy = retained_copy number w k }
+abbrev pub retained_copy_to : ℕ → ℕ → Wish → RetainedMessage → CopyTo
+retained_copy_to birth number w k = record { birth = birth; copy = retained_copy birth number w k }
 
 -- in the order in which their topics were first retained
-abbrev pub brought_if : Bool → ℕ → ℕ → Session → Wish → List Retained → List CopyTo
+abbrev pub brought_if : Bool → ℕ → ℕ → Session → Wish → List RetainedMessage → List CopyTo
 brought_if false now number s w ks = []
 brought_if true now number s w ks =
     map (retained_copy_to s.birth number w) (filter (is_brought now s w) (map message_in (kept_for w.filter (map kept_of ks))))
 
-abbrev pub brought : ℕ → ℕ → Session → Wish → List Retained → List CopyTo
+abbrev pub brought : ℕ → ℕ → Session → Wish → List RetainedMessage → List CopyTo
 brought now number s w ks =
     brought_if (not (begins_share w.filter) && wants_retained w.options.retain_handling (has_filter w.filter s)) now number s w ks
 
