@@ -36,10 +36,10 @@ use Rattle.mqtt_rules.specs.Packets.{puback, pubrec, pubcomp, pubrel, suback, un
 use Rattle.mqtt_rules.specs.State.{Line, Broker, Env, session_at, session_named, line_at, line_of, is_connected, queue_on}
 use Rattle.mqtt_rules.specs.Deeds.{Whose, whose, Message, Origin, FromClient, FromWill, Part, Resume, Close, SetExpiry, DropWill, Unsubscribe, Open, Release, LinePart, Hear, Greet, SetAlias, Went, Deed, At, Forget, RefuseWill, Link, On, Send, Gone, line_after, on_line, after, after_all, Act, series, always, only_if, with_session, of_session, offer}
 use Rattle.mqtt_rules.specs.Outbound.{turn_deeds, all_turn_deeds, room}
-use Rattle.mqtt_rules.specs.Routing.{Delivery, is_queued, publish, routed, is_wanted}
+use Rattle.mqtt_rules.specs.Routing.{CopyTo, is_queued, publish, accepted_copies, is_wanted}
 use Rattle.mqtt_rules.specs.Closing.{has_due_will, has_due_end, will_message, publish_or_refuse, will_deeds, publish_will, end_session, settle, close_session, close_connected, close, drop_line}
-use Rattle.mqtt_rules.specs.Connect.{largest_of, refusal, refused, of_client, take_over, clear, prepare, expiry_of, will_of, greet, granted_to, resume, begin_named, joins, joins_after, connect_by, on_connect}
-use Rattle.mqtt_rules.specs.Inbound.{Meaning, Means, Wrong, meaning, sets_alias, standing, answer, opens, code_again, code_accepted, publish_new, publish_by, message_of, publish_meant, release_by, answered, pump_deeds, is_late_expiry, leave_by}
+use Rattle.mqtt_rules.specs.Connect.{largest_of, refusal, refused, of_client, take_over, clear, prepare, expiry_of, will_of, greet, connack_properties, resume, begin_named, joins, joins_after, connect_by, on_connect}
+use Rattle.mqtt_rules.specs.Inbound.{Meaning, Means, Wrong, meaning, sets_alias, standing, answer, opens, code_again, code_accepted, publish_new, publish_by, message_of, publish_meant, release_by, on_answer, pump_deeds, is_late_expiry, leave_by}
 use Rattle.mqtt_rules.specs.Subscribe as sub
 use Rattle.mqtt_rules.specs.Tick.{is_silent, silence, has_lapsed, lapse_deeds, is_stale, first_due, due, on_tick}
 use Rattle.mqtt_rules.specs.Step.{Call, NewLine, Input, BadInput, Lost, Pump, Tick, first_packet, next_packet, on_packet, on_fault, late_code, on_pump, can_link, deeds_of, close_if, opening}
@@ -54,7 +54,7 @@ pub record About : Type 1 where
   pub line : Line → Type 0
   pub number : ℕ → Type 0
   pub session : ℕ → Type 0
-  pub client : List ℕ → Type 0
+  pub client : List ℕ → Broker → Type 0
   pub packet : Packet → Type 0
   pub message : Message → Type 0
 
@@ -64,7 +64,7 @@ anyone = record {
   line = λ l. ⊤;
   number = λ n. ⊤;
   session = λ birth. ⊤;
-  client = λ client. ⊤;
+  client = λ client b. ⊤;
   packet = λ packet. ⊤;
   message = λ m. ⊤;
 }
@@ -107,7 +107,7 @@ abbrev pub closing : Bool → Line → Broker → List Deed
 closing keeps_will l b = Gone l.number ∷ closing_on keeps_will b.now l.session b.records
 
 -- the copies that the retained messages for a wish make
-abbrev pub brought_to : sub.Wish → Session → Broker → List Delivery
+abbrev pub brought_to : sub.Wish → Session → Broker → List CopyTo
 brought_to w s b = sub.brought b.now (sub.next_number b.records) s w b.records.retained
 
 -- a filter is granted: it is valid, and there is room for it and for its copies
@@ -123,19 +123,20 @@ pub record Finds (about : About) (Keep : Broker → Type 0) : Type 0 where
   pub its_number : (l : Line) → about.line l → about.number l.number
   pub its_session : (l : Line) (birth : ℕ) → about.line l → l.session ≡ Some birth → about.session birth
   pub its_line : (birth : ℕ) (l : Line) (b : Broker) → Keep b → about.session birth → line_of birth b ≡ Some l → about.line l
-  pub named : (client : List ℕ) (s : Session) (b : Broker) → Keep b → about.client client → session_named client b.records ≡ Some s → about.session s.birth
-  pub admitted : (c : Greeting) (b : Broker) → Keep b → about.packet (packets.Connect c) → refusal c b.records ≡ None → about.client c.client_identifier
+  pub named : (client : List ℕ) (s : Session) (b : Broker) → Keep b → about.client client b → session_named client b.records ≡ Some s → about.session s.birth
+  pub admitted : (c : Greeting) (b : Broker) → Keep b → about.packet (packets.Connect c) → refusal c b.records ≡ None → about.client c.client_identifier b
   pub sent : (l : Line) (s : Session) (p : Publication) (topic : List ℕ) (b : Broker) → Keep b → about.line l → about.packet (packets.Publish p) → meaning p l.aliases ≡ Means topic
       → about.message (message_of s.client topic p)
   pub willed : (s : Session) (w : Will) (b : Broker) → Keep b → IsAmong s b.records.sessions → s.will ≡ Some w → about.message (will_message s.client w)
 
 pub record Law (env : Env) (about : About) (Keep : Broker → Type 0) (Good : Deed → Broker → Type 0) : Type 0 where
   pub finds : Finds about Keep
+  pub client_stays : (client : List ℕ) (ds : List Deed) (b : Broker) → Keep b → Leads Keep Good ds b → about.client client b → about.client client (after_all ds b)
   -- publications
-  pub publishes : (origin : Origin) (m : Message) (ds : List Delivery) (b : Broker) → Keep b → about.message m → routed env m b ≡ Some ds → Leads Keep Good (publish env origin m ds b) b
-  pub open_id : (s : Session) (id : ℕ) (m : Message) (ds : List Delivery) (b : Broker)
+  pub publishes : (origin : Origin) (m : Message) (ds : List CopyTo) (b : Broker) → Keep b → about.message m → accepted_copies env m b ≡ Some ds → Leads Keep Good (publish env origin m ds b) b
+  pub open_id : (s : Session) (id : ℕ) (m : Message) (ds : List CopyTo) (b : Broker)
       → Keep b → Keep (after_all (publish env FromClient m ds b) b) → about.session s.birth
-      → session_at s.birth b.records ≡ Some s → answer_to id s.inbound ≡ New → routed env m b ≡ Some ds
+      → session_at s.birth b.records ≡ Some s → answer_to id s.inbound ≡ New → accepted_copies env m b ≡ Some ds
       → Leads Keep Good (At (whose s) (Open id) ∷ []) (after_all (publish env FromClient m ds b) b)
   pub refuse_will : (who : Whose) (b : Broker) → Keep b → about.session who.birth → Leads Keep Good (RefuseWill who ∷ []) b
   -- sessions
@@ -146,11 +147,11 @@ pub record Law (env : Env) (about : About) (Keep : Broker → Type 0) (Good : De
       → Keep b → about.line l → l.session ≡ None → about.packet (packets.Connect c) → IsAdmitted c → about.session s.birth → session_named c.client_identifier b.records ≡ Some s
       → Leads Keep Good (At (whose s) (Resume (expiry_of c) (will_of c)) ∷ greet l c s.birth ∷ []) b
   pub begins : (l : Line) (c : Greeting) (b : Broker)
-      → Keep b → about.line l → l.session ≡ None → about.packet (packets.Connect c) → IsAdmitted c → about.client c.client_identifier
+      → Keep b → about.line l → l.session ≡ None → about.packet (packets.Connect c) → IsAdmitted c → about.client c.client_identifier b
       → session_named c.client_identifier b.records ≡ None → nat_lt (length b.records.sessions) env.limits.sessions ≡ true
       → Leads Keep Good (begin_named (is_empty c.client_identifier) l c b.records) b
   pub grants : (w : sub.Wish) (s : Session) (b : Broker) → Keep b → about.session s.birth → IsGranted env w s b
-      → Leads Keep Good (sub.grants env (sub.next_number b.records) s w (brought_to w s b) b).deeds b
+      → Leads Keep Good (sub.granted_filter env (sub.next_number b.records) s w (brought_to w s b) b).deeds b
   -- queues
   pub pumps : (l : Line) (s : Session) (b : Broker) → Keep b → about.line l → l.session ≡ Some s.birth → session_at s.birth b.records ≡ Some s → Leads Keep Good (pump_deeds l b.now s) b
   pub turns : (a : Answer) (t : Turn) (l : Line) (s : Session) (b : Broker)
@@ -257,7 +258,7 @@ module _ (env : Env) (about : About) (Keep : Broker → Type 0) (Good : Deed →
   own_session : (birth : ℕ) (s : Session) (b : Broker) → session_at birth b.records ≡ Some s → session_at s.birth b.records ≡ Some s
   own_session birth s b e = ap (λ (n : ℕ). session_at n b.records) (found_key birth_of birth s b.records.sessions e) ∙ e
 
-  of_named : (client : List ℕ) (f : Session → Act) (b : Broker) → Keep b → about.client client
+  of_named : (client : List ℕ) (f : Session → Act) (b : Broker) → Keep b → about.client client b
       → ((s : Session) → session_named client b.records ≡ Some s → about.session s.birth → Led (f s b) b) → Led (of_client client f b) b
   of_named client f b k its h = leads_of_client Keep Good client f b k (λ s e. h s e (law.finds.named client s b k its e))
 
@@ -275,7 +276,7 @@ module _ (env : Env) (about : About) (Keep : Broker → Type 0) (Good : Deed →
 
   -- Wills, ends, settling and closing
 
-  leads_publish_or_refuse : (who : Whose) (m : Message) (o : Option (List Delivery)) (b : Broker) → Keep b → about.session who.birth → about.message m → routed env m b ≡ o → Led (publish_or_refuse env who m o b) b
+  leads_publish_or_refuse : (who : Whose) (m : Message) (o : Option (List CopyTo)) (b : Broker) → Keep b → about.session who.birth → about.message m → accepted_copies env m b ≡ o → Led (publish_or_refuse env who m o b) b
   leads_publish_or_refuse who m None b k its said e = law.refuse_will who b k its
   leads_publish_or_refuse who m (Some ds) b k its said e = law.publishes FromWill m ds b k said e
 
@@ -283,12 +284,16 @@ module _ (env : Env) (about : About) (Keep : Broker → Type 0) (Good : Deed →
   leads_will s None b k its among e = (tt, k)
   leads_will s (Some w) b k its among e =
       let m = will_message s.client w in
-      leads_two Keep Good (publish_or_refuse env (whose s) m (routed env m b)) (always (At (whose s) DropWill ∷ [])) b
-      (leads_publish_or_refuse (whose s) m (routed env m b) b k its (law.finds.willed s w b k among e) refl)
+      leads_two Keep Good (publish_or_refuse env (whose s) m (accepted_copies env m b)) (always (At (whose s) DropWill ∷ [])) b
+      (leads_publish_or_refuse (whose s) m (accepted_copies env m b) b k its (law.finds.willed s w b k among e) refl)
       (λ h. law.alone (whose s) DropWill _ h its refl)
 
   pub leads_publish_will : (s : Session) (b : Broker) → Keep b → about.session s.birth → IsAmong s b.records.sessions → Led (publish_will env s b) b
   leads_publish_will s b k its among = leads_will s s.will b k its among refl
+
+  if_here : (t : Bool) (act : Act) (b : Broker) → Keep b → Led (act b) b → Led (only_if t act b) b
+  if_here true act b k h = h
+  if_here false act b k h = (tt, k)
 
   pub leads_settle : (birth : ℕ) (b : Broker) → Keep b → about.session birth → Led (settle env birth b) b
   leads_settle birth b k its =
@@ -298,10 +303,6 @@ module _ (env : Env) (about : About) (Keep : Broker → Type 0) (Good : Deed →
       (λ h. let c = after_all (of_session birth (λ s. only_if (has_due_will b.now s) (publish_will env s)) b) b in
       of_its birth (λ s. only_if (has_due_end b.now s) (always (end_session s))) c h its
       (λ s e own. if_here (has_due_end b.now s) (always (end_session s)) c h (law.ends s c h own (row_among birth_of birth s c.records.sessions e))))
-    where
-      if_here : (t : Bool) (act : Act) (b : Broker) → Keep b → Led (act b) b → Led (only_if t act b) b
-      if_here true act b k h = h
-      if_here false act b k h = (tt, k)
 
   leads_settled : (birth : ℕ) (b : Broker) → Keep b → about.session birth → Led ((settle env birth b ++ []) ++ []) b
   leads_settled birth b k its =
@@ -353,25 +354,33 @@ module _ (env : Env) (about : About) (Keep : Broker → Type 0) (Good : Deed →
       leads_with_line Keep Good (line_of s.birth b) (drop_line env session_taken_over) b k
       (λ l e. leads_drop session_taken_over l b k (law.finds.its_line s.birth l b k its e) (found_on l b.lines (found_among _ l b.lines e)))
 
-  pub leads_clear : (client : List ℕ) (s : Session) (b : Broker) → Keep b → about.client client → session_named client b.records ≡ Some s → Led (clear env s b) b
+  pub leads_clear : (client : List ℕ) (s : Session) (b : Broker) → Keep b → about.client client b → session_named client b.records ≡ Some s → Led (clear env s b) b
   leads_clear client s b k its e =
       let is : s.client ≡ client = (bytes_eq-Decides s.client client).0 (found_passes (λ x. bytes_eq x.client client) s b.records.sessions e) in
-      leads_two Keep Good (publish_will env s) (of_client s.client (λ t. always (end_session t))) b
-      (leads_publish_will s b k (law.finds.named client s b k its e) (found_among _ s b.records.sessions e))
+      let name : about.client s.client b = subst (λ (text : List ℕ). about.client text b) (sym is) its in
+      let first = leads_publish_will s b k (law.finds.named client s b k its e) (found_among _ s b.records.sessions e) in
+      leads_two Keep Good (publish_will env s) (of_client s.client (λ t. always (end_session t))) b first
       (λ h. let c = after_all (publish_will env s b) b in
-      of_named s.client (λ t. always (end_session t)) c h (subst about.client (sym is) its)
+      of_named s.client (λ t. always (end_session t)) c h (law.client_stays s.client (publish_will env s b) b k first name)
       (λ t there own. law.ends t c h own (found_among _ t c.records.sessions there)))
 
-  pub leads_prepare : (c : Greeting) (b : Broker) → Keep b → about.client c.client_identifier → Led (prepare env c b) b
+  pub leads_prepare : (c : Greeting) (b : Broker) → Keep b → about.client c.client_identifier b → Led (prepare env c b) b
   leads_prepare c b k its =
       let name = c.client_identifier in
-      leads_series Keep Good (of_client name (take_over env) ∷ of_client name (λ s. settle env s.birth) ∷ only_if c.clean_start (of_client name (clear env)) ∷ []) (
-        (λ x h. of_named name (take_over env) x h its (λ s e own. leads_take_over s x h own)),
-        (
-          (λ x h. of_named name (λ s. settle env s.birth) x h its (λ s e own. leads_settle s.birth x h own)),
-          (leads_if Keep Good c.clean_start (of_client name (clear env)) (λ t x h. of_named name (clear env) x h its (λ s e own. leads_clear name s x h its e)), tt),
-        ),
-      ) b k
+      let first = of_client name (take_over env) b in
+      let x = after_all first b in
+      let second = of_client name (λ s. settle env s.birth) x in
+      let y = after_all second x in
+      let third = only_if c.clean_start (of_client name (clear env)) in
+      let one : Led first b = of_named name (take_over env) b k its (λ s e own. leads_take_over s b k own) in
+      leads_append Keep Good first (series ((λ z. of_client name (λ s. settle env s.birth) z) ∷ third ∷ []) x) b one
+      (λ h. let name_x = law.client_stays name first b k one its in
+      let two : Led second x = of_named name (λ s. settle env s.birth) x h name_x (λ s e own. leads_settle s.birth x h own) in
+      leads_append Keep Good second (series (third ∷ []) y) x two
+      (λ g. let name_y = law.client_stays name second x h two name_x in
+      leads_append Keep Good (third y) [] y
+      (if_here c.clean_start (of_client name (clear env)) y g (of_named name (clear env) y g name_y (λ s e own. leads_clear name s y g name_y e)))
+      (λ f. (tt, f))))
 
   leads_repeats : {X : Type 0} (now line : ℕ) (s : Session) (xs : List X) (id : X → ℕ) (b : Broker) → Keep b → about.number line → Led (all_turn_deeds now line s (map (λ x. turns.Repeat (id x)) xs)) b
   leads_repeats now line s [] id b k its = (tt, k)
@@ -384,16 +393,16 @@ module _ (env : Env) (about : About) (Keep : Broker → Type 0) (Good : Deed →
       → Led (resume l c now s) b
   leads_resume l c now s b k its none came taken own e =
       let first : List Deed = At (whose s) (Resume (expiry_of c) (will_of c)) ∷ greet l c s.birth ∷ [] in
-      let told : List Deed = Send l.number (connack true success (granted_to false [])) ∷ [] in
+      let told : List Deed = Send l.number (connack true success (connack_properties false [])) ∷ [] in
       let number = law.finds.its_number l its in
       leads_append Keep Good first (told ++ all_turn_deeds now l.number s (rules.resumed_with (queue_on [] s))) b (law.resumes l c s b k its none came taken own e)
       (λ h. leads_append Keep Good told (all_turn_deeds now l.number s (rules.resumed_with (queue_on [] s))) (after_all first b)
-      (law.sends l.number (connack true success (granted_to false [])) (after_all first b) h number)
+      (law.sends l.number (connack true success (connack_properties false [])) (after_all first b) h number)
       (λ g. leads_repeats now l.number s (due_from [] (queue_on [] s)) (λ d. d.identifier) (after_all (first ++ told) b) g number))
 
   -- after the preparation, on the state that it left
   pub leads_joins : (l : Line) (c : Greeting) (now : ℕ) (ds : List Deed) (b : Broker)
-      → Keep b → about.line l → l.session ≡ None → IsOn l.number l.session b.lines → about.packet (packets.Connect c) → IsAdmitted c → about.client c.client_identifier → Led ds b
+      → Keep b → about.line l → l.session ≡ None → IsOn l.number l.session b.lines → about.packet (packets.Connect c) → IsAdmitted c → about.client c.client_identifier (after_all ds b) → Led ds b
       → Led (joins_after env l c now ds (after_all ds b).records) b
   leads_joins l c now ds b k its none on came taken name led = found (session_named c.client_identifier r) refl
     where
@@ -415,7 +424,7 @@ module _ (env : Env) (about : About) (Keep : Broker → Type 0) (Good : Deed →
       by (Some code) e = leads_refused l c code b k its none on
       by None e =
           let name = law.finds.admitted c b k came e in
-          leads_joins l c b.now (prepare env c b) b k its none on came (b.records, e) name (leads_prepare c b k name)
+          leads_joins l c b.now (prepare env c b) b k its none on came (b.records, e) (law.client_stays c.client_identifier (prepare env c b) b k (leads_prepare c b k name) name) (leads_prepare c b k name)
 
   -- PUBLISH
 
@@ -424,17 +433,17 @@ module _ (env : Env) (about : About) (Keep : Broker → Type 0) (Good : Deed →
   leads_answer line (delivery.AtLeastOnce dup id) code b k its = law.sends line (puback id code) b k its
   leads_answer line (delivery.ExactlyOnce dup id) code b k its = law.sends line (pubrec id code) b k its
 
-  leads_opens : (s : Session) (q : Quality) (m : Message) (ds : List Delivery) (b : Broker)
+  leads_opens : (s : Session) (q : Quality) (m : Message) (ds : List CopyTo) (b : Broker)
       → Keep b → Keep (after_all (publish env FromClient m ds b) b) → about.session s.birth
-      → session_at s.birth b.records ≡ Some s → standing q s.inbound ≡ New → routed env m b ≡ Some ds
+      → session_at s.birth b.records ≡ Some s → standing q s.inbound ≡ New → accepted_copies env m b ≡ Some ds
       → Led (opens s q) (after_all (publish env FromClient m ds b) b)
   leads_opens s delivery.AtMostOnce m ds b k h own there new is = (tt, h)
   leads_opens s (delivery.AtLeastOnce dup id) m ds b k h own there new is = (tt, h)
   leads_opens s (delivery.ExactlyOnce dup id) m ds b k h own there new is = law.open_id s id m ds b k h own there new is
 
-  leads_publish_new : (l : Line) (s : Session) (p : Publication) (m : Message) (o : Option (List Delivery)) (b : Broker)
+  leads_publish_new : (l : Line) (s : Session) (p : Publication) (m : Message) (o : Option (List CopyTo)) (b : Broker)
       → Keep b → about.line l → about.session s.birth → about.message m
-      → session_at s.birth b.records ≡ Some s → standing p.delivery s.inbound ≡ New → routed env m b ≡ o
+      → session_at s.birth b.records ≡ Some s → standing p.delivery s.inbound ≡ New → accepted_copies env m b ≡ o
       → Led (publish_new env l s p m o b) b
   leads_publish_new l s p m None b k its own said there new is = leads_answer l.number p.delivery quota_exceeded b k (law.finds.its_number l its)
   leads_publish_new l s p m (Some ds) b k its own said there new is =
@@ -452,7 +461,7 @@ module _ (env : Env) (about : About) (Keep : Broker → Type 0) (Good : Deed →
       → Led (publish_by x env l s p m b) b
   leads_publish_by Again l s p m b k its on own said there is = leads_answer l.number p.delivery (code_again p.delivery) b k (law.finds.its_number l its)
   leads_publish_by Over l s p m b k its on own said there is = leads_drop receive_maximum_exceeded l b k its on
-  leads_publish_by New l s p m b k its on own said there is = leads_publish_new l s p m (routed env m b) b k its own said there is refl
+  leads_publish_by New l s p m b k its on own said there is = leads_publish_new l s p m (accepted_copies env m b) b k its own said there is refl
 
   -- an alias that is set leaves what is stored, and what the line is connected to
   set_alias : (t : Bool) (alias : Option ℕ) (l : Line) (topic : List ℕ) (b : Broker) → Keep b → about.line l → IsOn l.number l.session b.lines
@@ -504,7 +513,7 @@ module _ (env : Env) (about : About) (Keep : Broker → Type 0) (Good : Deed →
   both_true true y h = (refl, h)
   both_true false y h = absurd cc
 
-  leads_granted : (w : sub.Wish) (s : Session) (b : Broker) → Keep b → about.session s.birth → session_at s.birth b.records ≡ Some s → Led (sub.granted env w b s).deeds b
+  leads_granted : (w : sub.Wish) (s : Session) (b : Broker) → Keep b → about.session s.birth → session_at s.birth b.records ≡ Some s → Led (sub.filter_answer env w b s).deeds b
   leads_granted w s b k own there = by (is_filter w.filter) (both (sub.has_filter w.filter s || nat_lt (length s.subscriptions) SUBSCRIPTION_LIMIT) (nat_le (length (filter is_queued (brought_to w s b))) (room env s))) refl refl
     where
       both : Bool → Bool → Bool
@@ -513,31 +522,31 @@ module _ (env : Env) (about : About) (Keep : Broker → Type 0) (Good : Deed →
       fits : Bool
       fits = (sub.has_filter w.filter s || nat_lt (length s.subscriptions) SUBSCRIPTION_LIMIT) && nat_le (length (filter is_queued (brought_to w s b))) (room env s)
 
-      by : (x y : Bool) → is_filter w.filter ≡ x → fits ≡ y → Led (sub.granted_by x y env (sub.next_number b.records) s w (brought_to w s b) b).deeds b
+      by : (x y : Bool) → is_filter w.filter ≡ x → fits ≡ y → Led (sub.answer_by x y env (sub.next_number b.records) s w (brought_to w s b) b).deeds b
       by false y is fit = (tt, k)
       by true false is fit = (tt, k)
       by true true is fit =
           let parts = both_true (sub.has_filter w.filter s || nat_lt (length s.subscriptions) SUBSCRIPTION_LIMIT) (nat_le (length (filter is_queued (brought_to w s b))) (room env s)) fit in
           law.grants w s b k own (record { session = there; valid = is; fits = parts.0; has_room = parts.1 })
 
-  leads_granted_to : (birth : ℕ) (w : Option sub.Wish) (b : Broker) (o : Option Session) → Keep b → about.session birth → session_at birth b.records ≡ o → Led (sub.granted_to env w b o).deeds b
+  leads_granted_to : (birth : ℕ) (w : Option sub.Wish) (b : Broker) (o : Option Session) → Keep b → about.session birth → session_at birth b.records ≡ o → Led (sub.filter_answer_of env w b o).deeds b
   leads_granted_to birth w b None k own is = (tt, k)
   leads_granted_to birth None b (Some s) k own is = (tt, k)
   leads_granted_to birth (Some w) b (Some s) k own is =
       leads_granted w s b k (subst about.session (sym (found_key birth_of birth s b.records.sessions is)) own) (own_session birth s b is)
 
-  leads_all_granted : (birth : ℕ) (identifier : Option ℕ) (asked : List Asked) (b : Broker) → Keep b → about.session birth → Led (sub.all_granted env birth identifier asked b).deeds b
+  leads_all_granted : (birth : ℕ) (identifier : Option ℕ) (asked : List Asked) (b : Broker) → Keep b → about.session birth → Led (sub.filter_answers env birth identifier asked b).deeds b
   leads_all_granted birth identifier [] b k own = (tt, k)
   leads_all_granted birth identifier (a ∷ rest) b k own =
-      let g = sub.granted_to env (sub.wish_of identifier a) b (session_at birth b.records) in
-      leads_append Keep Good g.deeds (sub.all_granted env birth identifier rest (after_all g.deeds b)).deeds b
+      let g = sub.filter_answer_of env (sub.wish_of identifier a) b (session_at birth b.records) in
+      leads_append Keep Good g.deeds (sub.filter_answers env birth identifier rest (after_all g.deeds b)).deeds b
       (leads_granted_to birth (sub.wish_of identifier a) b (session_at birth b.records) k own refl)
       (λ h. leads_all_granted birth identifier rest (after_all g.deeds b) h own)
 
   pub leads_subscribe : (t : Bool) (line : ℕ) (s : Session) (p : Asking) (b : Broker) → Keep b → about.number line → about.session s.birth → Led (sub.subscribe_by t env line s p b) b
   leads_subscribe true line s p b k its own = leads_offer line (suback p.identifier (map (λ a. identifier_in_use) p.subscriptions)) b b k its
   leads_subscribe false line s p b k its own =
-      let a = sub.all_granted env s.birth (number_at SubscriptionIdentifier p.properties) p.subscriptions b in
+      let a = sub.filter_answers env s.birth (number_at SubscriptionIdentifier p.properties) p.subscriptions b in
       let told = offer (line_at line b) (suback p.identifier a.codes) in
       leads_append Keep Good (a.deeds ++ told) (flat_map (λ d. sub.late_sends line b.now d b) a.late) b
       (leads_append Keep Good a.deeds told b
@@ -556,7 +565,7 @@ module _ (env : Env) (about : About) (Keep : Broker → Type 0) (Good : Deed →
   -- a receiver's answers
 
   pub leads_answered : (a : Answer) (l : Line) (s : Session) (b : Broker)
-      → Keep b → about.line l → IsOn l.number l.session b.lines → about.session s.birth → session_at s.birth b.records ≡ Some s → IsAnswer a l s → Led (answered a env l s b) b
+      → Keep b → about.line l → IsOn l.number l.session b.lines → about.session s.birth → session_at s.birth b.records ≡ Some s → IsAnswer a l s → Led (on_answer a env l s b) b
   leads_answered (Ok None) l s b k its on own there is = (tt, k)
   leads_answered (Ok (Some t)) l s b k its on own there is = law.turns (Ok (Some t)) t l s b k its own there is refl
   leads_answered (Err fault) l s b k its on own there is = leads_drop 0x82 l b k its on

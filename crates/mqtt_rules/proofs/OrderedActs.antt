@@ -21,9 +21,9 @@ use Rattle.mqtt_rules.specs.Packets.{connack}
 use Rattle.mqtt_rules.specs.State.{Line, Broker, Env, stored, session_at, session_named}
 use Rattle.mqtt_rules.specs.Deeds.{whose, Message, Origin, FromClient, Part, Resume, Close, Open, Enter, Leave, Hear, SetAlias, Deed, Accept, Begin, Name, Count, At, Finish, Keep, Forget, RefuseWill, Link, On, Send, Act, after, after_all, rows_of_all, stored_after, then, always, series, only_if, with_session, of_session, with_line, offer}
 use Rattle.mqtt_rules.specs.Outbound.{of_entry, leave_deeds, turn_deeds, all_turn_deeds, room}
-use Rattle.mqtt_rules.specs.Routing.{Delivery, routed, publish, is_queued}
+use Rattle.mqtt_rules.specs.Routing.{CopyTo, accepted_copies, publish, is_queued}
 use Rattle.mqtt_rules.specs.Closing.{end_session}
-use Rattle.mqtt_rules.specs.Connect.{of_client, greet, expiry_of, will_of, granted_to, fresh_row, begin, begin_named, auto}
+use Rattle.mqtt_rules.specs.Connect.{of_client, greet, expiry_of, will_of, connack_properties, fresh_row, begin, begin_named, auto}
 use Rattle.mqtt_rules.specs.Inbound.{pump_turns, pump_deeds}
 use Rattle.mqtt_rules.specs.Subscribe as sub
 use Rattle.mqtt_rules.proofs.Goods.{after_append}
@@ -145,12 +145,12 @@ module _ (P : Records → Type 0) where
 pub record Keeping (env : Env) (P : Records → Type 0) : Type 0 where
   pub plain : (d : Deed) (r : Records) → IsPlain d → P r → P (stored_after d r)
   pub begin : (row : Columns) (will : Option Will) (r : Records) → length r.sessions < env.limits.sessions → P r → P (stored_after (Begin row will) r)
-  pub publish : (origin : Origin) (m : Message) (ds : List Delivery) (b : Broker) → routed env m b ≡ Some ds → P b.records → P (stored (after_all (publish env origin m ds b) b))
+  pub publish : (origin : Origin) (m : Message) (ds : List CopyTo) (b : Broker) → accepted_copies env m b ≡ Some ds → P b.records → P (stored (after_all (publish env origin m ds b) b))
   pub grants : (w : sub.Wish) (s : Session) (b : Broker)
       → session_at s.birth b.records ≡ Some s
       → nat_le (length (filter is_queued (brought_to w s b))) (room env s) ≡ true
       → P b.records
-      → P (stored (after_all (sub.grants env (sub.next_number b.records) s w (brought_to w s b) b).deeds b))
+      → P (stored (after_all (sub.granted_filter env (sub.next_number b.records) s w (brought_to w s b) b).deeds b))
   pub moment : (now : ℕ) (r : Records) → P r → P (record r { moment = now })
 
 pub birth_found : (birth : ℕ) (ss : List Session) (s : Session) → row_at birth_of birth ss ≡ Some s → s.birth ≡ birth
@@ -199,7 +199,7 @@ module _ (env : Env) (P : Records → Type 0) (k : Keeping env P) where
       → P (stored (after_all (begin l c is_assigned client (suc b.records.births)) b))
   born l c is_assigned client b p room =
       let d = Begin (fresh_row (suc b.records.births) client c) (will_of c) in
-      plains (greet l c (suc b.records.births) ∷ Send l.number (connack false success (granted_to is_assigned client)) ∷ []) (after d b) (tt, (tt, tt)) (k.begin (fresh_row (suc b.records.births) client c) (will_of c) b.records room p)
+      plains (greet l c (suc b.records.births) ∷ Send l.number (connack false success (connack_properties is_assigned client)) ∷ []) (after d b) (tt, (tt, tt)) (k.begin (fresh_row (suc b.records.births) client c) (will_of c) b.records room p)
 
   begins_named : (t : Bool) (l : Line) (c : Greeting) (b : Broker) → P b.records → length b.records.sessions < env.limits.sessions → P (stored (after_all (begin_named t l c b.records) b))
   begins_named false l c b p room = born l c false c.client_identifier b p room
@@ -210,6 +210,7 @@ module _ (env : Env) (P : Records → Type 0) (k : Keeping env P) where
   pub keeping_law : Law env anyone Keeps_ (λ d c. ⊤)
   keeping_law = record {
     finds = finds_anyone Keeps_;
+    client_stays = λ client ds b k led its. tt;
     publishes = λ origin m ds b p said e. leads_end Keeps_ (publish env origin m ds b) b (k.publish origin m ds b e p);
     open_id = λ s id m ds b p h its there new is. led (At (whose s) (Open id) ∷ []) (after_all (publish env FromClient m ds b) b) (tt, tt) h;
     refuse_will = λ who b p its. led (RefuseWill who ∷ []) b (tt, tt) p;
@@ -220,7 +221,7 @@ module _ (env : Env) (P : Records → Type 0) (k : Keeping env P) where
     begins = λ l c b p its none came taken name is room.
         leads_end Keeps_ (begin_named (is_empty c.client_identifier) l c b.records) b (begins_named (is_empty c.client_identifier) l c b p (ltb-true (length b.records.sessions) env.limits.sessions room));
     grants = λ w s b p its granted.
-        leads_end Keeps_ (sub.grants env (sub.next_number b.records) s w (brought_to w s b) b).deeds b (k.grants w s b granted.session granted.has_room p);
+        leads_end Keeps_ (sub.granted_filter env (sub.next_number b.records) s w (brought_to w s b) b).deeds b (k.grants w s b granted.session granted.has_room p);
     pumps = λ l s b p its is there. led (pump_deeds l b.now s) b (plain_turns b.now l.number s (pump_turns l b.now s)) p;
     turns = λ a t l s b p its own there is e. led (turn_deeds b.now l.number s t) b (plain_turn b.now l.number s t) p;
     lapses = λ s b p among. led (lapse_deeds b.now s) b (plain_flat (leave_deeds s) (plain_leave s) (lapses b.now s)) p;

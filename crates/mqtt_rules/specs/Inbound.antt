@@ -13,7 +13,8 @@ use Rattle.mqtt_flow.specs.declared.inflow.Published.{Published}
 use Rattle.mqtt_flow.specs.declared.inflow.Published.TheVariants.{New, Again, Over}
 use Rattle.mqtt_flow.specs.declared.inflow.ReleaseAnswer.{ReleaseAnswer}
 use Rattle.mqtt_flow.specs.declared.inflow.ReleaseAnswer.TheVariants.{Known, Unknown}
-use Rattle.mqtt_base.specs.Codes.{success, no_matching_subscribers, identifier_in_use, identifier_not_found, receive_maximum_exceeded, quota_exceeded}
+use Rattle.mqtt_base.specs.Codes.{success, normal_disconnection, no_matching_subscribers, protocol_error, topic_name_invalid, identifier_in_use, identifier_not_found, receive_maximum_exceeded, topic_alias_invalid, quota_exceeded}
+use Rattle.mqtt_base.specs.declared.limits.TheConstants.{ALIAS_LIMIT}
 use Rattle.mqtt_flow.specs.Inbound.{answer_to, answer_to_release}
 use Rattle.mqtt_flow.specs.Outbound.{Answer, pump}
 use Rattle.mqtt_flow.specs.Outbound as rules
@@ -22,7 +23,7 @@ use Rattle.mqtt_rules.specs.Packets.{puback, pubrec, pubcomp, number_at, passed_
 use Rattle.mqtt_rules.specs.State.{Line, Env, queue_on}
 use Rattle.mqtt_rules.specs.Deeds.{whose, Message, FromClient, SetExpiry, Open, Release, SetAlias, Deed, At, On, Send, Act, always, series}
 use Rattle.mqtt_rules.specs.Outbound.{turn_deeds, all_turn_deeds, way_of}
-use Rattle.mqtt_rules.specs.Routing.{Delivery as Delivered, routed, publish, is_wanted}
+use Rattle.mqtt_rules.specs.Routing.{CopyTo, accepted_copies, publish, is_wanted}
 use Rattle.mqtt_rules.specs.Closing.{close, drop_line}
 
 -- ---- the topic that a PUBLISH means, or the code for one that means none (3.3.2.1, 3.3.2.3.4)
@@ -31,31 +32,27 @@ pub data Meaning : Type 0 where
   Means : (topic : List ℕ) → Meaning
   Wrong : (code : ℕ) → Meaning
 
--- the greatest Topic Alias that the broker takes (3.2.2.3.8)
-abbrev pub alias_maximum : ℕ
-alias_maximum = 10
-
 abbrev pub is_out_of_range : Option ℕ → Bool
 is_out_of_range None = false
-is_out_of_range (Some n) = nat_eq n 0 || nat_lt alias_maximum n
+is_out_of_range (Some n) = nat_eq n 0 || nat_lt ALIAS_LIMIT n
 
 abbrev pub stands_for : Option ℕ → List (ℕ × List ℕ) → Option (List ℕ)
 stands_for None aliases = None
 stands_for (Some n) aliases = topic_of n aliases
 
 abbrev pub meant : Option (List ℕ) → Meaning
-meant None = Wrong 0x82
+meant None = Wrong protocol_error
 meant (Some topic) = Means topic
 
 abbrev pub named : List ℕ → Meaning
-named topic = cond (is_topic_name topic) (Means topic) (Wrong 0x90)
+named topic = cond (is_topic_name topic) (Means topic) (Wrong topic_name_invalid)
 
 -- in the order of the refusals
 abbrev pub meaning : Publish → List (ℕ × List ℕ) → Meaning
 meaning p aliases =
     let alias = number_at TopicAlias p.properties in
-    cond (has SubscriptionIdentifier p.properties) (Wrong 0x82) (
-    cond (is_out_of_range alias) (Wrong 0x94) (
+    cond (has SubscriptionIdentifier p.properties) (Wrong protocol_error) (
+    cond (is_out_of_range alias) (Wrong topic_alias_invalid) (
     cond (is_empty p.topic) (meant (stands_for alias aliases)) (
     named p.topic)))
 
@@ -94,7 +91,7 @@ abbrev pub code_accepted : Bool → ℕ
 code_accepted true = success
 code_accepted false = no_matching_subscribers
 
-abbrev pub publish_new : Env → Line → Session → Publish → Message → Option (List Delivered) → Act
+abbrev pub publish_new : Env → Line → Session → Publish → Message → Option (List CopyTo) → Act
 publish_new env l s p m None b = answer l.number p.delivery quota_exceeded
 publish_new env l s p m (Some ds) b = series (
     publish env FromClient m ds
@@ -105,7 +102,7 @@ publish_new env l s p m (Some ds) b = series (
 abbrev pub publish_by : Published → Env → Line → Session → Publish → Message → Act
 publish_by Again env l s p m b = answer l.number p.delivery (code_again p.delivery)
 publish_by Over env l s p m b = drop_line env receive_maximum_exceeded l b
-publish_by New env l s p m b = publish_new env l s p m (routed env m b) b
+publish_by New env l s p m b = publish_new env l s p m (accepted_copies env m b) b
 
 abbrev pub message_of : List ℕ → List ℕ → Publish → Message
 message_of client topic p = record {
@@ -142,18 +139,18 @@ abbrev pub turned : Line → Session → ℕ → Option Turn → List Deed
 turned l s now None = []
 turned l s now (Some t) = turn_deeds now l.number s t
 
-abbrev pub answered : Answer → Env → Line → Session → Act
-answered (Ok t) env l s b = turned l s b.now t
-answered (Err fault) env l s b = drop_line env 0x82 l b
+abbrev pub on_answer : Answer → Env → Line → Session → Act
+on_answer (Ok t) env l s b = turned l s b.now t
+on_answer (Err fault) env l s b = drop_line env protocol_error l b
 
 abbrev pub on_puback : Env → Line → Session → ℕ → ℕ → Act
-on_puback env l s id code b = answered (rules.puback id code (queue_on l.went s)) env l s b
+on_puback env l s id code b = on_answer (rules.puback id code (queue_on l.went s)) env l s b
 
 abbrev pub on_pubrec : Env → Line → Session → ℕ → ℕ → Act
-on_pubrec env l s id code b = answered (rules.pubrec id code (queue_on l.went s)) env l s b
+on_pubrec env l s id code b = on_answer (rules.pubrec id code (queue_on l.went s)) env l s b
 
 abbrev pub on_pubcomp : Env → Line → Session → ℕ → Act
-on_pubcomp env l s id b = answered (rules.pubcomp id (queue_on l.went s)) env l s b
+on_pubcomp env l s id b = on_answer (rules.pubcomp id (queue_on l.went s)) env l s b
 
 -- ---- pump (4.6, 4.9)
 
@@ -175,8 +172,8 @@ new_expiry None s = []
 new_expiry (Some n) s = At (whose s) (SetExpiry n) ∷ []
 
 abbrev pub leave_by : Bool → Env → Line → Session → ℕ → Option ℕ → Act
-leave_by true env l s code expiry b = drop_line env 0x82 l b
-leave_by false env l s code expiry b = series (always (new_expiry expiry s) ∷ close env (not (nat_eq code 0)) l ∷ []) b
+leave_by true env l s code expiry b = drop_line env protocol_error l b
+leave_by false env l s code expiry b = series (always (new_expiry expiry s) ∷ close env (not (nat_eq code normal_disconnection)) l ∷ []) b
 
 abbrev pub on_disconnect : Env → Line → Session → ℕ → Option ℕ → Act
 on_disconnect env l s code expiry b = leave_by (is_late_expiry expiry s.expiry) env l s code expiry b

@@ -34,7 +34,7 @@ pub record IsOrdered (r : Records) : Type 0 where
 
 -- at most so many as CONNACK's Receive Maximum tells (4.9)
 abbrev pub HasFewOpen : Session → Type 0
-HasFewOpen s = length s.inbound ≤ 20
+HasFewOpen s = length s.inbound ≤ OPEN_LIMIT
 
 abbrev pub FewOpen : Records → Type 0
 FewOpen r = AllByRecursion HasFewOpen r.sessions

@@ -1,7 +1,8 @@
 -- One call of the broker is one step: the state after it, and what it answers (MQTT 5.0, 3 and 4).
 use Rattle.std.specs.Prelude.{◌≡◌, ℕ, suc, max, Bool, true, false, cond, ◌&&◌, List, [], ◌∷◌, ◌++◌, length, filter_map, map, nat_eq, nat_lt, Option, Some, None, option_map}
 use Rattle.std.specs.List.{list_any}
-use Rattle.mqtt_base.specs.declared.limits.TheConstants.{LINE_LIMIT, LAST_NUMBER}
+use Rattle.mqtt_base.specs.declared.limits.TheConstants.{LINE_LIMIT, PUMP_LIMIT, LAST_NUMBER}
+use Rattle.mqtt_base.specs.Codes.{protocol_error, unsupported_protocol_version}
 use Rattle.mqtt_base.specs.declared.session.CopyId.{CopyId}
 use Rattle.mqtt_props.specs.declared.table.PropName.TheVariants.{SessionExpiryInterval}
 use Rattle.mqtt_codec.specs.declared.packet.Packet.{Packet}
@@ -53,7 +54,7 @@ next_packet env l (Subscribe p) s b = on_subscribe env l.number s p b
 next_packet env l (Unsubscribe p) s b = on_unsubscribe l.number s p b
 next_packet env l Pingreq s b = Send l.number Pingresp ∷ []
 next_packet env l (Disconnect n) s b = on_disconnect env l s n.reason.0 (number_at SessionExpiryInterval n.properties) b
-next_packet env l packet s b = drop_line env 0x82 l b
+next_packet env l packet s b = drop_line env protocol_error l b
 
 abbrev pub on_packet : Env → Line → Packet → Option ℕ → Act
 on_packet env l packet None b = first_packet env l packet b
@@ -62,7 +63,7 @@ on_packet env l packet (Some birth) b = of_session birth (next_packet env l pack
 -- a fault in a CONNECT is answered by CONNACK, in another first packet by nothing, later by DISCONNECT (4.13), where
 -- another version is a protocol error
 abbrev pub late_code : ℕ → ℕ
-late_code code = cond (nat_eq code 0x84) 0x82 code
+late_code code = cond (nat_eq code unsupported_protocol_version) protocol_error code
 
 abbrev pub on_fault : Env → Line → Bool → ℕ → Option ℕ → Act
 on_fault env l true code None b = series (always (Send l.number (connack false code []) ∷ []) ∷ close env true l ∷ []) b
@@ -128,9 +129,9 @@ abbrev pub is_none_done : List Deed → Bool
 is_none_done [] = true
 is_none_done (d ∷ ds) = false
 
--- more may be there: 16 PUBLISH went out, or one thing was done
+-- more may be there: PUMP_LIMIT PUBLISH went out, or one thing was done
 abbrev pub is_again : Call → List Deed → Bool
-is_again (Pump n) ds = nat_eq (length (filter_map publish_out ds)) 16
+is_again (Pump n) ds = nat_eq (length (filter_map publish_out ds)) PUMP_LIMIT
 is_again Tick ds = cond (is_none_done ds) false true
 is_again call ds = false
 
@@ -148,8 +149,8 @@ nothing_told = record { outputs = []; closed = []; reports = []; taken = 0; agai
 abbrev pub bytes_out : Outcome → List (ℕ × List ℕ)
 bytes_out out = map (λ x. (x.0, shortest_of x.1)) out.outputs
 
-abbrev pub outcome : Call → List Deed → Outcome
-outcome call ds = record {
+abbrev pub outcome_of : Call → List Deed → Outcome
+outcome_of call ds = record {
   outputs = filter_map output ds;
   closed = filter_map closing ds;
   reports = filter_map report ds;
@@ -158,7 +159,7 @@ outcome call ds = record {
 }
 
 abbrev pub told : Limits → MemberChoice → ℕ → Call → Broker → Outcome
-told limits choice now call b = outcome call (deeds limits choice now call b)
+told limits choice now call b = outcome_of call (deeds limits choice now call b)
 
 -- ---- spent numbers: a birth, a number, a place or an order above the last one is refused, and nothing changes (ours)
 
