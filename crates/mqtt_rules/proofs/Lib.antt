@@ -2,6 +2,14 @@ pub mod Play
 pub mod Examples
 pub mod ExamplesSpent
 pub mod ExamplesPiece
+pub mod ExamplesRefusals
+pub mod ExamplesTopics
+pub mod ExamplesOpen
+pub mod ExamplesArrival
+pub mod ExamplesClosing
+pub mod ExamplesFilters
+pub mod ExamplesTick
+pub mod ExamplesSizes
 pub mod Goods
 pub mod Copies
 pub mod StoredLaw

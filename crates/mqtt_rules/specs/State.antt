@@ -5,6 +5,7 @@ use Rattle.mqtt_flow.specs.declared.entry.QueuedCopy.{QueuedCopy}
 use Rattle.mqtt_flow.specs.Identifiers.{is_among}
 use Rattle.mqtt_base.specs.declared.limits.TheConstants.{LAST_NUMBER}
 use Rattle.mqtt_props.specs.declared.table.PropName.TheVariants.{MessageExpiryInterval}
+use Rattle.mqtt_topic.specs.Aliases.{AliasTable}
 use Rattle.mqtt_message.specs.declared.message.MessageCopy.{MessageCopy}
 use Rattle.mqtt_message.specs.declared.queue.CopyRow.{CopyRow}
 use Rattle.mqtt_records.specs.declared.session.Session.{Session}
@@ -23,7 +24,7 @@ pub record Line : Type 0 where
   pub keep_alive : ℕ  -- seconds, 0 turns it off (3.1.2.10)
   pub window : ℕ  -- the client's Receive Maximum (3.1.2.11.3)
   pub largest : ℕ  -- the client's Maximum Packet Size (3.1.2.11.4)
-  pub aliases : List (ℕ × List ℕ)  -- what Topic Aliases stand for (3.3.2.3.4)
+  pub aliases : AliasTable  -- what Topic Aliases stand for (3.3.2.3.4)
   pub went : List ℕ  -- the places of the copies whose PUBLISH went out on it
 
 pub record Broker : Type 0 where
