@@ -1,11 +1,12 @@
 //! CONNECT: a client asks for a connection (3.1).
 
-ghost use Rattle.std.specs.Prelude.{◌≡◌, ◌<◌, ◌^◌, ◌++◌, true, IfOk, OnOk, IsTrue, ◌↔◌, length};
+ghost use Rattle.std.specs.Prelude.{◌≡◌, ◌<◌, ◌^◌, ◌++◌, true, IfOk, OnOk, OnErr, IsTrue, ◌↔◌, length};
 ghost use Rattle.std.specs.Option.{option_map};
 ghost use Rattle.mqtt_base.specs.Values.{blob, FitsText};
 ghost use Rattle.mqtt_base.specs.Reading.{Reads};
 ghost use Rattle.mqtt_codec.specs.Fields.{optional, FitsOptional};
 ghost use Rattle.mqtt_codec.specs.Reading.{Gives};
+ghost use Rattle.mqtt_codec.specs.Writing.{Begins};
 ghost use Rattle.mqtt_codec.specs.Connect.{will_at, will_of, will_field, user_name_at, password_at, fields_at, connect_at, connect_of, connect_body, connect_fields, FitsConnect, FitsWill, lawful_connect, lawful_will, flags_of_connect, will_flags_of, is_version_5, mqtt};
 
 use crate::blocks::stands;
@@ -195,10 +196,11 @@ pub(crate) fn connect_read(body: &[u8]) -> Result<ConnectRef<'_>, Fault>
 impl WillRef<'_> {
     /// Writes the fields at the end.
     #[inline(always)]
-    #[tactic(auto, using(std::proofs::lemmas::List::append_assoc))]
+    #[tactic(auto, using(std::proofs::lemmas::List::append_assoc, crate::proofs::Fronts::begins_same, crate::proofs::Fronts::begins_less))]
     fn push(&self, out: &mut Vec<u8>) -> Result<(), AllocError>
         requires { FitsWill (will_of self.now) }
-        ensures { OnOk result (out.new.items ≡ out.old.items ++ will_field (will_of self.now)) }
+        ensures ok { OnOk result (out.new.items ≡ out.old.items ++ will_field (will_of self.now)) }
+        ensures front { OnErr result (Begins out.old.items out.new.items) }
     {
         self.properties.push_block(out)?;
         blob_push(out, self.topic.as_bytes())?;
@@ -263,9 +265,11 @@ impl Will {
 
 /// Writes the Will's fields at the end, if there is one.
 #[inline(always)]
+#[tactic(auto, using(crate::proofs::Fronts::begins_same, crate::proofs::Fronts::begins_less))]
 fn will_push(out: &mut Vec<u8>, will: &Option<WillRef<'_>>) -> Result<(), AllocError>
     requires { FitsOptional FitsWill (option_map will_of will.now) }
-    ensures { OnOk result (out.new.items ≡ out.old.items ++ optional will_field (option_map will_of will.now)) }
+    ensures ok { OnOk result (out.new.items ≡ out.old.items ++ optional will_field (option_map will_of will.now)) }
+    ensures front { OnErr result (Begins out.old.items out.new.items) }
 {
     match will {
         Some(will) => will.push(out),
@@ -275,9 +279,11 @@ fn will_push(out: &mut Vec<u8>, will: &Option<WillRef<'_>>) -> Result<(), AllocE
 
 /// Writes a text or binary data at the end, if there is any.
 #[inline(always)]
+#[tactic(auto, using(crate::proofs::Fronts::begins_same, crate::proofs::Fronts::begins_less))]
 fn blob_push_some(out: &mut Vec<u8>, bytes: Option<&[u8]>) -> Result<(), AllocError>
     requires { FitsOptional (λ b. length b < 2 ^ 16) (option_map (λ b. b.now) bytes) }
-    ensures { OnOk result (out.new.items ≡ out.old.items ++ optional blob (option_map (λ b. b.now) bytes.entry)) }
+    ensures ok { OnOk result (out.new.items ≡ out.old.items ++ optional blob (option_map (λ b. b.now) bytes.entry)) }
+    ensures front { OnErr result (Begins out.old.items out.new.items) }
 {
     match bytes {
         Some(bytes) => blob_push(out, bytes),
@@ -361,10 +367,11 @@ impl ConnectRef<'_> {
 
     /// Writes the body at the end.
     #[inline(always)]
-    #[tactic(auto, using(std::proofs::lemmas::List::append_assoc))]
+    #[tactic(auto, using(std::proofs::lemmas::List::append_assoc, crate::proofs::Fronts::begins_same, crate::proofs::Fronts::begins_less))]
     pub(crate) fn push(&self, out: &mut Vec<u8>) -> Result<(), AllocError>
         requires { FitsConnect (connect_of self.now) }
-        ensures { OnOk result (out.new.items ≡ out.old.items ++ connect_body (connect_of self.now)) }
+        ensures ok { OnOk result (out.new.items ≡ out.old.items ++ connect_body (connect_of self.now)) }
+        ensures front { OnErr result (Begins out.old.items out.new.items) }
     {
         blob_push(out, b"MQTT")?;
         out.push(5)?;
@@ -374,10 +381,11 @@ impl ConnectRef<'_> {
 
     /// Writes what follows the flags at the end.
     #[inline(always)]
-    #[tactic(auto, using(std::proofs::lemmas::List::append_assoc))]
+    #[tactic(auto, using(std::proofs::lemmas::List::append_assoc, crate::proofs::Fronts::begins_same, crate::proofs::Fronts::begins_less))]
     fn push_fields(&self, out: &mut Vec<u8>) -> Result<(), AllocError>
         requires { FitsConnect (connect_of self.now) }
-        ensures { OnOk result (out.new.items ≡ out.old.items ++ connect_fields (connect_of self.now)) }
+        ensures ok { OnOk result (out.new.items ≡ out.old.items ++ connect_fields (connect_of self.now)) }
+        ensures front { OnErr result (Begins out.old.items out.new.items) }
     {
         u16_push(out, self.keep_alive)?;
         self.properties.push_block(out)?;
@@ -513,9 +521,11 @@ fn password_fits(password: &Option<Blob>) -> bool
 
 /// Writes a text at the end, if there is one.
 #[inline(always)]
+#[tactic(auto, using(crate::proofs::Fronts::begins_same, crate::proofs::Fronts::begins_less))]
 fn text_push_some(out: &mut Vec<u8>, text: Option<&str>) -> Result<(), AllocError>
     requires { FitsOptional FitsText (option_map (λ t. t.now) text) }
-    ensures { OnOk result (out.new.items ≡ out.old.items ++ optional blob (option_map (λ t. t.now) text.entry)) }
+    ensures ok { OnOk result (out.new.items ≡ out.old.items ++ optional blob (option_map (λ t. t.now) text.entry)) }
+    ensures front { OnErr result (Begins out.old.items out.new.items) }
 {
     match text {
         Some(text) => blob_push(out, text.as_bytes()),

@@ -1,11 +1,12 @@
 //! Packets read from frames and written to them (2.1, 4.13).
 
-ghost use Rattle.std.specs.Prelude.{◌≡◌, ◌<◌, ◌^◌, ◌⊎◌, ◌↔◌, ◌++◌, ◌∷◌, ℕ, List, length, true, IfOk, IfErr, IsTrue, OnOk, Ok};
+ghost use Rattle.std.specs.Prelude.{◌≡◌, ◌<◌, ◌+◌, ◌^◌, ◌⊎◌, ◌↔◌, ◌++◌, ◌∷◌, ℕ, List, length, true, IfOk, IfErr, IsTrue, OnOk, OnErr, Ok};
 ghost use Rattle.mqtt_base.specs.Values.{varint};
 ghost use Rattle.mqtt_codec.specs.declared.fault.Fault.TheVariants as faults;
 ghost use Rattle.mqtt_codec.specs.declared.packet.Packet.{Packet};
 ghost use Rattle.mqtt_codec.specs.Heads.{first};
 ghost use Rattle.mqtt_codec.specs.Reading.{Gives};
+ghost use Rattle.mqtt_codec.specs.Writing.{Begins};
 ghost use Rattle.mqtt_codec.specs.Packets.{head, Fits, Spells, Refusal, is_lawful, shortest_body, shortest_of, HasSpelling, IsShortest};
 ghost use Rattle.mqtt_codec.specs.Frames.{frame_at, empty_at, versioned_at, version_at, lawful_at, packet_at, packet_of};
 
@@ -20,7 +21,9 @@ use crate::publish::publish_read;
 use crate::suback::suback_read;
 use crate::subscribe::subscribe_read;
 use crate::unsubscribe::unsubscribe_read;
-use mqtt_base::{Kind, ReadFault, VARINT_LIMIT, text_read, u8_read, varint_push, varint_read};
+use mqtt_base::{
+    Kind, ReadFault, VARINT_LIMIT, text_read, u8_read, varint_len, varint_push, varint_read,
+};
 use mqtt_props::Place;
 use std::alloc::{AllocError, Global};
 
@@ -229,7 +232,8 @@ impl PacketRef<'_> {
     #[inline(always)]
     fn push_body(&self, out: &mut Vec<u8>) -> Result<(), AllocError>
         requires { Fits (packet_of self.now) }
-        ensures { OnOk result (out.new.items ≡ out.old.items ++ shortest_body (packet_of self.now)) }
+        ensures ok { OnOk result (out.new.items ≡ out.old.items ++ shortest_body (packet_of self.now)) }
+        ensures front { OnErr result (Begins out.old.items out.new.items) }
     {
         match self {
             PacketRef::Connect(connect) => connect.push(out),
@@ -260,6 +264,36 @@ pub fn lawful(packet: &Packet) -> bool
     lent.body_len() < VARINT_LIMIT as usize && lent.is_lawful()
 }
 
+/// How many bytes the shortest spelling of the packet takes (2.1). Takes no memory.
+#[inline(always)]
+pub fn spelled_len(packet: &PacketRef<'_>) -> usize
+    requires { HasSpelling (packet_of packet.now) }
+    ensures exact { result ≡ length (shortest_of (packet_of packet.now)) }
+    ensures within { result < 2 ^ 28 + 5 }
+{
+    let len = packet.body_len();
+    1 + varint_len(len as u32) + len
+}
+
+/// Writes the shortest spelling of the packet (2.1) at the end; `Memory` (5) is its only refusal, and
+/// leaves the bytes as they were.
+#[inline(always)]
+pub fn encode_into(packet: &PacketRef<'_>, out: &mut Vec<u8>) -> Result<(), Fault>
+    requires { HasSpelling (packet_of packet.now) }
+    ensures ok { OnOk result (out.new.items ≡ out.old.items ++ shortest_of (packet_of packet.now)) }
+    ensures fault { IfErr result (λ fault. fault ≡ faults.Memory) }
+    ensures err { OnErr result (out.new.items ≡ out.old.items) }
+{
+    let start = out.len();
+    match frame_push(packet, out) {
+        Ok(()) => Ok(()),
+        Err(_) => {
+            out.truncate(start);
+            Err(Fault::Memory)
+        }
+    }
+}
+
 /// Writes the shortest spelling of the packet (2.1); `Memory` (5) is its only refusal.
 pub fn encode(alloc: Global, packet: &Packet) -> Result<Vec<u8>, Fault>
     requires { HasSpelling packet.now }
@@ -268,19 +302,29 @@ pub fn encode(alloc: Global, packet: &Packet) -> Result<Vec<u8>, Fault>
     ensures shortest { IfOk result (λ frame. IsShortest packet.now frame.items) }
     ensures fault { IfErr result (λ fault. fault ≡ faults.Memory) }
 {
-    Ok(encode_lent(alloc, &packet.lend())?)
+    let lent = packet.lend();
+    let mut frame = Vec::new(alloc);
+    let written = encode_into(&lent, &mut frame);
+    drop(lent);
+    match written {
+        Ok(()) => Ok(frame),
+        Err(fault) => {
+            drop(frame);
+            Err(fault)
+        }
+    }
 }
 
 #[inline(always)]
-#[tactic(auto, using(std::proofs::lemmas::List::append_assoc))]
-fn encode_lent(alloc: Global, packet: &PacketRef<'_>) -> Result<Vec<u8>, AllocError>
+#[tactic(auto, using(std::proofs::lemmas::List::append_assoc, crate::proofs::Fronts::begins_same, crate::proofs::Fronts::begins_less))]
+fn frame_push(packet: &PacketRef<'_>, out: &mut Vec<u8>) -> Result<(), AllocError>
     requires { HasSpelling (packet_of packet.now) }
-    ensures { IfOk result (λ frame. frame.items ≡ shortest_of (packet_of packet.now)) }
+    ensures ok { OnOk result (out.new.items ≡ out.old.items ++ shortest_of (packet_of packet.now)) }
+    ensures front { OnErr result (Begins out.old.items out.new.items) }
 {
     let len = packet.body_len();
-    let mut frame = Vec::with_capacity(alloc, 5 + len)?;
-    frame.push(packet.first_byte())?;
-    varint_push(&mut frame, len as u32)?;
-    packet.push_body(&mut frame)?;
-    Ok(frame)
+    out.reserve(5 + len)?;
+    out.push(packet.first_byte())?;
+    varint_push(out, len as u32)?;
+    packet.push_body(out)
 }

@@ -6,7 +6,10 @@ use std::alloc::AllocError;
 
 /// Both parts, where the second was made; else the first is let go.
 #[inline(always)]
-pub(crate) fn both<A: Drop, B>(first: A, second: Result<B, AllocError>) -> Result<(A, B), AllocError>
+pub(crate) fn both<A: Drop, B>(
+    first: A,
+    second: Result<B, AllocError>,
+) -> Result<(A, B), AllocError>
     ensures first { IfOk result (λ parts. parts.0 ≡ first) }
     ensures second { IfOk result (λ parts. second ≡ Ok parts.1) }
 {

@@ -171,7 +171,9 @@ impl PacketRef<'_> {
             PacketRef::Pubcomp(ack) => ack.to_ack(alloc).map(Packet::Pubcomp),
             PacketRef::Subscribe(subscribe) => subscribe.to_subscribe(alloc).map(Packet::Subscribe),
             PacketRef::Suback(suback) => suback.to_suback(alloc).map(Packet::Suback),
-            PacketRef::Unsubscribe(unsubscribe) => unsubscribe.to_unsubscribe(alloc).map(Packet::Unsubscribe),
+            PacketRef::Unsubscribe(unsubscribe) => unsubscribe
+                .to_unsubscribe(alloc)
+                .map(Packet::Unsubscribe),
             PacketRef::Unsuback(suback) => suback.to_suback(alloc).map(Packet::Unsuback),
             PacketRef::Pingreq => Ok(Packet::Pingreq),
             PacketRef::Pingresp => Ok(Packet::Pingresp),

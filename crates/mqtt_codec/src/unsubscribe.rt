@@ -1,7 +1,8 @@
 //! UNSUBSCRIBE (3.10).
 
-ghost use Rattle.std.specs.Prelude.{◌≡◌, ◌<◌, ◌^◌, ◌++◌, IfOk, OnOk, IsTrue, ◌↔◌, length};
+ghost use Rattle.std.specs.Prelude.{◌≡◌, ◌<◌, ◌^◌, ◌++◌, IfOk, OnOk, OnErr, IsTrue, ◌↔◌, length};
 ghost use Rattle.mqtt_codec.specs.Reading.{Gives};
+ghost use Rattle.mqtt_codec.specs.Writing.{Begins};
 ghost use Rattle.mqtt_codec.specs.Unsubscribe.{unsubscribe_at, unsubscribe_of, unsubscribe_body, FitsUnsubscribe, lawful_unsubscribe};
 
 use crate::blocks::stands;
@@ -66,9 +67,10 @@ impl UnsubscribeRef<'_> {
 
     /// Writes the body at the end.
     #[inline(always)]
-    #[tactic(auto, using(std::proofs::lemmas::List::append_assoc))]
+    #[tactic(auto, using(std::proofs::lemmas::List::append_assoc, crate::proofs::Fronts::begins_same, crate::proofs::Fronts::begins_less))]
     pub(crate) fn push(&self, out: &mut Vec<u8>) -> Result<(), AllocError>
-        ensures { OnOk result (out.new.items ≡ out.old.items ++ unsubscribe_body (unsubscribe_of self.now)) }
+        ensures ok { OnOk result (out.new.items ≡ out.old.items ++ unsubscribe_body (unsubscribe_of self.now)) }
+        ensures front { OnErr result (Begins out.old.items out.new.items) }
     {
         u16_push(out, self.identifier)?;
         self.properties.push_block(out)?;

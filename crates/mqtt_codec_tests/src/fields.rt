@@ -1,11 +1,11 @@
 //! What each packet tells of its fields (3.1 to 3.15).
 
 use crate::vectors::VECTORS;
+use mqtt_base::{Kind, Qos, Reason, RetainHandling};
 use mqtt_codec::{
     ConnackRef, ConnectRef, Delivery, Fault, NoticeRef, Packet, PacketRef, PublishRef, SubackRef,
     SubscribeRef, UnsubscribeRef, WillRef, look_at, options_read,
 };
-use mqtt_base::{Kind, Qos, Reason, RetainHandling};
 use mqtt_props::PropName;
 use std::alloc::Global;
 use std::process::Abort;

@@ -1,7 +1,7 @@
 //! Flags, fields and lengths that no packet has (2.1, 3.1 to 3.15).
 
-use crate::vectors::VECTORS;
 use crate::common::{assert_gives, fault_of};
+use crate::vectors::VECTORS;
 use mqtt_codec::Fault;
 use std::alloc::Global;
 use std::process::Abort;

@@ -1,8 +1,8 @@
 //! Lists of filters that are made, and packets that have no frame (3.8, 3.10).
 
 use crate::common::frame_of;
-use mqtt_codec::{Ack, Filters, Packet, Subscribe, Subscriptions, Unsubscribe, lawful};
 use mqtt_base::{Qos, Reason, RetainHandling, SubscriptionOptions, Text};
+use mqtt_codec::{Ack, Filters, Packet, Subscribe, Subscriptions, Unsubscribe, lawful};
 use mqtt_props::PropList;
 use std::alloc::Global;
 use std::process::Abort;

@@ -1,7 +1,7 @@
 //! Want of memory, to be run with each allocation failing in turn.
 
-use crate::vectors::VECTORS;
 use crate::common::{encoded_again, fault_of};
+use crate::vectors::VECTORS;
 use mqtt_codec::Fault;
 use std::alloc::Global;
 use std::process::Abort;

@@ -1,7 +1,7 @@
 //! Each vector with one byte changed (2.1, 4.13).
 
-use crate::vectors::VECTORS;
 use crate::common::{encoded_again, fault_of};
+use crate::vectors::VECTORS;
 use std::alloc::Global;
 use std::process::Abort;
 use std::test::Fail;
