@@ -121,9 +121,11 @@ def side_by_side(tasks):
     """Runs tasks, each once those that it waits for have ended, as many as processors and memory hold.
 
     A task is its key, the keys that it waits for, its memory in bytes, its weight, and a call that takes a number of jobs. Those with
-    the greatest weight behind them go first. Returns what each call gave, by key.
+    the greatest weight behind them go first. Returns what each call gave, by key. RT_JOBS is how many run at a time, as under rt ci.
     """
-    lanes, memory = processors(), 0.85 * free_memory()
+    number = os.environ.get("RT_JOBS", "")
+    fixed = int(number) if number.isdigit() else 0
+    lanes, memory = fixed or processors(), 0.85 * free_memory()
     by_key, behind = {it[0]: it for it in tasks}, {it[0]: it[3] for it in tasks}
     for key, waits, _, _, _ in reversed(tasks):
         for it in waits:
@@ -137,9 +139,9 @@ def side_by_side(tasks):
                 _, _, need, _, call = by_key[key]
                 free = lanes - sum(jobs for _, _, jobs in running.values())
                 room = memory - sum(it for _, it, _ in running.values())
-                if free > 0 and (not running or need <= room):
+                if free > 0 and (fixed or not running or need <= room):
                     # a further job is for the processors that no other task waits for
-                    jobs = max(1, min(4, free // (len(ready) - at), 1 + int((room / need - 1) / 0.6)))
+                    jobs = 1 if fixed else max(1, min(4, free // (len(ready) - at), 1 + int((room / need - 1) / 0.6)))
                     with turn:
                         left.remove(key)
                     running[pool.submit(call, jobs)] = key, need * (1 + 0.6 * (jobs - 1)), jobs
