@@ -2,7 +2,7 @@
 
 ghost use Rattle.std.specs.Prelude.{◌≡◌, ◌<◌, ◌^◌, ◌++◌, IfOk, OnOk, OnErr, IsTrue, ◌↔◌, length};
 ghost use Rattle.mqtt_codec.specs.Reading.{Gives};
-ghost use Rattle.mqtt_codec.specs.Writing.{Begins};
+ghost use Rattle.mqtt_codec.specs.Writing.{KeepsFront};
 ghost use Rattle.mqtt_codec.specs.Connack.{connack_at, connack_of, connack_body, session_present_of, FitsConnack, lawful_connack};
 
 use crate::blocks::stands;
@@ -84,7 +84,7 @@ impl ConnackRef<'_> {
     #[tactic(auto, using(std::proofs::lemmas::List::append_assoc, crate::proofs::Fronts::begins_same, crate::proofs::Fronts::begins_less))]
     pub(crate) fn push(&self, out: &mut Vec<u8>) -> Result<(), AllocError>
         ensures ok { OnOk result (out.new.items ≡ out.old.items ++ connack_body (connack_of self.now)) }
-        ensures front { OnErr result (Begins out.old.items out.new.items) }
+        ensures front { OnErr result (KeepsFront out.old.items out.new.items) }
     {
         out.push(u8::from(self.session_present))?;
         out.push(self.reason.0)?;

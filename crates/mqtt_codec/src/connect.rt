@@ -6,7 +6,7 @@ ghost use Rattle.mqtt_base.specs.Values.{blob, FitsText};
 ghost use Rattle.mqtt_base.specs.Reading.{Reads};
 ghost use Rattle.mqtt_codec.specs.Fields.{optional, FitsOptional};
 ghost use Rattle.mqtt_codec.specs.Reading.{Gives};
-ghost use Rattle.mqtt_codec.specs.Writing.{Begins};
+ghost use Rattle.mqtt_codec.specs.Writing.{KeepsFront};
 ghost use Rattle.mqtt_codec.specs.Connect.{will_at, will_of, will_field, user_name_at, password_at, fields_at, connect_at, connect_of, connect_body, connect_fields, FitsConnect, FitsWill, lawful_connect, lawful_will, flags_of_connect, will_flags_of, is_version_5, mqtt};
 
 use crate::blocks::stands;
@@ -200,7 +200,7 @@ impl WillRef<'_> {
     fn push(&self, out: &mut Vec<u8>) -> Result<(), AllocError>
         requires { FitsWill (will_of self.now) }
         ensures ok { OnOk result (out.new.items ≡ out.old.items ++ will_field (will_of self.now)) }
-        ensures front { OnErr result (Begins out.old.items out.new.items) }
+        ensures front { OnErr result (KeepsFront out.old.items out.new.items) }
     {
         self.properties.push_block(out)?;
         blob_push(out, self.topic.as_bytes())?;
@@ -269,7 +269,7 @@ impl Will {
 fn will_push(out: &mut Vec<u8>, will: &Option<WillRef<'_>>) -> Result<(), AllocError>
     requires { FitsOptional FitsWill (option_map will_of will.now) }
     ensures ok { OnOk result (out.new.items ≡ out.old.items ++ optional will_field (option_map will_of will.now)) }
-    ensures front { OnErr result (Begins out.old.items out.new.items) }
+    ensures front { OnErr result (KeepsFront out.old.items out.new.items) }
 {
     match will {
         Some(will) => will.push(out),
@@ -283,7 +283,7 @@ fn will_push(out: &mut Vec<u8>, will: &Option<WillRef<'_>>) -> Result<(), AllocE
 fn blob_push_some(out: &mut Vec<u8>, bytes: Option<&[u8]>) -> Result<(), AllocError>
     requires { FitsOptional (λ b. length b < 2 ^ 16) (option_map (λ b. b.now) bytes) }
     ensures ok { OnOk result (out.new.items ≡ out.old.items ++ optional blob (option_map (λ b. b.now) bytes.entry)) }
-    ensures front { OnErr result (Begins out.old.items out.new.items) }
+    ensures front { OnErr result (KeepsFront out.old.items out.new.items) }
 {
     match bytes {
         Some(bytes) => blob_push(out, bytes),
@@ -371,7 +371,7 @@ impl ConnectRef<'_> {
     pub(crate) fn push(&self, out: &mut Vec<u8>) -> Result<(), AllocError>
         requires { FitsConnect (connect_of self.now) }
         ensures ok { OnOk result (out.new.items ≡ out.old.items ++ connect_body (connect_of self.now)) }
-        ensures front { OnErr result (Begins out.old.items out.new.items) }
+        ensures front { OnErr result (KeepsFront out.old.items out.new.items) }
     {
         blob_push(out, b"MQTT")?;
         out.push(5)?;
@@ -385,7 +385,7 @@ impl ConnectRef<'_> {
     fn push_fields(&self, out: &mut Vec<u8>) -> Result<(), AllocError>
         requires { FitsConnect (connect_of self.now) }
         ensures ok { OnOk result (out.new.items ≡ out.old.items ++ connect_fields (connect_of self.now)) }
-        ensures front { OnErr result (Begins out.old.items out.new.items) }
+        ensures front { OnErr result (KeepsFront out.old.items out.new.items) }
     {
         u16_push(out, self.keep_alive)?;
         self.properties.push_block(out)?;
@@ -525,7 +525,7 @@ fn password_fits(password: &Option<Blob>) -> bool
 fn text_push_some(out: &mut Vec<u8>, text: Option<&str>) -> Result<(), AllocError>
     requires { FitsOptional FitsText (option_map (λ t. t.now) text) }
     ensures ok { OnOk result (out.new.items ≡ out.old.items ++ optional blob (option_map (λ t. t.now) text.entry)) }
-    ensures front { OnErr result (Begins out.old.items out.new.items) }
+    ensures front { OnErr result (KeepsFront out.old.items out.new.items) }
 {
     match text {
         Some(text) => blob_push(out, text.as_bytes()),

@@ -7,7 +7,7 @@ ghost use Rattle.mqtt_base.specs.Reading.{Reads};
 ghost use Rattle.mqtt_base.specs.Items.{items_at, Answers};
 ghost use Rattle.mqtt_codec.specs.declared.fault.Fault.TheVariants.{Malformed};
 ghost use Rattle.mqtt_codec.specs.Reading.{Gives};
-ghost use Rattle.mqtt_codec.specs.Writing.{Begins};
+ghost use Rattle.mqtt_codec.specs.Writing.{KeepsFront};
 ghost use Rattle.mqtt_codec.specs.Filters.{filter_at};
 
 use crate::fault::Fault;
@@ -113,7 +113,7 @@ impl<'a> FiltersRef<'a> {
     #[tactic(auto, using(crate::proofs::Fronts::begins_same))]
     pub(crate) fn push(&self, out: &mut Vec<u8>) -> Result<(), AllocError>
         ensures ok { OnOk result (out.new.items ≡ out.old.items ++ flat_map blob self.now) }
-        ensures front { OnErr result (Begins out.old.items out.new.items) }
+        ensures front { OnErr result (KeepsFront out.old.items out.new.items) }
     {
         out.extend_from_slice(self.bytes)
     }

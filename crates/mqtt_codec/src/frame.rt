@@ -6,7 +6,7 @@ ghost use Rattle.mqtt_codec.specs.declared.fault.Fault.TheVariants as faults;
 ghost use Rattle.mqtt_codec.specs.declared.packet.Packet.{Packet};
 ghost use Rattle.mqtt_codec.specs.Heads.{first};
 ghost use Rattle.mqtt_codec.specs.Reading.{Gives};
-ghost use Rattle.mqtt_codec.specs.Writing.{Begins};
+ghost use Rattle.mqtt_codec.specs.Writing.{KeepsFront};
 ghost use Rattle.mqtt_codec.specs.Packets.{head, Fits, Spells, Refusal, is_lawful, shortest_body, shortest_of, HasSpelling, IsShortest};
 ghost use Rattle.mqtt_codec.specs.Frames.{frame_at, empty_at, versioned_at, version_at, lawful_at, packet_at, packet_of};
 
@@ -233,7 +233,7 @@ impl PacketRef<'_> {
     fn push_body(&self, out: &mut Vec<u8>) -> Result<(), AllocError>
         requires { Fits (packet_of self.now) }
         ensures ok { OnOk result (out.new.items ≡ out.old.items ++ shortest_body (packet_of self.now)) }
-        ensures front { OnErr result (Begins out.old.items out.new.items) }
+        ensures front { OnErr result (KeepsFront out.old.items out.new.items) }
     {
         match self {
             PacketRef::Connect(connect) => connect.push(out),
@@ -320,7 +320,7 @@ pub fn encode(alloc: Global, packet: &Packet) -> Result<Vec<u8>, Fault>
 fn frame_push(packet: &PacketRef<'_>, out: &mut Vec<u8>) -> Result<(), AllocError>
     requires { HasSpelling (packet_of packet.now) }
     ensures ok { OnOk result (out.new.items ≡ out.old.items ++ shortest_of (packet_of packet.now)) }
-    ensures front { OnErr result (Begins out.old.items out.new.items) }
+    ensures front { OnErr result (KeepsFront out.old.items out.new.items) }
 {
     let len = packet.body_len();
     out.reserve(5 + len)?;

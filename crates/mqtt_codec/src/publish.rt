@@ -3,7 +3,7 @@
 ghost use Rattle.std.specs.Prelude.{◌≡◌, ◌<◌, ◌++◌, Bool, IfOk, OnOk, OnErr, IsTrue, ◌↔◌, length};
 ghost use Rattle.mqtt_base.specs.Reading.{Reads};
 ghost use Rattle.mqtt_codec.specs.Reading.{Gives};
-ghost use Rattle.mqtt_codec.specs.Writing.{Begins};
+ghost use Rattle.mqtt_codec.specs.Writing.{KeepsFront};
 ghost use Rattle.mqtt_codec.specs.declared.head.Head.TheVariants as heads;
 ghost use Rattle.mqtt_codec.specs.Heads.{first};
 ghost use Rattle.mqtt_codec.specs.Publish.{delivery_head, delivery_qos, delivery_dup, delivery_identifier, delivery_at, publish_at, publish_of, publish_body, identifier_field, FitsPublish, FitsDelivery, lawful_identifier, lawful_publish};
@@ -167,7 +167,7 @@ impl Delivery {
     #[tactic(auto, using(crate::proofs::Fronts::begins_same, crate::proofs::Fronts::begins_less))]
     fn push(self, out: &mut Vec<u8>) -> Result<(), AllocError>
         ensures ok { OnOk result (out.new.items ≡ out.old.items ++ identifier_field self) }
-        ensures front { OnErr result (Begins out.old.items out.new.items) }
+        ensures front { OnErr result (KeepsFront out.old.items out.new.items) }
     {
         match self {
             Delivery::AtMostOnce => Ok(()),
@@ -194,7 +194,7 @@ impl PublishRef<'_> {
     pub(crate) fn push(&self, out: &mut Vec<u8>) -> Result<(), AllocError>
         requires { FitsPublish (publish_of self.now) }
         ensures ok { OnOk result (out.new.items ≡ out.old.items ++ publish_body (publish_of self.now)) }
-        ensures front { OnErr result (Begins out.old.items out.new.items) }
+        ensures front { OnErr result (KeepsFront out.old.items out.new.items) }
     {
         blob_push(out, self.topic.as_bytes())?;
         self.delivery.push(out)?;

@@ -2,7 +2,7 @@
 
 ghost use Rattle.std.specs.Prelude.{◌≡◌, ◌<◌, ◌^◌, ◌++◌, IfOk, OnOk, OnErr, IsTrue, ◌↔◌, length};
 ghost use Rattle.mqtt_codec.specs.Reading.{Gives};
-ghost use Rattle.mqtt_codec.specs.Writing.{Begins};
+ghost use Rattle.mqtt_codec.specs.Writing.{KeepsFront};
 ghost use Rattle.mqtt_codec.specs.Suback.{are_codes, suback_at, suback_of, suback_body, FitsSuback, lawful_suback};
 
 use crate::blocks::stands;
@@ -77,7 +77,7 @@ impl SubackRef<'_> {
     #[tactic(auto, using(std::proofs::lemmas::List::append_assoc, crate::proofs::Fronts::begins_same, crate::proofs::Fronts::begins_less))]
     pub(crate) fn push(&self, out: &mut Vec<u8>) -> Result<(), AllocError>
         ensures ok { OnOk result (out.new.items ≡ out.old.items ++ suback_body (suback_of self.now)) }
-        ensures front { OnErr result (Begins out.old.items out.new.items) }
+        ensures front { OnErr result (KeepsFront out.old.items out.new.items) }
     {
         u16_push(out, self.identifier)?;
         self.properties.push_block(out)?;

@@ -8,7 +8,7 @@ ghost use Rattle.mqtt_base.specs.Reading.{Reads};
 ghost use Rattle.mqtt_base.specs.Items.{items_at, Answers};
 ghost use Rattle.mqtt_codec.specs.declared.fault.Fault.TheVariants.{Malformed};
 ghost use Rattle.mqtt_codec.specs.Reading.{Gives};
-ghost use Rattle.mqtt_codec.specs.Writing.{Begins};
+ghost use Rattle.mqtt_codec.specs.Writing.{KeepsFront};
 ghost use Rattle.mqtt_codec.specs.Subscriptions.{subscription, IsSubscription, lawful_subscription, subscription_at, is_shared};
 ghost use Rattle.mqtt_codec.specs.Options.{options_byte};
 ghost use Rattle.mqtt_codec.specs.SubscriptionViews.{subscription_of, asked};
@@ -174,7 +174,7 @@ impl<'a> SubscriptionsRef<'a> {
     #[tactic(auto, using(crate::proofs::Fronts::begins_same))]
     pub(crate) fn push(&self, out: &mut Vec<u8>) -> Result<(), AllocError>
         ensures ok { OnOk result (out.new.items ≡ out.old.items ++ flat_map subscription self.now) }
-        ensures front { OnErr result (Begins out.old.items out.new.items) }
+        ensures front { OnErr result (KeepsFront out.old.items out.new.items) }
     {
         out.extend_from_slice(self.bytes)
     }

@@ -3,7 +3,7 @@
 
 ghost use Rattle.std.specs.Prelude.{◌≡◌, ◌∷◌, ◌<◌, ◌^◌, ◌++◌, OnOk, OnErr, length};
 ghost use Rattle.mqtt_codec.specs.Reading.{Gives};
-ghost use Rattle.mqtt_codec.specs.Writing.{Begins};
+ghost use Rattle.mqtt_codec.specs.Writing.{KeepsFront};
 ghost use Rattle.mqtt_codec.specs.Tails.{tail_at, tail};
 
 use crate::fault::Fault;
@@ -39,7 +39,7 @@ pub(crate) fn tail_push(
     properties: &PropsRef<'_>,
 ) -> Result<(), AllocError>
     ensures ok { OnOk result (out.new.items ≡ out.old.items ++ tail code properties.now) }
-    ensures front { OnErr result (Begins out.old.items out.new.items) }
+    ensures front { OnErr result (KeepsFront out.old.items out.new.items) }
 {
     if !properties.is_empty() {
         out.push(code)?;

@@ -1,6 +1,6 @@
 //! What each packet tells of its fields (3.1 to 3.15).
 
-use crate::vectors::VECTORS;
+use crate::vectors::{CONNACK, DISCONNECT, PUBACK, PUBLISH_AT_QOS_2, PUBREC, SUBACK, SUBSCRIBE};
 use mqtt_base::{Kind, Qos, Reason, RetainHandling};
 use mqtt_codec::{
     ConnackRef, ConnectRef, Delivery, Fault, NoticeRef, Packet, PacketRef, PublishRef, SubackRef,
@@ -66,36 +66,52 @@ const CONNECT: &[u8] = &[
     b'1', 2, 0x01, 1, 0, 3, b'a', b'/', b'w', 0, 2, 0, 0xff, 0, 1, b'u', 0, 2, 7, 0,
 ];
 
+/// The Will of a CONNECT.
+fn will_of(frame: &[u8]) -> Option<WillRef<'_>> {
+    let connect = connect_of(frame)?;
+    connect.will
+}
+
 fn assert_will(rt: &impl Abort, will: WillRef<'_>) {
-    assert_eq!(rt; will.qos, Qos::ExactlyOnce);
-    assert!(rt; will.retain, "RETAIN of the Will");
-    assert_eq!(rt; will.topic, "a/w");
-    assert_eq!(rt; will.payload, &[0, 0xff][..]);
-    assert!(rt;
-        will.properties.has(PropName::PayloadFormatIndicator),
-        "its property"
-    );
+    let has_indicator = will.properties.has(PropName::PayloadFormatIndicator);
+    let flags = (will.qos, will.retain, has_indicator);
+    let message = (will.topic, will.payload);
+    drop(will);
+    assert_eq!(rt; flags, (Qos::ExactlyOnce, true, true));
+    assert_eq!(rt; message, ("a/w", &[0, 0xff][..]));
 }
 
 #[test]
-fn a_connect_tells_its_will_and_names(rt: HostRuntime) {
+fn a_connect_tells_its_numbers_and_names(rt: HostRuntime) {
     let connect = connect_of(CONNECT).expect(&rt, "it is a CONNECT");
-    assert!(rt; !connect.clean_start, "Clean Start");
-    assert_eq!(rt; connect.keep_alive, 300);
-    assert_eq!(rt; connect.client_identifier, "p1");
-    assert_eq!(rt; connect.properties.len(), 1);
-    assert_eq!(rt; connect.user_name, Some("u"));
-    assert_eq!(rt; connect.password, Some(&[7, 0][..]));
-    assert_will(&rt, connect.will.expect(&rt, "there is a Will"));
+    let numbers = (
+        connect.clean_start,
+        connect.keep_alive,
+        connect.properties.len(),
+    );
+    let names = (
+        connect.client_identifier,
+        connect.user_name,
+        connect.password,
+    );
+    drop(connect);
+    assert_eq!(rt; numbers, (false, 300, 1));
+    assert_eq!(rt; names, ("p1", Some("u"), Some(&[7, 0][..])));
+}
+
+#[test]
+fn a_connect_tells_its_will(rt: HostRuntime) {
+    assert_will(&rt, will_of(CONNECT).expect(&rt, "there is a Will"));
 }
 
 /// A PUBLISH of the byte 9 to the topic `a` tells its delivery and RETAIN.
 fn assert_publish(rt: &impl Abort, frame: &[u8], delivery: Delivery, retain: bool) {
     let publish = publish_of(frame).expect(rt, "it is a PUBLISH");
-    assert_eq!(rt; publish.delivery, delivery, "{frame:?}");
-    assert_eq!(rt; publish.retain, retain, "{frame:?}");
-    assert_eq!(rt; publish.topic, "a", "{frame:?}");
-    assert_eq!(rt; publish.payload, &[9][..], "{frame:?}");
+    let head = (publish.delivery, publish.retain);
+    let message = (publish.topic, publish.payload);
+    drop(publish);
+    assert_eq!(rt; head, (delivery, retain), "{frame:?}");
+    assert_eq!(rt; message, ("a", &[9][..]), "{frame:?}");
 }
 
 #[test]
@@ -116,9 +132,8 @@ fn a_publish_tells_its_delivery(rt: HostRuntime) {
 }
 
 fn assert_delivery(rt: &impl Abort, found: Delivery, qos: Qos, dup: bool, identifier: Option<u16>) {
-    assert_eq!(rt; found.qos(), qos, "{found:?}");
-    assert_eq!(rt; found.dup(), dup, "{found:?}");
-    assert_eq!(rt; found.identifier(), identifier, "{found:?}");
+    let parts = (found.qos(), found.dup(), found.identifier());
+    assert_eq!(rt; parts, (qos, dup, identifier));
 }
 
 #[test]
@@ -138,30 +153,35 @@ fn a_delivery_tells_its_parts(rt: HostRuntime) {
 
 #[test]
 fn a_connack_tells_its_code(rt: HostRuntime) {
-    let connack = connack_of(VECTORS[4]).expect(&rt, "it is a CONNACK");
-    assert!(rt; !connack.session_present, "Session Present");
-    assert_eq!(rt; connack.reason, Reason::SUCCESS);
-    assert_eq!(rt; connack.properties.len(), 4);
+    let connack = connack_of(CONNACK).expect(&rt, "it is a CONNACK");
+    let found = (
+        connack.session_present,
+        connack.reason,
+        connack.properties.len(),
+    );
+    drop(connack);
+    assert_eq!(rt; found, (false, Reason::SUCCESS, 4));
 }
 
 #[test]
 fn a_subscribe_tells_its_filters(rt: HostRuntime) {
-    let subscribe = subscribe_of(VECTORS[5]).expect(&rt, "it is a SUBSCRIBE");
-    assert_eq!(rt; subscribe.identifier, 1);
-    assert!(rt; !subscribe.subscriptions.is_empty(), "one filter");
-    let (first, rest) = subscribe
-        .subscriptions
-        .split_first()
-        .expect(&rt, "a filter");
-    assert_eq!(rt; first.filter, "a/b");
-    assert_eq!(rt; first.options, 2);
-    assert!(rt; rest.is_empty(), "one filter");
+    let subscribe = subscribe_of(SUBSCRIBE).expect(&rt, "it is a SUBSCRIBE");
+    let head = (subscribe.identifier, subscribe.subscriptions.is_empty());
+    let split = subscribe.subscriptions.split_first();
+    drop(subscribe);
+    assert_eq!(rt; head, (1, false));
+    let (first, rest) = split.expect(&rt, "a filter");
+    let is_last = rest.is_empty();
+    drop(rest);
+    assert_eq!(rt; (first.filter, first.options, is_last), ("a/b", 2, true));
 }
 
 #[test]
 fn a_suback_tells_its_codes(rt: HostRuntime) {
-    let suback = suback_of(VECTORS[6]).expect(&rt, "it is a SUBACK");
-    assert_eq!(rt; suback.codes, &[2][..]);
+    let suback = suback_of(SUBACK).expect(&rt, "it is a SUBACK");
+    let codes = suback.codes;
+    drop(suback);
+    assert_eq!(rt; codes, &[2][..]);
 }
 
 #[test]
@@ -169,17 +189,23 @@ fn an_unsubscribe_tells_its_filters(rt: HostRuntime) {
     let frame = [0xa2, 7, 0, 2, 0, 0, 2, 0x61, 0x23];
     let unsubscribe = unsubscribe_of(&frame).expect(&rt, "it is an UNSUBSCRIBE");
     let filters = unsubscribe.filters.again();
-    assert!(rt; !filters.is_empty(), "one filter");
-    let (first, rest) = filters.split_first().expect(&rt, "a filter");
-    assert_eq!(rt; first, "a#");
-    assert!(rt; rest.is_empty(), "one filter");
+    drop(unsubscribe);
+    let is_empty = filters.is_empty();
+    let split = filters.split_first();
+    drop(filters);
+    let (first, rest) = split.expect(&rt, "a filter");
+    let is_last = rest.is_empty();
+    drop(rest);
+    assert_eq!(rt; (first, is_empty, is_last), ("a#", false, true));
 }
 
 #[test]
 fn a_disconnect_tells_its_code(rt: HostRuntime) {
     let frame = [0xe0, 7, 4, 5, 0x11, 0, 0, 0, 0x0a];
     let notice = disconnect_of(&frame).expect(&rt, "it is a DISCONNECT");
-    assert_eq!(rt; notice.reason, Reason::DISCONNECT_WITH_WILL_MESSAGE);
+    let reason = notice.reason;
+    drop(notice);
+    assert_eq!(rt; reason, Reason::DISCONNECT_WITH_WILL_MESSAGE);
 }
 
 /// The kind of a packet, and how many properties its own block has.
@@ -204,6 +230,7 @@ fn both_told(alloc: Global, frame: &[u8]) -> Option<((Kind, usize), (Kind, usize
     drop(packet);
     Some((looked_at, owned_told(owned.ok()?)))
 }
+
 /// Frames with the kind of their packet, and how many properties it has.
 fn kinds() -> &'static [(&'static [u8], Kind, usize)] {
     &[
@@ -216,19 +243,19 @@ fn kinds() -> &'static [(&'static [u8], Kind, usize)] {
             Kind::Connect,
             0,
         ),
-        (VECTORS[4], Kind::Connack, 4),
-        (VECTORS[9], Kind::Publish, 2),
-        (VECTORS[2], Kind::Puback, 0),
-        (VECTORS[8], Kind::Pubrec, 0),
+        (CONNACK, Kind::Connack, 4),
+        (PUBLISH_AT_QOS_2, Kind::Publish, 2),
+        (PUBACK, Kind::Puback, 0),
+        (PUBREC, Kind::Pubrec, 0),
         (&[0x62, 2, 0, 1], Kind::Pubrel, 0),
         (&[0x70, 8, 0, 7, 0, 4, 0x1f, 0, 1, b'w'], Kind::Pubcomp, 1),
-        (VECTORS[5], Kind::Subscribe, 0),
-        (VECTORS[6], Kind::Suback, 0),
+        (SUBSCRIBE, Kind::Subscribe, 0),
+        (SUBACK, Kind::Suback, 0),
         (&[0xa2, 7, 0, 2, 0, 0, 2, 0x61, 0x23], Kind::Unsubscribe, 0),
         (&[0xb0, 4, 0, 2, 0, 0x11], Kind::Unsuback, 0),
         (&[0xc0, 0], Kind::Pingreq, 0),
         (&[0xd0, 0], Kind::Pingresp, 0),
-        (VECTORS[7], Kind::Disconnect, 0),
+        (DISCONNECT, Kind::Disconnect, 0),
         (&[0xe0, 7, 4, 5, 0x11, 0, 0, 0, 0x0a], Kind::Disconnect, 1),
         (&[0xf0, 6, 0x18, 4, 0x15, 0, 1, 0x61], Kind::Auth, 1),
     ]

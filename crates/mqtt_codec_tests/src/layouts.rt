@@ -1,7 +1,7 @@
 //! Flags, fields and lengths that no packet has (2.1, 3.1 to 3.15).
 
 use crate::common::{assert_gives, fault_of};
-use crate::vectors::VECTORS;
+use crate::vectors::vectors;
 use mqtt_codec::Fault;
 use std::alloc::Global;
 use std::process::Abort;
@@ -218,7 +218,7 @@ fn another_protocol_or_version_is_told_first(rt: HostRuntime) -> Result<(), Fail
 #[test]
 fn a_frame_cut_short_is_malformed(rt: HostRuntime) -> Result<(), Fail> {
     let mut count = 0u32;
-    for (row, frame) in VECTORS.iter().enumerate() {
+    for (row, frame) in vectors().iter().enumerate() {
         for len in 0..frame.len() {
             assert_eq!(rt;
                 fault_of(&frame[..len]),

@@ -14,6 +14,8 @@ mod memory;
 #[cfg(test)]
 mod rules;
 #[cfg(test)]
+mod spelled;
+#[cfg(test)]
 mod sweeps;
 #[cfg(test)]
 mod vectors;

@@ -14,11 +14,35 @@ fn text_of(rt: &impl Abort, alloc: Global, text: &str) -> Text {
     Text::new(alloc, text).expect(rt, "there is memory")
 }
 
-/// The list with one more filter.
-fn with_filter(rt: &impl Abort, alloc: Global, mut filters: Filters, text: &str) -> Filters {
+/// Adds a filter to the list.
+fn push_filter(rt: &impl Abort, alloc: Global, filters: &mut Filters, text: &str) {
     let text = text_of(rt, alloc, text);
-    assert!(rt; filters.push(alloc, &text).is_ok(), "there is memory");
-    filters
+    let pushed = filters.push(alloc, &text).is_ok();
+    drop(text);
+    assert!(rt; pushed, "there is memory");
+}
+
+/// Whether the list has no filter.
+fn is_empty(filters: &Filters) -> bool {
+    let lent = filters.lend();
+    let found = lent.is_empty();
+    drop(lent);
+    found
+}
+
+/// Whether the list has a filter, and nothing behind it.
+fn is_one(filters: &Filters) -> bool {
+    let lent = filters.lend();
+    let split = lent.split_first();
+    drop(lent);
+    match split {
+        Some((_, rest)) => {
+            let found = rest.is_empty();
+            drop(rest);
+            found
+        }
+        None => false,
+    }
 }
 
 fn unsubscribe_of(filters: Filters) -> Packet {
@@ -31,10 +55,10 @@ fn unsubscribe_of(filters: Filters) -> Packet {
 
 #[test]
 fn a_list_of_filters_is_made(rt: HostRuntime) {
-    let filters = Filters::new();
-    assert!(rt; filters.lend().is_empty(), "no filter");
-    let filters = with_filter(&rt, rt.alloc(), filters, "a/b");
-    let filters = with_filter(&rt, rt.alloc(), filters, "#");
+    let mut filters = Filters::new();
+    assert!(rt; is_empty(&filters), "no filter");
+    push_filter(&rt, rt.alloc(), &mut filters, "a/b");
+    push_filter(&rt, rt.alloc(), &mut filters, "#");
     let frame = frame_of(rt.alloc(), unsubscribe_of(filters)).expect(&rt, "there is memory");
     assert_eq!(rt;
         &frame[..],
@@ -44,12 +68,14 @@ fn a_list_of_filters_is_made(rt: HostRuntime) {
 
 #[test]
 fn a_clone_of_filters_stays_as_it_is(rt: HostRuntime) {
-    let filters = with_filter(&rt, rt.alloc(), Filters::new(), "a/b");
+    let mut filters = Filters::new();
+    push_filter(&rt, rt.alloc(), &mut filters, "a/b");
     let one = filters.clone().expect(&rt, "there is memory");
-    let two = with_filter(&rt, rt.alloc(), filters, "#");
-    assert!(rt; !two.lend().is_empty(), "two filters");
-    let (_, rest) = one.lend().split_first().expect(&rt, "one filter");
-    assert!(rt; rest.is_empty(), "a clone stays as it is");
+    push_filter(&rt, rt.alloc(), &mut filters, "#");
+    let found = (is_one(&one), is_one(&filters));
+    drop(one);
+    drop(filters);
+    assert_eq!(rt; found, (true, false));
 }
 
 const OPTIONS: SubscriptionOptions = SubscriptionOptions {
@@ -61,13 +87,11 @@ const OPTIONS: SubscriptionOptions = SubscriptionOptions {
 
 /// One subscription, to the filter `a/b`.
 fn one_subscription(rt: &impl Abort, alloc: Global) -> Subscriptions {
-    let text = text_of(rt, alloc, "a/b");
     let mut subscriptions = Subscriptions::new();
-    assert!(rt; subscriptions.lend().is_empty(), "no filter");
-    assert!(rt;
-        subscriptions.push(alloc, &text, OPTIONS).is_ok(),
-        "there is memory"
-    );
+    let text = text_of(rt, alloc, "a/b");
+    let pushed = subscriptions.push(alloc, &text, OPTIONS).is_ok();
+    drop(text);
+    assert!(rt; pushed, "there is memory");
     subscriptions
 }
 
@@ -89,12 +113,37 @@ fn a_list_of_subscriptions_is_made(rt: HostRuntime) {
     );
 }
 
+/// The options of the first subscription.
+fn first_options(subscriptions: &Subscriptions) -> Option<SubscriptionOptions> {
+    let lent = subscriptions.lend();
+    let split = lent.split_first();
+    drop(lent);
+    match split {
+        Some((first, rest)) => {
+            drop(rest);
+            first.options()
+        }
+        None => None,
+    }
+}
+
+#[test]
+fn a_list_without_a_subscription_is_empty(rt: HostRuntime) {
+    let subscriptions = Subscriptions::new();
+    let lent = subscriptions.lend();
+    let is_empty = lent.is_empty();
+    drop(lent);
+    assert!(rt; is_empty, "no filter");
+}
+
 #[test]
 fn a_clone_of_subscriptions_has_their_options(rt: HostRuntime) {
     let subscriptions = one_subscription(&rt, rt.alloc());
     let copy = subscriptions.clone().expect(&rt, "there is memory");
-    let (found, _) = copy.lend().split_first().expect(&rt, "one filter");
-    assert_eq!(rt; found.options(), Some(OPTIONS));
+    drop(subscriptions);
+    let found = first_options(&copy);
+    drop(copy);
+    assert_eq!(rt; found, Some(OPTIONS));
 }
 
 /// Whether a packet has a frame, and keeps the laws.

@@ -1,7 +1,8 @@
 //! Want of memory, to be run with each allocation failing in turn.
 
 use crate::common::{encoded_again, fault_of};
-use crate::vectors::VECTORS;
+use crate::spelled::is_written;
+use crate::vectors::{CONNACK, PUBLISH_AT_QOS_2, SUBACK, SUBSCRIBE};
 use mqtt_codec::Fault;
 use std::alloc::Global;
 use std::process::Abort;
@@ -16,6 +17,21 @@ fn assert_memory_alone_is_told(rt: &impl Abort, alloc: Global, frame: &[u8]) {
     }
 }
 
+/// A packet is written behind what is there, or memory was wanting and nothing changed.
+fn assert_nothing_is_left(rt: &impl Abort, alloc: Global, frame: &[u8]) {
+    match is_written(alloc, frame) {
+        Ok(is_written) => assert!(rt; is_written, "{frame:?}"),
+        Err(fault) => assert_eq!(rt; fault, Fault::Memory),
+    }
+}
+
+#[test]
+fn want_of_memory_leaves_what_is_there(rt: HostRuntime) {
+    for frame in [PUBLISH_AT_QOS_2, CONNACK, SUBSCRIBE] {
+        assert_nothing_is_left(&rt, rt.alloc(), frame);
+    }
+}
+
 #[test]
 fn want_of_memory_is_told_and_nothing_else_changes(rt: HostRuntime) {
     let frames: [&[u8]; 8] = [
@@ -24,10 +40,10 @@ fn want_of_memory_is_told_and_nothing_else_changes(rt: HostRuntime) {
             0x10, 0x1b, 0, 4, b'M', b'Q', b'T', b'T', 5, 0xc6, 0, 10, 0, 0, 1, b'c', 0, 0, 1, b'w',
             0, 1, 0x21, 0, 1, b'u', 0, 1, 0xff,
         ],
-        VECTORS[4],
-        VECTORS[9],
-        VECTORS[5],
-        VECTORS[6],
+        CONNACK,
+        PUBLISH_AT_QOS_2,
+        SUBSCRIBE,
+        SUBACK,
         &[0xa2, 7, 0, 2, 0, 0, 2, 0x61, 0x23],
         &[0xe0, 7, 4, 5, 0x11, 0, 0, 0, 0x0a],
         &[0x50, 8, 0, 7, 0, 4, 0x1f, 0, 1, b'w'],

@@ -1,7 +1,7 @@
 //! Each vector with one byte changed (2.1, 4.13).
 
 use crate::common::{encoded_again, fault_of};
-use crate::vectors::VECTORS;
+use crate::vectors::vectors;
 use std::alloc::Global;
 use std::process::Abort;
 use std::test::Fail;
@@ -76,7 +76,7 @@ fn assert_changes(
 #[test]
 fn what_is_read_is_written_and_read_again(rt: HostRuntime) -> Result<(), Fail> {
     let mut count = Count::default();
-    for vector in VECTORS {
+    for vector in vectors() {
         for place in 0..vector.len() {
             assert_changes(&rt, rt.alloc(), vector, place, &mut count)?;
         }
