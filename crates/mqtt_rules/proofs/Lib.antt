@@ -36,3 +36,5 @@ pub mod OrderedAccepted
 pub mod OrderedQueues
 pub mod OrderedEnters
 pub mod OrderedFull
+pub mod Reached
+pub mod Entered
