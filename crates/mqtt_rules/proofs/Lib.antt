@@ -44,3 +44,5 @@ pub mod OrderedAccepted
 pub mod OrderedQueues
 pub mod OrderedEnters
 pub mod OrderedFull
+pub mod Reached
+pub mod Entered
