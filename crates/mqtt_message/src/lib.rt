@@ -2,7 +2,9 @@
 #![tactic(auto)]
 
 mod message;
+mod properties;
 mod queue;
 
 pub use message::{Content, MessageCopy, RetainedMessage, SubscriptionIdentifiers, Will};
+pub use properties::PassedOn;
 pub use queue::CopyRow;
