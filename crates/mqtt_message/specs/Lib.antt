@@ -1,2 +1,3 @@
 pub mod PassedOn
-
+pub mod Queue
+pub mod Refusals
