@@ -145,11 +145,7 @@ fn push_only(
 }
 
 /// Adds what is passed on of these properties.
-fn push_passed(
-    list: &mut PropList,
-    alloc: Global,
-    props: &PropsRef<'_>,
-) -> Result<(), AllocError>
+fn push_passed(list: &mut PropList, alloc: Global, props: &PropsRef<'_>) -> Result<(), AllocError>
     ensures { OnOk result (list.new ≡ list.old ++ passed_on props.now) }
 {
     push_only(list, alloc, props, PropName::PayloadFormatIndicator)?;
