@@ -26,7 +26,7 @@ use Rattle.mqtt_flow.specs.Inbound.{is_open, answer_to_release}
 use Rattle.mqtt_flow.specs.Outbound.{Answer, resumed_with}
 use Rattle.mqtt_flow.specs.Outbound as flow
 use Rattle.mqtt_message.specs.declared.message.Will.{Will}
-use Rattle.mqtt_message.specs.declared.queue.CopyRow.{CopyRow}
+use Rattle.mqtt_message.specs.Queue.{CopyRow}
 use Rattle.mqtt_records.specs.declared.session.Session.{Session}
 use Rattle.mqtt_records.specs.declared.session.Columns.{Columns}
 use Rattle.mqtt_records.specs.declared.records.Records.{Records}
