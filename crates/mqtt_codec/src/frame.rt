@@ -285,7 +285,11 @@ pub fn encode_into(packet: &PacketRef<'_>, out: &mut Vec<u8>) -> Result<(), Faul
     ensures err { OnErr result (out.new.items ≡ out.old.items) }
 {
     let start = out.len();
-    match frame_push(packet, out) {
+    let len = packet.body_len();
+    if out.reserve(5 + len).is_err() {
+        return Err(Fault::Memory);
+    }
+    match frame_push(packet, len, out) {
         Ok(()) => Ok(()),
         Err(_) => {
             out.truncate(start);
@@ -303,27 +307,36 @@ pub fn encode(alloc: Global, packet: &Packet) -> Result<Vec<u8>, Fault>
     ensures fault { IfErr result (λ fault. fault ≡ faults.Memory) }
 {
     let lent = packet.lend();
-    let mut frame = Vec::new(alloc);
-    let written = encode_into(&lent, &mut frame);
+    let frame = encode_lent(alloc, &lent);
     drop(lent);
-    match written {
+    Ok(frame?)
+}
+
+#[inline(always)]
+fn encode_lent(alloc: Global, packet: &PacketRef<'_>) -> Result<Vec<u8>, AllocError>
+    requires { HasSpelling (packet_of packet.now) }
+    ensures { IfOk result (λ frame. frame.items ≡ shortest_of (packet_of packet.now)) }
+{
+    let len = packet.body_len();
+    let mut frame = Vec::with_capacity(alloc, 5 + len)?;
+    match frame_push(packet, len, &mut frame) {
         Ok(()) => Ok(frame),
-        Err(fault) => {
+        Err(error) => {
             drop(frame);
-            Err(fault)
+            Err(error)
         }
     }
 }
 
+/// Writes the shortest spelling at the end, whose body takes so many bytes.
 #[inline(always)]
 #[tactic(auto, using(std::proofs::lemmas::List::append_assoc, crate::proofs::Fronts::begins_same, crate::proofs::Fronts::begins_less))]
-fn frame_push(packet: &PacketRef<'_>, out: &mut Vec<u8>) -> Result<(), AllocError>
-    requires { HasSpelling (packet_of packet.now) }
+fn frame_push(packet: &PacketRef<'_>, len: usize, out: &mut Vec<u8>) -> Result<(), AllocError>
+    requires spelling { HasSpelling (packet_of packet.now) }
+    requires len { len ≡ length (shortest_body (packet_of packet.now)) }
     ensures ok { OnOk result (out.new.items ≡ out.old.items ++ shortest_of (packet_of packet.now)) }
     ensures front { OnErr result (KeepsFront out.old.items out.new.items) }
 {
-    let len = packet.body_len();
-    out.reserve(5 + len)?;
     out.push(packet.first_byte())?;
     varint_push(out, len as u32)?;
     packet.push_body(out)
