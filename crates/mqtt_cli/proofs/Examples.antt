@@ -10,8 +10,33 @@ use Rattle.mqtt_codec.specs.declared.publish.Delivery.TheVariants.{AtMostOnce}
 use Rattle.mqtt_packet.specs.Stream.{Item, short_at, fault_at}
 use Rattle.mqtt_cli.specs.Line.{command_of, file_in, is_vectors, payload_in, rows_in}
 use Rattle.mqtt_cli.specs.View.{line_feed, view_text}
+use Rattle.mqtt_cli.specs.Vectors.{report}
+use Rattle.mqtt_cli.specs.declared.outcome.TheConstants.{DONE, FAULTY, USAGE, FAILED}
+use Rattle.mqtt_cli.specs.declared.packet_text.TheConstants.{HEAD_SIZE}
+
+-- ---- numbers
+
+done : DONE ≡ 0
+done = refl
+
+faulty : FAULTY ≡ 1
+faulty = refl
+
+usage : USAGE ≡ 2
+usage = refl
+
+failed : FAILED ≡ 3
+failed = refl
+
+head_size : HEAD_SIZE ≡ 16
+head_size = refl
 
 -- ---- lines
+
+-- a report with a vector that is wrong
+one_is_wrong : report (true ∷ false ∷ [])
+    ≡ codes "V1 ok" ++ line_feed ∷ codes "V2 wrong" ++ line_feed ∷ codes "1 of 2" ++ line_feed ∷ []
+one_is_wrong = rw (decimal_digit 1 (omega arith), decimal_digit 2 (omega arith)) refl
 
 abbrev ping : Item
 ping = record { place = 0; size = 2; packet = Pingreq }

@@ -20,6 +20,3 @@ pub use program::run;
 pub use vectors_checker::{VectorsFault, vectors};
 pub use viewer::{Status, ViewFault, view};
 pub use words::action;
-
-#[cfg(test)]
-mod tests;

@@ -86,10 +86,10 @@ abbrev pub Finds : {X : Type 0} → (X → Packet) → Framing → Option (X × 
 Finds view f None = first_of f.held ≡ Ok None
 Finds view f (Some x) = (n : ℕ) × (first_of f.held ≡ Ok (Some (view x.0, n))) × (x.1 ≡ f.place)
 
--- the first packet was cut off, with its size, or none is whole
-abbrev pub CutsFirst : List ℕ → Option (Packet × ℕ) → List ℕ → Type 0
-CutsFirst old None new = (first_of old ≡ Ok None) × (new ≡ old)
-CutsFirst old (Some x) new = (first_of old ≡ Ok (Some x)) × (new ≡ drop x.1 old)
+-- a packet was found, seen by view, with its place and its size, or none is whole
+abbrev pub FindsSized : {X : Type 0} → (X → Packet) → Framing → Option (X × ℕ × ℕ) → Type 0
+FindsSized view f None = first_of f.held ≡ Ok None
+FindsSized view f (Some x) = (first_of f.held ≡ Ok (Some (view x.0, x.2))) × (x.1 ≡ f.place)
 
 -- a packet was given with its place, and is held no longer, or none is whole
 abbrev pub Gives : Framing → Option (Packet × ℕ) → Framing → Type 0

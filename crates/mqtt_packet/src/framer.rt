@@ -4,13 +4,15 @@ ghost use Rattle.std.specs.Prelude.{◌≡◌, ◌≢◌, ◌-◌, ◌<◌, ◌�
 ghost use Rattle.mqtt_codec.specs.declared.fault.Fault.{Fault};
 ghost use Rattle.mqtt_base.specs.declared.limits.TheConstants.{PACKET_LIMIT};
 ghost use Rattle.mqtt_packet.specs.Front.{first_of};
-ghost use Rattle.mqtt_packet.specs.Stream.{Framing, empty, without_last, Stands, Refuses, Finds, CutsFirst, Gives};
+ghost use Rattle.mqtt_packet.specs.Stream.{Framing, empty, after, without_last, Stands, Refuses, Finds, FindsSized, Gives};
+ghost use Rattle.mqtt_base.specs.Values.{FitsText};
 ghost use Rattle.mqtt_codec.specs.Frames.{packet_of};
 
 use crate::front::first_read;
-use bytes::{Bytes, BytesMut};
+use crate::store::Store;
 use mqtt_base::{PACKET_LIMIT, Text};
-use mqtt_codec::{Fault, Packet, PacketRef, Publish};
+use mqtt_codec::{Fault, Packet, PacketRef, Publish, PublishRef};
+use mqtt_props::PropList;
 use std::alloc::{AllocError, Global};
 use std::marker::Model;
 
@@ -18,7 +20,7 @@ use std::marker::Model;
 /// 2^64, of the packet that it stands in.
 #[derive(Drop)]
 pub struct Framer {
-    bytes: BytesMut,
+    store: Store,
     place: u64,
     alloc: Global,
 }
@@ -26,9 +28,9 @@ pub struct Framer {
 impl Model for Framer {
     ghost Value = { Framing };
 
-    ghost view = { λ f. record { held = f.bytes.items; place = f.place } };
+    ghost view = { λ f. record { held = f.store; place = f.place } };
 
-    ghost invariant = { λ f. length f.bytes.items ≤ PACKET_LIMIT };
+    ghost invariant = { λ f. length f.store ≤ PACKET_LIMIT };
 }
 
 impl Framer {
@@ -37,7 +39,7 @@ impl Framer {
         ensures { result ≡ empty }
     {
         Framer {
-            bytes: BytesMut::new(alloc),
+            store: Store::new(alloc),
             place: 0,
             alloc,
         }
@@ -48,7 +50,7 @@ impl Framer {
         ensures exact { result ≡ length self.now.held }
         ensures within { result ≤ PACKET_LIMIT }
     {
-        self.bytes.len()
+        self.store.as_slice().len()
     }
 
     /// The place in the stream of the first byte that is held. Takes no memory.
@@ -71,11 +73,11 @@ impl Framer {
         ensures refused { IfErr result (Refuses self.old) }
         ensures err { OnErr result (self.new ≡ self.old) }
     {
-        if let Err(fault) = first_read(self.bytes.as_slice()) {
+        if let Err(fault) = first_read(self.store.as_slice()) {
             return Err((fault, self.place));
         }
-        let count = piece.len().min(PACKET_LIMIT - self.bytes.len());
-        match self.bytes.extend_from_slice(&piece[..count]) {
+        let count = piece.len().min(PACKET_LIMIT - self.held());
+        match self.store.push(&piece[..count]) {
             Ok(()) => Ok(count),
             Err(_) => Err((Fault::Memory, self.place)),
         }
@@ -86,10 +88,54 @@ impl Framer {
         ensures found { IfOk result (Finds packet_of self.now) }
         ensures refused { IfErr result (Stands self.now) }
     {
-        match first_read(self.bytes.as_slice()) {
+        match self.look_sized() {
+            Err(refusal) => Err(refusal),
+            Ok(None) => Ok(None),
+            Ok(Some((packet, place, _))) => Ok(Some((packet, place))),
+        }
+    }
+
+    /// The first whole packet with its place and its size in bytes, if it has come. Takes no
+    /// memory. `skip` of that size takes it away.
+    #[inline(always)]
+    pub fn look_sized(&self) -> Result<Option<(PacketRef<'_>, u64, usize)>, (Fault, u64)>
+        ensures found { IfOk result (FindsSized packet_of self.now) }
+
+        // Where no packet is whole, at least one more byte fits. A packet is among the held bytes.
+        ensures partial { IfOk result (λ found. IfNone found (length self.now.held < PACKET_LIMIT)) }
+        ensures within { IfOk result (λ found. IfSome found (λ x.
+            (0 < x.2) × (x.2 ≤ length self.now.held))) }
+        ensures stands { (fault : Fault) → first_of self.now.held ≡ Err fault
+            → result ≡ Err (fault, self.now.place) }
+        ensures refused { IfErr result (Stands self.now) }
+    {
+        match first_read(self.store.as_slice()) {
             Err(fault) => Err((fault, self.place)),
             Ok(None) => Ok(None),
-            Ok(Some((packet, _))) => Ok(Some((packet, self.place))),
+            Ok(Some((packet, size))) => Ok(Some((packet, self.place, size))),
+        }
+    }
+
+    /// The first whole packet in memory of its own, with its place and its size in bytes, if it has
+    /// come. A payload shares the memory that the framer has read it into. Nothing is taken away,
+    /// whatever is answered; `skip` of that size does that, and can't fail.
+    #[inline(always)]
+    pub fn first(&mut self) -> Result<Option<(Packet, u64, usize)>, (Fault, u64)>
+        ensures found { IfOk result (FindsSized (λ packet. packet) self.old) }
+        ensures same { self.new ≡ self.old }
+
+        // Where no packet is whole, at least one more byte fits. A packet is among the held bytes.
+        ensures partial { IfOk result (λ found. IfNone found (length self.old.held < PACKET_LIMIT)) }
+        ensures within { IfOk result (λ found. IfSome found (λ x.
+            (0 < x.2) × (x.2 ≤ length self.old.held))) }
+        ensures stands { (fault : Fault) → first_of self.old.held ≡ Err fault
+            → result ≡ Err (fault, self.old.place) }
+        ensures refused { IfErr result (Refuses self.old) }
+    {
+        match first_owned(&mut self.store, self.alloc) {
+            Err(why) => Err((why, self.place)),
+            Ok(None) => Ok(None),
+            Ok(Some((owned, size))) => Ok(Some((owned, self.place, size))),
         }
     }
 
@@ -107,15 +153,25 @@ impl Framer {
         ensures refused { IfErr result (Refuses self.old) }
         ensures err { OnErr result (self.new ≡ self.old) }
     {
-        let place = self.place;
-        match first_cut(&mut self.bytes, self.alloc) {
-            Err(fault) => Err((fault, place)),
+        match self.first() {
+            Err(refusal) => Err(refusal),
             Ok(None) => Ok(None),
-            Ok(Some((packet, size))) => {
-                self.place = place.wrapping_add(size as u64);
+            Ok(Some((packet, place, size))) => {
+                self.skip(size);
                 Ok(Some((packet, place)))
             }
         }
+    }
+
+    /// Takes the first `count` held bytes away, and all of them where fewer are held. Takes no
+    /// memory.
+    #[inline(always)]
+    pub fn skip(&mut self, count: usize)
+        ensures { self.new ≡ after (min count (length self.old.held)) self.old }
+    {
+        let count = count.min(self.held());
+        self.store.skip(count);
+        self.place = self.place.wrapping_add(count as u64);
     }
 
     /// Takes the last `count` held bytes away. Takes no memory.
@@ -123,31 +179,32 @@ impl Framer {
         requires { count ≤ length self.old.held }
         ensures { self.new ≡ record self.old { held = without_last count self.old.held } }
     {
-        let len = self.bytes.len();
-        self.bytes.truncate(len - count);
+        let len = self.held();
+        self.store.truncate(len - count);
     }
 }
 
-/// Cuts the first whole packet off, if it has come. A payload is not copied.
+/// The first whole packet and its size, if it has come. A payload is shared with the store.
 #[inline(always)]
-fn first_cut(bytes: &mut BytesMut, alloc: Global) -> Result<Option<(Packet, usize)>, Fault>
-    ensures found { IfOk result (λ found. CutsFirst bytes.old.items found bytes.new.items) }
-    ensures partial { IfOk result (λ found. IfNone found (length bytes.old.items < PACKET_LIMIT)) }
-    ensures within { IfOk result (λ found. IfSome found (λ x. (0 < x.1) × (x.1 ≤ length bytes.old.items))) }
-    ensures stands { (fault : Fault) → first_of bytes.old.items ≡ Err fault → result ≡ Err fault }
-    ensures refused { IfErr result (λ fault. fault ≢ Fault.Memory → first_of bytes.old.items ≡ Err fault) }
-    ensures err { OnErr result (bytes.new.items ≡ bytes.old.items) }
+fn first_owned(store: &mut Store, alloc: Global) -> Result<Option<(Packet, usize)>, Fault>
+    ensures found { IfOk result (λ found. first_of store.old ≡ Ok found) }
+    ensures same { store.new ≡ store.old }
+    ensures partial { IfOk result (λ found. IfNone found (length store.old < PACKET_LIMIT)) }
+    ensures within { IfOk result (λ found. IfSome found (λ x. (0 < x.1) × (x.1 ≤ length store.old))) }
+    ensures stands { (fault : Fault) → first_of store.old ≡ Err fault → result ≡ Err fault }
+    ensures refused { IfErr result (λ fault. fault ≢ Fault.Memory → first_of store.old ≡ Err fault) }
 {
-    let Some((packet, size)) = first_read(bytes.as_slice())? else {
+    let Some((packet, size)) = first_read(store.as_slice())? else {
         return Ok(None);
     };
-    match packet {
-        PacketRef::Publish(publish) => {
-            let topic = Text::new(alloc, publish.topic)?;
-            let properties = publish.properties.to_list(alloc)?;
-            let (delivery, retain) = (publish.delivery, publish.retain);
-            let len = publish.payload.len();
-            let payload = tail_cut(bytes, size, len)?;
+    let PacketRef::Publish(publish) = packet else {
+        let packet = packet.to_packet(alloc)?;
+        return Ok(Some((packet, size)));
+    };
+    let (delivery, retain, len) = (publish.delivery, publish.retain, publish.payload.len());
+    let (topic, properties) = fields_owned(alloc, &publish)?;
+    match store.share(size - len, size) {
+        Ok(payload) => {
             let publish = Publish {
                 delivery,
                 retain,
@@ -157,24 +214,26 @@ fn first_cut(bytes: &mut BytesMut, alloc: Global) -> Result<Option<(Packet, usiz
             };
             Ok(Some((Packet::Publish(publish), size)))
         }
-        other => {
-            let packet = other.to_packet(alloc)?;
-            bytes.advance(size);
-            Ok(Some((packet, size)))
+        Err(_) => {
+            drop(topic);
+            drop(properties);
+            Err(Fault::Memory)
         }
     }
 }
 
-/// Cuts the first `size` bytes off, and gives the last `len` of these. Copies none of them.
-#[inline(always)]
-fn tail_cut(bytes: &mut BytesMut, size: usize, len: usize) -> Result<Bytes, AllocError>
-    requires tail { len ≤ size }
-    requires front { size ≤ length bytes.old.items }
-    ensures found { IfOk result (λ tail. tail ≡ drop (size - len) (take size bytes.old.items)) }
-    ensures ok { OnOk result (bytes.new.items ≡ drop size bytes.old.items) }
-    ensures err { OnErr result (bytes.new.items ≡ bytes.old.items) }
+/// The topic and the properties in memory of their own.
+fn fields_owned(alloc: Global, publish: &PublishRef<'_>) -> Result<(Text, PropList), AllocError>
+    requires { FitsText publish.now.topic.now }
+    ensures topic { IfOk result (λ x. x.0 ≡ publish.now.topic.now) }
+    ensures properties { IfOk result (λ x. x.1 ≡ publish.now.properties) }
 {
-    let mut tail = bytes.freeze_to(size)?;
-    tail.advance(size - len);
-    Ok(tail)
+    let topic = Text::new(alloc, publish.topic)?;
+    match publish.properties.to_list(alloc) {
+        Ok(properties) => Ok((topic, properties)),
+        Err(error) => {
+            drop(topic);
+            Err(error)
+        }
+    }
 }

@@ -4,8 +4,7 @@
 mod framer;
 mod front;
 mod laws;
-#[cfg(test)]
-mod tests;
+mod store;
 
 pub use framer::Framer;
 pub use laws::{any_pieces, first_spelled, joined_cut, moments, one_cut};

@@ -1,0 +1,115 @@
+//! Command lines, and how the program ends (ours).
+
+use mqtt_cli::{Action, LineFault, Outcome, Status, VectorsFault, ViewFault, action, ending};
+use std::alloc::Global;
+use std::process::Abort;
+use std::test::Fail;
+
+/// Command lines that ask for a view, each with its FILE and whether payloads are shown.
+fn view_words() -> &'static [(&'static [&'static str], &'static str, bool)] {
+    &[
+        (&["mqtt5", "view", "-"], "-", false),
+        (&["mqtt5", "view", "a b"], "a b", false),
+        (&["mqtt5", "view", "--payload", "f"], "f", true),
+        (&["mqtt5", "view", "f", "--payload"], "f", true),
+        (&["x", "view", "--", "--payload"], "--payload", false),
+        (&["mqtt5", "view", ""], "", false),
+    ]
+}
+
+/// The command line asks for this.
+fn assert_asks(
+    rt: &impl Abort,
+    alloc: Global,
+    words: &[&str],
+    wanted: Action<'_>,
+) -> Result<(), Fail> {
+    match action(alloc, words) {
+        Ok(found) => assert!(rt; found == wanted, "{wanted:?}"),
+        Err(LineFault::Memory) => return Err(Fail::from("want of memory")),
+        Err(LineFault::Usage(_)) => return Err(Fail::from("not taken")),
+    }
+    Ok(())
+}
+
+#[test]
+fn a_lawful_command_line_is_its_action(rt: HostRuntime) -> Result<(), Fail> {
+    assert_asks(&rt, rt.alloc(), &["mqtt5", "vectors"], Action::Vectors)?;
+    for (words, file, payload) in view_words() {
+        let wanted = Action::View {
+            file: *file,
+            payload: *payload,
+        };
+        assert_asks(&rt, rt.alloc(), words, wanted)?;
+    }
+    Ok(())
+}
+
+/// Command lines that ask for nothing, each with what is wrong.
+fn other_words() -> &'static [(&'static [&'static str], &'static str)] {
+    &[
+        (&["mqtt5", "vectors", "f"], "a FILE for vectors"),
+        (&[], "no word"),
+        (&["mqtt5"], "no command"),
+        (&["mqtt5", "view"], "no FILE"),
+        (&["mqtt5", "view", "--payload"], "an option for FILE"),
+        (&["mqtt5", "view", "a", "b"], "two FILEs"),
+        (
+            &["mqtt5", "view", "--payload", "--payload", "a"],
+            "an option twice",
+        ),
+        (&["mqtt5", "view", "--payload=1", "a"], "a value for a flag"),
+        (&["mqtt5", "view", "-p", "a"], "an unknown option"),
+        (&["mqtt5", "watch", "a"], "an unknown command"),
+        (&["mqtt5", "a"], "FILE without a command"),
+        (&["mqtt5", "--help"], "a call for help"),
+        (&["mqtt5", "help"], "the command for help"),
+        (&["mqtt5", "view", "--help"], "a call for help with view"),
+    ]
+}
+
+#[test]
+fn any_other_command_line_is_usage(rt: HostRuntime) -> Result<(), Fail> {
+    for (words, wrong) in other_words() {
+        match action(rt.alloc(), words) {
+            Err(LineFault::Usage(text)) => {
+                assert!(rt; text.as_str().ends_with("\n"), "{wrong}");
+            }
+            Err(LineFault::Memory) => return Err(Fail::from("want of memory")),
+            Ok(_) => return Err(Fail::from(*wrong)),
+        }
+    }
+    Ok(())
+}
+
+#[test]
+fn each_outcome_has_its_status_and_text(rt: HostRuntime) -> Result<(), Fail> {
+    let usage = LineFault::Usage(String::from_str(rt.alloc(), "wrong\n")?);
+    let rows = [
+        (Outcome::Done(Status::Whole), 0, ""),
+        (Outcome::Done(Status::Faulty), 1, ""),
+        (Outcome::Line(usage), 2, "wrong\n"),
+        (Outcome::Line(LineFault::Memory), 3, "mqtt5: memory\n"),
+        (Outcome::NoFile, 3, "mqtt5: file\n"),
+        (Outcome::View(ViewFault::Read), 3, "mqtt5: file\n"),
+        (Outcome::View(ViewFault::Write), 3, "mqtt5: file\n"),
+        (Outcome::View(ViewFault::Memory), 3, "mqtt5: memory\n"),
+        (Outcome::Vectors(VectorsFault::Write), 3, "mqtt5: file\n"),
+        (Outcome::Vectors(VectorsFault::Memory), 3, "mqtt5: memory\n"),
+    ];
+    for (outcome, status, text) in &rows {
+        let found = ending(outcome);
+        assert!(rt; found.0 == *status, "{text}");
+        assert!(rt; found.1 == *text);
+    }
+    Ok(())
+}
+
+#[test]
+fn faults_have_their_numbers(rt: HostRuntime) {
+    assert!(rt; ViewFault::Read as u8 == 1);
+    assert!(rt; ViewFault::Write as u8 == 2);
+    assert!(rt; ViewFault::Memory as u8 == 3);
+    assert!(rt; VectorsFault::Write as u8 == 2);
+    assert!(rt; VectorsFault::Memory as u8 == 3);
+}

@@ -1,0 +1,297 @@
+//! What a framer holds, gives, keeps and refuses (2.1).
+
+use bytes::Bytes;
+use mqtt_base::PACKET_LIMIT;
+use mqtt_packet::{Fault, Framer, Packet, PacketRef, Publish};
+use std::alloc::Global;
+use std::test::Fail;
+
+/// Whether a framer says that no packet is whole.
+fn waits(framer: &mut Framer) -> bool {
+    match framer.next() {
+        Ok(None) => true,
+        Ok(Some((packet, _))) => {
+            drop(packet);
+            false
+        }
+        Err(_) => false,
+    }
+}
+
+/// The PUBLISH that a packet is.
+fn publish_of(packet: Packet) -> Option<Publish> {
+    match packet {
+        Packet::Publish(publish) => Some(publish),
+        other => {
+            drop(other);
+            None
+        }
+    }
+}
+
+/// The PUBLISH that a framer gives, with its place.
+fn next_publish(framer: &mut Framer) -> Option<(Publish, u64)> {
+    match framer.next() {
+        Ok(Some((packet, place))) => match publish_of(packet) {
+            Some(publish) => Some((publish, place)),
+            None => None,
+        },
+        _ => None,
+    }
+}
+
+/// The place of the PINGREQ that a framer gives.
+fn next_pingreq(framer: &mut Framer) -> Option<u64> {
+    match framer.next() {
+        Ok(Some((packet, place))) => {
+            let is_pingreq = matches!(&packet, Packet::Pingreq);
+            drop(packet);
+            if is_pingreq { Some(place) } else { None }
+        }
+        _ => None,
+    }
+}
+
+/// The place of the PINGREQ that a framer has first, or the fault that stands there.
+fn pingreq_first(framer: &Framer) -> Result<Option<u64>, (Fault, u64)> {
+    match framer.look() {
+        Ok(Some((packet, place))) => {
+            let is_pingreq = matches!(&packet, PacketRef::Pingreq);
+            drop(packet);
+            Ok(if is_pingreq { Some(place) } else { None })
+        }
+        Ok(None) => Ok(None),
+        Err(fault) => Err(fault),
+    }
+}
+
+/// The bytes of a PUBLISH of 65,536 bytes, to the topic `a`.
+fn greatest(alloc: Global) -> Result<Vec<u8>, Fail> {
+    let mut bytes = Vec::from_slice(alloc, &[0x30, 0xfc, 0xff, 0x03, 0, 1, 0x61, 0])?;
+    bytes.resize(65_536, 0x7a)?;
+    Ok(bytes)
+}
+
+#[test]
+fn the_greatest_packet_is_read(rt: HostRuntime) -> Result<(), Fail> {
+    let bytes = greatest(rt.alloc())?;
+    assert!(rt; bytes.len() == PACKET_LIMIT);
+    for step in [1, 4096, 65_536] {
+        let mut framer = Framer::new(rt.alloc());
+        for piece in bytes.as_slice().chunks(step) {
+            assert!(rt;
+                waits(&mut framer),
+                "no packet is whole, in pieces of {step}"
+            );
+            assert!(rt;
+                framer.feed(piece) == Ok(piece.len()),
+                "in pieces of {step}"
+            );
+        }
+        let (publish, place) = next_publish(&mut framer).expect(&rt, "a PUBLISH is given");
+        assert!(rt; place == 0);
+        assert!(rt; publish.topic.as_str() == "a");
+        assert!(rt; publish.payload.len() == 65_528);
+        assert!(rt; (framer.held(), framer.place()) == (0, 65_536));
+    }
+    Ok(())
+}
+
+#[test]
+fn a_full_framer_takes_no_more(rt: HostRuntime) -> Result<(), Fail> {
+    let bytes = greatest(rt.alloc())?;
+    let mut framer = Framer::new(rt.alloc());
+    assert!(rt; framer.feed(&[0xc0, 0]) == Ok(2), "two bytes fit");
+    assert!(rt; framer.feed(bytes.as_slice()) == Ok(65_534));
+    assert!(rt; framer.feed(&[0x61]) == Ok(0), "nothing fits");
+    Ok(())
+}
+
+#[test]
+fn a_fault_stands_until_it_is_given_back(rt: HostRuntime) {
+    let malformed = (Fault::Malformed, 2);
+    let mut framer = Framer::new(rt.alloc());
+    assert!(rt; framer.feed(&[0xc0, 0, 0xc0, 1, 0]) == Ok(5));
+    assert!(rt; pingreq_first(&framer) == Ok(Some(0)));
+    assert!(rt; next_pingreq(&mut framer) == Some(0));
+    assert!(rt;
+        pingreq_first(&framer) == Err(malformed),
+        "a PINGREQ has no body"
+    );
+    assert!(rt;
+        framer.feed(&[0]) == Err(malformed),
+        "the fault stands first"
+    );
+    assert!(rt; framer.held() == 3, "three bytes are held");
+    framer.give_back(2);
+    assert!(rt; (framer.held(), framer.place()) == (1, 2));
+    assert!(rt; waits(&mut framer), "one byte waits");
+    assert!(rt; framer.feed(&[0]) == Ok(1), "no fault stands");
+    assert!(rt; next_pingreq(&mut framer) == Some(2));
+}
+
+/// Whether a packet that was given is the PUBLISH of `!` to `a/b`.
+fn is_worked_publish(packet: Packet) -> bool {
+    let found = match &packet {
+        Packet::Publish(publish) => {
+            publish.topic.as_str() == "a/b" && publish.payload.as_slice() == b"!".as_slice()
+        }
+        _ => false,
+    };
+    drop(packet);
+    found
+}
+
+/// The same with the Nth growth refused: after want of memory the framer is as it was.
+#[test]
+fn after_want_of_memory_the_framer_is_as_it_was(rt: HostRuntime) -> Result<(), Fail> {
+    let mut framer = Framer::new(rt.alloc());
+    for _ in 0..2 {
+        match framer.feed(&STREAM) {
+            Ok(taken) => {
+                assert!(rt; taken == 11);
+                break;
+            }
+            Err((fault, place)) => {
+                assert!(rt; (fault, place) == (Fault::Memory, 0));
+                assert!(rt; framer.held() == 0);
+            }
+        }
+    }
+    let mut is_given = false;
+    for _ in 0..4 {
+        let (held, place) = (framer.held(), framer.place());
+        match framer.next() {
+            Ok(Some((packet, place))) => {
+                let is_publish = is_worked_publish(packet);
+                assert!(rt; place == if is_publish { 2 } else { 0 });
+                is_given = is_publish;
+            }
+            Ok(None) => break,
+            Err(fault) => {
+                assert!(rt; fault == (Fault::Memory, place));
+                assert!(rt; framer.held() == held);
+                assert!(rt; framer.place() == place);
+            }
+        }
+    }
+    assert!(rt; is_given);
+    Ok(())
+}
+
+/// A PINGREQ, and the PUBLISH of `!` to `a/b`.
+const STREAM: [u8; 11] = [0xc0, 0, 0x30, 7, 0, 3, 0x61, 0x2f, 0x62, 0, 0x21];
+
+/// The place and the size of the packet that a framer has first, lent.
+fn looked(framer: &Framer) -> Result<Option<(u64, usize)>, (Fault, u64)> {
+    match framer.look_sized() {
+        Ok(Some((packet, place, size))) => {
+            drop(packet);
+            Ok(Some((place, size)))
+        }
+        Ok(None) => Ok(None),
+        Err(refusal) => Err(refusal),
+    }
+}
+
+/// The place and the size of the packet that a framer has first, in memory of its own.
+fn first_of(framer: &mut Framer) -> Result<Option<(u64, usize)>, (Fault, u64)> {
+    match framer.first() {
+        Ok(Some((packet, place, size))) => {
+            drop(packet);
+            Ok(Some((place, size)))
+        }
+        Ok(None) => Ok(None),
+        Err(refusal) => Err(refusal),
+    }
+}
+
+#[test]
+fn what_is_given_first_stays_until_it_is_skipped(rt: HostRuntime) {
+    let mut framer = Framer::new(rt.alloc());
+    assert!(rt; framer.feed(&STREAM) == Ok(11));
+    for (place, size, left) in [(0, 2, 11), (2, 9, 9)] {
+        assert!(rt; looked(&framer) == Ok(Some((place, size))));
+        assert!(rt; first_of(&mut framer) == Ok(Some((place, size))));
+        assert!(rt; first_of(&mut framer) == Ok(Some((place, size))), "again");
+        assert!(rt; looked(&framer) == Ok(Some((place, size))), "again");
+        assert!(rt; (framer.held(), framer.place()) == (left, place));
+        framer.skip(size);
+    }
+    assert!(rt; looked(&framer) == Ok(None) && first_of(&mut framer) == Ok(None));
+    assert!(rt; (framer.held(), framer.place()) == (0, 11));
+}
+
+#[test]
+fn no_more_is_skipped_than_is_held(rt: HostRuntime) {
+    let mut framer = Framer::new(rt.alloc());
+    framer.skip(1);
+    assert!(rt; (framer.held(), framer.place()) == (0, 0));
+    assert!(rt; framer.feed(&STREAM) == Ok(11));
+    framer.skip(3);
+    assert!(rt; (framer.held(), framer.place()) == (8, 3));
+    framer.skip(usize::MAX);
+    assert!(rt; (framer.held(), framer.place()) == (0, 11));
+}
+
+/// The payload of the PUBLISH that a framer has first.
+fn payload_of(framer: &mut Framer) -> Option<Bytes> {
+    match framer.first() {
+        Ok(Some((packet, _, _))) => match publish_of(packet) {
+            Some(publish) => {
+                let Publish { payload, .. } = publish;
+                Some(payload)
+            }
+            None => None,
+        },
+        _ => None,
+    }
+}
+
+#[test]
+fn a_shared_payload_stays_as_it_is(rt: HostRuntime) {
+    let mut framer = Framer::new(rt.alloc());
+    assert!(rt; framer.feed(&STREAM) == Ok(11));
+    framer.skip(2);
+    let payload = payload_of(&mut framer).expect(&rt, "a PUBLISH is given");
+    // What follows is held beside what stands, and is given whole.
+    assert!(rt; framer.feed(&[0x31]) == Ok(1));
+    assert!(rt; looked(&framer) == Ok(Some((2, 9))));
+    framer.skip(9);
+    assert!(rt; framer.feed(&[5, 0, 2, 0x61, 0x62, 0]) == Ok(6));
+    assert!(rt; looked(&framer) == Ok(Some((11, 7))));
+    let (publish, place) = next_publish(&mut framer).expect(&rt, "a PUBLISH is given");
+    assert!(rt; place == 11 && publish.topic.as_str() == "ab");
+    assert!(rt; framer.held() == 0 && payload.as_slice() == b"!".as_slice());
+}
+
+#[test]
+fn a_fault_stands_before_each_call(rt: HostRuntime) {
+    let malformed = (Fault::Malformed, 2);
+    let mut framer = Framer::new(rt.alloc());
+    assert!(rt; framer.feed(&[0xc0, 0, 0xc1]) == Ok(3));
+    framer.skip(2);
+    assert!(rt; looked(&framer) == Err(malformed));
+    assert!(rt; first_of(&mut framer) == Err(malformed));
+    framer.skip(1);
+    assert!(rt; looked(&framer) == Ok(None));
+}
+
+/// The same with the Nth growth refused: what was found and then refused is held as before.
+#[test]
+fn after_want_of_memory_the_first_packet_is_held(rt: HostRuntime) {
+    let mut framer = Framer::new(rt.alloc());
+    for _ in 0..2 {
+        if framer.feed(&STREAM) == Ok(11) {
+            break;
+        }
+    }
+    framer.skip(2);
+    for _ in 0..4 {
+        let found = first_of(&mut framer);
+        assert!(rt; found == Ok(Some((2, 9))) || found == Err((Fault::Memory, 2)));
+        assert!(rt; (framer.held(), framer.place()) == (9, 2));
+    }
+    assert!(rt; first_of(&mut framer) == Ok(Some((2, 9))));
+    assert!(rt; looked(&framer) == Ok(Some((2, 9))));
+}
