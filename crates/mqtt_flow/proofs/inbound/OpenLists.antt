@@ -37,6 +37,34 @@ rises least (x ∷ y ∷ ys) h = rises_at x y ys h.1.0 (rises (suc x) (y ∷ ys)
     rises_at x y ys le r zero lt = omega arith
     rises_at x y ys le r (suc k) lt = let e : suc k + 1 ≡ suc (k + 1) = omega arith in rw e (r k (omega arith))
 
+-- rows that are in the order of their keys, where the key is the row: the same lists
+abbrev pub IsAbove : ℕ → List ℕ → Type 0
+IsAbove n [] = Unit {0}
+IsAbove n (x ∷ xs) = (n < x) × IsAbove n xs
+
+abbrev pub IsAscending : List ℕ → Type 0
+IsAscending [] = Unit {0}
+IsAscending (x ∷ xs) = IsAbove x xs × IsAscending xs
+
+from_above : (n : ℕ) (xs : List ℕ) → IsAbove n xs → IsAscending xs → AscendsFrom (suc n) xs
+from_above n [] a h = tt
+from_above n (x ∷ xs) a h = let above = a.0 in (omega arith, from_above x xs h.0 h.1)
+
+above_from : (least n : ℕ) (xs : List ℕ) → n < least → AscendsFrom least xs → IsAbove n xs
+above_from least n [] lt h = tt
+above_from least n (x ∷ xs) lt h = let above = h.0 in (omega arith, above_from (suc x) n xs (omega arith) h.1)
+
+ascending_from : (least : ℕ) (xs : List ℕ) → AscendsFrom least xs → IsAscending xs
+ascending_from least [] h = tt
+ascending_from least (x ∷ xs) h = (above_from (suc x) x xs (omega arith) h.1, ascending_from (suc x) xs h.1)
+
+pub strictly_increasing : (xs : List ℕ) → IsAscending xs → IsStrictlyIncreasing xs
+strictly_increasing [] h = rises 0 [] tt
+strictly_increasing (x ∷ xs) h = rises 0 (x ∷ xs) (omega arith, from_above x xs h.0 h.1)
+
+pub is_ascending : (xs : List ℕ) → IsStrictlyIncreasing xs → IsAscending xs
+is_ascending xs h = ascending_from 0 xs (ascends_all xs h)
+
 ascends-ids_with : (least id : ℕ) (ids : List ℕ) → least ≤ id → is_among id ids ≡ false → AscendsFrom least ids → AscendsFrom least (ids_with id ids)
 ascends-ids_with least id [] le missing h = (le, tt)
 ascends-ids_with least id (x ∷ xs) le missing h = ⊎_elim
