@@ -44,3 +44,4 @@ pub mod OrderedAccepted
 pub mod OrderedQueues
 pub mod OrderedEnters
 pub mod OrderedFull
+pub mod Meanings
