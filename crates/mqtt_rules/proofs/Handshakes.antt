@@ -328,10 +328,6 @@ taken_over_bytes = refl
 abbrev new_first : List Event
 new_first = giving_up ++ at 0 (Input 3 (hello (codes "p1"))) ∷ at 0 (Input 2 (pubrel 7 0)) ∷ []
 
-the_old_line_is_passed_over : asks (giving_up ++ at 0 (Input 3 (hello (codes "p1"))) ∷ []) (at 0 (Input 2 (pubrel 7 0))) ≡ out [] [] [] false
-unfolding varint
-the_old_line_is_passed_over = refl
-
 the_release_on_the_new_line : asks new_first (at 0 (Input 3 (pubrel 7 0))) ≡ out ((3, pubcomp 7 0) ∷ []) [] (Released 2 (codes "p1") 7 ∷ []) false
 unfolding varint
 the_release_on_the_new_line = refl
@@ -366,25 +362,3 @@ three_copies = in_line 1 narrow
 releases_follow_connack : asks three_copies (at 0 (Input 3 narrow)) ≡ out ((3, welcome true) ∷ (3, pubrel 1 0) ∷ []) [] [] false
 unfolding varint
 releases_follow_connack = refl
-
-abbrev resumed : List Event
-resumed = three_copies ++ at 0 (Input 3 narrow) ∷ []
-
-the_window_has_room_for_one : asks resumed (at 0 (Pump 3)) ≡ out ((3, copy_out false 2 []) ∷ []) [] [] false
-unfolding varint
-the_window_has_room_for_one = refl
-
--- the released copy wasn't sent on this line, so its end makes no room
-abbrev first_completed : List Event
-first_completed = resumed ++ at 0 (Pump 3) ∷ at 0 (Input 3 (pubcomp 1 0)) ∷ []
-
-an_earlier_copy_makes_no_room : asks first_completed (at 0 (Pump 3)) ≡ out [] [] [] false
-unfolding varint
-an_earlier_copy_makes_no_room = refl
-
-abbrev second_completed : List Event
-second_completed = first_completed ++ at 0 (Pump 3) ∷ at 0 (Input 3 (pubrec 2 0)) ∷ at 0 (Input 3 (pubcomp 2 0)) ∷ []
-
-its_own_copy_makes_room : asks second_completed (at 0 (Pump 3)) ≡ out ((3, copy_out false 1 []) ∷ []) [] [] false
-unfolding varint
-its_own_copy_makes_room = refl

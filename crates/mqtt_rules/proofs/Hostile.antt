@@ -84,10 +84,6 @@ a_small_maximum_packet_size : first_packet (hello_with (codes "r1") (property Ma
 unfolding varint
 a_small_maximum_packet_size = refl
 
-too_small_for_an_answer : first_packet (hello_with (codes "r1") (property MaximumPacketSize (U32 4) ∷ []) None) ≡ hung_up
-unfolding varint
-too_small_for_an_answer = refl
-
 sixty_four_bytes_suffice : first_packet (hello_with (codes "r1") (never_expires ∷ property MaximumPacketSize (U32 64) ∷ []) None)
     ≡ out ((1, welcome false) ∷ []) [] [] false
 unfolding varint
@@ -111,12 +107,6 @@ it_stores_nothing = nothing_written usual (at 0 (Input 1 (hello (codes "auto-9")
 a_will_to_a_filter : first_packet (hello_with (codes "r1") (never_expires ∷ []) (Some will)) ≡ turned_away 0x90
 unfolding varint
 a_will_to_a_filter = refl
-
-the_first_refusal_counts : first_packet (hello_with (codes "auto-9")
-    (property AuthenticationMethod (Text (codes "x")) ∷ property MaximumPacketSize (U32 63) ∷ []) (Some will))
-    ≡ turned_away 0x8c
-unfolding varint
-the_first_refusal_counts = refl
 
 -- ---- after CONNECT
 
@@ -146,10 +136,6 @@ a_packet_out_of_place_breaks_the_protocol :
     ≡ replicate 6 (told_off 0x82)
 unfolding varint
 a_packet_out_of_place_breaks_the_protocol = refl
-
-a_ping_is_answered : later_packet Pingreq ≡ out ((1, Pingresp) ∷ []) [] [] false
-unfolding varint
-a_ping_is_answered = refl
 
 -- a fault keeps the Will, which is published where the session ends with its line
 abbrev mourned : List Event

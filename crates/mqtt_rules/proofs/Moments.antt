@@ -79,10 +79,6 @@ last_second_bytes = refl
 abbrev sent_in_time : List Event
 sent_in_time = in_time ++ at 4000 (Pump 3) ∷ []
 
-what_was_sent_stays : asks sent_in_time (at 9000 Tick) ≡ out [] [] [] false
-unfolding varint
-what_was_sent_stays = refl
-
 -- and its handshake completes at whatever moments
 its_handshake_goes_on : (now : ℕ) → asks sent_in_time (at now (Input 3 (pubrec 1 0))) ≡ out ((3, pubrel 1 0) ∷ []) [] [] false
 unfolding varint

@@ -50,25 +50,6 @@ a_lost_line_keeps_it : asks mourned (at 0 (Lost 2)) ≡ out [] (2 ∷ []) publis
 unfolding varint
 a_lost_line_keeps_it = refl
 
--- Clean Start: a Will that waits is published, the old session ends, a new one begins (3.1.2.4)
-abbrev delayed : Will
-delayed = record will { properties = property WillDelayInterval (U32 10) ∷ [] }
-
-abbrev waiting_will : List Event
-waiting_will =
-    in_line 1 (hello (codes "r1"))
-    ++ at 0 (Input 1 (wants 1 topic ExactlyOnce))
-    ∷ in_line 2 (hello_with (codes "w1") (never_expires ∷ []) (Some delayed))
-    ++ at 0 (Input 2 (wants 1 topic ExactlyOnce))
-    ∷ at 0 (Lost 2)
-    ∷ at 0 NewLine ∷ []
-
-a_clean_start_publishes_the_will_that_waits : asks waiting_will (at 0 (Input 3 (clean (codes "w1"))))
-    ≡ out ((3, welcome false) ∷ []) []
-    (published ++ Entered (direct 1 2) (codes "w1") ∷ Ended (direct 1 2) (codes "w1") SessionEnded ∷ []) false
-unfolding varint
-a_clean_start_publishes_the_will_that_waits = refl
-
 -- ---- PUBLISH (4.3.2, 4.3.3, 3.8.3.1)
 
 -- DUP decides nothing: a new message may have it
@@ -78,19 +59,6 @@ sends_again id = Publish (record (message id) { delivery = delivery.ExactlyOnce 
 a_new_message_may_have_dup : asks subscribed (at 0 (Input 2 (sends_again 10))) ≡ out ((2, pubrec 10 0) ∷ []) [] published false
 unfolding varint
 a_new_message_may_have_dup = refl
-
-an_open_one_may_lack_it : asks (subscribed ++ at 0 (Input 2 (sends 10)) ∷ []) (at 0 (Input 2 (sends 10))) ≡ says 2 (pubrec 10 0)
-unfolding varint
-an_open_one_may_lack_it = refl
-
--- QoS 1 under an identifier that is open
-abbrev at_least_once : ℕ → Packet
-at_least_once id = Publish (record (message id) { delivery = delivery.AtLeastOnce false id })
-
-an_open_identifier_is_in_use : asks (subscribed ++ at 0 (Input 2 (sends 10)) ∷ []) (at 0 (Input 2 (at_least_once 10)))
-    ≡ says 2 (puback 10 0x91)
-unfolding varint
-an_open_identifier_is_in_use = refl
 
 no_local_bars_its_own : asks (in_line 1 (hello (codes "r1"))
     ++ at 0 (Input 1 (wants_with 1 [] (wish topic (record (options ExactlyOnce) { no_local = true }) ∷ []))) ∷ [])

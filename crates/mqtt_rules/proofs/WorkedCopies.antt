@@ -1,4 +1,4 @@
--- Worked copies: QoS 1, what a PUBLISH passes on, order, size, the window, retained messages (MQTT 5.0, 3.3, 3.8, 4.3, 4.4, 4.6, 4.9).
+-- Worked copies: QoS 1, what a PUBLISH passes on, order, the window, retained messages (MQTT 5.0, 3.3, 3.8, 4.3, 4.4, 4.6, 4.9).
 use Rattle.std.proofs.Common.{◌≡◌, ℕ, Bool, true, false, List, [], ◌∷◌, ◌++◌, None, refl}
 use Rattle.std.specs.Prelude.{codes}
 use Rattle.mqtt_base.specs.Values.{varint}
@@ -51,10 +51,6 @@ a_message_of_qos_1_again = refl
 nobody_is_there_for_it : asks (in_line 1 (hello (codes "p1"))) (at 0 (Input 1 (at_least_once false 10))) ≡ out ((1, puback 10 0x10) ∷ []) [] (Accepted 1 ∷ []) false
 unfolding varint
 nobody_is_there_for_it = refl
-
-under_an_open_identifier : asks published (at 0 (Input 2 (at_least_once false 10))) ≡ out ((2, puback 10 0x91) ∷ []) [] [] false
-unfolding varint
-under_an_open_identifier = refl
 
 -- a copy at the lesser of two
 abbrev at_qos_1 : List Event
@@ -123,14 +119,6 @@ nothing_is_sent_twice_on_a_line : asks (published ++ at 0 (Pump 1) ∷ []) (at 0
 unfolding varint
 nothing_is_sent_twice_on_a_line = refl
 
--- PUBRELs go out in the order of release
-abbrev released_backwards : List Event
-released_backwards = subscribed ++ burst 2 2 1 ++ at 0 (Pump 1) ∷ at 0 (Input 1 (pubrec 2 0)) ∷ at 0 (Input 1 (pubrec 1 0)) ∷ at 0 (Lost 1) ∷ at 0 NewLine ∷ []
-
-in_the_order_of_release : asks released_backwards (at 0 (Input 3 (hello (codes "r1")))) ≡ out ((3, welcome true) ∷ (3, pubrel 2 0) ∷ (3, pubrel 1 0) ∷ []) [] [] false
-unfolding varint
-in_the_order_of_release = refl
-
 -- what is sent again takes its place in the window
 abbrev sent_both : List Event
 sent_both = subscribed ++ burst 2 2 1 ++ at 0 (Pump 1) ∷ at 0 (Lost 1) ∷ in_line 3 (hello_with (codes "r1") (never_expires ∷ property ReceiveMaximum (U16 1) ∷ []) None)
@@ -196,11 +184,6 @@ properties_are_passed_on = refl
 the_interval_falls_by_whole_seconds : all_outputs (at 0 (Input 2 short_lived) ∷ at 999 (Pump 1) ∷ []) (runs subscribed blank) ≡ (2, pubrec 10 0) ∷ (1, copy_out false 1 (expires_in 5)) ∷ []
 unfolding varint
 the_interval_falls_by_whole_seconds = refl
-
--- one that waited too long isn't sent
-pump_ends_what_expired : asks (subscribed ++ at 0 (Input 2 short_lived) ∷ []) (at 5000 (Pump 1)) ≡ out [] [] (Ended (direct 1 1) (codes "r1") Expired ∷ []) false
-unfolding varint
-pump_ends_what_expired = refl
 
 a_client_gives_no_identifier : asks subscribed (at 0 (Input 2 (publishes (delivery.ExactlyOnce false 10) false (identified 1 ∷ []) hi))) ≡ out ((2, disconnect 0x82) ∷ []) (2 ∷ []) [] false
 unfolding varint
@@ -274,50 +257,6 @@ copies_outlast_their_filter = refl
 and_no_further_one_enters : asks (published ++ at 0 (Input 1 (gives_up 2 (topic ∷ []))) ∷ []) (at 0 (Input 2 (sends 11))) ≡ out ((2, pubrec 11 0x10) ∷ []) [] (Accepted 2 ∷ []) false
 unfolding varint
 and_no_further_one_enters = refl
-
--- ---- a client that takes 64 bytes at most
-
-abbrev small : Packet
-small = hello_with (codes "r1") (never_expires ∷ property MaximumPacketSize (U32 64) ∷ []) None
-
--- a PUBLISH of 64 bytes, and one of 65
-abbrev fifty_four : List ℕ
-fifty_four = codes "123456789012345678901234567890123456789012345678901234"
-
-abbrev large : Packet
-large = publishes (delivery.ExactlyOnce false 10) false [] (codes "!" ++ fifty_four)
-
-abbrev small_one : Qos → List Event
-small_one qos = in_line 1 small ++ at 0 (Input 1 (wants 1 topic qos)) ∷ in_line 2 (hello (codes "p1"))
-
-sixty_four_bytes_are_sent : all_outputs (at 0 (Input 2 (publishes (delivery.ExactlyOnce false 10) false [] fifty_four)) ∷ at 0 (Pump 1) ∷ []) (runs (small_one ExactlyOnce) blank)
-    ≡ (2, pubrec 10 0) ∷ (1, publishes (delivery.ExactlyOnce false 1) false [] fifty_four) ∷ []
-unfolding varint
-sixty_four_bytes_are_sent = refl
-
-more_are_not : asks (small_one ExactlyOnce ++ at 0 (Input 2 large) ∷ []) (at 0 (Pump 1)) ≡ out [] [] (Ended (direct 1 1) (codes "r1") TooLarge ∷ []) false
-unfolding varint
-more_are_not = refl
-
-nor_at_qos_0 : asks (small_one AtMostOnce) (at 0 (Input 2 (publishes delivery.AtMostOnce false [] (codes "!!!" ++ fifty_four)))) ≡ out [] [] (Accepted 1 ∷ []) false
-unfolding varint
-nor_at_qos_0 = refl
-
--- one that was sent before the client took so little: QoS 1 ends, QoS 2 goes through its release first
-abbrev sent_before : Qos → List Event
-sent_before qos = subscribed_at qos ++ at 0 (Input 2 large) ∷ at 0 (Pump 1) ∷ at 0 (Lost 1) ∷ in_line 3 small
-
-too_large_at_qos_1 : asks (sent_before AtLeastOnce) (at 0 (Pump 3)) ≡ out [] [] (Ended (direct 1 1) (codes "r1") TooLarge ∷ []) false
-unfolding varint
-too_large_at_qos_1 = refl
-
-too_large_at_qos_2 : asks (sent_before ExactlyOnce) (at 0 (Pump 3)) ≡ out ((3, pubrel 1 0) ∷ []) [] [] false
-unfolding varint
-too_large_at_qos_2 = refl
-
-it_ends_at_its_pubcomp : asks (sent_before ExactlyOnce ++ at 0 (Pump 3) ∷ []) (at 0 (Input 3 (pubcomp 1 0x92))) ≡ out [] [] (Ended (direct 1 1) (codes "r1") TooLarge ∷ []) false
-unfolding varint
-it_ends_at_its_pubcomp = refl
 
 -- ---- retained messages
 

@@ -99,7 +99,8 @@ is_expired now content = is_past (number_at MessageExpiryInterval content.proper
 
 -- a property as it is sent: Message Expiry Interval less what was waited (3.3.2.3.3)
 abbrev pub aged : ℕ → Prop → Prop
-aged waited p = cond (is_named MessageExpiryInterval p) (property MessageExpiryInterval (U32 (number_in p.value - waited))) p
+aged waited p =
+    cond (is_named MessageExpiryInterval p) (property MessageExpiryInterval (U32 (number_in p.value - waited))) p
 
 abbrev pub identified : ℕ → Prop
 identified n = property SubscriptionIdentifier (VarInt n)

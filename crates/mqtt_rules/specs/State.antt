@@ -38,8 +38,9 @@ pub record Broker : Type 0 where
 abbrev pub stored : Broker → Records
 stored b = b.records
 
--- the free choice, for the publication of a number by a sender, of a member for each group in order; a Will that is refused
--- takes no number, so when several sessions close in one step the number alone doesn't tell their publications apart (ours)
+-- the free choice, for the publication of a number by a sender, of a member for each group in order; a Will that is
+-- refused takes no number, so where several sessions close in one step the number alone doesn't tell their publications
+-- apart (ours)
 abbrev pub MemberChoice : Type 0
 MemberChoice = ℕ → List ℕ → List ℕ
 
@@ -86,7 +87,12 @@ queued_copy birth copy = record {
 }
 
 abbrev pub entry_on : List ℕ → ℕ → Entry → FlowEntry
-entry_on went birth e = record { place = e.place; copy = queued_copy birth e.copy; phase = e.phase; here = has e.place went }
+entry_on went birth e = record {
+  place = e.place;
+  copy = queued_copy birth e.copy;
+  phase = e.phase;
+  here = has e.place went;
+}
 
 -- the queue, with the copies whose PUBLISH went out on a line
 abbrev pub queue_on : List ℕ → Session → List FlowEntry
