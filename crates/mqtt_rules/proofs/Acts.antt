@@ -26,8 +26,8 @@ use Rattle.mqtt_base.specs.declared.limits.TheConstants.{SUBSCRIPTION_LIMIT}
 use Rattle.mqtt_flow.specs.Inbound.{answer_to, answer_to_release, is_open}
 use Rattle.mqtt_flow.specs.Outbound.{Answer, due_from}
 use Rattle.mqtt_flow.specs.Outbound as rules
-use Rattle.mqtt_records.specs.declared.message.Retained.{Retained}
-use Rattle.mqtt_records.specs.declared.message.Will.{Will}
+use Rattle.mqtt_message.specs.declared.message.RetainedMessage.{RetainedMessage}
+use Rattle.mqtt_message.specs.declared.message.Will.{Will}
 use Rattle.mqtt_records.specs.declared.session.Session.{Session}
 use Rattle.mqtt_records.specs.declared.records.Records.{Records}
 use Rattle.mqtt_records.specs.Session.{birth_of}
@@ -156,7 +156,7 @@ pub record Law (env : Env) (about : About) (Keep : Broker → Type 0) (Good : De
       → Keep b → about.line l → about.session s.birth → session_at s.birth b.records ≡ Some s → IsAnswer a l s → a ≡ Ok (Some t) → Leads Keep Good (turn_deeds b.now l.number s t) b
   pub lapses : (s : Session) (b : Broker) → Keep b → IsAmong s b.records.sessions → Leads Keep Good (lapse_deeds b.now s) b
   -- retained messages
-  pub stale : (k : Retained) (b : Broker) → Keep b → IsAmong k b.records.retained → Leads Keep Good (Forget k.place ∷ []) b
+  pub stale : (k : RetainedMessage) (b : Broker) → Keep b → IsAmong k b.records.retained → Leads Keep Good (Forget k.place ∷ []) b
   -- lines
   pub links : (b : Broker) → Keep b → can_link b ≡ true → Leads Keep Good (Link (suc b.given) ∷ []) b
   pub hears : (n : ℕ) (b : Broker) → Keep b → about.number n → Leads Keep Good (On n Hear ∷ []) b

@@ -14,14 +14,14 @@ use Rattle.mqtt_flow.specs.declared.entry.Turn.TheVariants as turns
 use Rattle.mqtt_flow.specs.declared.inflow.Published.TheVariants.{New}
 use Rattle.mqtt_flow.specs.Inbound.{answer_to}
 use Rattle.mqtt_flow.specs.Outbound.{Answer, way_made}
-use Rattle.mqtt_records.specs.declared.message.MessageCopy.{MessageCopy}
-use Rattle.mqtt_records.specs.declared.message.Retained.{Retained}
-use Rattle.mqtt_records.specs.declared.message.Will.{Will}
-use Rattle.mqtt_records.specs.declared.queue.Entry.{Entry}
+use Rattle.mqtt_message.specs.declared.message.MessageCopy.{MessageCopy}
+use Rattle.mqtt_message.specs.declared.message.RetainedMessage.{RetainedMessage}
+use Rattle.mqtt_message.specs.declared.message.Will.{Will}
+use Rattle.mqtt_message.specs.declared.queue.CopyRow.{CopyRow}
 use Rattle.mqtt_records.specs.declared.session.Session.{Session}
 use Rattle.mqtt_records.specs.declared.subscription.Subscription.{Subscription}
-use Rattle.mqtt_records.specs.Order.{row_at}
-use Rattle.mqtt_records.specs.Session.{birth_of, entry_place}
+use Rattle.mqtt_rows.specs.Order.{row_at}
+use Rattle.mqtt_records.specs.Session.{birth_of, copy_place}
 use Rattle.mqtt_rules.specs.Packets.{connack, pubrel, publish_of}
 use Rattle.mqtt_rules.specs.State.{Line, Broker, Env, session_at, line_of, queue_on}
 use Rattle.mqtt_rules.specs.Deeds.{Whose, whose, Message, Origin, FromClient, Part, Resume, Close, DropWill, Open, Enter, Mark, Leave, LinePart, Hear, Greet, SetAlias, Went, Deed, Accept, Begin, Name, Count, At, Finish, Keep, Forget, RefuseWill, Link, On, Send, Gone, after, after_all, series, always, with_session, offer}
@@ -52,7 +52,7 @@ pub record DeedLaw (env : Env) (about : About) (Keeps : Broker → Type 0) (Good
   pub forget : (place : ℕ) (b : Broker) → Keeps b → Good (Forget place) b
   -- a copy is of an accepted publication, or of a retained message that stands
   pub enter : (who : Whose) (copy : MessageCopy) (b : Broker) → Keeps b → IsMade copy b.records → Good (At who (Enter copy)) b
-  pub leave : (who : Whose) (e : Entry) (ending : Ending) (b : Broker) → Keeps b → Good (At who (Leave e ending)) b
+  pub leave : (who : Whose) (e : CopyRow) (ending : Ending) (b : Broker) → Keeps b → Good (At who (Leave e ending)) b
   pub refuse_will : (who : Whose) (b : Broker) → Keeps b → about.session who.birth → Good (RefuseWill who) b
   -- an identifier opens where its PUBLISH was new to the session, which stood before the publication's deeds
   pub open_id : (s : Session) (id : ℕ) (m : Message) (ds : List CopyTo) (b : Broker)
@@ -82,7 +82,7 @@ pub record TurnLaw (about : About) (Keeps : Broker → Type 0) (Good : Deed → 
   pub turns : (a : Answer) (t : Turn) (l : Line) (s : Session) (b : Broker)
       → Keeps b → about.line l → about.session s.birth → session_at s.birth b.records ≡ Some s → IsAnswer a l s → a ≡ Ok (Some t) → Leads Keeps Good (turn_deeds b.now l.number s t) b
 
-forget_numbers : (k : Option Retained) (b : Broker) → (after_all (forgets k) b).records.publications ≡ b.records.publications
+forget_numbers : (k : Option RetainedMessage) (b : Broker) → (after_all (forgets k) b).records.publications ≡ b.records.publications
 forget_numbers None b = refl
 forget_numbers (Some k) b = refl
 
@@ -120,7 +120,7 @@ module _ (env : Env) (about : About) (Keeps : Broker → Type 0) (Good : Deed �
 
   leads_left : (s : Session) (place : ℕ) (ending : Ending) (b : Broker) → Keeps b → Led (leave_deeds s (turns.Leave place ending)) b
   leads_left s place ending b k =
-      leads_of_entry Keeps Good (row_at entry_place place s.queue) (λ e. At (whose s) (Leave e ending) ∷ []) b k
+      leads_of_entry Keeps Good (row_at copy_place place s.queue) (λ e. At (whose s) (Leave e ending) ∷ []) b k
       (λ e is. one (At (whose s) (Leave e ending)) b k (law.leave (whose s) e ending b k))
 
   pub leads_leave : (s : Session) (t : Turn) (b : Broker) → Keeps b → Led (leave_deeds s t) b
@@ -155,7 +155,7 @@ module _ (env : Env) (about : About) (Keeps : Broker → Type 0) (Good : Deed �
       leads_append Keeps Good first (series (map (deliver env) ds) c) b (leads_deliver_by (is_queued d) d b k made.0)
       (λ h. leads_deliveries ds c h (are_made_stay ds first b (beside_deliver env d b) made.1))
 
-  leads_forgets : (o : Option Retained) (b : Broker) → Keeps b → Led (forgets o) b
+  leads_forgets : (o : Option RetainedMessage) (b : Broker) → Keeps b → Led (forgets o) b
   leads_forgets None b k = nothing b k
   leads_forgets (Some x) b k = one (Forget x.place) b k (law.forget x.place b k)
 
@@ -196,7 +196,7 @@ module _ (env : Env) (about : About) (Keeps : Broker → Type 0) (Good : Deed �
   leads_ended s b k its = leads_append Keeps Good (map (λ e. At (whose s) (Leave e SessionEnded)) s.queue) (Finish (whose s) ∷ []) b (all_leave s.queue b k)
       (λ h. one (Finish (whose s)) _ h (law.finish (whose s) _ h its))
     where
-      all_leave : (q : List Entry) (b : Broker) → Keeps b → Led (map (λ e. At (whose s) (Leave e SessionEnded)) q) b
+      all_leave : (q : List CopyRow) (b : Broker) → Keeps b → Led (map (λ e. At (whose s) (Leave e SessionEnded)) q) b
       all_leave [] b k = nothing b k
       all_leave (e ∷ q) b k =
           let d = At (whose s) (Leave e SessionEnded) in
@@ -235,13 +235,13 @@ module _ (env : Env) (about : About) (Keeps : Broker → Type 0) (Good : Deed �
   module _ (mark : MarkLaw Keeps Good) where
     leads_turn : (now line : ℕ) (s : Session) (t : Turn) (b : Broker) → Keeps b → Led (turn_deeds now line s t) b
     leads_turn now line s (turns.Send place id) b k =
-        leads_of_entry Keeps Good (row_at entry_place place s.queue) (λ e. At (whose s) (Mark place (Sent id)) ∷ On line (Went place) ∷ Send line (publish_of now false id e.copy) ∷ []) b k
+        leads_of_entry Keeps Good (row_at copy_place place s.queue) (λ e. At (whose s) (Mark place (Sent id)) ∷ On line (Went place) ∷ Send line (publish_of now false id e.copy) ∷ []) b k
         (λ e is. let d = At (whose s) (Mark place (Sent id)) in
         more d (On line (Went place) ∷ Send line (publish_of now false id e.copy) ∷ []) b k (mark (whose s) place (Sent id) b k)
         (λ h. more (On line (Went place)) (Send line (publish_of now false id e.copy) ∷ []) (after d b) h (law.on_line line (Went place) (after d b) h)
         (λ g. one (Send line (publish_of now false id e.copy)) _ g (law.send line (publish_of now false id e.copy) _ g))))
     leads_turn now line s (turns.Resend place id) b k =
-        leads_of_entry Keeps Good (row_at entry_place place s.queue) (λ e. On line (Went place) ∷ Send line (publish_of now true id e.copy) ∷ []) b k
+        leads_of_entry Keeps Good (row_at copy_place place s.queue) (λ e. On line (Went place) ∷ Send line (publish_of now true id e.copy) ∷ []) b k
         (λ e is. more (On line (Went place)) (Send line (publish_of now true id e.copy) ∷ []) b k (law.on_line line (Went place) b k)
         (λ g. one (Send line (publish_of now true id e.copy)) _ g (law.send line (publish_of now true id e.copy) _ g)))
     leads_turn now line s (turns.Release place id order) b k =

@@ -14,12 +14,12 @@ use Rattle.mqtt_routes.specs.declared.retained.Kept.{Kept}
 use Rattle.mqtt_routes.specs.Retained.{kept_for}
 use Rattle.mqtt_routes.specs.Intended.{Copy}
 use Rattle.mqtt_routes.specs.Acceptance.{Routed, copies_in}
-use Rattle.mqtt_records.specs.declared.message.MessageCopy.{MessageCopy}
-use Rattle.mqtt_records.specs.declared.message.Retained.{Retained}
+use Rattle.mqtt_message.specs.declared.message.MessageCopy.{MessageCopy}
+use Rattle.mqtt_message.specs.declared.message.RetainedMessage.{RetainedMessage}
 use Rattle.mqtt_records.specs.declared.session.Session.{Session}
 use Rattle.mqtt_records.specs.declared.records.Records.{Records}
-use Rattle.mqtt_records.specs.Order.{row_at}
-use Rattle.mqtt_records.specs.Session.{entry_place}
+use Rattle.mqtt_rows.specs.Order.{row_at}
+use Rattle.mqtt_records.specs.Session.{copy_place}
 use Rattle.mqtt_records.specs.Records.{changed_all}
 use Rattle.mqtt_rules.specs.Packets.{publish_of}
 use Rattle.mqtt_rules.specs.State.{Line, Broker, Env, session_at, line_of, queue_on}
@@ -62,29 +62,29 @@ each_flat P f h (y ∷ ys) = each_append P (f y) (flat_map f ys) (h y) (each_fla
 -- ---- a copy's number
 
 -- a retained message has it
-abbrev pub HasNumber : ℕ → List Retained → Type 0
+abbrev pub HasNumber : ℕ → List RetainedMessage → Type 0
 HasNumber n [] = ⊥
 HasNumber n (k ∷ ks) = (k.publication ≡ n) ⊎ HasNumber n ks
 
 abbrev pub IsMade : MessageCopy → Records → Type 0
-IsMade copy r = (copy.publication ≤ r.publications) ⊎ HasNumber copy.publication r.retained
+IsMade copy r = (copy.id.publication ≤ r.publications) ⊎ HasNumber copy.id.publication r.retained
 
 abbrev pub AreMade : List CopyTo → Records → Type 0
 AreMade ds r = AllByRecursion (λ d. IsMade d.copy r) ds
 
 abbrev pub AreNumbered : ℕ → List CopyTo → Type 0
-AreNumbered n ds = AllByRecursion (λ d. d.copy.publication ≡ n) ds
+AreNumbered n ds = AllByRecursion (λ d. d.copy.id.publication ≡ n) ds
 
 -- of a publication
 numbered_copies : (number now : ℕ) (m : Message) (cause : Cause) (cs : List Copy) → AreNumbered number (map (copy_to number now m cause) cs)
 numbered_copies number now m cause cs =
-    each_map (λ d. d.copy.publication ≡ number) (copy_to number now m cause) cs (each_all (λ c. (copy_to number now m cause c).copy.publication ≡ number) (λ c. refl) cs)
+    each_map (λ d. d.copy.id.publication ≡ number) (copy_to number now m cause) cs (each_all (λ c. (copy_to number now m cause c).copy.id.publication ≡ number) (λ c. refl) cs)
 
 numbered_deliveries : (number now : ℕ) (m : Message) (r : Routed) → AreNumbered number (copies_to number now m r)
 numbered_deliveries number now m r =
-    each_append (λ d. d.copy.publication ≡ number) (map (copy_to number now m Direct) r.direct) (flat_map (served_copies_to number now m) r.served)
+    each_append (λ d. d.copy.id.publication ≡ number) (map (copy_to number now m Direct) r.direct) (flat_map (served_copies_to number now m) r.served)
     (numbered_copies number now m Direct r.direct)
-    (each_flat (λ d. d.copy.publication ≡ number) (served_copies_to number now m) (λ s. numbered_copies number now m (Share s.group) (copies_in s.copy)) r.served)
+    (each_flat (λ d. d.copy.id.publication ≡ number) (served_copies_to number now m) (λ s. numbered_copies number now m (Share s.group) (copies_in s.copy)) r.served)
 
 numbered_if : (t : Bool) (number now : ℕ) (m : Message) (o : Option Routed) (ds : List CopyTo) → accepted_if t (option_map (copies_to number now m) o) ≡ Some ds → AreNumbered number ds
 numbered_if false number now m o ds e = absurd cc
@@ -98,10 +98,10 @@ routed_numbered env m b ds e = numbered_if (finds_place env m b.records) (next_p
 
 pub made_numbered : (number : ℕ) (ds : List CopyTo) (b : Broker) → b.records.publications ≡ number → AreNumbered number ds → AreMade ds b.records
 made_numbered number ds b same h =
-    each_more (λ d. d.copy.publication ≡ number) (λ d. IsMade d.copy b.records) (λ d e. inl (omega (arith, e, same))) ds h
+    each_more (λ d. d.copy.id.publication ≡ number) (λ d. IsMade d.copy b.records) (λ d e. inl (omega (arith, e, same))) ds h
 
 -- of retained messages
-own_numbers : (ks : List Retained) → AllByRecursion (λ k. HasNumber k.publication ks) ks
+own_numbers : (ks : List RetainedMessage) → AllByRecursion (λ k. HasNumber k.publication ks) ks
 own_numbers [] = tt
 own_numbers (k ∷ ks) = (inl refl, each_more (λ x. HasNumber x.publication ks) (λ x. HasNumber x.publication (k ∷ ks)) (λ x h. inr h) ks (own_numbers ks))
 
@@ -109,9 +109,9 @@ brought_by : (t : Bool) (now number : ℕ) (s : Session) (w : Wish) (r : Records
 brought_by false now number s w r = tt
 brought_by true now number s w r =
     let ks = r.retained in
-    let mine : Retained → Type 0 = λ k. HasNumber k.publication ks in
-    let tabled = each_map (λ (y : Kept Retained). mine (message_in y)) kept_of ks (own_numbers ks) in
-    let matched = each_filter (λ (y : Kept Retained). mine (message_in y)) _ (map kept_of ks) tabled in
+    let mine : RetainedMessage → Type 0 = λ k. HasNumber k.publication ks in
+    let tabled = each_map (λ (y : Kept RetainedMessage). mine (message_in y)) kept_of ks (own_numbers ks) in
+    let matched = each_filter (λ (y : Kept RetainedMessage). mine (message_in y)) _ (map kept_of ks) tabled in
     let messages = each_map mine message_in (kept_for w.filter (map kept_of ks)) matched in
     let fit = each_filter mine (is_brought now s w) (map message_in (kept_for w.filter (map kept_of ks))) messages in
     each_map (λ d. IsMade d.copy r) (retained_copy_to s.birth number w) (filter (is_brought now s w) (map message_in (kept_for w.filter (map kept_of ks))))
@@ -132,7 +132,7 @@ IsBeside d b = ⊥
 -- publications and retained messages
 pub record Kinds : Type 0 where
   pub publications : ℕ
-  pub retained : List Retained
+  pub retained : List RetainedMessage
 
 abbrev pub kinds : Records → Kinds
 kinds r = record { publications = r.publications; retained = r.retained }
@@ -154,7 +154,7 @@ kinds_deed (Send line packet) b beside = refl
 kinds_deed d b beside = absurd beside
 
 abbrev MadeOf : MessageCopy → Kinds → Type 0
-MadeOf copy k = (copy.publication ≤ k.publications) ⊎ HasNumber copy.publication k.retained
+MadeOf copy k = (copy.id.publication ≤ k.publications) ⊎ HasNumber copy.id.publication k.retained
 
 pub made_stays : (copy : MessageCopy) (ds : List Deed) (b : Broker) → AreGood IsBeside ds b → IsMade copy b.records → IsMade copy (after_all ds b).records
 made_stays copy [] b beside made = made
@@ -166,7 +166,7 @@ are_made_stay all ds b beside made =
     each_more (λ d. IsMade d.copy b.records) (λ d. IsMade d.copy (after_all ds b).records) (λ d h. made_stays d.copy ds b beside h) all made
 
 beside_leave : (s : Session) (t : Turn) (b : Broker) → AreGood IsBeside (leave_deeds s t) b
-beside_leave s (turns.Leave place ending) b = good_of_entry IsBeside (row_at entry_place place s.queue) (λ e. At (whose s) (Leave e ending) ∷ []) b (λ e. (tt, tt))
+beside_leave s (turns.Leave place ending) b = good_of_entry IsBeside (row_at copy_place place s.queue) (λ e. At (whose s) (Leave e ending) ∷ []) b (λ e. (tt, tt))
 beside_leave s t b = tt
 
 pub beside_leaves : (s : Session) (ts : List Turn) (b : Broker) → AreGood IsBeside (flat_map (leave_deeds s) ts) b

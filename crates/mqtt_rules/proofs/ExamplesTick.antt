@@ -6,9 +6,9 @@ use Rattle.mqtt_base.specs.declared.session.Qos.TheVariants.{ExactlyOnce}
 use Rattle.mqtt_base.specs.declared.session.Phase.TheVariants.{Waiting}
 use Rattle.mqtt_props.specs.declared.table.PropName.TheVariants.{MessageExpiryInterval}
 use Rattle.mqtt_props.specs.Properties.{U32}
-use Rattle.mqtt_records.specs.declared.message.Content.{Content}
-use Rattle.mqtt_records.specs.declared.message.Will.{Will}
-use Rattle.mqtt_records.specs.declared.queue.Entry.{Entry}
+use Rattle.mqtt_message.specs.declared.message.Content.{Content}
+use Rattle.mqtt_message.specs.declared.message.Will.{Will}
+use Rattle.mqtt_message.specs.declared.queue.CopyRow.{CopyRow}
 use Rattle.mqtt_records.specs.Records.{nothing}
 use Rattle.mqtt_rules.specs.Packets.{property}
 use Rattle.mqtt_rules.specs.State.{Broker}
@@ -20,7 +20,7 @@ use Rattle.mqtt_rules.proofs.Play.{at, step, tells, topic, hi, away, copy_kept}
 abbrev brief : Content
 brief = record { topic = topic; properties = property MessageExpiryInterval (U32 5) ∷ []; payload = hi; arrived = 0 }
 
-abbrev waits : Entry
+abbrev waits : CopyRow
 waits = record { place = 1; phase = Waiting; copy = record (copy_kept 1) { content = brief } }
 
 abbrev last_words : Will

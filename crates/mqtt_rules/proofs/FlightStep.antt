@@ -12,13 +12,13 @@ use Rattle.mqtt_flow.specs.declared.entry.Turn.TheVariants as turns
 use Rattle.mqtt_flow.specs.Queue.{identifier_of, is_holder, holder, next_order}
 use Rattle.mqtt_flow.specs.Outbound.{Answer, acknowledged, puback_by, puback_at, released_by, received, pubrec_by, pubrec_at, pubcomp_by, pubcomp_at, is_refusal}
 use Rattle.mqtt_flow.specs.Outbound as rules
-use Rattle.mqtt_records.specs.declared.queue.Entry.{Entry}
+use Rattle.mqtt_message.specs.declared.queue.CopyRow.{CopyRow}
 use Rattle.mqtt_records.specs.declared.session.Session.{Session}
 use Rattle.mqtt_records.specs.declared.records.Records.{Records}
 use Rattle.mqtt_records.specs.declared.change.Change.{Change}
-use Rattle.mqtt_records.specs.Order.{IsAscending, row_at}
-use Rattle.mqtt_records.specs.Session.{entry_place}
-use Rattle.mqtt_records.proofs.LookUps.{row_at-here}
+use Rattle.mqtt_rows.specs.Order.{IsAscending, row_at}
+use Rattle.mqtt_records.specs.Session.{copy_place}
+use Rattle.mqtt_rows.proofs.LookUps.{row_at-here}
 use Rattle.mqtt_rules.specs.declared.Limits.{Limits}
 use Rattle.mqtt_rules.specs.State.{Line, Broker, Env, session_at, entry_on, queue_on, MemberChoice}
 use Rattle.mqtt_rules.specs.Routing.{publish}
@@ -91,7 +91,7 @@ keeping env = record {
 abbrev Kept : Session → Turn → Type 0
 Kept s (turns.Send place i) = ⊥
 Kept s (turns.Resend place i) = ⊥
-Kept s (turns.Release place i order) = (e : Entry) × (row_at entry_place place s.queue ≡ Some e) × (identifier_of e.phase ≡ Some i)
+Kept s (turns.Release place i order) = (e : CopyRow) × (row_at copy_place place s.queue ≡ Some e) × (identifier_of e.phase ≡ Some i)
 Kept s (turns.Outgrow place i order) = ⊥
 Kept s (turns.Repeat i) = Unit {0}
 Kept s (turns.Unknown i) = Unit {0}
@@ -105,7 +105,7 @@ abbrev KeptAnswer : Session → Answer → Type 0
 KeptAnswer s (Ok t) = KeptTurn s t
 KeptAnswer s (Err fault) = Unit {0}
 
-leave_keeps : (s : Session) (o : Option Entry) (e : Entry → Deed) (b : Broker) → ((x : Entry) → Keeps (e x) b) → HasDistinctIdentifiers b.records → HasDistinctIdentifiers (after_all (of_entry o (λ x. e x ∷ [])) b).records
+leave_keeps : (s : Session) (o : Option CopyRow) (e : CopyRow → Deed) (b : Broker) → ((x : CopyRow) → Keeps (e x) b) → HasDistinctIdentifiers b.records → HasDistinctIdentifiers (after_all (of_entry o (λ x. e x ∷ [])) b).records
 leave_keeps s None e b keeps h = h
 leave_keeps s (Some x) e b keeps h = keeps x h
 
@@ -120,7 +120,7 @@ turn_keeps now line s (turns.Outgrow place i order) b kept there h = absurd kept
 turn_keeps now line s (turns.Repeat i) b kept there h = h
 turn_keeps now line s (turns.Unknown i) b kept there h = h
 turn_keeps now line s (turns.Leave place ending) b kept there h =
-    leave_keeps s (row_at entry_place place s.queue) (λ e. At (whose s) (Leave e ending)) b (λ e. part_distinct (whose s) (Leave e ending) b tt) h
+    leave_keeps s (row_at copy_place place s.queue) (λ e. At (whose s) (Leave e ending)) b (λ e. part_distinct (whose s) (Leave e ending) b tt) h
 
 -- PUBACK and PUBCOMP end a copy
 acknowledged_kept : (s : Session) (qos : Qos) (code place : ℕ) → KeptAnswer s (acknowledged qos code place)
@@ -149,21 +149,21 @@ pubcomp_kept s None = tt
 pubcomp_kept s (Some e) = pubcomp_by_kept s e.phase e.place
 
 -- PUBREC releases the copy that has the identifier
-record Source (queue : List Entry) (x : FlowEntry) : Type 0 where
-  pub entry : Entry
-  pub there : row_at entry_place x.place queue ≡ Some entry
+record Source (queue : List CopyRow) (x : FlowEntry) : Type 0 where
+  pub entry : CopyRow
+  pub there : row_at copy_place x.place queue ≡ Some entry
   pub phase : entry.phase ≡ x.phase
 
-find_by : (went : List ℕ) (birth : ℕ) (test : FlowEntry → Bool) (queue : List Entry) (x : FlowEntry) → IsAscending entry_place queue → find test (map (entry_on went birth) queue) ≡ Some x → Source queue x
+find_by : (went : List ℕ) (birth : ℕ) (test : FlowEntry → Bool) (queue : List CopyRow) (x : FlowEntry) → IsAscending copy_place queue → find test (map (entry_on went) queue) ≡ Some x → Source queue x
 find_by went birth test [] x up h = absurd cc
-find_by went birth test (e ∷ es) x up h = elim (cases_Bool (test (entry_on went birth e))) [
+find_by went birth test (e ∷ es) x up h = elim (cases_Bool (test (entry_on went e))) [
   | inl here ↦
-      let it : Some (entry_on went birth e) ≡ Some x = rw here at h in
-      let is : entry_on went birth e ≡ x = cc in
-      subst (Source (e ∷ es)) is (record { entry = e; there = row_at-here entry_place e es; phase = refl })
+      let it : Some (entry_on went e) ≡ Some x = rw here at h in
+      let is : entry_on went e ≡ x = cc in
+      subst (Source (e ∷ es)) is (record { entry = e; there = row_at-here copy_place e es; phase = refl })
   | inr further ↦
       let source = find_by went birth test es x up.1 (rw further at h) in
-      record { entry = source.entry; there = found_behind entry_place x.place source.entry e es up.0 source.there; phase = source.phase }
+      record { entry = source.entry; there = found_behind copy_place x.place source.entry e es up.0 source.there; phase = source.phase }
 ]
 
 released_by_kept : (s : Session) (b : Bool) (x : FlowEntry) (i order : ℕ) → Source s.queue x → x.phase ≡ Sent i → KeptAnswer s (released_by b x.place i order)

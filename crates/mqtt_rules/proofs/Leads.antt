@@ -2,9 +2,9 @@
 use Rattle.std.proofs.Common.{◌≡◌, ℕ, Bool, true, false, cond, List, [], ◌∷◌, ◌++◌, ◌⊎◌, map, Option, Some, None, nat_eq, refl, sym, subst, inl, inr}
 use Rattle.std.specs.Prelude.{⊤, flat_map, find}
 use Rattle.std.proofs.lemmas.Bool.{cases_Bool}
-use Rattle.mqtt_records.specs.declared.queue.Entry.{Entry}
+use Rattle.mqtt_message.specs.declared.queue.CopyRow.{CopyRow}
 use Rattle.mqtt_records.specs.declared.session.Session.{Session}
-use Rattle.mqtt_records.specs.Order.{row_at}
+use Rattle.mqtt_rows.specs.Order.{row_at}
 use Rattle.mqtt_rules.specs.State.{Line, Broker, session_at, session_named}
 use Rattle.mqtt_rules.specs.Deeds.{Deed, after, after_all, Act, series, only_if, with_session, of_session, with_line}
 use Rattle.mqtt_rules.specs.Outbound.{of_entry}
@@ -99,7 +99,7 @@ module _ (Keep : Broker → Type 0) (Good : Deed → Broker → Type 0) where
   leads_with_line None f b k h = (tt, k)
   leads_with_line (Some l) f b k h = h l refl
 
-  pub leads_of_entry : (o : Option Entry) (f : Entry → List Deed) (b : Broker) → Keep b → ((e : Entry) → o ≡ Some e → Leads (f e) b) → Leads (of_entry o f) b
+  pub leads_of_entry : (o : Option CopyRow) (f : CopyRow → List Deed) (b : Broker) → Keep b → ((e : CopyRow) → o ≡ Some e → Leads (f e) b) → Leads (of_entry o f) b
   leads_of_entry None f b k h = (tt, k)
   leads_of_entry (Some e) f b k h = h e refl
 

@@ -3,9 +3,9 @@ use Rattle.std.proofs.Common.{◌≡◌, refl, ℕ, ◌≤◌, Bool, true, false
 use Rattle.std.specs.Prelude.{⊤}
 use Rattle.std.specs.List.{AllByRecursion}
 use Rattle.std.proofs.lemmas.Bool.{cases_Bool}
-use Rattle.mqtt_records.specs.declared.message.MessageCopy.{MessageCopy}
-use Rattle.mqtt_records.specs.declared.message.Retained.{Retained}
-use Rattle.mqtt_records.specs.declared.queue.Entry.{Entry}
+use Rattle.mqtt_message.specs.declared.message.MessageCopy.{MessageCopy}
+use Rattle.mqtt_message.specs.declared.message.RetainedMessage.{RetainedMessage}
+use Rattle.mqtt_message.specs.declared.queue.CopyRow.{CopyRow}
 use Rattle.mqtt_base.specs.declared.limits.TheConstants.{QUEUE_LIMIT, SESSION_LIMIT, RETAINED_LIMIT}
 use Rattle.mqtt_records.specs.declared.session.Columns.{Columns}
 use Rattle.mqtt_records.specs.declared.session.Session.{Session}
@@ -14,8 +14,8 @@ use Rattle.mqtt_records.specs.declared.change.Counter.{Counter}
 use Rattle.mqtt_records.specs.declared.change.Counter.TheVariants.{Births, Publications, Subscribes, Autos, Moment}
 use Rattle.mqtt_records.specs.declared.change.Change.{Change}
 use Rattle.mqtt_records.specs.declared.change.Change.TheVariants.{SetCounter, PutSession, RemoveSession, PutWill, RemoveWill, PutSubscription, RemoveSubscription, PutInbound, RemoveInbound, PutCopy, SetCopy, RemoveCopy, PutRetained, RemoveRetained}
-use Rattle.mqtt_records.specs.Order.{has_row, insert_row, put_row, change_row}
-use Rattle.mqtt_records.specs.Session.{birth_of, entry_place, fresh, with_columns, with_will, with_subscription, without_subscription, with_open, without_open, with_copy, with_phase, without_copy, in_phase}
+use Rattle.mqtt_rows.specs.Order.{has_row, insert_row, put_row, change_row}
+use Rattle.mqtt_records.specs.Session.{birth_of, copy_place, fresh, with_columns, with_will, with_subscription, without_subscription, with_open, without_open, with_copy, with_phase, without_copy, in_phase}
 use Rattle.mqtt_records.specs.Records.{changed, changed_all, put_session, with_counter, kept_place}
 use Rattle.mqtt_rules.specs.declared.Limits.{Limits}
 use Rattle.mqtt_rules.specs.State.{Broker, Env, session_at, MemberChoice}
@@ -57,14 +57,14 @@ module _ {X : Type 0} (key : X → ℕ) (P : X → Type 0) where
 
 -- ---- queues
 
-abbrev UpTo : ℕ → Entry → Type 0
-UpTo n e = e.copy.publication ≤ n
+abbrev UpTo : ℕ → CopyRow → Type 0
+UpTo n e = e.copy.id.publication ≤ n
 
 abbrev QueuesUpTo : ℕ → List Session → Type 0
 QueuesUpTo n ss = AllByRecursion (HasCopiesUpTo n) ss
 
 abbrev RowUpTo : ℕ → Change → Type 0
-RowUpTo n (PutCopy birth e) = e.copy.publication ≤ n
+RowUpTo n (PutCopy birth e) = e.copy.id.publication ≤ n
 RowUpTo n change = ⊤
 
 abbrev RowsUpTo : ℕ → List Change → Type 0
@@ -102,11 +102,11 @@ queues_changed n (PutSubscription birth sub) r fit h = queues_in n birth (with_s
 queues_changed n (RemoveSubscription birth text) r fit h = queues_in n birth (without_subscription text) r.sessions (λ s q. q) h
 queues_changed n (PutInbound birth id) r fit h = queues_in n birth (with_open id) r.sessions (λ s q. q) h
 queues_changed n (RemoveInbound birth id) r fit h = queues_in n birth (without_open id) r.sessions (λ s q. q) h
-queues_changed n (PutCopy birth e) r fit h = queues_in n birth (with_copy e) r.sessions (λ s q. each_put entry_place (UpTo n) QUEUE_LIMIT e s.queue fit q) h
+queues_changed n (PutCopy birth e) r fit h = queues_in n birth (with_copy e) r.sessions (λ s q. each_put copy_place (UpTo n) QUEUE_LIMIT e s.queue fit q) h
 queues_changed n (SetCopy birth place phase) r fit h =
-    queues_in n birth (with_phase place phase) r.sessions (λ s q. each_change entry_place (UpTo n) place (in_phase phase) s.queue (λ e u. u) q) h
+    queues_in n birth (with_phase place phase) r.sessions (λ s q. each_change copy_place (UpTo n) place (in_phase phase) s.queue (λ e u. u) q) h
 queues_changed n (RemoveCopy birth place) r fit h =
-    queues_in n birth (without_copy place) r.sessions (λ s q. each_filter (UpTo n) (λ e. not (nat_eq (entry_place e) place)) s.queue q) h
+    queues_in n birth (without_copy place) r.sessions (λ s q. each_filter (UpTo n) (λ e. not (nat_eq (copy_place e) place)) s.queue q) h
 queues_changed n (PutRetained kept) r fit h = h
 queues_changed n (RemoveRetained place) r fit h = h
 
@@ -156,17 +156,17 @@ accepted_mark : MarkLaw (λ b. ⊤) OfAccepted
 accepted_mark who place phase b k = tt
 
 -- a copy that was made has a number up to the last
-number_within : (n m : ℕ) (ks : List Retained) → HasNumber n ks → AllByRecursion (λ k. k.publication ≤ m) ks → n ≤ m
+number_within : (n m : ℕ) (ks : List RetainedMessage) → HasNumber n ks → AllByRecursion (λ k. k.publication ≤ m) ks → n ≤ m
 number_within n m [] h all = absurd h
 number_within n m (k ∷ ks) h all = elim h [
   | inl e ↦ let first = all.0 in omega (arith, e, first)
   | inr more ↦ number_within n m ks more all.1
 ]
 
-made_within : (copy : MessageCopy) (r : Records) → IsMade copy r → HasAcceptedNumbers r → copy.publication ≤ r.publications
+made_within : (copy : MessageCopy) (r : Records) → IsMade copy r → HasAcceptedNumbers r → copy.id.publication ≤ r.publications
 made_within copy r made h = elim made [
   | inl le ↦ le
-  | inr has ↦ number_within copy.publication r.publications r.retained has h.1
+  | inr has ↦ number_within copy.id.publication r.publications r.retained has h.1
 ]
 
 part_up_to : (who : Whose) (part : Part) (s : Session) (b : Broker) → OfAccepted (At who part) b → HasAcceptedNumbers b.records → RowsUpTo b.records.publications (part_rows part s)

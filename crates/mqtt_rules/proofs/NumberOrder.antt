@@ -9,10 +9,10 @@ use Rattle.mqtt_records.specs.declared.change.Counter.{Counter}
 use Rattle.mqtt_records.specs.declared.change.Counter.TheVariants.{Births, Publications, Subscribes, Autos, Moment}
 use Rattle.mqtt_records.specs.declared.change.Change.{Change}
 use Rattle.mqtt_records.specs.declared.change.Change.TheVariants.{SetCounter, PutSession, RemoveSession, PutWill, RemoveWill, PutSubscription, RemoveSubscription, PutInbound, RemoveInbound, PutCopy, SetCopy, RemoveCopy, PutRetained, RemoveRetained}
-use Rattle.mqtt_records.specs.Order.{IsAscending, has_row, put_row, change_row}
-use Rattle.mqtt_records.specs.Session.{birth_of, place_of, number_of, entry_place, fresh, with_columns, with_will, with_subscription, without_subscription, without_filter, with_open, without_open, with_copy, with_phase, without_copy, in_phase}
+use Rattle.mqtt_rows.specs.Order.{IsAscending, has_row, put_row, change_row}
+use Rattle.mqtt_records.specs.Session.{birth_of, place_of, number_of, copy_place, fresh, with_columns, with_will, with_subscription, without_subscription, without_filter, with_open, without_open, with_copy, with_phase, without_copy, in_phase}
 use Rattle.mqtt_records.specs.Records.{nothing, changed, changed_all, put_session, in_session, with_counter, kept_place}
-use Rattle.mqtt_records.proofs.OrderLemmas.{put-ascending, filter-ascending, remove-ascending, change-ascending}
+use Rattle.mqtt_rows.proofs.OrderLemmas.{put-ascending, filter-ascending, remove-ascending, change-ascending}
 use Rattle.mqtt_rules.specs.declared.Limits.{Limits}
 use Rattle.mqtt_rules.specs.State.{Broker, MemberChoice}
 use Rattle.mqtt_rules.specs.Deeds.{Deed, rows_of, rows_of_all, after, after_all}
@@ -61,10 +61,10 @@ order_changed (RemoveSubscription birth text) r h =
     order_in birth (without_subscription text) r (λ s. refl) (λ s o. (filter-ascending place_of (λ x. not (bytes_eq x.filter text)) s.subscriptions o.0, o.1, o.2)) h
 order_changed (PutInbound birth id) r h = order_in birth (with_open id) r (λ s. refl) (λ s o. (o.0, put-ascending number_of OPEN_LIMIT id s.inbound o.1, o.2)) h
 order_changed (RemoveInbound birth id) r h = order_in birth (without_open id) r (λ s. refl) (λ s o. (o.0, remove-ascending number_of id s.inbound o.1, o.2)) h
-order_changed (PutCopy birth e) r h = order_in birth (with_copy e) r (λ s. refl) (λ s o. (o.0, o.1, put-ascending entry_place QUEUE_LIMIT e s.queue o.2)) h
+order_changed (PutCopy birth e) r h = order_in birth (with_copy e) r (λ s. refl) (λ s o. (o.0, o.1, put-ascending copy_place QUEUE_LIMIT e s.queue o.2)) h
 order_changed (SetCopy birth place phase) r h =
-    order_in birth (with_phase place phase) r (λ s. refl) (λ s o. (o.0, o.1, change-ascending entry_place place (in_phase phase) s.queue (λ e. refl) o.2)) h
-order_changed (RemoveCopy birth place) r h = order_in birth (without_copy place) r (λ s. refl) (λ s o. (o.0, o.1, remove-ascending entry_place place s.queue o.2)) h
+    order_in birth (with_phase place phase) r (λ s. refl) (λ s o. (o.0, o.1, change-ascending copy_place place (in_phase phase) s.queue (λ e. refl) o.2)) h
+order_changed (RemoveCopy birth place) r h = order_in birth (without_copy place) r (λ s. refl) (λ s o. (o.0, o.1, remove-ascending copy_place place s.queue o.2)) h
 order_changed (PutRetained kept) r h = (h.0, h.1, put-ascending kept_place RETAINED_LIMIT kept r.retained h.2)
 order_changed (RemoveRetained place) r h = (h.0, h.1, remove-ascending kept_place place r.retained h.2)
 

@@ -9,14 +9,14 @@ use Rattle.mqtt_topic.specs.Names.{is_empty}
 use Rattle.mqtt_flow.specs.declared.entry.Turn.{Turn}
 use Rattle.mqtt_flow.specs.declared.entry.Turn.TheVariants as turns
 use Rattle.mqtt_base.specs.Codes.{success}
-use Rattle.mqtt_records.specs.declared.message.Will.{Will}
-use Rattle.mqtt_records.specs.declared.queue.Entry.{Entry}
+use Rattle.mqtt_message.specs.declared.message.Will.{Will}
+use Rattle.mqtt_message.specs.declared.queue.CopyRow.{CopyRow}
 use Rattle.mqtt_records.specs.declared.session.Session.{Session}
 use Rattle.mqtt_records.specs.declared.session.Columns.{Columns}
 use Rattle.mqtt_records.specs.declared.records.Records.{Records}
 use Rattle.mqtt_records.specs.declared.change.Change.{Change}
-use Rattle.mqtt_records.specs.Order.{row_at}
-use Rattle.mqtt_records.specs.Session.{birth_of, entry_place}
+use Rattle.mqtt_rows.specs.Order.{row_at}
+use Rattle.mqtt_records.specs.Session.{birth_of, copy_place}
 use Rattle.mqtt_rules.specs.Packets.{connack}
 use Rattle.mqtt_rules.specs.State.{Line, Broker, Env, stored, session_at, session_named}
 use Rattle.mqtt_rules.specs.Deeds.{whose, Message, Origin, FromClient, Part, Resume, Close, Open, Enter, Leave, Hear, SetAlias, Deed, Accept, Begin, Name, Count, At, Finish, Keep, Forget, RefuseWill, Link, On, Send, Act, after, after_all, rows_of_all, stored_after, then, always, series, only_if, with_session, of_session, with_line, offer}
@@ -70,12 +70,12 @@ pub plain_offer : (l : Option Line) (p : Packet) → ArePlain (offer l p)
 plain_offer None p = tt
 plain_offer (Some l) p = plain_cond _ (Send l.number p ∷ []) [] (tt, tt) tt
 
-plain_of_entry : (o : Option Entry) (f : Entry → List Deed) → ((e : Entry) → ArePlain (f e)) → ArePlain (of_entry o f)
+plain_of_entry : (o : Option CopyRow) (f : CopyRow → List Deed) → ((e : CopyRow) → ArePlain (f e)) → ArePlain (of_entry o f)
 plain_of_entry None f h = tt
 plain_of_entry (Some e) f h = h e
 
 pub plain_leave : (s : Session) (t : Turn) → ArePlain (leave_deeds s t)
-plain_leave s (turns.Leave place ending) = plain_of_entry (row_at entry_place place s.queue) (λ e. At (whose s) (Leave e ending) ∷ []) (λ e. (tt, tt))
+plain_leave s (turns.Leave place ending) = plain_of_entry (row_at copy_place place s.queue) (λ e. At (whose s) (Leave e ending) ∷ []) (λ e. (tt, tt))
 plain_leave s (turns.Send place id) = tt
 plain_leave s (turns.Resend place id) = tt
 plain_leave s (turns.Release place id order) = tt
@@ -84,8 +84,8 @@ plain_leave s (turns.Repeat id) = tt
 plain_leave s (turns.Unknown id) = tt
 
 plain_turn : (now line : ℕ) (s : Session) (t : Turn) → ArePlain (turn_deeds now line s t)
-plain_turn now line s (turns.Send place id) = plain_of_entry (row_at entry_place place s.queue) _ (λ e. (tt, (tt, (tt, tt))))
-plain_turn now line s (turns.Resend place id) = plain_of_entry (row_at entry_place place s.queue) _ (λ e. (tt, (tt, tt)))
+plain_turn now line s (turns.Send place id) = plain_of_entry (row_at copy_place place s.queue) _ (λ e. (tt, (tt, (tt, tt))))
+plain_turn now line s (turns.Resend place id) = plain_of_entry (row_at copy_place place s.queue) _ (λ e. (tt, (tt, tt)))
 plain_turn now line s (turns.Release place id order) = (tt, (tt, tt))
 plain_turn now line s (turns.Outgrow place id order) = (tt, (tt, tt))
 plain_turn now line s (turns.Repeat id) = (tt, tt)

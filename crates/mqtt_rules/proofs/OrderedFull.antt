@@ -7,14 +7,14 @@ use Rattle.std.proofs.lemmas.Cmp.{nat_eq_equiv}
 use Rattle.std.proofs.lemmas.Bool.Decides.{nat_tests}
 use Rattle.mqtt_topic.specs.Names.{is_empty}
 use Rattle.mqtt_codec.specs.declared.packet.Packet.{Packet}
-use Rattle.mqtt_records.specs.declared.message.Retained.{Retained}
+use Rattle.mqtt_message.specs.declared.message.RetainedMessage.{RetainedMessage}
 use Rattle.mqtt_base.specs.declared.limits.TheConstants.{QUEUE_LIMIT}
 use Rattle.mqtt_records.specs.declared.session.Session.{Session}
 use Rattle.mqtt_records.specs.declared.subscription.Subscription.{Subscription}
 use Rattle.mqtt_records.specs.declared.records.Records.{Records}
 use Rattle.mqtt_records.specs.declared.change.Counter.TheVariants.{Moment}
 use Rattle.mqtt_records.specs.declared.change.Change.TheVariants.{SetCounter}
-use Rattle.mqtt_records.specs.Order.{row_at, change_row}
+use Rattle.mqtt_rows.specs.Order.{row_at, change_row}
 use Rattle.mqtt_records.specs.Session.{birth_of, with_subscription}
 use Rattle.mqtt_records.specs.Records.{changed_all}
 use Rattle.mqtt_rules.specs.declared.Limits.{Limits}
@@ -121,7 +121,7 @@ accepted_fit env m b ds is short birth s found =
     let le : length (filter (is_to birth) ds) ≤ room env s = subst (λ (o : Option Session). length (filter (is_to birth) ds) ≤ room_at env o) found few in
     within_room env s (length (filter (is_to birth) ds)) le (all_found birth_of (IsShort env.limits.queue) birth b.records.sessions s short.short found)
 
-forgets_good : (env : Env) (ds : List CopyTo) (o : Option Retained) (b : Broker) → Good env ds b → Good env ds (after_all (forgets o) b)
+forgets_good : (env : Env) (ds : List CopyTo) (o : Option RetainedMessage) (b : Broker) → Good env ds b → Good env ds (after_all (forgets o) b)
 forgets_good env ds None b good = good
 forgets_good env ds (Some k) b good = (still_short env (Forget k.place) b.records tt good.0, good.1)
 
@@ -146,11 +146,11 @@ publishes_short env origin m ds b small is short =
 abbrev IsFor : ℕ → CopyTo → Type 0
 IsFor birth d = d.birth ≡ birth
 
-brought_for : (t : Bool) (now number : ℕ) (s : Session) (w : sub.Wish) (ks : List Retained) → AllByRecursion (IsFor s.birth) (sub.brought_if t now number s w ks)
+brought_for : (t : Bool) (now number : ℕ) (s : Session) (w : sub.Wish) (ks : List RetainedMessage) → AllByRecursion (IsFor s.birth) (sub.brought_if t now number s w ks)
 brought_for false now number s w ks = tt
 brought_for true now number s w ks = each_for s.birth number w _
   where
-    each_for : (birth number : ℕ) (w : sub.Wish) (ks : List Retained) → AllByRecursion (IsFor birth) (map (sub.retained_copy_to birth number w) ks)
+    each_for : (birth number : ℕ) (w : sub.Wish) (ks : List RetainedMessage) → AllByRecursion (IsFor birth) (map (sub.retained_copy_to birth number w) ks)
     each_for birth number w [] = tt
     each_for birth number w (k ∷ ks) = (refl, each_for birth number w ks)
 

@@ -5,9 +5,9 @@ use Rattle.std.proofs.lemmas.Bool.{cases_Bool, ltb-true}
 use Rattle.std.proofs.lemmas.Cmp.{nat_eq_equiv}
 use Rattle.mqtt_topic.specs.Names.{is_empty}
 use Rattle.mqtt_flow.specs.Outbound.{way_made}
-use Rattle.mqtt_records.specs.declared.message.MessageCopy.{MessageCopy}
-use Rattle.mqtt_records.specs.declared.message.Retained.{Retained}
-use Rattle.mqtt_records.specs.declared.message.Will.{Will}
+use Rattle.mqtt_message.specs.declared.message.MessageCopy.{MessageCopy}
+use Rattle.mqtt_message.specs.declared.message.RetainedMessage.{RetainedMessage}
+use Rattle.mqtt_message.specs.declared.message.Will.{Will}
 use Rattle.mqtt_records.specs.declared.session.Session.{Session}
 use Rattle.mqtt_records.specs.declared.session.Columns.{Columns}
 use Rattle.mqtt_records.specs.declared.records.Records.{Records}
@@ -16,10 +16,10 @@ use Rattle.mqtt_records.specs.declared.change.Counter.{Counter}
 use Rattle.mqtt_records.specs.declared.change.Counter.TheVariants.{Births, Publications, Subscribes, Autos, Moment}
 use Rattle.mqtt_records.specs.declared.change.Change.{Change}
 use Rattle.mqtt_records.specs.declared.change.Change.TheVariants.{SetCounter, PutSession, RemoveSession, PutWill, RemoveWill, PutSubscription, RemoveSubscription, PutInbound, RemoveInbound, PutCopy, SetCopy, RemoveCopy, PutRetained, RemoveRetained}
-use Rattle.mqtt_records.specs.Order.{row_at, has_row, insert_row, put_row, change_row}
+use Rattle.mqtt_rows.specs.Order.{row_at, has_row, insert_row, put_row, change_row}
 use Rattle.mqtt_records.specs.Session.{birth_of, fresh, with_columns, with_will, with_subscription, without_subscription, with_open, without_open, with_copy, with_phase, without_copy}
 use Rattle.mqtt_records.specs.Records.{kept_place, with_counter, put_session, changed, changed_all}
-use Rattle.mqtt_records.proofs.OrderLemmas.{put-ascending}
+use Rattle.mqtt_rows.proofs.OrderLemmas.{put-ascending}
 use Rattle.mqtt_rules.specs.State.{Broker, Env, stored, session_at, line_of}
 use Rattle.mqtt_rules.specs.Deeds.{Whose, whose, Message, Origin, Part, Resume, Close, SetExpiry, DropWill, Open, Release, Enter, Mark, Leave, Deed, Accept, Begin, Name, Count, At, Finish, Keep, Forget, RefuseWill, Link, On, Send, Gone, Act, after, after_all, part_rows, part_rows_of, will_row, new_entry, stored_after, then, always, series, of_session, offer}
 use Rattle.mqtt_rules.specs.Deeds as deed
@@ -100,7 +100,7 @@ module _ (env : Env) (P : Records → Type 0) (k : Roomy env P) where
   delivers : (d : CopyTo) → Keeps P (deliver env d)
   delivers d b p = delivers_by (is_queued d) d b p
 
-  forgets_steady : (o : Option Retained) → AreSteady (forgets o)
+  forgets_steady : (o : Option RetainedMessage) → AreSteady (forgets o)
   forgets_steady None = tt
   forgets_steady (Some x) = (tt, tt)
 
@@ -275,7 +275,7 @@ begin_retained : (row : Columns) (will : Option Will) (r : Records) → (stored_
 begin_retained row None r = refl
 begin_retained row (Some will) r = refl
 
-abbrev pub FewKept : Env → List Retained → Type 0
+abbrev pub FewKept : Env → List RetainedMessage → Type 0
 FewKept env kept = IsTable kept_place env.limits.retained kept
 
 abbrev pub FewRetained : Env → Records → Type 0
@@ -297,7 +297,7 @@ deed_retains env (Begin row will) r q h = absurd q
 deed_retains env (Keep kept) r q h = absurd q
 
 -- what a search finds stands under its key
-kept_there : (test : Retained → Bool) (xs : List Retained) (x : Retained) → find test xs ≡ Some x → has_row kept_place x.place xs ≡ true
+kept_there : (test : RetainedMessage → Bool) (xs : List RetainedMessage) (x : RetainedMessage) → find test xs ≡ Some x → has_row kept_place x.place xs ≡ true
 kept_there test [] x found = absurd cc
 kept_there test (y ∷ ys) x found = elim (cases_Bool (test y)) [
   | inl here ↦
@@ -307,11 +307,11 @@ kept_there test (y ∷ ys) x found = elim (cases_Bool (test y)) [
       rw same refl
   | inr other ↦
       let rest = kept_there test ys x (rw other at found) in
-      either (λ (o : Option Retained). is_some o ≡ true) (nat_eq (kept_place y) x.place) (Some y) (row_at kept_place x.place ys) refl rest
+      either (λ (o : Option RetainedMessage). is_some o ≡ true) (nat_eq (kept_place y) x.place) (Some y) (row_at kept_place x.place ys) refl rest
 ]
 
 -- in the place of the one before it, or where there is room
-put_within : (env : Env) (kept : Retained) (xs : List Retained) → FewKept env xs → (has_row kept_place kept.place xs || nat_lt (length xs) env.limits.retained) ≡ true
+put_within : (env : Env) (kept : RetainedMessage) (xs : List RetainedMessage) → FewKept env xs → (has_row kept_place kept.place xs || nat_lt (length xs) env.limits.retained) ≡ true
     → FewKept env (put_row kept_place RETAINED_LIMIT kept xs)
 put_within env kept xs h room = record {
   ascending = put-ascending kept_place RETAINED_LIMIT kept xs h.ascending;
@@ -332,7 +332,7 @@ either_is : (x y : Bool) → y ≡ true → (x || y) ≡ true
 either_is true y h = refl
 either_is false y h = h
 
-place_is_fit : (env : Env) (m : Message) (number now : ℕ) (r : Records) (o : Option Retained) → retained_of m.topic r ≡ o
+place_is_fit : (env : Env) (m : Message) (number now : ℕ) (r : Records) (o : Option RetainedMessage) → retained_of m.topic r ≡ o
     → (is_some o || nat_lt (length r.retained) env.limits.retained) ≡ true
     → (has_row kept_place (kept_message number now m (place_of_kept o r.retained)).place r.retained || nat_lt (length r.retained) env.limits.retained) ≡ true
 place_is_fit env m number now r None is fits = either_is (has_row kept_place (place_of_kept None r.retained) r.retained) (nat_lt (length r.retained) env.limits.retained) fits

@@ -28,9 +28,9 @@ use Rattle.mqtt_rules.specs.declared.Report.{Report}
 use Rattle.mqtt_rules.specs.Packets.{property, connack}
 use Rattle.mqtt_rules.specs.State.{Broker, session_at, stored, MemberChoice}
 use Rattle.mqtt_rules.specs.Step.{Call, NewLine, Input, Outcome, stepped, told, opened, at_moment, deeds, with_moment}
-use Rattle.mqtt_records.specs.declared.message.MessageCopy.{MessageCopy}
-use Rattle.mqtt_records.specs.declared.queue.Entry.{Entry}
-use Rattle.mqtt_records.specs.Order.{change_row}
+use Rattle.mqtt_message.specs.declared.message.MessageCopy.{MessageCopy}
+use Rattle.mqtt_message.specs.declared.queue.CopyRow.{CopyRow}
+use Rattle.mqtt_rows.specs.Order.{change_row}
 use Rattle.mqtt_records.specs.Session.{birth_of, fresh}
 use Rattle.mqtt_records.specs.declared.change.Change.{Change}
 use Rattle.mqtt_rules.specs.Deeds.{Deed, rows_of, rows_of_all, stored_after, after, after_all}
@@ -258,19 +258,19 @@ copy_kept number = record {
   content = record { topic = topic; properties = []; payload = hi; arrived = 0 };
 }
 
-abbrev pub entry : ℕ → Phase → Entry
+abbrev pub entry : ℕ → Phase → CopyRow
 entry n phase = record { place = n; phase = phase; copy = copy_kept n }
 
 -- so many entries that wait, from a number on
-abbrev pub waiting : ℕ → ℕ → List Entry
+abbrev pub waiting : ℕ → ℕ → List CopyRow
 waiting zero n = []
 waiting (suc k) n = entry n Waiting ∷ waiting k (suc n)
 
-abbrev pub with_entries : List Entry → Session → Session
+abbrev pub with_entries : List CopyRow → Session → Session
 with_entries queue s = record s { queue = queue }
 
 -- the session with that birth has this queue, and so many publications were accepted
-abbrev pub queued : ℕ → List Entry → ℕ → Broker → Broker
+abbrev pub queued : ℕ → List CopyRow → ℕ → Broker → Broker
 queued birth queue publications b =
     record b { records = record b.records { sessions = change_row birth_of birth (with_entries queue) b.records.sessions; publications = publications } }
 

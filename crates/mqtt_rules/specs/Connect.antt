@@ -11,7 +11,7 @@ use Rattle.mqtt_topic.specs.Names.{is_topic_name, is_empty}
 use Rattle.mqtt_base.specs.Codes.{success, client_identifier_not_valid, bad_authentication_method, session_taken_over, topic_name_invalid, packet_too_large, quota_exceeded}
 use Rattle.mqtt_base.specs.declared.limits.TheConstants.{OPEN_LIMIT, ALIAS_LIMIT, PACKET_LIMIT, CLIENT_LIMIT}
 use Rattle.mqtt_flow.specs.Outbound.{resumed_with}
-use Rattle.mqtt_records.specs.declared.message.Will.{Will}
+use Rattle.mqtt_message.specs.declared.message.Will.{Will}
 use Rattle.mqtt_records.specs.declared.session.Columns.{Columns}
 use Rattle.mqtt_records.specs.declared.session.Session.{Session}
 use Rattle.mqtt_records.specs.declared.records.Records.{Records}

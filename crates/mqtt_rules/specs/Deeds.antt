@@ -9,10 +9,10 @@ use Rattle.mqtt_props.specs.Properties.{Prop}
 use Rattle.mqtt_codec.specs.declared.packet.Packet.{Packet}
 use Rattle.mqtt_topic.specs.Aliases.{no_aliases, after_resolve}
 use Rattle.mqtt_flow.specs.FreeIdentifier.{closed_in}
-use Rattle.mqtt_records.specs.declared.message.MessageCopy.{MessageCopy}
-use Rattle.mqtt_records.specs.declared.message.Retained.{Retained}
-use Rattle.mqtt_records.specs.declared.message.Will.{Will}
-use Rattle.mqtt_records.specs.declared.queue.Entry.{Entry}
+use Rattle.mqtt_message.specs.declared.message.MessageCopy.{MessageCopy}
+use Rattle.mqtt_message.specs.declared.message.RetainedMessage.{RetainedMessage}
+use Rattle.mqtt_message.specs.declared.message.Will.{Will}
+use Rattle.mqtt_message.specs.declared.queue.CopyRow.{CopyRow}
 use Rattle.mqtt_records.specs.declared.subscription.Subscription.{Subscription}
 use Rattle.mqtt_records.specs.declared.session.Session.{Session}
 use Rattle.mqtt_records.specs.declared.session.Columns.{Columns}
@@ -20,7 +20,7 @@ use Rattle.mqtt_records.specs.declared.records.Records.{Records}
 use Rattle.mqtt_records.specs.declared.change.Counter.TheVariants.{Births, Publications, Subscribes, Autos}
 use Rattle.mqtt_records.specs.declared.change.Change.{Change}
 use Rattle.mqtt_records.specs.declared.change.Change.TheVariants.{SetCounter, PutSession, RemoveSession, PutWill, RemoveWill, PutSubscription, RemoveSubscription, PutInbound, RemoveInbound, PutCopy, SetCopy, RemoveCopy, PutRetained, RemoveRetained}
-use Rattle.mqtt_records.specs.Session.{columns_of, entry_place}
+use Rattle.mqtt_records.specs.Session.{columns_of, copy_place}
 use Rattle.mqtt_records.specs.Records.{changed_all}
 use Rattle.mqtt_rules.specs.declared.Report.{Report}
 use Rattle.mqtt_rules.specs.declared.Report.TheVariants as reports
@@ -61,7 +61,7 @@ pub data Part : Type 0 where
   Release : (id : ℕ) → Part  -- and closed
   Enter : (copy : MessageCopy) → Part  -- a copy enters the queue, at the next place
   Mark : (place : ℕ) (phase : Phase) → Part
-  Leave : (e : Entry) (ending : Ending) → Part
+  Leave : (e : CopyRow) (ending : Ending) → Part
 
 -- what happens to one line
 pub data LinePart : Type 0 where
@@ -77,7 +77,7 @@ pub data Deed : Type 0 where
   Count : (n : ℕ) → Deed  -- a filter is granted its number
   At : (who : Whose) (part : Part) → Deed
   Finish : (who : Whose) → Deed
-  Keep : (kept : Retained) → Deed
+  Keep : (kept : RetainedMessage) → Deed
   Forget : (place : ℕ) → Deed
   RefuseWill : (who : Whose) → Deed
   Link : (n : ℕ) → Deed
@@ -91,8 +91,8 @@ abbrev pub will_row : ℕ → Option Will → Change
 will_row birth None = RemoveWill birth
 will_row birth (Some will) = PutWill birth will
 
-abbrev pub new_entry : MessageCopy → List Entry → Entry
-new_entry copy queue = record { place = next_of entry_place queue; phase = Waiting; copy = copy }
+abbrev pub new_entry : MessageCopy → List CopyRow → CopyRow
+new_entry copy queue = record { place = next_of copy_place queue; phase = Waiting; copy = copy }
 
 -- of a session that stands
 abbrev pub part_rows : Part → Session → List Change

@@ -4,8 +4,8 @@ use Rattle.std.specs.List.{AllByRecursion}
 use Rattle.mqtt_base.specs.declared.limits.TheConstants.{SUBSCRIPTION_LIMIT, OPEN_LIMIT, QUEUE_LIMIT, SESSION_LIMIT, RETAINED_LIMIT}
 use Rattle.mqtt_records.specs.declared.session.Session.{Session}
 use Rattle.mqtt_records.specs.declared.records.Records.{Records}
-use Rattle.mqtt_records.specs.Order.{IsAscending}
-use Rattle.mqtt_records.specs.Session.{birth_of, place_of, number_of, entry_place}
+use Rattle.mqtt_rows.specs.Order.{IsAscending}
+use Rattle.mqtt_records.specs.Session.{birth_of, place_of, number_of, copy_place}
 use Rattle.mqtt_records.specs.Records.{kept_place, nothing}
 use Rattle.mqtt_rules.specs.declared.Limits.{Limits}
 use Rattle.mqtt_rules.specs.State.{Broker, stored, MemberChoice}
@@ -22,7 +22,7 @@ pub record IsTable {X : Type 0} (key : X → ℕ) (limit : ℕ) (rows : List X) 
 pub record HasTables (s : Session) : Type 0 where
   pub inbound : IsTable number_of OPEN_LIMIT s.inbound
   pub subscriptions : IsTable place_of SUBSCRIPTION_LIMIT s.subscriptions
-  pub queue : IsTable entry_place QUEUE_LIMIT s.queue
+  pub queue : IsTable copy_place QUEUE_LIMIT s.queue
 
 -- the sessions by birth, what each has, and the retained messages by place
 pub record IsOrdered (r : Records) : Type 0 where

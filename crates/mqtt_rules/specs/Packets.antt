@@ -15,8 +15,8 @@ use Rattle.mqtt_codec.specs.declared.packet.Packet.TheVariants.{Connack, Publish
 use Rattle.mqtt_codec.specs.ConnectFlags.{qos_of}
 use Rattle.mqtt_codec.specs.Packets.{shortest_of}
 use Rattle.mqtt_flow.specs.Outbound.{is_past}
-use Rattle.mqtt_records.specs.declared.message.Content.{Content}
-use Rattle.mqtt_records.specs.declared.message.MessageCopy.{MessageCopy}
+use Rattle.mqtt_message.specs.declared.message.Content.{Content}
+use Rattle.mqtt_message.specs.declared.message.MessageCopy.{MessageCopy}
 
 -- ---- properties
 

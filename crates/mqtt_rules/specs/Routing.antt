@@ -12,8 +12,8 @@ use Rattle.mqtt_routes.specs.Intended.{Publication, Answers, Copy, published}
 use Rattle.mqtt_routes.specs.Intended as intended
 use Rattle.mqtt_routes.specs.Acceptance.{Served, Routed, copies_in}
 use Rattle.mqtt_routes.specs.Acceptance as acceptance
-use Rattle.mqtt_records.specs.declared.message.MessageCopy.{MessageCopy}
-use Rattle.mqtt_records.specs.declared.message.Retained.{Retained}
+use Rattle.mqtt_message.specs.declared.message.MessageCopy.{MessageCopy}
+use Rattle.mqtt_message.specs.declared.message.RetainedMessage.{RetainedMessage}
 use Rattle.mqtt_records.specs.declared.subscription.Subscription.{Subscription}
 use Rattle.mqtt_records.specs.declared.session.Session.{Session}
 use Rattle.mqtt_records.specs.declared.records.Records.{Records}
@@ -57,10 +57,10 @@ answers env r = record {
 
 -- ---- acceptance
 
-abbrev pub is_topic : List ℕ → Retained → Bool
+abbrev pub is_topic : List ℕ → RetainedMessage → Bool
 is_topic topic k = bytes_eq k.content.topic topic
 
-abbrev pub retained_of : List ℕ → Records → Option Retained
+abbrev pub retained_of : List ℕ → Records → Option RetainedMessage
 retained_of topic r = find (is_topic topic) r.retained
 
 -- a message that is to be retained finds a place (ours)
@@ -134,11 +134,11 @@ abbrev pub deliver : Env → CopyTo → Act
 deliver env d b = deliver_by (is_queued d) env d b
 
 -- the message retained for a topic, in the place of the one before it (3.3.1.3)
-abbrev pub place_of_kept : Option Retained → List Retained → ℕ
+abbrev pub place_of_kept : Option RetainedMessage → List RetainedMessage → ℕ
 place_of_kept None ks = next_of kept_place ks
 place_of_kept (Some k) ks = k.place
 
-abbrev pub kept_message : ℕ → ℕ → Message → ℕ → Retained
+abbrev pub kept_message : ℕ → ℕ → Message → ℕ → RetainedMessage
 kept_message number now m place = record {
   place = place;
   sender = m.sender;
@@ -147,7 +147,7 @@ kept_message number now m place = record {
   content = record { topic = m.topic; properties = m.properties; payload = m.payload; arrived = now };
 }
 
-abbrev pub forgets : Option Retained → List Deed
+abbrev pub forgets : Option RetainedMessage → List Deed
 forgets None = []
 forgets (Some k) = Forget k.place ∷ []
 

@@ -7,11 +7,11 @@ use Rattle.mqtt_base.specs.declared.limits.TheConstants.{LAST_NUMBER}
 use Rattle.mqtt_base.specs.declared.session.CopyId.{CopyId}
 use Rattle.mqtt_props.specs.declared.table.PropName.TheVariants.{MessageExpiryInterval}
 use Rattle.mqtt_topic.specs.Aliases.{AliasTable}
-use Rattle.mqtt_records.specs.declared.message.MessageCopy.{MessageCopy}
-use Rattle.mqtt_records.specs.declared.queue.Entry.{Entry}
+use Rattle.mqtt_message.specs.declared.message.MessageCopy.{MessageCopy}
+use Rattle.mqtt_message.specs.declared.queue.CopyRow.{CopyRow}
 use Rattle.mqtt_records.specs.declared.session.Session.{Session}
 use Rattle.mqtt_records.specs.declared.records.Records.{Records}
-use Rattle.mqtt_records.specs.Order.{row_at}
+use Rattle.mqtt_rows.specs.Order.{row_at}
 use Rattle.mqtt_records.specs.Session.{birth_of}
 use Rattle.mqtt_routes.specs.Intended.{greatest}
 use Rattle.mqtt_rules.specs.declared.Limits.{Limits}
@@ -75,7 +75,7 @@ line_of birth b = find (λ l. is_of l.session birth) b.lines
 -- ---- a session's queue as the session rules see it
 
 abbrev pub copy_id : ℕ → MessageCopy → CopyId
-copy_id birth copy = record { publication = copy.publication; birth = birth; cause = copy.cause }
+copy_id birth copy = record { publication = copy.id.publication; birth = birth; cause = copy.id.cause }
 
 abbrev pub queued_copy : ℕ → MessageCopy → QueuedCopy
 queued_copy birth copy = record {
@@ -86,8 +86,8 @@ queued_copy birth copy = record {
   expiry = number_at MessageExpiryInterval copy.content.properties;
 }
 
-abbrev pub entry_on : List ℕ → ℕ → Entry → FlowEntry
-entry_on went birth e = record {
+abbrev pub entry_on : List ℕ → ℕ → CopyRow → FlowEntry
+entry_on went e = record {
   place = e.place;
   copy = queued_copy birth e.copy;
   phase = e.phase;
@@ -96,7 +96,7 @@ entry_on went birth e = record {
 
 -- the queue, with the copies whose PUBLISH went out on a line
 abbrev pub queue_on : List ℕ → Session → List FlowEntry
-queue_on went s = map (entry_on went s.birth) s.queue
+queue_on went s = map (entry_on went) s.queue
 
 -- ---- numbers and moments
 

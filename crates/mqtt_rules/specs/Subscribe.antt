@@ -16,8 +16,8 @@ use Rattle.mqtt_routes.specs.declared.retained.Kept.{Kept}
 use Rattle.mqtt_routes.specs.Retained.{kept_for}
 use Rattle.mqtt_base.specs.Codes.{success, no_subscription_existed, topic_filter_invalid, identifier_in_use, quota_exceeded}
 use Rattle.mqtt_flow.specs.Inbound.{is_open}
-use Rattle.mqtt_records.specs.declared.message.MessageCopy.{MessageCopy}
-use Rattle.mqtt_records.specs.declared.message.Retained.{Retained}
+use Rattle.mqtt_message.specs.declared.message.MessageCopy.{MessageCopy}
+use Rattle.mqtt_message.specs.declared.message.RetainedMessage.{RetainedMessage}
 use Rattle.mqtt_records.specs.declared.subscription.Subscription.{Subscription}
 use Rattle.mqtt_base.specs.declared.limits.TheConstants.{SUBSCRIPTION_LIMIT}
 use Rattle.mqtt_records.specs.declared.session.Session.{Session}
@@ -59,14 +59,14 @@ wants_retained SendIfNew is_old = not is_old
 wants_retained DoNotSend is_old = false
 
 -- as the table of retained messages sees it
-abbrev pub kept_of : Retained → Kept Retained
+abbrev pub kept_of : RetainedMessage → Kept RetainedMessage
 kept_of k = record { topic = k.content.topic; message = k }
 
-abbrev pub message_in : Kept Retained → Retained
+abbrev pub message_in : Kept RetainedMessage → RetainedMessage
 message_in k = k.message
 
 -- No Local bars one's own; an expired one isn't sent
-abbrev pub is_brought : ℕ → Session → Wish → Retained → Bool
+abbrev pub is_brought : ℕ → Session → Wish → RetainedMessage → Bool
 is_brought now s w k =
     not (w.options.no_local && bytes_eq s.client k.sender) && not (is_expired now k.content)
 
@@ -74,7 +74,7 @@ abbrev pub identifiers_of : Option ℕ → List ℕ
 identifiers_of None = []
 identifiers_of (Some n) = n ∷ []
 
-abbrev pub retained_copy : ℕ → Wish → Retained → MessageCopy
+abbrev pub retained_copy : ℕ → Wish → RetainedMessage → MessageCopy
 retained_copy number w k = record {
   publication = k.publication;
   cause = RetainedBy number;
@@ -84,17 +84,17 @@ retained_copy number w k = record {
   content = k.content;
 }
 
-abbrev pub retained_copy_to : ℕ → ℕ → Wish → Retained → CopyTo
+abbrev pub retained_copy_to : ℕ → ℕ → Wish → RetainedMessage → CopyTo
 retained_copy_to birth number w k = record { birth = birth; copy = retained_copy number w k }
 
 -- in the order in which their topics were first retained
-abbrev pub brought_if : Bool → ℕ → ℕ → Session → Wish → List Retained → List CopyTo
+abbrev pub brought_if : Bool → ℕ → ℕ → Session → Wish → List RetainedMessage → List CopyTo
 brought_if false now number s w ks = []
 brought_if true now number s w ks =
     map (retained_copy_to s.birth number w)
     (filter (is_brought now s w) (map message_in (kept_for w.filter (map kept_of ks))))
 
-abbrev pub brought : ℕ → ℕ → Session → Wish → List Retained → List CopyTo
+abbrev pub brought : ℕ → ℕ → Session → Wish → List RetainedMessage → List CopyTo
 brought now number s w ks =
     brought_if (not (begins_share w.filter) && wants_retained w.options.retain_handling (has_filter w.filter s))
     now number s w ks

@@ -4,7 +4,7 @@ use Rattle.mqtt_base.specs.Codes.{keep_alive_timeout}
 use Rattle.mqtt_base.specs.declared.limits.TheConstants.{CONNECT_TIME}
 use Rattle.mqtt_flow.specs.declared.entry.Turn.{Turn}
 use Rattle.mqtt_flow.specs.Outbound.{expired}
-use Rattle.mqtt_records.specs.declared.message.Retained.{Retained}
+use Rattle.mqtt_message.specs.declared.message.RetainedMessage.{RetainedMessage}
 use Rattle.mqtt_records.specs.declared.session.Session.{Session}
 use Rattle.mqtt_rules.specs.Packets.{is_expired}
 use Rattle.mqtt_rules.specs.State.{Line, Broker, Env, later, queue_on}
@@ -36,7 +36,7 @@ has_lapsed now s = are_some (lapses now s)
 abbrev pub lapse_deeds : ℕ → Session → List Deed
 lapse_deeds now s = flat_map (leave_deeds s) (lapses now s)
 
-abbrev pub is_stale : ℕ → Retained → Bool
+abbrev pub is_stale : ℕ → RetainedMessage → Bool
 is_stale now k = is_expired now k.content
 
 abbrev pub first_due : List (Option Act) → Option Act

@@ -1,11 +1,11 @@
 //! Laws of the numbers that the broker gives: births, numbers and places only grow and are unique.
 ghost use Rattle.std.specs.Prelude.{◌≡◌, ◌≤◌, ◌+◌, ℕ, suc, List, None, false, length};
-ghost use Rattle.mqtt_records.specs.Order.{IsAbove, IsAscending, IsBelow};
-ghost use Rattle.mqtt_records.specs.Session.{entry_place, number_of};
+ghost use Rattle.mqtt_rows.specs.Order.{IsAbove, IsAscending, IsBelow};
+ghost use Rattle.mqtt_records.specs.Session.{copy_place, number_of};
 ghost use Rattle.mqtt_records.specs.Records.{nothing, kept_place};
-ghost use Rattle.mqtt_records.specs.declared.message.MessageCopy.{MessageCopy};
-ghost use Rattle.mqtt_records.specs.declared.message.Retained.{Retained};
-ghost use Rattle.mqtt_records.specs.declared.queue.Entry.{Entry};
+ghost use Rattle.mqtt_message.specs.declared.message.MessageCopy.{MessageCopy};
+ghost use Rattle.mqtt_message.specs.declared.message.RetainedMessage.{RetainedMessage};
+ghost use Rattle.mqtt_message.specs.declared.queue.CopyRow.{CopyRow};
 ghost use Rattle.mqtt_records.specs.declared.records.Records.{Records};
 ghost use Rattle.mqtt_records.specs.declared.session.Session.{Session};
 ghost use Rattle.mqtt_rules.specs.declared.Limits.{Limits as TheLimits};
@@ -97,9 +97,9 @@ pub fn births_and_places_are_unique()
 /// that had none gets a place above all retained; and a subscription to a filter that its session didn't
 /// have gets its grant's number as its place (4.6, 3.3.1.3, 3.8.4).
 pub fn new_places_are_last()
-    ensures copy { (copy : MessageCopy) (queue : List Entry)
-        → IsBelow entry_place (new_entry copy queue).place queue }
-    ensures retained { (all : List Retained) → IsBelow kept_place (place_of_kept None all) all }
+    ensures copy { (copy : MessageCopy) (queue : List CopyRow)
+        → IsBelow copy_place (new_entry copy queue).place queue }
+    ensures retained { (all : List RetainedMessage) → IsBelow kept_place (place_of_kept None all) all }
     ensures subscription { (number : ℕ) (s : Session) (w : Wish)
         → has_filter w.filter s ≡ false → (subscription number s w).place ≡ number }
 {}
