@@ -43,7 +43,8 @@ use Rattle.mqtt_rules.specs.Subscribe as sub
 use Rattle.mqtt_rules.specs.Tick.{is_silent, silence, has_lapsed, lapse_deeds, is_stale, first_due, due, on_tick}
 use Rattle.mqtt_rules.specs.Step.{Call, NewLine, Input, BadInput, Lost, Pump, Tick, first_packet, next_packet, on_packet, on_fault, late_code, on_pump, can_link, deeds_of, close_if, opening}
 use Rattle.mqtt_rules.proofs.FlightRows.{found_key}
-use Rattle.mqtt_rules.proofs.Leads.{IsAmong, found_among, found_passes, row_among, Leads, Leading, leads_append, leads_series, leads_two, leads_flat, leads_map, leads_cond, leads_if, leads_of_session, leads_of_client, leads_with_line}
+use Rattle.mqtt_rules.specs.Laws.{IsAmong}
+use Rattle.mqtt_rules.proofs.Leads.{found_among, found_passes, row_among, Leads, Leading, leads_append, leads_series, leads_two, leads_flat, leads_map, leads_cond, leads_of_session, leads_of_client, leads_with_line}
 
 -- ---- whom a step concerns
 
@@ -53,7 +54,7 @@ pub record About : Type 1 where
   pub line : Line → Type 0
   pub number : ℕ → Type 0
   pub session : ℕ → Type 0
-  pub client : List ℕ → Type 0
+  pub client : List ℕ → Broker → Type 0
   pub packet : Packet → Type 0
   pub message : Message → Type 0
 
@@ -63,7 +64,7 @@ anyone = record {
   line = λ l. ⊤;
   number = λ n. ⊤;
   session = λ birth. ⊤;
-  client = λ client. ⊤;
+  client = λ client b. ⊤;
   packet = λ packet. ⊤;
   message = λ m. ⊤;
 }
@@ -122,14 +123,15 @@ pub record Finds (about : About) (Keep : Broker → Type 0) : Type 0 where
   pub its_number : (l : Line) → about.line l → about.number l.number
   pub its_session : (l : Line) (birth : ℕ) → about.line l → l.session ≡ Some birth → about.session birth
   pub its_line : (birth : ℕ) (l : Line) (b : Broker) → Keep b → about.session birth → line_of birth b ≡ Some l → about.line l
-  pub named : (client : List ℕ) (s : Session) (b : Broker) → Keep b → about.client client → session_named client b.records ≡ Some s → about.session s.birth
-  pub admitted : (c : Greeting) (b : Broker) → Keep b → about.packet (packets.Connect c) → refusal c b.records ≡ None → about.client c.client_identifier
+  pub named : (client : List ℕ) (s : Session) (b : Broker) → Keep b → about.client client b → session_named client b.records ≡ Some s → about.session s.birth
+  pub admitted : (c : Greeting) (b : Broker) → Keep b → about.packet (packets.Connect c) → refusal c b.records ≡ None → about.client c.client_identifier b
   pub sent : (l : Line) (s : Session) (p : Publication) (topic : List ℕ) (b : Broker) → Keep b → about.line l → about.packet (packets.Publish p) → meaning p l.aliases ≡ Means topic
       → about.message (message_of s.client topic p)
   pub willed : (s : Session) (w : Will) (b : Broker) → Keep b → IsAmong s b.records.sessions → s.will ≡ Some w → about.message (will_message s.client w)
 
 pub record Law (env : Env) (about : About) (Keep : Broker → Type 0) (Good : Deed → Broker → Type 0) : Type 0 where
   pub finds : Finds about Keep
+  pub client_stays : (client : List ℕ) (ds : List Deed) (b : Broker) → Keep b → Leads Keep Good ds b → about.client client b → about.client client (after_all ds b)
   -- publications
   pub publishes : (origin : Origin) (m : Message) (ds : List CopyTo) (b : Broker) → Keep b → about.message m → accepted_copies env m b ≡ Some ds → Leads Keep Good (publish env origin m ds b) b
   pub open_id : (s : Session) (id : ℕ) (m : Message) (ds : List CopyTo) (b : Broker)
@@ -145,7 +147,7 @@ pub record Law (env : Env) (about : About) (Keep : Broker → Type 0) (Good : De
       → Keep b → about.line l → l.session ≡ None → about.packet (packets.Connect c) → IsAdmitted c → about.session s.birth → session_named c.client_identifier b.records ≡ Some s
       → Leads Keep Good (At (whose s) (Resume (expiry_of c) (will_of c)) ∷ greet l c s.birth ∷ []) b
   pub begins : (l : Line) (c : Greeting) (b : Broker)
-      → Keep b → about.line l → l.session ≡ None → about.packet (packets.Connect c) → IsAdmitted c → about.client c.client_identifier
+      → Keep b → about.line l → l.session ≡ None → about.packet (packets.Connect c) → IsAdmitted c → about.client c.client_identifier b
       → session_named c.client_identifier b.records ≡ None → nat_lt (length b.records.sessions) env.limits.sessions ≡ true
       → Leads Keep Good (begin_named (is_empty c.client_identifier) l c b.records) b
   pub grants : (w : sub.Wish) (s : Session) (b : Broker) → Keep b → about.session s.birth → IsGranted env w s b
@@ -256,7 +258,7 @@ module _ (env : Env) (about : About) (Keep : Broker → Type 0) (Good : Deed →
   own_session : (birth : ℕ) (s : Session) (b : Broker) → session_at birth b.records ≡ Some s → session_at s.birth b.records ≡ Some s
   own_session birth s b e = ap (λ (n : ℕ). session_at n b.records) (found_key birth_of birth s b.records.sessions e) ∙ e
 
-  of_named : (client : List ℕ) (f : Session → Act) (b : Broker) → Keep b → about.client client
+  of_named : (client : List ℕ) (f : Session → Act) (b : Broker) → Keep b → about.client client b
       → ((s : Session) → session_named client b.records ≡ Some s → about.session s.birth → Led (f s b) b) → Led (of_client client f b) b
   of_named client f b k its h = leads_of_client Keep Good client f b k (λ s e. h s e (law.finds.named client s b k its e))
 
@@ -289,6 +291,10 @@ module _ (env : Env) (about : About) (Keep : Broker → Type 0) (Good : Deed →
   pub leads_publish_will : (s : Session) (b : Broker) → Keep b → about.session s.birth → IsAmong s b.records.sessions → Led (publish_will env s b) b
   leads_publish_will s b k its among = leads_will s s.will b k its among refl
 
+  if_here : (t : Bool) (act : Act) (b : Broker) → Keep b → Led (act b) b → Led (only_if t act b) b
+  if_here true act b k h = h
+  if_here false act b k h = (tt, k)
+
   pub leads_settle : (birth : ℕ) (b : Broker) → Keep b → about.session birth → Led (settle env birth b) b
   leads_settle birth b k its =
       leads_two Keep Good (of_session birth (λ s. only_if (has_due_will b.now s) (publish_will env s))) (of_session birth (λ s. only_if (has_due_end b.now s) (always (end_session s)))) b
@@ -297,10 +303,6 @@ module _ (env : Env) (about : About) (Keep : Broker → Type 0) (Good : Deed →
       (λ h. let c = after_all (of_session birth (λ s. only_if (has_due_will b.now s) (publish_will env s)) b) b in
       of_its birth (λ s. only_if (has_due_end b.now s) (always (end_session s))) c h its
       (λ s e own. if_here (has_due_end b.now s) (always (end_session s)) c h (law.ends s c h own (row_among birth_of birth s c.records.sessions e))))
-    where
-      if_here : (t : Bool) (act : Act) (b : Broker) → Keep b → Led (act b) b → Led (only_if t act b) b
-      if_here true act b k h = h
-      if_here false act b k h = (tt, k)
 
   leads_settled : (birth : ℕ) (b : Broker) → Keep b → about.session birth → Led ((settle env birth b ++ []) ++ []) b
   leads_settled birth b k its =
@@ -352,25 +354,33 @@ module _ (env : Env) (about : About) (Keep : Broker → Type 0) (Good : Deed →
       leads_with_line Keep Good (line_of s.birth b) (drop_line env session_taken_over) b k
       (λ l e. leads_drop session_taken_over l b k (law.finds.its_line s.birth l b k its e) (found_on l b.lines (found_among _ l b.lines e)))
 
-  pub leads_clear : (client : List ℕ) (s : Session) (b : Broker) → Keep b → about.client client → session_named client b.records ≡ Some s → Led (clear env s b) b
+  pub leads_clear : (client : List ℕ) (s : Session) (b : Broker) → Keep b → about.client client b → session_named client b.records ≡ Some s → Led (clear env s b) b
   leads_clear client s b k its e =
       let is : s.client ≡ client = (bytes_eq-Decides s.client client).0 (found_passes (λ x. bytes_eq x.client client) s b.records.sessions e) in
-      leads_two Keep Good (publish_will env s) (of_client s.client (λ t. always (end_session t))) b
-      (leads_publish_will s b k (law.finds.named client s b k its e) (found_among _ s b.records.sessions e))
+      let name : about.client s.client b = subst (λ (text : List ℕ). about.client text b) (sym is) its in
+      let first = leads_publish_will s b k (law.finds.named client s b k its e) (found_among _ s b.records.sessions e) in
+      leads_two Keep Good (publish_will env s) (of_client s.client (λ t. always (end_session t))) b first
       (λ h. let c = after_all (publish_will env s b) b in
-      of_named s.client (λ t. always (end_session t)) c h (subst about.client (sym is) its)
+      of_named s.client (λ t. always (end_session t)) c h (law.client_stays s.client (publish_will env s b) b k first name)
       (λ t there own. law.ends t c h own (found_among _ t c.records.sessions there)))
 
-  pub leads_prepare : (c : Greeting) (b : Broker) → Keep b → about.client c.client_identifier → Led (prepare env c b) b
+  pub leads_prepare : (c : Greeting) (b : Broker) → Keep b → about.client c.client_identifier b → Led (prepare env c b) b
   leads_prepare c b k its =
       let name = c.client_identifier in
-      leads_series Keep Good (of_client name (take_over env) ∷ of_client name (λ s. settle env s.birth) ∷ only_if c.clean_start (of_client name (clear env)) ∷ []) (
-        (λ x h. of_named name (take_over env) x h its (λ s e own. leads_take_over s x h own)),
-        (
-          (λ x h. of_named name (λ s. settle env s.birth) x h its (λ s e own. leads_settle s.birth x h own)),
-          (leads_if Keep Good c.clean_start (of_client name (clear env)) (λ t x h. of_named name (clear env) x h its (λ s e own. leads_clear name s x h its e)), tt),
-        ),
-      ) b k
+      let first = of_client name (take_over env) b in
+      let x = after_all first b in
+      let second = of_client name (λ s. settle env s.birth) x in
+      let y = after_all second x in
+      let third = only_if c.clean_start (of_client name (clear env)) in
+      let one : Led first b = of_named name (take_over env) b k its (λ s e own. leads_take_over s b k own) in
+      leads_append Keep Good first (series ((λ z. of_client name (λ s. settle env s.birth) z) ∷ third ∷ []) x) b one
+      (λ h. let name_x = law.client_stays name first b k one its in
+      let two : Led second x = of_named name (λ s. settle env s.birth) x h name_x (λ s e own. leads_settle s.birth x h own) in
+      leads_append Keep Good second (series (third ∷ []) y) x two
+      (λ g. let name_y = law.client_stays name second x h two name_x in
+      leads_append Keep Good (third y) [] y
+      (if_here c.clean_start (of_client name (clear env)) y g (of_named name (clear env) y g name_y (λ s e own. leads_clear name s y g name_y e)))
+      (λ f. (tt, f))))
 
   leads_repeats : {X : Type 0} (now line : ℕ) (s : Session) (xs : List X) (id : X → ℕ) (b : Broker) → Keep b → about.number line → Led (all_turn_deeds now line s (map (λ x. turns.Repeat (id x)) xs)) b
   leads_repeats now line s [] id b k its = (tt, k)
@@ -392,7 +402,7 @@ module _ (env : Env) (about : About) (Keep : Broker → Type 0) (Good : Deed →
 
   -- after the preparation, on the state that it left
   pub leads_joins : (l : Line) (c : Greeting) (now : ℕ) (ds : List Deed) (b : Broker)
-      → Keep b → about.line l → l.session ≡ None → IsOn l.number l.session b.lines → about.packet (packets.Connect c) → IsAdmitted c → about.client c.client_identifier → Led ds b
+      → Keep b → about.line l → l.session ≡ None → IsOn l.number l.session b.lines → about.packet (packets.Connect c) → IsAdmitted c → about.client c.client_identifier (after_all ds b) → Led ds b
       → Led (joins_after env l c now ds (after_all ds b).records) b
   leads_joins l c now ds b k its none on came taken name led = found (session_named c.client_identifier r) refl
     where
@@ -414,7 +424,7 @@ module _ (env : Env) (about : About) (Keep : Broker → Type 0) (Good : Deed →
       by (Some code) e = leads_refused l c code b k its none on
       by None e =
           let name = law.finds.admitted c b k came e in
-          leads_joins l c b.now (prepare env c b) b k its none on came (b.records, e) name (leads_prepare c b k name)
+          leads_joins l c b.now (prepare env c b) b k its none on came (b.records, e) (law.client_stays c.client_identifier (prepare env c b) b k (leads_prepare c b k name) name) (leads_prepare c b k name)
 
   -- PUBLISH
 

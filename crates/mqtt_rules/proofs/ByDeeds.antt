@@ -8,6 +8,7 @@ use Rattle.mqtt_base.specs.declared.session.Phase.TheVariants.{Sent, Released as
 use Rattle.mqtt_base.specs.Codes.{success, identifier_not_found}
 use Rattle.mqtt_codec.specs.declared.connect.Connect.{Connect as Greeting}
 use Rattle.mqtt_codec.specs.declared.packet.Packet.{Packet}
+use Rattle.mqtt_codec.specs.declared.packet.Packet.TheVariants as packets
 use Rattle.mqtt_topic.specs.Names.{is_empty}
 use Rattle.mqtt_flow.specs.declared.entry.Turn.{Turn}
 use Rattle.mqtt_flow.specs.declared.entry.Turn.TheVariants as turns
@@ -19,11 +20,10 @@ use Rattle.mqtt_message.specs.declared.message.RetainedMessage.{RetainedMessage}
 use Rattle.mqtt_message.specs.declared.message.Will.{Will}
 use Rattle.mqtt_message.specs.declared.queue.CopyRow.{CopyRow}
 use Rattle.mqtt_records.specs.declared.session.Session.{Session}
-use Rattle.mqtt_records.specs.declared.subscription.Subscription.{Subscription}
 use Rattle.mqtt_rows.specs.Order.{row_at}
 use Rattle.mqtt_records.specs.Session.{birth_of, copy_place}
 use Rattle.mqtt_rules.specs.Packets.{connack, pubrel, publish_of}
-use Rattle.mqtt_rules.specs.State.{Line, Broker, Env, session_at, line_of, queue_on}
+use Rattle.mqtt_rules.specs.State.{Line, Broker, Env, session_at, session_named, line_of, queue_on}
 use Rattle.mqtt_rules.specs.Deeds.{Whose, whose, Message, Origin, FromClient, Part, Resume, Close, DropWill, Open, Enter, Mark, Leave, LinePart, Hear, Greet, SetAlias, Went, Deed, Accept, Begin, Name, Count, At, Finish, Keep, Forget, RefuseWill, Link, On, Send, Gone, after, after_all, series, always, with_session, offer}
 use Rattle.mqtt_rules.specs.Deeds as deeds
 use Rattle.mqtt_rules.specs.Outbound.{leave_deeds, turn_deeds, since, queue_limits, enter_deeds}
@@ -35,14 +35,16 @@ use Rattle.mqtt_rules.specs.Subscribe as sub
 use Rattle.mqtt_rules.specs.Step.{Call, deeds_of, opening}
 use Rattle.mqtt_rules.specs.Tick.{lapses, lapse_deeds}
 use Rattle.mqtt_rules.proofs.FlightRows.{found_key}
+use Rattle.mqtt_rules.proofs.Goods.{AreGood}
 use Rattle.mqtt_rules.proofs.Leads.{Leads, leads_end, leads_append, leads_flat, leads_cond, leads_with_session, leads_of_entry}
-use Rattle.mqtt_rules.proofs.Acts.{About, anyone, call_of_anyone, leads_call, leads_opening, IsAnswer, is_alone, closing_session, closing_on, closing, brought_to, Finds, Law}
+use Rattle.mqtt_rules.proofs.Acts.{About, anyone, call_of_anyone, leads_call, leads_opening, IsAnswer, is_alone, closing_session, closing_on, closing, brought_to, Finds, Law, IsAdmitted, IsGranted}
 use Rattle.mqtt_rules.proofs.Copies.{IsMade, AreMade, routed_numbered, brought_made, made_numbered, beside_leaves, beside_deliver, made_stays, are_made_stay, each_filter}
 
 -- ---- what is said of each kind of deed, on the state that it comes on
 
 pub record DeedLaw (env : Env) (about : About) (Keeps : Broker → Type 0) (Good : Deed → Broker → Type 0) : Type 0 where
   pub finds : Finds about Keeps
+  pub client_stays : (client : List ℕ) (d : Deed) (b : Broker) → Keeps b → Good d b → about.client client b → about.client client (after d b)
   -- a good deed keeps what is kept
   pub kept : (d : Deed) (b : Broker) → Keeps b → Good d b → Keeps (after d b)
   pub accept : (origin : Origin) (m : Message) (b : Broker) → Keeps b → about.message m → Good (Accept (next_publication b.records) origin m) b
@@ -64,9 +66,17 @@ pub record DeedLaw (env : Env) (about : About) (Keeps : Broker → Type 0) (Good
   pub finish : (who : Whose) (b : Broker) → Keeps b → about.session who.birth → Good (Finish who) b
   pub resume : (who : Whose) (expiry : ℕ) (will : Option Will) (b : Broker) → Keeps b → about.session who.birth → Good (At who (Resume expiry will)) b
   pub name : (b : Broker) → Keeps b → Good (Name (suc b.records.autos)) b
-  pub begin_row : (client : List ℕ) (c : Greeting) (b : Broker) → Keeps b → nat_lt (length b.records.sessions) env.limits.sessions ≡ true → Good (Begin (fresh_row (suc b.records.births) client c) (will_of c)) b
+  -- a session begins under the client identifier that no session has, or under one that the broker assigns
+  pub begin_given : (c : Greeting) (b : Broker)
+      → Keeps b → about.packet (packets.Connect c) → IsAdmitted c → about.client c.client_identifier b → session_named c.client_identifier b.records ≡ None → nat_lt (length b.records.sessions) env.limits.sessions ≡ true
+      → Good (Begin (fresh_row (suc b.records.births) c.client_identifier c) (will_of c)) b
+  pub begin_assigned : (c : Greeting) (b : Broker)
+      → Keeps b → Keeps (after (Name (suc b.records.autos)) b) → about.packet (packets.Connect c) → IsAdmitted c → nat_lt (length b.records.sessions) env.limits.sessions ≡ true
+      → Good (Begin (fresh_row (suc b.records.births) (auto ++ decimal (suc b.records.autos)) c) (will_of c)) (after (Name (suc b.records.autos)) b)
   pub count : (b : Broker) → Keeps b → Good (Count (sub.next_number b.records)) b
-  pub subscribe : (who : Whose) (s : Subscription) (b : Broker) → Keeps b → about.session who.birth → Good (At who (deeds.Subscribe s)) b
+  pub subscribe : (w : sub.Wish) (s : Session) (b : Broker)
+      → Keeps b → Keeps (after (Count (sub.next_number b.records)) b) → about.session s.birth → IsGranted env w s b
+      → Good (At (whose s) (deeds.Subscribe (sub.subscription (sub.next_number b.records) s w))) (after (Count (sub.next_number b.records)) b)
   pub link : (b : Broker) → Keeps b → Good (Link (suc b.given)) b
   pub on_line : (line : ℕ) (part : LinePart) (b : Broker) → Keeps b → Good (On line part) b
   pub send : (line : ℕ) (packet : Packet) (b : Broker) → Keeps b → Good (Send line packet) b
@@ -202,24 +212,26 @@ module _ (env : Env) (about : About) (Keeps : Broker → Type 0) (Good : Deed �
           let d = At (whose s) (Leave e SessionEnded) in
           more d (map (λ x. At (whose s) (Leave x SessionEnded)) q) b k (law.leave (whose s) e SessionEnded b k) (λ h. all_leave q (after d b) h)
 
-  leads_born : (l : Line) (c : Greeting) (is_assigned : Bool) (client : List ℕ) (b : Broker) → Keeps b → nat_lt (length b.records.sessions) env.limits.sessions ≡ true
+  leads_born : (l : Line) (c : Greeting) (is_assigned : Bool) (client : List ℕ) (b : Broker) → Keeps b → Good (Begin (fresh_row (suc b.records.births) client c) (will_of c)) b
       → Led (begin l c is_assigned client (suc b.records.births)) b
-  leads_born l c is_assigned client b k room =
+  leads_born l c is_assigned client b k good =
       let d = Begin (fresh_row (suc b.records.births) client c) (will_of c) in
       let told = Send l.number (connack false success (connack_properties is_assigned client)) in
-      more d (greet l c (suc b.records.births) ∷ told ∷ []) b k (law.begin_row client c b k room)
+      more d (greet l c (suc b.records.births) ∷ told ∷ []) b k good
       (λ h. more (greet l c (suc b.records.births)) (told ∷ []) (after d b) h (law.on_line l.number _ (after d b) h)
       (λ g. one told _ g (law.send l.number (connack false success (connack_properties is_assigned client)) _ g)))
 
-  leads_begin : (t : Bool) (l : Line) (c : Greeting) (b : Broker) → Keeps b → nat_lt (length b.records.sessions) env.limits.sessions ≡ true → Led (begin_named t l c b.records) b
-  leads_begin false l c b k room = leads_born l c false c.client_identifier b k room
-  leads_begin true l c b k room =
+  leads_begin : (t : Bool) (l : Line) (c : Greeting) (b : Broker)
+      → Keeps b → about.packet (packets.Connect c) → IsAdmitted c → about.client c.client_identifier b → session_named c.client_identifier b.records ≡ None → nat_lt (length b.records.sessions) env.limits.sessions ≡ true
+      → Led (begin_named t l c b.records) b
+  leads_begin false l c b k came taken name is room = leads_born l c false c.client_identifier b k (law.begin_given c b k came taken name is room)
+  leads_begin true l c b k came taken name is room =
       let d = Name (suc b.records.autos) in
       more d (begin l c true (auto ++ decimal (suc b.records.autos)) (suc b.records.births)) b k (law.name b k)
-      (λ h. leads_born l c true (auto ++ decimal (suc b.records.autos)) (after d b) h room)
+      (λ h. leads_born l c true (auto ++ decimal (suc b.records.autos)) (after d b) h (law.begin_assigned c b k h came taken room))
 
-  pub leads_grants : (w : sub.Wish) (s : Session) (b : Broker) → Keeps b → about.session s.birth → Led (sub.granted_filter env (sub.next_number b.records) s w (brought_to w s b) b).deeds b
-  leads_grants w s b k its =
+  pub leads_grants : (w : sub.Wish) (s : Session) (b : Broker) → Keeps b → about.session s.birth → IsGranted env w s b → Led (sub.granted_filter env (sub.next_number b.records) s w (brought_to w s b) b).deeds b
+  leads_grants w s b k its granted =
       let number = sub.next_number b.records in
       let x = sub.subscription number s w in
       let ds = brought_to w s b in
@@ -227,7 +239,7 @@ module _ (env : Env) (about : About) (Keeps : Broker → Type 0) (Good : Deed �
       let c = after_all first b in
       let queued = filter is_queued ds in
       more (Count number) (At (whose s) (deeds.Subscribe x) ∷ series (map (deliver env) queued) c) b k (law.count b k)
-      (λ h. more (At (whose s) (deeds.Subscribe x)) (series (map (deliver env) queued) c) (after (Count number) b) h (law.subscribe (whose s) x (after (Count number) b) h its)
+      (λ h. more (At (whose s) (deeds.Subscribe x)) (series (map (deliver env) queued) c) (after (Count number) b) h (law.subscribe w s b k h its granted)
       (λ g. leads_deliveries queued c g (are_made_stay queued first b (tt, (tt, tt)) (each_filter (λ d. IsMade d.copy b.records) is_queued ds (brought_made b.now number s w b.records)))))
 
   -- ---- turns
@@ -261,10 +273,12 @@ module _ (env : Env) (about : About) (Keeps : Broker → Type 0) (Good : Deed �
     }
 
   -- for what is good by each deed, or for what follows from it
-  module _ (Told : Deed → Broker → Type 0) (tell : (ds : List Deed) (b : Broker) → Led ds b → Leads Keeps Told ds b) where
+  module _ (Told : Deed → Broker → Type 0) (tell : (ds : List Deed) (b : Broker) → Led ds b → Leads Keeps Told ds b)
+      (stays : (client : List ℕ) (ds : List Deed) (b : Broker) → Keeps b → Leads Keeps Told ds b → about.client client b → about.client client (after_all ds b)) where
     pub law_told : TurnLaw about Keeps Told → Law env about Keeps Told
     law_told turn = record {
       finds = law.finds;
+      client_stays = stays;
       publishes = λ origin m ds b k said e. tell (publish env origin m ds b) b (leads_publish origin m ds b k said e);
       open_id = λ s id m ds b k h its there new is. tell (At (whose s) (Open id) ∷ []) (after_all (publish env FromClient m ds b) b) (one (At (whose s) (Open id)) (after_all (publish env FromClient m ds b) b) h (law.open_id s id m ds b k h its there new is));
       refuse_will = λ who b k its. tell (RefuseWill who ∷ []) b (one (RefuseWill who) b k (law.refuse_will who b k its));
@@ -274,8 +288,8 @@ module _ (env : Env) (about : About) (Keeps : Broker → Type 0) (Good : Deed �
       resumes = λ l c s b k its none came taken own is. tell (At (whose s) (Resume (expiry_of c) (will_of c)) ∷ greet l c s.birth ∷ []) b (
           more (At (whose s) (Resume (expiry_of c) (will_of c))) (greet l c s.birth ∷ []) b k (law.resume (whose s) (expiry_of c) (will_of c) b k own)
           (λ h. one (greet l c s.birth) _ h (law.on_line l.number _ _ h)));
-      begins = λ l c b k its none came taken name is room. tell (begin_named (is_empty c.client_identifier) l c b.records) b (leads_begin (is_empty c.client_identifier) l c b k room);
-      grants = λ w s b k its granted. tell (sub.granted_filter env (sub.next_number b.records) s w (brought_to w s b) b).deeds b (leads_grants w s b k its);
+      begins = λ l c b k its none came taken name is room. tell (begin_named (is_empty c.client_identifier) l c b.records) b (leads_begin (is_empty c.client_identifier) l c b k came taken name is room);
+      grants = λ w s b k its granted. tell (sub.granted_filter env (sub.next_number b.records) s w (brought_to w s b) b).deeds b (leads_grants w s b k its granted);
       pumps = turn.pumps;
       turns = turn.turns;
       lapses = λ s b k among. tell (lapse_deeds b.now s) b (leads_flat Keeps Good (leave_deeds s) (leads_leave s) (lapses b.now s) b k);
@@ -287,11 +301,15 @@ module _ (env : Env) (about : About) (Keeps : Broker → Type 0) (Good : Deed �
     }
 
   pub by_deeds : TurnLaw about Keeps Good → Law env about Keeps Good
-  by_deeds turn = law_told Good (λ ds b h. h) turn
+  by_deeds turn = law_told Good (λ ds b h. h) (λ client ds b k led its. client_stays client ds b k led.0 its) turn
+    where
+      client_stays : (client : List ℕ) (ds : List Deed) (b : Broker) → Keeps b → AreGood Good ds b → about.client client b → about.client client (after_all ds b)
+      client_stays client [] b k good its = its
+      client_stays client (d ∷ ds) b k good its = client_stays client ds (after d b) (law.kept d b k good.0) good.1 (law.client_stays client d b k good.0 its)
 
   -- where the end alone says all
-  pub by_ends : TurnLaw about Keeps (λ d b. ⊤) → Law env about Keeps (λ d b. ⊤)
-  by_ends turn = law_told (λ d b. ⊤) (λ ds b h. leads_end Keeps ds b h.1) turn
+  pub by_ends : ((client : List ℕ) (b c : Broker) → about.client client b → about.client client c) → TurnLaw about Keeps (λ d b. ⊤) → Law env about Keeps (λ d b. ⊤)
+  by_ends stays turn = law_told (λ d b. ⊤) (λ ds b h. leads_end Keeps ds b h.1) (λ client ds b k led its. stays client b (after_all ds b) its) turn
 
   pub by_deeds_shuts : ((birth : ℕ) → about.session birth) → (s : Session) (b : Broker) → Keeps b → s.closed ≡ None → Led (At (whose s) (Close b.now) ∷ []) b
   by_deeds_shuts all s b k is = one (At (whose s) (Close b.now)) b k (law.close (whose s) b.now b k (all s.birth))

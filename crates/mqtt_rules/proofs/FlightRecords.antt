@@ -46,6 +46,9 @@ put_keeps_by false row r h = all_put birth_of Queued SESSION_LIMIT (fresh row) r
 pub put_keeps : (row : Columns) (r : Records) → HasDistinctIdentifiers r → HasDistinctIdentifiers (changed (Change.PutSession row) r)
 put_keeps row r h = put_keeps_by (has_row birth_of row.birth r.sessions) row r h
 
+set_keeps : (row : Columns) (r : Records) → HasDistinctIdentifiers r → HasDistinctIdentifiers (changed (Change.SetSession row) r)
+set_keeps row r h = in_session_keeps row.birth (with_columns row) r (λ s k. k) h
+
 pub remove_keeps : (birth : ℕ) (r : Records) → HasDistinctIdentifiers r → HasDistinctIdentifiers (changed (Change.RemoveSession birth) r)
 remove_keeps birth r h = all_removed birth_of Queued birth r.sessions h
 
@@ -72,9 +75,9 @@ Unmarked (Mark place phase) = ⊥
 Unmarked (Leave e ending) = Unit {0}
 
 part_keeps : (part : Part) (s : Session) (r : Records) → Unmarked part → HasDistinctIdentifiers r → HasDistinctIdentifiers (changed_all (part_rows part s) r)
-part_keeps (Resume expiry will) s r u h = will_keeps s.birth will (changed (Change.PutSession _) r) (put_keeps _ r h)
-part_keeps (Close moment) s r u h = put_keeps _ r h
-part_keeps (SetExpiry expiry) s r u h = put_keeps _ r h
+part_keeps (Resume expiry will) s r u h = will_keeps s.birth will (changed (Change.SetSession _) r) (set_keeps _ r h)
+part_keeps (Close moment) s r u h = set_keeps _ r h
+part_keeps (SetExpiry expiry) s r u h = set_keeps _ r h
 part_keeps DropWill s r u h = in_session_keeps s.birth (with_will None) r (λ s k. k) h
 part_keeps (Subscribe sub) s r u h = in_session_keeps s.birth _ r (λ s k. k) h
 part_keeps (Unsubscribe filter) s r u h = in_session_keeps s.birth _ r (λ s k. k) h

@@ -1,6 +1,6 @@
 -- Packet identifiers stay distinct in every step and in every opening.
 use Rattle.std.proofs.Common.{◌≡◌, ℕ, Bool, true, false, List, [], ◌∷◌, map, refl, sym, ap, subst, ◌∙◌, inl, inr}
-use Rattle.std.specs.Prelude.{⊤, Option, Some, None, find, Ok, Err}
+use Rattle.std.specs.Prelude.{⊤, suc, Option, Some, None, find, Ok, Err}
 use Rattle.std.proofs.lemmas.Bool.{cases_Bool}
 use Rattle.mqtt_base.specs.declared.session.Qos.{Qos}
 use Rattle.mqtt_base.specs.declared.session.Qos.TheVariants.{AtMostOnce, AtLeastOnce, ExactlyOnce}
@@ -22,7 +22,8 @@ use Rattle.mqtt_rows.proofs.LookUps.{row_at-here}
 use Rattle.mqtt_rules.specs.declared.Limits.{Limits}
 use Rattle.mqtt_rules.specs.State.{Line, Broker, Env, session_at, entry_on, queue_on, MemberChoice}
 use Rattle.mqtt_rules.specs.Routing.{publish}
-use Rattle.mqtt_rules.specs.Deeds.{Whose, whose, FromClient, Part, Resume, Close, SetExpiry, DropWill, Open, Release, Enter, Mark, Leave, Hear, Deed, Link, Send, At, On, after, after_all, rows_of_all, series, always, with_session, with_line}
+use Rattle.mqtt_rules.specs.Subscribe.{subscription, next_number}
+use Rattle.mqtt_rules.specs.Deeds.{Whose, whose, FromClient, Part, Resume, Close, SetExpiry, DropWill, Open, Release, Enter, Mark, Leave, Deed, Name, Count, Link, Send, At, On, after, after_all, rows_of_all, series, always, with_session, with_line}
 use Rattle.mqtt_rules.specs.Deeds as deeds
 use Rattle.mqtt_rules.specs.Outbound.{of_entry, turn_deeds}
 use Rattle.mqtt_rules.specs.Inbound.{pump_deeds}
@@ -63,6 +64,7 @@ part_distinct who part b u h = parts_keep part (session_at who.birth b.records) 
 keeping : (env : Env) → DeedLaw env anyone Distinct Keeps
 keeping env = record {
   finds = finds_anyone Distinct;
+  client_stays = λ client d b k g its. tt;
   kept = λ d b h g. g h;
   accept = λ origin m b k said h. h;
   keep = λ m b k said is full found h. h;
@@ -76,9 +78,10 @@ keeping env = record {
   finish = λ who b k its h. remove_keeps who.birth b.records h;
   resume = λ who expiry will b k its. part_distinct who (Resume expiry will) b tt;
   name = λ b k h. h;
-  begin_row = λ client c b k room h. begin_keeps _ _ b.records h;
+  begin_given = λ c b k came taken name is room h. begin_keeps _ _ b.records h;
+  begin_assigned = λ c b k g came taken room h. begin_keeps _ _ (after (Name (suc b.records.autos)) b).records h;
   count = λ b k h. h;
-  subscribe = λ who s b k its. part_distinct who (deeds.Subscribe s) b tt;
+  subscribe = λ w s b k g its granted. part_distinct (whose s) (deeds.Subscribe (subscription (next_number b.records) s w)) (after (Count (next_number b.records)) b) tt;
   link = λ b k h. h;
   on_line = λ line part b k h. h;
   send = λ line packet b k h. h;
@@ -210,7 +213,7 @@ turns_keep = record {
 }
 
 flight_law : (env : Env) → Law env anyone Distinct (λ d b. ⊤)
-flight_law env = by_ends env anyone Distinct Keeps (keeping env) turns_keep
+flight_law env = by_ends env anyone Distinct Keeps (keeping env) (λ client b c its. tt) turns_keep
 
 -- ---- a step and an opening
 

@@ -17,7 +17,7 @@ use Rattle.mqtt_routes.specs.Acceptance.{Routed, routed}
 use Rattle.mqtt_rules.specs.declared.Limits.{Limits}
 use Rattle.mqtt_rules.specs.declared.Report.TheVariants.{Accepted, Entered}
 use Rattle.mqtt_rules.specs.Packets.{identified, pubrec}
-use Rattle.mqtt_rules.specs.State.{Broker, MemberChoice, copy_id}
+use Rattle.mqtt_rules.specs.State.{Broker, MemberChoice}
 use Rattle.mqtt_rules.specs.Routing.{subscribers, answers}
 use Rattle.mqtt_rules.specs.Step.{Input, Lost, Pump, Outcome, env_of, opened}
 use Rattle.mqtt_rules.proofs.Play.{usual, blank, first, Event, at, runs, tells, asks, out, hello, hello_with, in_line, wants_with, wish, options, wants, gives_up, topic, message, sends, copy_out, direct, tells_by, runs_by, Keeps, nothing_written, narrow, waiting, queued, low, shared, in_group}
@@ -328,7 +328,7 @@ both_die = in_line 1 (hello (codes "m1")) ++ at 0 (Input 1 (wants 1 shared Exact
     ++ in_line 5 (hello_with (codes "w2") [] (Some (farewell topic)))
 
 abbrev left_to : Broker → List (ℕ × List CopyId)
-left_to b = map (λ s. (s.birth, map (λ e. copy_id s.birth e.copy) s.queue)) b.records.sessions
+left_to b = map (λ s. (s.birth, map (λ e. e.copy.id) s.queue)) b.records.sessions
 
 each_will_has_its_own_choice : left_to (opened (narrow Refuse 1) by_sender 0 (queued 1 (waiting 1 1) 1 (runs both_die blank)).records)
     ≡ (1, direct 1 1 ∷ []) ∷ (2, []) ∷ (3, in_group 2 3 ∷ []) ∷ []

@@ -133,8 +133,7 @@ cut_short = published ++ at 0 (Pump 1) ∷ []
 -- what is stored then: two sessions, r1's subscription, p1's open identifier, and the copy with its packet identifier
 abbrev its_copy : MessageCopy
 its_copy = record {
-  publication = 1;
-  cause = Direct;
+  id = record { publication = 1; birth = 1; cause = Direct };
   qos = ExactlyOnce;
   retain = false;
   identifiers = [];

@@ -1,5 +1,5 @@
 -- Deeds that lead from a state to the next: each is good where it comes, and what is kept holds again behind them.
-use Rattle.std.proofs.Common.{◌≡◌, ℕ, Bool, true, false, cond, List, [], ◌∷◌, ◌++◌, ◌⊎◌, map, Option, Some, None, nat_eq, refl, sym, subst, inl, inr}
+use Rattle.std.proofs.Common.{◌≡◌, ℕ, Bool, true, false, cond, List, [], ◌∷◌, ◌++◌, map, Option, Some, None, nat_eq, refl, sym, subst, inl, inr}
 use Rattle.std.specs.Prelude.{⊤, flat_map, find}
 use Rattle.std.proofs.lemmas.Bool.{cases_Bool}
 use Rattle.mqtt_message.specs.declared.queue.CopyRow.{CopyRow}
@@ -9,13 +9,10 @@ use Rattle.mqtt_rules.specs.State.{Line, Broker, session_at, session_named}
 use Rattle.mqtt_rules.specs.Deeds.{Deed, after, after_all, Act, series, only_if, with_session, of_session, with_line}
 use Rattle.mqtt_rules.specs.Outbound.{of_entry}
 use Rattle.mqtt_rules.specs.Connect.{of_client}
+use Rattle.mqtt_rules.specs.Laws.{IsAmong}
 use Rattle.mqtt_rules.proofs.Goods.{after_append, AreGood, good_append}
 
 -- ---- what a search finds is there
-
-abbrev pub IsAmong : {X : Type 0} → X → List X → Type 0
-IsAmong x [] = ⊥
-IsAmong x (y ∷ ys) = (y ≡ x) ⊎ IsAmong x ys
 
 pub found_among : {X : Type 0} (test : X → Bool) (x : X) (xs : List X) → find test xs ≡ Some x → IsAmong x xs
 found_among test x [] e = absurd cc

@@ -45,3 +45,5 @@ pub mod OrderedQueues
 pub mod OrderedEnters
 pub mod OrderedFull
 pub mod Meanings
+pub mod Reached
+pub mod Entered

@@ -13,7 +13,7 @@ use Rattle.mqtt_records.specs.declared.records.Records.{Records}
 use Rattle.mqtt_records.specs.declared.change.Counter.{Counter}
 use Rattle.mqtt_records.specs.declared.change.Counter.TheVariants.{Births, Publications, Subscribes, Autos, Moment}
 use Rattle.mqtt_records.specs.declared.change.Change.{Change}
-use Rattle.mqtt_records.specs.declared.change.Change.TheVariants.{SetCounter, PutSession, RemoveSession, PutWill, RemoveWill, PutSubscription, RemoveSubscription, PutInbound, RemoveInbound, PutCopy, SetCopy, RemoveCopy, PutRetained, RemoveRetained}
+use Rattle.mqtt_records.specs.declared.change.Change.TheVariants.{SetCounter, PutSession, SetSession, RemoveSession, PutWill, RemoveWill, PutSubscription, RemoveSubscription, PutInbound, RemoveInbound, PutCopy, SetCopy, RemoveCopy, PutRetained, RemoveRetained}
 use Rattle.mqtt_rows.specs.Order.{has_row, insert_row, put_row, change_row}
 use Rattle.mqtt_records.specs.Session.{birth_of, copy_place, fresh, with_columns, with_will, with_subscription, without_subscription, with_open, without_open, with_copy, with_phase, without_copy, in_phase}
 use Rattle.mqtt_records.specs.Records.{changed, changed_all, put_session, with_counter, kept_place}
@@ -95,6 +95,7 @@ queues_in n birth f ss kept h = each_change birth_of (HasCopiesUpTo n) birth f s
 queues_changed : (n : ℕ) (change : Change) (r : Records) → RowUpTo n change → QueuesUpTo n r.sessions → QueuesUpTo n (changed change r).sessions
 queues_changed n (SetCounter counter value) r fit h = queues_counter counter value n r h
 queues_changed n (PutSession row) r fit h = queues_put_session n row r.sessions h
+queues_changed n (SetSession row) r fit h = queues_in n row.birth (with_columns row) r.sessions (λ s q. q) h
 queues_changed n (RemoveSession birth) r fit h = each_filter (HasCopiesUpTo n) (λ s. not (nat_eq (birth_of s) birth)) r.sessions h
 queues_changed n (PutWill birth will) r fit h = queues_in n birth (with_will (Some will)) r.sessions (λ s q. q) h
 queues_changed n (RemoveWill birth) r fit h = queues_in n birth (with_will None) r.sessions (λ s q. q) h
@@ -130,6 +131,7 @@ accepted_alone who part b q = tt
 accepted_law : (env : Env) → DeedLaw env anyone (λ b. ⊤) OfAccepted
 accepted_law env = record {
   finds = finds_anyone (λ b. ⊤);
+  client_stays = λ client d b k g its. tt;
   kept = λ d b k g. tt;
   accept = λ origin m b k said. omega arith;
   keep = λ m b k said is full found. refl;
@@ -143,9 +145,10 @@ accepted_law env = record {
   finish = λ who b k its. tt;
   resume = λ who expiry will b k its. tt;
   name = λ b k. tt;
-  begin_row = λ client c b k room. tt;
+  begin_given = λ c b k came taken name is room. tt;
+  begin_assigned = λ c b k h came taken room. tt;
   count = λ b k. tt;
-  subscribe = λ who s b k its. tt;
+  subscribe = λ w s b k h its granted. tt;
   link = λ b k. tt;
   on_line = λ line part b k. tt;
   send = λ line packet b k. tt;

@@ -8,7 +8,7 @@ use Rattle.mqtt_records.specs.declared.records.Records.{Records}
 use Rattle.mqtt_records.specs.declared.change.Counter.{Counter}
 use Rattle.mqtt_records.specs.declared.change.Counter.TheVariants.{Births, Publications, Subscribes, Autos, Moment}
 use Rattle.mqtt_records.specs.declared.change.Change.{Change}
-use Rattle.mqtt_records.specs.declared.change.Change.TheVariants.{SetCounter, PutSession, RemoveSession, PutWill, RemoveWill, PutSubscription, RemoveSubscription, PutInbound, RemoveInbound, PutCopy, SetCopy, RemoveCopy, PutRetained, RemoveRetained}
+use Rattle.mqtt_records.specs.declared.change.Change.TheVariants.{SetCounter, PutSession, SetSession, RemoveSession, PutWill, RemoveWill, PutSubscription, RemoveSubscription, PutInbound, RemoveInbound, PutCopy, SetCopy, RemoveCopy, PutRetained, RemoveRetained}
 use Rattle.mqtt_rows.specs.Order.{IsAscending, has_row, put_row, change_row}
 use Rattle.mqtt_records.specs.Session.{birth_of, place_of, number_of, copy_place, fresh, with_columns, with_will, with_subscription, without_subscription, without_filter, with_open, without_open, with_copy, with_phase, without_copy, in_phase}
 use Rattle.mqtt_records.specs.Records.{nothing, changed, changed_all, put_session, in_session, with_counter, kept_place}
@@ -50,6 +50,7 @@ order_counter Moment value r h = h
 order_changed : (change : Change) (r : Records) → AreInOrder r → AreInOrder (changed change r)
 order_changed (SetCounter counter value) r h = order_counter counter value r h
 order_changed (PutSession row) r h = let o = order_put_session row r.sessions (h.0, h.1) in (o.0, o.1, h.2)
+order_changed (SetSession row) r h = order_in row.birth (with_columns row) r (λ s. refl) (λ s o. o) h
 order_changed (RemoveSession birth) r h =
     (remove-ascending birth_of birth r.sessions h.0, each_filter IsInOrder (λ s. not (nat_eq (birth_of s) birth)) r.sessions h.1, h.2)
 order_changed (PutWill birth will) r h = order_in birth (with_will (Some will)) r (λ s. refl) (λ s o. o) h

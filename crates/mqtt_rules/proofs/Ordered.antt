@@ -11,7 +11,7 @@ use Rattle.mqtt_records.specs.declared.records.Records.{Records}
 use Rattle.mqtt_records.specs.declared.change.Counter.{Counter}
 use Rattle.mqtt_records.specs.declared.change.Counter.TheVariants.{Births, Publications, Subscribes, Autos, Moment}
 use Rattle.mqtt_records.specs.declared.change.Change.{Change}
-use Rattle.mqtt_records.specs.declared.change.Change.TheVariants.{SetCounter, PutSession, RemoveSession, PutWill, RemoveWill, PutSubscription, RemoveSubscription, PutInbound, RemoveInbound, PutCopy, SetCopy, RemoveCopy, PutRetained, RemoveRetained}
+use Rattle.mqtt_records.specs.declared.change.Change.TheVariants.{SetCounter, PutSession, SetSession, RemoveSession, PutWill, RemoveWill, PutSubscription, RemoveSubscription, PutInbound, RemoveInbound, PutCopy, SetCopy, RemoveCopy, PutRetained, RemoveRetained}
 use Rattle.mqtt_rows.specs.Order.{IsAscending, has_row, insert_row, put_row, remove_row, change_row, front_len}
 use Rattle.mqtt_records.specs.Session.{birth_of, place_of, number_of, copy_place, fresh, with_columns, with_will, without_filter, with_subscription, without_subscription, with_open, without_open, with_copy, in_phase, with_phase, without_copy}
 use Rattle.mqtt_records.specs.Records.{kept_place, nothing, with_counter, put_session, in_session, changed, changed_all}
@@ -169,6 +169,7 @@ counter-ordered Moment value r h = record { sessions = h.sessions; each = h.each
 pub changed-ordered : (change : Change) (r : Records) → IsOrdered r → IsOrdered (changed change r)
 changed-ordered (SetCounter counter value) r h = counter-ordered counter value r h
 changed-ordered (PutSession row) r h = record { sessions = put_session-table row r.sessions h.sessions; each = put_session-each row r.sessions h.each; retained = h.retained }
+changed-ordered (SetSession row) r h = in_session-ordered row.birth (with_columns row) r (keeps-columns row) h
 changed-ordered (RemoveSession birth) r h = record {
   sessions = remove-table birth_of SESSION_LIMIT birth r.sessions h.sessions;
   each = all-filter HasTables (λ s. not (nat_eq (birth_of s) birth)) r.sessions h.each;

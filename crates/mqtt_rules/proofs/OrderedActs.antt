@@ -210,6 +210,7 @@ module _ (env : Env) (P : Records → Type 0) (k : Keeping env P) where
   pub keeping_law : Law env anyone Keeps_ (λ d c. ⊤)
   keeping_law = record {
     finds = finds_anyone Keeps_;
+    client_stays = λ client ds b k led its. tt;
     publishes = λ origin m ds b p said e. leads_end Keeps_ (publish env origin m ds b) b (k.publish origin m ds b e p);
     open_id = λ s id m ds b p h its there new is. led (At (whose s) (Open id) ∷ []) (after_all (publish env FromClient m ds b) b) (tt, tt) h;
     refuse_will = λ who b p its. led (RefuseWill who ∷ []) b (tt, tt) p;

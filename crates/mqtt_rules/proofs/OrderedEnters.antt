@@ -19,7 +19,7 @@ use Rattle.mqtt_records.specs.declared.records.Records.{Records}
 use Rattle.mqtt_records.specs.declared.change.Counter.{Counter}
 use Rattle.mqtt_records.specs.declared.change.Counter.TheVariants.{Births, Publications, Subscribes, Autos, Moment}
 use Rattle.mqtt_records.specs.declared.change.Change.{Change}
-use Rattle.mqtt_records.specs.declared.change.Change.TheVariants.{SetCounter, PutSession, RemoveSession, PutWill, RemoveWill, PutSubscription, RemoveSubscription, PutInbound, RemoveInbound, PutCopy, SetCopy, RemoveCopy, PutRetained, RemoveRetained}
+use Rattle.mqtt_records.specs.declared.change.Change.TheVariants.{SetCounter, PutSession, SetSession, RemoveSession, PutWill, RemoveWill, PutSubscription, RemoveSubscription, PutInbound, RemoveInbound, PutCopy, SetCopy, RemoveCopy, PutRetained, RemoveRetained}
 use Rattle.mqtt_rows.specs.Order.{IsAbove, IsAscending, row_at, has_row, put_row, remove_row, change_row}
 use Rattle.mqtt_records.specs.Session.{birth_of, copy_place, fresh, with_columns, with_will, with_subscription, without_subscription, with_open, without_open, with_copy, in_phase, with_phase, without_copy}
 use Rattle.mqtt_records.specs.Records.{with_counter, changed, changed_all}
@@ -106,6 +106,7 @@ change_short limit (PutSession row) r q h = either (AreShort limit) (has_row bir
     (put_row birth_of SESSION_LIMIT (fresh row) r.sessions)
     (all-change_row birth_of (IsShort limit) row.birth (with_columns row) r.sessions (λ s p. p) h)
     (all-put_row birth_of (IsShort limit) SESSION_LIMIT (fresh row) r.sessions (omega arith) h)
+change_short limit (SetSession row) r q h = all-change_row birth_of (IsShort limit) row.birth (with_columns row) r.sessions (λ s p. p) h
 change_short limit (RemoveSession birth) r q h = all-filter (IsShort limit) (λ s. not (nat_eq (birth_of s) birth)) r.sessions h
 change_short limit (PutWill birth will) r q h = all-change_row birth_of (IsShort limit) birth (with_will (Some will)) r.sessions (λ s p. p) h
 change_short limit (RemoveWill birth) r q h = all-change_row birth_of (IsShort limit) birth (with_will None) r.sessions (λ s p. p) h

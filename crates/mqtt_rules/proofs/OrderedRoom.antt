@@ -15,7 +15,7 @@ use Rattle.mqtt_base.specs.declared.limits.TheConstants.{SESSION_LIMIT, RETAINED
 use Rattle.mqtt_records.specs.declared.change.Counter.{Counter}
 use Rattle.mqtt_records.specs.declared.change.Counter.TheVariants.{Births, Publications, Subscribes, Autos, Moment}
 use Rattle.mqtt_records.specs.declared.change.Change.{Change}
-use Rattle.mqtt_records.specs.declared.change.Change.TheVariants.{SetCounter, PutSession, RemoveSession, PutWill, RemoveWill, PutSubscription, RemoveSubscription, PutInbound, RemoveInbound, PutCopy, SetCopy, RemoveCopy, PutRetained, RemoveRetained}
+use Rattle.mqtt_records.specs.declared.change.Change.TheVariants.{SetCounter, PutSession, SetSession, RemoveSession, PutWill, RemoveWill, PutSubscription, RemoveSubscription, PutInbound, RemoveInbound, PutCopy, SetCopy, RemoveCopy, PutRetained, RemoveRetained}
 use Rattle.mqtt_rows.specs.Order.{row_at, has_row, insert_row, put_row, change_row}
 use Rattle.mqtt_records.specs.Session.{birth_of, fresh, with_columns, with_will, with_subscription, without_subscription, with_open, without_open, with_copy, with_phase, without_copy}
 use Rattle.mqtt_records.specs.Records.{kept_place, with_counter, put_session, changed, changed_all}
@@ -150,6 +150,7 @@ counter_sessions Moment value r = refl
 session_stays : (change : Change) (r : Records) → IsOldSession change r → length (changed change r).sessions ≤ length r.sessions
 session_stays (SetCounter counter value) r old = let same = ap length (counter_sessions counter value r) in omega (arith, same)
 session_stays (PutSession row) r old = let same = length-change_row birth_of row.birth (with_columns row) r.sessions in rw old (omega (arith, same))
+session_stays (SetSession row) r old = let same = length-change_row birth_of row.birth (with_columns row) r.sessions in omega (arith, same)
 session_stays (RemoveSession birth) r old = length-filter_le (λ s. not (nat_eq (birth_of s) birth)) r.sessions
 session_stays (PutWill birth will) r old = let same = length-change_row birth_of birth (with_will (Some will)) r.sessions in omega (arith, same)
 session_stays (RemoveWill birth) r old = let same = length-change_row birth_of birth (with_will None) r.sessions in omega (arith, same)
@@ -170,11 +171,11 @@ will_stays birth (Some will) r = session_stays (PutWill birth will) r tt
 part_stays : (part : Part) (s : Session) (r : Records) → has_row birth_of s.birth r.sessions ≡ true → length (changed_all (part_rows part s) r).sessions ≤ length r.sessions
 part_stays (Resume expiry will) s r old =
     let row : Columns = record { birth = s.birth; client = s.client; expiry = expiry; closed = None } in
-    let first = session_stays (PutSession row) r old in
-    let then_will = will_stays s.birth will (changed (PutSession row) r) in
+    let first = session_stays (SetSession row) r tt in
+    let then_will = will_stays s.birth will (changed (SetSession row) r) in
     omega (arith, first, then_will)
-part_stays (Close moment) s r old = session_stays (PutSession (record { birth = s.birth; client = s.client; expiry = s.expiry; closed = Some moment })) r old
-part_stays (SetExpiry expiry) s r old = session_stays (PutSession (record { birth = s.birth; client = s.client; expiry = expiry; closed = s.closed })) r old
+part_stays (Close moment) s r old = session_stays (SetSession (record { birth = s.birth; client = s.client; expiry = s.expiry; closed = Some moment })) r tt
+part_stays (SetExpiry expiry) s r old = session_stays (SetSession (record { birth = s.birth; client = s.client; expiry = expiry; closed = s.closed })) r tt
 part_stays DropWill s r old = session_stays (RemoveWill s.birth) r tt
 part_stays (deed.Subscribe x) s r old = session_stays (PutSubscription s.birth x) r tt
 part_stays (deed.Unsubscribe text) s r old = session_stays (RemoveSubscription s.birth text) r tt

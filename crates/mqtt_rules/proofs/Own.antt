@@ -8,7 +8,7 @@ use Rattle.mqtt_base.specs.declared.session.Cause.TheVariants.{Retained}
 use Rattle.mqtt_base.specs.declared.session.Ending.TheVariants.{Expired, SessionEnded}
 use Rattle.mqtt_base.specs.declared.session.Phase.{Phase}
 use Rattle.mqtt_base.specs.declared.session.Phase.TheVariants.{Waiting, Sent, Released}
-use Rattle.mqtt_props.specs.declared.table.PropName.TheVariants.{SessionExpiryInterval, WillDelayInterval, ReceiveMaximum, MessageExpiryInterval}
+use Rattle.mqtt_props.specs.declared.table.PropName.TheVariants.{SessionExpiryInterval, ReceiveMaximum, MessageExpiryInterval}
 use Rattle.mqtt_props.specs.Properties.{U16, U32}
 use Rattle.mqtt_codec.specs.declared.connect.Will.{Will}
 use Rattle.mqtt_codec.specs.declared.publish.Delivery.TheVariants as delivery
@@ -17,10 +17,10 @@ use Rattle.mqtt_codec.specs.declared.packet.Packet.TheVariants.{Publish}
 use Rattle.mqtt_flow.specs.declared.entry.Full.TheVariants.{Drop}
 use Rattle.mqtt_rules.specs.declared.Report.{Report}
 use Rattle.mqtt_rules.specs.declared.Report.TheVariants.{Accepted, Entered, Ended}
-use Rattle.mqtt_rules.specs.Packets.{property, puback, pubrec, pubrel, pubcomp, suback, disconnect}
+use Rattle.mqtt_rules.specs.Packets.{property, pubrec, pubrel, pubcomp, suback, disconnect}
 use Rattle.mqtt_rules.specs.State.{Broker}
 use Rattle.mqtt_rules.specs.Step.{NewLine, Input, Lost, Pump, Tick, Outcome}
-use Rattle.mqtt_rules.proofs.Play.{blank, Event, at, asks, tells, runs, runs_with, tells_with, reopened, out, hello_with, hello, never_expires, welcome, in_line, wants_with, wish, options, wants, topic, hi, message, sends, copy_out, direct, subscribed, narrow, clean, entry, queued, keeps, shared, in_group}
+use Rattle.mqtt_rules.proofs.Play.{blank, Event, at, asks, tells, runs, runs_with, tells_with, reopened, out, hello_with, hello, never_expires, welcome, in_line, wants_with, wish, options, wants, topic, hi, message, sends, copy_out, direct, subscribed, narrow, entry, queued, keeps, shared, in_group}
 
 -- what is told where only the answer goes out
 abbrev says : ℕ → Packet → Outcome

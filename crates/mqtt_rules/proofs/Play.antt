@@ -247,11 +247,10 @@ away birth client = fresh (record { birth = birth; client = client; expiry = 0xf
 abbrev pub letters : ℕ → List ℕ
 letters n = let high = n / 32 in (48 + high) ∷ (48 + (n - 32 * high)) ∷ []
 
--- a copy of the message, and it in the queue at its place
+-- a copy of the message for session 1, and it in the queue at its place
 abbrev pub copy_kept : ℕ → MessageCopy
 copy_kept number = record {
-  publication = number;
-  cause = Direct;
+  id = record { publication = number; birth = 1; cause = Direct };
   qos = ExactlyOnce;
   retain = false;
   identifiers = [];

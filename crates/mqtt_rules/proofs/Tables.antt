@@ -1,5 +1,5 @@
 -- Full tables and queues, and copies that are too large: room, and the oldest that make way (MQTT 5.0, 3.1.2.11.4, 4.9).
-use Rattle.std.proofs.Common.{◌≡◌, ℕ, Bool, true, false, List, [], ◌∷◌, ◌++◌, map, length, None, refl}
+use Rattle.std.proofs.Common.{◌≡◌, ℕ, true, false, List, [], ◌∷◌, ◌++◌, length, None, refl}
 use Rattle.std.specs.Prelude.{codes, replicate}
 use Rattle.mqtt_base.specs.Values.{varint}
 use Rattle.mqtt_base.specs.declared.session.Qos.TheVariants.{ExactlyOnce}
@@ -11,8 +11,6 @@ use Rattle.mqtt_props.specs.Properties.{U32}
 use Rattle.mqtt_codec.specs.declared.publish.Delivery.TheVariants as delivery
 use Rattle.mqtt_codec.specs.declared.packet.Packet.{Packet}
 use Rattle.mqtt_codec.specs.declared.packet.Packet.TheVariants.{Publish}
-use Rattle.mqtt_topic.specs.Filters.{is_filter}
-use Rattle.mqtt_topic.specs.Matching.{is_match}
 use Rattle.mqtt_flow.specs.declared.entry.Full.{Full}
 use Rattle.mqtt_flow.specs.declared.entry.Full.TheVariants.{Refuse, Drop}
 use Rattle.mqtt_rules.specs.declared.Report.{Report}

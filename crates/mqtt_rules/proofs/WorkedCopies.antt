@@ -6,11 +6,11 @@ use Rattle.mqtt_base.specs.declared.session.Qos.{Qos}
 use Rattle.mqtt_base.specs.declared.session.Qos.TheVariants.{AtMostOnce, AtLeastOnce, ExactlyOnce}
 use Rattle.mqtt_base.specs.declared.session.Cause.TheVariants.{Retained as RetainedBy}
 use Rattle.mqtt_base.specs.declared.session.CopyId.{CopyId}
-use Rattle.mqtt_base.specs.declared.session.Ending.TheVariants.{Taken, Refused, Expired, TooLarge}
+use Rattle.mqtt_base.specs.declared.session.Ending.TheVariants.{Taken, Refused}
 use Rattle.mqtt_base.specs.declared.session.RetainHandling.{RetainHandling}
 use Rattle.mqtt_base.specs.declared.session.RetainHandling.TheVariants.{SendAlways, SendIfNew, DoNotSend}
 use Rattle.mqtt_base.specs.declared.session.SubscriptionOptions.{SubscriptionOptions}
-use Rattle.mqtt_props.specs.declared.table.PropName.TheVariants.{PayloadFormatIndicator, MessageExpiryInterval, ContentType, ResponseTopic, CorrelationData, SubscriptionIdentifier, TopicAlias, UserProperty, ReceiveMaximum, MaximumPacketSize}
+use Rattle.mqtt_props.specs.declared.table.PropName.TheVariants.{PayloadFormatIndicator, MessageExpiryInterval, ContentType, ResponseTopic, CorrelationData, SubscriptionIdentifier, TopicAlias, UserProperty, ReceiveMaximum}
 use Rattle.mqtt_props.specs.Properties.{Prop, Byte, U16, U32, VarInt, Text, Binary, Pair}
 use Rattle.mqtt_codec.specs.declared.publish.Delivery.{Delivery}
 use Rattle.mqtt_codec.specs.declared.publish.Delivery.TheVariants as delivery

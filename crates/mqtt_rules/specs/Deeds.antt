@@ -19,13 +19,13 @@ use Rattle.mqtt_records.specs.declared.session.Columns.{Columns}
 use Rattle.mqtt_records.specs.declared.records.Records.{Records}
 use Rattle.mqtt_records.specs.declared.change.Counter.TheVariants.{Births, Publications, Subscribes, Autos}
 use Rattle.mqtt_records.specs.declared.change.Change.{Change}
-use Rattle.mqtt_records.specs.declared.change.Change.TheVariants.{SetCounter, PutSession, RemoveSession, PutWill, RemoveWill, PutSubscription, RemoveSubscription, PutInbound, RemoveInbound, PutCopy, SetCopy, RemoveCopy, PutRetained, RemoveRetained}
+use Rattle.mqtt_records.specs.declared.change.Change.TheVariants.{SetCounter, PutSession, SetSession, RemoveSession, PutWill, RemoveWill, PutSubscription, RemoveSubscription, PutInbound, RemoveInbound, PutCopy, SetCopy, RemoveCopy, PutRetained, RemoveRetained}
 use Rattle.mqtt_records.specs.Session.{columns_of, copy_place}
 use Rattle.mqtt_records.specs.Records.{changed_all}
 use Rattle.mqtt_rules.specs.declared.Report.{Report}
 use Rattle.mqtt_rules.specs.declared.Report.TheVariants as reports
 use Rattle.mqtt_rules.specs.Packets.{size_of}
-use Rattle.mqtt_rules.specs.State.{Line, Broker, session_at, is_of, copy_id, next_of}
+use Rattle.mqtt_rules.specs.State.{Line, Broker, session_at, is_of, next_of}
 
 -- whose a deed is: a session by its birth, with its client identifier
 pub record Whose : Type 0 where
@@ -97,9 +97,9 @@ new_entry copy queue = record { place = next_of copy_place queue; phase = Waitin
 -- of a session that stands
 abbrev pub part_rows : Part → Session → List Change
 part_rows (Resume expiry will) s =
-    PutSession (record (columns_of s) { expiry = expiry; closed = None }) ∷ will_row s.birth will ∷ []
-part_rows (Close moment) s = PutSession (record (columns_of s) { closed = Some moment }) ∷ []
-part_rows (SetExpiry expiry) s = PutSession (record (columns_of s) { expiry = expiry }) ∷ []
+    SetSession (record (columns_of s) { expiry = expiry; closed = None }) ∷ will_row s.birth will ∷ []
+part_rows (Close moment) s = SetSession (record (columns_of s) { closed = Some moment }) ∷ []
+part_rows (SetExpiry expiry) s = SetSession (record (columns_of s) { expiry = expiry }) ∷ []
 part_rows DropWill s = RemoveWill s.birth ∷ []
 part_rows (Subscribe sub) s = PutSubscription s.birth sub ∷ []
 part_rows (Unsubscribe filter) s = RemoveSubscription s.birth filter ∷ []
@@ -245,8 +245,8 @@ closing (Gone n) = Some n
 closing d = None
 
 abbrev pub part_report : Whose → Part → Option Report
-part_report who (Enter copy) = Some (reports.Entered (copy_id who.birth copy) who.client)
-part_report who (Leave e ending) = Some (reports.Ended (copy_id who.birth e.copy) who.client ending)
+part_report who (Enter copy) = Some (reports.Entered copy.id who.client)
+part_report who (Leave e ending) = Some (reports.Ended e.copy.id who.client ending)
 part_report who (Release id) = Some (reports.Released who.birth who.client id)
 part_report who part = None
 

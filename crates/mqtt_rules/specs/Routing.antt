@@ -78,8 +78,7 @@ abbrev pub copy_to : ℕ → ℕ → Message → Cause → Copy → CopyTo
 copy_to number now m cause c = record {
   birth = c.birth;
   copy = record {
-    publication = number;
-    cause = cause;
+    id = record { publication = number; birth = c.birth; cause = cause };
     qos = quality c.qos;
     retain = c.retain;
     identifiers = c.identifiers;

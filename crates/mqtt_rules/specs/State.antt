@@ -4,7 +4,6 @@ use Rattle.mqtt_flow.specs.declared.entry.Entry.{Entry as FlowEntry}
 use Rattle.mqtt_flow.specs.declared.entry.QueuedCopy.{QueuedCopy}
 use Rattle.mqtt_flow.specs.FreeIdentifier.{has}
 use Rattle.mqtt_base.specs.declared.limits.TheConstants.{LAST_NUMBER}
-use Rattle.mqtt_base.specs.declared.session.CopyId.{CopyId}
 use Rattle.mqtt_props.specs.declared.table.PropName.TheVariants.{MessageExpiryInterval}
 use Rattle.mqtt_topic.specs.Aliases.{AliasTable}
 use Rattle.mqtt_message.specs.declared.message.MessageCopy.{MessageCopy}
@@ -74,25 +73,17 @@ line_of birth b = find (λ l. is_of l.session birth) b.lines
 
 -- ---- a session's queue as the session rules see it
 
-abbrev pub copy_id : ℕ → MessageCopy → CopyId
-copy_id birth copy = record { publication = copy.id.publication; birth = birth; cause = copy.id.cause }
-
-abbrev pub queued_copy : ℕ → MessageCopy → QueuedCopy
-queued_copy birth copy = record {
-  id = copy_id birth copy;
+abbrev pub queued_copy : MessageCopy → QueuedCopy
+queued_copy copy = record {
+  id = copy.id;
   qos = copy.qos;
   size = size_of (publish_of copy.content.arrived false 1 copy);
   arrived = copy.content.arrived;
   expiry = number_at MessageExpiryInterval copy.content.properties;
 }
 
-abbrev pub entry_on : List ℕ → ℕ → CopyRow → FlowEntry
-entry_on went e = record {
-  place = e.place;
-  copy = queued_copy birth e.copy;
-  phase = e.phase;
-  here = has e.place went;
-}
+abbrev pub entry_on : List ℕ → CopyRow → FlowEntry
+entry_on went e = record { place = e.place; copy = queued_copy e.copy; phase = e.phase; here = has e.place went }
 
 -- the queue, with the copies whose PUBLISH went out on a line
 abbrev pub queue_on : List ℕ → Session → List FlowEntry

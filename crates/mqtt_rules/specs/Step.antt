@@ -12,7 +12,7 @@ use Rattle.mqtt_flow.specs.Queue.{holder, order_of}
 use Rattle.mqtt_records.specs.declared.change.Counter.{Counter}
 use Rattle.mqtt_records.specs.declared.change.Counter.TheVariants.{Births, Publications, Subscribes, Autos, Moment}
 use Rattle.mqtt_records.specs.declared.change.Change.{Change}
-use Rattle.mqtt_records.specs.declared.change.Change.TheVariants.{SetCounter, PutSession, RemoveSession, PutWill, RemoveWill, PutSubscription, RemoveSubscription, PutInbound, RemoveInbound, PutCopy, SetCopy, RemoveCopy, PutRetained, RemoveRetained}
+use Rattle.mqtt_records.specs.declared.change.Change.TheVariants.{SetCounter, PutSession, SetSession, RemoveSession, PutWill, RemoveWill, PutSubscription, RemoveSubscription, PutInbound, RemoveInbound, PutCopy, SetCopy, RemoveCopy, PutRetained, RemoveRetained}
 use Rattle.mqtt_records.specs.declared.session.Session.{Session}
 use Rattle.mqtt_records.specs.declared.records.Records.{Records}
 use Rattle.mqtt_rules.specs.declared.Limits.{Limits}
@@ -175,6 +175,7 @@ count_given Moment moment = 0
 abbrev pub number_given : Change → ℕ
 number_given (SetCounter counter n) = count_given counter n
 number_given (PutSession row) = row.birth
+number_given (SetSession row) = row.birth
 number_given (RemoveSession birth) = 0
 number_given (PutWill birth will) = 0
 number_given (RemoveWill birth) = 0

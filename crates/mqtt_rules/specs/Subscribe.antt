@@ -74,10 +74,9 @@ abbrev pub identifiers_of : Option ℕ → List ℕ
 identifiers_of None = []
 identifiers_of (Some n) = n ∷ []
 
-abbrev pub retained_copy : ℕ → Wish → RetainedMessage → MessageCopy
-retained_copy number w k = record {
-  publication = k.publication;
-  cause = RetainedBy number;
+abbrev pub retained_copy : ℕ → ℕ → Wish → RetainedMessage → MessageCopy
+retained_copy birth number w k = record {
+  id = record { publication = k.publication; birth = birth; cause = RetainedBy number };
   qos = quality (min (qos_number k.qos) (qos_number w.options.qos));
   retain = true;
   identifiers = identifiers_of w.identifier;
@@ -85,7 +84,7 @@ retained_copy number w k = record {
 }
 
 abbrev pub retained_copy_to : ℕ → ℕ → Wish → RetainedMessage → CopyTo
-retained_copy_to birth number w k = record { birth = birth; copy = retained_copy number w k }
+retained_copy_to birth number w k = record { birth = birth; copy = retained_copy birth number w k }
 
 -- in the order in which their topics were first retained
 abbrev pub brought_if : Bool → ℕ → ℕ → Session → Wish → List RetainedMessage → List CopyTo
