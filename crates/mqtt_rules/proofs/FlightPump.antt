@@ -13,7 +13,7 @@ use Rattle.mqtt_flow.specs.declared.entry.QueuedCopy.{QueuedCopy}
 use Rattle.mqtt_flow.specs.declared.entry.Turn.{Turn}
 use Rattle.mqtt_flow.specs.declared.entry.Turn.TheVariants as turns
 use Rattle.mqtt_flow.specs.declared.entry.Way.{Way}
-use Rattle.mqtt_flow.specs.FreeIdentifier.{has, closed_in, free_identifier}
+use Rattle.mqtt_flow.specs.Identifiers.{is_among, ids_without, free_identifier}
 use Rattle.mqtt_flow.specs.Pacing.{Pacing}
 use Rattle.mqtt_flow.specs.Queue.{identifier_of, also, identifiers}
 use Rattle.mqtt_flow.specs.Outbound.{Verdict, pass, end, outgrow, send, resend, first_time, too_large, once_more, is_late, is_large, verdict_by, verdict, in_room, step_on, step_by, freed, paced, then_on, pump_from, pace, pump}
@@ -36,15 +36,15 @@ use Rattle.mqtt_rules.proofs.FlightRecords.{Sits, flight_of, sits-marked, sits-l
 
 -- ---- the identifiers in use
 
--- they hold all that a queue has
+-- they hold all that a queue is_among
 abbrev pub Covers : List ℕ → List CopyRow → Type 0
-Covers used queue = (place id : ℕ) → identifier_at place queue ≡ Some id → has id used ≡ true
+Covers used queue = (place id : ℕ) → identifier_at place queue ≡ Some id → is_among id used ≡ true
 
-covers-also : (o : Option ℕ) (id : ℕ) (used : List ℕ) → has id used ≡ true → has id (also o used) ≡ true
+covers-also : (o : Option ℕ) (id : ℕ) (used : List ℕ) → is_among id used ≡ true → is_among id (also o used) ≡ true
 covers-also None id used h = h
 covers-also (Some j) id used h = elim (cases_Bool (nat_eq j id)) [ inl same ↦ rw same refl | inr other ↦ rw other h ]
 
-covers-first : (o : Option ℕ) (id : ℕ) (used : List ℕ) → o ≡ Some id → has id (also o used) ≡ true
+covers-first : (o : Option ℕ) (id : ℕ) (used : List ℕ) → o ≡ Some id → is_among id (also o used) ≡ true
 covers-first None id used e = absurd cc
 covers-first (Some j) id used e = let is : j ≡ id = cc in rw (ap (λ n. nat_eq n id) is ∙ nat_eq_equiv.refl id) refl
 
@@ -61,7 +61,7 @@ or_true false = refl
 
 covers-sent : (place i : ℕ) (e : CopyRow) (used : List ℕ) (queue : List CopyRow) → row_at copy_place place queue ≡ Some e → Covers used queue → Covers (used ++ i ∷ []) (change_row copy_place place (in_phase (Sent i)) queue)
 covers-sent place i e used queue there covers other id h = elim (identifier-marked place other id (Sent i) e queue there h) [
-  | inl it ↦ let new : Some i ≡ Some id = it.1 in let is : i ≡ id = cc in has-push id i used ∙ rw (ap (λ n. nat_eq id n) is ∙ nat_eq_equiv.refl id) (or_true (has id used))
+  | inl it ↦ let new : Some i ≡ Some id = it.1 in let is : i ≡ id = cc in has-push id i used ∙ rw (ap (λ n. nat_eq id n) is ∙ nat_eq_equiv.refl id) (or_true (is_among id used))
   | inr it ↦ has-push id i used ∙ rw (covers other id it.1) refl
 ]
 
@@ -71,8 +71,8 @@ covers-kept place phase e used queue there same covers other id h = elim (identi
   | inr it ↦ covers other id it.1
 ]
 
--- the identifier of a copy that leaves is free, for no other copy has it
-covers-closed : (place j : ℕ) (used : List ℕ) (queue : List CopyRow) → identifier_at place queue ≡ Some j → IsFlight queue → Covers used queue → Covers (closed_in j used) (remove_row copy_place place queue)
+-- the identifier of a copy that leaves is free, for no other copy is_among it
+covers-closed : (place j : ℕ) (used : List ℕ) (queue : List CopyRow) → identifier_at place queue ≡ Some j → IsFlight queue → Covers used queue → Covers (ids_without j used) (remove_row copy_place place queue)
 covers-closed place j used queue its flight covers other id h =
     let left = identifier-removed other place id queue h in
     let apart_ids : nat_eq id j ≡ false = apart id j (λ same.
@@ -106,7 +106,7 @@ ahead-marked place phase queue (e ∷ es) up h =
     let less = up.0 in
     (change_row-other copy_place e.place place (in_phase phase) queue (place-kept phase) (apart place e.place (λ same. omega (arith, same, less))) ∙ h.0, ahead-marked place phase queue es up.1 h.1)
 
--- ---- what a pump has for a copy keeps to its identifier
+-- ---- what a pump is_among for a copy keeps to its identifier
 
 abbrev Right : Phase → Verdict → Type 0
 Right phase pass = Unit {0}

@@ -8,7 +8,7 @@ use Rattle.mqtt_base.specs.declared.session.Ending.{Ending}
 use Rattle.mqtt_props.specs.Properties.{Prop}
 use Rattle.mqtt_codec.specs.declared.packet.Packet.{Packet}
 use Rattle.mqtt_topic.specs.Aliases.{no_aliases, after_resolve}
-use Rattle.mqtt_flow.specs.FreeIdentifier.{closed_in}
+use Rattle.mqtt_flow.specs.Identifiers.{ids_without}
 use Rattle.mqtt_message.specs.declared.message.MessageCopy.{MessageCopy}
 use Rattle.mqtt_message.specs.declared.message.RetainedMessage.{RetainedMessage}
 use Rattle.mqtt_message.specs.declared.message.Will.{Will}
@@ -163,7 +163,7 @@ on_line now n part (l ∷ ls) = cond (nat_eq l.number n) (line_after now part l 
 
 -- a copy that left its session's queue is sent on its line no longer
 abbrev pub without_place : ℕ → ℕ → Line → Line
-without_place birth place l = cond (is_of l.session birth) (record l { went = closed_in place l.went }) l
+without_place birth place l = cond (is_of l.session birth) (record l { went = ids_without place l.went }) l
 
 abbrev pub lines_at : ℕ → Part → List Line → List Line
 lines_at birth (Leave e ending) ls = map (without_place birth e.place) ls

@@ -13,8 +13,8 @@ use Rattle.mqtt_topic.specs.Aliases.{AliasTable, topic_of}
 use Rattle.mqtt_flow.specs.declared.entry.Turn.{Turn}
 use Rattle.mqtt_flow.specs.declared.inflow.Published.{Published}
 use Rattle.mqtt_flow.specs.declared.inflow.Published.TheVariants.{New, Again, Over}
-use Rattle.mqtt_flow.specs.declared.inflow.Released.{Released}
-use Rattle.mqtt_flow.specs.declared.inflow.Released.TheVariants.{Known, Unknown}
+use Rattle.mqtt_flow.specs.declared.inflow.ReleaseAnswer.{ReleaseAnswer}
+use Rattle.mqtt_flow.specs.declared.inflow.ReleaseAnswer.TheVariants.{Known, Unknown}
 use Rattle.mqtt_base.specs.Codes.{success, normal_disconnection, no_matching_subscribers, unspecified_error, protocol_error, topic_name_invalid, identifier_in_use, identifier_not_found, receive_maximum_exceeded, topic_alias_invalid, quota_exceeded}
 use Rattle.mqtt_flow.specs.Inbound.{answer_to, answer_to_release}
 use Rattle.mqtt_flow.specs.Outbound.{Answer, pump}
@@ -141,7 +141,7 @@ on_publish env l s p b = publish_meant (meaning p l.aliases) env l s p b
 
 -- ---- PUBREL (4.3.3)
 
-abbrev pub release_by : Released → Line → Session → ℕ → List Deed
+abbrev pub release_by : ReleaseAnswer → Line → Session → ℕ → List Deed
 release_by Known l s id = At (whose s) (Release id) ∷ Send l.number (pubcomp id success) ∷ []
 release_by Unknown l s id = Send l.number (pubcomp id identifier_not_found) ∷ []
 

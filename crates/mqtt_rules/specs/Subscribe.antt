@@ -15,7 +15,7 @@ use Rattle.mqtt_topic.specs.Filters.{is_filter, begins_share}
 use Rattle.mqtt_routes.specs.declared.retained.Kept.{Kept}
 use Rattle.mqtt_routes.specs.Retained.{kept_for}
 use Rattle.mqtt_base.specs.Codes.{success, no_subscription_existed, topic_filter_invalid, identifier_in_use, quota_exceeded}
-use Rattle.mqtt_flow.specs.Inbound.{is_open}
+use Rattle.mqtt_flow.specs.Identifiers.{is_among}
 use Rattle.mqtt_message.specs.declared.message.MessageCopy.{MessageCopy}
 use Rattle.mqtt_message.specs.declared.message.RetainedMessage.{RetainedMessage}
 use Rattle.mqtt_records.specs.declared.subscription.Subscription.{Subscription}
@@ -184,7 +184,7 @@ subscribe_by false env line s p b =
 
 -- an identifier that is open for a QoS 2 PUBLISH is in use (2.2.1)
 abbrev pub on_subscribe : Env → ℕ → Session → Subscribe → Act
-on_subscribe env line s p b = subscribe_by (is_open p.identifier s.inbound) env line s p b
+on_subscribe env line s p b = subscribe_by (is_among p.identifier s.inbound) env line s p b
 
 -- ---- UNSUBSCRIBE (3.10, 3.11)
 
@@ -209,4 +209,4 @@ unsubscribe_by false line s p b =
     ++ offer (line_at line b) (unsuback p.identifier (drop_codes s [] p.filters))
 
 abbrev pub on_unsubscribe : ℕ → Session → Unsubscribe → Act
-on_unsubscribe line s p b = unsubscribe_by (is_open p.identifier s.inbound) line s p b
+on_unsubscribe line s p b = unsubscribe_by (is_among p.identifier s.inbound) line s p b
