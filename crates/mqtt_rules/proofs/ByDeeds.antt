@@ -18,7 +18,7 @@ use Rattle.mqtt_flow.specs.Outbound.{Answer, way_made}
 use Rattle.mqtt_message.specs.declared.message.MessageCopy.{MessageCopy}
 use Rattle.mqtt_message.specs.declared.message.RetainedMessage.{RetainedMessage}
 use Rattle.mqtt_message.specs.declared.message.Will.{Will}
-use Rattle.mqtt_message.specs.declared.queue.CopyRow.{CopyRow}
+use Rattle.mqtt_message.specs.Queue.{CopyRow}
 use Rattle.mqtt_records.specs.declared.session.Session.{Session}
 use Rattle.mqtt_rows.specs.Order.{row_at}
 use Rattle.mqtt_records.specs.Session.{birth_of, copy_place}

@@ -8,7 +8,7 @@ use Rattle.mqtt_props.specs.declared.table.PropName.TheVariants.{MessageExpiryIn
 use Rattle.mqtt_props.specs.Properties.{U32}
 use Rattle.mqtt_message.specs.declared.message.Content.{Content}
 use Rattle.mqtt_message.specs.declared.message.Will.{Will}
-use Rattle.mqtt_message.specs.declared.queue.CopyRow.{CopyRow}
+use Rattle.mqtt_message.specs.Queue.{CopyRow}
 use Rattle.mqtt_records.specs.Records.{nothing}
 use Rattle.mqtt_rules.specs.Packets.{property}
 use Rattle.mqtt_rules.specs.State.{Broker}

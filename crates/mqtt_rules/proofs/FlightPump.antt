@@ -17,8 +17,8 @@ use Rattle.mqtt_flow.specs.Identifiers.{is_among, ids_without, free_identifier}
 use Rattle.mqtt_flow.specs.Pacing.{Pacing}
 use Rattle.mqtt_flow.specs.Queue.{identifier_of, also, identifiers}
 use Rattle.mqtt_flow.specs.Outbound.{Verdict, pass, end, outgrow, send, resend, first_time, too_large, once_more, is_late, is_large, verdict_by, verdict, in_room, step_on, step_by, freed, paced, then_on, pump_from, pace, pump}
-use Rattle.mqtt_flow.proofs.OutIds.{has-push, has-closed_other, free_is_free}
-use Rattle.mqtt_message.specs.declared.queue.CopyRow.{CopyRow}
+use Rattle.mqtt_flow.proofs.Identifiers.{is_among-push, is_among-ids_without_other, free_is_free}
+use Rattle.mqtt_message.specs.Queue.{CopyRow}
 use Rattle.mqtt_records.specs.declared.session.Session.{Session}
 use Rattle.mqtt_rows.specs.Order.{IsAbove, IsAscending, row_at, remove_row, change_row}
 use Rattle.mqtt_records.specs.Session.{copy_place, in_phase}
@@ -36,7 +36,7 @@ use Rattle.mqtt_rules.proofs.FlightRecords.{Sits, flight_of, sits-marked, sits-l
 
 -- ---- the identifiers in use
 
--- they hold all that a queue is_among
+-- they hold all that a queue has
 abbrev pub Covers : List ℕ → List CopyRow → Type 0
 Covers used queue = (place id : ℕ) → identifier_at place queue ≡ Some id → is_among id used ≡ true
 
@@ -61,8 +61,8 @@ or_true false = refl
 
 covers-sent : (place i : ℕ) (e : CopyRow) (used : List ℕ) (queue : List CopyRow) → row_at copy_place place queue ≡ Some e → Covers used queue → Covers (used ++ i ∷ []) (change_row copy_place place (in_phase (Sent i)) queue)
 covers-sent place i e used queue there covers other id h = elim (identifier-marked place other id (Sent i) e queue there h) [
-  | inl it ↦ let new : Some i ≡ Some id = it.1 in let is : i ≡ id = cc in has-push id i used ∙ rw (ap (λ n. nat_eq id n) is ∙ nat_eq_equiv.refl id) (or_true (is_among id used))
-  | inr it ↦ has-push id i used ∙ rw (covers other id it.1) refl
+  | inl it ↦ let new : Some i ≡ Some id = it.1 in let is : i ≡ id = cc in is_among-push id i used ∙ rw (ap (λ n. nat_eq id n) is ∙ nat_eq_equiv.refl id) (or_true (is_among id used))
+  | inr it ↦ is_among-push id i used ∙ rw (covers other id it.1) refl
 ]
 
 covers-kept : (place : ℕ) (phase : Phase) (e : CopyRow) (used : List ℕ) (queue : List CopyRow) → row_at copy_place place queue ≡ Some e → identifier_of phase ≡ identifier_of e.phase → Covers used queue → Covers used (change_row copy_place place (in_phase phase) queue)
@@ -71,7 +71,7 @@ covers-kept place phase e used queue there same covers other id h = elim (identi
   | inr it ↦ covers other id it.1
 ]
 
--- the identifier of a copy that leaves is free, for no other copy is_among it
+-- the identifier of a copy that leaves is free, for no other copy has it
 covers-closed : (place j : ℕ) (used : List ℕ) (queue : List CopyRow) → identifier_at place queue ≡ Some j → IsFlight queue → Covers used queue → Covers (ids_without j used) (remove_row copy_place place queue)
 covers-closed place j used queue its flight covers other id h =
     let left = identifier-removed other place id queue h in
@@ -81,7 +81,7 @@ covers-closed place j used queue its flight covers other id h =
     let not = left.0 in
     let no : true ≡ false = sym is ∙ not in
     absurd cc) in
-    has-closed_other id j used apart_ids ∙ covers other id left.1
+    is_among-ids_without_other id j used apart_ids ∙ covers other id left.1
 
 covers-left : (phase : Phase) (place : ℕ) (used : List ℕ) (queue : List CopyRow) → identifier_at place queue ≡ identifier_of phase → IsFlight queue → Covers used queue → Covers (freed phase used) (remove_row copy_place place queue)
 covers-left Waiting place used queue its flight covers = λ other id h. covers other id (identifier-removed other place id queue h).1
@@ -106,7 +106,7 @@ ahead-marked place phase queue (e ∷ es) up h =
     let less = up.0 in
     (change_row-other copy_place e.place place (in_phase phase) queue (place-kept phase) (apart place e.place (λ same. omega (arith, same, less))) ∙ h.0, ahead-marked place phase queue es up.1 h.1)
 
--- ---- what a pump is_among for a copy keeps to its identifier
+-- ---- what a pump has for a copy keeps to its identifier
 
 abbrev Right : Phase → Verdict → Type 0
 Right phase pass = Unit {0}

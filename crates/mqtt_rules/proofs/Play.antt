@@ -29,7 +29,7 @@ use Rattle.mqtt_rules.specs.Packets.{property, connack}
 use Rattle.mqtt_rules.specs.State.{Broker, session_at, stored, MemberChoice}
 use Rattle.mqtt_rules.specs.Step.{Call, NewLine, Input, Outcome, stepped, told, opened, at_moment, deeds, with_moment}
 use Rattle.mqtt_message.specs.declared.message.MessageCopy.{MessageCopy}
-use Rattle.mqtt_message.specs.declared.queue.CopyRow.{CopyRow}
+use Rattle.mqtt_message.specs.Queue.{CopyRow}
 use Rattle.mqtt_rows.specs.Order.{change_row}
 use Rattle.mqtt_records.specs.Session.{birth_of, fresh}
 use Rattle.mqtt_records.specs.declared.change.Change.{Change}
