@@ -19,5 +19,6 @@ pub mod SessionQueues
 pub mod SessionSteps
 pub mod Stages
 pub mod Steps
+pub mod Stillness
 pub mod WorkedQueues
 pub mod WorkedRuns

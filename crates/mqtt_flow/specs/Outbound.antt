@@ -174,6 +174,10 @@ pump_from way (e ∷ es) p = then_on (pump_step way p e) e.phase p (pump_from wa
 abbrev pub pace : Way → List Entry → Pacing
 pace way queue = record { left = PUMP_LIMIT; room = way.window - in_window queue; used = identifiers queue; order = next_order queue }
 
+-- the same where this much of the window is known to be filled, and this is known as the greatest order
+abbrev pub pace_known : Way → ℕ → ℕ → List Entry → Pacing
+pace_known way window order queue = record { left = PUMP_LIMIT; room = way.window - window; used = identifiers queue; order = order + 1 }
+
 abbrev pub pump : Way → List Entry → List Turn
 pump way queue = pump_from way queue (pace way queue)
 

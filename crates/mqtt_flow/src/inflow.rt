@@ -6,6 +6,7 @@ ghost use Rattle.mqtt_flow.specs.Inbound.{answer_to, open_after, answer_to_relea
 ghost use Rattle.mqtt_flow.specs.Inflow.{StandsAt, BelongsAt};
 
 use crate::fault::FlowFault;
+use crate::open_list::place;
 use mqtt_base::OPEN_LIMIT;
 use std::alloc::Global;
 use std::marker::Model;
@@ -154,6 +155,6 @@ impl Inflow {
         ensures missing { IfErr result (BelongsAt id self.now.ids) }
         ensures lawful { IsOpenList self.now.ids }
     {
-        self.ids.binary_search(&id)
+        place(&self.ids, id)
     }
 }

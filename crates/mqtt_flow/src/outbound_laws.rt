@@ -1,10 +1,13 @@
 //! The law of one outbound hop (4.3, 4.4, 4.6).
 
-ghost use Rattle.std.specs.Prelude.{ℕ, List};
+ghost use Rattle.std.specs.Prelude.{ℕ, ◌+◌, ◌≤◌, List, length};
 ghost use Rattle.mqtt_base.specs.declared.Ending.TheVariants.{Expired, Dropped};
 ghost use Rattle.mqtt_flow.specs.declared.entry.Entry.{Entry};
+ghost use Rattle.mqtt_flow.specs.declared.entry.QueueLimits.{QueueLimits};
 ghost use Rattle.mqtt_flow.specs.declared.entry.Way.{Way};
 ghost use Rattle.mqtt_flow.specs.Identifiers.{free_identifier};
+ghost use Rattle.mqtt_flow.specs.Queue.{greatest_given, next_order, next_place};
+ghost use Rattle.mqtt_flow.specs.Outbound.{order_asked, pubrec, pump, way_open};
 ghost use Rattle.mqtt_flow.specs.Pumping.{InQueueOrder, WithinWindow, IsLowestFree};
 ghost use Rattle.mqtt_flow.specs.OutboundWorld.{Event, run, start};
 ghost use Rattle.mqtt_flow.specs.OutboundCourse.{Once, TakenOnce, ReleasedOnce, Unhanded, InOrder, GoOn, Carried, TakenRead, Grow, ReleasedForGood, ConnectsAlone, Heard};
@@ -16,6 +19,17 @@ pub fn pump_in_order()
     ensures order { (way : Way) (queue : List Entry) → InQueueOrder way queue }
     ensures window { (way : Way) (queue : List Entry) → WithinWindow way queue }
     ensures identifier { (used : List ℕ) → IsLowestFree used (free_identifier used) }
+{}
+
+/// What is known of the numbers that a step gives without the step: those of a pump and of a PUBREC go on from the next
+/// order, and a copy enters at the next place or, where others made way, at a lower one (ours).
+pub fn numbers_go_on()
+    ensures pump { (way : Way) (queue : List Entry) →
+        greatest_given (pump way queue) ≤ next_order queue + length queue }
+    ensures pubrec { (identifier code : ℕ) (queue : List Entry) →
+        order_asked (pubrec identifier code queue) ≤ next_order queue }
+    ensures enter { (limits : QueueLimits) (since : ℕ) (queue : List Entry) →
+        next_place (way_open limits since queue) ≤ next_place queue }
 {}
 
 /// Whatever happens on the lines of a receiver and to the broker: no copy is handed over twice, one

@@ -1,6 +1,6 @@
 //! What is kept of a session: its row, Will, subscriptions, open identifiers and queue (4.1).
-ghost use Rattle.std.specs.Prelude.{◌≡◌, IfOk};
-ghost use Rattle.mqtt_records.specs.Session.{fresh};
+ghost use Rattle.std.specs.Prelude.{◌≡◌, [], IfOk};
+ghost use Rattle.mqtt_records.specs.Session.{fresh, with_columns, with_will};
 
 use crate::subscription::{Subscription, put_by_filter};
 use mqtt_base::{OPEN_LIMIT, Phase, QUEUE_LIMIT, SUBSCRIPTION_LIMIT, Text};
@@ -8,6 +8,7 @@ use mqtt_message::{CopyRow, Will};
 use mqtt_rows::{Boxed, CloneRow, Editable, Named, Parted, Row, Rows};
 use std::alloc::{AllocError, Global};
 use std::marker::Model;
+use std::mem;
 
 /// A session (4.1).
 #[derive(Drop)]
@@ -50,24 +51,133 @@ impl CloneRow for Session {
     ghost clone_is = { λ value copy same. same };
 }
 
+/// The lists that a session has.
+#[derive(Drop)]
+struct Lists {
+    subscriptions: Rows<Boxed<Subscription>, SUBSCRIPTION_LIMIT>,
+    inbound: Rows<u16, OPEN_LIMIT>,
+    queue: Rows<Boxed<CopyRow>, QUEUE_LIMIT>,
+}
+
+/// No rows, with room for as many as there may be.
+fn new_lists(alloc: Global) -> Result<Lists, AllocError>
+    ensures { IfOk result (λ lists. lists
+        ≡ record { subscriptions = []; inbound = []; queue = [] }) }
+{
+    let subscriptions = Rows::new(alloc)?;
+    match new_inner(alloc) {
+        Ok((inbound, queue)) => Ok(Lists {
+            subscriptions,
+            inbound,
+            queue,
+        }),
+        Err(fault) => {
+            drop(subscriptions);
+            Err(fault)
+        }
+    }
+}
+
+/// No identifiers and no copies, with room for as many as there may be.
+fn new_inner(
+    alloc: Global,
+) -> Result<(Rows<u16, OPEN_LIMIT>, Rows<Boxed<CopyRow>, QUEUE_LIMIT>), AllocError>
+    ensures { IfOk result (λ lists. (lists.0 ≡ []) × (lists.1 ≡ [])) }
+{
+    let inbound = Rows::new(alloc)?;
+    match Rows::new(alloc) {
+        Ok(queue) => Ok((inbound, queue)),
+        Err(fault) => {
+            drop(inbound);
+            Err(fault)
+        }
+    }
+}
+
+/// Clones of the lists of a session.
+fn clone_lists(session: &Session) -> Result<Lists, AllocError>
+    ensures { IfOk result (λ lists. lists ≡ record {
+        subscriptions = session.now.subscriptions;
+        inbound = session.now.inbound;
+        queue = session.now.queue;
+    }) }
+{
+    let subscriptions = session.subscriptions.clone()?;
+    match clone_inner(session) {
+        Ok((inbound, queue)) => Ok(Lists {
+            subscriptions,
+            inbound,
+            queue,
+        }),
+        Err(fault) => {
+            drop(subscriptions);
+            Err(fault)
+        }
+    }
+}
+
+/// Clones of the identifiers and copies of a session.
+fn clone_inner(
+    session: &Session,
+) -> Result<(Rows<u16, OPEN_LIMIT>, Rows<Boxed<CopyRow>, QUEUE_LIMIT>), AllocError>
+    ensures { IfOk result (λ lists. (lists.0 ≡ session.now.inbound)
+        × (lists.1 ≡ session.now.queue)) }
+{
+    let inbound = session.inbound.clone()?;
+    match session.queue.clone() {
+        Ok(queue) => Ok((inbound, queue)),
+        Err(fault) => {
+            drop(inbound);
+            Err(fault)
+        }
+    }
+}
+
+/// A clone of a Will that may be there.
+fn clone_will(will: &Option<Will>) -> Result<Option<Will>, AllocError>
+    ensures { IfOk result (λ copy. copy ≡ will.now) }
+{
+    match will {
+        Some(will) => Ok(Some(will.clone()?)),
+        None => Ok(None),
+    }
+}
+
+/// Clones of the client identifier and the Will of a session.
+fn clone_own(session: &Session) -> Result<(Text, Option<Will>), AllocError>
+    ensures { IfOk result (λ own. (own.0 ≡ session.now.client) × (own.1 ≡ session.now.will)) }
+{
+    let client = session.client.clone()?;
+    match clone_will(&session.will) {
+        Ok(will) => Ok((client, will)),
+        Err(fault) => {
+            drop(client);
+            Err(fault)
+        }
+    }
+}
+
 impl Clone for Session {
     ghost is_clone = { λ value copy. copy ≡ value };
 
     fn clone(&self) -> Result<Session, AllocError> {
-        let will = match &self.will {
-            Some(will) => Some(will.clone()?),
-            None => None,
-        };
-        Ok(Session {
-            birth: self.birth,
-            client: self.client.clone()?,
-            expiry: self.expiry,
-            closed: self.closed,
-            will,
-            subscriptions: self.subscriptions.clone()?,
-            inbound: self.inbound.clone()?,
-            queue: self.queue.clone()?,
-        })
+        let lists = clone_lists(self)?;
+        match clone_own(self) {
+            Ok((client, will)) => Ok(Session {
+                birth: self.birth,
+                client,
+                expiry: self.expiry,
+                closed: self.closed,
+                will,
+                subscriptions: lists.subscriptions,
+                inbound: lists.inbound,
+                queue: lists.queue,
+            }),
+            Err(fault) => {
+                drop(lists);
+                Err(fault)
+            }
+        }
     }
 }
 
@@ -120,15 +230,22 @@ impl SessionRow {
     pub fn new(alloc: Global, columns: Columns) -> Result<SessionRow, AllocError>
         ensures { IfOk result (λ row. row ≡ columns) }
     {
+        let lists = match new_lists(alloc) {
+            Ok(lists) => lists,
+            Err(fault) => {
+                drop(columns);
+                return Err(fault);
+            }
+        };
         let session = Session {
             birth: columns.birth,
             client: columns.client,
             expiry: columns.expiry,
             closed: columns.closed,
             will: None,
-            subscriptions: Rows::new(alloc)?,
-            inbound: Rows::new(alloc)?,
-            queue: Rows::new(alloc)?,
+            subscriptions: lists.subscriptions,
+            inbound: lists.inbound,
+            queue: lists.queue,
         };
         let session = Boxed::new(alloc, session)?;
         Ok(SessionRow { session })
@@ -197,6 +314,24 @@ pub enum SessionPart {
     RemoveCopy { place: u64 },
 }
 
+/// Sets the columns of a session but its birth.
+fn set_columns(session: &mut Session, row: Columns)
+    ensures { session.new ≡ with_columns row session.old }
+{
+    let client = mem::replace(&mut session.client, row.client);
+    drop(client);
+    session.expiry = row.expiry;
+    session.closed = row.closed;
+}
+
+/// Sets or removes the Will of a session.
+fn set_will(session: &mut Session, will: Option<Will>)
+    ensures { session.new ≡ with_will will session.old }
+{
+    let old = mem::replace(&mut session.will, will);
+    drop(old);
+}
+
 impl Editable for Session {
     type Part = SessionPart;
 
@@ -206,18 +341,15 @@ impl Editable for Session {
 
     fn edit(&mut self, part: SessionPart) {
         match part {
-            SessionPart::SetColumns { row } => {
-                self.client = row.client;
-                self.expiry = row.expiry;
-                self.closed = row.closed;
-            }
-            SessionPart::PutWill { will } => self.will = Some(will),
-            SessionPart::RemoveWill => self.will = None,
+            SessionPart::SetColumns { row } => set_columns(self, row),
+            SessionPart::PutWill { will } => set_will(self, Some(will)),
+            SessionPart::RemoveWill => set_will(self, None),
             SessionPart::PutSubscription { subscription } => {
                 put_by_filter(&mut self.subscriptions, subscription);
             }
             SessionPart::RemoveSubscription { filter } => {
                 self.subscriptions.remove_named(filter.as_str());
+                drop(filter);
             }
             SessionPart::PutInbound { identifier } => self.inbound.put(identifier),
             SessionPart::RemoveInbound { identifier } => self.inbound.remove(u64::from(identifier)),

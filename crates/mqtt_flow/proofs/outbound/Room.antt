@@ -1,8 +1,12 @@
 -- Room for a copy that enters, and the orders that a session's turns give.
-use Rattle.std.proofs.Common.{◌≡◌, ⊎_elim, ℕ, zero, suc, ◌≤◌, ◌<◌, ◌+◌, ◌-◌, true, false, cond, not, ◌&&◌, List, [], ◌∷◌, length, filter, count_by, nat_eq, nat_lt, refl, sym, ap, subst, ◌∙◌, arith}
+use Rattle.std.proofs.Common.{◌≡◌, ⊎_elim, ℕ, zero, suc, ◌≤◌, ◌<◌, ◌+◌, ◌-◌, true, false, cond, not, ◌&&◌, List, [], ◌∷◌, length, filter, count_by, nat_eq, nat_lt, refl, sym, ap, subst, ◌∙◌, arith, Bool, Option, Some, None}
 use Rattle.std.proofs.lemmas.Bool.Decides.{nat_tests}
 use Rattle.std.proofs.lemmas.List.Sums.{count_by-le-length, sum_by-cons}
+use Rattle.mqtt_base.specs.declared.limits.TheConstants.{LAST_NUMBER}
 use Rattle.mqtt_base.specs.declared.Phase.{Phase}
+use Rattle.mqtt_base.specs.declared.Phase.TheVariants.{Waiting, Sent, Released, Oversize}
+use Rattle.mqtt_base.specs.declared.Qos.{Qos}
+use Rattle.mqtt_base.specs.declared.Qos.TheVariants.{AtMostOnce, AtLeastOnce, ExactlyOnce}
 use Rattle.mqtt_flow.specs.declared.entry.Entry.{Entry}
 use Rattle.mqtt_flow.specs.declared.entry.Full.{Full}
 use Rattle.mqtt_flow.specs.declared.entry.Full.TheVariants.{Refuse, Drop}
@@ -13,9 +17,9 @@ use Rattle.mqtt_flow.specs.declared.entry.Way.{Way}
 use Rattle.mqtt_flow.specs.declared.pump.Step.{Step}
 use Rattle.mqtt_flow.specs.declared.pump.Step.TheVariants.{Stop, GoOn, Take}
 use Rattle.mqtt_flow.specs.Pacing.{Pacing}
-use Rattle.mqtt_flow.specs.Queue.{after, after_all, order_given, greatest_given, greatest_place, next_order, Above, Ascends}
+use Rattle.mqtt_flow.specs.Queue.{after, after_all, order_given, greatest_given, greatest_place, next_order, Above, Ascends, holder, next_place}
 use Rattle.mqtt_flow.specs.Identifiers.{free_identifier}
-use Rattle.mqtt_flow.specs.Outbound.{gives_way, staying, has_room, pace, dropped, way_made, expired, is_waiting, is_late, Verdict, pass, end, outgrow, send, resend, in_room, step_on, step_by, verdict, pump_step, paced, then_on, pump_from, pump}
+use Rattle.mqtt_flow.specs.Outbound.{gives_way, staying, has_room, pace, dropped, way_made, expired, is_waiting, is_late, Verdict, pass, end, outgrow, send, resend, in_room, step_on, step_by, verdict, pump_step, paced, then_on, pump_from, pump, order_asked, released_by, pubrec_by, pubrec_at, pubrec, is_refusal, way_open}
 use Rattle.mqtt_flow.proofs.Identifiers.{test_cases, same_id}
 use Rattle.mqtt_flow.proofs.outbound.Queues.{places-filter, places-marked}
 
@@ -178,3 +182,37 @@ orders-from way (e ∷ es) p = then-orders (pump_step way p e) e.phase p (pump_f
 
 pub pump-orders : (way : Way) (queue : List Entry) → greatest_given (pump way queue) ≤ next_order queue + length queue
 pump-orders way queue = orders-from way queue (pace way queue)
+
+-- PUBREC gives the next order, or none
+asked-released : (is_refused : Bool) (place i order : ℕ) → order_asked (released_by is_refused place i order) ≤ order
+asked-released true place i order = omega arith
+asked-released false place i order = omega arith
+
+asked-by : (phase : Phase) (qos : Qos) (code place order : ℕ) → order_asked (pubrec_by phase qos code place order) ≤ order
+asked-by Waiting qos code place order = omega arith
+asked-by (Sent i) AtMostOnce code place order = omega arith
+asked-by (Sent i) AtLeastOnce code place order = omega arith
+asked-by (Sent i) ExactlyOnce code place order = asked-released (is_refusal code) place i order
+asked-by (Released i x) qos code place order = omega arith
+asked-by (Oversize i x) qos code place order = omega arith
+
+asked-at : (i code order : ℕ) (o : Option Entry) → order_asked (pubrec_at i code order o) ≤ order
+asked-at i code order None = omega arith
+asked-at i code order (Some e) = asked-by e.phase e.copy.qos code e.place order
+
+pub pubrec-order : (i code : ℕ) (queue : List Entry) → order_asked (pubrec i code queue) ≤ next_order queue
+pubrec-order i code queue = asked-at i code (next_order queue) (holder i queue)
+
+-- a copy that enters gets no higher place for those that made way
+pub way_open-place : (limits : QueueLimits) (since : ℕ) (queue : List Entry) → next_place (way_open limits since queue) ≤ next_place queue
+way_open-place limits since queue = let low = places-after_all (way_made limits since queue) queue in omega arith
+
+-- so that it is enough to look at the numbers that stand
+pub pump_fits : (way : Way) (queue : List Entry) → next_order queue + length queue ≤ LAST_NUMBER → greatest_given (pump way queue) ≤ LAST_NUMBER
+pump_fits way queue h = let most = pump-orders way queue in omega arith
+
+pub pubrec_fits : (i code : ℕ) (queue : List Entry) → next_order queue ≤ LAST_NUMBER → order_asked (pubrec i code queue) ≤ LAST_NUMBER
+pubrec_fits i code queue h = let most = pubrec-order i code queue in omega arith
+
+pub enter_fits : (limits : QueueLimits) (since : ℕ) (queue : List Entry) → next_place queue ≤ LAST_NUMBER → next_place (way_open limits since queue) ≤ LAST_NUMBER
+enter_fits limits since queue h = let most = way_open-place limits since queue in omega arith

@@ -26,6 +26,6 @@ add-requires-clause-place c =
     let since = c.args.since in
     let queue = c.args.self.now.queue in
     let made = c.take_all.ensures.queue ∙ ap (λ ts. after_all ts c.make_room.new.self.queue) (c.deref.ensures.value ∙ c.in_ok-turns.ensures.turns) ∙ ap (λ q. after_all (way_made limits since queue) q) c.make_room.ensures.queue in
-    let low = places-after_all (way_made limits since queue) queue in
+    let low = c.requires.place c.in_ok-turns.ensures.only in
     let place = ap greatest_place made in
     omega arith
