@@ -45,7 +45,7 @@ use Rattle.mqtt_rules.specs.Tick.{is_silent, silence, has_lapsed, lapse_deeds, i
 use Rattle.mqtt_rules.specs.Step.{Call, NewLine, Input, BadInput, Lost, Pump, Tick, first_packet, next_packet, on_packet, on_fault, late_code, on_pump, can_link, deeds_of, close_if, opening}
 use Rattle.mqtt_rules.proofs.FlightRows.{found_key}
 use Rattle.mqtt_rules.specs.Laws.{IsAmong}
-use Rattle.mqtt_rules.proofs.Leads.{found_among, found_passes, row_among, Leads, Leading, leads_append, leads_series, leads_two, leads_flat, leads_map, leads_cond, leads_if, leads_of_session, leads_of_client, leads_with_line}
+use Rattle.mqtt_rules.proofs.Leads.{found_among, found_passes, row_among, Leads, Leading, leads_append, leads_series, leads_two, leads_flat, leads_map, leads_cond, leads_of_session, leads_of_client, leads_with_line}
 
 -- ---- whom a step concerns
 

@@ -43,9 +43,9 @@ an_open_one_is_answered_as_before : answers (sends_again 7) ≡ out ((1, pubrec 
 unfolding varint
 an_open_one_is_answered_as_before = refl
 
-at_qos_1_it_is_in_use : answers (at_least_once false 7) ≡ out ((1, puback 7 0x91) ∷ []) [] [] false
+an_open_identifier_is_in_use : answers (at_least_once false 7) ≡ out ((1, puback 7 0x91) ∷ []) [] [] false
 unfolding varint
-at_qos_1_it_is_in_use = refl
+an_open_identifier_is_in_use = refl
 
 whatever_its_dup : answers (at_least_once true 7) ≡ out ((1, puback 7 0x91) ∷ []) [] [] false
 unfolding varint

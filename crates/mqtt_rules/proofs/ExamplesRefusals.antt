@@ -10,10 +10,9 @@ use Rattle.mqtt_codec.specs.declared.connect.Connect.{Connect}
 use Rattle.mqtt_codec.specs.declared.connect.Will.{Will}
 use Rattle.mqtt_records.specs.Records.{nothing}
 use Rattle.mqtt_rules.specs.Packets.{property, connack, size_of}
-use Rattle.mqtt_rules.specs.Deeds.{Deed, Send, Gone, fresh_line}
-use Rattle.mqtt_rules.specs.Connect.{refusal, refused}
-use Rattle.mqtt_rules.specs.Step.{NewLine, Input, Lost}
-use Rattle.mqtt_rules.proofs.Play.{Event, at, asks, out, hello, welcome, in_line, hi}
+use Rattle.mqtt_rules.specs.Connect.{refusal}
+use Rattle.mqtt_rules.specs.Step.{NewLine, Input, Lost, Outcome}
+use Rattle.mqtt_rules.proofs.Play.{Event, at, asks, out, hello, hello_with, welcome, in_line, hi}
 
 abbrev asked : List ℕ → List Prop → Option Will → Connect
 asked name ps will = record {
@@ -54,13 +53,15 @@ its_bytes : size_of (connack false 0x95 []) ≡ 5
 unfolding varint
 its_bytes = refl
 
-abbrev refused_at : ℕ → List Deed
-refused_at size = refused (fresh_line 1 0) (asked (codes "r1") (takes size ∷ []) None) 0x95
+abbrev with_size : ℕ → Outcome
+with_size size = asks (at 0 NewLine ∷ []) (at 0 (Input 1 (hello_with (codes "r1") (takes size ∷ []) None)))
 
-five_bytes_suffice : refused_at 5 ≡ Send 1 (connack false 0x95 []) ∷ Gone 1 ∷ []
+five_bytes_suffice : with_size 5 ≡ out ((1, connack false 0x95 []) ∷ []) (1 ∷ []) [] false
+unfolding varint
 five_bytes_suffice = refl
 
-four_do_not : refused_at 4 ≡ Gone 1 ∷ []
+four_do_not : with_size 4 ≡ out [] (1 ∷ []) [] false
+unfolding varint
 four_do_not = refl
 
 -- a name that was assigned is its client's from then on

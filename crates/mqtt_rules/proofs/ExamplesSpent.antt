@@ -91,15 +91,17 @@ a_subscribe_above_the_last = refl
 
 -- a retained message's place: a topic that stands keeps its own
 abbrev kept_at : ℕ → Broker
-kept_at place = let b = runs subscribed blank in record b { records = record b.records {
-  retained = record {
-    place = place;
-    sender = codes "p1";
-    publication = 1;
-    qos = ExactlyOnce;
-    content = record { topic = codes "x"; properties = []; payload = hi; arrived = 0 };
-  } ∷ [];
-} }
+kept_at place = let b = runs subscribed blank in record b {
+  records = record b.records {
+    retained = record {
+      place = place;
+      sender = codes "p1";
+      publication = 1;
+      qos = ExactlyOnce;
+      content = record { topic = codes "x"; properties = []; payload = hi; arrived = 0 };
+    } ∷ [];
+  };
+}
 
 the_last_retained_place : gives_too_much (at 0 (Input 2 (keeps topic 10))) (kept_at (LAST_NUMBER - 1)) ≡ false
 unfolding varint

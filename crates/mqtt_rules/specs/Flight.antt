@@ -18,7 +18,8 @@ identifier_at place queue = identifier_in (row_at copy_place place queue)
 -- each place of a queue is above those before it, and copies at different places have different packet identifiers
 pub record IsFlight (queue : List CopyRow) : Type 0 where
   pub places : IsAscending copy_place queue
-  pub identifiers : (place other id : ℕ) → identifier_at place queue ≡ Some id → identifier_at other queue ≡ Some id → place ≡ other
+  pub identifiers : (place other id : ℕ)
+      → identifier_at place queue ≡ Some id → identifier_at other queue ≡ Some id → place ≡ other
 
 -- so it is in each session
 abbrev pub HasDistinctIdentifiers : Records → Type 0

@@ -53,11 +53,13 @@ is_in_range max alias = nat_lt 0 alias && nat_le alias max
 
 abbrev pub resolved : AliasTable → List ℕ → Option ℕ → Meaning
 resolved table topic None = named topic
-resolved table topic (Some alias) = cond (is_in_range table.max alias) (named_by table topic alias) (Wrong topic_alias_invalid)
+resolved table topic (Some alias) =
+    cond (is_in_range table.max alias) (named_by table topic alias) (Wrong topic_alias_invalid)
 
 abbrev pub meaning : Publish → AliasTable → Meaning
 meaning p table =
-    cond (has SubscriptionIdentifier p.properties) (Wrong protocol_error) (resolved table p.topic (number_at TopicAlias p.properties))
+    cond (has SubscriptionIdentifier p.properties) (Wrong protocol_error)
+    (resolved table p.topic (number_at TopicAlias p.properties))
 
 -- the code that tells why a topic is none; a PUBLISH meets no other of these faults
 abbrev pub topic_code : TopicFault → ℕ
@@ -186,7 +188,8 @@ new_expiry (Some n) s = At (whose s) (SetExpiry n) ∷ []
 
 abbrev pub leave_by : Bool → Env → Line → Session → ℕ → Option ℕ → Act
 leave_by true env l s code expiry b = drop_line env protocol_error l b
-leave_by false env l s code expiry b = series (always (new_expiry expiry s) ∷ close env (not (nat_eq code normal_disconnection)) l ∷ []) b
+leave_by false env l s code expiry b =
+    series (always (new_expiry expiry s) ∷ close env (not (nat_eq code normal_disconnection)) l ∷ []) b
 
 abbrev pub on_disconnect : Env → Line → Session → ℕ → Option ℕ → Act
 on_disconnect env l s code expiry b = leave_by (is_late_expiry expiry s.expiry) env l s code expiry b

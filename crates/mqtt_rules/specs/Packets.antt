@@ -1,13 +1,11 @@
 -- What the rules read off packets, and how they write their own (MQTT 5.0, 3.1 to 3.14).
-use Rattle.std.specs.Prelude.{ℕ, ◌-◌, ◌/◌, Bool, cond, List, [], ◌++◌, length, map, find, Option, option_map, unwrap_or}
+use Rattle.std.specs.Prelude.{ℕ, ◌-◌, ◌/◌, Bool, List, [], length, unwrap_or}
 use Rattle.mqtt_base.specs.declared.session.Qos.{Qos}
 use Rattle.mqtt_base.specs.declared.session.Qos.TheVariants as qos
 use Rattle.mqtt_base.specs.declared.reason.Reason.{Reason}
 use Rattle.mqtt_props.specs.declared.table.PropName.{PropName}
-use Rattle.mqtt_props.specs.declared.table.PropName.TheVariants.{PayloadFormatIndicator, MessageExpiryInterval, ContentType, ResponseTopic, CorrelationData, SubscriptionIdentifier, UserProperty}
-use Rattle.mqtt_props.specs.Properties.{Value, Byte, U16, U32, VarInt, Text, Binary, Pair, Prop}
-use Rattle.mqtt_props.specs.Laws.{is_named}
-use Rattle.mqtt_props.specs.Edits.{only, without}
+use Rattle.mqtt_props.specs.declared.table.PropName.TheVariants.{MessageExpiryInterval}
+use Rattle.mqtt_props.specs.Properties.{Prop}
 use Rattle.mqtt_codec.specs.declared.publish.Delivery.{Delivery}
 use Rattle.mqtt_codec.specs.declared.publish.Delivery.TheVariants as delivery
 use Rattle.mqtt_codec.specs.declared.packet.Packet.{Packet}

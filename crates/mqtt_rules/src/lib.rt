@@ -6,6 +6,7 @@ mod flight_laws;
 mod laws;
 mod number_laws;
 mod routing_laws;
+mod topic_laws;
 
 pub use flight_laws::identifiers_in_flight_are_unique;
 pub use laws::{at_most_twenty_open, limits_are_kept, stored_part_follows, tables_are_ordered};
@@ -16,6 +17,7 @@ pub use number_laws::{
     counted_numbers_are_apart, counters_never_fall, new_places_are_last, numbers_are_new,
 };
 pub use routing_laws::{copies_find_room, members_are_reached};
+pub use topic_laws::topics_are_resolved;
 
 /// The sizes of the tables.
 #[derive(Clone, Copy, Debug, PartialEq, Eq)]
