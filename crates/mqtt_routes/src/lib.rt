@@ -15,8 +15,6 @@ mod slot;
 mod subscriber;
 mod subscribers;
 mod subscription;
-#[cfg(test)]
-mod tests;
 
 pub use answers::Sessions;
 pub use copy::RoutedCopy;

@@ -8,8 +8,6 @@ mod laws;
 mod levels;
 mod matching;
 mod name;
-#[cfg(test)]
-mod tests;
 
 pub use aliases::Aliases;
 pub use fault::TopicFault;
