@@ -1,13 +1,19 @@
 -- Topic aliases (MQTT 5.0, 3.3.2.3.4).
-use Rattle.std.specs.Prelude.{◌≡◌, ℕ, ◌<◌, ◌≤◌, cond, List, [], ◌∷◌, nat_eq, Option, Some, None}
+use Rattle.std.specs.Prelude.{◌≡◌, ◌↔◌, ℕ, ◌<◌, ◌≤◌, Bool, true, false, cond, ◌&&◌, List, [], ◌∷◌, nat_eq, nat_lt, nat_le, Option, Some, None, Result, Ok, Err}
 use Rattle.mqtt_topic.specs.declared.fault.TopicFault.{TopicFault}
-use Rattle.mqtt_topic.specs.declared.fault.TopicFault.TheVariants.{AliasRange, AliasUnknown, Memory}
-use Rattle.mqtt_topic.specs.Names.{IsTopicName, RefusesName}
+use Rattle.mqtt_topic.specs.declared.fault.TopicFault.TheVariants.{Empty, WildcardInName, AliasRange, AliasUnknown, Memory, NotText}
+use Rattle.mqtt_base.specs.Values.{FitsText}
+use Rattle.mqtt_topic.specs.Names.{IsTopicName, RefusesName, is_empty, has_wildcard}
 
 -- the greatest alias, and the topics that aliases stand for, in the order in which they came
 pub record AliasTable : Type 0 where
   pub max : ℕ
   pub topics : List (ℕ × List ℕ)
+
+-- a table, and how many further aliases it takes without memory
+pub record KeptAliases : Type 0 where
+  pub table : AliasTable
+  pub room : ℕ
 
 abbrev pub no_aliases : ℕ → AliasTable
 no_aliases max = record { max = max; topics = [] }
@@ -21,6 +27,19 @@ topic_of alias (e ∷ es) = cond (nat_eq alias e.0) (Some e.1) (topic_of alias e
 abbrev pub with_topic : ℕ → List ℕ → List (ℕ × List ℕ) → List (ℕ × List ℕ)
 with_topic alias topic [] = (alias, topic) ∷ []
 with_topic alias topic (e ∷ es) = cond (nat_eq alias e.0) ((e.0, topic) ∷ es) (e ∷ with_topic alias topic es)
+
+-- an alias stands for nothing
+abbrev pub without_topic : ℕ → List (ℕ × List ℕ) → List (ℕ × List ℕ)
+without_topic alias [] = []
+without_topic alias (e ∷ es) = cond (nat_eq alias e.0) es (e ∷ without_topic alias es)
+
+-- an alias stands for what it stood for before, if it stood for something
+abbrev pub restored : ℕ → Option (List ℕ) → List (ℕ × List ℕ) → List (ℕ × List ℕ)
+restored alias None topics = without_topic alias topics
+restored alias (Some topic) topics = with_topic alias topic topics
+
+abbrev pub with_topics : AliasTable → List (ℕ × List ℕ) → AliasTable
+with_topics table topics = record { max = table.max; topics = topics }
 
 -- an alias is from 1 to the greatest
 pub record IsInRange (max alias : ℕ) : Type 0 where
@@ -50,3 +69,29 @@ abbrev pub RefusesAlias : AliasTable → List ℕ → Option ℕ → TopicFault 
 RefusesAlias table topic None fault = RefusesName topic fault
 RefusesAlias table topic (Some alias) AliasRange = ¬ IsInRange table.max alias
 RefusesAlias table topic (Some alias) fault = IsInRange table.max alias × RefusesTopic table topic alias fault
+
+-- ---- the same as a function: the name, or why there is none
+
+abbrev pub is_in_range : ℕ → ℕ → Bool
+is_in_range max alias = nat_lt 0 alias && nat_le alias max
+
+abbrev pub known : Option (List ℕ) → Result (List ℕ) TopicFault
+known None = Err AliasUnknown
+known (Some name) = Ok name
+
+abbrev pub named : List ℕ → Result (List ℕ) TopicFault
+named topic = cond (is_empty topic) (Err Empty) (cond (has_wildcard topic) (Err WildcardInName) (Ok topic))
+
+-- by an alias that may be set
+abbrev pub resolved_by : AliasTable → List ℕ → ℕ → Result (List ℕ) TopicFault
+resolved_by table [] alias = known (topic_of alias table.topics)
+resolved_by table (c ∷ cs) alias = named (c ∷ cs)
+
+abbrev pub resolved : AliasTable → List ℕ → Option ℕ → Result (List ℕ) TopicFault
+resolved table topic None = named topic
+resolved table topic (Some alias) = cond (is_in_range table.max alias) (resolved_by table topic alias) (Err AliasRange)
+
+-- it answers the name that the PUBLISH means, and a fault that is due
+pub record IsByWords (table : AliasTable) (topic : List ℕ) (alias : Option ℕ) : Type 0 where
+  pub found : (name : List ℕ) → (resolved table topic alias ≡ Ok name) ↔ Resolves table topic alias name
+  pub refused : (fault : TopicFault) → resolved table topic alias ≡ Err fault → RefusesAlias table topic alias fault

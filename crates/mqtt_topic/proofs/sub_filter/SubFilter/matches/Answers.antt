@@ -2,7 +2,7 @@ use Rattle.std.proofs.Common.{sym, ◌∙◌, ap}
 use Rattle.mqtt_topic.specs.Filters.{is_filter, matching_part_of}
 use Rattle.mqtt_topic.specs.Matching.{is_match}
 use Rattle.mqtt_topic.proofs.MatchLemmas.{exact}
-use Rattle.mqtt_topic.proofs.filter.SubFilter.matches.Goals as goal
+use Rattle.mqtt_topic.proofs.sub_filter.SubFilter.matches.Goals as goal
 
 pub returns-clause-exact : goal.returns-clause-exact
 returns-clause-exact c =

@@ -4,7 +4,7 @@ use Rattle.mqtt_topic.specs.Filters.{begins_share, is_filter, is_shared_filter}
 use Rattle.mqtt_topic.proofs.LevelLemmas.{levels_cut_some, levels_cut_none}
 use Rattle.mqtt_topic.proofs.FilterLemmas.{and_false, is_filter-share, is_filter-share_alone}
 use Rattle.mqtt_topic.proofs.MatchLemmas.{and_right}
-use Rattle.mqtt_topic.proofs.filter.share_parts.Goals as goal
+use Rattle.mqtt_topic.proofs.shared.share_parts.Goals as goal
 
 pub returns-in_err-name-clause-none : goal.returns-in_err-name-clause-none
 returns-in_err-name-clause-none c =

@@ -1,7 +1,7 @@
 use Rattle.std.proofs.Common.{sym, ◌∙◌, ap}
 use Rattle.mqtt_topic.specs.Filters.{is_filter, matching_part_of}
 use Rattle.mqtt_topic.proofs.FilterLemmas.{begins_share-unshared, matching_part_of-unshared}
-use Rattle.mqtt_topic.proofs.filter.SubFilter.filter.Goals as goal
+use Rattle.mqtt_topic.proofs.sub_filter.SubFilter.filter.Goals as goal
 
 pub returns-in-None-clause-value : goal.returns-in-None-clause-value
 returns-in-None-clause-value c =
