@@ -94,9 +94,7 @@ impl Aliases {
         let Some(alias) = alias else {
             return TopicName::parse(self.alloc, topic);
         };
-        if alias == 0 || alias > self.max {
-            return Err(TopicFault::AliasRange);
-        }
+        self.check(alias)?;
         if topic.is_empty() {
             return self.known(alias);
         }

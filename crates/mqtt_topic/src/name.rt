@@ -32,13 +32,13 @@ fn check_name(text: &str) -> Result<(), TopicFault>
 }
 
 /// A topic name that shares its bytes with a text.
-pub(crate) fn name_of(text: &Text) -> Result<TopicName, TopicFault>
-    ensures read { IfOk result (λ name. name ≡ text.now) }
-    ensures lawful { OnOk result (IsTopicName text.now) }
-    ensures refused { IfErr result (RefusesName text.now) }
+pub(crate) fn name_of(lent: &Text) -> Result<TopicName, TopicFault>
+    ensures read { IfOk result (λ name. name ≡ lent.now) }
+    ensures lawful { OnOk result (IsTopicName lent.now) }
+    ensures refused { IfErr result (RefusesName lent.now) }
 {
-    check_name(text.as_str())?;
-    let text = text.clone().map_err(|_| TopicFault::Memory)?;
+    check_name(lent.as_str())?;
+    let text = lent.clone().map_err(|_| TopicFault::Memory)?;
     Ok(TopicName { text })
 }
 

@@ -81,7 +81,7 @@ impl SubFilter {
     pub fn is_shared(&self) -> bool
         ensures { result ≡ begins_share self.now }
     {
-        group_of(self.text.as_str()).is_some()
+        self.group().is_some()
     }
 
     /// NAME/FILTER of a shared one. Takes no memory.
