@@ -2,6 +2,7 @@
 ghost use Rattle.std.specs.Prelude.{cond, ◌&&◌, not, nat_eq, bytes_eq, codes};
 ghost use Rattle.std.specs.List.{list_any};
 
+use mqtt_base::{Qos, RetainHandling, SubscriptionOptions};
 use mqtt_routes::{Routed, RoutedCopy, Routes, RoutesFault, Sessions, Subscription};
 use mqtt_topic::{SubFilter, TopicFault, TopicName};
 use std::alloc::Global;
@@ -51,17 +52,29 @@ pub(crate) struct Bed {
 }
 
 /// What is seen of a copy: birth, QoS, RETAIN and how many identifiers it has.
-pub(crate) type Copied = (u64, u8, bool, usize);
+pub(crate) type Copied = (u64, Qos, bool, usize);
+
+/// The qualities of service by their numbers.
+pub(crate) const ZERO: Qos = Qos::AtMostOnce;
+/// 1.
+pub(crate) const ONE: Qos = Qos::AtLeastOnce;
+/// 2.
+pub(crate) const TWO: Qos = Qos::ExactlyOnce;
+
+/// What is seen of a copy that isn't there.
+pub(crate) const NONE: Copied = (0, ZERO, false, 0);
 
 /// What is seen of a routing.
 #[derive(Clone, Copy, Debug, PartialEq, Eq)]
 pub(crate) struct Seen {
-    /// The direct copies, if there are one or two; the last is all 0 where there is one.
+    /// The direct copies, if there are one or two; the last is `NONE` where there is one.
     pub(crate) direct: [Copied; 2],
     /// The birth of the member that each of at most two groups chose; 0 where it chose none.
     pub(crate) chosen: [u64; 2],
     /// The QoS of the first group's copy.
-    pub(crate) qos: u8,
+    pub(crate) qos: Qos,
+    /// Whether somebody was there.
+    pub(crate) taken: bool,
 }
 
 fn copied(copy: Option<&RoutedCopy>) -> Copied {
@@ -72,7 +85,7 @@ fn copied(copy: Option<&RoutedCopy>) -> Copied {
             copy.retain(),
             copy.identifiers().len(),
         ),
-        None => (0, 0, false, 0),
+        None => NONE,
     }
 }
 
@@ -81,16 +94,17 @@ fn outline(routed: &Routed) -> Seen {
     let served = routed.served();
     let first = match served.first() {
         Some(one) => copied(one.copy()),
-        None => (0, 0, false, 0),
+        None => NONE,
     };
     let second = match served.get(1) {
         Some(one) => copied(one.copy()),
-        None => (0, 0, false, 0),
+        None => NONE,
     };
     Seen {
         direct: [copied(direct.first()), copied(direct.get(1))],
         chosen: [first.0, second.0],
         qos: first.1,
+        taken: routed.has_takers(),
     }
 }
 
@@ -129,7 +143,7 @@ impl Bed {
         birth: u64,
         filter: &str,
         place: u64,
-        qos: u8,
+        qos: Qos,
     ) -> Result<(), Fail> {
         let new = subscription(alloc, filter, place, qos)?;
         Ok(self.routes.subscribe(birth, new)?)
@@ -141,14 +155,17 @@ pub(crate) fn subscription(
     alloc: Global,
     filter: &str,
     place: u64,
-    qos: u8,
+    qos: Qos,
 ) -> Result<Subscription, TopicFault> {
     Ok(Subscription {
         filter: SubFilter::parse(alloc, filter)?,
         place,
-        qos,
-        no_local: false,
-        retain_as_published: false,
+        options: SubscriptionOptions {
+            qos,
+            no_local: false,
+            retain_as_published: false,
+            retain_handling: RetainHandling::SendAlways,
+        },
         identifier: None,
     })
 }
@@ -158,7 +175,7 @@ pub(crate) fn identified(
     alloc: Global,
     filter: &str,
     place: u64,
-    qos: u8,
+    qos: Qos,
     identifier: u32,
 ) -> Result<Subscription, TopicFault> {
     let mut new = subscription(alloc, filter, place, qos)?;
@@ -171,11 +188,11 @@ pub(crate) fn subscribe_all(
     alloc: Global,
     bed: &mut Bed,
     fourth: u64,
-    qos: u8,
+    qos: Qos,
 ) -> Result<(), Fail> {
-    bed.subscribe(alloc, 3, "$share/g/a/b", 4, 2)?;
+    bed.subscribe(alloc, 3, "$share/g/a/b", 4, Qos::ExactlyOnce)?;
     bed.subscribe(alloc, fourth, "$share/g/a/b", 5, qos)?;
-    bed.routes.subscribe(1, identified(alloc, "a/#", 1, 1, 1)?)?;
-    bed.routes.subscribe(1, identified(alloc, "a/b", 2, 2, 2)?)?;
-    bed.subscribe(alloc, 2, "+/b", 3, 0)
+    bed.routes.subscribe(1, identified(alloc, "a/#", 1, Qos::AtLeastOnce, 1)?)?;
+    bed.routes.subscribe(1, identified(alloc, "a/b", 2, Qos::ExactlyOnce, 2)?)?;
+    bed.subscribe(alloc, 2, "+/b", 3, Qos::AtMostOnce)
 }

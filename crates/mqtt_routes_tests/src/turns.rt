@@ -1,16 +1,16 @@
 //! Whose turn it is in a group (MQTT 5.0, 4.8.2).
-use crate::bed::{ALL, Bed, World, subscribe_all};
+use crate::bed::{ALL, Bed, ONE, TWO, World, ZERO, subscribe_all};
 use std::alloc::Global;
 use std::process::Abort;
 use std::test::Fail;
 
 /// Four publications go to the two members of the group in turn.
 fn take_turns(rt: &impl Abort, alloc: Global, bed: &mut Bed) -> Result<(), Fail> {
-    subscribe_all(alloc, bed, 4, 1)?;
-    for (birth, qos) in [(3, 2), (4, 1), (3, 2), (4, 1)] {
+    subscribe_all(alloc, bed, 4, ONE)?;
+    for (birth, qos) in [(3, TWO), (4, ONE), (3, TWO), (4, ONE)] {
         let seen = bed.accept(2, &ALL)?;
         assert_eq!(rt; (seen.chosen[0], seen.qos), (birth, qos));
-        assert_eq!(rt; seen.direct, [(1, 2, false, 2), (2, 0, false, 0)]);
+        assert_eq!(rt; seen.direct, [(1, TWO, false, 2), (2, ZERO, false, 0)]);
     }
     Ok(())
 }
@@ -26,10 +26,10 @@ fn members_take_their_turns(rt: HostRuntime) -> Result<(), Fail> {
 /// Whom each of five publications goes to in two groups, where the second group isn't served by the
 /// second one: it has two members at QoS 0, of which none is connected then.
 fn miss_a_turn(rt: &impl Abort, alloc: Global, bed: &mut Bed) -> Result<(), Fail> {
-    bed.subscribe(alloc, 3, "$share/g/a/b", 1, 2)?;
-    bed.subscribe(alloc, 4, "$share/g/a/b", 2, 2)?;
-    bed.subscribe(alloc, 5, "$share/h/a/b", 3, 0)?;
-    bed.subscribe(alloc, 6, "$share/h/a/b", 4, 0)?;
+    bed.subscribe(alloc, 3, "$share/g/a/b", 1, TWO)?;
+    bed.subscribe(alloc, 4, "$share/g/a/b", 2, TWO)?;
+    bed.subscribe(alloc, 5, "$share/h/a/b", 3, ZERO)?;
+    bed.subscribe(alloc, 6, "$share/h/a/b", 4, ZERO)?;
     let away = World {
         away: [5, 6],
         ..ALL
@@ -57,9 +57,9 @@ fn a_group_that_is_not_served_keeps_its_turn(rt: HostRuntime) -> Result<(), Fail
 /// The member whose turn it would be has no room: the one after it is chosen, and the turn goes on
 /// from there.
 fn pass_a_turn_on(rt: &impl Abort, alloc: Global, bed: &mut Bed) -> Result<(), Fail> {
-    bed.subscribe(alloc, 3, "$share/g/a/b", 1, 2)?;
-    bed.subscribe(alloc, 4, "$share/g/a/b", 2, 2)?;
-    bed.subscribe(alloc, 5, "$share/g/a/b", 3, 2)?;
+    bed.subscribe(alloc, 3, "$share/g/a/b", 1, TWO)?;
+    bed.subscribe(alloc, 4, "$share/g/a/b", 2, TWO)?;
+    bed.subscribe(alloc, 5, "$share/g/a/b", 3, TWO)?;
     let full = World {
         full: [4, 0],
         ..ALL
@@ -81,16 +81,16 @@ fn a_turn_goes_on_from_the_chosen_member(rt: HostRuntime) -> Result<(), Fail> {
 /// The oldest member, who was chosen, subscribes anew, and then the other one: neither has a second
 /// turn for it, and neither loses its own.
 fn replace(rt: &impl Abort, alloc: Global, bed: &mut Bed) -> Result<(), Fail> {
-    subscribe_all(alloc, bed, 4, 1)?;
+    subscribe_all(alloc, bed, 4, ONE)?;
     assert_eq!(rt; bed.accept(2, &ALL)?.chosen[0], 3);
-    bed.subscribe(alloc, 3, "$share/g/a/b", 6, 0)?;
+    bed.subscribe(alloc, 3, "$share/g/a/b", 6, ZERO)?;
     let seen = bed.accept(2, &ALL)?;
-    assert_eq!(rt; (seen.chosen[0], seen.qos), (4, 1));
-    bed.subscribe(alloc, 4, "$share/g/a/b", 7, 2)?;
+    assert_eq!(rt; (seen.chosen[0], seen.qos), (4, ONE));
+    bed.subscribe(alloc, 4, "$share/g/a/b", 7, TWO)?;
     let seen = bed.accept(2, &ALL)?;
-    assert_eq!(rt; (seen.chosen[0], seen.qos), (3, 0));
+    assert_eq!(rt; (seen.chosen[0], seen.qos), (3, ZERO));
     let seen = bed.accept(2, &ALL)?;
-    assert_eq!(rt; (seen.chosen[0], seen.qos), (4, 2));
+    assert_eq!(rt; (seen.chosen[0], seen.qos), (4, TWO));
     Ok(())
 }
 
@@ -104,7 +104,7 @@ fn a_replaced_subscription_keeps_its_turn(rt: HostRuntime) -> Result<(), Fail> {
 
 /// A publication that isn't accepted takes no turn.
 fn ask_only(rt: &impl Abort, alloc: Global, bed: &mut Bed) -> Result<(), Fail> {
-    subscribe_all(alloc, bed, 4, 1)?;
+    subscribe_all(alloc, bed, 4, ONE)?;
     for _ in 0..2 {
         assert_eq!(rt; bed.ask("p", 2, &ALL)?.chosen[0], 3);
     }

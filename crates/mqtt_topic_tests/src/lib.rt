@@ -4,8 +4,12 @@
 #[cfg(test)]
 mod aliases;
 #[cfg(test)]
+mod faults;
+#[cfg(test)]
 mod filters;
 #[cfg(test)]
 mod matching;
 #[cfg(test)]
 mod names;
+#[cfg(test)]
+mod texts;
