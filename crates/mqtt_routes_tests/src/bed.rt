@@ -192,7 +192,9 @@ pub(crate) fn subscribe_all(
 ) -> Result<(), Fail> {
     bed.subscribe(alloc, 3, "$share/g/a/b", 4, Qos::ExactlyOnce)?;
     bed.subscribe(alloc, fourth, "$share/g/a/b", 5, qos)?;
-    bed.routes.subscribe(1, identified(alloc, "a/#", 1, Qos::AtLeastOnce, 1)?)?;
-    bed.routes.subscribe(1, identified(alloc, "a/b", 2, Qos::ExactlyOnce, 2)?)?;
+    bed.routes
+        .subscribe(1, identified(alloc, "a/#", 1, Qos::AtLeastOnce, 1)?)?;
+    bed.routes
+        .subscribe(1, identified(alloc, "a/b", 2, Qos::ExactlyOnce, 2)?)?;
     bed.subscribe(alloc, 2, "+/b", 3, Qos::AtMostOnce)
 }
