@@ -1,5 +1,5 @@
 -- Worked rows, computed: a subscriber gets a message of QoS 2, its session ends, a full list.
-use Rattle.std.proofs.Common.{◌≡◌, ℕ, false, List, [], ◌∷◌, rules, arith, refl}
+use Rattle.std.proofs.Common.{◌≡◌, ℕ, false, List, [], ◌∷◌, get_or, rules, arith, ap, refl}
 use Rattle.std.specs.Prelude.{codes, Some, None}
 use Rattle.mqtt_base.specs.declared.session.Phase.{Phase}
 use Rattle.mqtt_base.specs.declared.session.Phase.TheVariants.{Waiting, Sent}
@@ -7,19 +7,19 @@ use Rattle.mqtt_base.specs.declared.session.Cause.TheVariants.{Direct}
 use Rattle.mqtt_base.specs.declared.session.Qos.TheVariants.{ExactlyOnce}
 use Rattle.mqtt_base.specs.declared.session.RetainHandling.TheVariants.{SendAlways}
 use Rattle.mqtt_base.specs.declared.session.SubscriptionOptions.{SubscriptionOptions}
-use Rattle.mqtt_records.specs.declared.message.Content.{Content}
-use Rattle.mqtt_records.specs.declared.message.MessageCopy.{MessageCopy}
+use Rattle.mqtt_message.specs.declared.message.Content.{Content}
+use Rattle.mqtt_message.specs.declared.message.MessageCopy.{MessageCopy}
 use Rattle.mqtt_records.specs.declared.subscription.Subscription.{Subscription}
-use Rattle.mqtt_records.specs.declared.queue.Entry.{Entry}
+use Rattle.mqtt_message.specs.Queue.{CopyRow}
 use Rattle.mqtt_records.specs.declared.session.Columns.{Columns}
 use Rattle.mqtt_records.specs.declared.session.Session.{Session}
 use Rattle.mqtt_records.specs.declared.records.Records.{Records}
 use Rattle.mqtt_records.specs.declared.change.Counter.TheVariants.{Births, Publications, Subscribes}
 use Rattle.mqtt_records.specs.declared.change.Change.{Change}
-use Rattle.mqtt_records.specs.declared.change.Change.TheVariants.{SetCounter, PutSession, RemoveSession, PutSubscription, PutInbound, RemoveInbound, PutCopy, SetCopy, RemoveCopy}
-use Rattle.mqtt_records.specs.Order.{put_row}
+use Rattle.mqtt_records.specs.declared.change.Change.TheVariants.{SetCounter, PutSession, SetSession, RemoveSession, PutSubscription, PutInbound, RemoveInbound, PutCopy, SetCopy, RemoveCopy}
+use Rattle.mqtt_rows.specs.Order.{put_row}
 use Rattle.mqtt_records.specs.Session.{number_of}
-use Rattle.mqtt_records.specs.Records.{nothing, changed, changed_all, Fits, FitAll}
+use Rattle.mqtt_records.specs.Records.{nothing, copy_at, changed, changed_all, Fits, FitAll}
 
 abbrev columns : ℕ → List ℕ → Columns
 columns birth client = record { birth = birth; client = client; expiry = 60; closed = None }
@@ -34,9 +34,9 @@ abbrev content : Content
 content = record { topic = codes "a/b"; properties = []; payload = codes "hi"; arrived = 0 }
 
 abbrev copy : MessageCopy
-copy = record { publication = 1; cause = Direct; qos = ExactlyOnce; retain = false; identifiers = []; content = content }
+copy = record { id = record { publication = 1; birth = 1; cause = Direct }; qos = ExactlyOnce; retain = false; identifiers = []; content = content }
 
-abbrev entry : ℕ → Phase → Entry
+abbrev entry : ℕ → Phase → CopyRow
 entry place phase = record { place = place; phase = phase; copy = copy }
 
 -- the subscriber comes and subscribes, the publisher comes and publishes, and the copy is sent
@@ -89,6 +89,13 @@ end_gives = refl
 row_gives : changed (PutSession (record (columns 1 (codes "r1")) { closed = Some 7 })) sent ≡ record sent { sessions = record subscriber { closed = Some 7 } ∷ publisher ∷ [] }
 row_gives = refl
 
+-- the same by the row alone, where the session stands; else nothing
+set_gives : changed (SetSession (record (columns 1 (codes "r1")) { closed = Some 7 })) sent ≡ record sent { sessions = record subscriber { closed = Some 7 } ∷ publisher ∷ [] }
+set_gives = refl
+
+set_gives_nothing : changed (SetSession (columns 3 (codes "r1"))) sent ≡ sent
+set_gives_nothing = refl
+
 missing_gives : changed (SetCopy 3 1 Waiting) sent ≡ sent
 missing_gives = refl
 
@@ -113,9 +120,27 @@ full_gives = refl
 replaced_gives : put_row number_of 2 5 (3 ∷ 5 ∷ []) ≡ 3 ∷ 5 ∷ []
 replaced_gives = refl
 
+-- what a copy is found by
+copy_gives : copy_at 1 1 sent ≡ Some (entry 1 (Sent 1))
+copy_gives = refl
+
+no_copy_gives : copy_at 2 1 sent ≡ None
+no_copy_gives = refl
+
 -- a second session with the same client identifier, or a copy for nobody, doesn't fit
 no_second_client : Fits (PutSession (columns 3 (codes "r1"))) sent → ⊥
 no_second_client fits = let same : 1 ≡ 3 = fits.1 0 subscriber (search rules) refl in absurd (omega (arith, same))
 
 no_copy_for_nobody : Fits (PutCopy 3 (entry 1 Waiting)) sent → ⊥
-no_copy_for_nobody fits = fits
+no_copy_for_nobody fits = absurd fits.0
+
+-- nor does a copy of another session, or a number above the last
+no_foreign_copy : Fits (PutCopy 2 (entry 1 Waiting)) sent → ⊥
+no_foreign_copy fits = let same : 1 ≡ 2 = fits.1.session in absurd (omega (arith, same))
+
+no_number_above_the_last : Fits (SetCounter Births 4611686018427387905) sent → ⊥
+no_number_above_the_last fits = let within = fits.1 in absurd (omega (arith, within))
+
+-- a session keeps its client identifier
+no_other_client : Fits (SetSession (columns 2 (codes "r1"))) sent → ⊥
+no_other_client fits = let first : 112 ≡ 114 = ap (λ (text : List ℕ). get_or text 0 0) fits.0 in absurd (omega (arith, first))

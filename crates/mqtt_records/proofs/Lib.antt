@@ -1,4 +1,2 @@
-pub mod OrderLemmas
-pub mod LookUps
 pub mod Numbers
 pub mod Examples

@@ -1,16 +1,16 @@
 -- Numbers never fall.
 use Rattle.std.proofs.Common.{ℕ, ◌≤◌, List, [], ◌∷◌, arith}
 use Rattle.mqtt_records.specs.declared.session.Session.{Session}
-use Rattle.mqtt_records.specs.declared.message.Retained.{Retained}
+use Rattle.mqtt_message.specs.declared.message.RetainedMessage.{RetainedMessage}
 use Rattle.mqtt_records.specs.declared.records.Records.{Records}
 use Rattle.mqtt_records.specs.declared.change.Counter.{Counter}
 use Rattle.mqtt_records.specs.declared.change.Counter.TheVariants.{Births, Publications, Subscribes, Autos, Moment}
 use Rattle.mqtt_records.specs.declared.change.Change.{Change}
-use Rattle.mqtt_records.specs.declared.change.Change.TheVariants.{SetCounter, PutSession, RemoveSession, PutWill, RemoveWill, PutSubscription, RemoveSubscription, PutInbound, RemoveInbound, PutCopy, SetCopy, RemoveCopy, PutRetained, RemoveRetained}
+use Rattle.mqtt_records.specs.declared.change.Change.TheVariants.{SetCounter, PutSession, SetSession, RemoveSession, PutWill, RemoveWill, PutSubscription, RemoveSubscription, PutInbound, RemoveInbound, PutCopy, SetCopy, RemoveCopy, PutRetained, RemoveRetained}
 use Rattle.mqtt_records.specs.Records.{changed, changed_all, counter_of, with_counter, Fits, FitAll}
 
 -- other rows don't matter
-counter_of-rows : (counter : Counter) (r : Records) (sessions : List Session) (retained : List Retained) → counter_of counter r ≤ counter_of counter (record r { sessions = sessions; retained = retained })
+counter_of-rows : (counter : Counter) (r : Records) (sessions : List Session) (retained : List RetainedMessage) → counter_of counter r ≤ counter_of counter (record r { sessions = sessions; retained = retained })
 counter_of-rows Births r sessions retained = omega arith
 counter_of-rows Publications r sessions retained = omega arith
 counter_of-rows Subscribes r sessions retained = omega arith
@@ -46,8 +46,9 @@ counter_of-set Moment Autos value r le = omega arith
 counter_of-set Moment Moment value r le = le
 
 counter_of-changed : (counter : Counter) (change : Change) (r : Records) → Fits change r → counter_of counter r ≤ counter_of counter (changed change r)
-counter_of-changed counter (SetCounter set value) r fits = counter_of-set counter set value r fits
+counter_of-changed counter (SetCounter set value) r fits = counter_of-set counter set value r fits.0
 counter_of-changed counter (PutSession row) r fits = counter_of-rows counter r _ _
+counter_of-changed counter (SetSession row) r fits = counter_of-rows counter r _ _
 counter_of-changed counter (RemoveSession birth) r fits = counter_of-rows counter r _ _
 counter_of-changed counter (PutWill birth will) r fits = counter_of-rows counter r _ _
 counter_of-changed counter (RemoveWill birth) r fits = counter_of-rows counter r _ _
@@ -55,7 +56,7 @@ counter_of-changed counter (PutSubscription birth subscription) r fits = counter
 counter_of-changed counter (RemoveSubscription birth text) r fits = counter_of-rows counter r _ _
 counter_of-changed counter (PutInbound birth identifier) r fits = counter_of-rows counter r _ _
 counter_of-changed counter (RemoveInbound birth identifier) r fits = counter_of-rows counter r _ _
-counter_of-changed counter (PutCopy birth entry) r fits = counter_of-rows counter r _ _
+counter_of-changed counter (PutCopy birth row) r fits = counter_of-rows counter r _ _
 counter_of-changed counter (SetCopy birth place phase) r fits = counter_of-rows counter r _ _
 counter_of-changed counter (RemoveCopy birth place) r fits = counter_of-rows counter r _ _
 counter_of-changed counter (PutRetained kept) r fits = counter_of-rows counter r _ _

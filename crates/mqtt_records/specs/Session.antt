@@ -2,14 +2,14 @@
 use Rattle.std.specs.Prelude.{◌≡◌, refl, ℕ, not, bytes_eq, List, [], filter, Option, Some, None}
 use Rattle.mqtt_base.specs.declared.session.Phase.{Phase}
 use Rattle.mqtt_base.specs.declared.limits.TheConstants.{SUBSCRIPTION_LIMIT, OPEN_LIMIT, QUEUE_LIMIT}
-use Rattle.mqtt_records.specs.declared.message.Will.{Will}
-use Rattle.mqtt_records.specs.declared.queue.Entry.{Entry}
+use Rattle.mqtt_message.specs.declared.message.Will.{Will}
+use Rattle.mqtt_message.specs.Queue.{CopyRow}
 use Rattle.mqtt_records.specs.declared.subscription.Subscription.{Subscription}
 use Rattle.mqtt_records.specs.declared.session.Session.{Session}
 use Rattle.mqtt_records.specs.declared.session.Columns.{Columns}
 use Rattle.mqtt_records.specs.declared.session.SessionPart.{SessionPart}
 use Rattle.mqtt_records.specs.declared.session.SessionPart.TheVariants.{SetColumns, PutWill, RemoveWill, PutSubscription, RemoveSubscription, PutInbound, RemoveInbound, PutCopy, SetCopy, RemoveCopy}
-use Rattle.mqtt_records.specs.Order.{put_row, remove_row, change_row}
+use Rattle.mqtt_rows.specs.Order.{put_row, remove_row, change_row}
 
 -- ---- the keys of the lists
 
@@ -22,8 +22,8 @@ place_of subscription = subscription.place
 abbrev pub number_of : ℕ → ℕ
 number_of identifier = identifier
 
-abbrev pub entry_place : Entry → ℕ
-entry_place entry = entry.place
+abbrev pub copy_place : CopyRow → ℕ
+copy_place row = row.place
 
 -- ---- a new session, and one with other columns
 
@@ -71,17 +71,17 @@ with_open identifier session = record session { inbound = put_row number_of OPEN
 abbrev pub without_open : ℕ → Session → Session
 without_open identifier session = record session { inbound = remove_row number_of identifier session.inbound }
 
-abbrev pub with_copy : Entry → Session → Session
-with_copy entry session = record session { queue = put_row entry_place QUEUE_LIMIT entry session.queue }
+abbrev pub with_copy : CopyRow → Session → Session
+with_copy row session = record session { queue = put_row copy_place QUEUE_LIMIT row session.queue }
 
-abbrev pub in_phase : Phase → Entry → Entry
-in_phase phase entry = record entry { phase = phase }
+abbrev pub in_phase : Phase → CopyRow → CopyRow
+in_phase phase row = record row { phase = phase }
 
 abbrev pub with_phase : ℕ → Phase → Session → Session
-with_phase place phase session = record session { queue = change_row entry_place place (in_phase phase) session.queue }
+with_phase place phase session = record session { queue = change_row copy_place place (in_phase phase) session.queue }
 
 abbrev pub without_copy : ℕ → Session → Session
-without_copy place session = record session { queue = remove_row entry_place place session.queue }
+without_copy place session = record session { queue = remove_row copy_place place session.queue }
 
 -- a session after a change of a part
 abbrev pub part_changed : SessionPart → Session → Session
@@ -92,7 +92,7 @@ part_changed (PutSubscription subscription) = with_subscription subscription
 part_changed (RemoveSubscription text) = without_subscription text
 part_changed (PutInbound identifier) = with_open identifier
 part_changed (RemoveInbound identifier) = without_open identifier
-part_changed (PutCopy entry) = with_copy entry
+part_changed (PutCopy row) = with_copy row
 part_changed (SetCopy place phase) = with_phase place phase
 part_changed (RemoveCopy place) = without_copy place
 
@@ -105,6 +105,6 @@ birth_of-part_changed (PutSubscription subscription) session = refl
 birth_of-part_changed (RemoveSubscription text) session = refl
 birth_of-part_changed (PutInbound identifier) session = refl
 birth_of-part_changed (RemoveInbound identifier) session = refl
-birth_of-part_changed (PutCopy entry) session = refl
+birth_of-part_changed (PutCopy row) session = refl
 birth_of-part_changed (SetCopy place phase) session = refl
 birth_of-part_changed (RemoveCopy place) session = refl

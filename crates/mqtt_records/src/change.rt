@@ -1,12 +1,11 @@
 //! Changes of what is kept: a row put by its key, a row removed, a copy's phase set (4.1).
 ghost use Rattle.std.specs.Prelude.{◌≡◌, IfOk};
 
-use crate::message::{Retained, Will};
-use crate::queue::Entry;
-use crate::rows::Boxed;
-use crate::session::SessionRow;
+use crate::session::{Columns, SessionRow};
 use crate::subscription::Subscription;
 use mqtt_base::{Phase, Text};
+use mqtt_message::{CopyRow, RetainedMessage, Will};
+use mqtt_rows::Boxed;
 use std::alloc::{AllocError, Global};
 
 /// A number that is kept.
@@ -36,6 +35,11 @@ pub enum Change {
     /// The session's own row is put by its birth. A new session has no other rows.
     PutSession {
         row: SessionRow,
+    },
+    /// The own row of the session with its birth is this one; its other rows stay. Where no session
+    /// has that birth, nothing changes.
+    SetSession {
+        row: Columns,
     },
     /// The session is removed with all its rows.
     RemoveSession {
@@ -73,7 +77,7 @@ pub enum Change {
     /// The copy is put into the session's queue by its place.
     PutCopy {
         birth: u64,
-        entry: Boxed<Entry>,
+        row: Boxed<CopyRow>,
     },
     /// The copy at the place comes into the phase.
     SetCopy {
@@ -88,7 +92,7 @@ pub enum Change {
     },
     /// The retained message is put by its place.
     PutRetained {
-        kept: Boxed<Retained>,
+        kept: Boxed<RetainedMessage>,
     },
     /// The retained message at the place is removed.
     RemoveRetained {
@@ -106,6 +110,7 @@ impl Clone for Change {
                 value: *value,
             },
             Change::PutSession { row } => Change::PutSession { row: row.clone()? },
+            Change::SetSession { row } => Change::SetSession { row: row.clone()? },
             Change::RemoveSession { birth } => Change::RemoveSession { birth: *birth },
             Change::PutWill { birth, will } => Change::PutWill {
                 birth: *birth,
@@ -131,9 +136,9 @@ impl Clone for Change {
                 birth: *birth,
                 identifier: *identifier,
             },
-            Change::PutCopy { birth, entry } => Change::PutCopy {
+            Change::PutCopy { birth, row } => Change::PutCopy {
                 birth: *birth,
-                entry: entry.clone()?,
+                row: row.clone()?,
             },
             Change::SetCopy {
                 birth,

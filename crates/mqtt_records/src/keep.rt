@@ -55,7 +55,7 @@ pub trait Keep: Drop {
     // How many failures of its device it has counted, modulo 2^64.
     ghost counted: { Self → ℕ };
 
-    // A load may be refused so.
+    // While its device is sound, a load may be refused so.
     ghost refuses: { Self → KeepError → Type 0 };
 
     /// Reads all records. Changes can be applied once it has answered Ok.
@@ -71,7 +71,8 @@ pub trait Keep: Drop {
         ensures crash { (r : Records) → leaves self.new r → leaves self.old r }
         ensures sound { is_sound self.new → is_sound self.old }
 
-        ensures refused { IfErr result (refuses self.old) }
+        // Of a device that lied nothing is said: its rows may break any rule.
+        ensures refused { IfErr result (λ fault. is_sound self.new → refuses self.old fault) }
         ensures cause { IsErrOf result KeepError.Disk ⊎ IsErrOf result KeepError.Size
             → counted self.new ≢ counted self.old };
 

@@ -1,13 +1,13 @@
 //! All that is kept: five numbers, sessions and retained messages (4.1).
 ghost use Rattle.std.specs.Prelude.{◌≡◌, IfOk};
 ghost use Rattle.mqtt_records.specs.Records.{nothing, changed, changed_all};
-ghost use Rattle.mqtt_records.specs.Records.{with_counter, put_session};
+ghost use Rattle.mqtt_records.specs.Records.{with_counter, put_session, copy_at};
 
 use crate::change::{Change, Counter};
-use crate::message::Retained;
-use crate::rows::{Boxed, Rows};
 use crate::session::{Session, SessionPart, SessionRow};
 use mqtt_base::{RETAINED_LIMIT, SESSION_LIMIT};
+use mqtt_message::{CopyRow, RetainedMessage};
+use mqtt_rows::{Boxed, Rows};
 use std::alloc::{AllocError, Global};
 
 /// All that is kept.
@@ -26,7 +26,7 @@ pub struct Records {
     /// The sessions, by birth.
     pub sessions: Rows<Boxed<Session>, SESSION_LIMIT>,
     /// The retained messages, by place.
-    pub retained: Rows<Boxed<Retained>, RETAINED_LIMIT>,
+    pub retained: Rows<Boxed<RetainedMessage>, RETAINED_LIMIT>,
 }
 
 impl Records {
@@ -78,6 +78,10 @@ impl Records {
         match change {
             Change::SetCounter { counter, value } => self.set_counter(counter, value),
             Change::PutSession { row } => self.put_session(row),
+            Change::SetSession { row } => {
+                let birth = row.birth;
+                self.sessions.edit(birth, SessionPart::SetColumns { row });
+            }
             Change::RemoveSession { birth } => self.sessions.remove(birth),
             Change::PutWill { birth, will } => {
                 self.sessions.edit(birth, SessionPart::PutWill { will });
@@ -102,8 +106,8 @@ impl Records {
                 let part = SessionPart::RemoveInbound { identifier };
                 self.sessions.edit(birth, part);
             }
-            Change::PutCopy { birth, entry } => {
-                self.sessions.edit(birth, SessionPart::PutCopy { entry });
+            Change::PutCopy { birth, row } => {
+                self.sessions.edit(birth, SessionPart::PutCopy { row });
             }
             Change::SetCopy {
                 birth,
@@ -119,6 +123,14 @@ impl Records {
             Change::PutRetained { kept } => self.retained.put(kept),
             Change::RemoveRetained { place } => self.retained.remove(place),
         }
+    }
+
+    /// Takes the copy at a place out of a session's queue, if there is one. Takes no memory.
+    pub fn take_copy(&mut self, birth: u64, place: u64) -> Option<Boxed<CopyRow>>
+        ensures row { result ≡ copy_at birth place self.old }
+        ensures rest { self.new ≡ changed (Change.RemoveCopy birth place) self.old }
+    {
+        self.sessions.take_part(birth, place)
     }
 
     /// Makes changes, in order. Takes no memory.

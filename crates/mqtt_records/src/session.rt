@@ -2,23 +2,12 @@
 ghost use Rattle.std.specs.Prelude.{◌≡◌, IfOk};
 ghost use Rattle.mqtt_records.specs.Session.{fresh};
 
-use crate::message::Will;
-use crate::queue::Entry;
-use crate::rows::{Boxed, Editable, Row, Rows};
-use crate::subscription::Subscription;
+use crate::subscription::{Subscription, put_by_filter};
 use mqtt_base::{OPEN_LIMIT, Phase, QUEUE_LIMIT, SUBSCRIPTION_LIMIT, Text};
+use mqtt_message::{CopyRow, Will};
+use mqtt_rows::{Boxed, CloneRow, Editable, Named, Parted, Row, Rows};
 use std::alloc::{AllocError, Global};
 use std::marker::Model;
-
-impl Row for u16 {
-    ghost key_of = { λ identifier. identifier };
-
-    fn key(&self) -> u64 {
-        u64::from(*self)
-    }
-
-    ghost clone_is = { λ value copy same. same };
-}
 
 /// A session (4.1).
 #[derive(Drop)]
@@ -38,7 +27,7 @@ pub struct Session {
     /// The open identifiers of QoS 2 publications from the client, ascending (4.3.3).
     pub inbound: Rows<u16, OPEN_LIMIT>,
     /// The copies that haven't ended, by place.
-    pub queue: Rows<Boxed<Entry>, QUEUE_LIMIT>,
+    pub queue: Rows<Boxed<CopyRow>, QUEUE_LIMIT>,
 }
 
 impl Row for Session {
@@ -47,7 +36,17 @@ impl Row for Session {
     fn key(&self) -> u64 {
         self.birth
     }
+}
 
+impl Named for Session {
+    ghost name_of = { λ session. session.client };
+
+    fn name(&self) -> &str {
+        self.client.as_str()
+    }
+}
+
+impl CloneRow for Session {
     ghost clone_is = { λ value copy same. same };
 }
 
@@ -83,6 +82,19 @@ pub struct Columns {
     pub expiry: u32,
     /// When its connection closed: a moment in milliseconds; none while it is connected.
     pub closed: Option<u64>,
+}
+
+impl Clone for Columns {
+    ghost is_clone = { λ value copy. copy ≡ value };
+
+    fn clone(&self) -> Result<Columns, AllocError> {
+        Ok(Columns {
+            birth: self.birth,
+            client: self.client.clone()?,
+            expiry: self.expiry,
+            closed: self.closed,
+        })
+    }
 }
 
 /// A session's own row, with all the memory that a new session takes.
@@ -178,7 +190,7 @@ pub enum SessionPart {
     /// An identifier is closed.
     RemoveInbound { identifier: u16 },
     /// A copy is put by its place.
-    PutCopy { entry: Boxed<Entry> },
+    PutCopy { row: Boxed<CopyRow> },
     /// The copy at a place comes into a phase.
     SetCopy { place: u64, phase: Phase },
     /// The copy at a place is removed.
@@ -202,12 +214,14 @@ impl Editable for Session {
             SessionPart::PutWill { will } => self.will = Some(will),
             SessionPart::RemoveWill => self.will = None,
             SessionPart::PutSubscription { subscription } => {
-                self.subscriptions.put_by_filter(subscription);
+                put_by_filter(&mut self.subscriptions, subscription);
             }
-            SessionPart::RemoveSubscription { filter } => self.subscriptions.remove_filter(&filter),
+            SessionPart::RemoveSubscription { filter } => {
+                self.subscriptions.remove_named(filter.as_str());
+            }
             SessionPart::PutInbound { identifier } => self.inbound.put(identifier),
             SessionPart::RemoveInbound { identifier } => self.inbound.remove(u64::from(identifier)),
-            SessionPart::PutCopy { entry } => self.queue.put(entry),
+            SessionPart::PutCopy { row } => self.queue.put(row),
             SessionPart::SetCopy { place, phase } => self.queue.edit(place, phase),
             SessionPart::RemoveCopy { place } => self.queue.remove(place),
         }
@@ -216,4 +230,25 @@ impl Editable for Session {
     ghost use Rattle.mqtt_records.specs.Session.{birth_of-part_changed};
 
     ghost key_kept = { birth_of-part_changed };
+}
+
+impl Parted for Session {
+    type Place = u64;
+
+    type Taken = Boxed<CopyRow>;
+
+    ghost use Rattle.mqtt_rows.specs.Order.{row_at};
+    ghost use Rattle.mqtt_records.specs.Session.{copy_place, without_copy};
+
+    ghost taken = { λ place session. row_at copy_place place session.queue };
+
+    ghost left = { without_copy };
+
+    fn take_part(&mut self, place: u64) -> Option<Boxed<CopyRow>> {
+        self.queue.take(place)
+    }
+
+    ghost use Rattle.std.proofs.Common.{refl};
+
+    ghost left_key = { λ place session. refl };
 }

@@ -1,9 +1,9 @@
 //! What is kept of a subscription, and the list of them (3.8).
 ghost use Rattle.std.specs.Prelude.{◌≡◌};
-ghost use Rattle.mqtt_records.specs.Session.{without_filter, put_subscription};
+ghost use Rattle.mqtt_records.specs.Session.{put_subscription};
 
-use crate::rows::{Boxed, Row, Rows};
 use mqtt_base::{SUBSCRIPTION_LIMIT, SubscriptionOptions, Text};
+use mqtt_rows::{Boxed, CloneRow, Named, Row, Rows};
 use std::alloc::AllocError;
 
 /// A subscription (3.8).
@@ -25,7 +25,17 @@ impl Row for Subscription {
     fn key(&self) -> u64 {
         self.place
     }
+}
 
+impl Named for Subscription {
+    ghost name_of = { λ subscription. subscription.filter };
+
+    fn name(&self) -> &str {
+        self.filter.as_str()
+    }
+}
+
+impl CloneRow for Subscription {
     ghost clone_is = { λ value copy same. same };
 }
 
@@ -42,20 +52,13 @@ impl Clone for Subscription {
     }
 }
 
-impl Rows<Boxed<Subscription>, SUBSCRIPTION_LIMIT> {
-    /// Removes the subscription to a filter, if there is one. Takes no memory.
-    pub fn remove_filter(&mut self, filter: &Text)
-        ensures { self.new ≡ without_filter filter.now self.old }
-    {
-        self.rows
-            .retain(|row| row.get().filter.as_str() != filter.as_str());
-    }
-
-    /// Puts a subscription in place of one to the same filter. Takes no memory.
-    pub fn put_by_filter(&mut self, subscription: Boxed<Subscription>)
-        ensures { self.new ≡ put_subscription subscription self.old }
-    {
-        self.remove_filter(&subscription.get().filter);
-        self.put(subscription);
-    }
+/// Puts a subscription in place of one to the same filter. Takes no memory.
+pub(crate) fn put_by_filter(
+    rows: &mut Rows<Boxed<Subscription>, SUBSCRIPTION_LIMIT>,
+    subscription: Boxed<Subscription>,
+)
+    ensures { rows.new ≡ put_subscription subscription rows.old }
+{
+    rows.remove_named(subscription.get().filter.as_str());
+    rows.put(subscription);
 }

@@ -1,7 +1,7 @@
 -- Lists of deeds of a class, which may look at the state that a deed comes on, whatever the class.
 use Rattle.std.proofs.Common.{◌≡◌, ℕ, Bool, true, false, cond, List, [], ◌∷◌, ◌++◌, map, Option, Some, None, refl}
 use Rattle.std.specs.Prelude.{⊤, flat_map}
-use Rattle.mqtt_records.specs.declared.queue.Entry.{Entry}
+use Rattle.mqtt_message.specs.Queue.{CopyRow}
 use Rattle.mqtt_records.specs.declared.session.Session.{Session}
 use Rattle.mqtt_rules.specs.State.{Line, Broker, session_at, session_named}
 use Rattle.mqtt_rules.specs.Deeds.{Deed, after, after_all, Act, then, series, only_if, with_session, of_session, with_line}
@@ -80,6 +80,6 @@ module _ (Good : Deed → Broker → Type 0) where
   good_with_line None f b h = tt
   good_with_line (Some l) f b h = h l refl
 
-  pub good_of_entry : (o : Option Entry) (f : Entry → List Deed) (b : Broker) → ((e : Entry) → AreGood (f e) b) → AreGood (of_entry o f) b
+  pub good_of_entry : (o : Option CopyRow) (f : CopyRow → List Deed) (b : Broker) → ((e : CopyRow) → AreGood (f e) b) → AreGood (of_entry o f) b
   good_of_entry None f b h = tt
   good_of_entry (Some e) f b h = h e

@@ -10,7 +10,7 @@ use Rattle.mqtt_codec.specs.declared.publish.Delivery.TheVariants as delivery
 use Rattle.mqtt_codec.specs.declared.packet.Packet.{Packet}
 use Rattle.mqtt_codec.specs.declared.packet.Packet.TheVariants.{Publish, Pingreq, Pingresp, Auth}
 use Rattle.mqtt_flow.specs.declared.entry.Full.TheVariants.{Refuse}
-use Rattle.mqtt_records.specs.declared.message.Retained.{Retained}
+use Rattle.mqtt_message.specs.declared.message.RetainedMessage.{RetainedMessage}
 use Rattle.mqtt_records.specs.declared.subscription.Subscription.{Subscription}
 use Rattle.mqtt_records.specs.declared.session.Session.{Session}
 use Rattle.mqtt_records.specs.Records.{nothing}
@@ -292,7 +292,7 @@ one_that_is_given_up_makes_place = refl
 
 -- ---- 1,000 retained messages (ours)
 
-abbrev kept_from : ℕ → ℕ → List Retained
+abbrev kept_from : ℕ → ℕ → List RetainedMessage
 kept_from zero place = []
 kept_from (suc k) place = record {
   place = place;

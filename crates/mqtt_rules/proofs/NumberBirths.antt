@@ -3,7 +3,7 @@ use Rattle.std.proofs.Common.{◌≡◌, ℕ, ◌<◌, ◌≤◌, Bool, true, fa
 use Rattle.std.specs.Prelude.{⊤, suc}
 use Rattle.std.proofs.lemmas.Bool.{cases_Bool}
 use Rattle.std.proofs.Math.Nat.{le-max_left, le-max_right}
-use Rattle.mqtt_records.specs.declared.message.Will.{Will}
+use Rattle.mqtt_message.specs.declared.message.Will.{Will}
 use Rattle.mqtt_records.specs.declared.session.Columns.{Columns}
 use Rattle.mqtt_records.specs.declared.session.Session.{Session}
 use Rattle.mqtt_base.specs.declared.limits.TheConstants.{SESSION_LIMIT}
@@ -11,16 +11,16 @@ use Rattle.mqtt_records.specs.declared.records.Records.{Records}
 use Rattle.mqtt_records.specs.declared.change.Counter.{Counter}
 use Rattle.mqtt_records.specs.declared.change.Counter.TheVariants.{Births, Publications, Subscribes, Autos, Moment}
 use Rattle.mqtt_records.specs.declared.change.Change.{Change}
-use Rattle.mqtt_records.specs.declared.change.Change.TheVariants.{SetCounter, PutSession, RemoveSession, PutWill, RemoveWill, PutSubscription, RemoveSubscription, PutInbound, RemoveInbound, PutCopy, SetCopy, RemoveCopy, PutRetained, RemoveRetained}
-use Rattle.mqtt_records.specs.Order.{IsBelow, row_at, has_row, insert_row, put_row, change_row}
+use Rattle.mqtt_records.specs.declared.change.Change.TheVariants.{SetCounter, PutSession, SetSession, RemoveSession, PutWill, RemoveWill, PutSubscription, RemoveSubscription, PutInbound, RemoveInbound, PutCopy, SetCopy, RemoveCopy, PutRetained, RemoveRetained}
+use Rattle.mqtt_rows.specs.Order.{IsBelow, row_at, has_row, insert_row, put_row, change_row}
 use Rattle.mqtt_records.specs.Session.{birth_of, fresh, with_columns, with_will, with_subscription, without_subscription, with_open, without_open, with_copy, with_phase, without_copy}
 use Rattle.mqtt_records.specs.Records.{changed, changed_all, put_session, with_counter}
-use Rattle.mqtt_records.proofs.OrderLemmas.{apart}
+use Rattle.mqtt_rows.proofs.OrderLemmas.{apart}
 use Rattle.mqtt_routes.specs.Intended.{greatest}
 use Rattle.mqtt_rules.specs.State.{Broker, session_at, next_of}
-use Rattle.mqtt_rules.specs.Deeds.{Part, Resume, Close, SetExpiry, Deed, Accept, Begin, Name, Count, At, Finish, Keep, Forget, part_rows, part_rows_of, rows_of, stored_after, after, after_all}
+use Rattle.mqtt_rules.specs.Deeds.{Part, Resume, Deed, Accept, Begin, Name, Count, At, Finish, Keep, Forget, part_rows, part_rows_of, rows_of, stored_after, after, after_all}
 use Rattle.mqtt_rules.specs.Numbers.{HasGivenBirths}
-use Rattle.mqtt_rules.proofs.Acts.{AreGood}
+use Rattle.mqtt_rules.proofs.Goods.{AreGood}
 use Rattle.mqtt_rules.proofs.NumberFacts.{Counts, counts_deed, GivesNext}
 
 module _ {X : Type 0} (key : X → ℕ) where
@@ -108,6 +108,7 @@ counters_only Moment value n r low = low
 below_changed : (n : ℕ) (change : Change) (r : Records) → RowBelow n change → IsBelow birth_of n r.sessions → IsBelow birth_of n (changed change r).sessions
 below_changed n (SetCounter counter value) r less low = counters_only counter value n r low
 below_changed n (PutSession row) r less low = below_put_session n row r.sessions less low
+below_changed n (SetSession row) r less low = below_change birth_of n row.birth (with_columns row) r.sessions (λ s. refl) low
 below_changed n (RemoveSession birth) r less low = below_filter birth_of n (λ s. not (nat_eq (birth_of s) birth)) r.sessions low
 below_changed n (PutWill birth will) r less low = below_change birth_of n birth (with_will (Some will)) r.sessions (λ s. refl) low
 below_changed n (RemoveWill birth) r less low = below_change birth_of n birth (with_will None) r.sessions (λ s. refl) low
@@ -128,10 +129,8 @@ below_changed_all n (change ∷ changes) r less low = below_changed_all n change
 -- ---- deed by deed
 
 rows_part : (n : ℕ) (part : Part) (s : Session) → s.birth < n → RowsBelow n (part_rows part s)
-rows_part n (Resume expiry None) s less = (less, (tt, tt))
-rows_part n (Resume expiry (Some will)) s less = (less, (tt, tt))
-rows_part n (Close moment) s less = (less, tt)
-rows_part n (SetExpiry expiry) s less = (less, tt)
+rows_part n (Resume expiry None) s less = (tt, (tt, tt))
+rows_part n (Resume expiry (Some will)) s less = (tt, (tt, tt))
 rows_part n part s less = (tt, tt)
 
 rows_part_of : (n birth : ℕ) (part : Part) (o : Option Session) (r : Records) → session_at birth r ≡ o → IsBelow birth_of n r.sessions → RowsBelow n (part_rows_of part o)

@@ -1,11 +1,11 @@
 -- Copies in queues and retained messages have numbers of accepted publications, deed by deed and over a step.
-use Rattle.std.proofs.Common.{◌≡◌, ℕ, ◌≤◌, Bool, true, false, cond, not, ◌||◌, List, [], ◌∷◌, length, Option, Some, None, nat_eq, nat_lt, sym, subst, arith, inl, inr}
+use Rattle.std.proofs.Common.{◌≡◌, refl, ℕ, ◌≤◌, Bool, true, false, cond, not, ◌||◌, List, [], ◌∷◌, length, Option, Some, None, nat_eq, nat_lt, sym, subst, arith, inl, inr}
 use Rattle.std.specs.Prelude.{⊤}
 use Rattle.std.specs.List.{AllByRecursion}
 use Rattle.std.proofs.lemmas.Bool.{cases_Bool}
-use Rattle.mqtt_records.specs.declared.message.MessageCopy.{MessageCopy}
-use Rattle.mqtt_records.specs.declared.message.Retained.{Retained}
-use Rattle.mqtt_records.specs.declared.queue.Entry.{Entry}
+use Rattle.mqtt_message.specs.declared.message.MessageCopy.{MessageCopy}
+use Rattle.mqtt_message.specs.declared.message.RetainedMessage.{RetainedMessage}
+use Rattle.mqtt_message.specs.Queue.{CopyRow}
 use Rattle.mqtt_base.specs.declared.limits.TheConstants.{QUEUE_LIMIT, SESSION_LIMIT, RETAINED_LIMIT}
 use Rattle.mqtt_records.specs.declared.session.Columns.{Columns}
 use Rattle.mqtt_records.specs.declared.session.Session.{Session}
@@ -13,17 +13,19 @@ use Rattle.mqtt_records.specs.declared.records.Records.{Records}
 use Rattle.mqtt_records.specs.declared.change.Counter.{Counter}
 use Rattle.mqtt_records.specs.declared.change.Counter.TheVariants.{Births, Publications, Subscribes, Autos, Moment}
 use Rattle.mqtt_records.specs.declared.change.Change.{Change}
-use Rattle.mqtt_records.specs.declared.change.Change.TheVariants.{SetCounter, PutSession, RemoveSession, PutWill, RemoveWill, PutSubscription, RemoveSubscription, PutInbound, RemoveInbound, PutCopy, SetCopy, RemoveCopy, PutRetained, RemoveRetained}
-use Rattle.mqtt_records.specs.Order.{has_row, insert_row, put_row, change_row}
-use Rattle.mqtt_records.specs.Session.{birth_of, entry_place, fresh, with_columns, with_will, with_subscription, without_subscription, with_open, without_open, with_copy, with_phase, without_copy, in_phase}
+use Rattle.mqtt_records.specs.declared.change.Change.TheVariants.{SetCounter, PutSession, SetSession, RemoveSession, PutWill, RemoveWill, PutSubscription, RemoveSubscription, PutInbound, RemoveInbound, PutCopy, SetCopy, RemoveCopy, PutRetained, RemoveRetained}
+use Rattle.mqtt_rows.specs.Order.{has_row, insert_row, put_row, change_row}
+use Rattle.mqtt_records.specs.Session.{birth_of, copy_place, fresh, with_columns, with_will, with_subscription, without_subscription, with_open, without_open, with_copy, with_phase, without_copy, in_phase}
 use Rattle.mqtt_records.specs.Records.{changed, changed_all, put_session, with_counter, kept_place}
 use Rattle.mqtt_rules.specs.declared.Limits.{Limits}
-use Rattle.mqtt_rules.specs.State.{Broker, session_at}
+use Rattle.mqtt_rules.specs.State.{Broker, Env, session_at, MemberChoice}
 use Rattle.mqtt_rules.specs.Deeds.{Whose, Part, Resume, Enter, Deed, Accept, Begin, At, Finish, Keep, Forget, part_rows, part_rows_of, rows_of_all, after, after_all}
 use Rattle.mqtt_rules.specs.Step.{Call, deeds, at_moment, env_of, with_moment, done, stepped, opening, unopened, opened}
 use Rattle.mqtt_rules.specs.Numbers.{HasCopiesUpTo, HasAcceptedNumbers}
 use Rattle.mqtt_rules.proofs.Copies.{IsMade, HasNumber, Kinds, kinds_deed, each_filter, each_more}
-use Rattle.mqtt_rules.proofs.Acts.{is_plain, Facts, MarkFact, AreGood, good_deeds, good_opening}
+use Rattle.mqtt_rules.proofs.Goods.{AreGood}
+use Rattle.mqtt_rules.proofs.Acts.{is_alone, anyone, finds_anyone}
+use Rattle.mqtt_rules.proofs.ByDeeds.{DeedLaw, MarkLaw, leads_deeds, leads_opened}
 
 -- ---- what holds of each row, edit by edit
 
@@ -55,14 +57,14 @@ module _ {X : Type 0} (key : X → ℕ) (P : X → Type 0) where
 
 -- ---- queues
 
-abbrev UpTo : ℕ → Entry → Type 0
-UpTo n e = e.copy.publication ≤ n
+abbrev UpTo : ℕ → CopyRow → Type 0
+UpTo n e = e.copy.id.publication ≤ n
 
 abbrev QueuesUpTo : ℕ → List Session → Type 0
 QueuesUpTo n ss = AllByRecursion (HasCopiesUpTo n) ss
 
 abbrev RowUpTo : ℕ → Change → Type 0
-RowUpTo n (PutCopy birth e) = e.copy.publication ≤ n
+RowUpTo n (PutCopy birth e) = e.copy.id.publication ≤ n
 RowUpTo n change = ⊤
 
 abbrev RowsUpTo : ℕ → List Change → Type 0
@@ -93,6 +95,7 @@ queues_in n birth f ss kept h = each_change birth_of (HasCopiesUpTo n) birth f s
 queues_changed : (n : ℕ) (change : Change) (r : Records) → RowUpTo n change → QueuesUpTo n r.sessions → QueuesUpTo n (changed change r).sessions
 queues_changed n (SetCounter counter value) r fit h = queues_counter counter value n r h
 queues_changed n (PutSession row) r fit h = queues_put_session n row r.sessions h
+queues_changed n (SetSession row) r fit h = queues_in n row.birth (with_columns row) r.sessions (λ s q. q) h
 queues_changed n (RemoveSession birth) r fit h = each_filter (HasCopiesUpTo n) (λ s. not (nat_eq (birth_of s) birth)) r.sessions h
 queues_changed n (PutWill birth will) r fit h = queues_in n birth (with_will (Some will)) r.sessions (λ s q. q) h
 queues_changed n (RemoveWill birth) r fit h = queues_in n birth (with_will None) r.sessions (λ s q. q) h
@@ -100,11 +103,11 @@ queues_changed n (PutSubscription birth sub) r fit h = queues_in n birth (with_s
 queues_changed n (RemoveSubscription birth text) r fit h = queues_in n birth (without_subscription text) r.sessions (λ s q. q) h
 queues_changed n (PutInbound birth id) r fit h = queues_in n birth (with_open id) r.sessions (λ s q. q) h
 queues_changed n (RemoveInbound birth id) r fit h = queues_in n birth (without_open id) r.sessions (λ s q. q) h
-queues_changed n (PutCopy birth e) r fit h = queues_in n birth (with_copy e) r.sessions (λ s q. each_put entry_place (UpTo n) QUEUE_LIMIT e s.queue fit q) h
+queues_changed n (PutCopy birth e) r fit h = queues_in n birth (with_copy e) r.sessions (λ s q. each_put copy_place (UpTo n) QUEUE_LIMIT e s.queue fit q) h
 queues_changed n (SetCopy birth place phase) r fit h =
-    queues_in n birth (with_phase place phase) r.sessions (λ s q. each_change entry_place (UpTo n) place (in_phase phase) s.queue (λ e u. u) q) h
+    queues_in n birth (with_phase place phase) r.sessions (λ s q. each_change copy_place (UpTo n) place (in_phase phase) s.queue (λ e u. u) q) h
 queues_changed n (RemoveCopy birth place) r fit h =
-    queues_in n birth (without_copy place) r.sessions (λ s q. each_filter (UpTo n) (λ e. not (nat_eq (entry_place e) place)) s.queue q) h
+    queues_in n birth (without_copy place) r.sessions (λ s q. each_filter (UpTo n) (λ e. not (nat_eq (copy_place e) place)) s.queue q) h
 queues_changed n (PutRetained kept) r fit h = h
 queues_changed n (RemoveRetained place) r fit h = h
 
@@ -121,44 +124,52 @@ OfAccepted (At who (Enter copy)) b = IsMade copy b.records
 OfAccepted (Keep kept) b = kept.publication ≡ b.records.publications
 OfAccepted d b = ⊤
 
-plain_accepted : (who : Whose) (part : Part) (b : Broker) → is_plain part ≡ true → OfAccepted (At who part) b
-plain_accepted who (Enter copy) b q = absurd cc
-plain_accepted who part b q = tt
+accepted_alone : (who : Whose) (part : Part) (b : Broker) → is_alone part ≡ true → OfAccepted (At who part) b
+accepted_alone who (Enter copy) b q = absurd cc
+accepted_alone who part b q = tt
 
-accepted_facts : Facts OfAccepted
-accepted_facts = record {
-  accept = λ origin m b. omega arith;
-  begin_row = λ client c b. tt;
-  name = λ b. tt;
-  count = λ b. tt;
-  at_part = plain_accepted;
-  enter = λ who copy b made. made;
-  open_id = λ birth s id env m ds b e n r. tt;
-  finish = λ who b. tt;
-  keep = λ kept b e. e;
-  forget = λ place b. tt;
-  refuse_will = λ who b. tt;
-  link = λ b. tt;
-  on_line = λ line part b. tt;
-  send = λ line packet b. tt;
-  gone = λ line b. tt;
+accepted_law : (env : Env) → DeedLaw env anyone (λ b. ⊤) OfAccepted
+accepted_law env = record {
+  finds = finds_anyone (λ b. ⊤);
+  client_stays = λ client d b k g its. tt;
+  kept = λ d b k g. tt;
+  accept = λ origin m b k said. omega arith;
+  keep = λ m b k said is full found. refl;
+  forget = λ place b k. tt;
+  enter = λ who copy b k made. made;
+  leave = λ who e ending b k. tt;
+  refuse_will = λ who b k its. tt;
+  open_id = λ s id m ds b k h its there new is. tt;
+  alone = λ who part b k its is. accepted_alone who part b is;
+  close = λ who moment b k its. tt;
+  finish = λ who b k its. tt;
+  resume = λ who expiry will b k its. tt;
+  name = λ b k. tt;
+  begin_given = λ c b k came taken name is room. tt;
+  begin_assigned = λ c b k h came taken room. tt;
+  count = λ b k. tt;
+  subscribe = λ w s b k h its granted. tt;
+  link = λ b k. tt;
+  on_line = λ line part b k. tt;
+  send = λ line packet b k. tt;
+  gone = λ line b k. tt;
 }
 
-accepted_mark : MarkFact OfAccepted
-accepted_mark who place phase b = tt
+accepted_mark : MarkLaw (λ b. ⊤) OfAccepted
+accepted_mark who place phase b k = tt
 
 -- a copy that was made has a number up to the last
-number_within : (n m : ℕ) (ks : List Retained) → HasNumber n ks → AllByRecursion (λ k. k.publication ≤ m) ks → n ≤ m
+number_within : (n m : ℕ) (ks : List RetainedMessage) → HasNumber n ks → AllByRecursion (λ k. k.publication ≤ m) ks → n ≤ m
 number_within n m [] h all = absurd h
 number_within n m (k ∷ ks) h all = elim h [
   | inl e ↦ let first = all.0 in omega (arith, e, first)
   | inr more ↦ number_within n m ks more all.1
 ]
 
-made_within : (copy : MessageCopy) (r : Records) → IsMade copy r → HasAcceptedNumbers r → copy.publication ≤ r.publications
+made_within : (copy : MessageCopy) (r : Records) → IsMade copy r → HasAcceptedNumbers r → copy.id.publication ≤ r.publications
 made_within copy r made h = elim made [
   | inl le ↦ le
-  | inr has ↦ number_within copy.publication r.publications r.retained has h.1
+  | inr has ↦ number_within copy.id.publication r.publications r.retained has h.1
 ]
 
 part_up_to : (who : Whose) (part : Part) (s : Session) (b : Broker) → OfAccepted (At who part) b → HasAcceptedNumbers b.records → RowsUpTo b.records.publications (part_rows part s)
@@ -207,11 +218,11 @@ moment_accepted (row ∷ rows) b h = h
 accepted_done : (ds : List Deed) (b : Broker) → AreGood OfAccepted ds b → HasAcceptedNumbers b.records → HasAcceptedNumbers (done ds b).records
 accepted_done ds b q h = moment_accepted (rows_of_all ds b.records) (after_all ds b) (accepted_all ds b q h)
 
-pub step_accepted : (limits : Limits) (choice : ℕ → List ℕ) (now : ℕ) (call : Call) (b : Broker) → HasAcceptedNumbers b.records → HasAcceptedNumbers (stepped limits choice now call b).records
+pub step_accepted : (limits : Limits) (choice : MemberChoice) (now : ℕ) (call : Call) (b : Broker) → HasAcceptedNumbers b.records → HasAcceptedNumbers (stepped limits choice now call b).records
 step_accepted limits choice now call b h =
-    accepted_done (deeds limits choice now call b) (at_moment now b) (good_deeds OfAccepted accepted_facts accepted_mark (env_of limits choice b) call (at_moment now b)) h
+    accepted_done (deeds limits choice now call b) (at_moment now b) ((leads_deeds (env_of limits choice b) (λ c. ⊤) OfAccepted (accepted_law (env_of limits choice b)) accepted_mark call (at_moment now b) tt).0) h
 
-pub opening_accepted : (limits : Limits) (choice : ℕ → List ℕ) (now : ℕ) (r : Records) → HasAcceptedNumbers r → HasAcceptedNumbers (opened limits choice now r).records
+pub opening_accepted : (limits : Limits) (choice : MemberChoice) (now : ℕ) (r : Records) → HasAcceptedNumbers r → HasAcceptedNumbers (opened limits choice now r).records
 opening_accepted limits choice now r h =
     let b = unopened now r in
-    accepted_done (opening (env_of limits choice b) b) b (good_opening OfAccepted accepted_facts (env_of limits choice b) b) h
+    accepted_done (opening (env_of limits choice b) b) b ((leads_opened (env_of limits choice b) (λ c. ⊤) OfAccepted (accepted_law (env_of limits choice b)) accepted_mark b tt).0) h

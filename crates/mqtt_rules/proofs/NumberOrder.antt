@@ -8,13 +8,13 @@ use Rattle.mqtt_records.specs.declared.records.Records.{Records}
 use Rattle.mqtt_records.specs.declared.change.Counter.{Counter}
 use Rattle.mqtt_records.specs.declared.change.Counter.TheVariants.{Births, Publications, Subscribes, Autos, Moment}
 use Rattle.mqtt_records.specs.declared.change.Change.{Change}
-use Rattle.mqtt_records.specs.declared.change.Change.TheVariants.{SetCounter, PutSession, RemoveSession, PutWill, RemoveWill, PutSubscription, RemoveSubscription, PutInbound, RemoveInbound, PutCopy, SetCopy, RemoveCopy, PutRetained, RemoveRetained}
-use Rattle.mqtt_records.specs.Order.{IsAscending, has_row, put_row, change_row}
-use Rattle.mqtt_records.specs.Session.{birth_of, place_of, number_of, entry_place, fresh, with_columns, with_will, with_subscription, without_subscription, without_filter, with_open, without_open, with_copy, with_phase, without_copy, in_phase}
+use Rattle.mqtt_records.specs.declared.change.Change.TheVariants.{SetCounter, PutSession, SetSession, RemoveSession, PutWill, RemoveWill, PutSubscription, RemoveSubscription, PutInbound, RemoveInbound, PutCopy, SetCopy, RemoveCopy, PutRetained, RemoveRetained}
+use Rattle.mqtt_rows.specs.Order.{IsAscending, has_row, put_row, change_row}
+use Rattle.mqtt_records.specs.Session.{birth_of, place_of, number_of, copy_place, fresh, with_columns, with_will, with_subscription, without_subscription, without_filter, with_open, without_open, with_copy, with_phase, without_copy, in_phase}
 use Rattle.mqtt_records.specs.Records.{nothing, changed, changed_all, put_session, in_session, with_counter, kept_place}
-use Rattle.mqtt_records.proofs.OrderLemmas.{put-ascending, filter-ascending, remove-ascending, change-ascending}
+use Rattle.mqtt_rows.proofs.OrderLemmas.{put-ascending, filter-ascending, remove-ascending, change-ascending}
 use Rattle.mqtt_rules.specs.declared.Limits.{Limits}
-use Rattle.mqtt_rules.specs.State.{Broker}
+use Rattle.mqtt_rules.specs.State.{Broker, MemberChoice}
 use Rattle.mqtt_rules.specs.Deeds.{Deed, rows_of, rows_of_all, after, after_all}
 use Rattle.mqtt_rules.specs.Step.{Call, deeds, at_moment, env_of, with_moment, done, stepped, opening, unopened, opened}
 use Rattle.mqtt_rules.specs.Numbers.{IsInOrder, AreInOrder}
@@ -50,6 +50,7 @@ order_counter Moment value r h = h
 order_changed : (change : Change) (r : Records) → AreInOrder r → AreInOrder (changed change r)
 order_changed (SetCounter counter value) r h = order_counter counter value r h
 order_changed (PutSession row) r h = let o = order_put_session row r.sessions (h.0, h.1) in (o.0, o.1, h.2)
+order_changed (SetSession row) r h = order_in row.birth (with_columns row) r (λ s. refl) (λ s o. o) h
 order_changed (RemoveSession birth) r h =
     (remove-ascending birth_of birth r.sessions h.0, each_filter IsInOrder (λ s. not (nat_eq (birth_of s) birth)) r.sessions h.1, h.2)
 order_changed (PutWill birth will) r h = order_in birth (with_will (Some will)) r (λ s. refl) (λ s o. o) h
@@ -61,10 +62,10 @@ order_changed (RemoveSubscription birth text) r h =
     order_in birth (without_subscription text) r (λ s. refl) (λ s o. (filter-ascending place_of (λ x. not (bytes_eq x.filter text)) s.subscriptions o.0, o.1, o.2)) h
 order_changed (PutInbound birth id) r h = order_in birth (with_open id) r (λ s. refl) (λ s o. (o.0, put-ascending number_of OPEN_LIMIT id s.inbound o.1, o.2)) h
 order_changed (RemoveInbound birth id) r h = order_in birth (without_open id) r (λ s. refl) (λ s o. (o.0, remove-ascending number_of id s.inbound o.1, o.2)) h
-order_changed (PutCopy birth e) r h = order_in birth (with_copy e) r (λ s. refl) (λ s o. (o.0, o.1, put-ascending entry_place QUEUE_LIMIT e s.queue o.2)) h
+order_changed (PutCopy birth e) r h = order_in birth (with_copy e) r (λ s. refl) (λ s o. (o.0, o.1, put-ascending copy_place QUEUE_LIMIT e s.queue o.2)) h
 order_changed (SetCopy birth place phase) r h =
-    order_in birth (with_phase place phase) r (λ s. refl) (λ s o. (o.0, o.1, change-ascending entry_place place (in_phase phase) s.queue (λ e. refl) o.2)) h
-order_changed (RemoveCopy birth place) r h = order_in birth (without_copy place) r (λ s. refl) (λ s o. (o.0, o.1, remove-ascending entry_place place s.queue o.2)) h
+    order_in birth (with_phase place phase) r (λ s. refl) (λ s o. (o.0, o.1, change-ascending copy_place place (in_phase phase) s.queue (λ e. refl) o.2)) h
+order_changed (RemoveCopy birth place) r h = order_in birth (without_copy place) r (λ s. refl) (λ s o. (o.0, o.1, remove-ascending copy_place place s.queue o.2)) h
 order_changed (PutRetained kept) r h = (h.0, h.1, put-ascending kept_place RETAINED_LIMIT kept r.retained h.2)
 order_changed (RemoveRetained place) r h = (h.0, h.1, remove-ascending kept_place place r.retained h.2)
 
@@ -83,10 +84,10 @@ moment_order (row ∷ rows) b h = h
 order_done : (ds : List Deed) (b : Broker) → AreInOrder b.records → AreInOrder (done ds b).records
 order_done ds b h = moment_order (rows_of_all ds b.records) (after_all ds b) (order_all ds b h)
 
-pub step_order : (limits : Limits) (choice : ℕ → List ℕ) (now : ℕ) (call : Call) (b : Broker) → AreInOrder b.records → AreInOrder (stepped limits choice now call b).records
+pub step_order : (limits : Limits) (choice : MemberChoice) (now : ℕ) (call : Call) (b : Broker) → AreInOrder b.records → AreInOrder (stepped limits choice now call b).records
 step_order limits choice now call b h = order_done (deeds limits choice now call b) (at_moment now b) h
 
-pub opening_order : (limits : Limits) (choice : ℕ → List ℕ) (now : ℕ) (r : Records) → AreInOrder r → AreInOrder (opened limits choice now r).records
+pub opening_order : (limits : Limits) (choice : MemberChoice) (now : ℕ) (r : Records) → AreInOrder r → AreInOrder (opened limits choice now r).records
 opening_order limits choice now r h = let b = unopened now r in order_done (opening (env_of limits choice b) b) b h
 
 pub nothing_order : AreInOrder nothing

@@ -11,11 +11,11 @@ use Rattle.mqtt_records.specs.declared.records.Records.{Records}
 use Rattle.mqtt_records.specs.declared.change.Counter.{Counter}
 use Rattle.mqtt_records.specs.declared.change.Counter.TheVariants.{Births, Publications, Subscribes, Autos, Moment}
 use Rattle.mqtt_records.specs.declared.change.Change.{Change}
-use Rattle.mqtt_records.specs.declared.change.Change.TheVariants.{SetCounter, PutSession, RemoveSession, PutWill, RemoveWill, PutSubscription, RemoveSubscription, PutInbound, RemoveInbound, PutCopy, SetCopy, RemoveCopy, PutRetained, RemoveRetained}
-use Rattle.mqtt_records.specs.Order.{IsAscending, has_row, insert_row, put_row, remove_row, change_row, front_len}
-use Rattle.mqtt_records.specs.Session.{birth_of, place_of, number_of, entry_place, fresh, with_columns, with_will, without_filter, with_subscription, without_subscription, with_open, without_open, with_copy, in_phase, with_phase, without_copy}
+use Rattle.mqtt_records.specs.declared.change.Change.TheVariants.{SetCounter, PutSession, SetSession, RemoveSession, PutWill, RemoveWill, PutSubscription, RemoveSubscription, PutInbound, RemoveInbound, PutCopy, SetCopy, RemoveCopy, PutRetained, RemoveRetained}
+use Rattle.mqtt_rows.specs.Order.{IsAscending, has_row, insert_row, put_row, remove_row, change_row, front_len}
+use Rattle.mqtt_records.specs.Session.{birth_of, place_of, number_of, copy_place, fresh, with_columns, with_will, without_filter, with_subscription, without_subscription, with_open, without_open, with_copy, in_phase, with_phase, without_copy}
 use Rattle.mqtt_records.specs.Records.{kept_place, nothing, with_counter, put_session, in_session, changed, changed_all}
-use Rattle.mqtt_records.proofs.OrderLemmas.{insert-found, put-ascending, filter-ascending, change-ascending}
+use Rattle.mqtt_rows.proofs.OrderLemmas.{insert-found, put-ascending, filter-ascending, change-ascending}
 use Rattle.mqtt_rules.specs.Laws.{IsTable, HasTables, IsOrdered}
 
 -- ---- how many rows there are after an edit
@@ -122,7 +122,7 @@ empty-table : {X : Type 0} (key : X → ℕ) (limit : ℕ) → IsTable key limit
 empty-table key limit = record { ascending = tt; within = omega arith }
 
 fresh-tables : (row : Columns) → HasTables (fresh row)
-fresh-tables row = record { inbound = empty-table number_of OPEN_LIMIT; subscriptions = empty-table place_of SUBSCRIPTION_LIMIT; queue = empty-table entry_place QUEUE_LIMIT }
+fresh-tables row = record { inbound = empty-table number_of OPEN_LIMIT; subscriptions = empty-table place_of SUBSCRIPTION_LIMIT; queue = empty-table copy_place QUEUE_LIMIT }
 
 -- a part that keeps births and tables
 record IsKeeping (f : Session → Session) : Type 0 where
@@ -169,6 +169,7 @@ counter-ordered Moment value r h = record { sessions = h.sessions; each = h.each
 pub changed-ordered : (change : Change) (r : Records) → IsOrdered r → IsOrdered (changed change r)
 changed-ordered (SetCounter counter value) r h = counter-ordered counter value r h
 changed-ordered (PutSession row) r h = record { sessions = put_session-table row r.sessions h.sessions; each = put_session-each row r.sessions h.each; retained = h.retained }
+changed-ordered (SetSession row) r h = in_session-ordered row.birth (with_columns row) r (keeps-columns row) h
 changed-ordered (RemoveSession birth) r h = record {
   sessions = remove-table birth_of SESSION_LIMIT birth r.sessions h.sessions;
   each = all-filter HasTables (λ s. not (nat_eq (birth_of s) birth)) r.sessions h.each;
@@ -221,7 +222,7 @@ changed-ordered (PutCopy birth e) r h = in_session-ordered birth (with_copy e) r
       tables = λ s t. record {
         inbound = t.inbound;
         subscriptions = t.subscriptions;
-        queue = put-table entry_place QUEUE_LIMIT e s.queue t.queue;
+        queue = put-table copy_place QUEUE_LIMIT e s.queue t.queue;
       };
     }) h
 changed-ordered (SetCopy birth place phase) r h = in_session-ordered birth (with_phase place phase) r
@@ -230,7 +231,7 @@ changed-ordered (SetCopy birth place phase) r h = in_session-ordered birth (with
       tables = λ s t. record {
         inbound = t.inbound;
         subscriptions = t.subscriptions;
-        queue = change-table entry_place QUEUE_LIMIT place (in_phase phase) s.queue (λ e. refl) t.queue;
+        queue = change-table copy_place QUEUE_LIMIT place (in_phase phase) s.queue (λ e. refl) t.queue;
       };
     }) h
 changed-ordered (RemoveCopy birth place) r h = in_session-ordered birth (without_copy place) r
@@ -239,7 +240,7 @@ changed-ordered (RemoveCopy birth place) r h = in_session-ordered birth (without
       tables = λ s t. record {
         inbound = t.inbound;
         subscriptions = t.subscriptions;
-        queue = remove-table entry_place QUEUE_LIMIT place s.queue t.queue;
+        queue = remove-table copy_place QUEUE_LIMIT place s.queue t.queue;
       };
     }) h
 changed-ordered (PutRetained kept) r h = record { sessions = h.sessions; each = h.each; retained = put-table kept_place RETAINED_LIMIT kept r.retained h.retained }

@@ -7,11 +7,11 @@ use Rattle.mqtt_flow.specs.declared.entry.Turn.{Turn}
 use Rattle.mqtt_flow.specs.declared.entry.Turn.TheVariants as turns
 use Rattle.mqtt_flow.specs.Outbound.{staying, way_made, has_room}
 use Rattle.mqtt_flow.specs.Queue as flow
-use Rattle.mqtt_flow.proofs.OutRoom.{below_limit}
+use Rattle.mqtt_flow.proofs.outbound.Room.{below_limit}
 use Rattle.mqtt_base.specs.declared.session.Ending.{Ending}
-use Rattle.mqtt_records.specs.declared.message.MessageCopy.{MessageCopy}
-use Rattle.mqtt_records.specs.declared.message.Will.{Will}
-use Rattle.mqtt_records.specs.declared.queue.Entry.{Entry}
+use Rattle.mqtt_message.specs.declared.message.MessageCopy.{MessageCopy}
+use Rattle.mqtt_message.specs.declared.message.Will.{Will}
+use Rattle.mqtt_message.specs.Queue.{CopyRow}
 use Rattle.mqtt_base.specs.declared.limits.TheConstants.{QUEUE_LIMIT, SESSION_LIMIT}
 use Rattle.mqtt_records.specs.declared.session.Session.{Session}
 use Rattle.mqtt_records.specs.declared.session.Columns.{Columns}
@@ -19,18 +19,19 @@ use Rattle.mqtt_records.specs.declared.records.Records.{Records}
 use Rattle.mqtt_records.specs.declared.change.Counter.{Counter}
 use Rattle.mqtt_records.specs.declared.change.Counter.TheVariants.{Births, Publications, Subscribes, Autos, Moment}
 use Rattle.mqtt_records.specs.declared.change.Change.{Change}
-use Rattle.mqtt_records.specs.declared.change.Change.TheVariants.{SetCounter, PutSession, RemoveSession, PutWill, RemoveWill, PutSubscription, RemoveSubscription, PutInbound, RemoveInbound, PutCopy, SetCopy, RemoveCopy, PutRetained, RemoveRetained}
-use Rattle.mqtt_records.specs.Order.{IsAbove, IsAscending, row_at, has_row, put_row, remove_row, change_row}
-use Rattle.mqtt_records.specs.Session.{birth_of, entry_place, fresh, with_columns, with_will, with_subscription, without_subscription, with_open, without_open, with_copy, in_phase, with_phase, without_copy}
+use Rattle.mqtt_records.specs.declared.change.Change.TheVariants.{SetCounter, PutSession, SetSession, RemoveSession, PutWill, RemoveWill, PutSubscription, RemoveSubscription, PutInbound, RemoveInbound, PutCopy, SetCopy, RemoveCopy, PutRetained, RemoveRetained}
+use Rattle.mqtt_rows.specs.Order.{IsAbove, IsAscending, row_at, has_row, put_row, remove_row, change_row}
+use Rattle.mqtt_records.specs.Session.{birth_of, copy_place, fresh, with_columns, with_will, with_subscription, without_subscription, with_open, without_open, with_copy, in_phase, with_phase, without_copy}
 use Rattle.mqtt_records.specs.Records.{with_counter, changed, changed_all}
-use Rattle.mqtt_records.proofs.LookUps.{put_row-last}
+use Rattle.mqtt_rows.proofs.LookUps.{put_row-last}
 use Rattle.mqtt_rules.specs.State.{Broker, Env, stored, session_at, entry_on, queue_on, next_of}
 use Rattle.mqtt_rules.specs.Deeds.{Whose, whose, Message, Origin, Part, Resume, Close, SetExpiry, DropWill, Open, Release, Enter, Mark, Leave, Deed, Accept, Begin, Name, Count, At, Finish, Keep, Forget, RefuseWill, Link, On, Send, Gone, Act, after, after_all, rows_of, part_rows, part_rows_of, will_row, begin_rows, new_entry, stored_after, then, always, series, of_session, offer}
 use Rattle.mqtt_rules.specs.Deeds as deed
 use Rattle.mqtt_rules.specs.Outbound.{of_entry, leave_deeds, is_new, since, queue_limits, enter_deeds}
 use Rattle.mqtt_rules.specs.Laws.{HasTables, IsOrdered}
 use Rattle.mqtt_rules.proofs.Ordered.{length-filter_le, length-change_row, all-filter, all-change_row, all-put_row, either, changed_all-ordered}
-use Rattle.mqtt_rules.proofs.OrderedActs.{after_append, IsPlainPart, IsPlain, ArePlain, plain_leave, plain_flat, birth_found}
+use Rattle.mqtt_rules.proofs.Goods.{after_append}
+use Rattle.mqtt_rules.proofs.OrderedActs.{IsPlainPart, IsPlain, ArePlain, plain_leave, plain_flat, birth_found}
 use Rattle.mqtt_rules.proofs.OrderedQueues.{length-mapped, stay, stay_is, leaving, GivesWay, dropped_gives, leaving_flow, first_place, stay_more, below_own, length-append_one}
 
 -- ---- a row found and changed
@@ -105,6 +106,7 @@ change_short limit (PutSession row) r q h = either (AreShort limit) (has_row bir
     (put_row birth_of SESSION_LIMIT (fresh row) r.sessions)
     (all-change_row birth_of (IsShort limit) row.birth (with_columns row) r.sessions (λ s p. p) h)
     (all-put_row birth_of (IsShort limit) SESSION_LIMIT (fresh row) r.sessions (omega arith) h)
+change_short limit (SetSession row) r q h = all-change_row birth_of (IsShort limit) row.birth (with_columns row) r.sessions (λ s p. p) h
 change_short limit (RemoveSession birth) r q h = all-filter (IsShort limit) (λ s. not (nat_eq (birth_of s) birth)) r.sessions h
 change_short limit (PutWill birth will) r q h = all-change_row birth_of (IsShort limit) birth (with_will (Some will)) r.sessions (λ s p. p) h
 change_short limit (RemoveWill birth) r q h = all-change_row birth_of (IsShort limit) birth (with_will None) r.sessions (λ s p. p) h
@@ -114,9 +116,9 @@ change_short limit (PutInbound birth id) r q h = all-change_row birth_of (IsShor
 change_short limit (RemoveInbound birth id) r q h = all-change_row birth_of (IsShort limit) birth (without_open id) r.sessions (λ s p. p) h
 change_short limit (PutCopy birth e) r q h = absurd q
 change_short limit (SetCopy birth place phase) r q h = all-change_row birth_of (IsShort limit) birth (with_phase place phase) r.sessions
-    (λ s p. let same = length-change_row entry_place place (in_phase phase) s.queue in omega (arith, same, p)) h
+    (λ s p. let same = length-change_row copy_place place (in_phase phase) s.queue in omega (arith, same, p)) h
 change_short limit (RemoveCopy birth place) r q h = all-change_row birth_of (IsShort limit) birth (without_copy place) r.sessions
-    (λ s p. let less = length-filter_le (λ e. not (nat_eq (entry_place e) place)) s.queue in omega (arith, less, p)) h
+    (λ s p. let less = length-filter_le (λ e. not (nat_eq (copy_place e) place)) s.queue in omega (arith, less, p)) h
 change_short limit (PutRetained kept) r q h = h
 change_short limit (RemoveRetained place) r q h = h
 
@@ -202,14 +204,14 @@ plain_short env (d ∷ ds) b q h = plain_short env ds (after d b) q.1 (still_sho
 
 -- ---- the copies that give way leave
 
-record Left (birth : ℕ) (q : List Entry) (ss new : List Session) : Type 0 where
+record Left (birth : ℕ) (q : List CopyRow) (ss new : List Session) : Type 0 where
   mine : Session
   found : row_at birth_of birth new ≡ Some mine
   queue : mine.queue ≡ q
   others : (other : ℕ) → nat_eq birth other ≡ false → row_at birth_of other new ≡ row_at birth_of other ss
 
 -- one leaves
-leave_found : (s now : Session) (place : ℕ) (ending : Ending) (b : Broker) (o : Option Entry) → row_at entry_place place s.queue ≡ o → is_some o ≡ true → session_at s.birth b.records ≡ Some now
+leave_found : (s now : Session) (place : ℕ) (ending : Ending) (b : Broker) (o : Option CopyRow) → row_at copy_place place s.queue ≡ o → is_some o ≡ true → session_at s.birth b.records ≡ Some now
     → (stored (after_all (of_entry o (λ e. At (whose s) (Leave e ending) ∷ [])) b)).sessions ≡ change_row birth_of s.birth (without_copy place) b.records.sessions
 leave_found s now place ending b None is there found = absurd cc
 leave_found s now place ending b (Some e) is there found =
@@ -219,13 +221,13 @@ leave_found s now place ending b (Some e) is there found =
     ∙ ap (λ (n : ℕ). change_row birth_of n (without_copy e.place) b.records.sessions) mine
     ∙ ap (λ (n : ℕ). change_row birth_of s.birth (without_copy n) b.records.sessions) here
   where
-    place_found : (place : ℕ) (q : List Entry) (e : Entry) → row_at entry_place place q ≡ Some e → e.place ≡ place
+    place_found : (place : ℕ) (q : List CopyRow) (e : CopyRow) → row_at copy_place place q ≡ Some e → e.place ≡ place
     place_found place [] e found = absurd cc
-    place_found place (x ∷ xs) e found = elim (cases_Bool (nat_eq (entry_place x) place)) [
+    place_found place (x ∷ xs) e found = elim (cases_Bool (nat_eq (copy_place x) place)) [
       | inl same ↦
           let first : Some x ≡ Some e = rw same at found in
           let it : x ≡ e = cc in
-          ap entry_place (sym it) ∙ eqb-true (entry_place x) place same
+          ap copy_place (sym it) ∙ eqb-true (copy_place x) place same
       | inr other ↦ place_found place xs e (rw other at found)
     ]
 
@@ -236,19 +238,19 @@ leaves first s (turns.Leave place ending ∷ ts) now b all found =
     let ds = leave_deeds s (turns.Leave place ending) in
     let c = after_all ds b in
     let is : c.records.sessions ≡ change_row birth_of s.birth (without_copy place) b.records.sessions
-    = leave_found s now place ending b (row_at entry_place place s.queue) refl all.0.0 found
+    = leave_found s now place ending b (row_at copy_place place s.queue) refl all.0.0 found
     in
     let next : session_at s.birth c.records ≡ Some (without_copy place now)
     = ap (row_at birth_of s.birth) is ∙ change_here birth_of s.birth (without_copy place) b.records.sessions now (λ x. refl) found
     in
     let rest = leaves first s ts (without_copy place now) c all.1 next in
-    let joined : Left s.birth (leaving ts (remove_row entry_place place now.queue)) b.records.sessions (stored (after_all (flat_map (leave_deeds s) ts) c)).sessions = record {
+    let joined : Left s.birth (leaving ts (remove_row copy_place place now.queue)) b.records.sessions (stored (after_all (flat_map (leave_deeds s) ts) c)).sessions = record {
       mine = rest.mine;
       found = rest.found;
       queue = rest.queue;
       others = λ other differ. rest.others other differ ∙ ap (row_at birth_of other) is ∙ change_other birth_of s.birth other (without_copy place) b.records.sessions (λ x. refl) differ;
     } in
-    subst (λ (d : Broker). Left s.birth (leaving ts (remove_row entry_place place now.queue)) b.records.sessions d.records.sessions) (sym (after_append ds (flat_map (leave_deeds s) ts) b)) joined
+    subst (λ (d : Broker). Left s.birth (leaving ts (remove_row copy_place place now.queue)) b.records.sessions d.records.sessions) (sym (after_append ds (flat_map (leave_deeds s) ts) b)) joined
 leaves first s (turns.Send place id ∷ ts) now b all found = absurd all.0
 leaves first s (turns.Resend place id ∷ ts) now b all found = absurd all.0
 leaves first s (turns.Release place id order ∷ ts) now b all found = absurd all.0
@@ -261,17 +263,17 @@ leaves first s (turns.Unknown id ∷ ts) now b all found = absurd all.0
 pub some_same : (x y : Session) → Some x ≡ Some y → x ≡ y
 some_same x y is = cc
 
-abbrev pub new_of : Env → Entry → Bool
+abbrev pub new_of : Env → CopyRow → Bool
 new_of env e = is_new env.start e.copy
 
 abbrev pub own_stay : Env → Session → ℕ
 own_stay env s = stay env.limits.full (since env s) s.queue
 
-flow_ascends : (birth : ℕ) (q : List Entry) → IsAscending entry_place q → flow.Ascends (map (entry_on [] birth) q)
+flow_ascends : (birth : ℕ) (q : List CopyRow) → IsAscending copy_place q → flow.Ascends (map (entry_on []) q)
 flow_ascends birth [] up = tt
 flow_ascends birth (e ∷ es) up = (flow_above birth e.place es up.0, flow_ascends birth es up.1)
   where
-    flow_above : (birth n : ℕ) (q : List Entry) → IsAbove entry_place n q → flow.Above n (map (entry_on [] birth) q)
+    flow_above : (birth n : ℕ) (q : List CopyRow) → IsAbove copy_place n q → flow.Above n (map (entry_on []) q)
     flow_above birth n [] up = tt
     flow_above birth n (e ∷ es) up = (up.0, flow_above birth n es up.1)
 
@@ -296,13 +298,13 @@ enters env copy s b small tables found free short =
     let has : has_room (queue_limits env) first (queue_on [] s) ≡ true = lt-ltb (staying env.limits.full first (queue_on [] s)) env.limits.queue (omega (arith, same, free)) in
     let below = below_limit (queue_limits env) first (queue_on [] s) has (flow_ascends s.birth s.queue tables.queue.ascending) in
     let as_flow = ap length (leaving_flow first s.birth s.queue ts s.queue gives) in
-    let as_long = length-mapped (entry_on [] s.birth) (leaving ts s.queue) in
+    let as_long = length-mapped (entry_on []) (leaving ts s.queue) in
     let as_left = ap length left.queue in
     let less : length left.mine.queue < env.limits.queue = omega (arith, below, as_flow, as_long, as_left) in
     let mine_birth : left.mine.birth ≡ s.birth = birth_found s.birth c.records.sessions left.mine left.found in
     let n = new_entry copy left.mine.queue in
-    let pushed : put_row entry_place QUEUE_LIMIT n left.mine.queue ≡ left.mine.queue ++ n ∷ []
-    = put_row-last entry_place QUEUE_LIMIT n left.mine.queue (below_own left.mine.queue) (omega (arith, less, small))
+    let pushed : put_row copy_place QUEUE_LIMIT n left.mine.queue ≡ left.mine.queue ++ n ∷ []
+    = put_row-last copy_place QUEUE_LIMIT n left.mine.queue (below_own left.mine.queue) (omega (arith, less, small))
     in
     let d = after (At (whose s) (Enter copy)) c in
     let is : d.records.sessions ≡ change_row birth_of s.birth (with_copy n) c.records.sessions
@@ -314,11 +316,11 @@ enters env copy s b small tables found free short =
     = ap (row_at birth_of s.birth) is ∙ change_here birth_of s.birth (with_copy n) c.records.sessions left.mine (λ x. refl) left.found
     in
     let long : length mine.queue ≤ env.limits.queue = (let e = ap length pushed in let one = length-append_one left.mine.queue n in omega (arith, e, one, less)) in
-    let queue_is : mine.queue ≡ leaving ts s.queue ++ n ∷ [] = pushed ∙ ap (λ (q : List Entry). q ++ n ∷ []) left.queue in
-    let next : n.place ≡ next_of entry_place (leaving ts s.queue) = ap (next_of entry_place) left.queue in
+    let queue_is : mine.queue ≡ leaving ts s.queue ++ n ∷ [] = pushed ∙ ap (λ (q : List CopyRow). q ++ n ∷ []) left.queue in
+    let next : n.place ≡ next_of copy_place (leaving ts s.queue) = ap (next_of copy_place) left.queue in
     let more = stay_more env.limits.full (new_of env) ts s.queue n next gives in
     let stays : own_stay env mine ≤ suc (own_stay env s)
-    = subst (λ (q : List Entry). stay env.limits.full (first_place (new_of env) q) q ≤ suc (own_stay env s)) (sym queue_is) more
+    = subst (λ (q : List CopyRow). stay env.limits.full (first_place (new_of env) q) q ≤ suc (own_stay env s)) (sym queue_is) more
     in
     let entered : Entered env s b.records.sessions d.records.sessions = record {
       mine = mine;

@@ -5,9 +5,9 @@ use Rattle.std.proofs.lemmas.Bool.{cases_Bool, ltb-true}
 use Rattle.std.proofs.lemmas.Cmp.{nat_eq_equiv}
 use Rattle.mqtt_topic.specs.Names.{is_empty}
 use Rattle.mqtt_flow.specs.Outbound.{way_made}
-use Rattle.mqtt_records.specs.declared.message.MessageCopy.{MessageCopy}
-use Rattle.mqtt_records.specs.declared.message.Retained.{Retained}
-use Rattle.mqtt_records.specs.declared.message.Will.{Will}
+use Rattle.mqtt_message.specs.declared.message.MessageCopy.{MessageCopy}
+use Rattle.mqtt_message.specs.declared.message.RetainedMessage.{RetainedMessage}
+use Rattle.mqtt_message.specs.declared.message.Will.{Will}
 use Rattle.mqtt_records.specs.declared.session.Session.{Session}
 use Rattle.mqtt_records.specs.declared.session.Columns.{Columns}
 use Rattle.mqtt_records.specs.declared.records.Records.{Records}
@@ -15,22 +15,23 @@ use Rattle.mqtt_base.specs.declared.limits.TheConstants.{SESSION_LIMIT, RETAINED
 use Rattle.mqtt_records.specs.declared.change.Counter.{Counter}
 use Rattle.mqtt_records.specs.declared.change.Counter.TheVariants.{Births, Publications, Subscribes, Autos, Moment}
 use Rattle.mqtt_records.specs.declared.change.Change.{Change}
-use Rattle.mqtt_records.specs.declared.change.Change.TheVariants.{SetCounter, PutSession, RemoveSession, PutWill, RemoveWill, PutSubscription, RemoveSubscription, PutInbound, RemoveInbound, PutCopy, SetCopy, RemoveCopy, PutRetained, RemoveRetained}
-use Rattle.mqtt_records.specs.Order.{row_at, has_row, insert_row, put_row, change_row}
+use Rattle.mqtt_records.specs.declared.change.Change.TheVariants.{SetCounter, PutSession, SetSession, RemoveSession, PutWill, RemoveWill, PutSubscription, RemoveSubscription, PutInbound, RemoveInbound, PutCopy, SetCopy, RemoveCopy, PutRetained, RemoveRetained}
+use Rattle.mqtt_rows.specs.Order.{row_at, has_row, insert_row, put_row, change_row}
 use Rattle.mqtt_records.specs.Session.{birth_of, fresh, with_columns, with_will, with_subscription, without_subscription, with_open, without_open, with_copy, with_phase, without_copy}
 use Rattle.mqtt_records.specs.Records.{kept_place, with_counter, put_session, changed, changed_all}
-use Rattle.mqtt_records.proofs.OrderLemmas.{put-ascending}
+use Rattle.mqtt_rows.proofs.OrderLemmas.{put-ascending}
 use Rattle.mqtt_rules.specs.State.{Broker, Env, stored, session_at, line_of}
 use Rattle.mqtt_rules.specs.Deeds.{Whose, whose, Message, Origin, Part, Resume, Close, SetExpiry, DropWill, Open, Release, Enter, Mark, Leave, Deed, Accept, Begin, Name, Count, At, Finish, Keep, Forget, RefuseWill, Link, On, Send, Gone, Act, after, after_all, part_rows, part_rows_of, will_row, new_entry, stored_after, then, always, series, of_session, offer}
 use Rattle.mqtt_rules.specs.Deeds as deed
 use Rattle.mqtt_rules.specs.Packets.{publish_of}
 use Rattle.mqtt_rules.specs.Outbound.{leave_deeds, queue_limits, since, enter_deeds, room}
-use Rattle.mqtt_rules.specs.Routing.{Delivery, is_topic, retained_of, finds_place, accepted_if, next_publication, routed, is_queued, deliver_by, deliver, place_of_kept, kept_message, forgets, retain_by, publish}
+use Rattle.mqtt_rules.specs.Routing.{CopyTo, is_topic, retained_of, finds_place, accepted_if, next_publication, accepted_copies, is_queued, deliver_by, deliver, place_of_kept, kept_message, forgets, retain_by, publish}
 use Rattle.mqtt_rules.specs.Subscribe as sub
 use Rattle.mqtt_rules.specs.State.{queue_on}
 use Rattle.mqtt_rules.specs.Laws.{IsTable}
 use Rattle.mqtt_rules.proofs.Ordered.{length-filter_le, length-change_row, length-insert_row, length-insert_found, filter-table, either}
-use Rattle.mqtt_rules.proofs.OrderedActs.{IsPlain, ArePlain, plain_leave, plain_flat, plain_offer, Keeps, both, follows, keeps_series, keeps_map, keeps_of, brought_to, Keeping, birth_found}
+use Rattle.mqtt_rules.proofs.OrderedActs.{IsPlain, ArePlain, plain_leave, plain_flat, plain_offer, Keeps, both, follows, keeps_series, keeps_map, keeps_of, Keeping, birth_found}
+use Rattle.mqtt_rules.proofs.Acts.{brought_to}
 
 -- ---- all deeds but those that a session begins with, or a retained message is kept with
 
@@ -73,7 +74,7 @@ pub record Roomy (env : Env) (P : Records → Type 0) : Type 0 where
       → P (stored_after (Keep (kept_message number now m (place_of_kept (retained_of m.topic r) r.retained))) r)
   pub moment : (now : ℕ) (r : Records) → P r → P (record r { moment = now })
 
-pub accepted : (t : Bool) (o : Option (List Delivery)) (ds : List Delivery) → accepted_if t o ≡ Some ds → t ≡ true
+pub accepted : (t : Bool) (o : Option (List CopyTo)) (ds : List CopyTo) → accepted_if t o ≡ Some ds → t ≡ true
 accepted true o ds is = refl
 accepted false o ds is = absurd cc
 
@@ -90,16 +91,16 @@ module _ (env : Env) (P : Records → Type 0) (k : Roomy env P) where
       let ts = way_made (queue_limits env) (since env s) (queue_on [] s) in
       steady_append (flat_map (leave_deeds s) ts) (At (whose s) (Enter copy) ∷ []) (steady_plain (flat_map (leave_deeds s) ts) (plain_flat (leave_deeds s) (plain_leave s) ts)) (tt, tt)
 
-  delivers_by : (t : Bool) (d : Delivery) → Keeps P (deliver_by t env d)
+  delivers_by : (t : Bool) (d : CopyTo) → Keeps P (deliver_by t env d)
   delivers_by true d b p = keeps_of P d.birth (λ s. always (enter_deeds env d.copy s)) (λ s. steady_always (enter_deeds env d.copy s) (enters d.copy s)) b p
   delivers_by false d b p =
       let packet = publish_of b.now false 0 d.copy in
       steadies (offer (line_of d.birth b) packet) b (steady_plain (offer (line_of d.birth b) packet) (plain_offer (line_of d.birth b) packet)) p
 
-  delivers : (d : Delivery) → Keeps P (deliver env d)
+  delivers : (d : CopyTo) → Keeps P (deliver env d)
   delivers d b p = delivers_by (is_queued d) d b p
 
-  forgets_steady : (o : Option Retained) → AreSteady (forgets o)
+  forgets_steady : (o : Option RetainedMessage) → AreSteady (forgets o)
   forgets_steady None = tt
   forgets_steady (Some x) = (tt, tt)
 
@@ -108,7 +109,7 @@ module _ (env : Env) (P : Records → Type 0) (k : Roomy env P) where
   retains true true number m b is empty found p = steadies (forgets (retained_of m.topic b.records)) b (forgets_steady (retained_of m.topic b.records)) p
   retains true false number m b is empty found p = k.keep number b.now m b.records is empty found p
 
-  publishes : (origin : Origin) (m : Message) (ds : List Delivery) (b : Broker) → routed env m b ≡ Some ds → P b.records → P (stored (after_all (publish env origin m ds b) b))
+  publishes : (origin : Origin) (m : Message) (ds : List CopyTo) (b : Broker) → accepted_copies env m b ≡ Some ds → P b.records → P (stored (after_all (publish env origin m ds b) b))
   publishes origin m ds b is p =
       let number = next_publication b.records in
       let first : List Deed = Accept number origin m ∷ [] in
@@ -149,6 +150,7 @@ counter_sessions Moment value r = refl
 session_stays : (change : Change) (r : Records) → IsOldSession change r → length (changed change r).sessions ≤ length r.sessions
 session_stays (SetCounter counter value) r old = let same = ap length (counter_sessions counter value r) in omega (arith, same)
 session_stays (PutSession row) r old = let same = length-change_row birth_of row.birth (with_columns row) r.sessions in rw old (omega (arith, same))
+session_stays (SetSession row) r old = let same = length-change_row birth_of row.birth (with_columns row) r.sessions in omega (arith, same)
 session_stays (RemoveSession birth) r old = length-filter_le (λ s. not (nat_eq (birth_of s) birth)) r.sessions
 session_stays (PutWill birth will) r old = let same = length-change_row birth_of birth (with_will (Some will)) r.sessions in omega (arith, same)
 session_stays (RemoveWill birth) r old = let same = length-change_row birth_of birth (with_will None) r.sessions in omega (arith, same)
@@ -169,11 +171,11 @@ will_stays birth (Some will) r = session_stays (PutWill birth will) r tt
 part_stays : (part : Part) (s : Session) (r : Records) → has_row birth_of s.birth r.sessions ≡ true → length (changed_all (part_rows part s) r).sessions ≤ length r.sessions
 part_stays (Resume expiry will) s r old =
     let row : Columns = record { birth = s.birth; client = s.client; expiry = expiry; closed = None } in
-    let first = session_stays (PutSession row) r old in
-    let then_will = will_stays s.birth will (changed (PutSession row) r) in
+    let first = session_stays (SetSession row) r tt in
+    let then_will = will_stays s.birth will (changed (SetSession row) r) in
     omega (arith, first, then_will)
-part_stays (Close moment) s r old = session_stays (PutSession (record { birth = s.birth; client = s.client; expiry = s.expiry; closed = Some moment })) r old
-part_stays (SetExpiry expiry) s r old = session_stays (PutSession (record { birth = s.birth; client = s.client; expiry = expiry; closed = s.closed })) r old
+part_stays (Close moment) s r old = session_stays (SetSession (record { birth = s.birth; client = s.client; expiry = s.expiry; closed = Some moment })) r tt
+part_stays (SetExpiry expiry) s r old = session_stays (SetSession (record { birth = s.birth; client = s.client; expiry = expiry; closed = s.closed })) r tt
 part_stays DropWill s r old = session_stays (RemoveWill s.birth) r tt
 part_stays (deed.Subscribe x) s r old = session_stays (PutSubscription s.birth x) r tt
 part_stays (deed.Unsubscribe text) s r old = session_stays (RemoveSubscription s.birth text) r tt
@@ -274,7 +276,7 @@ begin_retained : (row : Columns) (will : Option Will) (r : Records) → (stored_
 begin_retained row None r = refl
 begin_retained row (Some will) r = refl
 
-abbrev pub FewKept : Env → List Retained → Type 0
+abbrev pub FewKept : Env → List RetainedMessage → Type 0
 FewKept env kept = IsTable kept_place env.limits.retained kept
 
 abbrev pub FewRetained : Env → Records → Type 0
@@ -296,7 +298,7 @@ deed_retains env (Begin row will) r q h = absurd q
 deed_retains env (Keep kept) r q h = absurd q
 
 -- what a search finds stands under its key
-kept_there : (test : Retained → Bool) (xs : List Retained) (x : Retained) → find test xs ≡ Some x → has_row kept_place x.place xs ≡ true
+kept_there : (test : RetainedMessage → Bool) (xs : List RetainedMessage) (x : RetainedMessage) → find test xs ≡ Some x → has_row kept_place x.place xs ≡ true
 kept_there test [] x found = absurd cc
 kept_there test (y ∷ ys) x found = elim (cases_Bool (test y)) [
   | inl here ↦
@@ -306,11 +308,11 @@ kept_there test (y ∷ ys) x found = elim (cases_Bool (test y)) [
       rw same refl
   | inr other ↦
       let rest = kept_there test ys x (rw other at found) in
-      either (λ (o : Option Retained). is_some o ≡ true) (nat_eq (kept_place y) x.place) (Some y) (row_at kept_place x.place ys) refl rest
+      either (λ (o : Option RetainedMessage). is_some o ≡ true) (nat_eq (kept_place y) x.place) (Some y) (row_at kept_place x.place ys) refl rest
 ]
 
 -- in the place of the one before it, or where there is room
-put_within : (env : Env) (kept : Retained) (xs : List Retained) → FewKept env xs → (has_row kept_place kept.place xs || nat_lt (length xs) env.limits.retained) ≡ true
+put_within : (env : Env) (kept : RetainedMessage) (xs : List RetainedMessage) → FewKept env xs → (has_row kept_place kept.place xs || nat_lt (length xs) env.limits.retained) ≡ true
     → FewKept env (put_row kept_place RETAINED_LIMIT kept xs)
 put_within env kept xs h room = record {
   ascending = put-ascending kept_place RETAINED_LIMIT kept xs h.ascending;
@@ -331,7 +333,7 @@ either_is : (x y : Bool) → y ≡ true → (x || y) ≡ true
 either_is true y h = refl
 either_is false y h = h
 
-place_is_fit : (env : Env) (m : Message) (number now : ℕ) (r : Records) (o : Option Retained) → retained_of m.topic r ≡ o
+place_is_fit : (env : Env) (m : Message) (number now : ℕ) (r : Records) (o : Option RetainedMessage) → retained_of m.topic r ≡ o
     → (is_some o || nat_lt (length r.retained) env.limits.retained) ≡ true
     → (has_row kept_place (kept_message number now m (place_of_kept o r.retained)).place r.retained || nat_lt (length r.retained) env.limits.retained) ≡ true
 place_is_fit env m number now r None is fits = either_is (has_row kept_place (place_of_kept None r.retained) r.retained) (nat_lt (length r.retained) env.limits.retained) fits

@@ -26,11 +26,11 @@ use Rattle.mqtt_records.specs.Records.{nothing, changed_all}
 use Rattle.mqtt_rules.specs.declared.Limits.{Limits}
 use Rattle.mqtt_rules.specs.declared.Report.{Report}
 use Rattle.mqtt_rules.specs.Packets.{property, connack}
-use Rattle.mqtt_rules.specs.State.{Broker, session_at, stored}
+use Rattle.mqtt_rules.specs.State.{Broker, session_at, stored, MemberChoice}
 use Rattle.mqtt_rules.specs.Step.{Call, NewLine, Input, Outcome, stepped, told, opened, at_moment, deeds, with_moment}
-use Rattle.mqtt_records.specs.declared.message.MessageCopy.{MessageCopy}
-use Rattle.mqtt_records.specs.declared.queue.Entry.{Entry}
-use Rattle.mqtt_records.specs.Order.{change_row}
+use Rattle.mqtt_message.specs.declared.message.MessageCopy.{MessageCopy}
+use Rattle.mqtt_message.specs.Queue.{CopyRow}
+use Rattle.mqtt_rows.specs.Order.{change_row}
 use Rattle.mqtt_records.specs.Session.{birth_of, fresh}
 use Rattle.mqtt_records.specs.declared.change.Change.{Change}
 use Rattle.mqtt_rules.specs.Deeds.{Deed, rows_of, rows_of_all, stored_after, after, after_all}
@@ -42,8 +42,8 @@ abbrev pub blank : Broker
 blank = record { records = nothing; lines = []; given = 0; now = 0 }
 
 -- the first eligible member of each group
-abbrev pub first : ℕ → List ℕ
-first n = []
+abbrev pub first : MemberChoice
+first number sender = []
 
 -- a call and its moment
 pub data Event : Type 0 where
@@ -77,7 +77,7 @@ abbrev pub reopened : ℕ → Broker → Broker
 reopened now b = opened usual first now b.records
 
 abbrev pub out : List (ℕ × Packet) → List ℕ → List Report → Bool → Outcome
-out outputs closed reports again = record { outputs = outputs; closed = closed; reports = reports; again = again }
+out outputs closed reports again = record { outputs = outputs; closed = closed; reports = reports; taken = 0; again = again }
 
 -- ---- packets
 
@@ -193,13 +193,13 @@ published = subscribed ++ at 0 (Input 2 (sends 10)) ∷ []
 
 -- ---- for tables
 
-abbrev pub tells_by : Limits → (ℕ → List ℕ) → Event → Broker → Outcome
+abbrev pub tells_by : Limits → MemberChoice → Event → Broker → Outcome
 tells_by limits choice (at now call) b = told limits choice now call b
 
-abbrev pub step_by : Limits → (ℕ → List ℕ) → Event → Broker → Broker
+abbrev pub step_by : Limits → MemberChoice → Event → Broker → Broker
 step_by limits choice (at now call) b = stepped limits choice now call b
 
-abbrev pub runs_by : Limits → (ℕ → List ℕ) → List Event → Broker → Broker
+abbrev pub runs_by : Limits → MemberChoice → List Event → Broker → Broker
 runs_by limits choice [] b = b
 runs_by limits choice (e ∷ es) b = runs_by limits choice es (step_by limits choice e b)
 
@@ -247,30 +247,29 @@ away birth client = fresh (record { birth = birth; client = client; expiry = 0xf
 abbrev pub letters : ℕ → List ℕ
 letters n = let high = n / 32 in (48 + high) ∷ (48 + (n - 32 * high)) ∷ []
 
--- a copy of the message, and it in the queue at its place
+-- a copy of the message for session 1, and it in the queue at its place
 abbrev pub copy_kept : ℕ → MessageCopy
 copy_kept number = record {
-  publication = number;
-  cause = Direct;
+  id = record { publication = number; birth = 1; cause = Direct };
   qos = ExactlyOnce;
   retain = false;
   identifiers = [];
   content = record { topic = topic; properties = []; payload = hi; arrived = 0 };
 }
 
-abbrev pub entry : ℕ → Phase → Entry
+abbrev pub entry : ℕ → Phase → CopyRow
 entry n phase = record { place = n; phase = phase; copy = copy_kept n }
 
 -- so many entries that wait, from a number on
-abbrev pub waiting : ℕ → ℕ → List Entry
+abbrev pub waiting : ℕ → ℕ → List CopyRow
 waiting zero n = []
 waiting (suc k) n = entry n Waiting ∷ waiting k (suc n)
 
-abbrev pub with_entries : List Entry → Session → Session
+abbrev pub with_entries : List CopyRow → Session → Session
 with_entries queue s = record s { queue = queue }
 
 -- the session with that birth has this queue, and so many publications were accepted
-abbrev pub queued : ℕ → List Entry → ℕ → Broker → Broker
+abbrev pub queued : ℕ → List CopyRow → ℕ → Broker → Broker
 queued birth queue publications b =
     record b { records = record b.records { sessions = change_row birth_of birth (with_entries queue) b.records.sessions; publications = publications } }
 

@@ -1,30 +1,31 @@
 -- A step is a list of deeds, in the order of what they tell. All else of a step is read off its deeds.
-use Rattle.std.specs.Prelude.{ℕ, ◌+◌, Bool, true, false, cond, not, ◌||◌, List, [], ◌∷◌, ◌++◌, filter, map, nat_eq, nat_le, Option, Some, None}
+use Rattle.std.specs.Prelude.{ℕ, Bool, true, false, cond, not, List, [], ◌∷◌, ◌++◌, filter, map, nat_eq, nat_le, Option, Some, None}
+use Rattle.mqtt_base.specs.declared.limits.TheConstants.{ALIAS_LIMIT}
 use Rattle.mqtt_base.specs.declared.session.Qos.{Qos}
 use Rattle.mqtt_base.specs.declared.session.Phase.{Phase}
 use Rattle.mqtt_base.specs.declared.session.Phase.TheVariants.{Waiting}
 use Rattle.mqtt_base.specs.declared.session.Ending.{Ending}
 use Rattle.mqtt_props.specs.Properties.{Prop}
 use Rattle.mqtt_codec.specs.declared.packet.Packet.{Packet}
-use Rattle.mqtt_topic.specs.Aliases.{with_topic}
-use Rattle.mqtt_flow.specs.FreeIdentifier.{closed_in}
-use Rattle.mqtt_records.specs.declared.message.MessageCopy.{MessageCopy}
-use Rattle.mqtt_records.specs.declared.message.Retained.{Retained}
-use Rattle.mqtt_records.specs.declared.message.Will.{Will}
-use Rattle.mqtt_records.specs.declared.queue.Entry.{Entry}
+use Rattle.mqtt_topic.specs.Aliases.{no_aliases, after_resolve}
+use Rattle.mqtt_flow.specs.Identifiers.{ids_without}
+use Rattle.mqtt_message.specs.declared.message.MessageCopy.{MessageCopy}
+use Rattle.mqtt_message.specs.declared.message.RetainedMessage.{RetainedMessage}
+use Rattle.mqtt_message.specs.declared.message.Will.{Will}
+use Rattle.mqtt_message.specs.Queue.{CopyRow}
 use Rattle.mqtt_records.specs.declared.subscription.Subscription.{Subscription}
 use Rattle.mqtt_records.specs.declared.session.Session.{Session}
 use Rattle.mqtt_records.specs.declared.session.Columns.{Columns}
 use Rattle.mqtt_records.specs.declared.records.Records.{Records}
-use Rattle.mqtt_records.specs.declared.change.Counter.TheVariants.{Births, Publications, Subscribes, Autos, Moment}
+use Rattle.mqtt_records.specs.declared.change.Counter.TheVariants.{Births, Publications, Subscribes, Autos}
 use Rattle.mqtt_records.specs.declared.change.Change.{Change}
-use Rattle.mqtt_records.specs.declared.change.Change.TheVariants.{SetCounter, PutSession, RemoveSession, PutWill, RemoveWill, PutSubscription, RemoveSubscription, PutInbound, RemoveInbound, PutCopy, SetCopy, RemoveCopy, PutRetained, RemoveRetained}
-use Rattle.mqtt_records.specs.Session.{columns_of, entry_place}
+use Rattle.mqtt_records.specs.declared.change.Change.TheVariants.{SetCounter, PutSession, SetSession, RemoveSession, PutWill, RemoveWill, PutSubscription, RemoveSubscription, PutInbound, RemoveInbound, PutCopy, SetCopy, RemoveCopy, PutRetained, RemoveRetained}
+use Rattle.mqtt_records.specs.Session.{columns_of, copy_place}
 use Rattle.mqtt_records.specs.Records.{changed_all}
 use Rattle.mqtt_rules.specs.declared.Report.{Report}
 use Rattle.mqtt_rules.specs.declared.Report.TheVariants as reports
 use Rattle.mqtt_rules.specs.Packets.{size_of}
-use Rattle.mqtt_rules.specs.State.{Line, Broker, session_at, is_of, copy_id, next_of}
+use Rattle.mqtt_rules.specs.State.{Line, Broker, session_at, is_of, next_of}
 
 -- whose a deed is: a session by its birth, with its client identifier
 pub record Whose : Type 0 where
@@ -60,7 +61,7 @@ pub data Part : Type 0 where
   Release : (id : ℕ) → Part  -- and closed
   Enter : (copy : MessageCopy) → Part  -- a copy enters the queue, at the next place
   Mark : (place : ℕ) (phase : Phase) → Part
-  Leave : (e : Entry) (ending : Ending) → Part
+  Leave : (e : CopyRow) (ending : Ending) → Part
 
 -- what happens to one line
 pub data LinePart : Type 0 where
@@ -76,7 +77,7 @@ pub data Deed : Type 0 where
   Count : (n : ℕ) → Deed  -- a filter is granted its number
   At : (who : Whose) (part : Part) → Deed
   Finish : (who : Whose) → Deed
-  Keep : (kept : Retained) → Deed
+  Keep : (kept : RetainedMessage) → Deed
   Forget : (place : ℕ) → Deed
   RefuseWill : (who : Whose) → Deed
   Link : (n : ℕ) → Deed
@@ -90,15 +91,15 @@ abbrev pub will_row : ℕ → Option Will → Change
 will_row birth None = RemoveWill birth
 will_row birth (Some will) = PutWill birth will
 
-abbrev pub new_entry : MessageCopy → List Entry → Entry
-new_entry copy queue = record { place = next_of entry_place queue; phase = Waiting; copy = copy }
+abbrev pub new_entry : MessageCopy → List CopyRow → CopyRow
+new_entry copy queue = record { place = next_of copy_place queue; phase = Waiting; copy = copy }
 
 -- of a session that stands
 abbrev pub part_rows : Part → Session → List Change
 part_rows (Resume expiry will) s =
-    PutSession (record (columns_of s) { expiry = expiry; closed = None }) ∷ will_row s.birth will ∷ []
-part_rows (Close moment) s = PutSession (record (columns_of s) { closed = Some moment }) ∷ []
-part_rows (SetExpiry expiry) s = PutSession (record (columns_of s) { expiry = expiry }) ∷ []
+    SetSession (record (columns_of s) { expiry = expiry; closed = None }) ∷ will_row s.birth will ∷ []
+part_rows (Close moment) s = SetSession (record (columns_of s) { closed = Some moment }) ∷ []
+part_rows (SetExpiry expiry) s = SetSession (record (columns_of s) { expiry = expiry }) ∷ []
 part_rows DropWill s = RemoveWill s.birth ∷ []
 part_rows (Subscribe sub) s = PutSubscription s.birth sub ∷ []
 part_rows (Unsubscribe filter) s = RemoveSubscription s.birth filter ∷ []
@@ -145,7 +146,7 @@ fresh_line n now = record {
   keep_alive = 0;
   window = 0;
   largest = 0;
-  aliases = [];
+  aliases = no_aliases ALIAS_LIMIT;
   went = [];
 }
 
@@ -153,7 +154,7 @@ abbrev pub line_after : ℕ → LinePart → Line → Line
 line_after now Hear l = record l { heard = now }
 line_after now (Greet birth keep_alive window largest) l =
     record l { session = Some birth; keep_alive = keep_alive; window = window; largest = largest }
-line_after now (SetAlias alias topic) l = record l { aliases = with_topic alias topic l.aliases }
+line_after now (SetAlias alias topic) l = record l { aliases = after_resolve l.aliases topic (Some alias) }
 line_after now (Went place) l = record l { went = l.went ++ place ∷ [] }
 
 abbrev pub on_line : ℕ → ℕ → LinePart → List Line → List Line
@@ -162,7 +163,7 @@ on_line now n part (l ∷ ls) = cond (nat_eq l.number n) (line_after now part l 
 
 -- a copy that left its session's queue is sent on its line no longer
 abbrev pub without_place : ℕ → ℕ → Line → Line
-without_place birth place l = cond (is_of l.session birth) (record l { went = closed_in place l.went }) l
+without_place birth place l = cond (is_of l.session birth) (record l { went = ids_without place l.went }) l
 
 abbrev pub lines_at : ℕ → Part → List Line → List Line
 lines_at birth (Leave e ending) ls = map (without_place birth e.place) ls
@@ -244,8 +245,8 @@ closing (Gone n) = Some n
 closing d = None
 
 abbrev pub part_report : Whose → Part → Option Report
-part_report who (Enter copy) = Some (reports.Entered (copy_id who.birth copy) who.client)
-part_report who (Leave e ending) = Some (reports.Ended (copy_id who.birth e.copy) who.client ending)
+part_report who (Enter copy) = Some (reports.Entered copy.id who.client)
+part_report who (Leave e ending) = Some (reports.Ended e.copy.id who.client ending)
 part_report who (Release id) = Some (reports.Released who.birth who.client id)
 part_report who part = None
 

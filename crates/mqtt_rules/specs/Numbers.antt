@@ -4,8 +4,8 @@ use Rattle.std.specs.Prelude.{◌≡◌, ℕ, suc, ◌≤◌, List, [], ◌∷�
 use Rattle.std.specs.List.{AllByRecursion}
 use Rattle.mqtt_records.specs.declared.session.Session.{Session}
 use Rattle.mqtt_records.specs.declared.records.Records.{Records}
-use Rattle.mqtt_records.specs.Order.{IsBelow, IsAscending}
-use Rattle.mqtt_records.specs.Session.{birth_of, place_of, number_of, entry_place}
+use Rattle.mqtt_rows.specs.Order.{IsBelow, IsAscending}
+use Rattle.mqtt_records.specs.Session.{birth_of, place_of, number_of, copy_place}
 use Rattle.mqtt_records.specs.Records.{kept_place}
 use Rattle.mqtt_rules.specs.State.{Broker}
 use Rattle.mqtt_rules.specs.Deeds.{Deed, Accept, Begin, Name, Count}
@@ -54,7 +54,7 @@ HasGivenBirths r = IsBelow birth_of (suc r.births) r.sessions
 
 -- each copy in the session's queue has a publication's number up to n
 abbrev pub HasCopiesUpTo : ℕ → Session → Type 0
-HasCopiesUpTo n s = AllByRecursion (λ e. e.copy.publication ≤ n) s.queue
+HasCopiesUpTo n s = AllByRecursion (λ e. e.copy.id.publication ≤ n) s.queue
 
 -- each copy in a queue, and each retained message, has the number of a publication that was accepted
 abbrev pub HasAcceptedNumbers : Records → Type 0
@@ -62,7 +62,7 @@ HasAcceptedNumbers r = AllByRecursion (HasCopiesUpTo r.publications) r.sessions 
 
 -- of a session: its subscriptions by place, its open identifiers and its copies by place, each once
 abbrev pub IsInOrder : Session → Type 0
-IsInOrder s = IsAscending place_of s.subscriptions × IsAscending number_of s.inbound × IsAscending entry_place s.queue
+IsInOrder s = IsAscending place_of s.subscriptions × IsAscending number_of s.inbound × IsAscending copy_place s.queue
 
 -- sessions by birth, retained messages by place, and all that sessions have, each once
 abbrev pub AreInOrder : Records → Type 0

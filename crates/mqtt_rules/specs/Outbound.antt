@@ -9,25 +9,24 @@ use Rattle.mqtt_flow.specs.declared.entry.QueueLimits.{QueueLimits}
 use Rattle.mqtt_flow.specs.declared.entry.Way.{Way}
 use Rattle.mqtt_flow.specs.Outbound.{staying, way_made}
 use Rattle.mqtt_base.specs.Codes.{success, identifier_not_found}
-use Rattle.mqtt_records.specs.declared.message.MessageCopy.{MessageCopy}
-use Rattle.mqtt_records.specs.declared.queue.Entry.{Entry}
+use Rattle.mqtt_message.specs.declared.message.MessageCopy.{MessageCopy}
+use Rattle.mqtt_message.specs.Queue.{CopyRow}
 use Rattle.mqtt_records.specs.declared.session.Session.{Session}
 use Rattle.mqtt_records.specs.declared.records.Records.{Records}
-use Rattle.mqtt_records.specs.Order.{row_at}
-use Rattle.mqtt_records.specs.Session.{entry_place}
-use Rattle.mqtt_rules.specs.declared.Limits.{Limits}
+use Rattle.mqtt_rows.specs.Order.{row_at}
+use Rattle.mqtt_records.specs.Session.{copy_place}
 use Rattle.mqtt_rules.specs.Packets.{publish_of, pubrel}
 use Rattle.mqtt_rules.specs.State.{Line, Env, queue_on, next_of}
 use Rattle.mqtt_rules.specs.Deeds.{whose, Enter, Mark, Leave, Went, Deed, At, On, Send}
 
 -- ---- turns
 
-abbrev pub of_entry : Option Entry → (Entry → List Deed) → List Deed
+abbrev pub of_entry : Option CopyRow → (CopyRow → List Deed) → List Deed
 of_entry None f = []
 of_entry (Some e) f = f e
 
-abbrev pub at_place : ℕ → Session → (Entry → List Deed) → List Deed
-at_place place s f = of_entry (row_at entry_place place s.queue) f
+abbrev pub at_place : ℕ → Session → (CopyRow → List Deed) → List Deed
+at_place place s f = of_entry (row_at copy_place place s.queue) f
 
 -- a copy leaves the queue; no packet goes out
 abbrev pub leave_deeds : Session → Turn → List Deed
@@ -64,11 +63,11 @@ is_new_cause start (Share group) = false
 is_new_cause start (Retained subscribe) = nat_lt start.subscribes subscribe
 
 abbrev pub is_new : Records → MessageCopy → Bool
-is_new start copy = nat_lt start.publications copy.publication || is_new_cause start copy.cause
+is_new start copy = nat_lt start.publications copy.id.publication || is_new_cause start copy.id.cause
 
 -- the first place in the queue that this step gave, or that it gives next
-abbrev pub first_given : Option Entry → List Entry → ℕ
-first_given None queue = next_of entry_place queue
+abbrev pub first_given : Option CopyRow → List CopyRow → ℕ
+first_given None queue = next_of copy_place queue
 first_given (Some e) queue = e.place
 
 abbrev pub since : Env → Session → ℕ

@@ -1,9 +1,8 @@
 -- Topic aliases (MQTT 5.0, 3.3.2.3.4).
-use Rattle.std.specs.Prelude.{◌≡◌, ◌↔◌, ℕ, ◌<◌, ◌≤◌, Bool, true, false, cond, ◌&&◌, List, [], ◌∷◌, nat_eq, nat_lt, nat_le, Option, Some, None, Result, Ok, Err}
+use Rattle.std.specs.Prelude.{◌≡◌, ℕ, ◌<◌, ◌≤◌, cond, List, [], ◌∷◌, nat_eq, Option, Some, None}
 use Rattle.mqtt_topic.specs.declared.fault.TopicFault.{TopicFault}
-use Rattle.mqtt_topic.specs.declared.fault.TopicFault.TheVariants.{Empty, WildcardInName, AliasRange, AliasUnknown, Memory, NotText}
-use Rattle.mqtt_base.specs.Values.{FitsText}
-use Rattle.mqtt_topic.specs.Names.{IsTopicName, RefusesName, is_empty, has_wildcard}
+use Rattle.mqtt_topic.specs.declared.fault.TopicFault.TheVariants.{AliasRange, AliasUnknown, Memory}
+use Rattle.mqtt_topic.specs.Names.{IsTopicName, RefusesName}
 
 -- the greatest alias, and the topics that aliases stand for, in the order in which they came
 pub record AliasTable : Type 0 where
@@ -69,29 +68,3 @@ abbrev pub RefusesAlias : AliasTable → List ℕ → Option ℕ → TopicFault 
 RefusesAlias table topic None fault = RefusesName topic fault
 RefusesAlias table topic (Some alias) AliasRange = ¬ IsInRange table.max alias
 RefusesAlias table topic (Some alias) fault = IsInRange table.max alias × RefusesTopic table topic alias fault
-
--- ---- the same as a function: the name, or why there is none
-
-abbrev pub is_in_range : ℕ → ℕ → Bool
-is_in_range max alias = nat_lt 0 alias && nat_le alias max
-
-abbrev pub known : Option (List ℕ) → Result (List ℕ) TopicFault
-known None = Err AliasUnknown
-known (Some name) = Ok name
-
-abbrev pub named : List ℕ → Result (List ℕ) TopicFault
-named topic = cond (is_empty topic) (Err Empty) (cond (has_wildcard topic) (Err WildcardInName) (Ok topic))
-
--- by an alias that may be set
-abbrev pub resolved_by : AliasTable → List ℕ → ℕ → Result (List ℕ) TopicFault
-resolved_by table [] alias = known (topic_of alias table.topics)
-resolved_by table (c ∷ cs) alias = named (c ∷ cs)
-
-abbrev pub resolved : AliasTable → List ℕ → Option ℕ → Result (List ℕ) TopicFault
-resolved table topic None = named topic
-resolved table topic (Some alias) = cond (is_in_range table.max alias) (resolved_by table topic alias) (Err AliasRange)
-
--- it answers the name that the PUBLISH means, and a fault that is due
-pub record IsByWords (table : AliasTable) (topic : List ℕ) (alias : Option ℕ) : Type 0 where
-  pub found : (name : List ℕ) → (resolved table topic alias ≡ Ok name) ↔ Resolves table topic alias name
-  pub refused : (fault : TopicFault) → resolved table topic alias ≡ Err fault → RefusesAlias table topic alias fault

@@ -1,17 +1,11 @@
-//! What filters and aliases are, in the standard's words (MQTT 5.0, 3.3.2.3.4, 4.7.1, 4.8.2).
-ghost use Rattle.std.specs.Prelude.{◌≡◌, ◌↔◌, ℕ, List, Option, true};
+//! What a filter is in the standard's words, and that what was set is taken back (MQTT 5.0, 3.3.2.3.4, 4.7.1, 4.8.2).
+ghost use Rattle.std.specs.Prelude.{◌≡◌, ◌↔◌, ℕ, List, true};
 ghost use Rattle.mqtt_topic.specs.Filters.{is_filter, IsFilter};
-ghost use Rattle.mqtt_topic.specs.Aliases.{AliasTable, IsByWords, restored, topic_of, with_topic};
+ghost use Rattle.mqtt_topic.specs.Aliases.{restored, topic_of, with_topic};
 
 /// A text is a filter by the test exactly where it is one by the standard's words.
 pub fn filter_by_words()
     ensures { (text : List ℕ) → (is_filter text ≡ true) ↔ IsFilter text }
-{}
-
-/// What a PUBLISH means as a function is what it means by the standard's words, and so is why it
-/// means nothing.
-pub fn resolved_by_words()
-    ensures { (table : AliasTable) (topic : List ℕ) (alias : Option ℕ) → IsByWords table topic alias }
 {}
 
 /// An alias that was set and is restored leaves the table as it was.

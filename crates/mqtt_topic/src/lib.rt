@@ -15,7 +15,7 @@ mod text;
 pub use aliases::Aliases;
 pub use fault::TopicFault;
 pub use filter::Filter;
-pub use laws::{filter_by_words, resolved_by_words, what_was_set_is_taken_back};
+pub use laws::{filter_by_words, what_was_set_is_taken_back};
 pub use matching::matches;
 pub use name::TopicName;
 pub use shared::Shared;

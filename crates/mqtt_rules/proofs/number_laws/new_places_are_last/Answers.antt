@@ -1,11 +1,11 @@
-use Rattle.mqtt_records.specs.Session.{entry_place}
+use Rattle.mqtt_records.specs.Session.{copy_place}
 use Rattle.mqtt_records.specs.Records.{kept_place}
 use Rattle.mqtt_rules.proofs.NumberBirths.{below_next}
 use Rattle.mqtt_rules.proofs.NumberPlaces.{grants_place}
 use Rattle.mqtt_rules.proofs.number_laws.new_places_are_last.Goals as goal
 
 pub returns-clause-copy : goal.returns-clause-copy
-returns-clause-copy c copy queue = below_next entry_place queue
+returns-clause-copy c copy queue = below_next copy_place queue
 
 pub returns-clause-retained : goal.returns-clause-retained
 returns-clause-retained c all = below_next kept_place all
