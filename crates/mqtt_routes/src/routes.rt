@@ -83,7 +83,8 @@ impl<M: Drop> Routes<M> {
             (RefusesPut subscription (subs_of birth self.old.table.sessions)) }
 
         // With room it takes no memory, and uses up its own room alone.
-        ensures memory { has_room_for birth (subscription.filter ∷ []) self.old ≡ true
+        ensures memory { (rest : List (List ℕ))
+            → has_room_for birth (subscription.filter ∷ rest) self.old ≡ true
             → IfErr result (λ fault. fault ≡ RoutesFault.Full) }
         ensures room { (rest : List (List ℕ))
             → has_room_for birth (subscription.filter ∷ rest) self.old ≡ true
@@ -190,7 +191,7 @@ impl<M: Drop> Routes<M> {
         ensures refused { IfErr result (RefusesRetain topic message self.old.table.retained) }
 
         // With room it takes no memory, and uses up its own room alone.
-        ensures memory { has_room_of (topic ∷ []) self.old ≡ true
+        ensures memory { (rest : List (List ℕ)) → has_room_of (topic ∷ rest) self.old ≡ true
             → IfErr result (λ fault. fault ≡ RoutesFault.Full) }
         ensures room { (rest : List (List ℕ)) → has_room_of (topic ∷ rest) self.old ≡ true
             → has_room_of rest self.new ≡ true }

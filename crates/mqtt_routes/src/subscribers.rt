@@ -91,7 +91,8 @@ impl Subscribers {
             (subs_of birth self.old.sessions) ≡ true) }
         ensures err { OnErr result (self.new.sessions ≡ self.old.sessions) }
         ensures refused { IfErr result (RefusesPut subscription (subs_of birth self.old.sessions)) }
-        ensures memory { have_room birth (subscription.filter ∷ []) self.old.room ≡ true
+        ensures memory { (rest : List (List ℕ))
+            → have_room birth (subscription.filter ∷ rest) self.old.room ≡ true
             → IfErr result (λ fault. fault ≡ RoutesFault.Full) }
         ensures room { (rest : List (List ℕ))
             → have_room birth (subscription.filter ∷ rest) self.old.room ≡ true

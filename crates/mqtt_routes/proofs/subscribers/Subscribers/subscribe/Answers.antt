@@ -93,11 +93,11 @@ returns-in-Some-clause-only c =
     subst (λ subs. OnOk c.put.result (takes_filter f subs ≡ true)) (sym here ∙ ap (λ h. subs_of b h.sessions) c.self.view_is) c.put.ensures.only
 
 pub returns-in-Some-clause-memory : goal.returns-in-Some-clause-memory
-returns-in-Some-clause-memory c = λ h.
+returns-in-Some-clause-memory c = λ rest h.
     let b = c.args.birth in
     let old = c.in-Some.subscriptions.now in
     let here = ap (λ (x : _). room_of b x.room) (sym c.self.view_is) ∙ room_of-found b old c.self.inside.sessions.entries c.in-Some.ensures.value in
-    c.put.ensures.memory (some_room 0 old.room (ap (λ r. nat_le 1 r) (sym here) ∙ h))
+    c.put.ensures.memory (some_room (length rest) old.room (ap (nat_le (length (c.args.subscription.filter ∷ rest))) (sym here) ∙ h))
 
 pub returns-in-Some-clause-room : goal.returns-in-Some-clause-room
 returns-in-Some-clause-room c = λ rest h.
@@ -110,9 +110,9 @@ returns-in-Some-clause-room c = λ rest h.
     ∙ room_left (length rest) old.room c.put.new.self.room c.put.ensures.room (ap (nat_le (length (c.args.subscription.filter ∷ rest))) (sym here) ∙ h)
 
 pub returns-in_err-put-clause-memory : goal.returns-in_err-put-clause-memory
-returns-in_err-put-clause-memory c = λ h.
+returns-in_err-put-clause-memory c = λ rest h.
     let none = ap (λ (x : _). room_of c.args.birth x.room) (sym c.self.view_is) ∙ room_of-none c.args.birth c.self.inside.sessions.entries (sym c.in_default.ensures.value) in
-    absurd (no_room 0 (room_of c.args.birth c.args.self.now.room) none h)
+    absurd (no_room (length rest) (room_of c.args.birth c.args.self.now.room) none h)
 
 pub returns-in_err-put-clause-room : goal.returns-in_err-put-clause-room
 returns-in_err-put-clause-room c = λ rest h.
@@ -120,9 +120,9 @@ returns-in_err-put-clause-room c = λ rest h.
     absurd (no_room (length rest) (room_of c.args.birth c.args.self.now.room) none h)
 
 pub returns-in_err-shift_insert-clause-memory : goal.returns-in_err-shift_insert-clause-memory
-returns-in_err-shift_insert-clause-memory c = λ h.
+returns-in_err-shift_insert-clause-memory c = λ rest h.
     let none = ap (λ (x : _). room_of c.args.birth x.room) (sym c.self.view_is) ∙ room_of-none c.args.birth c.self.inside.sessions.entries (sym c.in_default.ensures.value) in
-    absurd (no_room 0 (room_of c.args.birth c.args.self.now.room) none h)
+    absurd (no_room (length rest) (room_of c.args.birth c.args.self.now.room) none h)
 
 pub returns-in_err-shift_insert-clause-room : goal.returns-in_err-shift_insert-clause-room
 returns-in_err-shift_insert-clause-room c = λ rest h.
