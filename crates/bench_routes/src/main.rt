@@ -3,6 +3,7 @@
 
 ghost use Rattle.std.specs.Prelude.{true, false};
 
+use mqtt_base::{Qos, RetainHandling, SubscriptionOptions};
 use mqtt_routes::{Routes, Sessions, Subscription};
 use mqtt_topic::{SubFilter, TopicName};
 use std::alloc::Global;
@@ -44,15 +45,30 @@ impl Sessions for Open {
     }
 }
 
-/// A subscription to the children of a topic of its own.
-fn subscription(alloc: Global, n: u32, qos: u8) -> anyhow::Result<Subscription> {
-    let text = format!(in alloc; "house/{n}/+")?;
-    Ok(Subscription {
-        filter: SubFilter::parse(alloc, text.as_str())?,
-        place: u64::from(n),
+/// Options without No Local and Retain As Published.
+fn options(qos: Qos) -> SubscriptionOptions {
+    SubscriptionOptions {
         qos,
         no_local: false,
         retain_as_published: false,
+        retain_handling: RetainHandling::SendAlways,
+    }
+}
+
+/// A filter of the children of a topic of its own.
+fn filter(alloc: Global, n: u32) -> anyhow::Result<SubFilter> {
+    let text = format!(in alloc; "house/{n}/+")?;
+    let filter = SubFilter::parse(alloc, text.as_str());
+    drop(text);
+    Ok(filter?)
+}
+
+/// A subscription to the children of a topic of its own.
+fn subscription(alloc: Global, n: u32, qos: Qos) -> anyhow::Result<Subscription> {
+    Ok(Subscription {
+        filter: filter(alloc, n)?,
+        place: u64::from(n),
+        options: options(qos),
         identifier: None,
     })
 }
@@ -60,17 +76,24 @@ fn subscription(alloc: Global, n: u32, qos: u8) -> anyhow::Result<Subscription> 
 /// Adds so many subscriptions, a hundred a session.
 fn subscribe_all(alloc: Global, routes: &mut Routes<u32>, count: u32) -> anyhow::Result<()> {
     for n in 0..count {
-        routes.subscribe(u64::from(n / 100), subscription(alloc, n, 1)?)?;
+        let new = subscription(alloc, n, Qos::AtLeastOnce)?;
+        routes.subscribe(u64::from(n / 100), new)?;
     }
     Ok(())
 }
 
+/// How many direct copies a publication makes.
+fn count_copies(routes: &Routes<u32>, topic: &TopicName) -> anyhow::Result<usize> {
+    let routed = routes.route("bench", topic, 1, false, &Open)?;
+    let count = routed.direct().len();
+    drop(routed);
+    Ok(count)
+}
+
 /// Routes a publication so often that one subscription is to.
-fn route(alloc: Global, routes: &Routes<u32>, calls: u32) -> anyhow::Result<()> {
-    let topic = TopicName::parse(alloc, "house/7/door")?;
+fn route(routes: &Routes<u32>, topic: &TopicName, calls: u32) -> anyhow::Result<()> {
     for _ in 0..calls {
-        let routed = routes.route("bench", &topic, 1, false, &Open)?;
-        anyhow::ensure!(routed.direct().len() == 1, "one copy was meant");
+        anyhow::ensure!(count_copies(routes, topic)? == 1, "one copy was meant");
     }
     Ok(())
 }
@@ -78,26 +101,41 @@ fn route(alloc: Global, routes: &Routes<u32>, calls: u32) -> anyhow::Result<()> 
 /// Replaces a subscription so often.
 fn resubscribe(alloc: Global, routes: &mut Routes<u32>, calls: u32) -> anyhow::Result<()> {
     for _ in 0..calls {
-        routes.subscribe(0, subscription(alloc, 7, 2)?)?;
+        let new = subscription(alloc, 7, Qos::ExactlyOnce)?;
+        routes.subscribe(0, new)?;
     }
     Ok(())
+}
+
+/// The topic of a door.
+fn door(alloc: Global, n: u32) -> anyhow::Result<TopicName> {
+    let text = format!(in alloc; "house/{n}/door")?;
+    let topic = TopicName::parse(alloc, text.as_str());
+    drop(text);
+    Ok(topic?)
 }
 
 /// Adds so many retained messages.
 fn retain_all(alloc: Global, routes: &mut Routes<u32>, count: u32) -> anyhow::Result<()> {
     for n in 0..count {
-        let text = format!(in alloc; "house/{n}/door")?;
-        routes.retain(TopicName::parse(alloc, text.as_str())?, Some(n))?;
+        let topic = door(alloc, n)?;
+        routes.retain(topic, Some(n))?;
     }
     Ok(())
 }
 
+/// How many retained messages a filter matches.
+fn count_kept(routes: &Routes<u32>, filter: &SubFilter) -> anyhow::Result<usize> {
+    let found = routes.retained_for(filter)?;
+    let count = found.len();
+    drop(found);
+    Ok(count)
+}
+
 /// Looks so often for the retained messages of a filter that one topic matches.
-fn look_up(alloc: Global, routes: &Routes<u32>, calls: u32) -> anyhow::Result<()> {
-    let filter = SubFilter::parse(alloc, "house/7/#")?;
+fn look_up(routes: &Routes<u32>, filter: &SubFilter, calls: u32) -> anyhow::Result<()> {
     for _ in 0..calls {
-        let found = routes.retained_for(&filter)?;
-        anyhow::ensure!(found.len() == 1, "one message was meant");
+        anyhow::ensure!(count_kept(routes, filter)? == 1, "one message was meant");
     }
     Ok(())
 }
@@ -105,7 +143,8 @@ fn look_up(alloc: Global, routes: &Routes<u32>, calls: u32) -> anyhow::Result<()
 /// Replaces a retained message so often.
 fn retain(alloc: Global, routes: &mut Routes<u32>, calls: u32) -> anyhow::Result<()> {
     for n in 0..calls {
-        routes.retain(TopicName::parse(alloc, "house/7/door")?, Some(n))?;
+        let topic = door(alloc, 7)?;
+        routes.retain(topic, Some(n))?;
     }
     Ok(())
 }
@@ -120,46 +159,74 @@ fn nanos(time: Duration, calls: u32) -> u128 {
     time.as_nanos() / u128::from(calls.max(1))
 }
 
-/// Prints a row for a table of so many subscriptions.
+/// Times routing and subscribing for a table of so many subscriptions, in nanoseconds a call.
 fn time_routes(
-    rt: &(impl CpuClock + Eprint),
+    rt: &impl CpuClock,
     alloc: Global,
     routes: &mut Routes<u32>,
+    topic: &TopicName,
     count: u32,
-) -> anyhow::Result<()> {
+) -> anyhow::Result<(u128, u128)> {
     subscribe_all(alloc, routes, count)?;
     let begun = rt.process_cpu_time()?;
-    route(alloc, routes, calls(count))?;
+    route(routes, topic, calls(count))?;
     let routed = rt.process_cpu_time()?;
     resubscribe(alloc, routes, FINDS)?;
     let replaced = rt.process_cpu_time()?;
-    eprintln!(rt;
-        "{count:>14} {:>16} {:>16}",
+    Ok((
         nanos(routed.saturating_sub(begun), calls(count)),
-        nanos(replaced.saturating_sub(routed), FINDS)
-    )?;
-    Ok(())
+        nanos(replaced.saturating_sub(routed), FINDS),
+    ))
 }
 
-/// Prints a row for a table of so many retained messages.
+/// Times look-ups and retaining for a table of so many messages, in nanoseconds a call.
 fn time_retained(
-    rt: &(impl CpuClock + Eprint),
+    rt: &impl CpuClock,
     alloc: Global,
     routes: &mut Routes<u32>,
+    filter: &SubFilter,
     count: u32,
-) -> anyhow::Result<()> {
+) -> anyhow::Result<(u128, u128)> {
     retain_all(alloc, routes, count)?;
     let begun = rt.process_cpu_time()?;
-    look_up(alloc, routes, calls(count))?;
+    look_up(routes, filter, calls(count))?;
     let found = rt.process_cpu_time()?;
     retain(alloc, routes, FINDS)?;
     let replaced = rt.process_cpu_time()?;
-    eprintln!(rt;
-        "{count:>14} {:>16} {:>16}",
+    Ok((
         nanos(found.saturating_sub(begun), calls(count)),
-        nanos(replaced.saturating_sub(found), FINDS)
-    )?;
-    Ok(())
+        nanos(replaced.saturating_sub(found), FINDS),
+    ))
+}
+
+/// Times a table of so many subscriptions, made for it.
+fn one_table(
+    rt: &impl CpuClock,
+    alloc: Global,
+    hasher: RandomState,
+    count: u32,
+) -> anyhow::Result<(u128, u128)> {
+    let topic = TopicName::parse(alloc, "house/7/door")?;
+    let mut routes = Routes::new(alloc, hasher);
+    let times = time_routes(rt, alloc, &mut routes, &topic, count);
+    drop(routes);
+    drop(topic);
+    times
+}
+
+/// Times a table of so many retained messages, made for it.
+fn one_store(
+    rt: &impl CpuClock,
+    alloc: Global,
+    hasher: RandomState,
+    count: u32,
+) -> anyhow::Result<(u128, u128)> {
+    let filter = SubFilter::parse(alloc, "house/7/#")?;
+    let mut routes = Routes::new(alloc, hasher);
+    let times = time_retained(rt, alloc, &mut routes, &filter, count);
+    drop(routes);
+    drop(filter);
+    times
 }
 
 fn main(rt: HostRuntime) -> anyhow::Result<()> {
@@ -169,16 +236,16 @@ fn main(rt: HostRuntime) -> anyhow::Result<()> {
         "subscriptions", "route, ns", "subscribe, ns"
     )?;
     for count in SUBSCRIPTIONS {
-        let mut routes = Routes::new(rt.alloc(), hasher);
-        time_routes(&rt, rt.alloc(), &mut routes, count)?;
+        let (routed, replaced) = one_table(&rt, rt.alloc(), hasher, count)?;
+        eprintln!(rt; "{count:>14} {routed:>16} {replaced:>16}")?;
     }
     eprintln!(rt;
         "{:>14} {:>16} {:>16}",
         "topics", "look-up, ns", "retain, ns"
     )?;
     for count in TOPICS {
-        let mut routes = Routes::new(rt.alloc(), hasher);
-        time_retained(&rt, rt.alloc(), &mut routes, count)?;
+        let (found, replaced) = one_store(&rt, rt.alloc(), hasher, count)?;
+        eprintln!(rt; "{count:>14} {found:>16} {replaced:>16}")?;
     }
     Ok(())
 }

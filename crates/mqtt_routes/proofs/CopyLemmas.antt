@@ -3,7 +3,7 @@ use Rattle.std.proofs.Common.{◌≡◌, ℕ, max, Bool, true, false, cond, not,
 use Rattle.std.specs.List.{list_any, filter_map, cons_option}
 use Rattle.std.specs.Option.{option_to_list}
 use Rattle.mqtt_routes.specs.declared.subscription.Subscription.{Subscription}
-use Rattle.mqtt_routes.specs.Intended.{Publication, Copy, granted, greatest, copy_for, copies_for, add_to, empty_copy, is_none}
+use Rattle.mqtt_routes.specs.Intended.{Publication, Copy, granted_qos, greatest, copy_for, copies_for, add_to, empty_copy, is_none}
 
 max_one : (a b c : ℕ) → max a (max b c) ≡ max (max a b) c
 max_one a b c = omega arith
@@ -18,8 +18,8 @@ max_last n = omega arith
 abbrev pub with_all : Publication → Copy → List Subscription → Copy
 with_all p c subs = record {
   birth = c.birth;
-  qos = max c.qos (greatest (map (granted p) subs));
-  retain = c.retain || (p.retain && list_any (λ s. s.retain_as_published) subs);
+  qos = max c.qos (greatest (map (granted_qos p) subs));
+  retain = c.retain || (p.retain && list_any (λ s. s.options.retain_as_published) subs);
   identifiers = c.identifiers ++ filter_map (λ s. s.identifier) subs;
 }
 
@@ -44,12 +44,12 @@ same_copy birth q1 q2 r1 r2 d1 d2 q r d = λ i. record { birth = birth; qos = q 
 pub with_all-cons : (p : Publication) (c : Copy) (s : Subscription) (ss : List Subscription) → with_all p c (s ∷ ss) ≡ with_all p (add_to p c s) ss
 with_all-cons p c s ss =
     same_copy c.birth _ _ _ _ _ _
-    (max_one c.qos (granted p s) (greatest (map (granted p) ss)))
-    (retain_one c.retain p.retain s.retain_as_published (list_any (λ (x : Subscription). x.retain_as_published) ss))
+    (max_one c.qos (granted_qos p s) (greatest (map (granted_qos p) ss)))
+    (retain_one c.retain p.retain s.options.retain_as_published (list_any (λ (x : Subscription). x.options.retain_as_published) ss))
     (ap (λ xs. c.identifiers ++ xs) (cons_is s.identifier (filter_map (λ (x : Subscription). x.identifier) ss)) ∙ sym (append_assoc c.identifiers (option_to_list s.identifier) (filter_map (λ (x : Subscription). x.identifier) ss)))
 
 pub with_all-empty : (p : Publication) (birth : ℕ) (subs : List Subscription) → with_all p (empty_copy birth) subs ≡ copy_for p birth subs
-with_all-empty p birth subs = same_copy birth _ _ _ _ _ _ (max_none (greatest (map (granted p) subs))) refl refl
+with_all-empty p birth subs = same_copy birth _ _ _ _ _ _ (max_none (greatest (map (granted_qos p) subs))) refl refl
 
 pub with_all-nil : (p : Publication) (c : Copy) → with_all p c [] ≡ c
 with_all-nil p c = same_copy c.birth _ _ _ _ _ _ (max_last c.qos) (or_and_false c.retain p.retain) (append-nil c.identifiers)

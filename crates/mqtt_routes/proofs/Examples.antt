@@ -1,13 +1,30 @@
 -- Worked rows of routing, by computing: sessions 1 to 5 and publications to `a/b` (MQTT 5.0, 3.3.4 and 4.8.2).
-use Rattle.std.proofs.Common.{◌≡◌, ℕ, Bool, true, false, cond, refl, codes, List, [], ◌∷◌, Option, Some, None, nat_eq}
+use Rattle.std.proofs.Common.{◌≡◌, ℕ, zero, suc, Bool, true, false, cond, refl, codes, List, [], ◌∷◌, Option, Some, None, nat_eq}
+use Rattle.mqtt_base.specs.declared.session.SubscriptionOptions.{SubscriptionOptions}
+use Rattle.mqtt_base.specs.declared.session.Qos.{Qos}
+use Rattle.mqtt_base.specs.declared.session.Qos.TheVariants.{AtMostOnce, AtLeastOnce, ExactlyOnce}
+use Rattle.mqtt_base.specs.declared.session.RetainHandling.TheVariants.{SendAlways}
 use Rattle.mqtt_routes.specs.declared.subscription.Subscription.{Subscription}
 use Rattle.mqtt_routes.specs.Subscriptions.{Subscriber, put, with_subs}
 use Rattle.mqtt_routes.specs.Intended.{Publication, Answers, Copy}
 use Rattle.mqtt_routes.specs.Acceptance.{Served, Routed, routed}
 use Rattle.mqtt_routes.specs.Retained.{keep}
 
+abbrev quality : ℕ → Qos
+quality zero = AtMostOnce
+quality (suc zero) = AtLeastOnce
+quality (suc (suc n)) = ExactlyOnce
+
 abbrev sub : List ℕ → ℕ → ℕ → Option ℕ → Subscription
-sub text place qos identifier = record { filter = text; place = place; qos = qos; no_local = false; retain_as_published = false; identifier = identifier }
+sub text place qos identifier = record {
+  filter = text;
+  place = place;
+  options = record { qos = quality qos; no_local = false; retain_as_published = false; retain_handling = SendAlways };
+  identifier = identifier;
+}
+
+abbrev with_option : (SubscriptionOptions → SubscriptionOptions) → Subscription → Subscription
+with_option change s = record s { options = change s.options }
 
 abbrev has : ℕ → List Subscription → Subscriber
 has birth subs = record { birth = birth; subs = subs }
@@ -86,14 +103,14 @@ a_direct_copy_of_lowest_service_needs_none = refl
 
 -- No Local: session 1 is named `p` here, and its other subscription stays
 abbrev bars_its_own : List Subscriber
-bars_its_own = has 1 (record (sub (codes "a/#") 1 1 (Some 1)) { no_local = true } ∷ sub (codes "a/b") 2 2 (Some 2) ∷ []) ∷ []
+bars_its_own = has 1 (with_option (λ o. record o { no_local = true }) (sub (codes "a/#") 1 1 (Some 1)) ∷ sub (codes "a/b") 2 2 (Some 2) ∷ []) ∷ []
 
 no_local_bars_one_subscription : routed (all_but [] []) (at_qos 2) [] bars_its_own ≡ Some (record { direct = copy 1 2 (2 ∷ []) ∷ []; served = [] })
 no_local_bars_one_subscription = refl
 
 -- Retain As Published of one of them
 abbrev passes_retain : List Subscriber
-passes_retain = has 1 (record (sub (codes "a/#") 1 1 (Some 1)) { retain_as_published = true } ∷ sub (codes "a/b") 2 2 (Some 2) ∷ []) ∷ []
+passes_retain = has 1 (with_option (λ o. record o { retain_as_published = true }) (sub (codes "a/#") 1 1 (Some 1)) ∷ sub (codes "a/b") 2 2 (Some 2) ∷ []) ∷ []
 
 retain_is_passed_on : routed (all_but [] []) (at_qos 2) [] passes_retain
     ≡ Some (record { direct = record { birth = 1; qos = 2; retain = true; identifiers = 1 ∷ 2 ∷ [] } ∷ []; served = [] })

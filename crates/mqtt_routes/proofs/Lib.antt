@@ -1,5 +1,8 @@
 pub mod PlaceLemmas
 pub mod SpotLemmas
+pub mod RoomLemmas
+pub mod SomeLemmas
+pub mod TakerLemmas
 pub mod TurnLemmas
 pub mod CopyLemmas
 pub mod MemberLemmas

@@ -1,5 +1,5 @@
 -- Lemmas on serving groups (MQTT 5.0, 4.8.2).
-use Rattle.std.proofs.Common.{◌≡◌, ℕ, zero, suc, ◌+◌, ◌<◌, ◌≤◌, Bool, true, false, cond, ◌&&◌, List, [], ◌∷◌, ◌++◌, length, take, drop, get_or, filter, refl, sym, ap, subst, ◌∙◌, arith, bytes_eq, append_assoc, add-one, drop-cons, Some, None}
+use Rattle.std.proofs.Common.{◌≡◌, ℕ, zero, suc, ◌+◌, ◌<◌, ◌≤◌, Bool, true, false, cond, ◌&&◌, List, [], ◌∷◌, ◌++◌, length, take, drop, get_or, filter, refl, sym, ap, subst, ◌∙◌, arith, bytes_eq, append_assoc, add-one, drop-cons, Some, None, Result, Ok, Err, IfOk}
 use Rattle.std.specs.List.{list_any}
 use Rattle.std.specs.Option.{option_and_then}
 use Rattle.std.proofs.lemmas.List.{get_or_default, take_more}
@@ -64,11 +64,10 @@ pub serve-stop : (at : Answers) (p : Publication) (all : List Member) (direct : 
     → serve at p all direct (n ∷ rest) (f ∷ fs) served ≡ None
 serve-stop at p all direct n rest f fs served e = ap (option_and_then (λ (x : Served). serve at p all direct rest fs (served ++ x ∷ []))) e
 
-abbrev pub served_with : List ℕ → Copy → Served
-served_with group copy = record { group = group; copy = Some copy }
-
-pub served_same : (g1 g2 : List ℕ) (c1 c2 : Copy) → g1 ≡ g2 → c1 ≡ c2 → Some (served_with g1 c1) ≡ Some (served_with g2 c2)
-served_same g1 g2 c1 c2 g c = ap (λ x. Some (served_with x c1)) g ∙ ap (λ x. Some (served_with g2 x)) c
+-- what follows of each value follows where there is one
+pub if_ok_more : {X E : Type 0} (P Q : X → Type 0) (r : Result X E) → ((x : X) → P x → Q x) → IfOk r P → IfOk r Q
+if_ok_more P Q (Ok x) more h = more x h
+if_ok_more P Q (Err e) more h = tt
 
 -- ---- a loop over the members
 

@@ -10,10 +10,10 @@ use Rattle.indexmap.specs.IndexMap.{insert_entry, move_index}
 use Rattle.indexmap.proofs.MapLemmas.{insert_entry-absent, absent_from_lookup}
 use Rattle.indexmap.proofs.MoveLemmas.{push_moved}
 use Rattle.mqtt_routes.specs.declared.subscription.Subscription.{Subscription}
-use Rattle.mqtt_routes.specs.Subscriptions.{Subscriber, subscriber, subscribers, AreAfter, AreInOrder, spot_of, subs_of, with_subs, without, unsubscribed, without_session}
+use Rattle.mqtt_routes.specs.Subscriptions.{Subscriber, Held, subscriber, subscribers, AreAfter, AreInOrder, spot_of, subs_of, with_subs, without, unsubscribed, without_session}
 
 abbrev pub Entries : Type 0
-Entries = List (ℕ × List Subscription)
+Entries = List (ℕ × Held)
 
 -- ---- births rise
 
@@ -79,8 +79,6 @@ order-without_session b (x ∷ xs) h = order-without_by (nat_lt x.birth b) (nat_
 
 -- ---- what the map finds
 
--- ---- what the map finds
-
 -- a birth is before, at or after the one that is looked for
 split : {P : Type 0} (k b : ℕ) → (k < b → P) → (k ≡ b → P) → (b < k → P) → P
 split k b before here after = ⊎_elim before (λ from. ⊎_elim after (λ to. here (omega arith)) (cases_lt b k)) (cases_lt k b)
@@ -112,58 +110,68 @@ remove_entry-after b (e ∷ es) h = rw (eq-below b e.0 h.0) (ap (λ (xs : Entrie
 module _ (b : ℕ) where
   -- ---- a session that is there
 
-  module _ (old : List Subscription) where
-    not_after : (e : ℕ × List Subscription) (es : Entries) → AreInOrder (subscribers (e ∷ es)) → Some old ≡ lookup (nat_eq b) (e ∷ es) → b < e.0 → ⊥
+  module _ (old : Held) where
+    not_after : (e : ℕ × Held) (es : Entries) → AreInOrder (subscribers (e ∷ es)) → Some old ≡ lookup (nat_eq b) (e ∷ es) → b < e.0 → ⊥
     not_after e es o h l = let none : Some old ≡ None = h ∙ lookup-after b (e ∷ es) (l, after_later b e.0 (subscribers es) l o.0) in cc
 
-    later : (e : ℕ × List Subscription) (es : Entries) → Some old ≡ lookup (nat_eq b) (e ∷ es) → e.0 < b → Some old ≡ lookup (nat_eq b) es
+    later : (e : ℕ × Held) (es : Entries) → Some old ≡ lookup (nat_eq b) (e ∷ es) → e.0 < b → Some old ≡ lookup (nat_eq b) es
     later e es h l = h ∙ ap (λ t. cond t (Some e.1) (lookup (nat_eq b) es)) (eq-above b e.0 l)
 
-    same : (e : ℕ × List Subscription) (es : Entries) → Some old ≡ lookup (nat_eq b) (e ∷ es) → e.0 ≡ b → old ≡ e.1
+    same : (e : ℕ × Held) (es : Entries) → Some old ≡ lookup (nat_eq b) (e ∷ es) → e.0 ≡ b → old ≡ e.1
     same e es h s = let is : Some old ≡ Some e.1 = h ∙ ap (λ t. cond t (Some e.1) (lookup (nat_eq b) es)) (eq-yes b e.0 (sym s)) in cc
 
-    pub subs_of-found : (es : Entries) → AreInOrder (subscribers es) → Some old ≡ lookup (nat_eq b) es → subs_of b (subscribers es) ≡ old
+    pub subs_of-found : (es : Entries) → AreInOrder (subscribers es) → Some old ≡ lookup (nat_eq b) es → subs_of b (subscribers es) ≡ old.subs
     subs_of-found [] o h = cc
     subs_of-found (e ∷ es) o h = split e.0 b
         (λ l. rw (lt-yes e.0 b l) (subs_of-found es o.1 (later e es h l)))
-        (λ s. rw (lt-no e.0 b (omega (arith, s)), eq-yes e.0 b s) (sym (same e es h s)))
+        (λ s. rw (lt-no e.0 b (omega (arith, s)), eq-yes e.0 b s) (ap (λ (h : Held). h.subs) (sym (same e es h s))))
         (λ l. absurd (not_after e es o h l))
 
-    pub with_subs-found : (w : List Subscription) (es : Entries) → AreInOrder (subscribers es) → Some old ≡ lookup (nat_eq b) es → subscribers (set_value (nat_eq b) es w) ≡ with_subs b w (subscribers es)
+    pub with_subs-found : (w : Held) (es : Entries) → AreInOrder (subscribers es) → Some old ≡ lookup (nat_eq b) es → subscribers (set_value (nat_eq b) es w) ≡ with_subs b w.subs (subscribers es)
     with_subs-found w [] o h = cc
     with_subs-found w (e ∷ es) o h = split e.0 b
-        (λ l. rw (lt-yes e.0 b l, eq-above b e.0 l) (ap (λ (xs : List Subscriber). subscriber e.0 e.1 ∷ xs) (with_subs-found w es o.1 (later e es h l))))
-        (λ s. rw (lt-no e.0 b (omega (arith, s)), eq-yes e.0 b s, eq-yes b e.0 (sym s)) (ap (λ n. subscriber n w ∷ subscribers es) s))
+        (λ l. rw (lt-yes e.0 b l, eq-above b e.0 l) (ap (λ (xs : List Subscriber). subscriber e.0 e.1.subs ∷ xs) (with_subs-found w es o.1 (later e es h l))))
+        (λ s. rw (lt-no e.0 b (omega (arith, s)), eq-yes e.0 b s, eq-yes b e.0 (sym s)) (ap (λ n. subscriber n w.subs ∷ subscribers es) s))
         (λ l. absurd (not_after e es o h l))
 
-    same_by : (t : Bool) (e : ℕ × List Subscription) (es : Entries) → Some old ≡ cond t (Some e.1) (lookup (nat_eq b) es) → (Some old ≡ lookup (nat_eq b) es → set_value (nat_eq b) es old ≡ es) → cond t ((e.0, old) ∷ es) (e ∷ set_value (nat_eq b) es old) ≡ e ∷ es
-    same_by true e es h more = let is : old ≡ e.1 = cc in ap (λ (x : List Subscription). (e.0, x) ∷ es) is
+    same_by : (t : Bool) (e : ℕ × Held) (es : Entries) → Some old ≡ cond t (Some e.1) (lookup (nat_eq b) es) → (Some old ≡ lookup (nat_eq b) es → set_value (nat_eq b) es old ≡ es) → cond t ((e.0, old) ∷ es) (e ∷ set_value (nat_eq b) es old) ≡ e ∷ es
+    same_by true e es h more = let is : old ≡ e.1 = cc in ap (λ (x : Held). (e.0, x) ∷ es) is
     same_by false e es h more = ap (λ (xs : Entries). e ∷ xs) (more h)
 
     pub set_value-same : (es : Entries) → Some old ≡ lookup (nat_eq b) es → set_value (nat_eq b) es old ≡ es
     set_value-same [] h = refl
     set_value-same (e ∷ es) h = same_by (nat_eq b e.0) e es h (set_value-same es)
 
-    pub unsubscribed-found : (text : List ℕ) (w : List Subscription) (es : Entries) → w ≡ without text old → AreInOrder (subscribers es) → Some old ≡ lookup (nat_eq b) es → subscribers (set_value (nat_eq b) es w) ≡ unsubscribed b text (subscribers es)
+    held_by : (t : Bool) (w : Held) (e : ℕ × Held) (es : Entries) → w.subs ≡ old.subs → Some old ≡ cond t (Some e.1) (lookup (nat_eq b) es)
+        → (Some old ≡ lookup (nat_eq b) es → subscribers (set_value (nat_eq b) es w) ≡ subscribers es) → subscribers (cond t ((e.0, w) ∷ es) (e ∷ set_value (nat_eq b) es w)) ≡ subscribers (e ∷ es)
+    held_by true w e es kept h more = let is : old ≡ e.1 = cc in ap (λ subs. subscriber e.0 subs ∷ subscribers es) (kept ∙ ap (λ (x : Held). x.subs) is)
+    held_by false w e es kept h more = ap (λ (xs : List Subscriber). subscriber e.0 e.1.subs ∷ xs) (more h)
+
+    -- a session whose subscriptions stay
+    pub set_value-held : (w : Held) (es : Entries) → w.subs ≡ old.subs → Some old ≡ lookup (nat_eq b) es → subscribers (set_value (nat_eq b) es w) ≡ subscribers es
+    set_value-held w [] kept h = refl
+    set_value-held w (e ∷ es) kept h = held_by (nat_eq b e.0) w e es kept h (set_value-held w es kept)
+
+    pub unsubscribed-found : (text : List ℕ) (w : Held) (es : Entries) → w.subs ≡ without text old.subs → AreInOrder (subscribers es) → Some old ≡ lookup (nat_eq b) es → subscribers (set_value (nat_eq b) es w) ≡ unsubscribed b text (subscribers es)
     unsubscribed-found text w [] made o h = cc
     unsubscribed-found text w (e ∷ es) made o h = split e.0 b
-        (λ l. rw (lt-yes e.0 b l, eq-above b e.0 l) (ap (λ (xs : List Subscriber). subscriber e.0 e.1 ∷ xs) (unsubscribed-found text w es made o.1 (later e es h l))))
-        (λ s. rw (lt-no e.0 b (omega (arith, s)), eq-yes e.0 b s, eq-yes b e.0 (sym s)) (ap (λ n. subscriber n w ∷ subscribers es) s ∙ ap (λ x. subscriber b x ∷ subscribers es) (made ∙ ap (without text) (same e es h s))))
+        (λ l. rw (lt-yes e.0 b l, eq-above b e.0 l) (ap (λ (xs : List Subscriber). subscriber e.0 e.1.subs ∷ xs) (unsubscribed-found text w es made o.1 (later e es h l))))
+        (λ s. rw (lt-no e.0 b (omega (arith, s)), eq-yes e.0 b s, eq-yes b e.0 (sym s)) (ap (λ n. subscriber n w.subs ∷ subscribers es) s ∙ ap (λ x. subscriber b x ∷ subscribers es) (made ∙ ap (λ (h : Held). without text h.subs) (same e es h s))))
         (λ l. absurd (not_after e es o h l))
 
   pub without_session-remove_entry : (es : Entries) → AreInOrder (subscribers es) → subscribers (remove_entry (nat_eq b) es) ≡ without_session b (subscribers es)
   without_session-remove_entry [] o = refl
   without_session-remove_entry (e ∷ es) o = split e.0 b
-      (λ l. rw (lt-yes e.0 b l, eq-above b e.0 l) (ap (λ (xs : List Subscriber). subscriber e.0 e.1 ∷ xs) (without_session-remove_entry es o.1)))
+      (λ l. rw (lt-yes e.0 b l, eq-above b e.0 l) (ap (λ (xs : List Subscriber). subscriber e.0 e.1.subs ∷ xs) (without_session-remove_entry es o.1)))
       (λ s. rw (lt-no e.0 b (omega (arith, s)), eq-yes e.0 b s, eq-yes b e.0 (sym s)) refl)
-      (λ l. rw (lt-no e.0 b (omega (arith, l)), eq-above e.0 b l, eq-below b e.0 l) (ap (λ (xs : Entries). subscriber e.0 e.1 ∷ subscribers xs) (remove_entry-after b es (after_later b e.0 (subscribers es) l o.0))))
+      (λ l. rw (lt-no e.0 b (omega (arith, l)), eq-above e.0 b l, eq-below b e.0 l) (ap (λ (xs : Entries). subscriber e.0 e.1.subs ∷ subscribers xs) (remove_entry-after b es (after_later b e.0 (subscribers es) l o.0))))
 
   -- ---- a session that isn't there
 
-  not_here : (e : ℕ × List Subscription) (es : Entries) → lookup (nat_eq b) (e ∷ es) ≡ None → e.0 ≡ b → ⊥
+  not_here : (e : ℕ × Held) (es : Entries) → lookup (nat_eq b) (e ∷ es) ≡ None → e.0 ≡ b → ⊥
   not_here e es h s = let is : Some e.1 ≡ None = sym (ap (λ t. cond t (Some e.1) (lookup (nat_eq b) es)) (eq-yes b e.0 (sym s))) ∙ h in cc
 
-  none_later : (e : ℕ × List Subscription) (es : Entries) → lookup (nat_eq b) (e ∷ es) ≡ None → e.0 < b → lookup (nat_eq b) es ≡ None
+  none_later : (e : ℕ × Held) (es : Entries) → lookup (nat_eq b) (e ∷ es) ≡ None → e.0 < b → lookup (nat_eq b) es ≡ None
   none_later e es h l = sym (ap (λ t. cond t (Some e.1) (lookup (nat_eq b) es)) (eq-above b e.0 l)) ∙ h
 
   pub subs_of-none : (es : Entries) → lookup (nat_eq b) es ≡ None → subs_of b (subscribers es) ≡ []
@@ -176,14 +184,14 @@ module _ (b : ℕ) where
   pub unsubscribed-none : (text : List ℕ) (es : Entries) → lookup (nat_eq b) es ≡ None → unsubscribed b text (subscribers es) ≡ subscribers es
   unsubscribed-none text [] h = refl
   unsubscribed-none text (e ∷ es) h = split e.0 b
-      (λ l. rw (lt-yes e.0 b l) (ap (λ (xs : List Subscriber). subscriber e.0 e.1 ∷ xs) (unsubscribed-none text es (none_later e es h l))))
+      (λ l. rw (lt-yes e.0 b l) (ap (λ (xs : List Subscriber). subscriber e.0 e.1.subs ∷ xs) (unsubscribed-none text es (none_later e es h l))))
       (λ s. absurd (not_here e es h s))
       (λ l. rw (lt-no e.0 b (omega (arith, l)), eq-above e.0 b l) refl)
 
-  insert-none : (w : List Subscription) (es : Entries) → lookup (nat_eq b) es ≡ None → insert (subscribers es) (spot_of b (subscribers es)) (subscriber b w) ≡ with_subs b w (subscribers es)
+  insert-none : (w : Held) (es : Entries) → lookup (nat_eq b) es ≡ None → insert (subscribers es) (spot_of b (subscribers es)) (subscriber b w.subs) ≡ with_subs b w.subs (subscribers es)
   insert-none w [] h = refl
   insert-none w (e ∷ es) h = split e.0 b
-      (λ l. rw (lt-yes e.0 b l) (ap (λ (xs : List Subscriber). subscriber e.0 e.1 ∷ xs) (insert-none w es (none_later e es h l))))
+      (λ l. rw (lt-yes e.0 b l) (ap (λ (xs : List Subscriber). subscriber e.0 e.1.subs ∷ xs) (insert-none w es (none_later e es h l))))
       (λ s. absurd (not_here e es h s))
       (λ l. rw (lt-no e.0 b (omega (arith, l)), eq-above e.0 b l) refl)
 
@@ -201,22 +209,22 @@ module _ (b : ℕ) where
       (λ s. rw (lt-no e.0 b (omega (arith, s))) (omega arith))
       (λ l. rw (lt-no e.0 b (omega (arith, l))) (omega arith))
 
-  insert-subscribers : (w : List Subscription) (i : ℕ) (es : Entries) → subscribers (insert es i (b, w)) ≡ insert (subscribers es) i (subscriber b w)
+  insert-subscribers : (w : Held) (i : ℕ) (es : Entries) → subscribers (insert es i (b, w)) ≡ insert (subscribers es) i (subscriber b w.subs)
   insert-subscribers w zero [] = refl
   insert-subscribers w (suc i) [] = refl
   insert-subscribers w zero (e ∷ es) = refl
-  insert-subscribers w (suc i) (e ∷ es) = ap (λ (xs : List Subscriber). subscriber e.0 e.1 ∷ xs) (insert-subscribers w i es)
+  insert-subscribers w (suc i) (e ∷ es) = ap (λ (xs : List Subscriber). subscriber e.0 e.1.subs ∷ xs) (insert-subscribers w i es)
 
   -- a new session is put at its place
-  pub with_subs-new : (w : List Subscription) (i : ℕ) (es : Entries) → i ≡ spot_of b (subscribers es) → lookup (nat_eq b) es ≡ None
-      → subscribers (move_index (insert_entry nat_eq es b w) (position_or_len (nat_eq b) (keys_of es)) i) ≡ with_subs b w (subscribers es)
+  pub with_subs-new : (w : Held) (i : ℕ) (es : Entries) → i ≡ spot_of b (subscribers es) → lookup (nat_eq b) es ≡ None
+      → subscribers (move_index (insert_entry nat_eq es b w) (position_or_len (nat_eq b) (keys_of es)) i) ≡ with_subs b w.subs (subscribers es)
   with_subs-new w i es is none =
       let within : i ≤ length es = omega (arith, is, spot_of-most es) in
       ap (λ (xs : Entries). subscribers (move_index xs (position_or_len (nat_eq b) (keys_of es)) i)) (insert_entry-absent nat_eq b w es (absent_from_lookup (nat_eq b) es none))
       ∙ ap (λ n. subscribers (move_index (es ++ (b, w) ∷ []) n i)) (last-none es none)
       ∙ ap subscribers (push_moved es (b, w) i within)
       ∙ insert-subscribers w i es
-      ∙ ap (λ n. insert (subscribers es) n (subscriber b w)) is
+      ∙ ap (λ n. insert (subscribers es) n (subscriber b w.subs)) is
       ∙ insert-none w es none
 
 -- ---- the place of a birth
@@ -230,7 +238,7 @@ first_before b c (e ∷ es) h (suc j) d lt t = first_before b c es h.1 j d (omeg
 pub partitioned : (b : ℕ) (es : Entries) → AreInOrder (subscribers es) → IsPartitionedBy (λ k. nat_lt k b) (keys_of es)
 partitioned b [] o i j d le lt h = absurd (omega (arith, lt))
 partitioned b (e ∷ es) o zero zero d le lt h = h
-partitioned b (e ∷ es) o zero (suc j) d le lt h = first_before b e.0 es o.0 j d (omega (arith, lt, length-map es (λ (q : ℕ × List Subscription). q.0))) h
+partitioned b (e ∷ es) o zero (suc j) d le lt h = first_before b e.0 es o.0 j d (omega (arith, lt, length-map es (λ (q : ℕ × Held). q.0))) h
 partitioned b (e ∷ es) o (suc i) zero d le lt h = absurd (omega (arith, le))
 partitioned b (e ∷ es) o (suc i) (suc j) d le lt h = partitioned b es o.1 i j d (omega (arith, le)) (omega (arith, lt)) h
 
@@ -248,9 +256,9 @@ pub length-subscribers : (es : Entries) → length (subscribers es) ≡ length e
 length-subscribers [] = refl
 length-subscribers (e ∷ es) = ap suc (length-subscribers es)
 
-pub slice_get-subscribers : (i : ℕ) (es : Entries) (e : ℕ × List Subscription) → slice_get es i ≡ Some e → slice_get (subscribers es) i ≡ Some (subscriber e.0 e.1)
+pub slice_get-subscribers : (i : ℕ) (es : Entries) (e : ℕ × Held) → slice_get es i ≡ Some e → slice_get (subscribers es) i ≡ Some (subscriber e.0 e.1.subs)
 slice_get-subscribers i [] e h = cc
-slice_get-subscribers zero (x ∷ es) e h = let same : x ≡ e = cc in ap (λ (y : ℕ × List Subscription). Some (subscriber y.0 y.1)) same
+slice_get-subscribers zero (x ∷ es) e h = let same : x ≡ e = cc in ap (λ (y : ℕ × Held). Some (subscriber y.0 y.1.subs)) same
 slice_get-subscribers (suc i) (x ∷ es) e h = slice_get-subscribers i es e h
 
 -- what is left at a place begins with the session there

@@ -6,7 +6,7 @@ use Rattle.mqtt_topic.specs.Filters.{group_of}
 use Rattle.mqtt_routes.specs.declared.fault.RoutesFault.{RoutesFault}
 use Rattle.mqtt_routes.specs.declared.fault.RoutesFault.TheVariants.{Full, Memory}
 use Rattle.mqtt_routes.specs.Subscriptions.{Subscriber}
-use Rattle.mqtt_routes.specs.Intended.{Publication, Answers, Copy, Member, granted, copy_for, directs, members, in_group, groups}
+use Rattle.mqtt_routes.specs.Intended.{Publication, Answers, Copy, Member, granted_qos, copy_for, directs, members, in_group, groups, is_none, is_wanted}
 
 -- what becomes of a group: NAME/FILTER, and the copy of its chosen member, if one was eligible
 pub record Served : Type 0 where
@@ -17,6 +17,14 @@ pub record Served : Type 0 where
 pub record Routed : Type 0 where
   pub direct : List Copy
   pub served : List Served
+
+-- a group, named by its filter, and its copy
+abbrev pub served_by : List ℕ → Option Copy → Served
+served_by text copy = record { group = group_of text; copy = copy }
+
+-- it goes somewhere: there is a direct copy, or a group that matches
+abbrev pub has_takers : Routed → Bool
+has_takers r = not (is_none r.direct) || not (is_none r.served)
 
 -- a copy of QoS 1 or 2 enters its session's queue
 abbrev pub is_queued : Copy → Bool
@@ -37,7 +45,7 @@ uses birth copies = count_by (λ c. is_queued c && nat_eq c.birth birth) copies
 
 -- a member's copy would be queued
 abbrev pub needs_room : Publication → Member → Bool
-needs_room p m = nat_lt 0 (granted p m.sub)
+needs_room p m = nat_lt 0 (granted_qos p m.sub)
 
 -- beside the direct copies and those of the groups before it a member lacks nothing: its queue has room, or
 -- for QoS 0 it is connected (4.8.2)
@@ -68,8 +76,8 @@ shared_copy p m = copy_for p m.birth (m.sub ∷ [])
 -- a group and its chosen member; without an eligible one it gets nothing, and where one lacks nothing but
 -- room the publication isn't accepted
 abbrev pub outcome : Publication → List ℕ → List Member → Option Member → Option Served
-outcome p text all (Some m) = Some (record { group = group_of text; copy = Some (shared_copy p m) })
-outcome p text all None = cond (list_any (needs_room p) all) None (Some (record { group = group_of text; copy = None }))
+outcome p text all (Some m) = Some (served_by text (Some (shared_copy p m)))
+outcome p text all None = cond (list_any (needs_room p) all) None (Some (served_by text None))
 
 abbrev pub eligible_of : Answers → Publication → List Copy → List Served → List ℕ → List Member → List Member
 eligible_of at p direct served text all = filter (is_eligible at p direct served) (in_group text all)
@@ -139,3 +147,14 @@ IsServed at p direct before text all s = (n : ℕ) × (serve_one at p direct bef
 abbrev pub RefusesOne : Answers → Publication → List Copy → List Served → List ℕ → List Member → RoutesFault → Type 0
 RefusesOne at p direct before text all Full = (n : ℕ) × (serve_one at p direct before n text all ≡ None)
 RefusesOne at p direct before text all Memory = ⊤
+
+-- ---- laws
+
+-- a routing has takers exactly where somebody is there
+abbrev pub TellsTakers : Answers → Publication → List ℕ → List Subscriber → Routed → Type 0
+TellsTakers at p choices sessions r = routed at p choices sessions ≡ Some r → is_wanted at p sessions ≡ has_takers r
+
+-- lists that differ in sessions without subscriptions give the same routing, and somebody is there for both or for none
+pub record RouteAlike (at : Answers) (p : Publication) (choices : List ℕ) (xs ys : List Subscriber) : Type 0 where
+  pub same_routed : routed at p choices xs ≡ routed at p choices ys
+  pub same_wanted : is_wanted at p xs ≡ is_wanted at p ys

@@ -2,6 +2,7 @@
 use Rattle.std.specs.Prelude.{ℕ, suc, min, max, Bool, true, false, cond, not, ◌&&◌, ◌||◌, List, [], ◌∷◌, ◌++◌, filter, map, nat_lt, bytes_eq}
 use Rattle.std.specs.List.{list_any, filter_map}
 use Rattle.std.specs.Option.{option_to_list}
+use Rattle.mqtt_base.specs.Service.{qos_number}
 use Rattle.mqtt_topic.specs.Filters.{begins_share, matching_part_of}
 use Rattle.mqtt_topic.specs.Matching.{is_match}
 use Rattle.mqtt_routes.specs.declared.subscription.Subscription.{Subscription}
@@ -14,8 +15,9 @@ pub record Publication : Type 0 where
   pub qos : ℕ
   pub retain : Bool
 
+-- a number above 2 counts as QoS 2
 abbrev pub published : List ℕ → List ℕ → ℕ → Bool → Publication
-published sender topic qos retain = record { sender = sender; topic = topic; qos = qos; retain = retain }
+published sender topic qos retain = record { sender = sender; topic = topic; qos = min qos 2; retain = retain }
 
 -- what sessions answer, by their births: how many copies their queues have room for, whether they are
 -- connected, and whether they have this client identifier
@@ -32,12 +34,12 @@ pub record Copy : Type 0 where
   pub identifiers : List ℕ
 
 -- granted QoS: the lesser of the publication's and the subscription's (3.8.4)
-abbrev pub granted : Publication → Subscription → ℕ
-granted p s = min p.qos s.qos
+abbrev pub granted_qos : Publication → Subscription → ℕ
+granted_qos p s = min p.qos (qos_number s.options.qos)
 
 -- No Local bars a client's own messages (3.8.3.1)
 abbrev pub is_barred : Answers → Publication → ℕ → Subscription → Bool
-is_barred at p birth s = s.no_local && at.is_named birth p.sender
+is_barred at p birth s = s.options.no_local && at.is_named birth p.sender
 
 abbrev pub is_shared : Subscription → Bool
 is_shared s = begins_share s.filter
@@ -61,8 +63,8 @@ greatest (n ∷ ns) = max n (greatest ns)
 abbrev pub copy_for : Publication → ℕ → List Subscription → Copy
 copy_for p birth subs = record {
   birth = birth;
-  qos = greatest (map (granted p) subs);
-  retain = p.retain && list_any (λ s. s.retain_as_published) subs;
+  qos = greatest (map (granted_qos p) subs);
+  retain = p.retain && list_any (λ s. s.options.retain_as_published) subs;
   identifiers = filter_map (λ s. s.identifier) subs;
 }
 
@@ -73,8 +75,8 @@ empty_copy birth = record { birth = birth; qos = 0; retain = false; identifiers 
 abbrev pub add_to : Publication → Copy → Subscription → Copy
 add_to p c s = record {
   birth = c.birth;
-  qos = max c.qos (granted p s);
-  retain = c.retain || (p.retain && s.retain_as_published);
+  qos = max c.qos (granted_qos p s);
+  retain = c.retain || (p.retain && s.options.retain_as_published);
   identifiers = c.identifiers ++ option_to_list s.identifier;
 }
 

@@ -1,12 +1,13 @@
 -- Retained messages (MQTT 5.0, 3.3.1.3).
-use Rattle.std.specs.Prelude.{◌≡◌, ℕ, ◌<◌, Bool, false, cond, List, [], ◌∷◌, length, filter, bytes_eq, Option, Some, None}
+use Rattle.std.specs.Prelude.{◌≡◌, ℕ, ◌<◌, Bool, true, false, cond, ◌||◌, List, [], ◌∷◌, length, filter, map, bytes_eq, nat_lt, nat_le, Option, Some, None}
 use Rattle.std.specs.List.{list_any}
+use denote.Ref.{Bor}
 use Rattle.mqtt_topic.specs.Matching.{is_match}
 use Rattle.mqtt_routes.specs.declared.fault.RoutesFault.{RoutesFault}
 use Rattle.mqtt_routes.specs.declared.fault.RoutesFault.TheVariants.{Full, Memory}
 use Rattle.mqtt_base.specs.declared.limits.TheConstants.{RETAINED_LIMIT}
 use Rattle.mqtt_routes.specs.declared.retained.Kept.{Kept}
-use Rattle.mqtt_routes.specs.Subscriptions.{Subscriber}
+use Rattle.mqtt_routes.specs.Subscriptions.{Subscriber, have_room}
 
 -- the message is of this topic
 abbrev pub is_of : {M : Type 0} → List ℕ → Kept M → Bool
@@ -48,3 +49,33 @@ retain topic (Some message) ks = keep topic message ks
 abbrev pub RefusesRetain : {M : Type 0} → List ℕ → Option M → List (Kept M) → RoutesFault → Type 0
 RefusesRetain topic None ks fault = ⊥
 RefusesRetain topic (Some message) ks fault = RefusesKeep topic ks fault
+
+-- what is to be retained finds a place: it removes, it replaces, or fewer topics than the limit have a message
+abbrev pub takes_topic : {M : Type 0} → List ℕ → Option M → List (Kept M) → Bool
+takes_topic topic None ks = true
+takes_topic topic (Some message) ks = has_topic topic ks || nat_lt (length ks) RETAINED_LIMIT
+
+-- ---- the room beside the table: what can be put without memory
+
+-- messages as they are held, and how many further topics take no memory
+pub record KeptMessages (M : Type 0) : Type 0 where
+  pub messages : List (Kept M)
+  pub room : ℕ
+
+-- the table; for each session, and for topics, how many further ones take no memory
+pub record Index (M : Type 0) : Type 0 where
+  pub table : Table M
+  pub session_room : List (ℕ × ℕ)
+  pub topic_room : ℕ
+
+-- subscriptions of a session to these filters, one after another, take no memory
+abbrev pub has_room_for : {M : Type 0} → ℕ → List (List ℕ) → Index M → Bool
+has_room_for birth filters index = have_room birth filters index.session_room
+
+-- what a list of names refers to
+abbrev pub names_of : List (Bor (List ℕ)) → List (List ℕ)
+names_of names = map (λ n. n.now) names
+
+-- messages of these topics, one after another, take no memory
+abbrev pub has_room_of : {M : Type 0} → List (List ℕ) → Index M → Bool
+has_room_of topics index = nat_le (length topics) index.topic_room

@@ -1,5 +1,5 @@
 -- The subscriptions of sessions (MQTT 5.0, 3.8).
-use Rattle.std.specs.Prelude.{◌≡◌, ⊤, ℕ, suc, ◌<◌, Bool, false, cond, List, [], ◌∷◌, length, nat_eq, nat_lt, bytes_eq}
+use Rattle.std.specs.Prelude.{◌≡◌, ⊤, ℕ, suc, ◌<◌, Bool, false, cond, ◌||◌, List, [], ◌∷◌, length, map, nat_eq, nat_lt, nat_le, bytes_eq}
 use Rattle.std.specs.List.{list_any}
 use Rattle.mqtt_routes.specs.declared.fault.RoutesFault.{RoutesFault}
 use Rattle.mqtt_routes.specs.declared.fault.RoutesFault.TheVariants.{Full, Memory}
@@ -29,6 +29,10 @@ abbrev pub without : List ℕ → List Subscription → List Subscription
 without text [] = []
 without text (s ∷ ss) = cond (is_to text s) ss (s ∷ without text ss)
 
+-- a subscription to this filter finds a place: it replaces one, or fewer than the limit stand
+abbrev pub takes_filter : List ℕ → List Subscription → Bool
+takes_filter text subs = has_filter text subs || nat_lt (length subs) SUBSCRIPTION_LIMIT
+
 -- why a subscription isn't put: only a new one is refused
 abbrev pub RefusesPut : Subscription → List Subscription → RoutesFault → Type 0
 RefusesPut new subs Full = (has_filter new.filter subs ≡ false) × (length subs ≡ SUBSCRIPTION_LIMIT)
@@ -39,10 +43,15 @@ RefusesPut new subs Memory = (has_filter new.filter subs ≡ false) × (length s
 abbrev pub subscriber : ℕ → List Subscription → Subscriber
 subscriber birth subs = record { birth = birth; subs = subs }
 
+-- subscriptions of a session as they are held, and how many further ones take no memory
+pub record Held : Type 0 where
+  pub subs : List Subscription
+  pub room : ℕ
+
 -- sessions as a map from births has them
-abbrev pub subscribers : List (ℕ × List Subscription) → List Subscriber
+abbrev pub subscribers : List (ℕ × Held) → List Subscriber
 subscribers [] = []
-subscribers (e ∷ es) = subscriber e.0 e.1 ∷ subscribers es
+subscribers (e ∷ es) = subscriber e.0 e.1.subs ∷ subscribers es
 
 -- each was born before those after it
 abbrev pub AreAfter : ℕ → List Subscriber → Type 0
@@ -88,3 +97,43 @@ abbrev pub without_session : ℕ → List Subscriber → List Subscriber
 without_session birth [] = []
 without_session birth (x ∷ xs) =
     cond (nat_lt x.birth birth) (x ∷ without_session birth xs) (cond (nat_eq x.birth birth) xs (x ∷ xs))
+
+-- ---- sessions without subscriptions
+
+-- a session is beside others, if it has subscriptions
+abbrev pub beside : List Subscription → Subscriber → List Subscriber → List Subscriber
+beside [] x rest = rest
+beside (s ∷ ss) x rest = x ∷ rest
+
+-- the sessions that have subscriptions
+abbrev pub with_some : List Subscriber → List Subscriber
+with_some [] = []
+with_some (x ∷ xs) = beside x.subs x (with_some xs)
+
+-- where there are filters to come, their session stands in the list with the subscriptions that it has, be it none
+abbrev pub standing : ℕ → List (List ℕ) → List Subscriber → List Subscriber
+standing birth [] xs = xs
+standing birth (f ∷ fs) xs = with_subs birth (subs_of birth xs) xs
+
+-- ---- room for what will be subscribed
+
+abbrev pub filters_of : List Subscription → List (List ℕ)
+filters_of subs = map (λ s. s.filter) subs
+
+-- how many further subscriptions of each session take no memory
+abbrev pub rooms : List (ℕ × Held) → List (ℕ × ℕ)
+rooms [] = []
+rooms (e ∷ es) = (e.0, e.1.room) ∷ rooms es
+
+abbrev pub room_of : ℕ → List (ℕ × ℕ) → ℕ
+room_of birth [] = 0
+room_of birth (e ∷ es) = cond (nat_eq birth e.0) e.1 (room_of birth es)
+
+-- subscriptions of a session to these filters, one after another, take no memory
+abbrev pub have_room : ℕ → List (List ℕ) → List (ℕ × ℕ) → Bool
+have_room birth filters room = nat_le (length filters) (room_of birth room)
+
+-- sessions, and the room that each has
+pub record HeldSessions : Type 0 where
+  pub sessions : List Subscriber
+  pub room : List (ℕ × ℕ)

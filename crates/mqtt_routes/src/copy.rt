@@ -1,10 +1,14 @@
 //! Copies of a publication (MQTT 5.0, 3.3.4, 3.8.4).
 ghost use Rattle.std.specs.Prelude.{◌≡◌, IfErr, OnOk};
 ghost use Rattle.mqtt_routes.specs.Intended.{add_to, empty_copy};
+ghost use Rattle.mqtt_routes.specs.Acceptance.{is_queued};
+ghost use Rattle.mqtt_base.specs.Service.{qos_number};
 
 use crate::fault::RoutesFault;
 use crate::publication::Publication;
+use crate::service::greater;
 use crate::subscription::Subscription;
+use mqtt_base::Qos;
 use std::alloc::Global;
 use std::marker::Model;
 
@@ -12,17 +16,18 @@ use std::marker::Model;
 #[derive(Debug, Drop)]
 pub struct RoutedCopy {
     birth: u64,
-    qos: u8,
+    qos: Qos,
     retain: bool,
     identifiers: Vec<u32>,
 }
 
 impl Model for RoutedCopy {
+    ghost use Rattle.mqtt_base.specs.Service.{qos_number};
     ghost use Rattle.mqtt_routes.specs.Intended.{Copy};
 
     ghost Value = { Copy };
 
-    ghost view = { λ c. record { birth = c.birth; qos = c.qos; retain = c.retain; identifiers = c.identifiers.items } };
+    ghost view = { λ c. record { birth = c.birth; qos = qos_number c.qos; retain = c.retain; identifiers = c.identifiers.items } };
 }
 
 impl RoutedCopy {
@@ -32,7 +37,7 @@ impl RoutedCopy {
     {
         RoutedCopy {
             birth,
-            qos: 0,
+            qos: Qos::AtMostOnce,
             retain: false,
             identifiers: Vec::new(alloc),
         }
@@ -50,9 +55,9 @@ impl RoutedCopy {
         if let Some(identifier) = subscription.identifier {
             self.identifiers.push(identifier)?;
         }
-        let qos = publication.granted(subscription);
-        let retain = publication.retain && subscription.retain_as_published;
-        (self.qos, self.retain) = (self.qos.max(qos), self.retain || retain);
+        let qos = publication.granted_qos(subscription);
+        let retain = publication.retain && subscription.options.retain_as_published;
+        (self.qos, self.retain) = (greater(self.qos, qos), self.retain || retain);
         Ok(())
     }
 
@@ -63,11 +68,22 @@ impl RoutedCopy {
         self.birth
     }
 
-    /// The granted QoS, from 0 to 2. Takes no memory.
-    pub fn qos(&self) -> u8
-        ensures { result ≡ self.now.qos }
+    /// The granted QoS. Takes no memory.
+    pub fn qos(&self) -> Qos
+        ensures { qos_number result ≡ self.now.qos }
     {
         self.qos
+    }
+
+    /// Whether it enters its session's queue: its QoS is 1 or 2.
+    pub(crate) fn is_queued(&self) -> bool
+        ensures { result ≡ is_queued self.now }
+    {
+        match self.qos {
+            Qos::AtMostOnce => false,
+            Qos::AtLeastOnce => true,
+            Qos::ExactlyOnce => true,
+        }
     }
 
     /// RETAIN, as it is sent. Takes no memory.

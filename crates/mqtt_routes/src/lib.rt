@@ -4,6 +4,7 @@
 mod answers;
 mod copy;
 mod fault;
+mod laws;
 mod member;
 mod publication;
 mod retained;
@@ -11,16 +12,19 @@ mod routed;
 mod routes;
 mod row;
 mod serve;
+mod service;
 mod slot;
 mod subscriber;
 mod subscribers;
 mod subscription;
-#[cfg(test)]
-mod tests;
 
 pub use answers::Sessions;
 pub use copy::RoutedCopy;
 pub use fault::RoutesFault;
+pub use laws::{
+    a_session_is_dropped_from_those_with_some, a_standing_session_is_nothing_more,
+    empty_sessions_change_nothing, takers_are_told,
+};
 pub use retained::Kept;
 pub use routed::{Routed, Served};
 pub use routes::Routes;

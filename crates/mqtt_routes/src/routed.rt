@@ -1,36 +1,37 @@
 //! Where a publication goes (MQTT 5.0, 3.3.4, 4.8.2).
 ghost use Rattle.std.specs.Prelude.{◌≡◌, option_copied};
+ghost use Rattle.mqtt_routes.specs.Acceptance.{has_takers};
 
 use crate::copy::RoutedCopy;
-use crate::serve::group_of;
+use mqtt_base::Text;
 use std::marker::Model;
 
 /// What becomes of a group of shared subscriptions.
 #[derive(Drop)]
 pub struct Served {
     /// $share/NAME/FILTER.
-    pub(crate) filter: String,
+    pub(crate) filter: Text,
+    /// NAME/FILTER.
+    pub(crate) group: Text,
     pub(crate) copy: Option<RoutedCopy>,
     /// The place of the chosen member; 0 where there is none.
     pub(crate) turn: u64,
 }
 
 impl Model for Served {
-    ghost use Rattle.std.specs.Prelude.{string_bytes};
-    ghost use Rattle.mqtt_topic.specs.Filters.{group_of};
     ghost use Rattle.mqtt_routes.specs.Acceptance.{Served};
 
     ghost Value = { Served };
 
-    ghost view = { λ s. record { group = group_of (string_bytes s.filter); copy = s.copy } };
+    ghost view = { λ s. record { group = s.group; copy = s.copy } };
 }
 
 impl Served {
     /// NAME/FILTER. Takes no memory.
-    pub fn group(&self) -> &str
+    pub fn group(&self) -> &Text
         ensures { result.now ≡ self.now.group }
     {
-        group_of(self.filter.as_str())
+        &self.group
     }
 
     /// The chosen member's copy, if there was an eligible member. Takes no memory.
@@ -69,5 +70,12 @@ impl Routed {
         ensures { result.now ≡ self.now.served }
     {
         self.served.as_slice()
+    }
+
+    /// Whether somebody was there: there is a direct copy, or a group that matches. Takes no memory.
+    pub fn has_takers(&self) -> bool
+        ensures { result ≡ has_takers self.now }
+    {
+        !self.direct.is_empty() || !self.served.is_empty()
     }
 }

@@ -1,17 +1,18 @@
 //! The table of subscriptions, and where a publication goes (MQTT 5.0, 3.3.4, 3.8, 3.10, 4.8).
-ghost use Rattle.std.specs.Prelude.{◌≡◌, [], map, IfErr, IfOk, OnErr, OnOk};
+ghost use Rattle.std.specs.Prelude.{◌≡◌, ◌∷◌, ℕ, List, [], true, false, map, IfErr, IfOk, OnErr, OnOk};
 ghost use Rattle.mqtt_routes.specs.Intended.{published};
-ghost use Rattle.mqtt_routes.specs.Subscriptions.{has_filter, subs_of, subscribed, unsubscribed, without_session, RefusesPut};
+ghost use Rattle.mqtt_routes.specs.Subscriptions.{has_filter, takes_filter, subs_of, subscribed, unsubscribed, without_session, standing, filters_of, AreInOrder, RefusesPut};
 ghost use Rattle.mqtt_topic.specs.Filters.{matching_part_of};
-ghost use Rattle.mqtt_routes.specs.Retained.{retain, kept_for, RefusesRetain};
+ghost use Rattle.mqtt_routes.specs.Retained.{retain, kept_for, takes_topic, has_room_for, has_room_of, names_of, RefusesRetain};
 ghost use Rattle.mqtt_routes.specs.Acceptance.{IsRouting, RefusesRoute};
 
 use crate::answers::Sessions;
 use crate::fault::RoutesFault;
 use crate::publication::Publication;
-use crate::retained::{Kept, Retained};
+use crate::retained::{Kept, KeptTable};
 use crate::routed::Routed;
 use crate::serve::{has_room, serve};
+use crate::service::service_of;
 use crate::subscribers::Subscribers;
 use crate::subscription::Subscription;
 use mqtt_topic::{SubFilter, TopicName};
@@ -24,38 +25,70 @@ use std::marker::Model;
 pub struct Routes<M> {
     alloc: Global,
     subscribers: Subscribers,
-    retained: Retained<M>,
+    retained: KeptTable<M>,
 }
 
 impl<M> Model for Routes<M> {
-    ghost use Rattle.mqtt_routes.specs.Retained.{Table};
+    ghost use Rattle.mqtt_routes.specs.Retained.{Index};
 
-    ghost Value = { Table M };
+    ghost Value = { Index M };
 
-    ghost view = { λ r. record { sessions = r.subscribers; retained = r.retained } };
+    ghost view = { λ r. record {
+      table = record { sessions = r.subscribers.sessions; retained = r.retained.messages };
+      session_room = r.subscribers.room;
+      topic_room = r.retained.room;
+    } };
 }
 
 impl<M: Drop> Routes<M> {
     /// A table without subscriptions and messages. Filters and topics, which strangers choose, are
     /// hashed by `hasher`.
     pub fn new(alloc: Global, hasher: RandomState) -> Routes<M>
-        ensures sessions { result.sessions ≡ [] }
-        ensures retained { result.retained ≡ [] }
+        ensures sessions { result.table.sessions ≡ [] }
+        ensures retained { result.table.retained ≡ [] }
     {
         Routes {
             alloc,
             subscribers: Subscribers::new(alloc, hasher),
-            retained: Retained::new(alloc, hasher),
+            retained: KeptTable::new(alloc, hasher),
         }
     }
 
+    /// Makes room for subscriptions of a session, so that `subscribe` of each takes no memory. The
+    /// session stands in the table from then on, if need be without subscriptions. Its only fault is
+    /// 2 (Memory), and only where there was no room.
+    pub fn make_room(&mut self, birth: u64, new: &[Subscription]) -> Result<(), RoutesFault>
+        ensures ok { OnOk result (self.new.table
+            ≡ record self.old.table {
+              sessions = standing birth (filters_of new.now) self.old.table.sessions;
+            }) }
+        ensures err { OnErr result (self.new.table ≡ self.old.table) }
+        ensures room { OnOk result (has_room_for birth (filters_of new.now) self.new ≡ true) }
+        ensures fault { IfErr result (λ fault. fault ≡ RoutesFault.Memory) }
+        ensures memory { OnErr result (has_room_for birth (filters_of new.now) self.old ≡ false) }
+    {
+        self.subscribers.make_room(birth, new)
+    }
+
     /// Puts a subscription of a session: one to the same filter is replaced and keeps its place
-    /// (3.8.4). 1 (Full) where `SUBSCRIPTION_LIMIT` stand and this one is new.
+    /// (3.8.4). 1 (Full) where `SUBSCRIPTION_LIMIT` stand and this one is new, and only there.
     pub fn subscribe(&mut self, birth: u64, subscription: Subscription) -> Result<(), RoutesFault>
-        ensures ok { OnOk result (self.new
-            ≡ record self.old { sessions = subscribed birth subscription self.old.sessions }) }
-        ensures err { OnErr result (self.new ≡ self.old) }
-        ensures refused { IfErr result (RefusesPut subscription (subs_of birth self.old.sessions)) }
+        ensures ok { OnOk result (self.new.table ≡ record self.old.table {
+          sessions = subscribed birth subscription self.old.table.sessions;
+        }) }
+        ensures only { OnOk result (takes_filter subscription.filter
+            (subs_of birth self.old.table.sessions) ≡ true) }
+        ensures err { OnErr result (self.new.table ≡ self.old.table) }
+        ensures refused { IfErr result
+            (RefusesPut subscription (subs_of birth self.old.table.sessions)) }
+
+        // With room it takes no memory, and uses up its own room alone.
+        ensures memory { (rest : List (List ℕ))
+            → has_room_for birth (subscription.filter ∷ rest) self.old ≡ true
+            → IfErr result (λ fault. fault ≡ RoutesFault.Full) }
+        ensures room { (rest : List (List ℕ))
+            → has_room_for birth (subscription.filter ∷ rest) self.old ≡ true
+            → has_room_for birth rest self.new ≡ true }
     {
         self.subscribers.subscribe(birth, subscription)
     }
@@ -63,18 +96,24 @@ impl<M: Drop> Routes<M> {
     /// Removes the subscription of a session to a filter, and says whether there was one (3.10.4).
     /// Takes no memory.
     pub fn unsubscribe(&mut self, birth: u64, filter: &str) -> bool
-        ensures found { result ≡ has_filter filter.now (subs_of birth self.old.sessions) }
-        ensures after { self.new
-            ≡ record self.old { sessions = unsubscribed birth filter.now self.old.sessions } }
+        ensures found { result ≡ has_filter filter.now (subs_of birth self.old.table.sessions) }
+        ensures after { self.new.table ≡ record self.old.table {
+          sessions = unsubscribed birth filter.now self.old.table.sessions;
+        } }
     {
         self.subscribers.unsubscribe(birth, filter)
     }
 
     /// Removes the subscriptions of a session that ended. Takes no memory.
     pub fn drop_session(&mut self, birth: u64)
-        ensures { self.new
-            ≡ record self.old { sessions = without_session birth self.old.sessions } }
+        ensures after { self.new.table ≡ record self.old.table {
+          sessions = without_session birth self.old.table.sessions;
+        } }
+        ensures order { AreInOrder self.old.table.sessions }
+        ensures room { (topics : List (List ℕ)) → has_room_of topics self.old ≡ true
+            → has_room_of topics self.new ≡ true }
     {
+        self.subscribers.show_order();
         self.subscribers.drop_session(birth);
     }
 
@@ -89,16 +128,20 @@ impl<M: Drop> Routes<M> {
         at: &S,
     ) -> Result<Routed, RoutesFault>
         ensures routed { IfOk result (IsRouting (S.answers at.now)
-            (published sender.now topic.now qos retain) self.now.sessions) }
+            (published sender.now topic.now qos retain) self.now.table.sessions) }
         ensures refused { IfErr result (RefusesRoute (S.answers at.now)
-            (published sender.now topic.now qos retain) self.now.sessions) }
+            (published sender.now topic.now qos retain) self.now.table.sessions) }
+
+        // The sessions stand in the order of their births.
+        ensures order { AreInOrder self.now.table.sessions }
     {
         let publication = Publication {
             sender,
             topic,
-            qos,
+            qos: service_of(qos),
             retain,
         };
+        self.subscribers.show_order();
         let direct = self.subscribers.directs(&publication, at)?;
         if !has_room(at, direct.as_slice()) {
             return Err(RoutesFault::Full);
@@ -127,13 +170,31 @@ impl<M: Drop> Routes<M> {
         }
     }
 
+    /// Makes room for retained messages of topics, so that `retain` of each takes no memory. Its only
+    /// fault is 2 (Memory), and only where there was no room.
+    pub fn make_topic_room(&mut self, topics: &[&TopicName]) -> Result<(), RoutesFault>
+        ensures same { self.new.table ≡ self.old.table }
+        ensures room { OnOk result (has_room_of (names_of topics.now) self.new ≡ true) }
+        ensures fault { IfErr result (λ fault. fault ≡ RoutesFault.Memory) }
+        ensures memory { OnErr result (has_room_of (names_of topics.now) self.old ≡ false) }
+    {
+        self.retained.make_room(topics.len())
+    }
+
     /// Retains a message for a topic in place of the one before, or with none removes that one
-    /// (3.3.1.3). 1 (Full) where `RETAINED_LIMIT` topics have one and this topic hasn't.
+    /// (3.3.1.3). 1 (Full) where `RETAINED_LIMIT` topics have one and this topic hasn't, and only there.
     pub fn retain(&mut self, topic: TopicName, message: Option<M>) -> Result<(), RoutesFault>
-        ensures ok { OnOk result (self.new
-            ≡ record self.old { retained = retain topic message self.old.retained }) }
-        ensures err { OnErr result (self.new ≡ self.old) }
-        ensures refused { IfErr result (RefusesRetain topic message self.old.retained) }
+        ensures ok { OnOk result (self.new.table
+            ≡ record self.old.table { retained = retain topic message self.old.table.retained }) }
+        ensures only { OnOk result (takes_topic topic message self.old.table.retained ≡ true) }
+        ensures err { OnErr result (self.new.table ≡ self.old.table) }
+        ensures refused { IfErr result (RefusesRetain topic message self.old.table.retained) }
+
+        // With room it takes no memory, and uses up its own room alone.
+        ensures memory { (rest : List (List ℕ)) → has_room_of (topic ∷ rest) self.old ≡ true
+            → IfErr result (λ fault. fault ≡ RoutesFault.Full) }
+        ensures room { (rest : List (List ℕ)) → has_room_of (topic ∷ rest) self.old ≡ true
+            → has_room_of rest self.new ≡ true }
     {
         match message {
             Some(message) => self.retained.keep(topic, message),
@@ -148,7 +209,7 @@ impl<M: Drop> Routes<M> {
     /// topics were first retained (3.3.1.3). Its only fault is 2 (Memory).
     pub fn retained_for(&self, filter: &SubFilter) -> Result<Vec<&Kept<M>>, RoutesFault>
         ensures kept { IfOk result (λ found. map (λ k. k.now) found.items
-            ≡ kept_for (matching_part_of filter.now) self.now.retained) }
+            ≡ kept_for (matching_part_of filter.now) self.now.table.retained) }
         ensures fault { IfErr result (λ fault. fault ≡ RoutesFault.Memory) }
     {
         self.retained.kept_for(filter)

@@ -3,7 +3,7 @@ ghost use Rattle.std.specs.Prelude.{◌≡◌, [], IfErr, IfNone, IfOk, IfSome};
 ghost use Rattle.std.specs.List.{list_all, list_any};
 ghost use Rattle.mqtt_topic.specs.Filters.{group_of};
 ghost use Rattle.mqtt_routes.specs.Intended.{has_filter_among, in_group};
-ghost use Rattle.mqtt_routes.specs.Acceptance.{copies_of, has_room, has_room_beside, is_eligible, needs_room, shared_copy, uses, eligible_of, is_candidate, IsCandidateAt, IsServed, IsServing, RefusesOne, RefusesServing};
+ghost use Rattle.mqtt_routes.specs.Acceptance.{copies_of, served_by, has_room, has_room_beside, is_eligible, needs_room, shared_copy, uses, eligible_of, is_candidate, IsCandidateAt, IsServed, IsServing, RefusesOne, RefusesServing};
 
 use crate::answers::Sessions;
 use crate::copy::RoutedCopy;
@@ -11,6 +11,7 @@ use crate::fault::RoutesFault;
 use crate::member::Member;
 use crate::publication::Publication;
 use crate::routed::Served;
+use mqtt_base::{Qos, Text};
 use std::alloc::Global;
 
 /// Whether each session has room for its direct copy.
@@ -18,7 +19,7 @@ pub(crate) fn has_room<S: Sessions>(at: &S, copies: &[RoutedCopy]) -> bool
     ensures { result ≡ list_all (has_room (S.answers at.now)) copies.now }
 {
     for copy in copies {
-        if copy.qos() > 0 && at.room(copy.birth()) == 0 {
+        if copy.is_queued() && at.room(copy.birth()) == 0 {
             return false;
         }
     }
@@ -31,7 +32,7 @@ fn uses(birth: u64, copies: &[RoutedCopy]) -> usize
 {
     let mut count: usize = 0;
     for copy in copies {
-        if copy.qos() > 0 && copy.birth() == birth {
+        if copy.is_queued() && copy.birth() == birth {
             count += 1;
         }
     }
@@ -45,7 +46,7 @@ fn uses_served(birth: u64, served: &[Served]) -> usize
     let mut count: usize = 0;
     for one in served {
         if let Some(copy) = one.copy() {
-            if copy.qos() > 0 && copy.birth() == birth {
+            if copy.is_queued() && copy.birth() == birth {
                 count += 1;
             }
         }
@@ -72,7 +73,11 @@ fn needs_room(publication: &Publication<'_>, member: &Member<'_>) -> bool
     ensures { result ≡ needs_room publication.now member.now }
 {
     let row = member.row;
-    publication.granted(&row.subscription) > 0
+    match publication.granted_qos(&row.subscription) {
+        Qos::AtMostOnce => false,
+        Qos::AtLeastOnce => true,
+        Qos::ExactlyOnce => true,
+    }
 }
 
 /// Whether a member lacks nothing beside copies.
@@ -230,42 +235,62 @@ fn candidate<S: Sessions>(
     }
 }
 
+/// The text of a group, NAME/FILTER of a shared filter.
+fn group_text(alloc: Global, whole: &Text) -> Result<Text, RoutesFault>
+    ensures group { IfOk result (λ text. text ≡ group_of whole.now) }
+    ensures fault { IfErr result (λ fault. fault ≡ RoutesFault.Memory) }
+{
+    let group = group_of(whole.as_str());
+    Ok(Text::new(alloc, group)?)
+}
+
+/// What becomes of a group, with its texts.
+fn served(
+    alloc: Global,
+    whole: &Text,
+    copy: Option<RoutedCopy>,
+    turn: u64,
+) -> Result<Served, RoutesFault>
+    ensures served { IfOk result (λ one. one ≡ served_by whole.now copy) }
+    ensures fault { IfErr result (λ fault. fault ≡ RoutesFault.Memory) }
+{
+    let group = group_text(alloc, whole)?;
+    let filter = whole.clone()?;
+    Ok(Served {
+        filter,
+        group,
+        copy,
+        turn,
+    })
+}
+
 /// Serves one group, named by its filter.
 fn serve_one<S: Sessions>(
     alloc: Global,
     at: &S,
     publication: &Publication<'_>,
     direct: &[RoutedCopy],
-    served: &[Served],
+    before: &[Served],
     members: &[Member<'_>],
-    filter: &str,
+    whole: &Text,
     turn: u64,
 ) -> Result<Served, RoutesFault>
-    ensures served { IfOk result (IsServed (S.answers at.now) publication.now direct.now served.now
-        filter.now members.now) }
+    ensures served { IfOk result (IsServed (S.answers at.now) publication.now direct.now before.now
+        whole.now members.now) }
     ensures refused { IfErr result (RefusesOne (S.answers at.now) publication.now direct.now
-        served.now filter.now members.now) }
+        before.now whole.now members.now) }
 {
-    let text = String::from_str(alloc, filter)?;
-    let Some(i) = candidate(at, publication, direct, served, filter, members, turn) else {
+    let filter = whole.as_str();
+    let Some(i) = candidate(at, publication, direct, before, filter, members, turn) else {
         if group_needs_room(publication, filter, members) {
             return Err(RoutesFault::Full);
         }
-        return Ok(Served {
-            filter: text,
-            copy: None,
-            turn: 0,
-        });
+        return served(alloc, whole, None, 0);
     };
     let member = &members[i];
     let copy = shared_copy(alloc, publication, member)?;
     let row = member.row;
-    let turn = row.subscription.place;
-    Ok(Served {
-        filter: text,
-        copy: Some(copy),
-        turn,
-    })
+    served(alloc, whole, Some(copy), row.subscription.place)
 }
 
 /// Serves the groups in the order of their oldest members.
@@ -284,8 +309,8 @@ pub(crate) fn serve<S: Sessions>(
     let mut served = Vec::new(alloc);
     for (i, member) in members.iter().enumerate() {
         let row = member.row;
-        let filter = row.subscription.filter.as_str();
-        if !has_filter_among(&members[..i], filter) {
+        let filter = row.subscription.filter.text();
+        if !has_filter_among(&members[..i], filter.as_str()) {
             let one = serve_one(
                 alloc,
                 at,

@@ -1,8 +1,8 @@
 //! The subscriptions of one session (MQTT 5.0, 3.8, 3.10).
-ghost use Rattle.std.specs.Prelude.{◌≡◌, [], false, IfErr, IfOk, OnErr, OnOk};
+ghost use Rattle.std.specs.Prelude.{◌≡◌, ◌+◌, ◌<◌, ◌≤◌, [], false, true, IfErr, IfOk, OnErr, OnOk};
 ghost use Rattle.std.specs.Option.{option_to_list};
 ghost use Rattle.mqtt_routes.specs.Intended.{copies_for, hits_of, members_with};
-ghost use Rattle.mqtt_routes.specs.Subscriptions.{has_filter, put, without, RefusesPut};
+ghost use Rattle.mqtt_routes.specs.Subscriptions.{has_filter, takes_filter, put, without, RefusesPut};
 
 use crate::answers::Sessions;
 use crate::copy::RoutedCopy;
@@ -25,13 +25,14 @@ pub(crate) struct Subscriptions {
 }
 
 impl Model for Subscriptions {
-    ghost use Rattle.std.specs.Prelude.{List, ◌≤◌, length};
+    ghost use Rattle.std.specs.Prelude.{◌≤◌, length};
     ghost use Rattle.mqtt_base.specs.declared.limits.TheConstants.{SUBSCRIPTION_LIMIT};
-    ghost use Rattle.mqtt_routes.specs.declared.subscription.Subscription.{Subscription};
+    ghost use Rattle.indexmap.specs.IndexSet.{spare};
+    ghost use Rattle.mqtt_routes.specs.Subscriptions.{Held};
 
-    ghost Value = { List Subscription };
+    ghost Value = { Held };
 
-    ghost view = { λ s. s.rows.keys };
+    ghost view = { λ s. record { subs = s.rows.keys; room = spare s.rows } };
 
     ghost invariant = { λ s. length s.rows.keys ≤ SUBSCRIPTION_LIMIT };
 }
@@ -39,19 +40,33 @@ impl Model for Subscriptions {
 impl Subscriptions {
     /// No subscription.
     pub(crate) fn new(alloc: Global, hasher: RandomState) -> Subscriptions
-        ensures { result ≡ [] }
+        ensures { result.subs ≡ [] }
     {
         Subscriptions {
             rows: IndexSet::with_hasher(alloc, hasher),
         }
     }
 
+    /// Makes room for so many subscriptions.
+    pub(crate) fn make_room(&mut self, count: usize) -> Result<(), RoutesFault>
+        ensures same { self.new.subs ≡ self.old.subs }
+        ensures ok { OnOk result (count ≤ self.new.room) }
+        ensures kept { self.old.room ≤ self.new.room }
+        ensures fault { IfErr result (λ fault. fault ≡ RoutesFault.Memory) }
+        ensures memory { OnErr result (self.old.room < count) }
+    {
+        Ok(self.rows.reserve(count)?)
+    }
+
     /// Puts a subscription to a filter that has none, as the last.
     fn push(&mut self, subscription: Subscription) -> Result<(), RoutesFault>
-        requires { has_filter subscription.filter self.old ≡ false }
-        ensures ok { OnOk result (self.new ≡ put subscription self.old) }
-        ensures err { OnErr result (self.new ≡ self.old) }
-        ensures refused { IfErr result (RefusesPut subscription self.old) }
+        requires { has_filter subscription.filter self.old.subs ≡ false }
+        ensures ok { OnOk result (self.new.subs ≡ put subscription self.old.subs) }
+        ensures only { OnOk result (takes_filter subscription.filter self.old.subs ≡ true) }
+        ensures err { OnErr result (self.new.subs ≡ self.old.subs) }
+        ensures refused { IfErr result (RefusesPut subscription self.old.subs) }
+        ensures memory { 0 < self.old.room → IfErr result (λ fault. fault ≡ RoutesFault.Full) }
+        ensures room { self.old.room ≤ self.new.room + 1 }
     {
         if self.rows.len() >= SUBSCRIPTION_LIMIT {
             return Err(RoutesFault::Full);
@@ -63,9 +78,12 @@ impl Subscriptions {
 
     /// Puts a subscription in place of the one to the same filter, or as the last.
     pub(crate) fn put(&mut self, subscription: Subscription) -> Result<(), RoutesFault>
-        ensures ok { OnOk result (self.new ≡ put subscription self.old) }
-        ensures err { OnErr result (self.new ≡ self.old) }
-        ensures refused { IfErr result (RefusesPut subscription self.old) }
+        ensures ok { OnOk result (self.new.subs ≡ put subscription self.old.subs) }
+        ensures only { OnOk result (takes_filter subscription.filter self.old.subs ≡ true) }
+        ensures err { OnErr result (self.new.subs ≡ self.old.subs) }
+        ensures refused { IfErr result (RefusesPut subscription self.old.subs) }
+        ensures memory { 0 < self.old.room → IfErr result (λ fault. fault ≡ RoutesFault.Full) }
+        ensures room { self.old.room ≤ self.new.room + 1 }
     {
         let Some(row) = self.rows.get(subscription.filter.as_str()) else {
             return self.push(subscription);
@@ -82,8 +100,9 @@ impl Subscriptions {
 
     /// Removes the subscription to a filter, if there is one. Takes no memory.
     pub(crate) fn remove(&mut self, filter: &str) -> bool
-        ensures found { result ≡ has_filter filter.now self.old }
-        ensures after { self.new ≡ without filter.now self.old }
+        ensures found { result ≡ has_filter filter.now self.old.subs }
+        ensures after { self.new.subs ≡ without filter.now self.old.subs }
+        ensures room { self.old.room ≤ self.new.room }
     {
         self.rows.shift_remove(filter)
     }
@@ -97,7 +116,7 @@ impl Subscriptions {
         birth: u64,
     ) -> Result<Option<RoutedCopy>, RoutesFault>
         ensures copy { IfOk result (λ copy. option_to_list copy
-            ≡ copies_for publication.now birth (hits_of (S.answers at.now) publication.now birth self.now)) }
+            ≡ copies_for publication.now birth (hits_of (S.answers at.now) publication.now birth self.now.subs)) }
         ensures fault { IfErr result (λ fault. fault ≡ RoutesFault.Memory) }
     {
         let mut copy = RoutedCopy::new(alloc, birth);
@@ -120,7 +139,7 @@ impl Subscriptions {
         members: &mut Vec<Member<'a>>,
     ) -> Result<(), RoutesFault>
         ensures ok { OnOk result (members.new.items
-            ≡ members_with publication.now birth self.now members.old.items) }
+            ≡ members_with publication.now birth self.now.subs members.old.items) }
         ensures fault { IfErr result (λ fault. fault ≡ RoutesFault.Memory) }
     {
         for row in self.rows.as_slice() {

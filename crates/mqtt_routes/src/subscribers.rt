@@ -1,7 +1,7 @@
 //! The subscriptions of all sessions, by birth (MQTT 5.0, 3.8, 3.10).
-ghost use Rattle.std.specs.Prelude.{◌≡◌, ◌<◌, [], length, slice_get, Some, IfErr, IfOk, OnErr, OnOk};
+ghost use Rattle.std.specs.Prelude.{◌≡◌, ◌<◌, ◌∷◌, [], ℕ, List, false, true, length, slice_get, Some, IfErr, IfOk, OnErr, OnOk};
 ghost use Rattle.mqtt_routes.specs.Intended.{directs, members};
-ghost use Rattle.mqtt_routes.specs.Subscriptions.{has_filter, spot_of, subs_of, subscriber, subscribed, unsubscribed, without_session, RefusesPut};
+ghost use Rattle.mqtt_routes.specs.Subscriptions.{has_filter, takes_filter, spot_of, subs_of, subscriber, subscribed, unsubscribed, without_session, standing, filters_of, have_room, AreInOrder, RefusesPut};
 
 use crate::answers::Sessions;
 use crate::copy::RoutedCopy;
@@ -27,12 +27,11 @@ pub(crate) struct Subscribers {
 }
 
 impl Model for Subscribers {
-    ghost use Rattle.std.specs.Prelude.{List};
-    ghost use Rattle.mqtt_routes.specs.Subscriptions.{Subscriber, subscribers, AreInOrder};
+    ghost use Rattle.mqtt_routes.specs.Subscriptions.{HeldSessions, subscribers, rooms, AreInOrder};
 
-    ghost Value = { List Subscriber };
+    ghost Value = { HeldSessions };
 
-    ghost view = { λ s. subscribers s.sessions.entries };
+    ghost view = { λ s. record { sessions = subscribers s.sessions.entries; room = rooms s.sessions.entries } };
 
     ghost invariant = { λ s. AreInOrder (subscribers s.sessions.entries) };
 }
@@ -40,7 +39,7 @@ impl Model for Subscribers {
 impl Subscribers {
     /// No session.
     pub(crate) fn new(alloc: Global, hasher: RandomState) -> Subscribers
-        ensures { result ≡ [] }
+        ensures { result.sessions ≡ [] }
     {
         Subscribers {
             alloc,
@@ -51,12 +50,33 @@ impl Subscribers {
 
     /// Where a session stands, or would stand.
     fn spot(&self, birth: u64) -> usize
-        ensures { result ≡ spot_of birth self.now }
+        ensures { result ≡ spot_of birth self.now.sessions }
     {
         self.sessions
             .keys()
             .as_slice()
             .partition_point(|other| *other < birth)
+    }
+
+    /// Makes room for subscriptions of a session, which stands in the table from then on.
+    pub(crate) fn make_room(&mut self, birth: u64, new: &[Subscription]) -> Result<(), RoutesFault>
+        ensures ok { OnOk result (self.new.sessions ≡ standing birth (filters_of new.now) self.old.sessions) }
+        ensures err { OnErr result (self.new.sessions ≡ self.old.sessions) }
+        ensures room { OnOk result (have_room birth (filters_of new.now) self.new.room ≡ true) }
+        ensures fault { IfErr result (λ fault. fault ≡ RoutesFault.Memory) }
+        ensures memory { OnErr result (have_room birth (filters_of new.now) self.old.room ≡ false) }
+    {
+        if new.is_empty() {
+            return Ok(());
+        }
+        if let Some(subscriptions) = self.sessions.get_mut(&birth) {
+            return subscriptions.make_room(new.len());
+        }
+        let mut subscriptions = Subscriptions::new(self.alloc, self.hasher);
+        subscriptions.make_room(new.len())?;
+        let i = self.spot(birth);
+        self.sessions.shift_insert(i, birth, subscriptions)?;
+        Ok(())
     }
 
     /// Puts a subscription of a session.
@@ -65,9 +85,18 @@ impl Subscribers {
         birth: u64,
         subscription: Subscription,
     ) -> Result<(), RoutesFault>
-        ensures ok { OnOk result (self.new ≡ subscribed birth subscription self.old) }
-        ensures err { OnErr result (self.new ≡ self.old) }
-        ensures refused { IfErr result (RefusesPut subscription (subs_of birth self.old)) }
+        ensures ok { OnOk result (self.new.sessions
+            ≡ subscribed birth subscription self.old.sessions) }
+        ensures only { OnOk result (takes_filter subscription.filter
+            (subs_of birth self.old.sessions) ≡ true) }
+        ensures err { OnErr result (self.new.sessions ≡ self.old.sessions) }
+        ensures refused { IfErr result (RefusesPut subscription (subs_of birth self.old.sessions)) }
+        ensures memory { (rest : List (List ℕ))
+            → have_room birth (subscription.filter ∷ rest) self.old.room ≡ true
+            → IfErr result (λ fault. fault ≡ RoutesFault.Full) }
+        ensures room { (rest : List (List ℕ))
+            → have_room birth (subscription.filter ∷ rest) self.old.room ≡ true
+            → have_room birth rest self.new.room ≡ true }
     {
         if let Some(subscriptions) = self.sessions.get_mut(&birth) {
             return subscriptions.put(subscription);
@@ -81,8 +110,8 @@ impl Subscribers {
 
     /// Removes the subscription of a session to a filter, if there is one. Takes no memory.
     pub(crate) fn unsubscribe(&mut self, birth: u64, filter: &str) -> bool
-        ensures found { result ≡ has_filter filter.now (subs_of birth self.old) }
-        ensures after { self.new ≡ unsubscribed birth filter.now self.old }
+        ensures found { result ≡ has_filter filter.now (subs_of birth self.old.sessions) }
+        ensures after { self.new.sessions ≡ unsubscribed birth filter.now self.old.sessions }
     {
         let Some(subscriptions) = self.sessions.get_mut(&birth) else {
             return false;
@@ -92,15 +121,22 @@ impl Subscribers {
 
     /// Removes the subscriptions of a session. Takes no memory.
     pub(crate) fn drop_session(&mut self, birth: u64)
-        ensures { self.new ≡ without_session birth self.old }
+        ensures { self.new.sessions ≡ without_session birth self.old.sessions }
     {
         let _subscriptions = self.sessions.shift_remove(&birth);
     }
 
+    /// Shows that the sessions are in the order of their births. Takes no memory.
+    pub(crate) fn show_order(&self)
+        ensures { AreInOrder self.now.sessions }
+    {
+        let _sessions = &self.sessions;
+    }
+
     /// The session at a place.
     fn session_at(&self, i: usize) -> (u64, &Subscriptions)
-        requires { i < length self.now }
-        ensures { slice_get self.now i ≡ Some (subscriber result.0 result.1.now) }
+        requires { i < length self.now.sessions }
+        ensures { slice_get self.now.sessions i ≡ Some (subscriber result.0 result.1.now.subs) }
     {
         let (birth, subscriptions) = self.sessions.get_index(i).unwrap();
         (*birth, subscriptions)
@@ -113,7 +149,7 @@ impl Subscribers {
         at: &S,
     ) -> Result<Vec<RoutedCopy>, RoutesFault>
         ensures copies { IfOk result (λ copies. copies.items
-            ≡ directs (S.answers at.now) publication.now self.now) }
+            ≡ directs (S.answers at.now) publication.now self.now.sessions) }
         ensures fault { IfErr result (λ fault. fault ≡ RoutesFault.Memory) }
     {
         let mut copies = Vec::new(self.alloc);
@@ -131,7 +167,7 @@ impl Subscribers {
         &'a self,
         publication: &Publication<'_>,
     ) -> Result<Vec<Member<'a>>, RoutesFault>
-        ensures members { IfOk result (λ found. found.items ≡ members publication.now self.now) }
+        ensures members { IfOk result (λ found. found.items ≡ members publication.now self.now.sessions) }
         ensures fault { IfErr result (λ fault. fault ≡ RoutesFault.Memory) }
     {
         let mut found = Vec::new(self.alloc);

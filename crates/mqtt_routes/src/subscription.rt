@@ -1,4 +1,5 @@
 //! What a client asked for (MQTT 5.0, 3.8.2.1.2, 3.8.3.1).
+use mqtt_base::SubscriptionOptions;
 use mqtt_topic::SubFilter;
 
 /// A subscription of a session (3.8).
@@ -8,12 +9,8 @@ pub struct Subscription {
     pub filter: SubFilter,
     /// The number of the grant that first brought the filter, from 1 in the order of grants.
     pub place: u64,
-    /// Maximum QoS, from 0 to 2.
-    pub qos: u8,
-    /// No Local: not for the client's own messages.
-    pub no_local: bool,
-    /// Retain As Published: RETAIN is passed on.
-    pub retain_as_published: bool,
+    /// Maximum QoS, No Local and Retain As Published; Retain Handling has no part in routing.
+    pub options: SubscriptionOptions,
     /// Subscription Identifier, from 1; none where there was none.
     pub identifier: Option<u32>,
 }

@@ -10,7 +10,7 @@ use Rattle.mqtt_base.specs.declared.session.Cause.TheVariants.{Direct, Share}
 use Rattle.mqtt_topic.specs.Filters.{group_of}
 use Rattle.mqtt_routes.specs.declared.subscription.Subscription.{Subscription as RoutedSubscription}
 use Rattle.mqtt_routes.specs.Subscriptions.{Subscriber}
-use Rattle.mqtt_routes.specs.Intended.{Publication, Answers, Copy, Member, granted, copies_for, copy_for, hits_of, directs, members, in_group, groups}
+use Rattle.mqtt_routes.specs.Intended.{Publication, Answers, Copy, Member, granted_qos, copies_for, copy_for, hits_of, directs, members, in_group, groups}
 use Rattle.mqtt_routes.specs.Acceptance.{Served, Routed, copies_in, copies_of, uses, needs_room, has_room_beside, is_eligible, later_choices, first_choice, chosen, shared_copy, outcome, eligible_of, serve_one, serve, has_room, with_direct, routed_beside}
 use Rattle.mqtt_routes.specs.Acceptance as acceptance
 use Rattle.mqtt_records.specs.declared.session.Session.{Session}
@@ -140,7 +140,7 @@ one_within at p birth direct served m is within =
       | inl so ↦
           let parts = both_true (acceptance.is_queued c) (nat_eq m.birth birth) so in
           let positive : 0 < c.qos = ltb-true 0 c.qos parts.0 in
-          let needs : needs_room p m ≡ true = lt-ltb 0 (granted p m.sub) (omega (arith, positive)) in
+          let needs : needs_room p m ≡ true = lt-ltb 0 (granted_qos p m.sub) (omega (arith, positive)) in
           let less = eligible_room at p direct served m is needs in
           let here : m.birth ≡ birth = eqb-true m.birth birth parts.1 in
           let room_here : uses birth direct + uses birth (copies_of served) < at.room birth = subst (λ (n : ℕ). uses n direct + uses n (copies_of served) < at.room n) here less in

@@ -8,7 +8,7 @@ use Rattle.mqtt_codec.specs.declared.publish.Publish.{Publish}
 use Rattle.mqtt_codec.specs.Publish.{delivery_qos}
 use Rattle.mqtt_topic.specs.Names.{is_topic_name, is_empty}
 use Rattle.mqtt_topic.specs.declared.fault.TopicFault.{TopicFault}
-use Rattle.mqtt_topic.specs.declared.fault.TopicFault.TheVariants.{Empty, WildcardInName, WildcardPlace, Share, AliasRange, AliasUnknown, Memory}
+use Rattle.mqtt_topic.specs.declared.fault.TopicFault.TheVariants.{Empty, WildcardInName, WildcardPlace, Share, AliasRange, AliasUnknown, Memory, NotText}
 use Rattle.mqtt_topic.specs.Aliases.{AliasTable, topic_of}
 use Rattle.mqtt_flow.specs.declared.entry.Turn.{Turn}
 use Rattle.mqtt_flow.specs.declared.inflow.Published.{Published}
@@ -70,6 +70,7 @@ topic_code Share = topic_name_invalid
 topic_code AliasRange = topic_alias_invalid
 topic_code AliasUnknown = protocol_error
 topic_code Memory = unspecified_error
+topic_code NotText = topic_name_invalid
 
 -- an alias that comes with a topic is set
 abbrev pub sets_alias : Bool → Option ℕ → ℕ → List ℕ → List Deed

@@ -29,9 +29,7 @@ abbrev pub routed_subscription : Subscription → RoutedSubscription
 routed_subscription s = record {
   filter = s.filter;
   place = s.place;
-  qos = qos_number s.options.qos;
-  no_local = s.options.no_local;
-  retain_as_published = s.options.retain_as_published;
+  options = s.options;
   identifier = s.identifier;
 }
 

@@ -1,10 +1,11 @@
 -- Lemmas on the table of topic aliases (MQTT 5.0, 3.3.2.3.4).
-use Rattle.std.proofs.Common.{◌≡◌, ℕ, true, false, cond, List, [], ◌∷◌, length, refl, sym, ap, subst, ◌∙◌, eqb, nat_eq, Option, Some, Result, Ok, Err, is_ok, OnOk, IfOk, IfErr}
-use Rattle.std.specs.Map.{lookup}
+use Rattle.std.proofs.Common.{◌≡◌, ℕ, Bool, arith, true, false, cond, List, [], ◌∷◌, length, refl, sym, ap, subst, ◌∙◌, eqb, nat_eq, Option, Some, None, Result, Ok, Err, is_ok, is_some, OnOk, OnErr, IfOk, IfErr}
+use Rattle.std.proofs.lemmas.Bool.Decides.{nat_tests}
+use Rattle.std.specs.Map.{lookup, remove_entry}
 use Rattle.indexmap.specs.IndexMap.{insert_entry}
 use Rattle.mqtt_topic.specs.declared.fault.TopicFault.{TopicFault}
 use Rattle.mqtt_topic.specs.declared.fault.TopicFault.TheVariants.{Memory}
-use Rattle.mqtt_topic.specs.Aliases.{AliasTable, topic_of, with_topic, after_resolve, RefusesTopic}
+use Rattle.mqtt_topic.specs.Aliases.{AliasTable, topic_of, with_topic, without_topic, restored, after_resolve, RefusesTopic}
 
 -- the look-up and the entry of the map are the table's
 pub topic_of-lookup : (alias : ℕ) (topics : List (ℕ × List ℕ)) → lookup (nat_eq alias) topics ≡ topic_of alias topics
@@ -32,3 +33,35 @@ copy_is_known o known (Err fault) e h = tt
 pub refuses_copy : (table : AliasTable) (alias : ℕ) (known : List ℕ) (r : Result (List ℕ) TopicFault) → topic_of alias table.topics ≡ Some known → IfErr r (λ fault. fault ≡ Memory) → IfErr r (RefusesTopic table [] alias)
 refuses_copy table alias known (Ok name) e h = tt
 refuses_copy table alias known (Err fault) e h = subst (RefusesTopic table [] alias) (sym h) (known, e)
+
+-- what the map leaves
+pub without_topic-entry : (alias : ℕ) (topics : List (ℕ × List ℕ)) → remove_entry (nat_eq alias) topics ≡ without_topic alias topics
+without_topic-entry alias [] = refl
+without_topic-entry alias (e ∷ es) = ap (λ (rest : List (ℕ × List ℕ)). cond (nat_eq alias e.0) es (e ∷ rest)) (without_topic-entry alias es)
+
+-- what is there is put again without memory
+pub ok_where_there : {X E Y : Type 0} (r : Result X E) (o : Option Y) → is_some o ≡ true → OnErr r (o ≡ None) → is_ok r ≡ true
+ok_where_there (Ok x) o some absent = refl
+ok_where_there (Err x) o some absent = let none : is_some o ≡ false = ap is_some absent in cc
+
+-- the value of an answer that is there
+pub value_at_ok : {X E : Type 0} (P : X → Type 0) (r : Result X E) (x : X) → r ≡ Ok x → IfOk r P → P x
+value_at_ok P (Ok y) x e h = let same : y ≡ x = cc in subst P same h
+value_at_ok P (Err y) x e h = cc
+
+back_by : (b : Bool) (alias : ℕ) (topic : List ℕ) (e : ℕ × List ℕ) (es : List (ℕ × List ℕ)) → nat_eq alias e.0 ≡ b → restored alias (topic_of alias es) (with_topic alias topic es) ≡ es
+    → restored alias (cond b (Some e.1) (topic_of alias es)) (cond b ((e.0, topic) ∷ es) (e ∷ with_topic alias topic es)) ≡ e ∷ es
+back_by true alias topic e es at more = rw at refl
+back_by false alias topic e es at more = back_later (topic_of alias es) more
+  where
+    back_later : (o : Option (List ℕ)) → restored alias o (with_topic alias topic es) ≡ es → restored alias o (e ∷ with_topic alias topic es) ≡ e ∷ es
+    back_later None h = rw at (ap (λ (rest : List (ℕ × List ℕ)). e ∷ rest) h)
+    back_later (Some before) h = rw at (ap (λ (rest : List (ℕ × List ℕ)). e ∷ rest) h)
+
+own : (n : ℕ) → nat_eq n n ≡ true
+own n = grind (arith, nat_tests)
+
+-- a topic that was set, taken back
+pub restored-with_topic : (alias : ℕ) (topic : List ℕ) (topics : List (ℕ × List ℕ)) → restored alias (topic_of alias topics) (with_topic alias topic topics) ≡ topics
+restored-with_topic alias topic [] = rw (own alias) refl
+restored-with_topic alias topic (e ∷ es) = back_by (nat_eq alias e.0) alias topic e es refl (restored-with_topic alias topic es)

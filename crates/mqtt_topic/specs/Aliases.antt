@@ -9,6 +9,11 @@ pub record AliasTable : Type 0 where
   pub max : ℕ
   pub topics : List (ℕ × List ℕ)
 
+-- a table, and how many further aliases it takes without memory
+pub record KeptAliases : Type 0 where
+  pub table : AliasTable
+  pub room : ℕ
+
 abbrev pub no_aliases : ℕ → AliasTable
 no_aliases max = record { max = max; topics = [] }
 
@@ -21,6 +26,19 @@ topic_of alias (e ∷ es) = cond (nat_eq alias e.0) (Some e.1) (topic_of alias e
 abbrev pub with_topic : ℕ → List ℕ → List (ℕ × List ℕ) → List (ℕ × List ℕ)
 with_topic alias topic [] = (alias, topic) ∷ []
 with_topic alias topic (e ∷ es) = cond (nat_eq alias e.0) ((e.0, topic) ∷ es) (e ∷ with_topic alias topic es)
+
+-- an alias stands for nothing
+abbrev pub without_topic : ℕ → List (ℕ × List ℕ) → List (ℕ × List ℕ)
+without_topic alias [] = []
+without_topic alias (e ∷ es) = cond (nat_eq alias e.0) es (e ∷ without_topic alias es)
+
+-- an alias stands for what it stood for before, if it stood for something
+abbrev pub restored : ℕ → Option (List ℕ) → List (ℕ × List ℕ) → List (ℕ × List ℕ)
+restored alias None topics = without_topic alias topics
+restored alias (Some topic) topics = with_topic alias topic topics
+
+abbrev pub with_topics : AliasTable → List (ℕ × List ℕ) → AliasTable
+with_topics table topics = record { max = table.max; topics = topics }
 
 -- an alias is from 1 to the greatest
 pub record IsInRange (max alias : ℕ) : Type 0 where

@@ -2,7 +2,8 @@
 use Rattle.std.specs.Prelude.{◌≡◌, ◌≢◌, ℕ, Bool, true, false, cond, not, ◌&&◌, ◌||◌, ◌⊎◌, List, [], ◌∷◌, ◌++◌, bytes_eq, codes}
 use Rattle.std.specs.List.{All, AllByRecursion, after_first, before_first}
 use Rattle.mqtt_topic.specs.declared.fault.TopicFault.{TopicFault}
-use Rattle.mqtt_topic.specs.declared.fault.TopicFault.TheVariants.{Empty, WildcardInName, WildcardPlace, Share, AliasRange, AliasUnknown, Memory}
+use Rattle.mqtt_topic.specs.declared.fault.TopicFault.TheVariants.{Empty, WildcardInName, WildcardPlace, Share, AliasRange, AliasUnknown, Memory, NotText}
+use Rattle.mqtt_base.specs.Values.{FitsText}
 use Rattle.mqtt_topic.specs.Levels.{slash, is_slash, levels, is_none_left}
 use Rattle.mqtt_topic.specs.Names.{plus, hash, is_empty, has_wildcard, is_topic_name, IsTopicName}
 
@@ -72,7 +73,8 @@ RefusesFilter text WildcardPlace = (text ≢ []) × (begins_share text ≡ false
 RefusesFilter text Share = (begins_share text ≡ true) × (is_filter text ≡ false)
 RefusesFilter text AliasRange = ⊥
 RefusesFilter text AliasUnknown = ⊥
-RefusesFilter text Memory = is_filter text ≡ true
+RefusesFilter text Memory = (is_filter text ≡ true) × FitsText text
+RefusesFilter text NotText = (is_filter text ≡ true) × ¬ FitsText text
 
 -- why a text is no shared filter
 abbrev pub RefusesShared : List ℕ → TopicFault → Type 0
@@ -82,7 +84,8 @@ RefusesShared text WildcardPlace = ⊥
 RefusesShared text Share = is_shared_filter text ≡ false
 RefusesShared text AliasRange = ⊥
 RefusesShared text AliasUnknown = ⊥
-RefusesShared text Memory = is_shared_filter text ≡ true
+RefusesShared text Memory = (is_shared_filter text ≡ true) × FitsText text
+RefusesShared text NotText = (is_shared_filter text ≡ true) × ¬ FitsText text
 
 -- ---- the same in the standard's words
 

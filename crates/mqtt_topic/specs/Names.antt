@@ -2,7 +2,8 @@
 use Rattle.std.specs.Prelude.{◌≡◌, ◌≢◌, ℕ, Bool, true, false, not, ◌&&◌, ◌||◌, List, [], ◌∷◌, nat_eq}
 use Rattle.std.specs.List.{list_any}
 use Rattle.mqtt_topic.specs.declared.fault.TopicFault.{TopicFault}
-use Rattle.mqtt_topic.specs.declared.fault.TopicFault.TheVariants.{Empty, WildcardInName, WildcardPlace, Share, AliasRange, AliasUnknown, Memory}
+use Rattle.mqtt_topic.specs.declared.fault.TopicFault.TheVariants.{Empty, WildcardInName, WildcardPlace, Share, AliasRange, AliasUnknown, Memory, NotText}
+use Rattle.mqtt_base.specs.Values.{FitsText}
 
 -- the single-level and the multi-level wildcard
 abbrev pub plus : ℕ
@@ -30,6 +31,17 @@ pub record IsTopicName (text : List ℕ) : Type 0 where
   pub some : text ≢ []
   pub plain : has_wildcard text ≡ false
 
+-- why packets can't carry a text: above 65,535 bytes or U+0000 (1.5.4, 4.7.3)
+abbrev pub RefusesText : List ℕ → TopicFault → Type 0
+RefusesText text Empty = ⊥
+RefusesText text WildcardInName = ⊥
+RefusesText text WildcardPlace = ⊥
+RefusesText text Share = ⊥
+RefusesText text AliasRange = ⊥
+RefusesText text AliasUnknown = ⊥
+RefusesText text Memory = FitsText text
+RefusesText text NotText = ¬ FitsText text
+
 -- why a text is no topic name; memory is wanted for topic names alone
 abbrev pub RefusesName : List ℕ → TopicFault → Type 0
 RefusesName text Empty = text ≡ []
@@ -38,4 +50,5 @@ RefusesName text WildcardPlace = ⊥
 RefusesName text Share = ⊥
 RefusesName text AliasRange = ⊥
 RefusesName text AliasUnknown = ⊥
-RefusesName text Memory = IsTopicName text
+RefusesName text Memory = IsTopicName text × FitsText text
+RefusesName text NotText = IsTopicName text × ¬ FitsText text

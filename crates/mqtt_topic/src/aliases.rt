@@ -1,10 +1,11 @@
 //! Topic aliases of a connection (MQTT 5.0, 3.3.2.3.4).
-ghost use Rattle.std.specs.Prelude.{◌≡◌, [], Some, IfErr, IfOk, OnErr, OnOk};
-ghost use Rattle.mqtt_topic.specs.Aliases.{Resolves, RefusesAlias, RefusesTopic, topic_of, after_resolve, no_aliases};
+ghost use Rattle.std.specs.Prelude.{◌≡◌, ◌<◌, [], Some, IfErr, IfOk, IsSome, OnErr, OnOk, option_copied};
+ghost use Rattle.mqtt_topic.specs.Aliases.{Resolves, RefusesAlias, RefusesTopic, IsInRange, topic_of, with_topic, with_topics, restored, after_resolve, no_aliases};
 
 use crate::fault::TopicFault;
-use crate::name::TopicName;
+use crate::name::{TopicName, name_of};
 use indexmap::IndexMap;
+use mqtt_base::Text;
 use std::alloc::Global;
 use std::marker::Model;
 
@@ -17,17 +18,18 @@ pub struct Aliases {
 }
 
 impl Model for Aliases {
-    ghost use Rattle.mqtt_topic.specs.Aliases.{AliasTable};
+    ghost use Rattle.indexmap.specs.IndexMap.{spare};
+    ghost use Rattle.mqtt_topic.specs.Aliases.{KeptAliases};
 
-    ghost Value = { AliasTable };
+    ghost Value = { KeptAliases };
 
-    ghost view = { λ a. record { max = a.max; topics = a.topics.entries } };
+    ghost view = { λ a. record { table = record { max = a.max; topics = a.topics.entries }; room = spare a.topics } };
 }
 
 impl Aliases {
     /// A table in which no alias stands for a topic; `max` is the greatest alias.
     pub fn new(alloc: Global, max: u16) -> Aliases
-        ensures { result ≡ no_aliases max }
+        ensures { result.table ≡ no_aliases max }
     {
         Aliases {
             max,
@@ -36,31 +38,63 @@ impl Aliases {
         }
     }
 
-    /// The topic that an alias stands for.
-    fn known(&self, alias: u16) -> Result<TopicName, TopicFault>
-        ensures known { IfOk result (λ name. topic_of alias self.now.topics ≡ Some name) }
-        ensures refused { IfErr result (RefusesTopic self.now [] alias) }
+    /// The topic that an alias stands for. Takes no memory.
+    pub fn look(&self, alias: u16) -> Option<&TopicName>
+        ensures { option_copied result ≡ topic_of alias self.now.table.topics }
     {
-        match self.topics.get(&alias) {
+        self.topics.get(&alias)
+    }
+
+    /// A copy of the topic that an alias stands for.
+    fn known(&self, alias: u16) -> Result<TopicName, TopicFault>
+        ensures known { IfOk result (λ name. topic_of alias self.now.table.topics ≡ Some name) }
+        ensures refused { IfErr result (RefusesTopic self.now.table [] alias) }
+    {
+        match self.look(alias) {
             Some(known) => known.try_clone(),
             None => Err(TopicFault::AliasUnknown),
         }
     }
 
+    /// Whether an alias may be set.
+    fn check(&self, alias: u16) -> Result<(), TopicFault>
+        ensures ok { OnOk result (IsInRange self.now.table.max alias) }
+        ensures refused { IfErr result (λ fault. fault ≡ TopicFault.AliasRange) }
+        ensures range { OnErr result (¬ IsInRange self.now.table.max alias) }
+    {
+        if alias == 0 || alias > self.max {
+            return Err(TopicFault::AliasRange);
+        }
+        Ok(())
+    }
+
+    /// The topic that a PUBLISH with this text and alias would mean, where nothing is set. The name
+    /// shares its bytes with the text or with the table.
+    pub fn would_resolve(&self, topic: &Text, alias: Option<u16>) -> Result<TopicName, TopicFault>
+        ensures found { IfOk result (Resolves self.now.table topic.now alias) }
+        ensures refused { IfErr result (RefusesAlias self.now.table topic.now alias) }
+    {
+        if let Some(alias) = alias {
+            self.check(alias)?;
+            if topic.as_str().is_empty() {
+                return self.known(alias);
+            }
+        }
+        name_of(topic)
+    }
+
     /// The topic that a PUBLISH with this text and alias means, where a text with an alias makes
     /// the alias stand for it.
     pub fn resolve(&mut self, topic: &str, alias: Option<u16>) -> Result<TopicName, TopicFault>
-        ensures found { IfOk result (Resolves self.old topic.now alias) }
-        ensures ok { OnOk result (self.new ≡ after_resolve self.old topic.now alias) }
-        ensures refused { IfErr result (RefusesAlias self.old topic.now alias) }
-        ensures err { OnErr result (self.new ≡ self.old) }
+        ensures found { IfOk result (Resolves self.old.table topic.now alias) }
+        ensures ok { OnOk result (self.new.table ≡ after_resolve self.old.table topic.now alias) }
+        ensures refused { IfErr result (RefusesAlias self.old.table topic.now alias) }
+        ensures err { OnErr result (self.new.table ≡ self.old.table) }
     {
         let Some(alias) = alias else {
             return TopicName::parse(self.alloc, topic);
         };
-        if alias == 0 || alias > self.max {
-            return Err(TopicFault::AliasRange);
-        }
+        self.check(alias)?;
         if topic.is_empty() {
             return self.known(alias);
         }
@@ -70,5 +104,40 @@ impl Aliases {
             .insert(alias, kept)
             .map_err(|_| TopicFault::Memory)?;
         Ok(name)
+    }
+
+    /// Makes room for one alias, so that the next `set` takes no memory.
+    pub fn make_room(&mut self) -> Result<(), TopicFault>
+        ensures same { self.new.table ≡ self.old.table }
+        ensures ok { OnOk result (0 < self.new.room) }
+
+        // Want of memory is the only refusal, and only where there was no room.
+        ensures fault { IfErr result (λ fault. fault ≡ TopicFault.Memory) }
+        ensures memory { OnErr result (self.old.room ≡ 0) }
+    {
+        self.topics.reserve(1).map_err(|_| TopicFault::Memory)
+    }
+
+    /// Makes an alias stand for a topic, and gives the one that it stood for. Takes no memory.
+    pub fn set(&mut self, alias: u16, topic: TopicName) -> Option<TopicName>
+        requires range { IsInRange self.old.table.max alias }
+        requires room { 0 < self.old.room }
+        ensures before { result ≡ topic_of alias self.old.table.topics }
+        ensures after { self.new.table
+            ≡ with_topics self.old.table (with_topic alias topic self.old.table.topics) }
+    {
+        self.topics.insert(alias, topic).unwrap()
+    }
+
+    /// Makes an alias stand for what it stood for before, as `set` gave it. Takes no memory.
+    pub fn restore(&mut self, alias: u16, before: Option<TopicName>)
+        requires { IsSome (topic_of alias self.old.table.topics) }
+        ensures { self.new.table
+            ≡ with_topics self.old.table (restored alias before self.old.table.topics) }
+    {
+        match before {
+            Some(topic) => drop(self.topics.insert(alias, topic).unwrap()),
+            None => drop(self.topics.shift_remove(&alias)),
+        }
     }
 }

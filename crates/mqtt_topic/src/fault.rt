@@ -26,4 +26,8 @@ pub enum TopicFault {
     /// 7: want of memory.
     #[error("want of memory")]
     Memory = 7,
+    /// 8: what would be a topic name or a filter, but has U+0000 or more than 65,535 bytes, so that
+    /// no packet carries it (1.5.4, 4.7.3). Never of a `Text`.
+    #[error("no packet carries the text")]
+    NotText = 8,
 }

@@ -8,12 +8,15 @@ mod laws;
 mod levels;
 mod matching;
 mod name;
-#[cfg(test)]
-mod tests;
+mod shared;
+mod sub_filter;
+mod text;
 
 pub use aliases::Aliases;
 pub use fault::TopicFault;
-pub use filter::{Filter, Shared, SubFilter};
-pub use laws::filter_by_words;
+pub use filter::Filter;
+pub use laws::{filter_by_words, what_was_set_is_taken_back};
 pub use matching::matches;
 pub use name::TopicName;
+pub use shared::Shared;
+pub use sub_filter::SubFilter;

@@ -1,8 +1,11 @@
 //! Topic names (MQTT 5.0, 4.7.1, 4.7.3).
-ghost use Rattle.std.specs.Prelude.{◌≡◌, IfErr, IfOk, OnOk};
+ghost use Rattle.std.specs.Prelude.{◌≡◌, IfErr, IfOk, IsOk, OnOk};
+ghost use Rattle.mqtt_base.specs.Values.{FitsText};
 ghost use Rattle.mqtt_topic.specs.Names.{IsTopicName, RefusesName, has_wildcard};
 
 use crate::fault::TopicFault;
+use crate::text::text_of;
+use mqtt_base::Text;
 use std::alloc::Global;
 use std::marker::Model;
 
@@ -13,21 +16,47 @@ pub(crate) fn has_wildcard(text: &str) -> bool
     text.as_bytes().iter().any(|c| *c == b'+' || *c == b'#')
 }
 
-/// What a publication is published to.
+/// Whether a text is a topic name.
+fn check_name(text: &str) -> Result<(), TopicFault>
+    ensures lawful { OnOk result (IsTopicName text.now) }
+    ensures only { IsTopicName text.now → IsOk result }
+    ensures refused { IfErr result (RefusesName text.now) }
+{
+    if text.is_empty() {
+        return Err(TopicFault::Empty);
+    }
+    if has_wildcard(text) {
+        return Err(TopicFault::WildcardInName);
+    }
+    Ok(())
+}
+
+/// A topic name that shares its bytes with a text.
+pub(crate) fn name_of(lent: &Text) -> Result<TopicName, TopicFault>
+    ensures read { IfOk result (λ name. name ≡ lent.now) }
+    ensures lawful { OnOk result (IsTopicName lent.now) }
+    ensures refused { IfErr result (RefusesName lent.now) }
+{
+    check_name(lent.as_str())?;
+    let text = lent.clone().map_err(|_| TopicFault::Memory)?;
+    Ok(TopicName { text })
+}
+
+/// What a publication is published to. Copies share its bytes.
 #[derive(Debug, Drop)]
 pub struct TopicName {
-    text: String,
+    text: Text,
 }
 
 impl Model for TopicName {
-    ghost use Rattle.std.specs.Prelude.{List, ℕ, string_bytes};
+    ghost use Rattle.std.specs.Prelude.{List, ℕ};
     ghost use Rattle.mqtt_topic.specs.Names.{IsTopicName};
 
     ghost Value = { List ℕ };
 
-    ghost view = { λ name. string_bytes name.text };
+    ghost view = { λ name. name.text };
 
-    ghost invariant = { λ name. IsTopicName (string_bytes name.text) };
+    ghost invariant = { λ name. IsTopicName name.text };
 }
 
 impl TopicName {
@@ -37,13 +66,19 @@ impl TopicName {
         ensures lawful { OnOk result (IsTopicName text.now) }
         ensures refused { IfErr result (RefusesName text.now) }
     {
-        if text.is_empty() {
-            return Err(TopicFault::Empty);
-        }
-        if has_wildcard(text) {
-            return Err(TopicFault::WildcardInName);
-        }
-        let text = String::from_str(alloc, text).map_err(|_| TopicFault::Memory)?;
+        check_name(text)?;
+        let text = text_of(alloc, text)?;
+        Ok(TopicName { text })
+    }
+
+    /// Reads a topic name out of a packet's text, and keeps its bytes (4.7.1, 4.7.3). Takes no memory.
+    pub fn from_text(text: Text) -> Result<TopicName, TopicFault>
+        ensures read { IfOk result (λ name. name ≡ text) }
+        ensures lawful { OnOk result (IsTopicName text) }
+        ensures only { IsTopicName text → IsOk result }
+        ensures refused { IfErr result (RefusesName text) }
+    {
+        check_name(text.as_str())?;
         Ok(TopicName { text })
     }
 
@@ -51,11 +86,28 @@ impl TopicName {
     pub fn as_str(&self) -> &str
         ensures value { result.now ≡ self.now }
         ensures lawful { IsTopicName self.now }
+        ensures fits { FitsText self.now }
     {
         self.text.as_str()
     }
 
-    /// A copy of it.
+    /// Its text, as packets and records have it. Takes no memory.
+    pub fn text(&self) -> &Text
+        ensures value { result.now ≡ self.now }
+        ensures lawful { IsTopicName self.now }
+    {
+        &self.text
+    }
+
+    /// Gives the text back. Takes no memory.
+    pub fn into_text(self) -> Text
+        ensures value { result ≡ self }
+        ensures lawful { IsTopicName self }
+    {
+        self.text
+    }
+
+    /// A copy of it, which shares its bytes.
     pub fn try_clone(&self) -> Result<TopicName, TopicFault>
         ensures copy { IfOk result (λ name. name ≡ self.now) }
         ensures lawful { IsTopicName self.now }

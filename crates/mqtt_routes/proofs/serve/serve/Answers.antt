@@ -18,10 +18,10 @@ returns-in_err-one-clause-refused g c =
     let direct = c.args.direct.now in
     let served = c.loop-i.served.items in
     let m = c.index-members-i.result in
-    let text : c.as_str-filter.result.now ≡ m.sub.filter = c.as_str-filter.ensures.value ∙ ap (λ s. s.filter) c.row.view_is ∙ ap (λ (x : Member). x.sub.filter) c.member.view_is in
-    let new : has_filter_among m.sub.filter (take c.loop-i.i ms) ≡ false = ap (λ t. has_filter_among t (take c.loop-i.i ms)) (sym text) ∙ sym c.has_filter_among.ensures ∙ c.if-not-has_filter_among.true in
+    let text : c.text-filter.result.now ≡ m.sub.filter = c.text-filter.ensures.value ∙ ap (λ s. s.filter) c.row.view_is ∙ ap (λ (x : Member). x.sub.filter) c.member.view_is in
+    let new : has_filter_among m.sub.filter (take c.loop-i.i ms) ≡ false = ap (λ t. has_filter_among t (take c.loop-i.i ms)) (sym (c.as_str.ensures.value ∙ text)) ∙ sym c.has_filter_among.ensures ∙ c.if-not-has_filter_among.true in
     let one : RefusesOne at p direct served m.sub.filter ms c.in_err-one.field-0.0
-    = subst (λ t. RefusesOne at p direct served t ms c.in_err-one.field-0.0) text (subst (λ before. RefusesOne at p direct before c.as_str-filter.result.now ms c.in_err-one.field-0.0) c.as_slice.ensures.value c.in_err-one.ensures.refused)
+    = subst (λ t. RefusesOne at p direct served t ms c.in_err-one.field-0.0) text (subst (λ before. RefusesOne at p direct before c.text-filter.result.now ms c.in_err-one.field-0.0) c.as_slice.ensures.value c.in_err-one.ensures.refused)
     in
     let q = err_from_is_err_and c.from_residual.result c.from_residual.ensures.1 in
     rw (q.1, q.2) (refused_one at p ms direct c.loop-i.i served m c.in_err-one.field-0.0 c.loop-i-test.true c.index-members-i.is new c.loop-i.invariant one)
@@ -35,12 +35,12 @@ loop-i-preserved g c =
     let served = c.loop-i.served.items in
     let i = c.loop-i.i in
     let m = c.index-members-i.result in
-    let text : c.as_str-filter.result.now ≡ m.sub.filter = c.as_str-filter.ensures.value ∙ ap (λ s. s.filter) c.row.view_is ∙ ap (λ (x : Member). x.sub.filter) c.member.view_is in
-    let test = ap (λ t. has_filter_among t (take i ms)) (sym text) ∙ sym c.has_filter_among.ensures in
+    let text : c.text-filter.result.now ≡ m.sub.filter = c.text-filter.ensures.value ∙ ap (λ s. s.filter) c.row.view_is ∙ ap (λ (x : Member). x.sub.filter) c.member.view_is in
+    let test = ap (λ t. has_filter_among t (take i ms)) (sym (c.as_str.ensures.value ∙ text)) ∙ sym c.has_filter_among.ensures in
     elim c.if-not-has_filter_among.branch [
       | then-not-has_filter_among+in_ok-one+in_ok-push w ↦
           let one : IsServed at p direct served m.sub.filter ms w.in_ok-one.one
-          = subst (λ t. IsServed at p direct served t ms w.in_ok-one.one) text (subst (λ before. IsServed at p direct before c.as_str-filter.result.now ms w.in_ok-one.one) w.as_slice.ensures.value w.in_ok-one.ensures.served)
+          = subst (λ t. IsServed at p direct served t ms w.in_ok-one.one) text (subst (λ before. IsServed at p direct before c.text-filter.result.now ms w.in_ok-one.one) w.as_slice.ensures.value w.in_ok-one.ensures.served)
           in
           subst (λ (ss : List Served). SoFar at p ms direct (i + 1) ss) (sym (ap (λ (v : _). v.items) w.served-is ∙ w.in_ok-push.ensures.items))
           (so_far_new at p ms direct i served m w.in_ok-one.one c.loop-i-test.true c.index-members-i.is (test ∙ w.if-not-has_filter_among.true) c.loop-i.invariant one)

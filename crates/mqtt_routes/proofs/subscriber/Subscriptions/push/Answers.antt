@@ -7,5 +7,5 @@ pub returns-clause-ok : goal.returns-clause-ok
 returns-clause-ok c =
     let keys = c.self.inside.rows.keys in
     let new = c.args.subscription in
-    let absent = ap (has_filter new.filter) c.self.view_is ∙ c.requires in
-    c.in_ok-insert.ensures.keys ∙ ap (λ b. if b then keys else keys ++ new ∷ []) absent ∙ sym (put-push new keys absent) ∙ ap (put new) c.self.view_is
+    let absent = ap (λ h. has_filter new.filter h.subs) c.self.view_is ∙ c.requires in
+    c.in_ok-insert.ensures.keys ∙ ap (λ b. if b then keys else keys ++ new ∷ []) absent ∙ sym (put-push new keys absent) ∙ ap (λ h. put new h.subs) c.self.view_is

@@ -21,4 +21,4 @@ returns-clause-ok c =
     let keys = c.self.inside.rows.keys in
     let new = c.args.subscription in
     let found = ap Some c.row.view_is ∙ c.in-Some.ensures.key ∙ ap (λ t. find (is_to t) keys) c.as_str.ensures.value in
-    c.in_ok-replace.ensures.keys ∙ put-replace_key new c.row.inside.subscription keys found ∙ ap (put new) c.self.view_is
+    c.in_ok-replace.ensures.keys ∙ put-replace_key new c.row.inside.subscription keys found ∙ ap (λ h. put new h.subs) c.self.view_is

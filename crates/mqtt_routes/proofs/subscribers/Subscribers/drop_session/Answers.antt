@@ -12,4 +12,4 @@ invariant_of-self c =
 pub returns : goal.returns
 returns c =
     let es = c.self.inside.sessions.entries in
-    ap subscribers c.shift_remove-subscriptions.ensures.entries ∙ without_session-remove_entry c.args.birth es c.self.invariant ∙ ap (without_session c.args.birth) c.self.view_is
+    ap subscribers c.shift_remove-subscriptions.ensures.entries ∙ without_session-remove_entry c.args.birth es c.self.invariant ∙ ap (λ h. without_session c.args.birth h.sessions) c.self.view_is

@@ -15,4 +15,4 @@ returns c =
     let parted = subst (IsPartitionedBy (λ k. nat_lt k b)) (sym same) (partitioned b es c.self.invariant) in
     let point = c.partition_point.ensures.partitioned (λ k. nat_lt k b) (always_returns_same _ _ _ (λ a r f k. search rules)) parted in
     let within : i ≤ length es = omega (arith, c.partition_point.ensures.bound, ap length same, length-map es (λ q. q.0)) in
-    spot_of-point b i es within (subst (λ ks. IsPartitionPoint (λ k. nat_lt k b ≡ true) (λ k. nat_lt k b ≡ false) ks i) same point) ∙ ap (spot_of b) c.self.view_is
+    spot_of-point b i es within (subst (λ ks. IsPartitionPoint (λ k. nat_lt k b ≡ true) (λ k. nat_lt k b ≡ false) ks i) same point) ∙ ap (λ h. spot_of b h.sessions) c.self.view_is

@@ -13,4 +13,4 @@ returns-clause-ok c =
     let table : AliasTable = record { max = inside.max; topics = inside.topics.entries } in
     ap (λ (es : List (ℕ × List ℕ)). let t : AliasTable = record { max = inside.max; topics = es } in t)
     (entered ∙ with_topic-entry alias c.in_ok-kept.kept inside.topics.entries ∙ ap (λ t. with_topic alias t inside.topics.entries) kept) ∙ sym (after_resolve-text table topic alias (sym c.is_empty.ensures ∙ c.if-is_empty.false))
-    ∙ ap (λ t. after_resolve t topic (Some alias)) c.self.view_is ∙ ap (after_resolve c.args.self.now topic) (sym c.in-Some.is)
+    ∙ ap (λ k. after_resolve k.table topic (Some alias)) c.self.view_is ∙ ap (after_resolve c.args.self.now.table topic) (sym c.in-Some.is)
