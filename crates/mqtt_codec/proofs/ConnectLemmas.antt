@@ -40,9 +40,9 @@ unfolding will_at
 will_takes None bytes x fits e =
     subst (λ (y : Option Will × List ℕ). IsWill None bytes y.0 y.1) (ok_is (None, bytes) x e) (record { takes = record { parts = refl; rest_fits = fits }; fits = tt; said = refl })
 will_takes (Some f) bytes x fits e =
-    let a = bind_ok (malformed (layout_at places.Will bytes)) (λ ps. malformed (text_at ps.1) >>= λ topic. malformed (blob_at topic.1) >>= λ payload. Ok (Some (record { qos = f.qos; retain = f.retain; properties = ps.0; topic = topic.0; payload = payload.0 }), payload.1)) x e in
-    let b = bind_ok (malformed (text_at a.0.1)) (λ topic. malformed (blob_at topic.1) >>= λ payload. Ok (Some (record { qos = f.qos; retain = f.retain; properties = a.0.0; topic = topic.0; payload = payload.0 }), payload.1)) x a.2 in
-    let c = bind_ok (malformed (blob_at b.0.1)) (λ payload. Ok (Some (record { qos = f.qos; retain = f.retain; properties = a.0.0; topic = b.0.0; payload = payload.0 }), payload.1)) x b.2 in
+    let a = bind_ok (malformed (layout_at places.Will bytes)) _ x e in
+    let b = bind_ok (malformed (text_at a.0.1)) _ x a.2 in
+    let c = bind_ok (malformed (blob_at b.0.1)) _ x b.2 in
     let t0 = layout_takes places.Will bytes a.0 fits (malformed_ok (layout_at places.Will bytes) a.0 a.1) in
     let t1 = text_takes a.0.1 b.0 t0.0.rest_fits (malformed_ok (text_at a.0.1) b.0 b.1) in
     let t2 = blob_takes b.0.1 c.0 t1.0.rest_fits (malformed_ok (blob_at b.0.1) c.0 c.1) in
@@ -76,7 +76,7 @@ unfolding user_name_at
 user_name_takes false bytes x fits e =
     subst (λ (y : Option (List ℕ) × List ℕ). IsOptional FitsText false bytes y.0 y.1) (ok_is (None, bytes) x e) (record { takes = record { parts = refl; rest_fits = fits }; fits = tt; said = refl })
 user_name_takes true bytes x fits e =
-    let a = bind_ok (malformed (text_at bytes)) (λ t. Ok (Some t.0, t.1)) x e in
+    let a = bind_ok (malformed (text_at bytes)) _ x e in
     let t = text_takes bytes a.0 fits (malformed_ok (text_at bytes) a.0 a.1) in
     subst (λ (y : Option (List ℕ) × List ℕ). IsOptional FitsText true bytes y.0 y.1) (ok_is (Some a.0.0, a.0.1) x a.2) (record { takes = t.0; fits = (t.1, t.2); said = refl })
 
@@ -93,7 +93,7 @@ unfolding password_at
 password_takes false bytes x fits e =
     subst (λ (y : Option (List ℕ) × List ℕ). IsOptional IsShort false bytes y.0 y.1) (ok_is (None, bytes) x e) (record { takes = record { parts = refl; rest_fits = fits }; fits = tt; said = refl })
 password_takes true bytes x fits e =
-    let a = bind_ok (malformed (blob_at bytes)) (λ t. Ok (Some t.0, t.1)) x e in
+    let a = bind_ok (malformed (blob_at bytes)) _ x e in
     let t = blob_takes bytes a.0 fits (malformed_ok (blob_at bytes) a.0 a.1) in
     subst (λ (y : Option (List ℕ) × List ℕ). IsOptional IsShort true bytes y.0 y.1) (ok_is (Some a.0.0, a.0.1) x a.2) (record { takes = t.0; fits = t.1; said = refl })
 
@@ -115,12 +115,12 @@ flags_made clean will user password = record { clean_start = clean; will = will;
 fields_takes : (f : Flags) (bytes : List ℕ) (c : Connect) → IsBytes bytes → fields_at f bytes ≡ Ok c → AreFields f bytes c
 unfolding fields_at
 fields_takes f bytes c fits e =
-    let k = bind_ok (malformed (number_at w16 bytes)) (λ keep. malformed (layout_at places.Connect keep.1) >>= λ ps. malformed (text_at ps.1) >>= λ client. will_at f.will client.1 >>= λ will. user_name_at f.user_name will.1 >>= λ user. password_at f.password user.1 >>= λ password. cond (eqb (length password.1) 0) (Ok (record { clean_start = f.clean_start; keep_alive = keep.0; properties = ps.0; client_identifier = client.0; will = will.0; user_name = user.0; password = password.0 })) (Err Malformed)) c e in
-    let p = bind_ok (malformed (layout_at places.Connect k.0.1)) (λ ps. malformed (text_at ps.1) >>= λ client. will_at f.will client.1 >>= λ will. user_name_at f.user_name will.1 >>= λ user. password_at f.password user.1 >>= λ password. cond (eqb (length password.1) 0) (Ok (record { clean_start = f.clean_start; keep_alive = k.0.0; properties = ps.0; client_identifier = client.0; will = will.0; user_name = user.0; password = password.0 })) (Err Malformed)) c k.2 in
-    let i = bind_ok (malformed (text_at p.0.1)) (λ client. will_at f.will client.1 >>= λ will. user_name_at f.user_name will.1 >>= λ user. password_at f.password user.1 >>= λ password. cond (eqb (length password.1) 0) (Ok (record { clean_start = f.clean_start; keep_alive = k.0.0; properties = p.0.0; client_identifier = client.0; will = will.0; user_name = user.0; password = password.0 })) (Err Malformed)) c p.2 in
-    let w = bind_ok (will_at f.will i.0.1) (λ will. user_name_at f.user_name will.1 >>= λ user. password_at f.password user.1 >>= λ password. cond (eqb (length password.1) 0) (Ok (record { clean_start = f.clean_start; keep_alive = k.0.0; properties = p.0.0; client_identifier = i.0.0; will = will.0; user_name = user.0; password = password.0 })) (Err Malformed)) c i.2 in
-    let u = bind_ok (user_name_at f.user_name w.0.1) (λ user. password_at f.password user.1 >>= λ password. cond (eqb (length password.1) 0) (Ok (record { clean_start = f.clean_start; keep_alive = k.0.0; properties = p.0.0; client_identifier = i.0.0; will = w.0.0; user_name = user.0; password = password.0 })) (Err Malformed)) c w.2 in
-    let s = bind_ok (password_at f.password u.0.1) (λ password. cond (eqb (length password.1) 0) (Ok (record { clean_start = f.clean_start; keep_alive = k.0.0; properties = p.0.0; client_identifier = i.0.0; will = w.0.0; user_name = u.0.0; password = password.0 })) (Err Malformed)) c u.2 in
+    let k = bind_ok (malformed (number_at w16 bytes)) _ c e in
+    let p = bind_ok (malformed (layout_at places.Connect k.0.1)) _ c k.2 in
+    let i = bind_ok (malformed (text_at p.0.1)) _ c p.2 in
+    let w = bind_ok (will_at f.will i.0.1) _ c i.2 in
+    let u = bind_ok (user_name_at f.user_name w.0.1) _ c w.2 in
+    let s = bind_ok (password_at f.password u.0.1) _ c u.2 in
     let made : Connect = record { clean_start = f.clean_start; keep_alive = k.0.0; properties = p.0.0; client_identifier = i.0.0; will = w.0.0; user_name = u.0.0; password = s.0.0 } in
     let g = when_ok (eqb (length s.0.1) 0) Malformed (Ok made) c s.2 in
     let t0 = number_takes w16 (2 ^ 16) wide16 bytes k.0 fits (malformed_ok (number_at w16 bytes) k.0 k.1) in
@@ -172,8 +172,8 @@ version_is protocol version e =
 
 flagged_takes : (bytes : List ℕ) (c : Connect) → IsBytes bytes → flagged_at bytes ≡ Ok c → FitsConnect c × (bytes ≡ flags_byte (flags_of_connect c) ∷ connect_fields c)
 flagged_takes bytes c fits e =
-    let b = bind_ok (malformed (u8_at bytes)) (λ byte. known (flags_of byte.0) >>= λ flags. fields_at flags byte.1) c e in
-    let f = bind_ok (known (flags_of b.0.0)) (λ flags. fields_at flags b.0.1) c b.2 in
+    let b = bind_ok (malformed (u8_at bytes)) _ c e in
+    let f = bind_ok (known (flags_of b.0.0)) _ c b.2 in
     let t0 = byte_takes bytes b.0 fits (malformed_ok (u8_at bytes) b.0 b.1) in
     let t1 = fields_takes f.0 b.0.1 c t0.0.rest_fits f.2 in
     let byte : b.0.0 ≡ flags_byte (flags_of_connect c) = flags_is b.0.0 f.0 t0.1 (known_ok (flags_of b.0.0) f.0 f.1) ∙ ap (λ (g : Flags). flags_byte g) (sym t1.said) in
@@ -182,8 +182,8 @@ flagged_takes bytes c fits e =
 connect_takes : (body : List ℕ) (c : Connect) → IsBytes body → connect_at body ≡ Ok c → FitsConnect c × (body ≡ connect_body c)
 unfolding connect_at
 connect_takes body c fits e =
-    let p = bind_ok (malformed (text_at body)) (λ protocol. malformed (u8_at protocol.1) >>= λ version. cond (is_version_5 protocol.0 version.0) (flagged_at version.1) (Err Malformed)) c e in
-    let v = bind_ok (malformed (u8_at p.0.1)) (λ version. cond (is_version_5 p.0.0 version.0) (flagged_at version.1) (Err Malformed)) c p.2 in
+    let p = bind_ok (malformed (text_at body)) _ c e in
+    let v = bind_ok (malformed (u8_at p.0.1)) _ c p.2 in
     let g = when_ok (is_version_5 p.0.0 v.0.0) Malformed (flagged_at v.0.1) c v.2 in
     let is = version_is p.0.0 v.0.0 g.0 in
     let t0 = text_takes body p.0 fits (malformed_ok (text_at body) p.0 p.1) in

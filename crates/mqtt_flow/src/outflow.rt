@@ -1,15 +1,15 @@
 //! A session's outbound copies (4.3, 4.4, 4.6, 4.9).
 
-ghost use Rattle.std.specs.Prelude.{◌≡◌, ◌+◌, ◌<◌, ◌≤◌, [], true, length, OnOk, IfOk, OnErr, IfErr, filter, map, nat_eq, not, vec_capacity, vec_len};
+ghost use Rattle.std.specs.Prelude.{◌≡◌, ◌<◌, ◌≤◌, [], length, OnOk, OnErr, IfErr};
 ghost use Rattle.std.specs.Option.{option_copied};
-ghost use Rattle.mqtt_flow.specs.Queue.{IsQueue, after, after_all, greatest_given, holder, marked, next_order, next_place, order_given};
-ghost use Rattle.mqtt_flow.specs.Outbound.{KeptOut, anew, answered, entered, expired, has_room, is_refusal, outcome, puback, pubcomp, pubrec, pump, pushed, resumed_with, unsent, way_made};
+ghost use Rattle.mqtt_flow.specs.Queue.{IsQueue, after, after_all, greatest_given, holder, next_order, next_place, order_given};
+ghost use Rattle.mqtt_flow.specs.Outbound.{anew, pushed};
 
 use crate::change::{apply, forget};
-use crate::entry::{Entry, QueueLimits, QueuedCopy, Turn, Way};
+use crate::entry::{Entry, QueuedCopy, Turn};
 use crate::fault::FlowFault;
-use crate::plan::{dropped, due, expired, greatest_order, greatest_place, has_room, holds};
-use crate::pump::pump;
+use crate::look::holder;
+use crate::plan::{greatest_order, greatest_place};
 use mqtt_base::{LAST_NUMBER, Phase, QUEUE_LIMIT};
 use std::alloc::Global;
 use std::marker::Model;
@@ -42,6 +42,14 @@ impl Outflow {
         }
     }
 
+    /// Makes the queue of a session as a store keeps it (4.1). Takes no memory.
+    pub fn from_entries(entries: Vec<Entry>) -> Outflow
+        requires { IsQueue entries.items }
+        ensures { result.queue ≡ entries.items }
+    {
+        Outflow { entries }
+    }
+
     /// The copies, in the order in which they entered.
     pub fn entries(&self) -> &[Entry]
         ensures value { result.now ≡ self.now.queue }
@@ -54,12 +62,7 @@ impl Outflow {
     pub fn holder(&self, identifier: u16) -> Option<&Entry>
         ensures { option_copied result ≡ holder identifier self.now.queue }
     {
-        for entry in &self.entries {
-            if holds(entry.phase, identifier) {
-                return Some(entry);
-            }
-        }
-        None
+        holder(&self.entries, identifier)
     }
 
     /// The place that the next copy gets.
@@ -110,7 +113,19 @@ impl Outflow {
         ensures queue { self.new.queue ≡ self.old.queue }
         ensures fault { IfErr result (λ fault. fault ≡ FlowFault.Memory) }
     {
-        self.entries.reserve(1).map_err(|_| FlowFault::Memory)
+        self.make_room_for(1)
+    }
+
+    /// Makes room for so many copies.
+    pub fn make_room_for(&mut self, count: usize) -> Result<(), FlowFault>
+        ensures ok { OnOk result (count ≤ self.new.room) }
+        ensures queue { self.new.queue ≡ self.old.queue }
+        ensures fault { IfErr result (λ fault. fault ≡ FlowFault.Memory) }
+
+        // Want of memory is the only refusal, and only where there was too little room.
+        ensures memory { OnErr result (self.old.room < count) }
+    {
+        self.entries.reserve(count).map_err(|_| FlowFault::Memory)
     }
 
     /// Takes in a copy for which there is room. Takes no memory.

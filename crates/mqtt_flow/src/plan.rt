@@ -1,14 +1,14 @@
 //! What a session sees in its queue before it does anything (4.3, 4.4, 4.6, 4.9).
 
-ghost use Rattle.std.specs.Prelude.{◌≡◌, ◌+◌, ◌≤◌, ◌<◌, ◌^◌, [], length, IfOk, IfErr, OnOk, insert};
-ghost use Rattle.mqtt_flow.specs.FreeIdentifier.{free_identifier};
-ghost use Rattle.mqtt_flow.specs.Queue.{is_holder, order_of, greatest_place, greatest_order, in_window, identifiers};
+ghost use Rattle.std.specs.Prelude.{◌≡◌, ◌+◌, ◌≤◌, ◌<◌, ◌++◌, [], length, map, IfOk, IfErr, OnOk, insert};
+ghost use Rattle.mqtt_flow.specs.declared.entry.Turn.TheVariants.{Repeat};
+ghost use Rattle.mqtt_flow.specs.Queue.{is_holder, order_of, greatest_place, greatest_order, in_window};
 ghost use Rattle.mqtt_flow.specs.Outbound.{is_waiting, gives_way, staying, has_room, dropped, is_late, is_large, expired, due_from, by_order};
 
-use crate::entry::{Due, Entry, Full, QueueLimits, QueuedCopy, Turn, Way};
+use crate::entry::{Due, Entry, Full, QueueLimits, Turn, Way};
 use crate::fault::FlowFault;
+use crate::row::QueueRow;
 use mqtt_base::{Ending, Phase};
-use std::alloc::Global;
 
 /// Whether a phase has an identifier.
 pub(crate) fn holds(phase: Phase, identifier: u16) -> bool
@@ -60,24 +60,24 @@ pub(crate) fn greatest_place(entries: &[Entry]) -> u64
 }
 
 /// The greatest order of release that stands, 0 where none does.
-pub(crate) fn greatest_order(entries: &[Entry]) -> u64
-    ensures { result ≡ greatest_order entries.now }
+pub(crate) fn greatest_order<R: QueueRow>(rows: &[R]) -> u64
+    ensures { (went : R.Went) → result ≡ greatest_order (map (R.entry went) rows.now) }
 {
     let mut greatest = 0;
-    for entry in entries {
-        greatest = greatest.max(order_of(entry.phase));
+    for row in rows {
+        greatest = greatest.max(order_of(row.phase()));
     }
     greatest
 }
 
 /// How many entries fill the client's window.
-pub(crate) fn in_window(entries: &[Entry]) -> usize
-    ensures exact { result ≡ in_window entries.now }
-    ensures within { result ≤ length entries.now }
+pub(crate) fn in_window<R: QueueRow>(rows: &[R], went: &R::Went) -> usize
+    ensures exact { result ≡ in_window (map (R.entry went.now) rows.now) }
+    ensures within { result ≤ length rows.now }
 {
     let mut count = 0;
-    for entry in entries {
-        if entry.here {
+    for row in rows {
+        if row.here(went) {
             count += 1;
         }
     }
@@ -85,40 +85,40 @@ pub(crate) fn in_window(entries: &[Entry]) -> usize
 }
 
 /// Whether a copy is late at a moment (3.3.2.3.3).
-pub(crate) fn is_late(now: u64, copy: &QueuedCopy) -> bool
-    ensures { result ≡ is_late now copy.now }
+pub(crate) fn is_late<R: QueueRow>(now: u64, row: &R) -> bool
+    ensures { (went : R.Went) → result ≡ is_late now (R.entry went row.now).copy }
 {
-    match copy.expiry {
+    match row.expiry() {
         None => false,
-        Some(interval) => u64::from(interval) <= now.saturating_sub(copy.arrived) / 1000,
+        Some(interval) => u64::from(interval) <= now.saturating_sub(row.arrived()) / 1000,
     }
 }
 
 /// Whether a copy is too large for a connection (3.1.2.11.4).
-pub(crate) fn is_large(way: Way, copy: &QueuedCopy) -> bool
-    ensures { result ≡ is_large way copy.now }
+pub(crate) fn is_large<R: QueueRow>(way: Way, row: &R) -> bool
+    ensures { (went : R.Went) → result ≡ is_large way (R.entry went row.now).copy }
 {
-    way.largest < copy.size
+    way.largest < row.size()
 }
 
 /// Whether a copy gives way in a full queue (ours).
-fn gives_way(since: u64, entry: &Entry) -> bool
-    ensures { result ≡ gives_way since entry.now }
+fn gives_way<R: QueueRow>(since: u64, row: &R) -> bool
+    ensures { (went : R.Went) → result ≡ gives_way since (R.entry went row.now) }
 {
-    is_waiting(entry.phase) && entry.place < since
+    is_waiting(row.phase()) && row.place() < since
 }
 
 /// How many copies a further one leaves standing in any case (ours).
-fn staying(full: Full, since: u64, entries: &[Entry]) -> usize
-    ensures exact { result ≡ staying full since entries.now }
-    ensures within { result ≤ length entries.now }
+fn staying<R: QueueRow>(full: Full, since: u64, rows: &[R]) -> usize
+    ensures exact { (went : R.Went) → result ≡ staying full since (map (R.entry went) rows.now) }
+    ensures within { result ≤ length rows.now }
 {
     match full {
-        Full::Refuse => entries.len(),
+        Full::Refuse => rows.len(),
         Full::Drop => {
             let mut count = 0;
-            for entry in entries {
-                if !gives_way(since, entry) {
+            for row in rows {
+                if !gives_way(since, row) {
                     count += 1;
                 }
             }
@@ -127,91 +127,59 @@ fn staying(full: Full, since: u64, entries: &[Entry]) -> usize
     }
 }
 
-/// Whether a queue has room for a further copy (ours).
-pub(crate) fn has_room(limits: QueueLimits, since: u64, entries: &[Entry]) -> bool
-    ensures { result ≡ has_room limits since entries.now }
+/// Whether a queue has room for a further copy (ours). Takes no memory.
+pub fn has_room<R: QueueRow>(limits: QueueLimits, since: u64, rows: &[R]) -> bool
+    ensures { (went : R.Went) → result ≡ has_room limits since (map (R.entry went) rows.now) }
 {
-    staying(limits.full, since, entries) < limits.queue
+    staying(limits.full, since, rows) < limits.queue
 }
 
-/// The turns by which so many copies give way, the oldest first (ours).
-pub(crate) fn dropped(
-    alloc: Global,
+/// Adds the turns by which so many copies give way, the oldest first (ours).
+pub(crate) fn push_dropped<R: QueueRow>(
+    turns: &mut Vec<Turn>,
     count: usize,
     since: u64,
-    entries: &[Entry],
-) -> Result<Vec<Turn>, FlowFault>
-    ensures turns { IfOk result (λ turns. turns.items ≡ dropped count since entries.now) }
+    rows: &[R],
+) -> Result<(), FlowFault>
+    ensures turns { (went : R.Went) → OnOk result (turns.new.items ≡ turns.old.items ++ dropped count since (map (R.entry went) rows.now)) }
     ensures fault { IfErr result (λ fault. fault ≡ FlowFault.Memory) }
 {
-    let mut turns = Vec::new(alloc);
     let mut left = count;
-    for entry in entries {
+    for row in rows {
         if left == 0 {
-            return Ok(turns);
+            return Ok(());
         }
-        if gives_way(since, entry) {
+        if gives_way(since, row) {
             let turn = Turn::Leave {
-                place: entry.place,
+                place: row.place(),
                 ending: Ending::Dropped,
             };
             turns.push(turn).map_err(|_| FlowFault::Memory)?;
             left -= 1;
         }
     }
-    Ok(turns)
+    Ok(())
 }
 
-/// The turns by which late copies that wait leave (3.3.2.3.3).
-pub(crate) fn expired(alloc: Global, now: u64, entries: &[Entry]) -> Result<Vec<Turn>, FlowFault>
-    ensures turns { IfOk result (λ turns. turns.items ≡ expired now entries.now) }
+/// Adds the turns by which late copies that wait leave (3.3.2.3.3).
+pub(crate) fn push_expired<R: QueueRow>(
+    turns: &mut Vec<Turn>,
+    now: u64,
+    rows: &[R],
+) -> Result<(), FlowFault>
+    ensures turns { (went : R.Went) → OnOk result (turns.new.items ≡ turns.old.items ++ expired now (map (R.entry went) rows.now)) }
     ensures fault { IfErr result (λ fault. fault ≡ FlowFault.Memory) }
 {
-    let mut turns = Vec::new(alloc);
-    for entry in entries {
-        if is_waiting(entry.phase) && is_late(now, &entry.copy) {
+    for row in rows {
+        if is_waiting(row.phase()) && is_late(now, row) {
             let turn = Turn::Leave {
-                place: entry.place,
+                place: row.place(),
                 ending: Ending::Expired,
             };
             turns.push(turn).map_err(|_| FlowFault::Memory)?;
         }
     }
-    Ok(turns)
-}
-
-/// The identifiers in use.
-pub(crate) fn identifiers(alloc: Global, entries: &[Entry]) -> Result<Vec<u16>, FlowFault>
-    ensures exact { IfOk result (λ used. used.items ≡ identifiers entries.now) }
-    ensures fault { IfErr result (λ fault. fault ≡ FlowFault.Memory) }
-{
-    let mut used = Vec::new(alloc);
-    for entry in entries {
-        match entry.phase {
-            Phase::Waiting => {}
-            Phase::Sent { identifier }
-            | Phase::Released { identifier, .. }
-            | Phase::Oversize { identifier, .. } => {
-                used.push(identifier).map_err(|_| FlowFault::Memory)?;
-            }
-        }
-    }
-    Ok(used)
-}
-
-/// The lowest identifier that isn't used (2.2.1).
-pub(crate) fn lowest_free(used: &[u16]) -> u16
-    requires { length used.now < 65535 }
-    ensures { result ≡ free_identifier used.now }
-{
-    let mut identifier = 1;
-    for _tried in 0..used.len() {
-        if !used.contains(&identifier) {
-            return identifier;
-        }
-        identifier += 1;
-    }
-    identifier
+    Ok(())
 }
 
 /// Where a released copy stands among those released (4.6).
@@ -236,20 +204,32 @@ fn insert(dues: &mut Vec<Due>, due: Due) -> Result<(), FlowFault>
     dues.insert(index, due).map_err(|_| FlowFault::Memory)
 }
 
-/// The released copies in the order of release (4.6).
-pub(crate) fn due(alloc: Global, entries: &[Entry]) -> Result<Vec<Due>, FlowFault>
-    ensures exact { IfOk result (λ dues. dues.items ≡ due_from [] entries.now) }
+/// Puts the released copies in their order (4.6).
+pub(crate) fn insert_due<R: QueueRow>(dues: &mut Vec<Due>, rows: &[R]) -> Result<(), FlowFault>
+    ensures exact { (went : R.Went) → OnOk result (dues.new.items ≡ due_from dues.old.items (map (R.entry went) rows.now)) }
     ensures fault { IfErr result (λ fault. fault ≡ FlowFault.Memory) }
 {
-    let mut dues = Vec::new(alloc);
-    for entry in entries {
-        match entry.phase {
+    for row in rows {
+        match row.phase() {
             Phase::Waiting | Phase::Sent { .. } => {}
-            Phase::Released { identifier, order } | Phase::Oversize { identifier, order } => insert(
-                &mut dues,
-                Due { order, identifier },
-            )?,
+            Phase::Released { identifier, order } | Phase::Oversize { identifier, order } => {
+                insert(dues, Due { order, identifier })?;
+            }
         }
     }
-    Ok(dues)
+    Ok(())
+}
+
+/// Adds a PUBREL for each released copy (4.4).
+pub(crate) fn push_repeats(turns: &mut Vec<Turn>, dues: &[Due]) -> Result<(), FlowFault>
+    ensures turns { OnOk result (turns.new.items ≡ turns.old.items ++ map (λ d. Repeat d.identifier) dues.now) }
+    ensures fault { IfErr result (λ fault. fault ≡ FlowFault.Memory) }
+{
+    for due in dues {
+        let turn = Turn::Repeat {
+            identifier: due.identifier,
+        };
+        turns.push(turn).map_err(|_| FlowFault::Memory)?;
+    }
+    Ok(())
 }

@@ -1,20 +1,20 @@
 //! What a session sends on its connection (4.3, 4.4, 4.6, 4.9).
 
-ghost use Rattle.std.specs.Prelude.{◌≡◌, ◌+◌, ◌≤◌, ◌<◌, ◌^◌, ◌++◌, [], ◌∷◌, length, IfOk, IfErr, OnOk, OnErr};
-ghost use Rattle.mqtt_flow.specs.FreeIdentifier.{closed_in};
-ghost use Rattle.mqtt_flow.specs.Queue.{greatest_order};
-ghost use Rattle.mqtt_flow.specs.Outbound.{first_step, freed, in_room, later_step, pace, paced, pump, pump_step};
+ghost use Rattle.std.specs.Prelude.{◌≡◌, ◌+◌, ◌≤◌, ◌<◌, ◌^◌, ◌++◌, [], ◌∷◌, length, map, IfOk, IfErr, OnOk, OnErr};
+ghost use Rattle.mqtt_flow.specs.Outbound.{first_step, in_room, later_step, pace_known, paced, pump_from, pump_step};
 
-use crate::entry::{Entry, Turn, Way};
+use crate::entry::{Turn, Way};
 use crate::fault::FlowFault;
-use crate::plan::{greatest_order, identifiers, in_window, is_large, is_late, lowest_free};
+use crate::in_use::{free, lowest_free, push_identifiers};
+use crate::plan::{is_large, is_late};
+use crate::row::QueueRow;
 use mqtt_base::{Ending, PUMP_LIMIT, Phase, Qos};
 use std::alloc::Global;
 use std::marker::Model;
 
 /// What a pump has left.
 #[derive(Drop)]
-struct Pace {
+pub(crate) struct Pace {
     /// PUBLISH that may go out.
     left: u16,
     /// PUBLISH for which the window has room.
@@ -55,39 +55,43 @@ fn in_room(pace: &Pace, turn: Turn) -> Step
 }
 
 /// A turn for a copy that waits (4.3).
-fn first_time(way: Way, pace: &Pace, entry: &Entry) -> Step
-    requires { length pace.now.used < 65535 }
-    ensures { result ≡ first_step way entry.now pace.now }
+fn first_time<R: QueueRow>(alloc: Global, way: Way, pace: &Pace, row: &R) -> Result<Step, FlowFault>
+    requires { length pace.now.used < 65534 }
+    ensures step { (went : R.Went) → IfOk result (λ step. step ≡ first_step way (R.entry went row.now) pace.now) }
+    ensures fault { IfErr result (λ fault. fault ≡ FlowFault.Memory) }
 {
-    let place = entry.place;
-    if is_late(way.now, &entry.copy) {
-        return Step::Take(Turn::Leave {
+    let place = row.place();
+    if is_late(way.now, row) {
+        return Ok(Step::Take(Turn::Leave {
             place,
             ending: Ending::Expired,
-        });
+        }));
     }
-    if is_large(way, &entry.copy) {
-        return Step::Take(Turn::Leave {
+    if is_large(way, row) {
+        return Ok(Step::Take(Turn::Leave {
             place,
             ending: Ending::TooLarge,
-        });
+        }));
     }
-    let identifier = lowest_free(&pace.used);
-    in_room(pace, Turn::Send { place, identifier })
+    if pace.room > 0 {
+        let identifier = lowest_free(alloc, &pace.used)?;
+        return Ok(Step::Take(Turn::Send { place, identifier }));
+    }
+    Ok(Step::Stop)
 }
 
 /// A turn for a copy that was sent (4.4).
-fn once_more(way: Way, pace: &Pace, entry: &Entry, identifier: u16) -> Step
-    ensures { result ≡ later_step way identifier entry.now pace.now }
+fn once_more<R: QueueRow>(way: Way, pace: &Pace, row: &R, went: &R::Went, identifier: u16) -> Step
+    ensures { result ≡ later_step way identifier (R.entry went.now row.now) pace.now }
 {
-    let place = entry.place;
-    if entry.here {
+    let place = row.place();
+    if row.here(went) {
         return Step::GoOn;
     }
-    if !is_large(way, &entry.copy) {
+    if !is_large(way, row) {
         return in_room(pace, Turn::Resend { place, identifier });
     }
-    match entry.copy.qos {
+    match row.qos() {
         Qos::AtMostOnce | Qos::AtLeastOnce => Step::Take(Turn::Leave {
             place,
             ending: Ending::TooLarge,
@@ -100,39 +104,25 @@ fn once_more(way: Way, pace: &Pace, entry: &Entry, identifier: u16) -> Step
     }
 }
 
-/// What a pump does at an entry.
-fn step_at(way: Way, pace: &Pace, entry: &Entry) -> Step
-    requires { length pace.now.used < 65535 }
-    ensures { result ≡ pump_step way pace.now entry.now }
+/// What a pump does at a row.
+fn step_at<R: QueueRow>(
+    alloc: Global,
+    way: Way,
+    pace: &Pace,
+    row: &R,
+    went: &R::Went,
+) -> Result<Step, FlowFault>
+    requires { length pace.now.used < 65534 }
+    ensures step { IfOk result (λ step. step ≡ pump_step way pace.now (R.entry went.now row.now)) }
+    ensures fault { IfErr result (λ fault. fault ≡ FlowFault.Memory) }
 {
     if pace.left == 0 {
-        return Step::Stop;
+        return Ok(Step::Stop);
     }
-    match entry.phase {
-        Phase::Waiting => first_time(way, pace, entry),
-        Phase::Sent { identifier } => once_more(way, pace, entry, identifier),
-        Phase::Released { .. } | Phase::Oversize { .. } => Step::GoOn,
-    }
-}
-
-/// Closes an identifier.
-fn close(used: &mut Vec<u16>, identifier: u16)
-    ensures items { used.new.items ≡ closed_in identifier used.old.items }
-    ensures len { length used.new.items ≤ length used.old.items }
-{
-    used.retain(|other| *other != identifier);
-}
-
-/// Frees the identifier of a copy that leaves.
-fn free(used: &mut Vec<u16>, phase: Phase)
-    ensures items { used.new.items ≡ freed phase used.old.items }
-    ensures len { length used.new.items ≤ length used.old.items }
-{
-    match phase {
-        Phase::Waiting => {}
-        Phase::Sent { identifier } => close(used, identifier),
-        Phase::Released { identifier, .. } => close(used, identifier),
-        Phase::Oversize { identifier, .. } => close(used, identifier),
+    match row.phase() {
+        Phase::Waiting => first_time(alloc, way, pace, row),
+        Phase::Sent { identifier } => Ok(once_more(way, pace, row, went, identifier)),
+        Phase::Released { .. } | Phase::Oversize { .. } => Ok(Step::GoOn),
     }
 }
 
@@ -161,41 +151,62 @@ fn count(pace: &mut Pace, turn: Turn, phase: Phase) -> Result<(), FlowFault>
     Ok(())
 }
 
-/// What a pump may do before its first step.
-fn first_pace(alloc: Global, way: Way, entries: &[Entry]) -> Result<Pace, FlowFault>
-    requires { greatest_order entries.now < 2 ^ 63 }
-    ensures exact { IfOk result (λ p. p ≡ pace way entries.now) }
+/// Takes a turn, for a copy of a phase.
+fn take(turns: &mut Vec<Turn>, pace: &mut Pace, turn: Turn, phase: Phase) -> Result<(), FlowFault>
+    requires { pace.old.order + 1 < 2 ^ 64 }
+    ensures turns { OnOk result (turns.new.items ≡ turns.old.items ++ turn ∷ []) }
+    ensures pace { OnOk result (pace.new ≡ paced turn phase pace.old) }
+    ensures used { OnOk result (length pace.new.used ≤ length pace.old.used + 1) }
+    ensures order { OnOk result (pace.new.order ≤ pace.old.order + 1) }
     ensures fault { IfErr result (λ fault. fault ≡ FlowFault.Memory) }
 {
-    let used = identifiers(alloc, entries)?;
+    turns.push(turn).map_err(|_| FlowFault::Memory)?;
+    count(pace, turn, phase)
+}
+
+/// What a pump may do before its first step, where this much of the window is filled and this is the greatest order.
+pub(crate) fn first_pace<R: QueueRow>(
+    alloc: Global,
+    way: Way,
+    rows: &[R],
+    window: usize,
+    order: u64,
+) -> Result<Pace, FlowFault>
+    requires { order < 2 ^ 63 }
+    ensures exact { (went : R.Went) → IfOk result (λ p. p ≡ pace_known way window order (map (R.entry went) rows.now)) }
+    ensures fault { IfErr result (λ fault. fault ≡ FlowFault.Memory) }
+{
+    let mut used = Vec::new(alloc);
+    push_identifiers(&mut used, rows)?;
     Ok(Pace {
         left: PUMP_LIMIT,
-        room: usize::from(way.window).saturating_sub(in_window(entries)),
+        room: usize::from(way.window).saturating_sub(window),
         used,
-        order: greatest_order(entries) + 1,
+        order: order + 1,
     })
 }
 
-/// The turns of one pump: resends and first sends in the order of the queue, as far as the window
-/// and the limit of
-/// `PUMP_LIMIT` go (4.6, 4.9).
-pub(crate) fn pump(alloc: Global, way: Way, entries: &[Entry]) -> Result<Vec<Turn>, FlowFault>
-    requires orders { greatest_order entries.now < 2 ^ 63 }
-    requires few { length entries.now ≤ 1000 }
-    ensures turns { IfOk result (λ turns. turns.items ≡ pump way entries.now) }
+/// Adds the turns of a pump from these rows on: resends and first sends in the order of the queue, as far as the window
+/// and the limit of `PUMP_LIMIT` go (4.6, 4.9).
+pub(crate) fn push_pumped<R: QueueRow>(
+    alloc: Global,
+    turns: &mut Vec<Turn>,
+    pace: &mut Pace,
+    way: Way,
+    rows: &[R],
+    went: &R::Went,
+) -> Result<(), FlowFault>
+    requires orders { pace.old.order + length rows.now < 2 ^ 64 }
+    requires few { length pace.old.used + length rows.now < 65534 }
+    ensures turns { OnOk result (turns.new.items ≡ turns.old.items ++ pump_from way (map (R.entry went.now) rows.now) pace.old) }
     ensures fault { IfErr result (λ fault. fault ≡ FlowFault.Memory) }
 {
-    let mut pace = first_pace(alloc, way, entries)?;
-    let mut turns = Vec::new(alloc);
-    for entry in entries {
-        match step_at(way, &pace, entry) {
-            Step::Stop => return Ok(turns),
+    for row in rows {
+        match step_at(alloc, way, pace, row, went)? {
+            Step::Stop => return Ok(()),
             Step::GoOn => {}
-            Step::Take(turn) => {
-                turns.push(turn).map_err(|_| FlowFault::Memory)?;
-                count(&mut pace, turn, entry.phase)?;
-            }
+            Step::Take(turn) => take(turns, pace, turn, row.phase())?,
         }
     }
-    Ok(turns)
+    Ok(())
 }

@@ -1,15 +1,14 @@
 //! What a session puts into its queue of outbound copies, sends from it and ends in it (4.3, 4.4,
 //! 4.6, 4.9).
 
-ghost use Rattle.std.specs.Prelude.{◌≡◌, ◌+◌, ◌<◌, ◌≤◌, true, length, IfErr, IfOk, OnErr, OnOk};
-ghost use Rattle.mqtt_flow.specs.Queue.{next_order, next_place};
+ghost use Rattle.std.specs.Prelude.{◌≡◌, ◌<◌, ◌≤◌, true, length, IfErr, IfOk, OnErr, OnOk};
+ghost use Rattle.mqtt_flow.specs.Queue.{greatest_given, next_place};
 ghost use Rattle.mqtt_flow.specs.Outbound.{KeptOut, anew, entered, expired, has_room, lapsed, pump, pumped, resumed_with, way_made, way_open};
 
 use crate::entry::{QueueLimits, QueuedCopy, Turn, Way};
 use crate::fault::FlowFault;
+use crate::look::{look_enter, look_expire, look_pump, look_resume};
 use crate::outflow::Outflow;
-use crate::plan::{dropped, due, expired, has_room};
-use crate::pump::pump;
 use mqtt_base::{LAST_NUMBER, QUEUE_LIMIT};
 use std::alloc::Global;
 
@@ -28,11 +27,7 @@ impl Outflow {
         ensures below { OnOk result (length (way_open limits since self.now.queue) < limits.queue) }
         ensures fault { IfErr result (KeptOut (has_room limits since self.now.queue)) }
     {
-        if !has_room(limits, since, self.entries()) {
-            return Err(FlowFault::Full);
-        }
-        let count = (self.entries().len() + 1).saturating_sub(limits.queue);
-        dropped(alloc, count, since, self.entries())
+        look_enter(alloc, limits, since, self.entries())
     }
 
     /// Takes in a copy, and answers with the turns by which others made way (ours).
@@ -44,7 +39,8 @@ impl Outflow {
         copy: QueuedCopy,
     ) -> Result<Vec<Turn>, FlowFault>
         requires limits { limits.queue ≤ QUEUE_LIMIT }
-        requires place { next_place self.old.queue ≤ LAST_NUMBER }
+        requires place { has_room limits since self.old.queue ≡ true →
+            next_place (way_open limits since self.old.queue) ≤ LAST_NUMBER }
         ensures turns { IfOk result (λ turns. turns.items ≡ way_made limits since self.old.queue) }
         ensures only { OnOk result (has_room limits since self.old.queue ≡ true) }
         ensures ok { OnOk result (self.new.queue ≡ entered limits since copy self.old.queue) }
@@ -63,13 +59,13 @@ impl Outflow {
         ensures turns { IfOk result (λ turns. turns.items ≡ pump way self.now.queue) }
         ensures fault { IfErr result (λ fault. fault ≡ FlowFault.Memory) }
     {
-        pump(alloc, way, self.entries())
+        look_pump(alloc, way, self.entries(), &())
     }
 
     /// Sends what order, window and the limit of `PUMP_LIMIT` let it send, and answers with the
     /// turns taken (4.6, 4.9).
     pub fn pump(&mut self, alloc: Global, way: Way) -> Result<Vec<Turn>, FlowFault>
-        requires { next_order self.old.queue + length self.old.queue ≤ LAST_NUMBER }
+        requires { greatest_given (pump way self.old.queue) ≤ LAST_NUMBER }
         ensures turns { IfOk result (λ turns. turns.items ≡ pump way self.old.queue) }
         ensures ok { OnOk result (self.new.queue ≡ pumped way self.old.queue) }
         ensures fault { IfErr result (λ fault. fault ≡ FlowFault.Memory) }
@@ -85,7 +81,7 @@ impl Outflow {
         ensures turns { IfOk result (λ turns. turns.items ≡ expired now self.now.queue) }
         ensures fault { IfErr result (λ fault. fault ≡ FlowFault.Memory) }
     {
-        expired(alloc, now, self.entries())
+        look_expire(alloc, now, self.entries())
     }
 
     /// Ends the copies that wait and are late at a moment, and answers with the turns taken
@@ -107,15 +103,7 @@ impl Outflow {
         ensures turns { IfOk result (λ turns. turns.items ≡ resumed_with self.now.queue) }
         ensures fault { IfErr result (λ fault. fault ≡ FlowFault.Memory) }
     {
-        let dues = due(alloc, self.entries())?;
-        let mut turns = Vec::new(alloc);
-        for due in &dues {
-            let turn = Turn::Repeat {
-                identifier: due.identifier,
-            };
-            turns.push(turn).map_err(|_| FlowFault::Memory)?;
-        }
-        Ok(turns)
+        look_resume(alloc, self.entries())
     }
 
     /// Begins a resumed connection, on which nothing was sent, and answers with the turns taken

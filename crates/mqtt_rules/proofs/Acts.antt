@@ -1,9 +1,8 @@
--- A class of deeds, which may look at the state that a deed comes on: which facts make all deeds of every call good.
-use Rattle.std.proofs.Common.{◌≡◌, ℕ, Bool, true, false, cond, not, List, [], ◌∷◌, ◌++◌, filter, map, Option, Some, None, refl}
-use Rattle.std.specs.Prelude.{⊤, suc, nat_lt, flat_map, find, option_map, Ok, Err}
-use Rattle.mqtt_base.specs.declared.session.Ending.TheVariants.{SessionEnded}
-use Rattle.mqtt_base.specs.declared.session.Phase.{Phase}
-use Rattle.mqtt_base.specs.declared.session.Phase.TheVariants.{Sent, Released as ReleasedPhase, Oversize}
+-- The one induction over all acts: what a law has to say of each unit of deeds, so that it holds of every call and opening.
+use Rattle.std.proofs.Common.{◌≡◌, ℕ, Bool, true, false, cond, not, ◌&&◌, ◌||◌, List, [], ◌∷◌, ◌++◌, ◌⊎◌, length, filter, map, Option, Some, None, nat_eq, bytes_eq, refl, sym, ap, subst, ◌∙◌, inl, inr}
+use Rattle.std.specs.Prelude.{⊤, suc, nat_lt, nat_le, flat_map, find, option_map, is_none, Ok, Err}
+use Rattle.std.proofs.lemmas.Bool.{cases_Bool, eqb-true}
+use Rattle.std.proofs.lemmas.Slice.Eq.{bytes_eq-Decides}
 use Rattle.mqtt_props.specs.declared.table.PropName.TheVariants.{SessionExpiryInterval, SubscriptionIdentifier, TopicAlias}
 use Rattle.mqtt_codec.specs.declared.connect.Connect.{Connect as Greeting}
 use Rattle.mqtt_codec.specs.declared.publish.Delivery.{Delivery as Quality}
@@ -12,437 +11,656 @@ use Rattle.mqtt_codec.specs.declared.publish.Publish.{Publish as Publication}
 use Rattle.mqtt_codec.specs.declared.subscribe.Subscribe.{Subscribe as Asking}
 use Rattle.mqtt_codec.specs.declared.unsubscribe.Unsubscribe.{Unsubscribe as GivingUp}
 use Rattle.mqtt_codec.specs.declared.packet.Packet.{Packet}
-use Rattle.mqtt_codec.specs.declared.packet.Packet.TheVariants.{Connect, Publish, Puback, Pubrec, Pubrel, Pubcomp, Subscribe, Unsubscribe, Pingreq, Pingresp, Disconnect}
+use Rattle.mqtt_codec.specs.declared.packet.Packet.TheVariants as packets
 use Rattle.mqtt_codec.specs.Subscriptions.{Subscription as Asked}
 use Rattle.mqtt_topic.specs.Names.{is_empty}
+use Rattle.mqtt_topic.specs.Filters.{is_filter}
 use Rattle.mqtt_flow.specs.declared.entry.Turn.{Turn}
 use Rattle.mqtt_flow.specs.declared.entry.Turn.TheVariants as turns
 use Rattle.mqtt_flow.specs.declared.inflow.Published.{Published}
 use Rattle.mqtt_flow.specs.declared.inflow.Published.TheVariants.{New, Again, Over}
-use Rattle.mqtt_flow.specs.declared.inflow.Released.{Released}
-use Rattle.mqtt_flow.specs.declared.inflow.Released.TheVariants.{Known, Unknown}
+use Rattle.mqtt_flow.specs.declared.inflow.ReleaseAnswer.{ReleaseAnswer}
+use Rattle.mqtt_flow.specs.declared.inflow.ReleaseAnswer.TheVariants.{Known, Unknown}
 use Rattle.mqtt_base.specs.Codes.{success, identifier_in_use, identifier_not_found, quota_exceeded, receive_maximum_exceeded, session_taken_over}
-use Rattle.mqtt_flow.specs.Inbound.{answer_to, answer_to_release, is_open}
-use Rattle.mqtt_flow.specs.Outbound.{Answer, way_made, due_from}
+use Rattle.mqtt_base.specs.declared.limits.TheConstants.{SUBSCRIPTION_LIMIT}
+use Rattle.mqtt_flow.specs.Identifiers.{is_among}
+use Rattle.mqtt_flow.specs.Inbound.{answer_to, answer_to_release}
+use Rattle.mqtt_flow.specs.Outbound.{Answer, due_from}
 use Rattle.mqtt_flow.specs.Outbound as rules
-use Rattle.mqtt_message.specs.declared.message.MessageCopy.{MessageCopy}
 use Rattle.mqtt_message.specs.declared.message.RetainedMessage.{RetainedMessage}
 use Rattle.mqtt_message.specs.declared.message.Will.{Will}
 use Rattle.mqtt_records.specs.declared.session.Session.{Session}
-use Rattle.mqtt_rows.specs.Order.{row_at}
-use Rattle.mqtt_records.specs.Session.{copy_place}
+use Rattle.mqtt_records.specs.declared.records.Records.{Records}
+use Rattle.mqtt_records.specs.Session.{birth_of}
 use Rattle.mqtt_rules.specs.Packets.{puback, pubrec, pubcomp, pubrel, suback, unsuback, connack, disconnect, publish_of, number_at}
 use Rattle.mqtt_rules.specs.State.{Line, Broker, Env, session_at, session_named, line_at, line_of, is_connected, queue_on}
-use Rattle.mqtt_rules.specs.Deeds.{Whose, whose, Message, Origin, FromClient, FromWill, Part, Resume, Close, SetExpiry, DropWill, Open, Release, Enter, Mark, Leave, LinePart, Hear, SetAlias, Went, Deed, Accept, Begin, Name, Count, At, Finish, Keep, Forget, RefuseWill, Link, On, Send, Gone, after, after_all, Act, then, series, always, only_if, with_session, of_session, with_line, offer}
-use Rattle.mqtt_rules.specs.Deeds as deeds
-use Rattle.mqtt_rules.specs.Outbound.{leave_deeds, turn_deeds, all_turn_deeds, since, queue_limits, enter_deeds}
-use Rattle.mqtt_rules.specs.Routing.{Delivery, is_queued, deliver_by, deliver, retained_of, forgets, retain_by, next_publication, publish, routed, is_wanted}
+use Rattle.mqtt_rules.specs.Deeds.{Whose, whose, Message, Origin, FromClient, FromWill, Part, Resume, Close, SetExpiry, DropWill, Unsubscribe, Open, Release, LinePart, Hear, Greet, SetAlias, Went, Deed, At, Forget, RefuseWill, Link, On, Send, Gone, line_after, on_line, after, after_all, Act, series, always, only_if, with_session, of_session, offer}
+use Rattle.mqtt_rules.specs.Outbound.{turn_deeds, all_turn_deeds, room}
+use Rattle.mqtt_rules.specs.Routing.{CopyTo, is_queued, publish, accepted_copies, is_wanted}
 use Rattle.mqtt_rules.specs.Closing.{has_due_will, has_due_end, will_message, publish_or_refuse, will_deeds, publish_will, end_session, settle, close_session, close_connected, close, drop_line}
-use Rattle.mqtt_rules.specs.Connect.{largest_of, refusal, refused, of_client, take_over, clear, prepare, will_of, fresh_row, resume, begin_named, joins, connect_by, on_connect}
-use Rattle.mqtt_rules.specs.Inbound.{Meaning, Means, Wrong, meaning, sets_alias, standing, answer, opens, code_again, code_accepted, publish_new, publish_by, message_of, publish_meant, on_publish, release_by, on_pubrel, turned, answered, pump_turns, pump_deeds, is_late_expiry, new_expiry, leave_by, on_disconnect}
-use Rattle.mqtt_rules.specs.Subscribe.{Wish, wish_of, brought, has_filter, subscription, grants, granted_by, granted_to, next_number, all_granted, late_sends, subscribe_by, on_subscribe, unsubscribes, drop_codes, unsubscribe_by, on_unsubscribe}
-use Rattle.mqtt_rules.specs.Tick.{is_silent, silence, lapses, has_lapsed, lapse_deeds, is_stale, first_due, due, on_tick}
+use Rattle.mqtt_rules.specs.Connect.{largest_of, refusal, refused, of_client, take_over, clear, prepare, expiry_of, will_of, greet, connack_properties, resume, begin_named, joins, joins_after, connect_by, on_connect}
+use Rattle.mqtt_rules.specs.Inbound.{Meaning, Means, Wrong, meaning, sets_alias, standing, answer, opens, code_again, code_accepted, publish_new, publish_by, message_of, publish_meant, release_by, on_answer, pump_deeds, is_late_expiry, leave_by}
+use Rattle.mqtt_rules.specs.Subscribe as sub
+use Rattle.mqtt_rules.specs.Tick.{is_silent, silence, has_lapsed, lapse_deeds, is_stale, first_due, due, on_tick}
 use Rattle.mqtt_rules.specs.Step.{Call, NewLine, Input, BadInput, Lost, Pump, Tick, first_packet, next_packet, on_packet, on_fault, late_code, on_pump, can_link, deeds_of, close_if, opening}
-pub use Rattle.mqtt_rules.proofs.Goods.{after_append, AreGood, GoodAct, GoodActs, good_append, good_then, good_series, good_two, good_map, good_flat, good_acts, good_cond, good_if, good_with_session, good_of_session, good_of_client, good_with_line, good_of_entry}
-use Rattle.mqtt_rules.proofs.Copies.{IsMade, AreMade, routed_numbered, brought_made, made_numbered, beside_leaves, beside_deliver, made_stays, are_made_stay, each_filter}
+use Rattle.mqtt_rules.proofs.FlightRows.{found_key}
+use Rattle.mqtt_rules.specs.Laws.{IsAmong}
+use Rattle.mqtt_rules.proofs.Leads.{found_among, found_passes, row_among, Leads, Leading, leads_append, leads_series, leads_two, leads_flat, leads_map, leads_cond, leads_if, leads_of_session, leads_of_client, leads_with_line}
 
--- the parts that open no identifier, bring no copy, and are no turn of the queue
-abbrev pub is_plain : Part → Bool
-is_plain (Open id) = false
-is_plain (Enter copy) = false
-is_plain (Mark place phase) = false
-is_plain part = true
+-- ---- whom a step concerns
 
--- what makes deeds good: each kind of deed, on the state that it comes on in a step
-pub record Facts (Good : Deed → Broker → Type 0) : Type 0 where
-  pub accept : (origin : Origin) (m : Message) (b : Broker) → Good (Accept (next_publication b.records) origin m) b
-  pub begin_row : (client : List ℕ) (c : Greeting) (b : Broker) → Good (Begin (fresh_row (suc b.records.births) client c) (will_of c)) b
-  pub name : (b : Broker) → Good (Name (suc b.records.autos)) b
-  pub count : (b : Broker) → Good (Count (next_number b.records)) b
-  pub at_part : (who : Whose) (part : Part) (b : Broker) → is_plain part ≡ true → Good (At who part) b
-  -- an identifier opens where its PUBLISH was new to the session, which stood before the publication's deeds
-  pub open_id : (birth : ℕ) (s : Session) (id : ℕ) (env : Env) (m : Message) (ds : List Delivery) (b : Broker)
-      → session_at birth b.records ≡ Some s → answer_to id s.inbound ≡ New → routed env m b ≡ Some ds
-      → Good (At (whose s) (Open id)) (after_all (publish env FromClient m ds b) b)
-  -- a copy is of an accepted publication, or of a retained message that stands
-  pub enter : (who : Whose) (copy : MessageCopy) (b : Broker) → IsMade copy b.records → Good (At who (Enter copy)) b
-  pub finish : (who : Whose) (b : Broker) → Good (Finish who) b
-  -- a message is retained of the publication that was just accepted
-  pub keep : (kept : RetainedMessage) (b : Broker) → kept.publication ≡ b.records.publications → Good (Keep kept) b
-  pub forget : (place : ℕ) (b : Broker) → Good (Forget place) b
-  pub refuse_will : (who : Whose) (b : Broker) → Good (RefuseWill who) b
-  pub link : (b : Broker) → Good (Link (suc b.given)) b
-  pub on_line : (line : ℕ) (part : LinePart) (b : Broker) → Good (On line part) b
-  pub send : (line : ℕ) (packet : Packet) (b : Broker) → Good (Send line packet) b
-  pub gone : (line : ℕ) (b : Broker) → Good (Gone line) b
+-- the lines, by themselves and by their numbers, the births of the sessions, the client identifiers that CONNECT names,
+-- the packets that come in, and the messages that are published: a law may leave out those of others
+pub record About : Type 1 where
+  pub line : Line → Type 0
+  pub number : ℕ → Type 0
+  pub session : ℕ → Type 0
+  pub client : List ℕ → Broker → Type 0
+  pub packet : Packet → Type 0
+  pub message : Message → Type 0
 
-forget_numbers : (k : Option RetainedMessage) (b : Broker) → (after_all (forgets k) b).records.publications ≡ b.records.publications
-forget_numbers None b = refl
-forget_numbers (Some k) b = refl
+-- all of them
+abbrev pub anyone : About
+anyone = record {
+  line = λ l. ⊤;
+  number = λ n. ⊤;
+  session = λ birth. ⊤;
+  client = λ client b. ⊤;
+  packet = λ packet. ⊤;
+  message = λ m. ⊤;
+}
 
--- retaining a message gives no publication
-retain_numbers : (retain empty : Bool) (number : ℕ) (m : Message) (b : Broker) → (after_all (retain_by retain empty number m b) b).records.publications ≡ b.records.publications
-retain_numbers false empty number m b = refl
-retain_numbers true true number m b = forget_numbers (retained_of m.topic b.records) b
-retain_numbers true false number m b = refl
+-- a line with this number stands, with this session
+abbrev pub IsOn : ℕ → Option ℕ → List Line → Type 0
+IsOn n session [] = ⊥
+IsOn n session (l ∷ ls) = ((l.number ≡ n) × (l.session ≡ session)) ⊎ IsOn n session ls
+
+-- CONNECT isn't refused, by what was stored at some moment
+abbrev pub IsAdmitted : Greeting → Type 0
+IsAdmitted c = (r : Records) × (refusal c r ≡ None)
+
+-- an answer to a receiver's packet
+abbrev pub IsAnswer : Answer → Line → Session → Type 0
+IsAnswer a l s =
+    ((id : ℕ) × (code : ℕ) × (a ≡ rules.puback id code (queue_on l.went s)))
+    ⊎ ((id : ℕ) × (code : ℕ) × (a ≡ rules.pubrec id code (queue_on l.went s)))
+    ⊎ ((id : ℕ) × (a ≡ rules.pubcomp id (queue_on l.went s)))
+
+-- the parts that stand alone in a session's act
+abbrev pub is_alone : Part → Bool
+is_alone DropWill = true
+is_alone (SetExpiry expiry) = true
+is_alone (Unsubscribe filter) = true
+is_alone (Release id) = true
+is_alone part = false
+
+-- a line closes, and its session with it, which keeps its Will or not
+abbrev pub closing_session : Bool → ℕ → Option Session → List Deed
+closing_session keeps_will now None = []
+closing_session true now (Some s) = At (whose s) (Close now) ∷ []
+closing_session false now (Some s) = At (whose s) DropWill ∷ At (whose s) (Close now) ∷ []
+
+abbrev pub closing_on : Bool → ℕ → Option ℕ → Records → List Deed
+closing_on keeps_will now None r = []
+closing_on keeps_will now (Some birth) r = closing_session keeps_will now (session_at birth r)
+
+abbrev pub closing : Bool → Line → Broker → List Deed
+closing keeps_will l b = Gone l.number ∷ closing_on keeps_will b.now l.session b.records
+
+-- the copies that the retained messages for a wish make
+abbrev pub brought_to : sub.Wish → Session → Broker → List CopyTo
+brought_to w s b = sub.brought b.now (sub.next_number b.records) s w b.records.retained
+
+-- a filter is granted: it is valid, and there is room for it and for its copies
+pub record IsGranted (env : Env) (w : sub.Wish) (s : Session) (b : Broker) : Type 0 where
+  pub session : session_at s.birth b.records ≡ Some s
+  pub valid : is_filter w.filter ≡ true
+  pub fits : (sub.has_filter w.filter s || nat_lt (length s.subscriptions) SUBSCRIPTION_LIMIT) ≡ true
+  pub has_room : nat_le (length (filter is_queued (brought_to w s b))) (room env s) ≡ true
+
+-- ---- what a law has to say: look-ups stay among those concerned, and each unit of deeds is good and keeps what is kept
+
+pub record Finds (about : About) (Keep : Broker → Type 0) : Type 0 where
+  pub its_number : (l : Line) → about.line l → about.number l.number
+  pub its_session : (l : Line) (birth : ℕ) → about.line l → l.session ≡ Some birth → about.session birth
+  pub its_line : (birth : ℕ) (l : Line) (b : Broker) → Keep b → about.session birth → line_of birth b ≡ Some l → about.line l
+  pub named : (client : List ℕ) (s : Session) (b : Broker) → Keep b → about.client client b → session_named client b.records ≡ Some s → about.session s.birth
+  pub admitted : (c : Greeting) (b : Broker) → Keep b → about.packet (packets.Connect c) → refusal c b.records ≡ None → about.client c.client_identifier b
+  pub sent : (l : Line) (s : Session) (p : Publication) (topic : List ℕ) (b : Broker) → Keep b → about.line l → about.packet (packets.Publish p) → meaning p l.aliases ≡ Means topic
+      → about.message (message_of s.client topic p)
+  pub willed : (s : Session) (w : Will) (b : Broker) → Keep b → IsAmong s b.records.sessions → s.will ≡ Some w → about.message (will_message s.client w)
+
+pub record Law (env : Env) (about : About) (Keep : Broker → Type 0) (Good : Deed → Broker → Type 0) : Type 0 where
+  pub finds : Finds about Keep
+  pub client_stays : (client : List ℕ) (ds : List Deed) (b : Broker) → Keep b → Leads Keep Good ds b → about.client client b → about.client client (after_all ds b)
+  -- publications
+  pub publishes : (origin : Origin) (m : Message) (ds : List CopyTo) (b : Broker) → Keep b → about.message m → accepted_copies env m b ≡ Some ds → Leads Keep Good (publish env origin m ds b) b
+  pub open_id : (s : Session) (id : ℕ) (m : Message) (ds : List CopyTo) (b : Broker)
+      → Keep b → Keep (after_all (publish env FromClient m ds b) b) → about.session s.birth
+      → session_at s.birth b.records ≡ Some s → answer_to id s.inbound ≡ New → accepted_copies env m b ≡ Some ds
+      → Leads Keep Good (At (whose s) (Open id) ∷ []) (after_all (publish env FromClient m ds b) b)
+  pub refuse_will : (who : Whose) (b : Broker) → Keep b → about.session who.birth → Leads Keep Good (RefuseWill who ∷ []) b
+  -- sessions
+  pub alone : (who : Whose) (part : Part) (b : Broker) → Keep b → about.session who.birth → is_alone part ≡ true → Leads Keep Good (At who part ∷ []) b
+  pub closes : (keeps_will : Bool) (l : Line) (b : Broker) → Keep b → about.line l → IsOn l.number l.session b.lines → Leads Keep Good (closing keeps_will l b) b
+  pub ends : (s : Session) (b : Broker) → Keep b → about.session s.birth → IsAmong s b.records.sessions → Leads Keep Good (end_session s) b
+  pub resumes : (l : Line) (c : Greeting) (s : Session) (b : Broker)
+      → Keep b → about.line l → l.session ≡ None → about.packet (packets.Connect c) → IsAdmitted c → about.session s.birth → session_named c.client_identifier b.records ≡ Some s
+      → Leads Keep Good (At (whose s) (Resume (expiry_of c) (will_of c)) ∷ greet l c s.birth ∷ []) b
+  pub begins : (l : Line) (c : Greeting) (b : Broker)
+      → Keep b → about.line l → l.session ≡ None → about.packet (packets.Connect c) → IsAdmitted c → about.client c.client_identifier b
+      → session_named c.client_identifier b.records ≡ None → nat_lt (length b.records.sessions) env.limits.sessions ≡ true
+      → Leads Keep Good (begin_named (is_empty c.client_identifier) l c b.records) b
+  pub grants : (w : sub.Wish) (s : Session) (b : Broker) → Keep b → about.session s.birth → IsGranted env w s b
+      → Leads Keep Good (sub.granted_filter env (sub.next_number b.records) s w (brought_to w s b) b).deeds b
+  -- queues
+  pub pumps : (l : Line) (s : Session) (b : Broker) → Keep b → about.line l → l.session ≡ Some s.birth → session_at s.birth b.records ≡ Some s → Leads Keep Good (pump_deeds l b.now s) b
+  pub turns : (a : Answer) (t : Turn) (l : Line) (s : Session) (b : Broker)
+      → Keep b → about.line l → about.session s.birth → session_at s.birth b.records ≡ Some s → IsAnswer a l s → a ≡ Ok (Some t) → Leads Keep Good (turn_deeds b.now l.number s t) b
+  pub lapses : (s : Session) (b : Broker) → Keep b → IsAmong s b.records.sessions → Leads Keep Good (lapse_deeds b.now s) b
+  -- retained messages
+  pub stale : (k : RetainedMessage) (b : Broker) → Keep b → IsAmong k b.records.retained → Leads Keep Good (Forget k.place ∷ []) b
+  -- lines
+  pub links : (b : Broker) → Keep b → can_link b ≡ true → Leads Keep Good (Link (suc b.given) ∷ []) b
+  pub hears : (n : ℕ) (b : Broker) → Keep b → about.number n → Leads Keep Good (On n Hear ∷ []) b
+  pub sets : (n alias : ℕ) (topic : List ℕ) (b : Broker) → Keep b → about.number n → Leads Keep Good (On n (SetAlias alias topic) ∷ []) b
+  pub sends : (n : ℕ) (packet : Packet) (b : Broker) → Keep b → about.number n → Leads Keep Good (Send n packet ∷ []) b
+
+-- ---- calls that concern only those
+
+-- what is due is among them
+pub record IsDue (about : About) (b : Broker) : Type 0 where
+  pub silent : (l : Line) → find (λ l. is_silent b.now l.session l) b.lines ≡ Some l → about.line l
+  pub wills : (s : Session) → find (has_due_will b.now) b.records.sessions ≡ Some s → about.session s.birth
+  pub ends : (s : Session) → find (has_due_end b.now) b.records.sessions ≡ Some s → about.session s.birth
+
+-- the line with a number is among them
+abbrev pub IsItsLine : About → ℕ → Broker → Type 0
+IsItsLine about n b = (l : Line) → line_at n b ≡ Some l → about.line l
+
+abbrev pub IsCallOf : About → Call → Broker → Type 0
+IsCallOf about NewLine b = ⊤
+IsCallOf about (Input n packet) b = IsItsLine about n b × about.packet packet
+IsCallOf about (BadInput n is_connect code) b = IsItsLine about n b
+IsCallOf about (Lost n) b = IsItsLine about n b
+IsCallOf about (Pump n) b = IsItsLine about n b
+IsCallOf about Tick b = IsDue about b
+
+pub call_of_anyone : (call : Call) (b : Broker) → IsCallOf anyone call b
+call_of_anyone NewLine b = tt
+call_of_anyone (Input n packet) b = ((λ l e. tt), tt)
+call_of_anyone (BadInput n is_connect code) b = λ l e. tt
+call_of_anyone (Lost n) b = λ l e. tt
+call_of_anyone (Pump n) b = λ l e. tt
+call_of_anyone Tick b = record { silent = λ l e. tt; wills = λ s e. tt; ends = λ s e. tt }
+
+pub finds_anyone : (Keep : Broker → Type 0) → Finds anyone Keep
+finds_anyone Keep = record {
+  its_number = λ l its. tt;
+  its_session = λ l birth its e. tt;
+  its_line = λ birth l b k its e. tt;
+  named = λ client s b k its e. tt;
+  admitted = λ c b k came e. tt;
+  sent = λ l s p topic b k its came e. tt;
+  willed = λ s w b k among e. tt;
+}
+
+-- ---- a line and its number
+
+pub found_number : (n : ℕ) (l : Line) (ls : List Line) → find (λ x. nat_eq x.number n) ls ≡ Some l → l.number ≡ n
+found_number n l [] e = absurd cc
+found_number n l (x ∷ ls) e = elim (cases_Bool (nat_eq x.number n)) [
+  | inl here ↦ let first : Some x ≡ Some l = rw here at e in let it : x ≡ l = cc in ap (λ (y : Line). y.number) (sym it) ∙ eqb-true x.number n here
+  | inr other ↦ found_number n l ls (rw other at e)
+]
+
+pub found_on : (l : Line) (ls : List Line) → IsAmong l ls → IsOn l.number l.session ls
+found_on l [] h = absurd h
+found_on l (x ∷ ls) h = elim h [
+  | inl it ↦ inl (ap (λ (y : Line). y.number) it, ap (λ (y : Line). y.session) it)
+  | inr more ↦ inr (found_on l ls more)
+]
+
+-- a part that leaves a line's number and its session
+abbrev pub is_beside : LinePart → Bool
+is_beside Hear = true
+is_beside (SetAlias alias topic) = true
+is_beside part = false
+
+beside_line : (now : ℕ) (part : LinePart) (l : Line) → is_beside part ≡ true → ((line_after now part l).number ≡ l.number) × ((line_after now part l).session ≡ l.session)
+beside_line now Hear l h = (refl, refl)
+beside_line now (SetAlias alias topic) l h = (refl, refl)
+beside_line now (Greet birth keep_alive window largest) l h = absurd cc
+beside_line now (Went place) l h = absurd cc
+
+pub stays_on : (now k : ℕ) (part : LinePart) (n : ℕ) (session : Option ℕ) (ls : List Line) → is_beside part ≡ true → IsOn n session ls → IsOn n session (on_line now k part ls)
+stays_on now k part n session [] h on = absurd on
+stays_on now k part n session (l ∷ ls) h on = elim (cases_Bool (nat_eq l.number k)) [
+  | inl here ↦
+      let same = beside_line now part l h in
+      rw here (elim on [ inl it ↦ inl (same.0 ∙ it.0, same.1 ∙ it.1) | inr more ↦ inr more ])
+  | inr other ↦ rw other (elim on [ inl it ↦ inl it | inr more ↦ inr (stays_on now k part n session ls h more) ])
+]
 
 -- ---- act by act
 
-module _ (Good : Deed → Broker → Type 0) (facts : Facts Good) where
-  pub good_offer : (l : Option Line) (packet : Packet) (b : Broker) → AreGood Good (offer l packet) b
-  good_offer None packet b = tt
-  good_offer (Some l) packet b = good_cond Good _ (Send l.number packet ∷ []) [] b (facts.send l.number packet b, tt) tt
+module _ (env : Env) (about : About) (Keep : Broker → Type 0) (Good : Deed → Broker → Type 0) (law : Law env about Keep Good) where
+  abbrev Led : List Deed → Broker → Type 0
+  Led = Leads Keep Good
 
-  pub good_part : (who : Whose) (part : Part) → is_plain part ≡ true → GoodAct Good (always (At who part ∷ []))
-  good_part who part q b = (facts.at_part who part b q, tt)
+  abbrev Lead : Act → Type 0
+  Lead = Leading Keep Good
 
-  -- a session's queue
-  pub good_leave : (s : Session) (t : Turn) (b : Broker) → AreGood Good (leave_deeds s t) b
-  good_leave s (turns.Leave place ending) b =
-      good_of_entry Good (row_at copy_place place s.queue) (λ e. At (whose s) (Leave e ending) ∷ []) b (λ e. (facts.at_part (whose s) (Leave e ending) b refl, tt))
-  good_leave s t b = tt
+  -- a session of those concerned
+  of_its : (birth : ℕ) (f : Session → Act) (b : Broker) → Keep b → about.session birth
+      → ((s : Session) → session_at birth b.records ≡ Some s → about.session s.birth → Led (f s b) b) → Led (of_session birth f b) b
+  of_its birth f b k its h = leads_of_session Keep Good birth f b k (λ s e. h s e (subst about.session (sym (found_key birth_of birth s b.records.sessions e)) its))
 
-  pub good_enter : (env : Env) (copy : MessageCopy) (s : Session) (b : Broker) → IsMade copy b.records → AreGood Good (enter_deeds env copy s) b
-  good_enter env copy s b made =
-      let ts = way_made (queue_limits env) (since env s) (queue_on [] s) in
-      let first = flat_map (leave_deeds s) ts in
-      good_append Good first (At (whose s) (Enter copy) ∷ []) b
-      (good_flat Good (leave_deeds s) (good_leave s) ts b)
-      (facts.enter (whose s) copy (after_all first b) (made_stays copy first b (beside_leaves s ts b) made), tt)
+  own_session : (birth : ℕ) (s : Session) (b : Broker) → session_at birth b.records ≡ Some s → session_at s.birth b.records ≡ Some s
+  own_session birth s b e = ap (λ (n : ℕ). session_at n b.records) (found_key birth_of birth s b.records.sessions e) ∙ e
 
-  -- a publication
-  good_deliver_by : (t : Bool) (env : Env) (d : Delivery) (b : Broker) → IsMade d.copy b.records → AreGood Good (deliver_by t env d b) b
-  good_deliver_by true env d b made =
-      good_with_session Good (session_at d.birth b.records) (λ s. always (enter_deeds env d.copy s)) b (λ s e. good_enter env d.copy s b made)
-  good_deliver_by false env d b made = good_offer (line_of d.birth b) (publish_of b.now false 0 d.copy) b
+  of_named : (client : List ℕ) (f : Session → Act) (b : Broker) → Keep b → about.client client b
+      → ((s : Session) → session_named client b.records ≡ Some s → about.session s.birth → Led (f s b) b) → Led (of_client client f b) b
+  of_named client f b k its h = leads_of_client Keep Good client f b k (λ s e. h s e (law.finds.named client s b k its e))
 
-  pub good_deliver : (env : Env) (d : Delivery) (b : Broker) → IsMade d.copy b.records → AreGood Good (deliver env d b) b
-  good_deliver env d b made = good_deliver_by (is_queued d) env d b made
+  pub leads_send : (n : ℕ) (packet : Packet) → about.number n → Lead (always (Send n packet ∷ []))
+  leads_send n packet its b k = law.sends n packet b k its
 
-  pub good_deliveries : (env : Env) (ds : List Delivery) (b : Broker) → AreMade ds b.records → AreGood Good (series (map (deliver env) ds) b) b
-  good_deliveries env [] b made = tt
-  good_deliveries env (d ∷ ds) b made =
-      let first = deliver env d b in
-      let c = after_all first b in
-      good_append Good first (series (map (deliver env) ds) c) b (good_deliver env d b made.0)
-      (good_deliveries env ds c (are_made_stay ds first b (beside_deliver env d b) made.1))
-
-  good_forgets : (k : Option RetainedMessage) (b : Broker) → AreGood Good (forgets k) b
-  good_forgets None b = tt
-  good_forgets (Some k) b = (facts.forget k.place b, tt)
-
-  pub good_retain : (retain empty : Bool) (number : ℕ) (m : Message) (b : Broker) → number ≡ b.records.publications → AreGood Good (retain_by retain empty number m b) b
-  good_retain false empty number m b e = tt
-  good_retain true true number m b e = good_forgets (retained_of m.topic b.records) b
-  good_retain true false number m b e = (facts.keep _ b e, tt)
-
-  pub good_publish : (env : Env) (origin : Origin) (m : Message) (ds : List Delivery) (b : Broker) → routed env m b ≡ Some ds → AreGood Good (publish env origin m ds b) b
-  good_publish env origin m ds b e =
-      let number = next_publication b.records in
-      let first = Accept number origin m ∷ [] in
-      let c = after (Accept number origin m) b in
-      let next = retain_by m.retain (is_empty m.payload) number m c in
-      let d = after_all next c in
-      good_append Good first (next ++ series (map (deliver env) ds) d) b
-      (facts.accept origin m b, tt)
-      (good_append Good next (series (map (deliver env) ds) d) c
-      (good_retain m.retain (is_empty m.payload) number m c refl)
-      (good_deliveries env ds d (made_numbered number ds d (retain_numbers m.retain (is_empty m.payload) number m c) (routed_numbered env m b ds e))))
+  pub leads_offer : (n : ℕ) (packet : Packet) (b c : Broker) → Keep c → about.number n → Led (offer (line_at n b) packet) c
+  leads_offer n packet b c k its = found (line_at n b) refl
+    where
+      found : (o : Option Line) → line_at n b ≡ o → Led (offer o packet) c
+      found None e = (tt, k)
+      found (Some l) e =
+          leads_cond Keep Good _ (Send l.number packet ∷ []) [] c
+          (λ t. law.sends l.number packet c k (subst about.number (sym (found_number n l b.lines e)) its)) (λ t. (tt, k))
 
   -- Wills, ends, settling and closing
-  good_publish_or_refuse : (env : Env) (who : Whose) (m : Message) (ds : Option (List Delivery)) (b : Broker) → routed env m b ≡ ds → AreGood Good (publish_or_refuse env who m ds b) b
-  good_publish_or_refuse env who m None b e = (facts.refuse_will who b, tt)
-  good_publish_or_refuse env who m (Some ds) b e = good_publish env FromWill m ds b e
 
-  pub good_will_deeds : (env : Env) (who : Whose) (w : Option Will) → GoodAct Good (will_deeds env who w)
-  good_will_deeds env who None b = tt
-  good_will_deeds env who (Some w) b =
-      let m = will_message who.client w in
-      let first = publish_or_refuse env who m (routed env m b) b in
-      good_append Good first (At who DropWill ∷ []) b (good_publish_or_refuse env who m (routed env m b) b refl) (facts.at_part who DropWill _ refl, tt)
+  leads_publish_or_refuse : (who : Whose) (m : Message) (o : Option (List CopyTo)) (b : Broker) → Keep b → about.session who.birth → about.message m → accepted_copies env m b ≡ o → Led (publish_or_refuse env who m o b) b
+  leads_publish_or_refuse who m None b k its said e = law.refuse_will who b k its
+  leads_publish_or_refuse who m (Some ds) b k its said e = law.publishes FromWill m ds b k said e
 
-  pub good_publish_will : (env : Env) (s : Session) → GoodAct Good (publish_will env s)
-  good_publish_will env s b = good_will_deeds env (whose s) s.will b
+  leads_will : (s : Session) (will : Option Will) (b : Broker) → Keep b → about.session s.birth → IsAmong s b.records.sessions → s.will ≡ will → Led (will_deeds env (whose s) will b) b
+  leads_will s None b k its among e = (tt, k)
+  leads_will s (Some w) b k its among e =
+      let m = will_message s.client w in
+      leads_two Keep Good (publish_or_refuse env (whose s) m (accepted_copies env m b)) (always (At (whose s) DropWill ∷ [])) b
+      (leads_publish_or_refuse (whose s) m (accepted_copies env m b) b k its (law.finds.willed s w b k among e) refl)
+      (λ h. law.alone (whose s) DropWill _ h its refl)
 
-  pub good_end : (s : Session) → GoodAct Good (always (end_session s))
-  good_end s b =
-      good_append Good (map (λ e. At (whose s) (Leave e SessionEnded)) s.queue) (Finish (whose s) ∷ []) b
-      (good_map Good (λ e. At (whose s) (Leave e SessionEnded)) (λ e c. facts.at_part (whose s) (Leave e SessionEnded) c refl) s.queue b)
-      (facts.finish (whose s) _, tt)
+  pub leads_publish_will : (s : Session) (b : Broker) → Keep b → about.session s.birth → IsAmong s b.records.sessions → Led (publish_will env s b) b
+  leads_publish_will s b k its among = leads_will s s.will b k its among refl
 
-  pub good_settle : (env : Env) (birth : ℕ) → GoodAct Good (settle env birth)
-  good_settle env birth b =
-      good_series Good (of_session birth (λ s. only_if (has_due_will b.now s) (publish_will env s)) ∷ of_session birth (λ s. only_if (has_due_end b.now s) (always (end_session s))) ∷ []) (
-        good_of_session Good birth (λ s. only_if (has_due_will b.now s) (publish_will env s)) (λ s. good_if Good (has_due_will b.now s) (publish_will env s) (good_publish_will env s)),
-        (
-          good_of_session Good birth (λ s. only_if (has_due_end b.now s) (always (end_session s))) (λ s. good_if Good (has_due_end b.now s) (always (end_session s)) (good_end s)),
-          tt,
-        ),
-      ) b
+  if_here : (t : Bool) (act : Act) (b : Broker) → Keep b → Led (act b) b → Led (only_if t act b) b
+  if_here true act b k h = h
+  if_here false act b k h = (tt, k)
 
-  pub good_close_session : (env : Env) (keeps_will : Bool) (s : Session) → GoodAct Good (close_session env keeps_will s)
-  good_close_session env keeps_will s b =
-      good_series Good (only_if (not keeps_will) (always (At (whose s) DropWill ∷ [])) ∷ always (At (whose s) (Close b.now) ∷ []) ∷ settle env s.birth ∷ []) (
-        good_if Good (not keeps_will) (always (At (whose s) DropWill ∷ [])) (good_part (whose s) DropWill refl),
-        (good_part (whose s) (Close b.now) refl, (good_settle env s.birth, tt)),
-      ) b
+  pub leads_settle : (birth : ℕ) (b : Broker) → Keep b → about.session birth → Led (settle env birth b) b
+  leads_settle birth b k its =
+      leads_two Keep Good (of_session birth (λ s. only_if (has_due_will b.now s) (publish_will env s))) (of_session birth (λ s. only_if (has_due_end b.now s) (always (end_session s)))) b
+      (of_its birth (λ s. only_if (has_due_will b.now s) (publish_will env s)) b k its
+      (λ s e own. if_here (has_due_will b.now s) (publish_will env s) b k (leads_publish_will s b k own (row_among birth_of birth s b.records.sessions e))))
+      (λ h. let c = after_all (of_session birth (λ s. only_if (has_due_will b.now s) (publish_will env s)) b) b in
+      of_its birth (λ s. only_if (has_due_end b.now s) (always (end_session s))) c h its
+      (λ s e own. if_here (has_due_end b.now s) (always (end_session s)) c h (law.ends s c h own (row_among birth_of birth s c.records.sessions e))))
 
-  good_close_connected : (env : Env) (keeps_will : Bool) (birth : Option ℕ) → GoodAct Good (close_connected env keeps_will birth)
-  good_close_connected env keeps_will None b = tt
-  good_close_connected env keeps_will (Some birth) b = good_of_session Good birth (close_session env keeps_will) (good_close_session env keeps_will) b
+  leads_settled : (birth : ℕ) (b : Broker) → Keep b → about.session birth → Led ((settle env birth b ++ []) ++ []) b
+  leads_settled birth b k its =
+      leads_append Keep Good (settle env birth b ++ []) [] b
+      (leads_append Keep Good (settle env birth b) [] b (leads_settle birth b k its) (λ h. (tt, h))) (λ h. (tt, h))
 
-  pub good_close : (env : Env) (keeps_will : Bool) (l : Line) → GoodAct Good (close env keeps_will l)
-  good_close env keeps_will l b =
-      good_series Good (always (Gone l.number ∷ []) ∷ close_connected env keeps_will l.session ∷ [])
-      ((λ c. (facts.gone l.number c, tt)), (good_close_connected env keeps_will l.session, tt)) b
+  leads_closing : (keeps_will : Bool) (l : Line) (session : Option ℕ) (b : Broker) → about.line l → l.session ≡ session
+      → Led (Gone l.number ∷ closing_on keeps_will b.now session b.records) b → Led (series (always (Gone l.number ∷ []) ∷ close_connected env keeps_will session ∷ []) b) b
+  leads_closing keeps_will l None b its e h = h
+  leads_closing keeps_will l (Some birth) b its e h = found keeps_will (session_at birth b.records) refl h
+    where
+      found : (keeps : Bool) (o : Option Session) → session_at birth b.records ≡ o
+          → Led (Gone l.number ∷ closing_session keeps b.now o) b
+          → Led (Gone l.number ∷ (with_session o (close_session env keeps) (after (Gone l.number) b) ++ [])) b
+      found keeps None is h = h
+      found true (Some s) is h =
+          let own = subst about.session (sym (found_key birth_of birth s b.records.sessions is)) (law.finds.its_session l birth its e) in
+          leads_append Keep Good (Gone l.number ∷ closing_session true b.now (Some s)) _ b h (λ k. leads_settled s.birth _ k own)
+      found false (Some s) is h =
+          let own = subst about.session (sym (found_key birth_of birth s b.records.sessions is)) (law.finds.its_session l birth its e) in
+          leads_append Keep Good (Gone l.number ∷ closing_session false b.now (Some s)) _ b h (λ k. leads_settled s.birth _ k own)
 
-  pub good_drop : (env : Env) (code : ℕ) (l : Line) → GoodAct Good (drop_line env code l)
-  good_drop env code l b =
-      good_series Good (always (Send l.number (disconnect code) ∷ []) ∷ close env true l ∷ [])
-      ((λ c. (facts.send l.number (disconnect code) c, tt)), (good_close env true l, tt)) b
+  pub leads_close : (keeps_will : Bool) (l : Line) (b : Broker) → Keep b → about.line l → IsOn l.number l.session b.lines → Led (close env keeps_will l b) b
+  leads_close keeps_will l b k its on = leads_closing keeps_will l l.session b its refl (law.closes keeps_will l b k its on)
+
+  pub leads_drop : (code : ℕ) (l : Line) (b : Broker) → Keep b → about.line l → IsOn l.number l.session b.lines → Led (drop_line env code l b) b
+  leads_drop code l b k its on =
+      leads_two Keep Good (always (Send l.number (disconnect code) ∷ [])) (close env true l) b
+      (law.sends l.number (disconnect code) b k (law.finds.its_number l its))
+      (λ h. leads_close true l (after (Send l.number (disconnect code)) b) h its on)
 
   -- CONNECT
-  pub good_refused : (l : Line) (c : Greeting) (code : ℕ) (b : Broker) → AreGood Good (refused l c code) b
-  good_refused l c code b =
-      good_append Good (cond (nat_lt (largest_of c) 5) [] (Send l.number (connack false code []) ∷ [])) (Gone l.number ∷ []) b
-      (good_cond Good (nat_lt (largest_of c) 5) [] (Send l.number (connack false code []) ∷ []) b tt (facts.send l.number (connack false code []) b, tt))
-      (facts.gone l.number _, tt)
 
-  good_take_over : (env : Env) (s : Session) → GoodAct Good (take_over env s)
-  good_take_over env s b = good_with_line Good (line_of s.birth b) (drop_line env session_taken_over) b (λ l e. good_drop env session_taken_over l b)
+  leads_gone : (l : Line) (b : Broker) → Keep b → about.line l → l.session ≡ None → IsOn l.number l.session b.lines → Led (Gone l.number ∷ []) b
+  leads_gone l b k its none on = subst (λ (o : Option ℕ). Led (Gone l.number ∷ closing_on true b.now o b.records) b) none (law.closes true l b k its on)
 
-  good_clear : (env : Env) (s : Session) → GoodAct Good (clear env s)
-  good_clear env s b =
-      good_series Good (publish_will env s ∷ of_client s.client (λ t. always (end_session t)) ∷ [])
-      (good_publish_will env s, (good_of_client Good s.client (λ t. always (end_session t)) good_end, tt)) b
+  pub leads_refused : (l : Line) (c : Greeting) (code : ℕ) (b : Broker) → Keep b → about.line l → l.session ≡ None → IsOn l.number l.session b.lines → Led (refused l c code) b
+  leads_refused l c code b k its none on = first (nat_lt (largest_of c) 5)
+    where
+      first : (t : Bool) → Led (cond t [] (Send l.number (connack false code []) ∷ []) ++ Gone l.number ∷ []) b
+      first true = leads_gone l b k its none on
+      first false =
+          leads_append Keep Good (Send l.number (connack false code []) ∷ []) (Gone l.number ∷ []) b
+          (law.sends l.number (connack false code []) b k (law.finds.its_number l its))
+          (λ h. leads_gone l (after (Send l.number (connack false code [])) b) h its none on)
 
-  pub good_prepare : (env : Env) (c : Greeting) → GoodAct Good (prepare env c)
-  good_prepare env c b =
-      good_series Good (of_client c.client_identifier (take_over env) ∷ of_client c.client_identifier (λ s. settle env s.birth) ∷ only_if c.clean_start (of_client c.client_identifier (clear env)) ∷ []) (
-        good_of_client Good c.client_identifier (take_over env) (good_take_over env),
-        (
-          good_of_client Good c.client_identifier (λ s. settle env s.birth) (λ s. good_settle env s.birth),
-          (good_if Good c.clean_start (of_client c.client_identifier (clear env)) (good_of_client Good c.client_identifier (clear env) (good_clear env)), tt),
-        ),
-      ) b
+  pub leads_take_over : (s : Session) (b : Broker) → Keep b → about.session s.birth → Led (take_over env s b) b
+  leads_take_over s b k its =
+      leads_with_line Keep Good (line_of s.birth b) (drop_line env session_taken_over) b k
+      (λ l e. leads_drop session_taken_over l b k (law.finds.its_line s.birth l b k its e) (found_on l b.lines (found_among _ l b.lines e)))
 
-  good_repeats : {X : Type 0} (now line : ℕ) (s : Session) (xs : List X) (id : X → ℕ) (b : Broker) → AreGood Good (all_turn_deeds now line s (map (λ x. turns.Repeat (id x)) xs)) b
-  good_repeats now line s [] id b = tt
-  good_repeats now line s (x ∷ xs) id b = (facts.send line (pubrel (id x) success) b, good_repeats now line s xs id _)
+  pub leads_clear : (client : List ℕ) (s : Session) (b : Broker) → Keep b → about.client client b → session_named client b.records ≡ Some s → Led (clear env s b) b
+  leads_clear client s b k its e =
+      let is : s.client ≡ client = (bytes_eq-Decides s.client client).0 (found_passes (λ x. bytes_eq x.client client) s b.records.sessions e) in
+      let name : about.client s.client b = subst (λ (text : List ℕ). about.client text b) (sym is) its in
+      let first = leads_publish_will s b k (law.finds.named client s b k its e) (found_among _ s b.records.sessions e) in
+      leads_two Keep Good (publish_will env s) (of_client s.client (λ t. always (end_session t))) b first
+      (λ h. let c = after_all (publish_will env s b) b in
+      of_named s.client (λ t. always (end_session t)) c h (law.client_stays s.client (publish_will env s b) b k first name)
+      (λ t there own. law.ends t c h own (found_among _ t c.records.sessions there)))
 
-  pub good_resume : (l : Line) (c : Greeting) (now : ℕ) (s : Session) (b : Broker) → AreGood Good (resume l c now s) b
-  good_resume l c now s b =
-      (facts.at_part (whose s) (Resume _ _) b refl, (facts.on_line l.number _ _, (facts.send l.number _ _, good_repeats now l.number s (due_from [] (queue_on [] s)) (λ d. d.identifier) _)))
+  pub leads_prepare : (c : Greeting) (b : Broker) → Keep b → about.client c.client_identifier b → Led (prepare env c b) b
+  leads_prepare c b k its =
+      let name = c.client_identifier in
+      let first = of_client name (take_over env) b in
+      let x = after_all first b in
+      let second = of_client name (λ s. settle env s.birth) x in
+      let y = after_all second x in
+      let third = only_if c.clean_start (of_client name (clear env)) in
+      let one : Led first b = of_named name (take_over env) b k its (λ s e own. leads_take_over s b k own) in
+      leads_append Keep Good first (series ((λ z. of_client name (λ s. settle env s.birth) z) ∷ third ∷ []) x) b one
+      (λ h. let name_x = law.client_stays name first b k one its in
+      let two : Led second x = of_named name (λ s. settle env s.birth) x h name_x (λ s e own. leads_settle s.birth x h own) in
+      leads_append Keep Good second (series (third ∷ []) y) x two
+      (λ g. let name_y = law.client_stays name second x h two name_x in
+      leads_append Keep Good (third y) [] y
+      (if_here c.clean_start (of_client name (clear env)) y g (of_named name (clear env) y g name_y (λ s e own. leads_clear name s y g name_y e)))
+      (λ f. (tt, f))))
 
-  pub good_begin_named : (t : Bool) (l : Line) (c : Greeting) (b : Broker) → AreGood Good (begin_named t l c b.records) b
-  good_begin_named false l c b = (facts.begin_row c.client_identifier c b, (facts.on_line l.number _ _, (facts.send l.number _ _, tt)))
-  good_begin_named true l c b =
-      (facts.name b, (facts.begin_row _ c (after (Name (suc b.records.autos)) b), (facts.on_line l.number _ _, (facts.send l.number _ _, tt))))
+  leads_repeats : {X : Type 0} (now line : ℕ) (s : Session) (xs : List X) (id : X → ℕ) (b : Broker) → Keep b → about.number line → Led (all_turn_deeds now line s (map (λ x. turns.Repeat (id x)) xs)) b
+  leads_repeats now line s [] id b k its = (tt, k)
+  leads_repeats now line s (x ∷ xs) id b k its =
+      let d = Send line (pubrel (id x) success) in
+      leads_append Keep Good (d ∷ []) (all_turn_deeds now line s (map (λ y. turns.Repeat (id y)) xs)) b (law.sends line (pubrel (id x) success) b k its) (λ h. leads_repeats now line s xs id (after d b) h its)
 
-  good_joins : (env : Env) (l : Line) (c : Greeting) (now : ℕ) (ds : List Deed) (b : Broker) (s : Option Session) → AreGood Good ds b → AreGood Good (joins env l c now ds (after_all ds b).records s) b
-  good_joins env l c now ds b (Some s) q = good_append Good ds (resume l c now s) b q (good_resume l c now s (after_all ds b))
-  good_joins env l c now ds b None q =
-      let r = (after_all ds b).records in
-      good_cond Good _ (ds ++ begin_named (is_empty c.client_identifier) l c r) (refused l c quota_exceeded) b
-      (good_append Good ds (begin_named (is_empty c.client_identifier) l c r) b q (good_begin_named (is_empty c.client_identifier) l c (after_all ds b)))
-      (good_refused l c quota_exceeded b)
+  pub leads_resume : (l : Line) (c : Greeting) (now : ℕ) (s : Session) (b : Broker)
+      → Keep b → about.line l → l.session ≡ None → about.packet (packets.Connect c) → IsAdmitted c → about.session s.birth → session_named c.client_identifier b.records ≡ Some s
+      → Led (resume l c now s) b
+  leads_resume l c now s b k its none came taken own e =
+      let first : List Deed = At (whose s) (Resume (expiry_of c) (will_of c)) ∷ greet l c s.birth ∷ [] in
+      let told : List Deed = Send l.number (connack true success (connack_properties false [])) ∷ [] in
+      let number = law.finds.its_number l its in
+      leads_append Keep Good first (told ++ all_turn_deeds now l.number s (rules.resumed_with (queue_on [] s))) b (law.resumes l c s b k its none came taken own e)
+      (λ h. leads_append Keep Good told (all_turn_deeds now l.number s (rules.resumed_with (queue_on [] s))) (after_all first b)
+      (law.sends l.number (connack true success (connack_properties false [])) (after_all first b) h number)
+      (λ g. leads_repeats now l.number s (due_from [] (queue_on [] s)) (λ d. d.identifier) (after_all (first ++ told) b) g number))
 
-  good_connect_by : (code : Option ℕ) (env : Env) (l : Line) (c : Greeting) → GoodAct Good (connect_by code env l c)
-  good_connect_by (Some code) env l c b = good_refused l c code b
-  good_connect_by None env l c b =
-      let ds = prepare env c b in
-      good_joins env l c b.now ds b (session_named c.client_identifier (after_all ds b).records) (good_prepare env c b)
+  -- after the preparation, on the state that it left
+  pub leads_joins : (l : Line) (c : Greeting) (now : ℕ) (ds : List Deed) (b : Broker)
+      → Keep b → about.line l → l.session ≡ None → IsOn l.number l.session b.lines → about.packet (packets.Connect c) → IsAdmitted c → about.client c.client_identifier (after_all ds b) → Led ds b
+      → Led (joins_after env l c now ds (after_all ds b).records) b
+  leads_joins l c now ds b k its none on came taken name led = found (session_named c.client_identifier r) refl
+    where
+      r : Records
+      r = (after_all ds b).records
 
-  pub good_connect : (env : Env) (l : Line) (c : Greeting) → GoodAct Good (on_connect env l c)
-  good_connect env l c b = good_connect_by (refusal c b.records) env l c b
+      found : (o : Option Session) → session_named c.client_identifier (after_all ds b).records ≡ o → Led (joins env l c now ds (after_all ds b).records o) b
+      found (Some s) e = leads_append Keep Good ds (resume l c now s) b led (λ h. leads_resume l c now s (after_all ds b) h its none came taken (law.finds.named c.client_identifier s (after_all ds b) h name e) e)
+      found None e =
+          leads_cond Keep Good (nat_lt (length (after_all ds b).records.sessions) env.limits.sessions) (ds ++ begin_named (is_empty c.client_identifier) l c (after_all ds b).records) (refused l c quota_exceeded) b
+          (λ room. leads_append Keep Good ds (begin_named (is_empty c.client_identifier) l c (after_all ds b).records) b led
+          (λ h. law.begins l c (after_all ds b) h its none came taken name e room))
+          (λ full. leads_refused l c quota_exceeded b k its none on)
 
-  -- PUBLISH, of a session that stands
-  pub good_answer : (line : ℕ) (q : Quality) (code : ℕ) (b : Broker) → AreGood Good (answer line q code) b
-  good_answer line delivery.AtMostOnce code b = tt
-  good_answer line (delivery.AtLeastOnce dup id) code b = (facts.send line (puback id code) b, tt)
-  good_answer line (delivery.ExactlyOnce dup id) code b = (facts.send line (pubrec id code) b, tt)
+  pub leads_connect : (l : Line) (c : Greeting) (b : Broker) → Keep b → about.line l → l.session ≡ None → IsOn l.number l.session b.lines → about.packet (packets.Connect c) → Led (on_connect env l c b) b
+  leads_connect l c b k its none on came = by (refusal c b.records) refl
+    where
+      by : (o : Option ℕ) → refusal c b.records ≡ o → Led (connect_by o env l c b) b
+      by (Some code) e = leads_refused l c code b k its none on
+      by None e =
+          let name = law.finds.admitted c b k came e in
+          leads_joins l c b.now (prepare env c b) b k its none on came (b.records, e) (law.client_stays c.client_identifier (prepare env c b) b k (leads_prepare c b k name) name) (leads_prepare c b k name)
 
-  good_alias : (t : Bool) (alias : Option ℕ) (line : ℕ) (topic : List ℕ) (b : Broker) → AreGood Good (sets_alias t alias line topic) b
-  good_alias true alias line topic b = tt
-  good_alias false None line topic b = tt
-  good_alias false (Some n) line topic b = (facts.on_line line (SetAlias n topic) b, tt)
+  -- PUBLISH
 
-  -- setting an alias stores nothing
-  alias_stores : (t : Bool) (alias : Option ℕ) (line : ℕ) (topic : List ℕ) (b : Broker) → (after_all (sets_alias t alias line topic) b).records ≡ b.records
-  alias_stores true alias line topic b = refl
-  alias_stores false None line topic b = refl
-  alias_stores false (Some n) line topic b = refl
+  pub leads_answer : (line : ℕ) (q : Quality) (code : ℕ) (b : Broker) → Keep b → about.number line → Led (answer line q code) b
+  leads_answer line delivery.AtMostOnce code b k its = (tt, k)
+  leads_answer line (delivery.AtLeastOnce dup id) code b k its = law.sends line (puback id code) b k its
+  leads_answer line (delivery.ExactlyOnce dup id) code b k its = law.sends line (pubrec id code) b k its
 
-  good_opens : (birth : ℕ) (env : Env) (s : Session) (q : Quality) (m : Message) (ds : List Delivery) (b : Broker)
-      → session_at birth b.records ≡ Some s → standing q s.inbound ≡ New → routed env m b ≡ Some ds
-      → AreGood Good (opens s q) (after_all (publish env FromClient m ds b) b)
-  good_opens birth env s delivery.AtMostOnce m ds b e n r = tt
-  good_opens birth env s (delivery.AtLeastOnce dup id) m ds b e n r = tt
-  good_opens birth env s (delivery.ExactlyOnce dup id) m ds b e n r = (facts.open_id birth s id env m ds b e n r, tt)
+  leads_opens : (s : Session) (q : Quality) (m : Message) (ds : List CopyTo) (b : Broker)
+      → Keep b → Keep (after_all (publish env FromClient m ds b) b) → about.session s.birth
+      → session_at s.birth b.records ≡ Some s → standing q s.inbound ≡ New → accepted_copies env m b ≡ Some ds
+      → Led (opens s q) (after_all (publish env FromClient m ds b) b)
+  leads_opens s delivery.AtMostOnce m ds b k h own there new is = (tt, h)
+  leads_opens s (delivery.AtLeastOnce dup id) m ds b k h own there new is = (tt, h)
+  leads_opens s (delivery.ExactlyOnce dup id) m ds b k h own there new is = law.open_id s id m ds b k h own there new is
 
-  good_publish_new : (birth : ℕ) (env : Env) (l : Line) (s : Session) (p : Publication) (m : Message) (ds : Option (List Delivery)) (b : Broker)
-      → session_at birth b.records ≡ Some s → standing p.delivery s.inbound ≡ New → routed env m b ≡ ds
-      → AreGood Good (publish_new env l s p m ds b) b
-  good_publish_new birth env l s p m None b e n r = good_answer l.number p.delivery quota_exceeded b
-  good_publish_new birth env l s p m (Some ds) b e n r =
+  leads_publish_new : (l : Line) (s : Session) (p : Publication) (m : Message) (o : Option (List CopyTo)) (b : Broker)
+      → Keep b → about.line l → about.session s.birth → about.message m
+      → session_at s.birth b.records ≡ Some s → standing p.delivery s.inbound ≡ New → accepted_copies env m b ≡ o
+      → Led (publish_new env l s p m o b) b
+  leads_publish_new l s p m None b k its own said there new is = leads_answer l.number p.delivery quota_exceeded b k (law.finds.its_number l its)
+  leads_publish_new l s p m (Some ds) b k its own said there new is =
       let code = code_accepted (is_wanted env m b.records) in
       let first = publish env FromClient m ds b in
       let c = after_all first b in
       let d = after_all (opens s p.delivery) c in
-      good_append Good first (opens s p.delivery ++ (answer l.number p.delivery code ++ [])) b (good_publish env FromClient m ds b r)
-      (good_append Good (opens s p.delivery) (answer l.number p.delivery code ++ []) c (good_opens birth env s p.delivery m ds b e n r)
-      (good_append Good (answer l.number p.delivery code) [] d (good_answer l.number p.delivery code d) tt))
+      leads_append Keep Good first (opens s p.delivery ++ (answer l.number p.delivery code ++ [])) b (law.publishes FromClient m ds b k said is)
+      (λ h. leads_append Keep Good (opens s p.delivery) (answer l.number p.delivery code ++ []) c (leads_opens s p.delivery m ds b k h own there new is)
+      (λ g. leads_append Keep Good (answer l.number p.delivery code) [] d (leads_answer l.number p.delivery code d g (law.finds.its_number l its)) (λ f. (tt, f))))
 
-  good_publish_by : (st : Published) (birth : ℕ) (env : Env) (l : Line) (s : Session) (p : Publication) (m : Message) (b : Broker)
-      → session_at birth b.records ≡ Some s → standing p.delivery s.inbound ≡ st
-      → AreGood Good (publish_by st env l s p m b) b
-  good_publish_by Again birth env l s p m b e n = good_answer l.number p.delivery (code_again p.delivery) b
-  good_publish_by Over birth env l s p m b e n = good_drop env receive_maximum_exceeded l b
-  good_publish_by New birth env l s p m b e n = good_publish_new birth env l s p m (routed env m b) b e n refl
+  pub leads_publish_by : (x : Published) (l : Line) (s : Session) (p : Publication) (m : Message) (b : Broker)
+      → Keep b → about.line l → IsOn l.number l.session b.lines → about.session s.birth → about.message m
+      → session_at s.birth b.records ≡ Some s → standing p.delivery s.inbound ≡ x
+      → Led (publish_by x env l s p m b) b
+  leads_publish_by Again l s p m b k its on own said there is = leads_answer l.number p.delivery (code_again p.delivery) b k (law.finds.its_number l its)
+  leads_publish_by Over l s p m b k its on own said there is = leads_drop receive_maximum_exceeded l b k its on
+  leads_publish_by New l s p m b k its on own said there is = leads_publish_new l s p m (accepted_copies env m b) b k its own said there is refl
 
-  good_publish_meant : (x : Meaning) (birth : ℕ) (env : Env) (l : Line) (s : Session) (p : Publication) (b : Broker)
-      → session_at birth b.records ≡ Some s → AreGood Good (publish_meant x env l s p b) b
-  good_publish_meant (Wrong code) birth env l s p b e = good_drop env code l b
-  good_publish_meant (Means topic) birth env l s p b e =
+  -- an alias that is set leaves what is stored, and what the line is connected to
+  set_alias : (t : Bool) (alias : Option ℕ) (l : Line) (topic : List ℕ) (b : Broker) → Keep b → about.line l → IsOn l.number l.session b.lines
+      → Led (sets_alias t alias l.number topic) b
+      × ((after_all (sets_alias t alias l.number topic) b).records ≡ b.records)
+      × IsOn l.number l.session (after_all (sets_alias t alias l.number topic) b).lines
+  set_alias true alias l topic b k its on = ((tt, k), refl, on)
+  set_alias false None l topic b k its on = ((tt, k), refl, on)
+  set_alias false (Some n) l topic b k its on =
+      (law.sets l.number n topic b k (law.finds.its_number l its), refl, stays_on b.now l.number (SetAlias n topic) l.number l.session b.lines refl on)
+
+  pub leads_publish_meant : (x : Meaning) (l : Line) (s : Session) (p : Publication) (b : Broker)
+      → Keep b → about.line l → IsOn l.number l.session b.lines → about.session s.birth → about.packet (packets.Publish p)
+      → session_at s.birth b.records ≡ Some s → meaning p l.aliases ≡ x
+      → Led (publish_meant x env l s p b) b
+  leads_publish_meant (Wrong code) l s p b k its on own came there is = leads_drop code l b k its on
+  leads_publish_meant (Means topic) l s p b k its on own came there is =
       let t = is_empty p.topic in
       let alias = number_at TopicAlias p.properties in
-      let st = standing p.delivery s.inbound in
+      let x = standing p.delivery s.inbound in
       let m = message_of s.client topic p in
+      let said = law.finds.sent l s p topic b k its came is in
       let first = sets_alias t alias l.number topic in
       let c = after_all first b in
-      let here : session_at birth c.records ≡ Some s = rw (alias_stores t alias l.number topic b) e in
-      good_two Good (always first) (publish_by st env l s p m) b
-      (good_alias t alias l.number topic b)
-      (good_publish_by st birth env l s p m c here refl)
-
-  pub good_on_publish : (birth : ℕ) (env : Env) (l : Line) (s : Session) (p : Publication) (b : Broker)
-      → session_at birth b.records ≡ Some s → AreGood Good (on_publish env l s p b) b
-  good_on_publish birth env l s p b e = good_publish_meant (meaning p l.aliases) birth env l s p b e
+      let done = set_alias t alias l topic b k its on in
+      leads_two Keep Good (always first) (publish_by x env l s p m) b done.0
+      (λ h. leads_publish_by x l s p m c h its done.2 own said (ap (session_at s.birth) done.1 ∙ there) refl)
 
   -- other packets
-  good_release_by : (x : Released) (l : Line) (s : Session) (id : ℕ) (b : Broker) → AreGood Good (release_by x l s id) b
-  good_release_by Known l s id b = (facts.at_part (whose s) (Release id) b refl, (facts.send l.number (pubcomp id success) _, tt))
-  good_release_by Unknown l s id b = (facts.send l.number (pubcomp id identifier_not_found) b, tt)
 
-  pub good_on_pubrel : (l : Line) (s : Session) (id : ℕ) (b : Broker) → AreGood Good (on_pubrel l s id) b
-  good_on_pubrel l s id b = good_release_by (answer_to_release id s.inbound) l s id b
+  leads_release : (x : ReleaseAnswer) (l : Line) (s : Session) (id : ℕ) (b : Broker) → Keep b → about.line l → about.session s.birth → Led (release_by x l s id) b
+  leads_release Known l s id b k its own =
+      let first = At (whose s) (Release id) in
+      leads_append Keep Good (first ∷ []) (Send l.number (pubcomp id success) ∷ []) b (law.alone (whose s) (Release id) b k own refl)
+      (λ h. law.sends l.number (pubcomp id success) (after first b) h (law.finds.its_number l its))
+  leads_release Unknown l s id b k its own = law.sends l.number (pubcomp id identifier_not_found) b k (law.finds.its_number l its)
 
-  good_new_expiry : (expiry : Option ℕ) (s : Session) → GoodAct Good (always (new_expiry expiry s))
-  good_new_expiry None s b = tt
-  good_new_expiry (Some n) s b = (facts.at_part (whose s) (SetExpiry n) b refl, tt)
-
-  good_leave_by : (t : Bool) (env : Env) (l : Line) (s : Session) (code : ℕ) (expiry : Option ℕ) → GoodAct Good (leave_by t env l s code expiry)
-  good_leave_by true env l s code expiry b = good_drop env 0x82 l b
-  good_leave_by false env l s code expiry b =
-      good_series Good (always (new_expiry expiry s) ∷ close env _ l ∷ []) (good_new_expiry expiry s, (good_close env _ l, tt)) b
-
-  pub good_on_disconnect : (env : Env) (l : Line) (s : Session) (code : ℕ) (expiry : Option ℕ) → GoodAct Good (on_disconnect env l s code expiry)
-  good_on_disconnect env l s code expiry b = good_leave_by (is_late_expiry expiry s.expiry) env l s code expiry b
+  leads_leave : (t : Bool) (l : Line) (s : Session) (code : ℕ) (expiry : Option ℕ) (b : Broker) → Keep b → about.line l → IsOn l.number l.session b.lines → about.session s.birth → Led (leave_by t env l s code expiry b) b
+  leads_leave true l s code expiry b k its on own = leads_drop 0x82 l b k its on
+  leads_leave false l s code None b k its on own =
+      leads_two Keep Good (always []) (close env (not (nat_eq code 0)) l) b (tt, k) (λ h. leads_close (not (nat_eq code 0)) l b h its on)
+  leads_leave false l s code (Some n) b k its on own =
+      leads_two Keep Good (always (At (whose s) (SetExpiry n) ∷ [])) (close env (not (nat_eq code 0)) l) b (law.alone (whose s) (SetExpiry n) b k own refl)
+      (λ h. leads_close (not (nat_eq code 0)) l (after (At (whose s) (SetExpiry n)) b) h its on)
 
   -- SUBSCRIBE and UNSUBSCRIBE
-  good_grants : (env : Env) (s : Session) (w : Wish) (ds : List Delivery) (b : Broker) → AreMade ds b.records → AreGood Good (grants env (next_number b.records) s w ds b).deeds b
-  good_grants env s w ds b made =
-      let number = next_number b.records in
-      let first : List Deed = Count number ∷ At (whose s) (deeds.Subscribe (subscription number s w)) ∷ [] in
-      let c = after_all first b in
-      let queued = filter is_queued ds in
-      good_append Good first (series (map (deliver env) queued) c) b
-      (facts.count b, (facts.at_part (whose s) (deeds.Subscribe (subscription number s w)) (after (Count number) b) refl, tt))
-      (good_deliveries env queued c (are_made_stay queued first b (tt, (tt, tt)) (each_filter (λ d. IsMade d.copy b.records) is_queued ds made)))
 
-  good_granted_by : (valid has_room : Bool) (env : Env) (s : Session) (w : Wish) (ds : List Delivery) (b : Broker) → AreMade ds b.records
-      → AreGood Good (granted_by valid has_room env (next_number b.records) s w ds b).deeds b
-  good_granted_by false has_room env s w ds b made = tt
-  good_granted_by true false env s w ds b made = tt
-  good_granted_by true true env s w ds b made = good_grants env s w ds b made
+  both_true : (x y : Bool) → (x && y) ≡ true → (x ≡ true) × (y ≡ true)
+  both_true true y h = (refl, h)
+  both_true false y h = absurd cc
 
-  good_granted_to : (env : Env) (w : Option Wish) (b : Broker) (s : Option Session) → AreGood Good (granted_to env w b s).deeds b
-  good_granted_to env w b None = tt
-  good_granted_to env None b (Some s) = tt
-  good_granted_to env (Some w) b (Some s) =
-      let number = next_number b.records in
-      good_granted_by _ _ env s w (brought b.now number s w b.records.retained) b (brought_made b.now number s w b.records)
+  leads_granted : (w : sub.Wish) (s : Session) (b : Broker) → Keep b → about.session s.birth → session_at s.birth b.records ≡ Some s → Led (sub.filter_answer env w b s).deeds b
+  leads_granted w s b k own there = by (is_filter w.filter) (both (sub.has_filter w.filter s || nat_lt (length s.subscriptions) SUBSCRIPTION_LIMIT) (nat_le (length (filter is_queued (brought_to w s b))) (room env s))) refl refl
+    where
+      both : Bool → Bool → Bool
+      both x y = x && y
 
-  pub good_all_granted : (env : Env) (birth : ℕ) (identifier : Option ℕ) (asked : List Asked) (b : Broker)
-      → AreGood Good (all_granted env birth identifier asked b).deeds b
-  good_all_granted env birth identifier [] b = tt
-  good_all_granted env birth identifier (a ∷ rest) b =
-      let g = granted_to env (wish_of identifier a) b (session_at birth b.records) in
-      let c = after_all g.deeds b in
-      good_append Good g.deeds (all_granted env birth identifier rest c).deeds b
-      (good_granted_to env (wish_of identifier a) b (session_at birth b.records))
-      (good_all_granted env birth identifier rest c)
+      fits : Bool
+      fits = (sub.has_filter w.filter s || nat_lt (length s.subscriptions) SUBSCRIPTION_LIMIT) && nat_le (length (filter is_queued (brought_to w s b))) (room env s)
 
-  good_subscribe_by : (t : Bool) (env : Env) (line : ℕ) (s : Session) (p : Asking) → GoodAct Good (subscribe_by t env line s p)
-  good_subscribe_by true env line s p b = good_offer (line_at line b) (suback p.identifier (map (λ a. identifier_in_use) p.subscriptions)) b
-  good_subscribe_by false env line s p b =
-      let a = all_granted env s.birth (number_at SubscriptionIdentifier p.properties) p.subscriptions b in
+      by : (x y : Bool) → is_filter w.filter ≡ x → fits ≡ y → Led (sub.answer_by x y env (sub.next_number b.records) s w (brought_to w s b) b).deeds b
+      by false y is fit = (tt, k)
+      by true false is fit = (tt, k)
+      by true true is fit =
+          let parts = both_true (sub.has_filter w.filter s || nat_lt (length s.subscriptions) SUBSCRIPTION_LIMIT) (nat_le (length (filter is_queued (brought_to w s b))) (room env s)) fit in
+          law.grants w s b k own (record { session = there; valid = is; fits = parts.0; has_room = parts.1 })
+
+  leads_granted_to : (birth : ℕ) (w : Option sub.Wish) (b : Broker) (o : Option Session) → Keep b → about.session birth → session_at birth b.records ≡ o → Led (sub.filter_answer_of env w b o).deeds b
+  leads_granted_to birth w b None k own is = (tt, k)
+  leads_granted_to birth None b (Some s) k own is = (tt, k)
+  leads_granted_to birth (Some w) b (Some s) k own is =
+      leads_granted w s b k (subst about.session (sym (found_key birth_of birth s b.records.sessions is)) own) (own_session birth s b is)
+
+  leads_all_granted : (birth : ℕ) (identifier : Option ℕ) (asked : List Asked) (b : Broker) → Keep b → about.session birth → Led (sub.filter_answers env birth identifier asked b).deeds b
+  leads_all_granted birth identifier [] b k own = (tt, k)
+  leads_all_granted birth identifier (a ∷ rest) b k own =
+      let g = sub.filter_answer_of env (sub.wish_of identifier a) b (session_at birth b.records) in
+      leads_append Keep Good g.deeds (sub.filter_answers env birth identifier rest (after_all g.deeds b)).deeds b
+      (leads_granted_to birth (sub.wish_of identifier a) b (session_at birth b.records) k own refl)
+      (λ h. leads_all_granted birth identifier rest (after_all g.deeds b) h own)
+
+  pub leads_subscribe : (t : Bool) (line : ℕ) (s : Session) (p : Asking) (b : Broker) → Keep b → about.number line → about.session s.birth → Led (sub.subscribe_by t env line s p b) b
+  leads_subscribe true line s p b k its own = leads_offer line (suback p.identifier (map (λ a. identifier_in_use) p.subscriptions)) b b k its
+  leads_subscribe false line s p b k its own =
+      let a = sub.filter_answers env s.birth (number_at SubscriptionIdentifier p.properties) p.subscriptions b in
       let told = offer (line_at line b) (suback p.identifier a.codes) in
-      good_append Good (a.deeds ++ told) (flat_map (λ d. late_sends line b.now d b) a.late) b
-      (good_append Good a.deeds told b
-      (good_all_granted env s.birth (number_at SubscriptionIdentifier p.properties) p.subscriptions b)
-      (good_offer (line_at line b) (suback p.identifier a.codes) _))
-      (good_flat Good (λ d. late_sends line b.now d b) (λ d c. good_offer (line_at line b) (publish_of b.now false 0 d.copy) c) a.late _)
+      leads_append Keep Good (a.deeds ++ told) (flat_map (λ d. sub.late_sends line b.now d b) a.late) b
+      (leads_append Keep Good a.deeds told b
+      (leads_all_granted s.birth (number_at SubscriptionIdentifier p.properties) p.subscriptions b k own)
+      (λ h. leads_offer line (suback p.identifier a.codes) b (after_all a.deeds b) h its))
+      (λ h. leads_flat Keep Good (λ d. sub.late_sends line b.now d b) (λ d c g. leads_offer line (publish_of b.now false 0 d.copy) b c g its) a.late _ h)
 
-  pub good_on_subscribe : (env : Env) (line : ℕ) (s : Session) (p : Asking) → GoodAct Good (on_subscribe env line s p)
-  good_on_subscribe env line s p b = good_subscribe_by (is_open p.identifier s.inbound) env line s p b
+  pub leads_unsubscribe : (t : Bool) (line : ℕ) (s : Session) (p : GivingUp) (b : Broker) → Keep b → about.number line → about.session s.birth → Led (sub.unsubscribe_by t line s p b) b
+  leads_unsubscribe true line s p b k its own = leads_offer line (unsuback p.identifier (map (λ f. identifier_in_use) p.filters)) b b k its
+  leads_unsubscribe false line s p b k its own =
+      let first = flat_map (sub.unsubscribes s) (filter (λ f. sub.has_filter f s) p.filters) in
+      leads_append Keep Good first (offer (line_at line b) (unsuback p.identifier (sub.drop_codes s [] p.filters))) b
+      (leads_flat Keep Good (sub.unsubscribes s) (λ f c h. law.alone (whose s) (Unsubscribe f) c h own refl) (filter (λ f. sub.has_filter f s) p.filters) b k)
+      (λ h. leads_offer line (unsuback p.identifier (sub.drop_codes s [] p.filters)) b (after_all first b) h its)
 
-  good_unsubscribe_by : (t : Bool) (line : ℕ) (s : Session) (p : GivingUp) → GoodAct Good (unsubscribe_by t line s p)
-  good_unsubscribe_by true line s p b = good_offer (line_at line b) (unsuback p.identifier (map (λ f. identifier_in_use) p.filters)) b
-  good_unsubscribe_by false line s p b =
-      good_append Good (flat_map (unsubscribes s) (filter (λ f. has_filter f s) p.filters)) (offer (line_at line b) (unsuback p.identifier (drop_codes s [] p.filters))) b
-      (good_flat Good (unsubscribes s) (λ f c. (facts.at_part (whose s) (deeds.Unsubscribe f) c refl, tt)) (filter (λ f. has_filter f s) p.filters) b)
-      (good_offer (line_at line b) (unsuback p.identifier (drop_codes s [] p.filters)) _)
+  -- a receiver's answers
 
-  pub good_on_unsubscribe : (line : ℕ) (s : Session) (p : GivingUp) → GoodAct Good (on_unsubscribe line s p)
-  good_on_unsubscribe line s p b = good_unsubscribe_by (is_open p.identifier s.inbound) line s p b
+  pub leads_answered : (a : Answer) (l : Line) (s : Session) (b : Broker)
+      → Keep b → about.line l → IsOn l.number l.session b.lines → about.session s.birth → session_at s.birth b.records ≡ Some s → IsAnswer a l s → Led (on_answer a env l s b) b
+  leads_answered (Ok None) l s b k its on own there is = (tt, k)
+  leads_answered (Ok (Some t)) l s b k its on own there is = law.turns (Ok (Some t)) t l s b k its own there is refl
+  leads_answered (Err fault) l s b k its on own there is = leads_drop 0x82 l b k its on
 
-  -- tick
-  abbrev pub GoodOption : Option Act → Type 0
-  GoodOption None = ⊤
-  GoodOption (Some act) = GoodAct Good act
+  -- ---- packets
 
-  abbrev pub GoodOptions : List (Option Act) → Type 0
-  GoodOptions [] = ⊤
-  GoodOptions (o ∷ os) = GoodOption o × GoodOptions os
+  leads_next : (l : Line) (packet : Packet) (s : Session) (b : Broker)
+      → Keep b → about.line l → IsOn l.number l.session b.lines → about.packet packet → about.session s.birth → session_at s.birth b.records ≡ Some s
+      → Led (next_packet env l packet s b) b
+  leads_next l (packets.Publish p) s b k its on came own there = leads_publish_meant (meaning p l.aliases) l s p b k its on own came there refl
+  leads_next l (packets.Puback a) s b k its on came own there = leads_answered (rules.puback a.identifier a.reason.0 (queue_on l.went s)) l s b k its on own there (inl (a.identifier, a.reason.0, refl))
+  leads_next l (packets.Pubrec a) s b k its on came own there = leads_answered (rules.pubrec a.identifier a.reason.0 (queue_on l.went s)) l s b k its on own there (inr (inl (a.identifier, a.reason.0, refl)))
+  leads_next l (packets.Pubrel a) s b k its on came own there = leads_release (answer_to_release a.identifier s.inbound) l s a.identifier b k its own
+  leads_next l (packets.Pubcomp a) s b k its on came own there = leads_answered (rules.pubcomp a.identifier (queue_on l.went s)) l s b k its on own there (inr (inr (a.identifier, refl)))
+  leads_next l (packets.Subscribe p) s b k its on came own there = leads_subscribe (is_among p.identifier s.inbound) l.number s p b k (law.finds.its_number l its) own
+  leads_next l (packets.Unsubscribe p) s b k its on came own there = leads_unsubscribe (is_among p.identifier s.inbound) l.number s p b k (law.finds.its_number l its) own
+  leads_next l packets.Pingreq s b k its on came own there = law.sends l.number packets.Pingresp b k (law.finds.its_number l its)
+  leads_next l (packets.Disconnect m) s b k its on came own there =
+      let expiry = number_at SessionExpiryInterval m.properties in
+      leads_leave (is_late_expiry expiry s.expiry) l s m.reason.0 expiry b k its on own
+  leads_next l packet s b k its on came own there = leads_drop 0x82 l b k its on
 
-  good_first : (os : List (Option Act)) → GoodOptions os → GoodOption (first_due os)
-  good_first [] q = tt
-  good_first (Some act ∷ os) q = q.0
-  good_first (None ∷ os) q = good_first os q.1
+  leads_first : (l : Line) (packet : Packet) (b : Broker) → Keep b → about.line l → l.session ≡ None → IsOn l.number l.session b.lines → about.packet packet → Led (first_packet env l packet b) b
+  leads_first l (packets.Connect c) b k its none on came = leads_connect l c b k its none on came
+  leads_first l packet b k its none on came = leads_close true l b k its on
 
-  good_option : {X : Type 0} (f : X → Act) → ((x : X) → GoodAct Good (f x)) → (o : Option X) → GoodOption (option_map f o)
-  good_option f h None = tt
-  good_option f h (Some x) = h x
+  pub leads_packet : (l : Line) (packet : Packet) (session : Option ℕ) (b : Broker) → Keep b → about.line l → l.session ≡ session → IsOn l.number l.session b.lines → about.packet packet → Led (on_packet env l packet session b) b
+  leads_packet l packet None b k its is on came = leads_first l packet b k its is on came
+  leads_packet l packet (Some birth) b k its is on came =
+      of_its birth (next_packet env l packet) b k (law.finds.its_session l birth its is) (λ s e own. leads_next l packet s b k its on came own (own_session birth s b e))
 
-  pub good_on_tick : (o : Option Act) → GoodOption o → GoodAct Good (on_tick o)
-  good_on_tick None q b = tt
-  good_on_tick (Some act) q b = q b
+  leads_fault : (l : Line) (is_connect : Bool) (code : ℕ) (session : Option ℕ) (b : Broker) → Keep b → about.line l → IsOn l.number l.session b.lines → Led (on_fault env l is_connect code session b) b
+  leads_fault l true code None b k its on =
+      leads_two Keep Good (always (Send l.number (connack false code []) ∷ [])) (close env true l) b
+      (law.sends l.number (connack false code []) b k (law.finds.its_number l its)) (λ h. leads_close true l (after (Send l.number (connack false code [])) b) h its on)
+  leads_fault l false code None b k its on = leads_close true l b k its on
+  leads_fault l true code (Some birth) b k its on = leads_drop (late_code code) l b k its on
+  leads_fault l false code (Some birth) b k its on = leads_drop (late_code code) l b k its on
 
-  good_silence : (env : Env) (birth : Option ℕ) (l : Line) → GoodAct Good (silence env birth l)
-  good_silence env None l b = good_close env true l b
-  good_silence env (Some birth) l b = good_drop env 0x8d l b
+  pub leads_pump : (l : Line) (session : Option ℕ) (b : Broker) → Keep b → about.line l → l.session ≡ session → Led (on_pump l session b) b
+  leads_pump l None b k its is = (tt, k)
+  leads_pump l (Some birth) b k its is =
+      of_its birth (λ s. always (pump_deeds l b.now s)) b k (law.finds.its_session l birth its is)
+      (λ s e own. law.pumps l s b k its (is ∙ ap Some (sym (found_key birth_of birth s b.records.sessions e))) (own_session birth s b e))
 
-  good_lapse : (now : ℕ) (s : Session) → GoodAct Good (always (lapse_deeds now s))
-  good_lapse now s b = good_flat Good (leave_deeds s) (good_leave s) (lapses now s) b
+  -- ---- tick
 
-  pub good_due : (env : Env) (b : Broker) → GoodOption (due env b)
-  good_due env b = good_first
-      (option_map (λ l. silence env l.session l) (find (λ l. is_silent b.now l.session l) b.lines)
+  abbrev LedOption : Option Act → Broker → Type 0
+  LedOption None b = ⊤
+  LedOption (Some act) b = Led (act b) b
+
+  abbrev LedOptions : List (Option Act) → Broker → Type 0
+  LedOptions [] b = ⊤
+  LedOptions (o ∷ os) b = LedOption o b × LedOptions os b
+
+  leads_first_due : (os : List (Option Act)) (b : Broker) → LedOptions os b → LedOption (first_due os) b
+  leads_first_due [] b q = tt
+  leads_first_due (Some act ∷ os) b q = q.0
+  leads_first_due (None ∷ os) b q = leads_first_due os b q.1
+
+  leads_some : {X : Type 0} (f : X → Act) (o : Option X) (b : Broker) → ((x : X) → o ≡ Some x → Led (f x b) b) → LedOption (option_map f o) b
+  leads_some f None b h = tt
+  leads_some f (Some x) b h = h x refl
+
+  leads_on_tick : (o : Option Act) (b : Broker) → Keep b → LedOption o b → Led (on_tick o b) b
+  leads_on_tick None b k q = (tt, k)
+  leads_on_tick (Some act) b k q = q
+
+  leads_silence : (session : Option ℕ) (l : Line) (b : Broker) → Keep b → about.line l → IsOn l.number l.session b.lines → Led (silence env session l b) b
+  leads_silence None l b k its on = leads_close true l b k its on
+  leads_silence (Some birth) l b k its on = leads_drop 0x8d l b k its on
+
+  leads_due : (b : Broker) → Keep b → IsDue about b → LedOption (due env b) b
+  leads_due b k its = leads_first_due (
+      option_map (λ l. silence env l.session l) (find (λ l. is_silent b.now l.session l) b.lines)
       ∷ option_map (publish_will env) (find (has_due_will b.now) b.records.sessions)
       ∷ option_map (λ s. always (end_session s)) (find (has_due_end b.now) b.records.sessions)
-      ∷ option_map (λ k. always (Forget k.place ∷ [])) (find (is_stale b.now) b.records.retained)
+      ∷ option_map (λ x. always (Forget x.place ∷ [])) (find (is_stale b.now) b.records.retained)
       ∷ option_map (λ s. always (lapse_deeds b.now s)) (find (has_lapsed b.now) b.records.sessions)
-      ∷ []) (
-        good_option (λ l. silence env l.session l) (λ l. good_silence env l.session l) (find (λ l. is_silent b.now l.session l) b.lines),
+      ∷ []) b (
+        leads_some (λ l. silence env l.session l) (find (λ l. is_silent b.now l.session l) b.lines) b
+            (λ l e. leads_silence l.session l b k (its.silent l e) (found_on l b.lines (found_among _ l b.lines e))),
         (
-          good_option (publish_will env) (good_publish_will env) (find (has_due_will b.now) b.records.sessions),
+          leads_some (publish_will env) (find (has_due_will b.now) b.records.sessions) b
+              (λ s e. leads_publish_will s b k (its.wills s e) (found_among _ s b.records.sessions e)),
           (
-            good_option (λ s. always (end_session s)) good_end (find (has_due_end b.now) b.records.sessions),
+            leads_some (λ s. always (end_session s)) (find (has_due_end b.now) b.records.sessions) b
+                (λ s e. law.ends s b k (its.ends s e) (found_among _ s b.records.sessions e)),
             (
-              good_option (λ k. always (Forget k.place ∷ [])) (λ k c. (facts.forget k.place c, tt)) (find (is_stale b.now) b.records.retained),
+              leads_some (λ x. always (Forget x.place ∷ [])) (find (is_stale b.now) b.records.retained) b
+                  (λ x e. law.stale x b k (found_among _ x b.records.retained e)),
               (
-                good_option (λ s. always (lapse_deeds b.now s)) (good_lapse b.now) (find (has_lapsed b.now) b.records.sessions),
+                leads_some (λ s. always (lapse_deeds b.now s)) (find (has_lapsed b.now) b.records.sessions) b
+                    (λ s e. law.lapses s b k (found_among _ s b.records.sessions e)),
                 tt,
               ),
             ),
@@ -450,91 +668,39 @@ module _ (Good : Deed → Broker → Type 0) (facts : Facts Good) where
         ),
       )
 
-  -- the first packet of a line, and its faults
-  pub good_first_packet : (env : Env) (l : Line) (packet : Packet) → GoodAct Good (first_packet env l packet)
-  good_first_packet env l (Connect c) b = good_connect env l c b
-  good_first_packet env l packet b = good_close env true l b
+  -- ---- calls, and opening
 
-  pub good_on_fault : (env : Env) (l : Line) (is_connect : Bool) (code : ℕ) (birth : Option ℕ) → GoodAct Good (on_fault env l is_connect code birth)
-  good_on_fault env l true code None b =
-      good_series Good (always (Send l.number (connack false code []) ∷ []) ∷ close env true l ∷ []) ((λ c. (facts.send l.number (connack false code []) c, tt)), (good_close env true l, tt)) b
-  good_on_fault env l false code None b = good_close env true l b
-  good_on_fault env l is_connect code (Some birth) b = good_drop env (late_code code) l b
+  line_on : (n : ℕ) (l : Line) (b : Broker) → line_at n b ≡ Some l → IsOn l.number l.session b.lines
+  line_on n l b e = found_on l b.lines (found_among _ l b.lines e)
 
-  -- all deeds of an opening are good
-  good_close_if : (t : Bool) (env : Env) (s : Session) → GoodAct Good (close_if t env s)
-  good_close_if false env s b = tt
-  good_close_if true env s b =
-      good_series Good (always (At (whose s) (Close b.now) ∷ []) ∷ settle env s.birth ∷ []) (good_part (whose s) (Close b.now) refl, (good_settle env s.birth, tt)) b
+  pub leads_call : (call : Call) (b : Broker) → Keep b → IsCallOf about call b → Led (deeds_of env call b) b
+  leads_call NewLine b k its = leads_cond Keep Good (can_link b) (Link (suc b.given) ∷ []) [] b (λ t. law.links b k t) (λ t. (tt, k))
+  leads_call (Input n packet) b k its =
+      leads_with_line Keep Good (line_at n b) (λ l. series (always (On n Hear ∷ []) ∷ on_packet env l packet l.session ∷ [])) b k
+      (λ l e. let own = its.0 l e in
+      let number = subst about.number (found_number n l b.lines e) (law.finds.its_number l own) in
+      leads_two Keep Good (always (On n Hear ∷ [])) (on_packet env l packet l.session) b (law.hears n b k number)
+      (λ h. leads_packet l packet l.session (after (On n Hear) b) h own refl (stays_on b.now n Hear l.number l.session b.lines refl (line_on n l b e)) its.1))
+  leads_call (BadInput n is_connect code) b k its =
+      leads_with_line Keep Good (line_at n b) (λ l. on_fault env l is_connect code l.session) b k (λ l e. leads_fault l is_connect code l.session b k (its l e) (line_on n l b e))
+  leads_call (Lost n) b k its = leads_with_line Keep Good (line_at n b) (close env true) b k (λ l e. leads_close true l b k (its l e) (line_on n l b e))
+  leads_call (Pump n) b k its = leads_with_line Keep Good (line_at n b) (λ l. on_pump l l.session) b k (λ l e. leads_pump l l.session b k (its l e) refl)
+  leads_call Tick b k its = leads_on_tick (due env b) b k (leads_due b k its)
 
-  pub good_opening : (env : Env) → GoodAct Good (opening env)
-  good_opening env b =
-      good_series Good (map (λ s. close_if (is_connected s) env s) b.records.sessions)
-      (good_acts Good (λ s. close_if (is_connected s) env s) (λ s. good_close_if (is_connected s) env s) b.records.sessions) b
+  -- a session that stood connected when the broker opens is closed
+  abbrev pub Shuts : Type 0
+  Shuts = (s : Session) (b : Broker) → Keep b → s.closed ≡ None → Led (At (whose s) (Close b.now) ∷ []) b
 
--- ---- turns of a queue, and with them each call
+  leads_close_if : Shuts → (t : Bool) (s : Session) (b : Broker) → is_connected s ≡ t → about.session s.birth → Keep b → Led (close_if t env s b) b
+  leads_close_if shuts false s b is own k = (tt, k)
+  leads_close_if shuts true s b is own k =
+      leads_two Keep Good (always (At (whose s) (Close b.now) ∷ [])) (settle env s.birth) b (shuts s b k (none_is s.closed is)) (λ h. leads_settle s.birth (after (At (whose s) (Close b.now)) b) h own)
+    where
+      none_is : (o : Option ℕ) → is_none o ≡ true → o ≡ None
+      none_is None h = refl
+      none_is (Some n) h = absurd cc
 
-abbrev pub MarkFact : (Deed → Broker → Type 0) → Type 0
-MarkFact Good = (who : Whose) (place : ℕ) (phase : Phase) (b : Broker) → Good (At who (Mark place phase)) b
-
-module _ (Good : Deed → Broker → Type 0) (facts : Facts Good) (mark : MarkFact Good) where
-  pub good_turn : (now line : ℕ) (s : Session) (t : Turn) (b : Broker) → AreGood Good (turn_deeds now line s t) b
-  good_turn now line s (turns.Send place id) b =
-      good_of_entry Good (row_at copy_place place s.queue) (λ e. At (whose s) (Mark place (Sent id)) ∷ On line (Went place) ∷ Send line (publish_of now false id e.copy) ∷ []) b
-      (λ e. (mark (whose s) place (Sent id) b, (facts.on_line line (Went place) _, (facts.send line (publish_of now false id e.copy) _, tt))))
-  good_turn now line s (turns.Resend place id) b =
-      good_of_entry Good (row_at copy_place place s.queue) (λ e. On line (Went place) ∷ Send line (publish_of now true id e.copy) ∷ []) b
-      (λ e. (facts.on_line line (Went place) b, (facts.send line (publish_of now true id e.copy) _, tt)))
-  good_turn now line s (turns.Release place id order) b = (mark (whose s) place (ReleasedPhase id order) b, (facts.send line (pubrel id success) _, tt))
-  good_turn now line s (turns.Outgrow place id order) b = (mark (whose s) place (Oversize id order) b, (facts.send line (pubrel id success) _, tt))
-  good_turn now line s (turns.Repeat id) b = (facts.send line (pubrel id success) b, tt)
-  good_turn now line s (turns.Unknown id) b = (facts.send line (pubrel id identifier_not_found) b, tt)
-  good_turn now line s (turns.Leave place ending) b = good_leave Good facts s (turns.Leave place ending) b
-
-  pub good_turns : (now line : ℕ) (s : Session) (ts : List Turn) (b : Broker) → AreGood Good (all_turn_deeds now line s ts) b
-  good_turns now line s ts b = good_flat Good (turn_deeds now line s) (good_turn now line s) ts b
-
-  good_turned : (l : Line) (s : Session) (now : ℕ) (t : Option Turn) (b : Broker) → AreGood Good (turned l s now t) b
-  good_turned l s now None b = tt
-  good_turned l s now (Some t) b = good_turn now l.number s t b
-
-  pub good_answered : (a : Answer) (env : Env) (l : Line) (s : Session) → GoodAct Good (answered a env l s)
-  good_answered (Ok t) env l s b = good_turned l s b.now t b
-  good_answered (Err fault) env l s b = good_drop Good facts env 0x82 l b
-
-  pub good_pump : (l : Line) (now : ℕ) (s : Session) (b : Broker) → AreGood Good (pump_deeds l now s) b
-  good_pump l now s b = good_turns now l.number s (pump_turns l now s) b
-
-  good_next : (birth : ℕ) (env : Env) (l : Line) (packet : Packet) (s : Session) (b : Broker)
-      → session_at birth b.records ≡ Some s → AreGood Good (next_packet env l packet s b) b
-  good_next birth env l (Publish p) s b e = good_on_publish Good facts birth env l s p b e
-  good_next birth env l (Puback a) s b e = good_answered (rules.puback a.identifier a.reason.0 (queue_on l.went s)) env l s b
-  good_next birth env l (Pubrec a) s b e = good_answered (rules.pubrec a.identifier a.reason.0 (queue_on l.went s)) env l s b
-  good_next birth env l (Pubrel a) s b e = good_on_pubrel Good facts l s a.identifier b
-  good_next birth env l (Pubcomp a) s b e = good_answered (rules.pubcomp a.identifier (queue_on l.went s)) env l s b
-  good_next birth env l (Subscribe p) s b e = good_on_subscribe Good facts env l.number s p b
-  good_next birth env l (Unsubscribe p) s b e = good_on_unsubscribe Good facts l.number s p b
-  good_next birth env l Pingreq s b e = (facts.send l.number Pingresp b, tt)
-  good_next birth env l (Disconnect n) s b e = good_on_disconnect Good facts env l s n.reason.0 (number_at SessionExpiryInterval n.properties) b
-  good_next birth env l packet s b e = good_drop Good facts env 0x82 l b
-
-  good_on_packet : (env : Env) (l : Line) (packet : Packet) (birth : Option ℕ) → GoodAct Good (on_packet env l packet birth)
-  good_on_packet env l packet None b = good_first_packet Good facts env l packet b
-  good_on_packet env l packet (Some birth) b =
-      good_with_session Good (session_at birth b.records) (next_packet env l packet) b (λ s e. good_next birth env l packet s b e)
-
-  good_on_pump : (l : Line) (birth : Option ℕ) → GoodAct Good (on_pump l birth)
-  good_on_pump l None b = tt
-  good_on_pump l (Some birth) b = good_of_session Good birth (λ s. always (pump_deeds l b.now s)) (λ s c. good_pump l b.now s c) b
-
-  -- all deeds of every call are good
-  pub good_deeds : (env : Env) (call : Call) → GoodAct Good (deeds_of env call)
-  good_deeds env NewLine b = good_cond Good (can_link b) (Link (suc b.given) ∷ []) [] b (facts.link b, tt) tt
-  good_deeds env (Input n packet) b =
-      good_with_line Good (line_at n b) (λ l. series (always (On n Hear ∷ []) ∷ on_packet env l packet l.session ∷ [])) b
-      (λ l e. good_series Good (always (On n Hear ∷ []) ∷ on_packet env l packet l.session ∷ []) ((λ c. (facts.on_line n Hear c, tt)), (good_on_packet env l packet l.session, tt)) b)
-  good_deeds env (BadInput n is_connect code) b =
-      good_with_line Good (line_at n b) (λ l. on_fault env l is_connect code l.session) b (λ l e. good_on_fault Good facts env l is_connect code l.session b)
-  good_deeds env (Lost n) b = good_with_line Good (line_at n b) (close env true) b (λ l e. good_close Good facts env true l b)
-  good_deeds env (Pump n) b = good_with_line Good (line_at n b) (λ l. on_pump l l.session) b (λ l e. good_on_pump l l.session b)
-  good_deeds env Tick b = good_on_tick Good facts (due env b) (good_due Good facts env b) b
+  pub leads_opening : Shuts → ((birth : ℕ) → about.session birth) → (b : Broker) → Keep b → Led (opening env b) b
+  leads_opening shuts all b k =
+      leads_series Keep Good (map (λ s. close_if (is_connected s) env s) b.records.sessions)
+      (leads_map Keep Good (λ s. close_if (is_connected s) env s) (λ s c h. leads_close_if shuts (is_connected s) s c refl (all s.birth) h) b.records.sessions) b k

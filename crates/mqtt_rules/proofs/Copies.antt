@@ -25,8 +25,8 @@ use Rattle.mqtt_rules.specs.Packets.{publish_of}
 use Rattle.mqtt_rules.specs.State.{Line, Broker, Env, session_at, line_of, queue_on}
 use Rattle.mqtt_rules.specs.Deeds.{whose, Message, Part, Resume, Enter, Leave, Deed, Count, At, On, Send, part_rows, part_rows_of, after, after_all, always, offer}
 use Rattle.mqtt_rules.specs.Outbound.{leave_deeds, since, queue_limits, enter_deeds}
-use Rattle.mqtt_rules.specs.Routing.{Delivery, delivery_of, served_deliveries, deliveries, next_publication, routed_to, finds_place, accepted_if, routed, is_queued, deliver_by, deliver}
-use Rattle.mqtt_rules.specs.Subscribe.{Wish, has_filter, wants_retained, kept_of, message_in, is_brought, retained_delivery, brought_if, brought}
+use Rattle.mqtt_rules.specs.Routing.{CopyTo, copy_to, served_copies_to, copies_to, next_publication, routing_of, finds_place, accepted_if, accepted_copies, is_queued, deliver_by, deliver}
+use Rattle.mqtt_rules.specs.Subscribe.{Wish, has_filter, wants_retained, kept_of, message_in, is_brought, retained_copy_to, brought_if, brought}
 use Rattle.mqtt_rules.proofs.Goods.{AreGood, good_append, good_cond, good_flat, good_of_entry, good_with_session}
 
 -- ---- lists
@@ -69,34 +69,34 @@ HasNumber n (k ∷ ks) = (k.publication ≡ n) ⊎ HasNumber n ks
 abbrev pub IsMade : MessageCopy → Records → Type 0
 IsMade copy r = (copy.id.publication ≤ r.publications) ⊎ HasNumber copy.id.publication r.retained
 
-abbrev pub AreMade : List Delivery → Records → Type 0
+abbrev pub AreMade : List CopyTo → Records → Type 0
 AreMade ds r = AllByRecursion (λ d. IsMade d.copy r) ds
 
-abbrev pub AreNumbered : ℕ → List Delivery → Type 0
+abbrev pub AreNumbered : ℕ → List CopyTo → Type 0
 AreNumbered n ds = AllByRecursion (λ d. d.copy.id.publication ≡ n) ds
 
 -- of a publication
-numbered_copies : (number now : ℕ) (m : Message) (cause : Cause) (cs : List Copy) → AreNumbered number (map (delivery_of number now m cause) cs)
+numbered_copies : (number now : ℕ) (m : Message) (cause : Cause) (cs : List Copy) → AreNumbered number (map (copy_to number now m cause) cs)
 numbered_copies number now m cause cs =
-    each_map (λ d. d.copy.id.publication ≡ number) (delivery_of number now m cause) cs (each_all (λ c. (delivery_of number now m cause c).copy.id.publication ≡ number) (λ c. refl) cs)
+    each_map (λ d. d.copy.id.publication ≡ number) (copy_to number now m cause) cs (each_all (λ c. (copy_to number now m cause c).copy.id.publication ≡ number) (λ c. refl) cs)
 
-numbered_deliveries : (number now : ℕ) (m : Message) (r : Routed) → AreNumbered number (deliveries number now m r)
+numbered_deliveries : (number now : ℕ) (m : Message) (r : Routed) → AreNumbered number (copies_to number now m r)
 numbered_deliveries number now m r =
-    each_append (λ d. d.copy.id.publication ≡ number) (map (delivery_of number now m Direct) r.direct) (flat_map (served_deliveries number now m) r.served)
+    each_append (λ d. d.copy.id.publication ≡ number) (map (copy_to number now m Direct) r.direct) (flat_map (served_copies_to number now m) r.served)
     (numbered_copies number now m Direct r.direct)
-    (each_flat (λ d. d.copy.id.publication ≡ number) (served_deliveries number now m) (λ s. numbered_copies number now m (Share s.group) (copies_in s.copy)) r.served)
+    (each_flat (λ d. d.copy.id.publication ≡ number) (served_copies_to number now m) (λ s. numbered_copies number now m (Share s.group) (copies_in s.copy)) r.served)
 
-numbered_if : (t : Bool) (number now : ℕ) (m : Message) (o : Option Routed) (ds : List Delivery) → accepted_if t (option_map (deliveries number now m) o) ≡ Some ds → AreNumbered number ds
+numbered_if : (t : Bool) (number now : ℕ) (m : Message) (o : Option Routed) (ds : List CopyTo) → accepted_if t (option_map (copies_to number now m) o) ≡ Some ds → AreNumbered number ds
 numbered_if false number now m o ds e = absurd cc
 numbered_if true number now m None ds e = absurd cc
 numbered_if true number now m (Some r) ds e =
-    let same : deliveries number now m r ≡ ds = cc in
-    subst (λ (xs : List Delivery). AreNumbered number xs) same (numbered_deliveries number now m r)
+    let same : copies_to number now m r ≡ ds = cc in
+    subst (λ (xs : List CopyTo). AreNumbered number xs) same (numbered_deliveries number now m r)
 
-pub routed_numbered : (env : Env) (m : Message) (b : Broker) (ds : List Delivery) → routed env m b ≡ Some ds → AreNumbered (next_publication b.records) ds
-routed_numbered env m b ds e = numbered_if (finds_place env m b.records) (next_publication b.records) b.now m (routed_to env m b.records) ds e
+pub routed_numbered : (env : Env) (m : Message) (b : Broker) (ds : List CopyTo) → accepted_copies env m b ≡ Some ds → AreNumbered (next_publication b.records) ds
+routed_numbered env m b ds e = numbered_if (finds_place env m b.records) (next_publication b.records) b.now m (routing_of env m b.records) ds e
 
-pub made_numbered : (number : ℕ) (ds : List Delivery) (b : Broker) → b.records.publications ≡ number → AreNumbered number ds → AreMade ds b.records
+pub made_numbered : (number : ℕ) (ds : List CopyTo) (b : Broker) → b.records.publications ≡ number → AreNumbered number ds → AreMade ds b.records
 made_numbered number ds b same h =
     each_more (λ d. d.copy.id.publication ≡ number) (λ d. IsMade d.copy b.records) (λ d e. inl (omega (arith, e, same))) ds h
 
@@ -114,8 +114,8 @@ brought_by true now number s w r =
     let matched = each_filter (λ (y : Kept RetainedMessage). mine (message_in y)) _ (map kept_of ks) tabled in
     let messages = each_map mine message_in (kept_for w.filter (map kept_of ks)) matched in
     let fit = each_filter mine (is_brought now s w) (map message_in (kept_for w.filter (map kept_of ks))) messages in
-    each_map (λ d. IsMade d.copy r) (retained_delivery s.birth number w) (filter (is_brought now s w) (map message_in (kept_for w.filter (map kept_of ks))))
-    (each_more mine (λ k. IsMade (retained_delivery s.birth number w k).copy r) (λ k h. inr h) (filter (is_brought now s w) (map message_in (kept_for w.filter (map kept_of ks)))) fit)
+    each_map (λ d. IsMade d.copy r) (retained_copy_to s.birth number w) (filter (is_brought now s w) (map message_in (kept_for w.filter (map kept_of ks))))
+    (each_more mine (λ k. IsMade (retained_copy_to s.birth number w k).copy r) (λ k h. inr h) (filter (is_brought now s w) (map message_in (kept_for w.filter (map kept_of ks)))) fit)
 
 pub brought_made : (now number : ℕ) (s : Session) (w : Wish) (r : Records) → AreMade (brought now number s w r.retained) r
 brought_made now number s w r = brought_by (not (begins_share w.filter) && wants_retained w.options.retain_handling (has_filter w.filter s)) now number s w r
@@ -161,7 +161,7 @@ made_stays copy [] b beside made = made
 made_stays copy (d ∷ ds) b beside made =
     made_stays copy ds (after d b) beside.1 (subst (λ (k : Kinds). MadeOf copy k) (sym (kinds_deed d b beside.0)) made)
 
-pub are_made_stay : (all : List Delivery) (ds : List Deed) (b : Broker) → AreGood IsBeside ds b → AreMade all b.records → AreMade all (after_all ds b).records
+pub are_made_stay : (all : List CopyTo) (ds : List Deed) (b : Broker) → AreGood IsBeside ds b → AreMade all b.records → AreMade all (after_all ds b).records
 are_made_stay all ds b beside made =
     each_more (λ d. IsMade d.copy b.records) (λ d. IsMade d.copy (after_all ds b).records) (λ d h. made_stays d.copy ds b beside h) all made
 
@@ -181,10 +181,10 @@ beside_offer : (l : Option Line) (packet : Packet) (b : Broker) → AreGood IsBe
 beside_offer None packet b = tt
 beside_offer (Some l) packet b = good_cond IsBeside _ (Send l.number packet ∷ []) [] b (tt, tt) tt
 
-beside_deliver_by : (t : Bool) (env : Env) (d : Delivery) (b : Broker) → AreGood IsBeside (deliver_by t env d b) b
+beside_deliver_by : (t : Bool) (env : Env) (d : CopyTo) (b : Broker) → AreGood IsBeside (deliver_by t env d b) b
 beside_deliver_by true env d b =
     good_with_session IsBeside (session_at d.birth b.records) (λ s. always (enter_deeds env d.copy s)) b (λ s e. beside_enter env d.copy s b)
 beside_deliver_by false env d b = beside_offer (line_of d.birth b) (publish_of b.now false 0 d.copy) b
 
-pub beside_deliver : (env : Env) (d : Delivery) (b : Broker) → AreGood IsBeside (deliver env d b) b
+pub beside_deliver : (env : Env) (d : CopyTo) (b : Broker) → AreGood IsBeside (deliver env d b) b
 beside_deliver env d b = beside_deliver_by (is_queued d) env d b

@@ -1,12 +1,13 @@
 -- Groups of shared subscriptions in the broker's step: who gets a message to a/b (MQTT 5.0, 3.3.4, 4.8.2).
-use Rattle.std.proofs.Common.{◌≡◌, ℕ, Bool, true, false, cond, List, [], ◌∷◌, ◌++◌, refl, Option, Some, None}
-use Rattle.std.specs.Prelude.{codes, nat_eq}
+use Rattle.std.proofs.Common.{◌≡◌, ℕ, Bool, true, false, cond, List, [], ◌∷◌, ◌++◌, map, refl, Option, Some, None}
+use Rattle.std.specs.Prelude.{codes, nat_eq, bytes_eq}
 use Rattle.mqtt_base.specs.Values.{varint}
 use Rattle.mqtt_base.specs.declared.session.Qos.{Qos}
 use Rattle.mqtt_base.specs.declared.session.Qos.TheVariants.{AtMostOnce, AtLeastOnce, ExactlyOnce}
 use Rattle.mqtt_base.specs.declared.session.Cause.TheVariants.{Share}
 use Rattle.mqtt_base.specs.declared.session.CopyId.{CopyId}
 use Rattle.mqtt_props.specs.Properties.{Prop}
+use Rattle.mqtt_codec.specs.declared.connect.Will.{Will}
 use Rattle.mqtt_codec.specs.declared.publish.Delivery.TheVariants as delivery
 use Rattle.mqtt_codec.specs.declared.packet.Packet.{Packet}
 use Rattle.mqtt_codec.specs.declared.packet.Packet.TheVariants.{Publish}
@@ -16,10 +17,10 @@ use Rattle.mqtt_routes.specs.Acceptance.{Routed, routed}
 use Rattle.mqtt_rules.specs.declared.Limits.{Limits}
 use Rattle.mqtt_rules.specs.declared.Report.TheVariants.{Accepted, Entered}
 use Rattle.mqtt_rules.specs.Packets.{identified, pubrec}
-use Rattle.mqtt_rules.specs.State.{Broker}
+use Rattle.mqtt_rules.specs.State.{Broker, MemberChoice}
 use Rattle.mqtt_rules.specs.Routing.{subscribers, answers}
-use Rattle.mqtt_rules.specs.Step.{Input, Lost, Pump, Outcome, env_of}
-use Rattle.mqtt_rules.proofs.Play.{usual, blank, first, Event, at, runs, tells, asks, out, hello, in_line, wants_with, wish, options, wants, gives_up, topic, message, sends, copy_out, direct, tells_by, runs_by, Keeps, nothing_written, narrow, waiting, queued, low, shared, in_group}
+use Rattle.mqtt_rules.specs.Step.{Input, Lost, Pump, Outcome, env_of, opened}
+use Rattle.mqtt_rules.proofs.Play.{usual, blank, first, Event, at, runs, tells, asks, out, hello, hello_with, in_line, wants_with, wish, options, wants, gives_up, topic, message, sends, copy_out, direct, tells_by, runs_by, Keeps, nothing_written, narrow, waiting, queued, low, shared, in_group}
 
 -- ---- the sessions: s1 has two filters that match, s2 one of QoS 0, s3 and s4 are members of a group; p publishes
 
@@ -43,8 +44,8 @@ abbrev there : Broker
 there = runs (members AtLeastOnce) blank
 
 -- the member chosen for a message's only group, by its place among the eligible ones
-abbrev nth : ℕ → ℕ → List ℕ
-nth i number = i ∷ []
+abbrev nth : ℕ → MemberChoice
+nth i number sender = i ∷ []
 
 -- what is told of the message with this number: s1's copy, s2's at once, and that of the member chosen
 abbrev goes_to : ℕ → ℕ → List ℕ → Outcome
@@ -64,8 +65,8 @@ unfolding varint
 a_choice_beyond_the_members_names_the_first = refl
 
 -- by a choice that goes round: after s3 comes s4, then s3
-abbrev round : ℕ → List ℕ
-round number = cond (nat_eq number 2) (1 ∷ []) (0 ∷ [])
+abbrev round : MemberChoice
+round number sender = cond (nat_eq number 2) (1 ∷ []) (0 ∷ [])
 
 the_second_goes_to_the_next_member : tells_by usual round (at 0 (Input 5 (sends 10)))
     (runs_by usual round (at 0 (Input 5 (sends 11)) ∷ []) there) ≡ goes_to 2 4 (codes "s4")
@@ -195,8 +196,8 @@ two_groups =
     ∷ at 0 (Input 2 (wants 2 other ExactlyOnce))
     ∷ in_line 3 (hello (codes "p"))
 
-abbrev second_then_first : ℕ → List ℕ
-second_then_first number = 1 ∷ 0 ∷ []
+abbrev second_then_first : MemberChoice
+second_then_first number sender = 1 ∷ 0 ∷ []
 
 a_choice_for_each_group : tells_by usual second_then_first (at 0 (Input 3 (sends 10))) (runs two_groups blank)
     ≡ out ((3, pubrec 10 0) ∷ []) [] (Accepted 1 ∷ Entered (in_group 1 2) (codes "m2") ∷ Entered (in_other 1) (codes "m1") ∷ []) false
@@ -309,3 +310,27 @@ a_member_that_gave_up_comes_last : asks (pair ++ at 0 (Input 1 (gives_up 2 (shar
     ≡ out ((3, pubrec 10 0) ∷ []) [] (Accepted 1 ∷ Entered (in_group 1 2) (codes "m2") ∷ []) false
 unfolding varint
 a_member_that_gave_up_comes_last = refl
+
+-- ---- a Will that is refused takes no number: the next one has it, and a choice of its own by its sender
+
+abbrev by_sender : MemberChoice
+by_sender number sender = cond (bytes_eq sender (codes "w2")) (1 ∷ []) []
+
+abbrev farewell : List ℕ → Will
+farewell name = record { qos = ExactlyOnce; retain = false; properties = []; topic = name; payload = (message 10).payload }
+
+-- m1 and m2 share a/b, and m1's queue is full; w1's Will is for m1 alone
+abbrev both_die : List Event
+both_die = in_line 1 (hello (codes "m1")) ++ at 0 (Input 1 (wants 1 shared ExactlyOnce)) ∷ at 0 (Input 1 (wants 2 (codes "x") ExactlyOnce))
+    ∷ in_line 2 (hello (codes "m2")) ++ at 0 (Input 2 (wants 1 shared ExactlyOnce))
+    ∷ in_line 3 (hello (codes "m3")) ++ at 0 (Input 3 (wants 1 shared ExactlyOnce))
+    ∷ in_line 4 (hello_with (codes "w1") [] (Some (farewell (codes "x"))))
+    ++ in_line 5 (hello_with (codes "w2") [] (Some (farewell topic)))
+
+abbrev left_to : Broker → List (ℕ × List CopyId)
+left_to b = map (λ s. (s.birth, map (λ e. e.copy.id) s.queue)) b.records.sessions
+
+each_will_has_its_own_choice : left_to (opened (narrow Refuse 1) by_sender 0 (queued 1 (waiting 1 1) 1 (runs both_die blank)).records)
+    ≡ (1, direct 1 1 ∷ []) ∷ (2, []) ∷ (3, in_group 2 3 ∷ []) ∷ []
+unfolding varint
+each_will_has_its_own_choice = refl

@@ -1,5 +1,5 @@
 -- Worked handshakes: open identifiers, groups, restarts, takeover, the client's window (MQTT 5.0, 3.1.4, 4.1, 4.3, 4.4, 4.8, 4.9).
-use Rattle.std.proofs.Common.{◌≡◌, ℕ, zero, suc, ◌+◌, ◌-◌, true, false, List, [], ◌∷◌, ◌++◌, Some, None, Ok, refl}
+use Rattle.std.proofs.Common.{◌≡◌, ℕ, zero, suc, ◌+◌, true, false, List, [], ◌∷◌, ◌++◌, Some, None, Ok, refl}
 use Rattle.std.specs.Prelude.{codes}
 use Rattle.std.specs.Str.{is_utf8, chars}
 use Rattle.std.proofs.Math.Utf8.{encode}
@@ -24,15 +24,13 @@ use Rattle.mqtt_codec.specs.Packets.{shortest_of}
 use Rattle.mqtt_codec.specs.Frames.{frame_at, body_at, versioned_at, lawful_at, packet_at}
 use Rattle.mqtt_message.specs.declared.message.MessageCopy.{MessageCopy}
 use Rattle.mqtt_records.specs.declared.session.Session.{Session}
-use Rattle.mqtt_records.specs.declared.records.Records.{Records}
 use Rattle.mqtt_records.specs.declared.change.Counter.TheVariants.{Publications, Moment}
 use Rattle.mqtt_records.specs.declared.change.Change.{Change}
 use Rattle.mqtt_records.specs.declared.change.Change.TheVariants.{SetCounter, PutInbound, PutCopy, SetCopy}
-use Rattle.mqtt_records.specs.Records.{nothing}
 use Rattle.mqtt_rules.specs.declared.Report.TheVariants.{Accepted, Entered, Released, Ended}
 use Rattle.mqtt_rules.specs.Packets.{reason, property, puback, pubrec, pubrel, pubcomp, disconnect}
-use Rattle.mqtt_rules.specs.State.{Broker, top}
-use Rattle.mqtt_rules.specs.Step.{Call, NewLine, Input, Lost, Pump, Tick, deeds, rows_written, is_spent, copy_of}
+use Rattle.mqtt_rules.specs.State.{Broker}
+use Rattle.mqtt_rules.specs.Step.{Call, NewLine, Input, Lost, Pump, Tick, deeds, rows_written, copy_of}
 use Rattle.mqtt_rules.proofs.Play.{usual, first, hi, options, blank, Event, at, step, runs, tells, asks, reopened, out, never_expires, hello_with, hello, welcome, in_line, wants, topic, sends, sends_again, copy_out, direct, subscribed, published, bytes, open_at, burst, all_outputs, all_reports}
 
 -- ---- a publisher that releases nothing: 20 identifiers are open, and a 21st closes its line
@@ -191,21 +189,6 @@ ends_now = Disconnect (record { reason = reason 0; properties = property Session
 an_end_leaves_nothing : (runs (cut_short ++ at 0 (Input 1 ends_now) ∷ []) blank).records.sessions ≡ of_p1 ∷ []
 unfolding varint
 an_end_leaves_nothing = refl
-
--- the last number is given, and none above it (ours)
-abbrev given_publications : ℕ → Records → Records
-given_publications n r = record r { publications = n }
-
-abbrev with_numbers : ℕ → Broker
-with_numbers n = runs (in_line 1 (hello (codes "p2"))) (reopened 0 (record blank { records = given_publications n nothing }))
-
-the_last_number_is_given : is_spent (rows_by (Input 1 (sends 10)) (with_numbers (top - 1))) ≡ false
-unfolding varint
-the_last_number_is_given = refl
-
-none_is_given_after_it : is_spent (rows_by (Input 1 (sends 10)) (with_numbers top)) ≡ true
-unfolding varint
-none_is_given_after_it = refl
 
 -- the restart comes at whatever moment
 abbrev after_stop : ℕ → Broker

@@ -20,7 +20,7 @@ use Rattle.mqtt_routes.specs.Intended.{greatest}
 use Rattle.mqtt_rules.specs.State.{Broker, session_at, next_of}
 use Rattle.mqtt_rules.specs.Deeds.{Part, Resume, Deed, Accept, Begin, Name, Count, At, Finish, Keep, Forget, part_rows, part_rows_of, rows_of, stored_after, after, after_all}
 use Rattle.mqtt_rules.specs.Numbers.{HasGivenBirths}
-use Rattle.mqtt_rules.proofs.Acts.{AreGood}
+use Rattle.mqtt_rules.proofs.Goods.{AreGood}
 use Rattle.mqtt_rules.proofs.NumberFacts.{Counts, counts_deed, GivesNext}
 
 module _ {X : Type 0} (key : X → ℕ) where

@@ -1,5 +1,5 @@
 -- Copies in queues and retained messages have numbers of accepted publications, deed by deed and over a step.
-use Rattle.std.proofs.Common.{◌≡◌, ℕ, ◌≤◌, Bool, true, false, cond, not, ◌||◌, List, [], ◌∷◌, length, Option, Some, None, nat_eq, nat_lt, sym, subst, arith, inl, inr}
+use Rattle.std.proofs.Common.{◌≡◌, refl, ℕ, ◌≤◌, Bool, true, false, cond, not, ◌||◌, List, [], ◌∷◌, length, Option, Some, None, nat_eq, nat_lt, sym, subst, arith, inl, inr}
 use Rattle.std.specs.Prelude.{⊤}
 use Rattle.std.specs.List.{AllByRecursion}
 use Rattle.std.proofs.lemmas.Bool.{cases_Bool}
@@ -18,12 +18,14 @@ use Rattle.mqtt_rows.specs.Order.{has_row, insert_row, put_row, change_row}
 use Rattle.mqtt_records.specs.Session.{birth_of, copy_place, fresh, with_columns, with_will, with_subscription, without_subscription, with_open, without_open, with_copy, with_phase, without_copy, in_phase}
 use Rattle.mqtt_records.specs.Records.{changed, changed_all, put_session, with_counter, kept_place}
 use Rattle.mqtt_rules.specs.declared.Limits.{Limits}
-use Rattle.mqtt_rules.specs.State.{Broker, session_at}
+use Rattle.mqtt_rules.specs.State.{Broker, Env, session_at, MemberChoice}
 use Rattle.mqtt_rules.specs.Deeds.{Whose, Part, Resume, Enter, Deed, Accept, Begin, At, Finish, Keep, Forget, part_rows, part_rows_of, rows_of_all, after, after_all}
 use Rattle.mqtt_rules.specs.Step.{Call, deeds, at_moment, env_of, with_moment, done, stepped, opening, unopened, opened}
 use Rattle.mqtt_rules.specs.Numbers.{HasCopiesUpTo, HasAcceptedNumbers}
 use Rattle.mqtt_rules.proofs.Copies.{IsMade, HasNumber, Kinds, kinds_deed, each_filter, each_more}
-use Rattle.mqtt_rules.proofs.Acts.{is_plain, Facts, MarkFact, AreGood, good_deeds, good_opening}
+use Rattle.mqtt_rules.proofs.Goods.{AreGood}
+use Rattle.mqtt_rules.proofs.Acts.{is_alone, anyone, finds_anyone}
+use Rattle.mqtt_rules.proofs.ByDeeds.{DeedLaw, MarkLaw, leads_deeds, leads_opened}
 
 -- ---- what holds of each row, edit by edit
 
@@ -122,31 +124,39 @@ OfAccepted (At who (Enter copy)) b = IsMade copy b.records
 OfAccepted (Keep kept) b = kept.publication ≡ b.records.publications
 OfAccepted d b = ⊤
 
-plain_accepted : (who : Whose) (part : Part) (b : Broker) → is_plain part ≡ true → OfAccepted (At who part) b
-plain_accepted who (Enter copy) b q = absurd cc
-plain_accepted who part b q = tt
+accepted_alone : (who : Whose) (part : Part) (b : Broker) → is_alone part ≡ true → OfAccepted (At who part) b
+accepted_alone who (Enter copy) b q = absurd cc
+accepted_alone who part b q = tt
 
-accepted_facts : Facts OfAccepted
-accepted_facts = record {
-  accept = λ origin m b. omega arith;
-  begin_row = λ client c b. tt;
-  name = λ b. tt;
-  count = λ b. tt;
-  at_part = plain_accepted;
-  enter = λ who copy b made. made;
-  open_id = λ birth s id env m ds b e n r. tt;
-  finish = λ who b. tt;
-  keep = λ kept b e. e;
-  forget = λ place b. tt;
-  refuse_will = λ who b. tt;
-  link = λ b. tt;
-  on_line = λ line part b. tt;
-  send = λ line packet b. tt;
-  gone = λ line b. tt;
+accepted_law : (env : Env) → DeedLaw env anyone (λ b. ⊤) OfAccepted
+accepted_law env = record {
+  finds = finds_anyone (λ b. ⊤);
+  client_stays = λ client d b k g its. tt;
+  kept = λ d b k g. tt;
+  accept = λ origin m b k said. omega arith;
+  keep = λ m b k said is full found. refl;
+  forget = λ place b k. tt;
+  enter = λ who copy b k made. made;
+  leave = λ who e ending b k. tt;
+  refuse_will = λ who b k its. tt;
+  open_id = λ s id m ds b k h its there new is. tt;
+  alone = λ who part b k its is. accepted_alone who part b is;
+  close = λ who moment b k its. tt;
+  finish = λ who b k its. tt;
+  resume = λ who expiry will b k its. tt;
+  name = λ b k. tt;
+  begin_given = λ c b k came taken name is room. tt;
+  begin_assigned = λ c b k h came taken room. tt;
+  count = λ b k. tt;
+  subscribe = λ w s b k h its granted. tt;
+  link = λ b k. tt;
+  on_line = λ line part b k. tt;
+  send = λ line packet b k. tt;
+  gone = λ line b k. tt;
 }
 
-accepted_mark : MarkFact OfAccepted
-accepted_mark who place phase b = tt
+accepted_mark : MarkLaw (λ b. ⊤) OfAccepted
+accepted_mark who place phase b k = tt
 
 -- a copy that was made has a number up to the last
 number_within : (n m : ℕ) (ks : List RetainedMessage) → HasNumber n ks → AllByRecursion (λ k. k.publication ≤ m) ks → n ≤ m
@@ -208,11 +218,11 @@ moment_accepted (row ∷ rows) b h = h
 accepted_done : (ds : List Deed) (b : Broker) → AreGood OfAccepted ds b → HasAcceptedNumbers b.records → HasAcceptedNumbers (done ds b).records
 accepted_done ds b q h = moment_accepted (rows_of_all ds b.records) (after_all ds b) (accepted_all ds b q h)
 
-pub step_accepted : (limits : Limits) (choice : ℕ → List ℕ) (now : ℕ) (call : Call) (b : Broker) → HasAcceptedNumbers b.records → HasAcceptedNumbers (stepped limits choice now call b).records
+pub step_accepted : (limits : Limits) (choice : MemberChoice) (now : ℕ) (call : Call) (b : Broker) → HasAcceptedNumbers b.records → HasAcceptedNumbers (stepped limits choice now call b).records
 step_accepted limits choice now call b h =
-    accepted_done (deeds limits choice now call b) (at_moment now b) (good_deeds OfAccepted accepted_facts accepted_mark (env_of limits choice b) call (at_moment now b)) h
+    accepted_done (deeds limits choice now call b) (at_moment now b) ((leads_deeds (env_of limits choice b) (λ c. ⊤) OfAccepted (accepted_law (env_of limits choice b)) accepted_mark call (at_moment now b) tt).0) h
 
-pub opening_accepted : (limits : Limits) (choice : ℕ → List ℕ) (now : ℕ) (r : Records) → HasAcceptedNumbers r → HasAcceptedNumbers (opened limits choice now r).records
+pub opening_accepted : (limits : Limits) (choice : MemberChoice) (now : ℕ) (r : Records) → HasAcceptedNumbers r → HasAcceptedNumbers (opened limits choice now r).records
 opening_accepted limits choice now r h =
     let b = unopened now r in
-    accepted_done (opening (env_of limits choice b) b) b (good_opening OfAccepted accepted_facts (env_of limits choice b) b) h
+    accepted_done (opening (env_of limits choice b) b) b ((leads_opened (env_of limits choice b) (λ c. ⊤) OfAccepted (accepted_law (env_of limits choice b)) accepted_mark b tt).0) h

@@ -4,10 +4,12 @@ use Rattle.std.specs.Prelude.{⊤, suc, filter_map}
 use Rattle.mqtt_records.specs.declared.session.Session.{Session}
 use Rattle.mqtt_records.specs.declared.records.Records.{Records}
 use Rattle.mqtt_records.specs.Records.{changed_all}
-use Rattle.mqtt_rules.specs.State.{Broker, session_at}
+use Rattle.mqtt_rules.specs.State.{Broker, Env, session_at}
 use Rattle.mqtt_rules.specs.Deeds.{Part, Resume, Deed, Accept, Begin, Name, Count, At, part_rows, part_rows_of, stored_after, after, after_all}
 use Rattle.mqtt_rules.specs.Numbers.{CountsOn, birth_given, publication_given, grant_given, name_given}
-use Rattle.mqtt_rules.proofs.Acts.{Facts, MarkFact, AreGood}
+use Rattle.mqtt_rules.proofs.Goods.{AreGood}
+use Rattle.mqtt_rules.proofs.Acts.{anyone, finds_anyone}
+use Rattle.mqtt_rules.proofs.ByDeeds.{DeedLaw, MarkLaw}
 
 -- the counters alone
 pub record Counts : Type 0 where
@@ -51,27 +53,35 @@ GivesNext (Name n) b = n ≡ suc b.records.autos
 GivesNext (Count n) b = n ≡ suc b.records.subscribes
 GivesNext d b = ⊤
 
-pub next_facts : Facts GivesNext
-next_facts = record {
-  accept = λ origin m b. refl;
-  begin_row = λ client c b. refl;
-  name = λ b. refl;
-  count = λ b. refl;
-  at_part = λ who part b q. tt;
-  enter = λ who copy b made. tt;
-  open_id = λ birth s id env m ds b e n r. tt;
-  finish = λ who b. tt;
-  keep = λ kept b e. tt;
-  forget = λ place b. tt;
-  refuse_will = λ who b. tt;
-  link = λ b. tt;
-  on_line = λ line part b. tt;
-  send = λ line packet b. tt;
-  gone = λ line b. tt;
+pub next_law : (env : Env) → DeedLaw env anyone (λ b. ⊤) GivesNext
+next_law env = record {
+  finds = finds_anyone (λ b. ⊤);
+  client_stays = λ client d b k g its. tt;
+  kept = λ d b k g. tt;
+  accept = λ origin m b k said. refl;
+  keep = λ m b k said is full found. tt;
+  forget = λ place b k. tt;
+  enter = λ who copy b k made. tt;
+  leave = λ who e ending b k. tt;
+  refuse_will = λ who b k its. tt;
+  open_id = λ s id m ds b k h its there new is. tt;
+  alone = λ who part b k its is. tt;
+  close = λ who moment b k its. tt;
+  finish = λ who b k its. tt;
+  resume = λ who expiry will b k its. tt;
+  name = λ b k. refl;
+  begin_given = λ c b k came taken name is room. refl;
+  begin_assigned = λ c b k h came taken room. refl;
+  count = λ b k. refl;
+  subscribe = λ w s b k h its granted. tt;
+  link = λ b k. tt;
+  on_line = λ line part b k. tt;
+  send = λ line packet b k. tt;
+  gone = λ line b k. tt;
 }
 
-pub next_mark : MarkFact GivesNext
-next_mark who place phase b = tt
+pub next_mark : MarkLaw (λ b. ⊤) GivesNext
+next_mark who place phase b k = tt
 
 -- ---- counting on
 

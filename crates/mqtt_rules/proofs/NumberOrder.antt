@@ -14,7 +14,7 @@ use Rattle.mqtt_records.specs.Session.{birth_of, place_of, number_of, copy_place
 use Rattle.mqtt_records.specs.Records.{nothing, changed, changed_all, put_session, in_session, with_counter, kept_place}
 use Rattle.mqtt_rows.proofs.OrderLemmas.{put-ascending, filter-ascending, remove-ascending, change-ascending}
 use Rattle.mqtt_rules.specs.declared.Limits.{Limits}
-use Rattle.mqtt_rules.specs.State.{Broker}
+use Rattle.mqtt_rules.specs.State.{Broker, MemberChoice}
 use Rattle.mqtt_rules.specs.Deeds.{Deed, rows_of, rows_of_all, after, after_all}
 use Rattle.mqtt_rules.specs.Step.{Call, deeds, at_moment, env_of, with_moment, done, stepped, opening, unopened, opened}
 use Rattle.mqtt_rules.specs.Numbers.{IsInOrder, AreInOrder}
@@ -84,10 +84,10 @@ moment_order (row ∷ rows) b h = h
 order_done : (ds : List Deed) (b : Broker) → AreInOrder b.records → AreInOrder (done ds b).records
 order_done ds b h = moment_order (rows_of_all ds b.records) (after_all ds b) (order_all ds b h)
 
-pub step_order : (limits : Limits) (choice : ℕ → List ℕ) (now : ℕ) (call : Call) (b : Broker) → AreInOrder b.records → AreInOrder (stepped limits choice now call b).records
+pub step_order : (limits : Limits) (choice : MemberChoice) (now : ℕ) (call : Call) (b : Broker) → AreInOrder b.records → AreInOrder (stepped limits choice now call b).records
 step_order limits choice now call b h = order_done (deeds limits choice now call b) (at_moment now b) h
 
-pub opening_order : (limits : Limits) (choice : ℕ → List ℕ) (now : ℕ) (r : Records) → AreInOrder r → AreInOrder (opened limits choice now r).records
+pub opening_order : (limits : Limits) (choice : MemberChoice) (now : ℕ) (r : Records) → AreInOrder r → AreInOrder (opened limits choice now r).records
 opening_order limits choice now r h = let b = unopened now r in order_done (opening (env_of limits choice b) b) b h
 
 pub nothing_order : AreInOrder nothing

@@ -21,7 +21,7 @@ use Rattle.mqtt_rules.specs.Packets.{quality}
 use Rattle.mqtt_rules.specs.State.{Broker, Env, session_at}
 use Rattle.mqtt_rules.specs.Deeds.{Message}
 use Rattle.mqtt_rules.specs.Outbound.{room_at}
-use Rattle.mqtt_rules.specs.Routing.{subscriber_of, publication_of, answers, finds_place, Delivery, delivery_of, served_deliveries, deliveries, next_publication, routed_to, accepted_if, routed, is_queued_at, is_queued}
+use Rattle.mqtt_rules.specs.Routing.{subscriber_of, publication_of, answers, finds_place, CopyTo, copy_to, served_copies_to, copies_to, next_publication, routing_of, accepted_if, accepted_copies, is_queued_at, is_queued}
 
 -- ---- counting
 
@@ -200,7 +200,7 @@ serve_within at p birth all direct choices (f ∷ fs) served out is within =
 -- ---- the deliveries of a publication
 
 -- a delivery that enters a session's queue
-abbrev pub is_to : ℕ → Delivery → Bool
+abbrev pub is_to : ℕ → CopyTo → Bool
 is_to birth d = is_queued d && nat_eq d.birth birth
 
 queued_quality : (n : ℕ) → is_queued_at (quality n) ≡ nat_lt 0 n
@@ -209,30 +209,30 @@ queued_quality (suc zero) = refl
 queued_quality (suc (suc zero)) = refl
 queued_quality (suc (suc (suc n))) = sym (lt-ltb 0 (suc (suc (suc n))) (omega arith))
 
-same_count : (birth number now : ℕ) (m : Message) (cause : Cause) (cs : List Copy) → length (filter (is_to birth) (map (delivery_of number now m cause) cs)) ≡ many birth cs
+same_count : (birth number now : ℕ) (m : Message) (cause : Cause) (cs : List Copy) → length (filter (is_to birth) (map (copy_to number now m cause) cs)) ≡ many birth cs
 same_count birth number now m cause [] = refl
 same_count birth number now m cause (c ∷ cs) =
     let rest = same_count birth number now m cause cs in
-    let as_copy : is_to birth (delivery_of number now m cause c) ≡ is_for birth c = ap (λ t. t && nat_eq c.birth birth) (queued_quality c.qos) in
+    let as_copy : is_to birth (copy_to number now m cause c) ≡ is_for birth c = ap (λ t. t && nat_eq c.birth birth) (queued_quality c.qos) in
     elim (cases_Bool (is_for birth c)) [
       | inl so ↦ rw (as_copy, so) (ap suc rest)
       | inr not_so ↦ rw (as_copy, not_so) rest
     ]
 
-served_count : (birth number now : ℕ) (m : Message) (ss : List Served) → length (filter (is_to birth) (flat_map (served_deliveries number now m) ss)) ≡ many birth (copies_of ss)
+served_count : (birth number now : ℕ) (m : Message) (ss : List Served) → length (filter (is_to birth) (flat_map (served_copies_to number now m) ss)) ≡ many birth (copies_of ss)
 served_count birth number now m [] = refl
 served_count birth number now m (s ∷ ss) =
     let rest = served_count birth number now m ss in
     let one = same_count birth number now m (Share s.group) (copies_in s.copy) in
-    let left = count_append (is_to birth) (served_deliveries number now m s) (flat_map (served_deliveries number now m) ss) in
+    let left = count_append (is_to birth) (served_copies_to number now m s) (flat_map (served_copies_to number now m) ss) in
     let right = count_append (is_for birth) (copies_in s.copy) (copies_of ss) in
     omega (arith, rest, one, left, right)
 
-deliveries_within : (at : Answers) (birth number now : ℕ) (m : Message) (r : Routed) → Within at birth r.direct r.served → length (filter (is_to birth) (deliveries number now m r)) ≤ at.room birth
+deliveries_within : (at : Answers) (birth number now : ℕ) (m : Message) (r : Routed) → Within at birth r.direct r.served → length (filter (is_to birth) (copies_to number now m r)) ≤ at.room birth
 deliveries_within at birth number now m r within =
     let one = same_count birth number now m Direct r.direct in
     let two = served_count birth number now m r.served in
-    let cut = count_append (is_to birth) (map (delivery_of number now m Direct) r.direct) (flat_map (served_deliveries number now m) r.served) in
+    let cut = count_append (is_to birth) (map (copy_to number now m Direct) r.direct) (flat_map (served_copies_to number now m) r.served) in
     omega (arith, one, two, cut, within)
 
 beside_within : (t : Bool) (at : Answers) (p : Publication) (birth : ℕ) (all : List Member) (direct : List Copy) (choices : List ℕ) (r : Routed)
@@ -255,20 +255,20 @@ routed_within at p birth choices ss r up is =
     let direct = directs at p (map subscriber_of ss) in
     beside_within (list_all (has_room at) direct) at p birth (members p (map subscriber_of ss)) direct choices r (λ fits. few_direct at p birth ss up fits) is
 
-accepted_is : (t : Bool) (o : Option (List Delivery)) (ds : List Delivery) → accepted_if t o ≡ Some ds → o ≡ Some ds
+accepted_is : (t : Bool) (o : Option (List CopyTo)) (ds : List CopyTo) → accepted_if t o ≡ Some ds → o ≡ Some ds
 accepted_is true o ds is = is
 accepted_is false o ds is = absurd cc
 
-made_within : (at : Answers) (birth number now : ℕ) (m : Message) (o : Option Routed) (ds : List Delivery) → ((r : Routed) → o ≡ Some r → Within at birth r.direct r.served) → option_map (deliveries number now m) o ≡ Some ds → length (filter (is_to birth) ds) ≤ at.room birth
+made_within : (at : Answers) (birth number now : ℕ) (m : Message) (o : Option Routed) (ds : List CopyTo) → ((r : Routed) → o ≡ Some r → Within at birth r.direct r.served) → option_map (copies_to number now m) o ≡ Some ds → length (filter (is_to birth) ds) ≤ at.room birth
 made_within at birth number now m None ds h is = absurd cc
 made_within at birth number now m (Some r) ds h is =
-    let it : deliveries number now m r ≡ ds = cc in
-    subst (λ (xs : List Delivery). length (filter (is_to birth) xs) ≤ at.room birth) it (deliveries_within at birth number now m r (h r refl))
+    let it : copies_to number now m r ≡ ds = cc in
+    subst (λ (xs : List CopyTo). length (filter (is_to birth) xs) ≤ at.room birth) it (deliveries_within at birth number now m r (h r refl))
 
 -- an accepted publication's copies for one session fit its queue
-pub accepted_within : (env : Env) (m : Message) (b : Broker) (ds : List Delivery) (birth : ℕ) → routed env m b ≡ Some ds → IsAscending birth_of b.records.sessions → length (filter (is_to birth) ds) ≤ room_at env (session_at birth b.records)
+pub accepted_within : (env : Env) (m : Message) (b : Broker) (ds : List CopyTo) (birth : ℕ) → accepted_copies env m b ≡ Some ds → IsAscending birth_of b.records.sessions → length (filter (is_to birth) ds) ≤ room_at env (session_at birth b.records)
 accepted_within env m b ds birth is up =
     let r = b.records in
-    made_within (answers env r) birth (next_publication r) b.now m (routed_to env m r) ds
-    (λ x found. routed_within (answers env r) (publication_of m) birth (env.choice (next_publication r)) r.sessions x up found)
-    (accepted_is (finds_place env m r) (option_map (deliveries (next_publication r) b.now m) (routed_to env m r)) ds is)
+    made_within (answers env r) birth (next_publication r) b.now m (routing_of env m r) ds
+    (λ x found. routed_within (answers env r) (publication_of m) birth (env.choice (next_publication r) m.sender) r.sessions x up found)
+    (accepted_is (finds_place env m r) (option_map (copies_to (next_publication r) b.now m) (routing_of env m r)) ds is)

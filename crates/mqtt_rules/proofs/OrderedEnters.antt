@@ -7,7 +7,7 @@ use Rattle.mqtt_flow.specs.declared.entry.Turn.{Turn}
 use Rattle.mqtt_flow.specs.declared.entry.Turn.TheVariants as turns
 use Rattle.mqtt_flow.specs.Outbound.{staying, way_made, has_room}
 use Rattle.mqtt_flow.specs.Queue as flow
-use Rattle.mqtt_flow.proofs.OutRoom.{below_limit}
+use Rattle.mqtt_flow.proofs.outbound.Room.{below_limit}
 use Rattle.mqtt_base.specs.declared.session.Ending.{Ending}
 use Rattle.mqtt_message.specs.declared.message.MessageCopy.{MessageCopy}
 use Rattle.mqtt_message.specs.declared.message.Will.{Will}
@@ -30,7 +30,8 @@ use Rattle.mqtt_rules.specs.Deeds as deed
 use Rattle.mqtt_rules.specs.Outbound.{of_entry, leave_deeds, is_new, since, queue_limits, enter_deeds}
 use Rattle.mqtt_rules.specs.Laws.{HasTables, IsOrdered}
 use Rattle.mqtt_rules.proofs.Ordered.{length-filter_le, length-change_row, all-filter, all-change_row, all-put_row, either, changed_all-ordered}
-use Rattle.mqtt_rules.proofs.OrderedActs.{after_append, IsPlainPart, IsPlain, ArePlain, plain_leave, plain_flat, birth_found}
+use Rattle.mqtt_rules.proofs.Goods.{after_append}
+use Rattle.mqtt_rules.proofs.OrderedActs.{IsPlainPart, IsPlain, ArePlain, plain_leave, plain_flat, birth_found}
 use Rattle.mqtt_rules.proofs.OrderedQueues.{length-mapped, stay, stay_is, leaving, GivesWay, dropped_gives, leaving_flow, first_place, stay_more, below_own, length-append_one}
 
 -- ---- a row found and changed

@@ -19,36 +19,37 @@ use Rattle.mqtt_records.specs.Session.{birth_of, with_subscription}
 use Rattle.mqtt_records.specs.Records.{changed_all}
 use Rattle.mqtt_rules.specs.declared.Limits.{Limits}
 use Rattle.mqtt_rules.specs.Packets.{publish_of, size_of}
-use Rattle.mqtt_rules.specs.State.{Line, Broker, Env, stored, session_at, line_of}
+use Rattle.mqtt_rules.specs.State.{Line, Broker, Env, stored, session_at, line_of, MemberChoice}
 use Rattle.mqtt_rules.specs.Deeds.{whose, Message, Origin, Part, Deed, Accept, Count, At, Keep, Forget, Act, after, after_all, part_rows_of, stored_after, then, always, series, with_session, of_session, offer}
 use Rattle.mqtt_rules.specs.Deeds as deed
 use Rattle.mqtt_rules.specs.Outbound.{since, room, room_at, enter_deeds}
-use Rattle.mqtt_rules.specs.Routing.{Delivery, retained_of, next_publication, routed, is_queued, deliver_by, deliver, forgets, retain_by, publish}
+use Rattle.mqtt_rules.specs.Routing.{CopyTo, retained_of, next_publication, accepted_copies, is_queued, deliver_by, deliver, forgets, retain_by, publish}
 use Rattle.mqtt_rules.specs.Subscribe as sub
 use Rattle.mqtt_rules.specs.Step.{Call, stepped, env_of, unopened, opened}
 use Rattle.mqtt_rules.specs.Laws.{HasTables, IsOrdered}
 use Rattle.mqtt_rules.proofs.Ordered.{length-filter_le, all-filter, changed-ordered}
-use Rattle.mqtt_rules.proofs.OrderedActs.{both, brought_to, Keeping, birth_found}
+use Rattle.mqtt_rules.proofs.OrderedActs.{both, Keeping, birth_found}
+use Rattle.mqtt_rules.proofs.Acts.{brought_to}
 use Rattle.mqtt_rules.proofs.OrderedAccepted.{is_to, accepted_within}
 use Rattle.mqtt_rules.proofs.OrderedQueues.{stay_is, stay_le}
 use Rattle.mqtt_rules.proofs.OrderedLimits.{step_keeps, opening_keeps}
 use Rattle.mqtt_rules.proofs.OrderedEnters.{change_here, change_other, all_found, IsShort, AreShort, ShortQueues, still_short, own_stay, enters, some_same, still_one}
 
 -- the copies still to be delivered fit
-abbrev Fits : Env → List Delivery → List Session → Type 0
+abbrev Fits : Env → List CopyTo → List Session → Type 0
 Fits env ds ss = (birth : ℕ) (s : Session) → row_at birth_of birth ss ≡ Some s → own_stay env s + length (filter (is_to birth) ds) ≤ env.limits.queue
 
 -- what a list of deeds leaves of a state
-abbrev Good : Env → List Delivery → Broker → Type 0
+abbrev Good : Env → List CopyTo → Broker → Type 0
 Good env ds b = ShortQueues env b.records × Fits env ds b.records.sessions
 
-fewer_fit : (env : Env) (d : Delivery) (ds : List Delivery) (ss : List Session) → Fits env (d ∷ ds) ss → Fits env ds ss
+fewer_fit : (env : Env) (d : CopyTo) (ds : List CopyTo) (ss : List Session) → Fits env (d ∷ ds) ss → Fits env ds ss
 fewer_fit env d ds ss fits birth s found =
     let all = fits birth s found in
     let less : length (filter (is_to birth) ds) ≤ length (filter (is_to birth) (d ∷ ds)) = elim (cases_Bool (is_to birth d)) [ inl so ↦ rw so (omega arith) | inr not_so ↦ rw not_so (omega arith) ] in
     omega (arith, all, less)
 
-one_fits : (env : Env) (d : Delivery) (ds : List Delivery) (ss : List Session) (s : Session) → is_queued d ≡ true → Fits env (d ∷ ds) ss → row_at birth_of d.birth ss ≡ Some s → own_stay env s + suc (length (filter (is_to d.birth) ds)) ≤ env.limits.queue
+one_fits : (env : Env) (d : CopyTo) (ds : List CopyTo) (ss : List Session) (s : Session) → is_queued d ≡ true → Fits env (d ∷ ds) ss → row_at birth_of d.birth ss ≡ Some s → own_stay env s + suc (length (filter (is_to d.birth) ds)) ≤ env.limits.queue
 one_fits env d ds ss s queued fits found =
     let so : is_to d.birth d ≡ true = rw (queued, nat_eq_equiv.refl d.birth) refl in
     let all = fits d.birth s found in
@@ -61,7 +62,7 @@ own_birth birth s ss same found = ap (λ n. row_at birth_of n ss) same ∙ found
 birth_is : (birth : ℕ) (ss : List Session) (s : Session) → row_at birth_of birth ss ≡ Some s → s.birth ≡ birth
 birth_is birth ss s found = birth_found birth ss s found
 
-delivered : (env : Env) (d : Delivery) (ds : List Delivery) (b : Broker) (o : Option Session) → env.limits.queue ≤ QUEUE_LIMIT → is_queued d ≡ true → session_at d.birth b.records ≡ o → Good env (d ∷ ds) b
+delivered : (env : Env) (d : CopyTo) (ds : List CopyTo) (b : Broker) (o : Option Session) → env.limits.queue ≤ QUEUE_LIMIT → is_queued d ≡ true → session_at d.birth b.records ≡ o → Good env (d ∷ ds) b
     → Good env ds (after_all (with_session o (λ s. always (enter_deeds env d.copy s)) b) b)
 delivered env d ds b None small queued is good = (good.0, fewer_fit env d ds b.records.sessions good.1)
 delivered env d ds b (Some s) small queued is good =
@@ -94,12 +95,12 @@ offered (Some l) p b = offered_if (nat_le (size_of p) l.largest) l p b
     offered_if true l p b = refl
     offered_if false l p b = refl
 
-deliver_good : (t : Bool) (env : Env) (d : Delivery) (ds : List Delivery) (b : Broker) → env.limits.queue ≤ QUEUE_LIMIT → is_queued d ≡ t → Good env (d ∷ ds) b → Good env ds (after_all (deliver_by t env d b) b)
+deliver_good : (t : Bool) (env : Env) (d : CopyTo) (ds : List CopyTo) (b : Broker) → env.limits.queue ≤ QUEUE_LIMIT → is_queued d ≡ t → Good env (d ∷ ds) b → Good env ds (after_all (deliver_by t env d b) b)
 deliver_good true env d ds b small is good = delivered env d ds b (session_at d.birth b.records) small is refl good
 deliver_good false env d ds b small is good =
     subst (λ (r : Records). ShortQueues env r × Fits env ds r.sessions) (sym (offered (line_of d.birth b) (publish_of b.now false 0 d.copy) b)) (good.0, fewer_fit env d ds b.records.sessions good.1)
 
-all_delivered : (env : Env) (ds : List Delivery) (b : Broker) → env.limits.queue ≤ QUEUE_LIMIT → Good env ds b → ShortQueues env (stored (after_all (series (map (deliver env) ds) b) b))
+all_delivered : (env : Env) (ds : List CopyTo) (b : Broker) → env.limits.queue ≤ QUEUE_LIMIT → Good env ds b → ShortQueues env (stored (after_all (series (map (deliver env) ds) b) b))
 all_delivered env [] b small good = good.0
 all_delivered env (d ∷ ds) b small good =
     let first = deliver env d b in
@@ -114,22 +115,22 @@ within_room env s n le short =
     let fewer = stay_le env.limits.full (since env s) s.queue in
     omega (arith, same, fewer, le, short)
 
-accepted_fit : (env : Env) (m : Message) (b : Broker) (ds : List Delivery) → routed env m b ≡ Some ds → ShortQueues env b.records → Fits env ds b.records.sessions
+accepted_fit : (env : Env) (m : Message) (b : Broker) (ds : List CopyTo) → accepted_copies env m b ≡ Some ds → ShortQueues env b.records → Fits env ds b.records.sessions
 accepted_fit env m b ds is short birth s found =
     let few = accepted_within env m b ds birth is short.ordered.sessions.ascending in
     let le : length (filter (is_to birth) ds) ≤ room env s = subst (λ (o : Option Session). length (filter (is_to birth) ds) ≤ room_at env o) found few in
     within_room env s (length (filter (is_to birth) ds)) le (all_found birth_of (IsShort env.limits.queue) birth b.records.sessions s short.short found)
 
-forgets_good : (env : Env) (ds : List Delivery) (o : Option RetainedMessage) (b : Broker) → Good env ds b → Good env ds (after_all (forgets o) b)
+forgets_good : (env : Env) (ds : List CopyTo) (o : Option RetainedMessage) (b : Broker) → Good env ds b → Good env ds (after_all (forgets o) b)
 forgets_good env ds None b good = good
 forgets_good env ds (Some k) b good = (still_short env (Forget k.place) b.records tt good.0, good.1)
 
-retain_good : (env : Env) (ds : List Delivery) (t e : Bool) (number : ℕ) (m : Message) (b : Broker) → Good env ds b → Good env ds (after_all (retain_by t e number m b) b)
+retain_good : (env : Env) (ds : List CopyTo) (t e : Bool) (number : ℕ) (m : Message) (b : Broker) → Good env ds b → Good env ds (after_all (retain_by t e number m b) b)
 retain_good env ds false e number m b good = good
 retain_good env ds true true number m b good = forgets_good env ds (retained_of m.topic b.records) b good
 retain_good env ds true false number m b good = (still_short env (Keep _) b.records tt good.0, good.1)
 
-publishes_short : (env : Env) (origin : Origin) (m : Message) (ds : List Delivery) (b : Broker) → env.limits.queue ≤ QUEUE_LIMIT → routed env m b ≡ Some ds → ShortQueues env b.records → ShortQueues env (stored (after_all (publish env origin m ds b) b))
+publishes_short : (env : Env) (origin : Origin) (m : Message) (ds : List CopyTo) (b : Broker) → env.limits.queue ≤ QUEUE_LIMIT → accepted_copies env m b ≡ Some ds → ShortQueues env b.records → ShortQueues env (stored (after_all (publish env origin m ds b) b))
 publishes_short env origin m ds b small is short =
     let number = next_publication b.records in
     let first : List Deed = Accept number origin m ∷ [] in
@@ -142,18 +143,18 @@ publishes_short env origin m ds b small is short =
 
 -- ---- retained messages for a subscription
 
-abbrev IsFor : ℕ → Delivery → Type 0
+abbrev IsFor : ℕ → CopyTo → Type 0
 IsFor birth d = d.birth ≡ birth
 
 brought_for : (t : Bool) (now number : ℕ) (s : Session) (w : sub.Wish) (ks : List RetainedMessage) → AllByRecursion (IsFor s.birth) (sub.brought_if t now number s w ks)
 brought_for false now number s w ks = tt
 brought_for true now number s w ks = each_for s.birth number w _
   where
-    each_for : (birth number : ℕ) (w : sub.Wish) (ks : List RetainedMessage) → AllByRecursion (IsFor birth) (map (sub.retained_delivery birth number w) ks)
+    each_for : (birth number : ℕ) (w : sub.Wish) (ks : List RetainedMessage) → AllByRecursion (IsFor birth) (map (sub.retained_copy_to birth number w) ks)
     each_for birth number w [] = tt
     each_for birth number w (k ∷ ks) = (refl, each_for birth number w ks)
 
-none_for : (birth other : ℕ) (ds : List Delivery) → nat_eq birth other ≡ false → AllByRecursion (IsFor birth) ds → length (filter (is_to other) ds) ≡ 0
+none_for : (birth other : ℕ) (ds : List CopyTo) → nat_eq birth other ≡ false → AllByRecursion (IsFor birth) ds → length (filter (is_to other) ds) ≡ 0
 none_for birth other [] differ all = refl
 none_for birth other (d ∷ ds) differ all =
     let not_it : nat_eq d.birth other ≡ false = ap (λ n. nat_eq n other) all.0 ∙ differ in
@@ -164,7 +165,7 @@ none_for birth other (d ∷ ds) differ all =
     and_false true y is = is
     and_false false y is = refl
 
-granted_fit : (env : Env) (s : Session) (x : Subscription) (ds : List Delivery) (ss new : List Session) → new ≡ change_row birth_of s.birth (with_subscription x) ss
+granted_fit : (env : Env) (s : Session) (x : Subscription) (ds : List CopyTo) (ss new : List Session) → new ≡ change_row birth_of s.birth (with_subscription x) ss
     → row_at birth_of s.birth ss ≡ Some s → AllByRecursion (IsFor s.birth) ds → length ds ≤ room env s → AreShort env.limits.queue ss → Fits env ds new
 granted_fit env s x ds ss new is found all le short birth y there = elim (cases_Bool (nat_eq s.birth birth)) [
   | inl same ↦
@@ -183,7 +184,7 @@ granted_fit env s x ds ss new is found all le short birth y there = elim (cases_
 ]
 
 grants_short : (env : Env) (w : sub.Wish) (s : Session) (b : Broker) → env.limits.queue ≤ QUEUE_LIMIT → session_at s.birth b.records ≡ Some s → length (filter is_queued (brought_to w s b)) ≤ room env s → ShortQueues env b.records
-    → ShortQueues env (stored (after_all (sub.grants env (sub.next_number b.records) s w (brought_to w s b) b).deeds b))
+    → ShortQueues env (stored (after_all (sub.granted_filter env (sub.next_number b.records) s w (brought_to w s b) b).deeds b))
 grants_short env w s b small found le short =
     let number = sub.next_number b.records in
     let x = sub.subscription number s w in
@@ -209,13 +210,13 @@ queues_keeping env small = record {
   moment = λ now r p. record { ordered = changed-ordered (SetCounter Moment now) r p.ordered; short = p.short };
 }
 
-pub step_queues : (limits : Limits) (choice : ℕ → List ℕ) (now : ℕ) (call : Call) (b : Broker) → limits.queue ≤ QUEUE_LIMIT → IsOrdered (stored b) → AreShort limits.queue (stored b).sessions
+pub step_queues : (limits : Limits) (choice : MemberChoice) (now : ℕ) (call : Call) (b : Broker) → limits.queue ≤ QUEUE_LIMIT → IsOrdered (stored b) → AreShort limits.queue (stored b).sessions
     → AreShort limits.queue (stored (stepped limits choice now call b)).sessions
 step_queues limits choice now call b small ordered short =
     let env = env_of limits choice b in
     (step_keeps limits choice now call b (ShortQueues env) (queues_keeping env small) (record { ordered = ordered; short = short })).short
 
-pub opening_queues : (limits : Limits) (choice : ℕ → List ℕ) (now : ℕ) (r : Records) → limits.queue ≤ QUEUE_LIMIT → IsOrdered r → AreShort limits.queue r.sessions
+pub opening_queues : (limits : Limits) (choice : MemberChoice) (now : ℕ) (r : Records) → limits.queue ≤ QUEUE_LIMIT → IsOrdered r → AreShort limits.queue r.sessions
     → AreShort limits.queue (stored (opened limits choice now r)).sessions
 opening_queues limits choice now r small ordered short =
     let env = env_of limits choice (unopened now r) in

@@ -25,12 +25,13 @@ use Rattle.mqtt_rules.specs.Deeds.{Whose, whose, Message, Origin, Part, Resume, 
 use Rattle.mqtt_rules.specs.Deeds as deed
 use Rattle.mqtt_rules.specs.Packets.{publish_of}
 use Rattle.mqtt_rules.specs.Outbound.{leave_deeds, queue_limits, since, enter_deeds, room}
-use Rattle.mqtt_rules.specs.Routing.{Delivery, is_topic, retained_of, finds_place, accepted_if, next_publication, routed, is_queued, deliver_by, deliver, place_of_kept, kept_message, forgets, retain_by, publish}
+use Rattle.mqtt_rules.specs.Routing.{CopyTo, is_topic, retained_of, finds_place, accepted_if, next_publication, accepted_copies, is_queued, deliver_by, deliver, place_of_kept, kept_message, forgets, retain_by, publish}
 use Rattle.mqtt_rules.specs.Subscribe as sub
 use Rattle.mqtt_rules.specs.State.{queue_on}
 use Rattle.mqtt_rules.specs.Laws.{IsTable}
 use Rattle.mqtt_rules.proofs.Ordered.{length-filter_le, length-change_row, length-insert_row, length-insert_found, filter-table, either}
-use Rattle.mqtt_rules.proofs.OrderedActs.{IsPlain, ArePlain, plain_leave, plain_flat, plain_offer, Keeps, both, follows, keeps_series, keeps_map, keeps_of, brought_to, Keeping, birth_found}
+use Rattle.mqtt_rules.proofs.OrderedActs.{IsPlain, ArePlain, plain_leave, plain_flat, plain_offer, Keeps, both, follows, keeps_series, keeps_map, keeps_of, Keeping, birth_found}
+use Rattle.mqtt_rules.proofs.Acts.{brought_to}
 
 -- ---- all deeds but those that a session begins with, or a retained message is kept with
 
@@ -73,7 +74,7 @@ pub record Roomy (env : Env) (P : Records → Type 0) : Type 0 where
       → P (stored_after (Keep (kept_message number now m (place_of_kept (retained_of m.topic r) r.retained))) r)
   pub moment : (now : ℕ) (r : Records) → P r → P (record r { moment = now })
 
-pub accepted : (t : Bool) (o : Option (List Delivery)) (ds : List Delivery) → accepted_if t o ≡ Some ds → t ≡ true
+pub accepted : (t : Bool) (o : Option (List CopyTo)) (ds : List CopyTo) → accepted_if t o ≡ Some ds → t ≡ true
 accepted true o ds is = refl
 accepted false o ds is = absurd cc
 
@@ -90,13 +91,13 @@ module _ (env : Env) (P : Records → Type 0) (k : Roomy env P) where
       let ts = way_made (queue_limits env) (since env s) (queue_on [] s) in
       steady_append (flat_map (leave_deeds s) ts) (At (whose s) (Enter copy) ∷ []) (steady_plain (flat_map (leave_deeds s) ts) (plain_flat (leave_deeds s) (plain_leave s) ts)) (tt, tt)
 
-  delivers_by : (t : Bool) (d : Delivery) → Keeps P (deliver_by t env d)
+  delivers_by : (t : Bool) (d : CopyTo) → Keeps P (deliver_by t env d)
   delivers_by true d b p = keeps_of P d.birth (λ s. always (enter_deeds env d.copy s)) (λ s. steady_always (enter_deeds env d.copy s) (enters d.copy s)) b p
   delivers_by false d b p =
       let packet = publish_of b.now false 0 d.copy in
       steadies (offer (line_of d.birth b) packet) b (steady_plain (offer (line_of d.birth b) packet) (plain_offer (line_of d.birth b) packet)) p
 
-  delivers : (d : Delivery) → Keeps P (deliver env d)
+  delivers : (d : CopyTo) → Keeps P (deliver env d)
   delivers d b p = delivers_by (is_queued d) d b p
 
   forgets_steady : (o : Option RetainedMessage) → AreSteady (forgets o)
@@ -108,7 +109,7 @@ module _ (env : Env) (P : Records → Type 0) (k : Roomy env P) where
   retains true true number m b is empty found p = steadies (forgets (retained_of m.topic b.records)) b (forgets_steady (retained_of m.topic b.records)) p
   retains true false number m b is empty found p = k.keep number b.now m b.records is empty found p
 
-  publishes : (origin : Origin) (m : Message) (ds : List Delivery) (b : Broker) → routed env m b ≡ Some ds → P b.records → P (stored (after_all (publish env origin m ds b) b))
+  publishes : (origin : Origin) (m : Message) (ds : List CopyTo) (b : Broker) → accepted_copies env m b ≡ Some ds → P b.records → P (stored (after_all (publish env origin m ds b) b))
   publishes origin m ds b is p =
       let number = next_publication b.records in
       let first : List Deed = Accept number origin m ∷ [] in

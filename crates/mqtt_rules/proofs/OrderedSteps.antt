@@ -4,7 +4,7 @@ use Rattle.std.specs.List.{AllByRecursion}
 use Rattle.mqtt_records.specs.declared.session.Session.{Session}
 use Rattle.mqtt_records.specs.declared.records.Records.{Records}
 use Rattle.mqtt_rules.specs.declared.Limits.{Limits}
-use Rattle.mqtt_rules.specs.State.{Broker, stored}
+use Rattle.mqtt_rules.specs.State.{Broker, stored, MemberChoice}
 use Rattle.mqtt_rules.specs.Deeds.{Deed}
 use Rattle.mqtt_rules.specs.Step.{Call, deeds, stepped, at_moment, env_of, opening, unopened, opened, rows_written, done}
 use Rattle.mqtt_rules.specs.Laws.{HasTables, IsOrdered, HasFewOpen, FewOpen, Event, Asked, Reopened, after_event, after_events, blank}
@@ -14,10 +14,10 @@ use Rattle.mqtt_rules.proofs.Ordered.{changed_all-ordered, nothing-ordered}
 pub done-ordered : (ds : List Deed) (b : Broker) → IsOrdered (stored b) → IsOrdered (stored (done ds b))
 done-ordered ds b h = subst IsOrdered (rows_store ds b) (changed_all-ordered (rows_written ds b) (stored b) h)
 
-pub step-ordered : (limits : Limits) (choice : ℕ → List ℕ) (now : ℕ) (call : Call) (b : Broker) → IsOrdered (stored b) → IsOrdered (stored (stepped limits choice now call b))
+pub step-ordered : (limits : Limits) (choice : MemberChoice) (now : ℕ) (call : Call) (b : Broker) → IsOrdered (stored b) → IsOrdered (stored (stepped limits choice now call b))
 step-ordered limits choice now call b h = done-ordered (deeds limits choice now call b) (at_moment now b) h
 
-pub opening-ordered : (limits : Limits) (choice : ℕ → List ℕ) (now : ℕ) (r : Records) → IsOrdered r → IsOrdered (stored (opened limits choice now r))
+pub opening-ordered : (limits : Limits) (choice : MemberChoice) (now : ℕ) (r : Records) → IsOrdered r → IsOrdered (stored (opened limits choice now r))
 opening-ordered limits choice now r h = done-ordered (opening (env_of limits choice (unopened now r)) (unopened now r)) (unopened now r) h
 
 event-ordered : (e : Event) (b : Broker) → IsOrdered (stored b) → IsOrdered (stored (after_event e b))

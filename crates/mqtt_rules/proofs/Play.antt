@@ -26,7 +26,7 @@ use Rattle.mqtt_records.specs.Records.{nothing, changed_all}
 use Rattle.mqtt_rules.specs.declared.Limits.{Limits}
 use Rattle.mqtt_rules.specs.declared.Report.{Report}
 use Rattle.mqtt_rules.specs.Packets.{property, connack}
-use Rattle.mqtt_rules.specs.State.{Broker, session_at, stored}
+use Rattle.mqtt_rules.specs.State.{Broker, session_at, stored, MemberChoice}
 use Rattle.mqtt_rules.specs.Step.{Call, NewLine, Input, Outcome, stepped, told, opened, at_moment, deeds, with_moment}
 use Rattle.mqtt_message.specs.declared.message.MessageCopy.{MessageCopy}
 use Rattle.mqtt_message.specs.Queue.{CopyRow}
@@ -42,8 +42,8 @@ abbrev pub blank : Broker
 blank = record { records = nothing; lines = []; given = 0; now = 0 }
 
 -- the first eligible member of each group
-abbrev pub first : ℕ → List ℕ
-first n = []
+abbrev pub first : MemberChoice
+first number sender = []
 
 -- a call and its moment
 pub data Event : Type 0 where
@@ -77,7 +77,7 @@ abbrev pub reopened : ℕ → Broker → Broker
 reopened now b = opened usual first now b.records
 
 abbrev pub out : List (ℕ × Packet) → List ℕ → List Report → Bool → Outcome
-out outputs closed reports again = record { outputs = outputs; closed = closed; reports = reports; again = again }
+out outputs closed reports again = record { outputs = outputs; closed = closed; reports = reports; taken = 0; again = again }
 
 -- ---- packets
 
@@ -193,13 +193,13 @@ published = subscribed ++ at 0 (Input 2 (sends 10)) ∷ []
 
 -- ---- for tables
 
-abbrev pub tells_by : Limits → (ℕ → List ℕ) → Event → Broker → Outcome
+abbrev pub tells_by : Limits → MemberChoice → Event → Broker → Outcome
 tells_by limits choice (at now call) b = told limits choice now call b
 
-abbrev pub step_by : Limits → (ℕ → List ℕ) → Event → Broker → Broker
+abbrev pub step_by : Limits → MemberChoice → Event → Broker → Broker
 step_by limits choice (at now call) b = stepped limits choice now call b
 
-abbrev pub runs_by : Limits → (ℕ → List ℕ) → List Event → Broker → Broker
+abbrev pub runs_by : Limits → MemberChoice → List Event → Broker → Broker
 runs_by limits choice [] b = b
 runs_by limits choice (e ∷ es) b = runs_by limits choice es (step_by limits choice e b)
 

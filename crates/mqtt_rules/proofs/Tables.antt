@@ -1,11 +1,11 @@
--- Full tables and queues, and copies that are too large: matching, room, the oldest that make way, spent numbers (MQTT 5.0, 3.1.2.11.4, 4.7, 4.9).
-use Rattle.std.proofs.Common.{◌≡◌, ℕ, ◌-◌, Bool, true, false, List, [], ◌∷◌, ◌++◌, map, length, None, refl}
+-- Full tables and queues, and copies that are too large: matching, and the oldest that make way (MQTT 5.0, 3.1.2.11.4, 4.7, 4.9).
+use Rattle.std.proofs.Common.{◌≡◌, ℕ, Bool, true, false, List, [], ◌∷◌, ◌++◌, map, length, None, refl}
 use Rattle.std.specs.Prelude.{codes, replicate}
 use Rattle.mqtt_base.specs.Values.{varint}
 use Rattle.mqtt_base.specs.declared.session.Qos.TheVariants.{ExactlyOnce}
 use Rattle.mqtt_base.specs.declared.session.Cause.TheVariants.{Retained}
 use Rattle.mqtt_base.specs.declared.session.Ending.TheVariants.{TooLarge, Dropped}
-use Rattle.mqtt_base.specs.declared.session.Phase.TheVariants.{Waiting, Sent, Released}
+use Rattle.mqtt_base.specs.declared.session.Phase.TheVariants.{Waiting, Sent}
 use Rattle.mqtt_props.specs.declared.table.PropName.TheVariants.{MaximumPacketSize}
 use Rattle.mqtt_props.specs.Properties.{U32}
 use Rattle.mqtt_codec.specs.declared.publish.Delivery.TheVariants as delivery
@@ -18,9 +18,9 @@ use Rattle.mqtt_flow.specs.declared.entry.Full.TheVariants.{Refuse, Drop}
 use Rattle.mqtt_rules.specs.declared.Report.{Report}
 use Rattle.mqtt_rules.specs.declared.Report.TheVariants.{Accepted, Entered, Ended}
 use Rattle.mqtt_rules.specs.Packets.{property, pubrec, pubrel, pubcomp, suback}
-use Rattle.mqtt_rules.specs.State.{Broker, top}
-use Rattle.mqtt_rules.specs.Step.{NewLine, Input, Lost, Pump, Outcome, is_spent, opened}
-use Rattle.mqtt_rules.proofs.Play.{usual, blank, first, Event, at, runs, tells, asks, runs_with, tells_with, step, out, hello, hello_with, never_expires, in_line, wants_with, wish, options, wants, topic, message, sends, direct, subscribed, Keeps, nothing_written, rows_by, narrow, entry, waiting, queued, keeps}
+use Rattle.mqtt_rules.specs.State.{Broker}
+use Rattle.mqtt_rules.specs.Step.{NewLine, Input, Lost, Pump, Outcome}
+use Rattle.mqtt_rules.proofs.Play.{usual, blank, Event, at, runs, tells, asks, runs_with, tells_with, step, out, hello, hello_with, never_expires, in_line, wants_with, wish, options, wants, topic, message, sends, direct, subscribed, Keeps, nothing_written, narrow, entry, waiting, queued, keeps}
 
 -- ---- matching (4.7.1, 4.7.2)
 
@@ -251,80 +251,3 @@ sixty_four_bytes_are_taken = refl
 sixty_five_are_not : asks (fitting 55) (at 0 (Pump 1)) ≡ out [] [] too_large false
 unfolding varint
 sixty_five_are_not = refl
-
--- ---- spent numbers (ours): none is above 2^62
-
-abbrev gives_too_much : Event → Broker → Bool
-gives_too_much e b = is_spent (rows_by usual e b)
-
--- so many publications were accepted
-abbrev counted : ℕ → Broker
-counted publications = queued 1 [] publications (runs subscribed blank)
-
-the_last_publication : gives_too_much (at 0 (Input 2 (sends 10))) (counted (top - 1)) ≡ false
-unfolding varint
-the_last_publication = refl
-
-a_publication_above_the_last : gives_too_much (at 0 (Input 2 (sends 10))) (counted top) ≡ true
-unfolding varint
-a_publication_above_the_last = refl
-
--- also after a restart, and from a new client
-a_restart_gives_no_more : gives_too_much (at 0 (Input 1 (sends 10)))
-    (runs (in_line 1 (hello (codes "p2"))) (opened usual first 0 (counted top).records))
-    ≡ true
-unfolding varint
-a_restart_gives_no_more = refl
-
-a_refused_one_spends_nothing : gives_too_much (at 0 (Input 2 (sends 10))) (queued 1 (waiting 1000 1) top (runs subscribed blank)) ≡ false
-unfolding varint
-a_refused_one_spends_nothing = refl
-
--- a queue whose last entry has this place
-abbrev placed : ℕ → Broker
-placed place = queued 1 (entry place Waiting ∷ []) 1 (runs subscribed blank)
-
-the_last_place : gives_too_much (at 0 (Input 2 (sends 10))) (placed (top - 1)) ≡ false
-unfolding varint
-the_last_place = refl
-
-a_place_above_the_last : gives_too_much (at 0 (Input 2 (sends 10))) (placed top) ≡ true
-unfolding varint
-a_place_above_the_last = refl
-
--- a released copy with this order beside one that was sent
-abbrev ordered : ℕ → Broker
-ordered order = queued 1 (entry 1 (Released 1 order) ∷ entry 2 (Sent 2) ∷ []) 2 (runs subscribed blank)
-
-the_last_order : gives_too_much (at 0 (Input 1 (pubrec 2 0))) (ordered (top - 1)) ≡ false
-unfolding varint
-the_last_order = refl
-
-an_order_above_the_last : gives_too_much (at 0 (Input 1 (pubrec 2 0))) (ordered top) ≡ true
-unfolding varint
-an_order_above_the_last = refl
-
--- births, identifiers that are assigned, subscribes
-abbrev counts : ℕ → ℕ → ℕ → Broker
-counts births autos subscribes = let b = runs (subscribed ++ at 0 NewLine ∷ []) blank in
-    record b { records = record b.records { births = births; autos = autos; subscribes = subscribes } }
-
-the_last_of_each : gives_too_much (at 0 (Input 3 (hello []))) (counts (top - 1) (top - 1) 1) ≡ false
-unfolding varint
-the_last_of_each = refl
-
-a_birth_above_the_last : gives_too_much (at 0 (Input 3 (hello (codes "p2")))) (counts top 0 1) ≡ true
-unfolding varint
-a_birth_above_the_last = refl
-
-an_assigned_identifier_above_the_last : gives_too_much (at 0 (Input 3 (hello []))) (counts 2 top 1) ≡ true
-unfolding varint
-an_assigned_identifier_above_the_last = refl
-
-the_last_subscribe : gives_too_much (at 0 (Input 1 (wants 2 topic ExactlyOnce))) (counts 2 0 (top - 1)) ≡ false
-unfolding varint
-the_last_subscribe = refl
-
-a_subscribe_above_the_last : gives_too_much (at 0 (Input 1 (wants 2 topic ExactlyOnce))) (counts 2 0 top) ≡ true
-unfolding varint
-a_subscribe_above_the_last = refl

@@ -6,7 +6,7 @@ use Rattle.mqtt_records.specs.declared.session.Session.{Session}
 use Rattle.mqtt_rules.specs.Packets.{passed_on, disconnect}
 use Rattle.mqtt_rules.specs.State.{Line, Env, later}
 use Rattle.mqtt_rules.specs.Deeds.{Whose, whose, Message, FromWill, Close, DropWill, Leave, Deed, At, Finish, RefuseWill, Send, Gone, Act, always, series, only_if, of_session}
-use Rattle.mqtt_rules.specs.Routing.{Delivery, routed, publish}
+use Rattle.mqtt_rules.specs.Routing.{CopyTo, accepted_copies, publish}
 
 -- ---- moments
 
@@ -54,7 +54,7 @@ will_message client w = record {
   payload = w.payload;
 }
 
-abbrev pub publish_or_refuse : Env → Whose → Message → Option (List Delivery) → Act
+abbrev pub publish_or_refuse : Env → Whose → Message → Option (List CopyTo) → Act
 publish_or_refuse env who m None b = RefuseWill who ∷ []
 publish_or_refuse env who m (Some ds) b = publish env FromWill m ds b
 
@@ -62,7 +62,7 @@ abbrev pub will_deeds : Env → Whose → Option Will → Act
 will_deeds env who None b = []
 will_deeds env who (Some w) b =
     let m = will_message who.client w in
-    series (publish_or_refuse env who m (routed env m b) ∷ always (At who DropWill ∷ []) ∷ []) b
+    series (publish_or_refuse env who m (accepted_copies env m b) ∷ always (At who DropWill ∷ []) ∷ []) b
 
 abbrev pub publish_will : Env → Session → Act
 publish_will env s b = will_deeds env (whose s) s.will b

@@ -1,5 +1,5 @@
 -- CONNECT: its refusals, and its effects in order (MQTT 5.0, 3.1, 3.2).
-use Rattle.std.specs.Prelude.{ℕ, suc, Bool, true, false, cond, not, ◌&&◌, List, [], ◌∷◌, ◌++◌, length, map, nat_lt, Option, Some, None, is_none, decimal, codes, option_map}
+use Rattle.std.specs.Prelude.{ℕ, suc, Bool, true, false, cond, not, ◌&&◌, List, [], ◌∷◌, ◌++◌, length, nat_lt, Option, Some, None, is_none, decimal, codes, option_map}
 use Rattle.std.specs.List.{starts_with}
 use Rattle.std.specs.Prelude.{nat_eq}
 use Rattle.mqtt_props.specs.declared.table.PropName.TheVariants.{SessionExpiryInterval, AssignedClientIdentifier, AuthenticationMethod, WillDelayInterval, ReceiveMaximum, TopicAliasMaximum, MaximumPacketSize}
@@ -8,13 +8,13 @@ use Rattle.mqtt_props.specs.Laws.{has}
 use Rattle.mqtt_codec.specs.declared.connect.Connect.{Connect}
 use Rattle.mqtt_codec.specs.declared.connect.Will.{Will as WillAsked}
 use Rattle.mqtt_topic.specs.Names.{is_topic_name, is_empty}
-use Rattle.mqtt_base.specs.Codes.{success, session_taken_over, quota_exceeded}
+use Rattle.mqtt_base.specs.Codes.{success, client_identifier_not_valid, bad_authentication_method, session_taken_over, topic_name_invalid, packet_too_large, quota_exceeded}
+use Rattle.mqtt_base.specs.declared.limits.TheConstants.{OPEN_LIMIT, ALIAS_LIMIT, PACKET_LIMIT, CLIENT_LIMIT}
 use Rattle.mqtt_flow.specs.Outbound.{resumed_with}
 use Rattle.mqtt_message.specs.declared.message.Will.{Will}
 use Rattle.mqtt_records.specs.declared.session.Columns.{Columns}
 use Rattle.mqtt_records.specs.declared.session.Session.{Session}
 use Rattle.mqtt_records.specs.declared.records.Records.{Records}
-use Rattle.mqtt_rules.specs.declared.Limits.{Limits}
 use Rattle.mqtt_rules.specs.Packets.{number_or, property, connack}
 use Rattle.mqtt_rules.specs.State.{Line, Env, session_named, line_of, queue_on}
 use Rattle.mqtt_rules.specs.Deeds.{whose, Resume, Greet, Deed, Begin, Name, At, On, Send, Gone, Act, after_all, always, series, only_if, with_session, with_line}
@@ -39,9 +39,13 @@ abbrev pub has_bad_topic : Option WillAsked → Bool
 has_bad_topic None = false
 has_bad_topic (Some w) = not (is_topic_name w.topic)
 
--- the client's Maximum Packet Size, above any size where it is absent (3.1.2.11.4)
+-- the client's Maximum Packet Size; absent it is the greatest that there is, above the size of any packet (3.1.2.11.4)
 abbrev pub largest_of : Connect → ℕ
-largest_of c = number_or 0x100000000 MaximumPacketSize c.properties
+largest_of c = number_or 0xffffffff MaximumPacketSize c.properties
+
+-- the smallest Maximum Packet Size that the broker takes, in bytes (ours)
+abbrev pub least_packet_size : ℕ
+least_packet_size = 64
 
 -- the front of the client identifiers that the broker assigns (ours)
 abbrev pub auto : List ℕ
@@ -49,16 +53,20 @@ auto = codes "auto-"
 
 abbrev pub refusal : Connect → Records → Option ℕ
 refusal c r = first_case (
-    case (has AuthenticationMethod c.properties) 0x8c
-    ∷ case (nat_lt (largest_of c) 64) 0x95
-    ∷ case (nat_lt 64 (length c.client_identifier)) 0x85
-    ∷ case (starts_with nat_eq c.client_identifier auto && is_none (session_named c.client_identifier r)) 0x85
-    ∷ case (has_bad_topic c.will) 0x90
+    case (has AuthenticationMethod c.properties) bad_authentication_method
+    ∷ case (nat_lt (largest_of c) least_packet_size) packet_too_large
+    ∷ case (nat_lt CLIENT_LIMIT (length c.client_identifier)) client_identifier_not_valid
+    ∷ case (starts_with nat_eq c.client_identifier auto && is_none (session_named c.client_identifier r)) client_identifier_not_valid
+    ∷ case (has_bad_topic c.will) topic_name_invalid
     ∷ [])
+
+-- the bytes of a CONNACK that refuses (3.2)
+abbrev pub refusal_size : ℕ
+refusal_size = 5
 
 -- CONNACK with the code, where the client takes so many bytes, and the line closes
 abbrev pub refused : Line → Connect → ℕ → List Deed
-refused l c code = cond (nat_lt (largest_of c) 5) [] (Send l.number (connack false code []) ∷ []) ++ Gone l.number ∷ []
+refused l c code = cond (nat_lt (largest_of c) refusal_size) [] (Send l.number (connack false code []) ∷ []) ++ Gone l.number ∷ []
 
 -- ---- what comes before the new connection: takeover, settling, and Clean Start (3.1.4, 3.1.2.4)
 
@@ -83,18 +91,25 @@ prepare env c b = series (
 
 -- ---- the new connection
 
+-- the client's Receive Maximum (3.1.2.11.3)
+abbrev pub window_of : Connect → ℕ
+window_of c = number_or 65535 ReceiveMaximum c.properties
+
 abbrev pub greet : Line → Connect → ℕ → Deed
-greet l c birth = On l.number (Greet birth c.keep_alive (number_or 65535 ReceiveMaximum c.properties) (largest_of c))
+greet l c birth = On l.number (Greet birth c.keep_alive (window_of c) (largest_of c))
 
 abbrev pub assigned : Bool → List ℕ → List Prop
 assigned false client = []
 assigned true client = property AssignedClientIdentifier (Text client) ∷ []
 
 -- CONNACK 00: what the broker grants (3.2.2.3)
-abbrev pub granted_to : Bool → List ℕ → List Prop
-granted_to is_assigned client =
+abbrev pub connack_properties : Bool → List ℕ → List Prop
+connack_properties is_assigned client =
     assigned is_assigned client
-    ++ property ReceiveMaximum (U16 20) ∷ property TopicAliasMaximum (U16 10) ∷ property MaximumPacketSize (U32 65536) ∷ []
+    ++ property ReceiveMaximum (U16 OPEN_LIMIT)
+    ∷ property TopicAliasMaximum (U16 ALIAS_LIMIT)
+    ∷ property MaximumPacketSize (U32 PACKET_LIMIT)
+    ∷ []
 
 abbrev pub expiry_of : Connect → ℕ
 expiry_of c = number_or 0 SessionExpiryInterval c.properties
@@ -116,7 +131,7 @@ will_of c = option_map will_kept c.will
 -- CONNACK, then PUBREL for each released copy, in the order of release (4.4)
 abbrev pub resume : Line → Connect → ℕ → Session → List Deed
 resume l c now s =
-    At (whose s) (Resume (expiry_of c) (will_of c)) ∷ greet l c s.birth ∷ Send l.number (connack true success (granted_to false []))
+    At (whose s) (Resume (expiry_of c) (will_of c)) ∷ greet l c s.birth ∷ Send l.number (connack true success (connack_properties false []))
     ∷ all_turn_deeds now l.number s (resumed_with (queue_on [] s))
 
 abbrev pub fresh_row : ℕ → List ℕ → Connect → Columns
@@ -124,7 +139,7 @@ fresh_row birth client c = record { birth = birth; client = client; expiry = exp
 
 abbrev pub begin : Line → Connect → Bool → List ℕ → ℕ → List Deed
 begin l c is_assigned client birth =
-    Begin (fresh_row birth client c) (will_of c) ∷ greet l c birth ∷ Send l.number (connack false success (granted_to is_assigned client)) ∷ []
+    Begin (fresh_row birth client c) (will_of c) ∷ greet l c birth ∷ Send l.number (connack false success (connack_properties is_assigned client)) ∷ []
 
 -- an empty client identifier is given one (3.1.3.1)
 abbrev pub begin_named : Bool → Line → Connect → Records → List Deed

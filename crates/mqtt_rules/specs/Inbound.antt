@@ -1,7 +1,5 @@
 -- What a connected client sends, SUBSCRIBE and UNSUBSCRIBE aside (MQTT 5.0, 3.3 to 3.7, 3.14, 4.3, 4.4).
-use Rattle.std.specs.Prelude.{ℕ, Bool, true, false, cond, not, ◌&&◌, ◌||◌, List, [], ◌∷◌, nat_eq, nat_lt, Option, Some, None, Result, Ok, Err}
-use Rattle.mqtt_base.specs.declared.session.Qos.{Qos}
-use Rattle.mqtt_base.specs.declared.session.Qos.TheVariants as qos
+use Rattle.std.specs.Prelude.{ℕ, Bool, true, false, cond, not, ◌&&◌, List, [], ◌∷◌, nat_eq, nat_lt, nat_le, Option, Some, None, Ok, Err}
 use Rattle.mqtt_props.specs.declared.table.PropName.TheVariants.{SubscriptionIdentifier, TopicAlias}
 use Rattle.mqtt_props.specs.Laws.{has}
 use Rattle.mqtt_codec.specs.declared.publish.Delivery.{Delivery}
@@ -9,14 +7,15 @@ use Rattle.mqtt_codec.specs.declared.publish.Delivery.TheVariants as delivery
 use Rattle.mqtt_codec.specs.declared.publish.Publish.{Publish}
 use Rattle.mqtt_codec.specs.Publish.{delivery_qos}
 use Rattle.mqtt_topic.specs.Names.{is_topic_name, is_empty}
-use Rattle.mqtt_topic.specs.Aliases.{topic_of}
-use Rattle.mqtt_flow.specs.declared.fault.FlowFault.{FlowFault}
+use Rattle.mqtt_topic.specs.declared.fault.TopicFault.{TopicFault}
+use Rattle.mqtt_topic.specs.declared.fault.TopicFault.TheVariants.{Empty, WildcardInName, WildcardPlace, Share, AliasRange, AliasUnknown, Memory}
+use Rattle.mqtt_topic.specs.Aliases.{AliasTable, topic_of}
 use Rattle.mqtt_flow.specs.declared.entry.Turn.{Turn}
 use Rattle.mqtt_flow.specs.declared.inflow.Published.{Published}
 use Rattle.mqtt_flow.specs.declared.inflow.Published.TheVariants.{New, Again, Over}
-use Rattle.mqtt_flow.specs.declared.inflow.Released.{Released}
-use Rattle.mqtt_flow.specs.declared.inflow.Released.TheVariants.{Known, Unknown}
-use Rattle.mqtt_base.specs.Codes.{success, no_matching_subscribers, identifier_in_use, identifier_not_found, receive_maximum_exceeded, quota_exceeded}
+use Rattle.mqtt_flow.specs.declared.inflow.ReleaseAnswer.{ReleaseAnswer}
+use Rattle.mqtt_flow.specs.declared.inflow.ReleaseAnswer.TheVariants.{Known, Unknown}
+use Rattle.mqtt_base.specs.Codes.{success, normal_disconnection, no_matching_subscribers, unspecified_error, protocol_error, topic_name_invalid, identifier_in_use, identifier_not_found, receive_maximum_exceeded, topic_alias_invalid, quota_exceeded}
 use Rattle.mqtt_flow.specs.Inbound.{answer_to, answer_to_release}
 use Rattle.mqtt_flow.specs.Outbound.{Answer, pump}
 use Rattle.mqtt_flow.specs.Outbound as rules
@@ -25,42 +24,50 @@ use Rattle.mqtt_rules.specs.Packets.{puback, pubrec, pubcomp, number_at, passed_
 use Rattle.mqtt_rules.specs.State.{Line, Env, queue_on}
 use Rattle.mqtt_rules.specs.Deeds.{whose, Message, FromClient, SetExpiry, Open, Release, SetAlias, Deed, At, On, Send, Act, always, series}
 use Rattle.mqtt_rules.specs.Outbound.{turn_deeds, all_turn_deeds, way_of}
-use Rattle.mqtt_rules.specs.Routing.{Delivery as Delivered, routed, publish, is_wanted}
+use Rattle.mqtt_rules.specs.Routing.{CopyTo, accepted_copies, publish, is_wanted}
 use Rattle.mqtt_rules.specs.Closing.{close, drop_line}
 
--- ---- the topic that a PUBLISH means, or the code for one that means none (3.3.2.1, 3.3.2.3.4)
+-- ---- the topic that a PUBLISH means, or the code for one that means none (3.3.2.1, 3.3.2.3.4), case by case as
+-- `Resolves` and `RefusesAlias` of mqtt_topic have it
 
 pub data Meaning : Type 0 where
   Means : (topic : List ℕ) → Meaning
   Wrong : (code : ℕ) → Meaning
 
--- the greatest Topic Alias that the broker takes (3.2.2.3.8)
-abbrev pub alias_maximum : ℕ
-alias_maximum = 10
-
-abbrev pub is_out_of_range : Option ℕ → Bool
-is_out_of_range None = false
-is_out_of_range (Some n) = nat_eq n 0 || nat_lt alias_maximum n
-
-abbrev pub stands_for : Option ℕ → List (ℕ × List ℕ) → Option (List ℕ)
-stands_for None aliases = None
-stands_for (Some n) aliases = topic_of n aliases
-
-abbrev pub meant : Option (List ℕ) → Meaning
-meant None = Wrong 0x82
-meant (Some topic) = Means topic
-
+-- a topic of its own
 abbrev pub named : List ℕ → Meaning
-named topic = cond (is_topic_name topic) (Means topic) (Wrong 0x90)
+named [] = Wrong protocol_error
+named (c ∷ cs) = cond (is_topic_name (c ∷ cs)) (Means (c ∷ cs)) (Wrong topic_name_invalid)
 
--- in the order of the refusals
-abbrev pub meaning : Publish → List (ℕ × List ℕ) → Meaning
-meaning p aliases =
-    let alias = number_at TopicAlias p.properties in
-    cond (has SubscriptionIdentifier p.properties) (Wrong 0x82) (
-    cond (is_out_of_range alias) (Wrong 0x94) (
-    cond (is_empty p.topic) (meant (stands_for alias aliases)) (
-    named p.topic)))
+abbrev pub known : Option (List ℕ) → Meaning
+known None = Wrong protocol_error
+known (Some topic) = Means topic
+
+-- with an alias it may be empty: then it is what the alias stands for
+abbrev pub named_by : AliasTable → List ℕ → ℕ → Meaning
+named_by table [] alias = known (topic_of alias table.topics)
+named_by table (c ∷ cs) alias = named (c ∷ cs)
+
+abbrev pub is_in_range : ℕ → ℕ → Bool
+is_in_range max alias = nat_lt 0 alias && nat_le alias max
+
+abbrev pub resolved : AliasTable → List ℕ → Option ℕ → Meaning
+resolved table topic None = named topic
+resolved table topic (Some alias) = cond (is_in_range table.max alias) (named_by table topic alias) (Wrong topic_alias_invalid)
+
+abbrev pub meaning : Publish → AliasTable → Meaning
+meaning p table =
+    cond (has SubscriptionIdentifier p.properties) (Wrong protocol_error) (resolved table p.topic (number_at TopicAlias p.properties))
+
+-- the code that tells why a topic is none; a PUBLISH meets no other of these faults
+abbrev pub topic_code : TopicFault → ℕ
+topic_code Empty = protocol_error
+topic_code WildcardInName = topic_name_invalid
+topic_code WildcardPlace = topic_name_invalid
+topic_code Share = topic_name_invalid
+topic_code AliasRange = topic_alias_invalid
+topic_code AliasUnknown = protocol_error
+topic_code Memory = unspecified_error
 
 -- an alias that comes with a topic is set
 abbrev pub sets_alias : Bool → Option ℕ → ℕ → List ℕ → List Deed
@@ -97,7 +104,7 @@ abbrev pub code_accepted : Bool → ℕ
 code_accepted true = success
 code_accepted false = no_matching_subscribers
 
-abbrev pub publish_new : Env → Line → Session → Publish → Message → Option (List Delivered) → Act
+abbrev pub publish_new : Env → Line → Session → Publish → Message → Option (List CopyTo) → Act
 publish_new env l s p m None b = answer l.number p.delivery quota_exceeded
 publish_new env l s p m (Some ds) b = series (
     publish env FromClient m ds
@@ -108,7 +115,7 @@ publish_new env l s p m (Some ds) b = series (
 abbrev pub publish_by : Published → Env → Line → Session → Publish → Message → Act
 publish_by Again env l s p m b = answer l.number p.delivery (code_again p.delivery)
 publish_by Over env l s p m b = drop_line env receive_maximum_exceeded l b
-publish_by New env l s p m b = publish_new env l s p m (routed env m b) b
+publish_by New env l s p m b = publish_new env l s p m (accepted_copies env m b) b
 
 abbrev pub message_of : List ℕ → List ℕ → Publish → Message
 message_of client topic p = record {
@@ -132,7 +139,7 @@ on_publish env l s p b = publish_meant (meaning p l.aliases) env l s p b
 
 -- ---- PUBREL (4.3.3)
 
-abbrev pub release_by : Released → Line → Session → ℕ → List Deed
+abbrev pub release_by : ReleaseAnswer → Line → Session → ℕ → List Deed
 release_by Known l s id = At (whose s) (Release id) ∷ Send l.number (pubcomp id success) ∷ []
 release_by Unknown l s id = Send l.number (pubcomp id identifier_not_found) ∷ []
 
@@ -145,18 +152,18 @@ abbrev pub turned : Line → Session → ℕ → Option Turn → List Deed
 turned l s now None = []
 turned l s now (Some t) = turn_deeds now l.number s t
 
-abbrev pub answered : Answer → Env → Line → Session → Act
-answered (Ok t) env l s b = turned l s b.now t
-answered (Err fault) env l s b = drop_line env 0x82 l b
+abbrev pub on_answer : Answer → Env → Line → Session → Act
+on_answer (Ok t) env l s b = turned l s b.now t
+on_answer (Err fault) env l s b = drop_line env protocol_error l b
 
 abbrev pub on_puback : Env → Line → Session → ℕ → ℕ → Act
-on_puback env l s id code b = answered (rules.puback id code (queue_on l.went s)) env l s b
+on_puback env l s id code b = on_answer (rules.puback id code (queue_on l.went s)) env l s b
 
 abbrev pub on_pubrec : Env → Line → Session → ℕ → ℕ → Act
-on_pubrec env l s id code b = answered (rules.pubrec id code (queue_on l.went s)) env l s b
+on_pubrec env l s id code b = on_answer (rules.pubrec id code (queue_on l.went s)) env l s b
 
 abbrev pub on_pubcomp : Env → Line → Session → ℕ → Act
-on_pubcomp env l s id b = answered (rules.pubcomp id (queue_on l.went s)) env l s b
+on_pubcomp env l s id b = on_answer (rules.pubcomp id (queue_on l.went s)) env l s b
 
 -- ---- pump (4.6, 4.9)
 
@@ -178,8 +185,8 @@ new_expiry None s = []
 new_expiry (Some n) s = At (whose s) (SetExpiry n) ∷ []
 
 abbrev pub leave_by : Bool → Env → Line → Session → ℕ → Option ℕ → Act
-leave_by true env l s code expiry b = drop_line env 0x82 l b
-leave_by false env l s code expiry b = series (always (new_expiry expiry s) ∷ close env (not (nat_eq code 0)) l ∷ []) b
+leave_by true env l s code expiry b = drop_line env protocol_error l b
+leave_by false env l s code expiry b = series (always (new_expiry expiry s) ∷ close env (not (nat_eq code normal_disconnection)) l ∷ []) b
 
 abbrev pub on_disconnect : Env → Line → Session → ℕ → Option ℕ → Act
 on_disconnect env l s code expiry b = leave_by (is_late_expiry expiry s.expiry) env l s code expiry b

@@ -1,5 +1,8 @@
 -- What the laws of a step speak of: tables in order and within their limits, and runs of calls.
-use Rattle.std.specs.Prelude.{ℕ, ◌≤◌, List, [], ◌∷◌, length}
+use Rattle.std.specs.Prelude.{◌≡◌, ℕ, suc, ◌≤◌, ◌⊎◌, Bool, false, ◌&&◌, nat_eq, Some, List, [], ◌∷◌, length}
+use Rattle.mqtt_topic.specs.Filters.{group_of}
+use Rattle.mqtt_routes.specs.Intended.{Publication, Member}
+use Rattle.mqtt_routes.specs.Acceptance.{Served, shared_copy}
 use Rattle.std.specs.List.{AllByRecursion}
 use Rattle.mqtt_base.specs.declared.limits.TheConstants.{SUBSCRIPTION_LIMIT, OPEN_LIMIT, QUEUE_LIMIT, SESSION_LIMIT, RETAINED_LIMIT}
 use Rattle.mqtt_records.specs.declared.session.Session.{Session}
@@ -8,7 +11,9 @@ use Rattle.mqtt_rows.specs.Order.{IsAscending}
 use Rattle.mqtt_records.specs.Session.{birth_of, place_of, number_of, copy_place}
 use Rattle.mqtt_records.specs.Records.{kept_place, nothing}
 use Rattle.mqtt_rules.specs.declared.Limits.{Limits}
-use Rattle.mqtt_rules.specs.State.{Broker, stored}
+use Rattle.mqtt_rules.specs.State.{Broker, Env, stored, session_at, MemberChoice}
+use Rattle.mqtt_rules.specs.Outbound.{room}
+use Rattle.mqtt_rules.specs.Routing.{CopyTo, is_queued}
 use Rattle.mqtt_rules.specs.Step.{Call, stepped, unopened, opened}
 
 -- ---- tables in order
@@ -34,7 +39,7 @@ pub record IsOrdered (r : Records) : Type 0 where
 
 -- at most so many as CONNACK's Receive Maximum tells (4.9)
 abbrev pub HasFewOpen : Session → Type 0
-HasFewOpen s = length s.inbound ≤ 20
+HasFewOpen s = length s.inbound ≤ OPEN_LIMIT
 
 abbrev pub FewOpen : Records → Type 0
 FewOpen r = AllByRecursion HasFewOpen r.sessions
@@ -49,8 +54,8 @@ QueuesWithin limit r = AllByRecursion (λ s. length s.queue ≤ limit) r.session
 
 -- a call, or that a broker opens what was stored, each with its moment and with any limits and choice of members
 pub data Event : Type 0 where
-  Asked : (limits : Limits) (choice : ℕ → List ℕ) (now : ℕ) (call : Call) → Event
-  Reopened : (limits : Limits) (choice : ℕ → List ℕ) (now : ℕ) → Event
+  Asked : (limits : Limits) (choice : MemberChoice) (now : ℕ) (call : Call) → Event
+  Reopened : (limits : Limits) (choice : MemberChoice) (now : ℕ) → Event
 
 abbrev pub after_event : Event → Broker → Broker
 after_event (Asked limits choice now call) b = stepped limits choice now call b
@@ -63,3 +68,29 @@ after_events (e ∷ es) b = after_events es (after_event e b)
 -- before the first event
 abbrev pub blank : Broker
 blank = unopened 0 nothing
+
+-- ---- groups
+
+-- the element stands in the list
+abbrev pub IsAmong : {X : Type 0} → X → List X → Type 0
+IsAmong x [] = ⊥
+IsAmong x (y ∷ ys) = (y ≡ x) ⊎ IsAmong x ys
+
+-- the group is served by a copy for this member
+abbrev pub served_by : Publication → List ℕ → Member → Served
+served_by p text m = record { group = group_of text; copy = Some (shared_copy p m) }
+
+-- ---- room for copies
+
+-- a copy that enters this session's queue
+abbrev pub is_entering : ℕ → CopyTo → Bool
+is_entering birth c = is_queued c && nat_eq c.birth birth
+
+-- what a copy's entering makes: its session's queue is within the limit, and has room for at most one copy less; no other
+-- session is changed
+pub record HasEntered (env : Env) (s : Session) (old new : Records) : Type 0 where
+  pub session : Session
+  pub stands : session_at s.birth new ≡ Some session
+  pub within : length session.queue ≤ env.limits.queue
+  pub room : room env s ≤ suc (room env session)
+  pub others : (birth : ℕ) → nat_eq s.birth birth ≡ false → session_at birth new ≡ session_at birth old

@@ -9,6 +9,7 @@ pub mod Inbound
 pub mod Subscribe
 pub mod Tick
 pub mod Step
+pub mod Piece
 pub mod Laws
 pub mod Flight
 pub mod Numbers

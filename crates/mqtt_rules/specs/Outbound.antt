@@ -15,7 +15,6 @@ use Rattle.mqtt_records.specs.declared.session.Session.{Session}
 use Rattle.mqtt_records.specs.declared.records.Records.{Records}
 use Rattle.mqtt_rows.specs.Order.{row_at}
 use Rattle.mqtt_records.specs.Session.{copy_place}
-use Rattle.mqtt_rules.specs.declared.Limits.{Limits}
 use Rattle.mqtt_rules.specs.Packets.{publish_of, pubrel}
 use Rattle.mqtt_rules.specs.State.{Line, Env, queue_on, next_of}
 use Rattle.mqtt_rules.specs.Deeds.{whose, Enter, Mark, Leave, Went, Deed, At, On, Send}

@@ -1,5 +1,5 @@
 -- What the rules read off packets, and how they write their own (MQTT 5.0, 3.1 to 3.14).
-use Rattle.std.specs.Prelude.{ℕ, ◌+◌, ◌-◌, ◌/◌, Bool, cond, List, [], ◌∷◌, ◌++◌, length, map, find, nat_eq, Option, Some, None, option_map, unwrap_or}
+use Rattle.std.specs.Prelude.{ℕ, ◌-◌, ◌/◌, Bool, cond, List, [], ◌++◌, length, map, find, Option, option_map, unwrap_or}
 use Rattle.mqtt_base.specs.declared.session.Qos.{Qos}
 use Rattle.mqtt_base.specs.declared.session.Qos.TheVariants as qos
 use Rattle.mqtt_base.specs.declared.reason.Reason.{Reason}

@@ -18,7 +18,6 @@ use Rattle.mqtt_records.specs.declared.subscription.Subscription.{Subscription}
 use Rattle.mqtt_records.specs.declared.session.Session.{Session}
 use Rattle.mqtt_records.specs.declared.records.Records.{Records}
 use Rattle.mqtt_records.specs.Records.{kept_place}
-use Rattle.mqtt_rules.specs.declared.Limits.{Limits}
 use Rattle.mqtt_rules.specs.Packets.{quality, publish_of}
 use Rattle.mqtt_rules.specs.State.{Broker, Env, session_at, is_connected, line_of, next_of}
 use Rattle.mqtt_rules.specs.Deeds.{Message, Origin, Deed, Accept, Keep, Forget, Act, always, series, of_session, offer}
@@ -71,12 +70,12 @@ finds_place env m r =
     || (is_some (retained_of m.topic r) || nat_lt (length r.retained) env.limits.retained)
 
 -- a copy and the session that it is for
-pub record Delivery : Type 0 where
+pub record CopyTo : Type 0 where
   pub birth : ℕ
   pub copy : MessageCopy
 
-abbrev pub delivery_of : ℕ → ℕ → Message → Cause → Copy → Delivery
-delivery_of number now m cause c = record {
+abbrev pub copy_to : ℕ → ℕ → Message → Cause → Copy → CopyTo
+copy_to number now m cause c = record {
   birth = c.birth;
   copy = record {
     id = record { publication = number; birth = c.birth; cause = cause };
@@ -87,27 +86,27 @@ delivery_of number now m cause c = record {
   };
 }
 
-abbrev pub served_deliveries : ℕ → ℕ → Message → Served → List Delivery
-served_deliveries number now m s = map (delivery_of number now m (Share s.group)) (copies_in s.copy)
+abbrev pub served_copies_to : ℕ → ℕ → Message → Served → List CopyTo
+served_copies_to number now m s = map (copy_to number now m (Share s.group)) (copies_in s.copy)
 
-abbrev pub deliveries : ℕ → ℕ → Message → Routed → List Delivery
-deliveries number now m r = map (delivery_of number now m Direct) r.direct ++ flat_map (served_deliveries number now m) r.served
+abbrev pub copies_to : ℕ → ℕ → Message → Routed → List CopyTo
+copies_to number now m r = map (copy_to number now m Direct) r.direct ++ flat_map (served_copies_to number now m) r.served
 
 abbrev pub next_publication : Records → ℕ
 next_publication r = suc r.publications
 
-abbrev pub routed_to : Env → Message → Records → Option Routed
-routed_to env m r = acceptance.routed (answers env r) (publication_of m) (env.choice (next_publication r)) (subscribers r)
+abbrev pub routing_of : Env → Message → Records → Option Routed
+routing_of env m r = acceptance.routed (answers env r) (publication_of m) (env.choice (next_publication r) m.sender) (subscribers r)
 
-abbrev pub accepted_if : Bool → Option (List Delivery) → Option (List Delivery)
+abbrev pub accepted_if : Bool → Option (List CopyTo) → Option (List CopyTo)
 accepted_if true ds = ds
 accepted_if false ds = None
 
 -- the copies of a publication, if it is accepted
-abbrev pub routed : Env → Message → Broker → Option (List Delivery)
-routed env m b =
+abbrev pub accepted_copies : Env → Message → Broker → Option (List CopyTo)
+accepted_copies env m b =
     accepted_if (finds_place env m b.records)
-    (option_map (deliveries (next_publication b.records) b.now m) (routed_to env m b.records))
+    (option_map (copies_to (next_publication b.records) b.now m) (routing_of env m b.records))
 
 -- somebody is there for it
 abbrev pub is_wanted : Env → Message → Records → Bool
@@ -120,15 +119,15 @@ is_queued_at qos.AtMostOnce = false
 is_queued_at qos.AtLeastOnce = true
 is_queued_at qos.ExactlyOnce = true
 
-abbrev pub is_queued : Delivery → Bool
+abbrev pub is_queued : CopyTo → Bool
 is_queued d = is_queued_at d.copy.qos
 
 -- a copy of QoS 1 or 2 enters the queue, one of QoS 0 goes out at once, if its session is connected
-abbrev pub deliver_by : Bool → Env → Delivery → Act
+abbrev pub deliver_by : Bool → Env → CopyTo → Act
 deliver_by true env d b = of_session d.birth (λ s. always (enter_deeds env d.copy s)) b
 deliver_by false env d b = offer (line_of d.birth b) (publish_of b.now false 0 d.copy)
 
-abbrev pub deliver : Env → Delivery → Act
+abbrev pub deliver : Env → CopyTo → Act
 deliver env d b = deliver_by (is_queued d) env d b
 
 -- the message retained for a topic, in the place of the one before it (3.3.1.3)
@@ -156,7 +155,7 @@ retain_by true true number m b = forgets (retained_of m.topic b.records)
 retain_by true false number m b =
     Keep (kept_message number b.now m (place_of_kept (retained_of m.topic b.records) b.records.retained)) ∷ []
 
-abbrev pub publish : Env → Origin → Message → List Delivery → Act
+abbrev pub publish : Env → Origin → Message → List CopyTo → Act
 publish env origin m ds b =
     let number = next_publication b.records in
     series (

@@ -1,22 +1,24 @@
 -- One call of the broker is one step: the state after it, and what it answers (MQTT 5.0, 3 and 4).
-use Rattle.std.specs.Prelude.{◌≡◌, ℕ, suc, min, max, Bool, true, false, cond, ◌&&◌, List, [], ◌∷◌, ◌++◌, length, filter_map, map, nat_eq, nat_lt, Option, Some, None, option_map}
+use Rattle.std.specs.Prelude.{◌≡◌, ℕ, suc, max, Bool, true, false, cond, ◌&&◌, List, [], ◌∷◌, ◌++◌, length, filter_map, map, nat_eq, nat_lt, Option, Some, None, option_map}
 use Rattle.std.specs.List.{list_any}
+use Rattle.mqtt_base.specs.declared.limits.TheConstants.{LINE_LIMIT, PUMP_LIMIT, LAST_NUMBER}
+use Rattle.mqtt_base.specs.Codes.{protocol_error, unsupported_protocol_version}
 use Rattle.mqtt_base.specs.declared.session.CopyId.{CopyId}
-use Rattle.mqtt_base.specs.declared.session.Phase.{Phase}
 use Rattle.mqtt_props.specs.declared.table.PropName.TheVariants.{SessionExpiryInterval}
 use Rattle.mqtt_codec.specs.declared.packet.Packet.{Packet}
 use Rattle.mqtt_codec.specs.declared.packet.Packet.TheVariants.{Connect, Publish, Puback, Pubrec, Pubrel, Pubcomp, Subscribe, Unsubscribe, Pingreq, Pingresp, Disconnect}
+use Rattle.mqtt_codec.specs.Packets.{shortest_of}
 use Rattle.mqtt_flow.specs.Queue.{holder, order_of}
-use Rattle.mqtt_records.specs.declared.change.Counter.TheVariants.{Moment}
+use Rattle.mqtt_records.specs.declared.change.Counter.{Counter}
+use Rattle.mqtt_records.specs.declared.change.Counter.TheVariants.{Births, Publications, Subscribes, Autos, Moment}
 use Rattle.mqtt_records.specs.declared.change.Change.{Change}
 use Rattle.mqtt_records.specs.declared.change.Change.TheVariants.{SetCounter, PutSession, SetSession, RemoveSession, PutWill, RemoveWill, PutSubscription, RemoveSubscription, PutInbound, RemoveInbound, PutCopy, SetCopy, RemoveCopy, PutRetained, RemoveRetained}
 use Rattle.mqtt_records.specs.declared.session.Session.{Session}
 use Rattle.mqtt_records.specs.declared.records.Records.{Records}
-use Rattle.mqtt_records.specs.Records.{changed_all}
 use Rattle.mqtt_rules.specs.declared.Limits.{Limits}
 use Rattle.mqtt_rules.specs.declared.Report.{Report}
 use Rattle.mqtt_rules.specs.Packets.{connack, number_at}
-use Rattle.mqtt_rules.specs.State.{Line, Broker, Env, session_at, line_at, is_connected, queue_on, top}
+use Rattle.mqtt_rules.specs.State.{Line, Broker, Env, session_at, line_at, is_connected, queue_on, capped, MemberChoice}
 use Rattle.mqtt_rules.specs.Deeds.{whose, Close, Hear, Deed, Link, On, Send, At, Act, after_all, rows_of_all, always, series, of_session, with_line, output, closing, report}
 use Rattle.mqtt_rules.specs.Closing.{close, drop_line, settle}
 use Rattle.mqtt_rules.specs.Connect.{on_connect}
@@ -52,7 +54,7 @@ next_packet env l (Subscribe p) s b = on_subscribe env l.number s p b
 next_packet env l (Unsubscribe p) s b = on_unsubscribe l.number s p b
 next_packet env l Pingreq s b = Send l.number Pingresp ∷ []
 next_packet env l (Disconnect n) s b = on_disconnect env l s n.reason.0 (number_at SessionExpiryInterval n.properties) b
-next_packet env l packet s b = drop_line env 0x82 l b
+next_packet env l packet s b = drop_line env protocol_error l b
 
 abbrev pub on_packet : Env → Line → Packet → Option ℕ → Act
 on_packet env l packet None b = first_packet env l packet b
@@ -61,7 +63,7 @@ on_packet env l packet (Some birth) b = of_session birth (next_packet env l pack
 -- a fault in a CONNECT is answered by CONNACK, in another first packet by nothing, later by DISCONNECT (4.13), where
 -- another version is a protocol error
 abbrev pub late_code : ℕ → ℕ
-late_code code = cond (nat_eq code 0x84) 0x82 code
+late_code code = cond (nat_eq code unsupported_protocol_version) protocol_error code
 
 abbrev pub on_fault : Env → Line → Bool → ℕ → Option ℕ → Act
 on_fault env l true code None b = series (always (Send l.number (connack false code []) ∷ []) ∷ close env true l ∷ []) b
@@ -74,12 +76,9 @@ on_pump l (Some birth) b = of_session birth (λ s. always (pump_deeds l b.now s)
 
 -- ---- the deeds of a call
 
--- the most lines (ours)
-abbrev pub line_limit : ℕ
-line_limit = 64
-
+-- a line is given while fewer than LINE_LIMIT stand and LAST_NUMBER were not given (ours)
 abbrev pub can_link : Broker → Bool
-can_link b = nat_lt (length b.lines) line_limit && nat_lt b.given top
+can_link b = nat_lt (length b.lines) LINE_LIMIT && nat_lt b.given LAST_NUMBER
 
 abbrev pub deeds_of : Env → Call → Act
 deeds_of env NewLine b = cond (can_link b) (Link (suc b.given) ∷ []) []
@@ -92,12 +91,12 @@ deeds_of env Tick b = on_tick (due env b) b
 
 -- the greatest moment handed in
 abbrev pub at_moment : ℕ → Broker → Broker
-at_moment now b = record b { now = max b.now (min now top) }
+at_moment now b = record b { now = max b.now (capped now) }
 
-abbrev pub env_of : Limits → (ℕ → List ℕ) → Broker → Env
+abbrev pub env_of : Limits → MemberChoice → Broker → Env
 env_of limits choice b = record { limits = limits; choice = choice; start = b.records }
 
-abbrev pub deeds : Limits → (ℕ → List ℕ) → ℕ → Call → Broker → List Deed
+abbrev pub deeds : Limits → MemberChoice → ℕ → Call → Broker → List Deed
 deeds limits choice now call b = deeds_of (env_of limits choice b) call (at_moment now b)
 
 -- ---- the state after a step
@@ -117,7 +116,7 @@ with_moment (row ∷ rows) b = record b { records = record b.records { moment = 
 abbrev pub done : List Deed → Broker → Broker
 done ds b = with_moment (rows_of_all ds b.records) (after_all ds b)
 
-abbrev pub stepped : Limits → (ℕ → List ℕ) → ℕ → Call → Broker → Broker
+abbrev pub stepped : Limits → MemberChoice → ℕ → Call → Broker → Broker
 stepped limits choice now call b = done (deeds limits choice now call b) (at_moment now b)
 
 -- ---- what a step answers
@@ -130,39 +129,50 @@ abbrev pub is_none_done : List Deed → Bool
 is_none_done [] = true
 is_none_done (d ∷ ds) = false
 
--- more may be there: 16 PUBLISH went out, or one thing was done
+-- more may be there: PUMP_LIMIT PUBLISH went out, or one thing was done
 abbrev pub is_again : Call → List Deed → Bool
-is_again (Pump n) ds = nat_eq (length (filter_map publish_out ds)) 16
+is_again (Pump n) ds = nat_eq (length (filter_map publish_out ds)) PUMP_LIMIT
 is_again Tick ds = cond (is_none_done ds) false true
 is_again call ds = false
 
 pub record Outcome : Type 0 where
-  pub outputs : List (ℕ × Packet)
+  pub outputs : List (ℕ × Packet)  -- in order, each with its line
   pub closed : List ℕ
   pub reports : List Report
+  pub taken : ℕ  -- bytes of a piece
   pub again : Bool
 
-abbrev pub outcome : Call → List Deed → Outcome
-outcome call ds = record {
+abbrev pub nothing_told : Outcome
+nothing_told = record { outputs = []; closed = []; reports = []; taken = 0; again = false }
+
+-- its packets as they go out, each in its shortest spelling (2.1.4)
+abbrev pub bytes_out : Outcome → List (ℕ × List ℕ)
+bytes_out out = map (λ x. (x.0, shortest_of x.1)) out.outputs
+
+abbrev pub outcome_of : Call → List Deed → Outcome
+outcome_of call ds = record {
   outputs = filter_map output ds;
   closed = filter_map closing ds;
   reports = filter_map report ds;
+  taken = 0;
   again = is_again call ds;
 }
 
-abbrev pub told : Limits → (ℕ → List ℕ) → ℕ → Call → Broker → Outcome
-told limits choice now call b = outcome call (deeds limits choice now call b)
-
--- Broker step: some choice of the members leads from one state to the other, with this outcome
-pub record BrokerStep (limits : Limits) (old : Broker) (now : ℕ) (call : Call) (out : Outcome) (new : Broker) : Type 0 where
-  pub choice : ℕ → List ℕ
-  pub new_is : new ≡ stepped limits choice now call old
-  pub out_is : out ≡ told limits choice now call old
+abbrev pub told : Limits → MemberChoice → ℕ → Call → Broker → Outcome
+told limits choice now call b = outcome_of call (deeds limits choice now call b)
 
 -- ---- spent numbers: a birth, a number, a place or an order above the last one is refused, and nothing changes (ours)
 
+-- a moment is no number that is given
+abbrev pub count_given : Counter → ℕ → ℕ
+count_given Births n = n
+count_given Publications n = n
+count_given Subscribes n = n
+count_given Autos n = n
+count_given Moment moment = 0
+
 abbrev pub number_given : Change → ℕ
-number_given (SetCounter counter value) = value
+number_given (SetCounter counter n) = count_given counter n
 number_given (PutSession row) = row.birth
 number_given (SetSession row) = row.birth
 number_given (RemoveSession birth) = 0
@@ -179,7 +189,22 @@ number_given (PutRetained kept) = kept.place
 number_given (RemoveRetained place) = 0
 
 abbrev pub is_spent : List Change → Bool
-is_spent rows = list_any (λ row. nat_lt top (number_given row)) rows
+is_spent rows = list_any (λ row. nat_lt LAST_NUMBER (number_given row)) rows
+
+abbrev pub is_step_spent : Limits → MemberChoice → ℕ → Call → Broker → Bool
+is_step_spent limits choice now call b = is_spent (rows_written (deeds limits choice now call b) (at_moment now b))
+
+-- Broker step: some choice of the members leads from one state to the other, with this outcome, and no number is spent
+pub record BrokerStep (limits : Limits) (old : Broker) (now : ℕ) (call : Call) (out : Outcome) (new : Broker) : Type 0 where
+  pub choice : MemberChoice
+  pub unspent : is_step_spent limits choice now call old ≡ false
+  pub new_is : new ≡ stepped limits choice now call old
+  pub out_is : out ≡ told limits choice now call old
+
+-- a step that is refused: by some choice a number is spent
+pub record SpentStep (limits : Limits) (old : Broker) (now : ℕ) (call : Call) : Type 0 where
+  pub choice : MemberChoice
+  pub spent : is_step_spent limits choice now call old ≡ true
 
 -- ---- opening: each session that was connected is closed, in the order of births
 
@@ -191,10 +216,27 @@ abbrev pub opening : Env → Act
 opening env b = series (map (λ s. close_if (is_connected s) env s) b.records.sessions) b
 
 abbrev pub unopened : ℕ → Records → Broker
-unopened now r = record { records = r; lines = []; given = 0; now = max r.moment (min now top) }
+unopened now r = record { records = r; lines = []; given = 0; now = max (capped r.moment) (capped now) }
 
-abbrev pub opened : Limits → (ℕ → List ℕ) → ℕ → Records → Broker
-opened limits choice now r = let b = unopened now r in done (opening (env_of limits choice b) b) b
+abbrev pub opening_deeds : Limits → MemberChoice → ℕ → Records → List Deed
+opening_deeds limits choice now r = let b = unopened now r in opening (env_of limits choice b) b
+
+abbrev pub opened : Limits → MemberChoice → ℕ → Records → Broker
+opened limits choice now r = done (opening_deeds limits choice now r) (unopened now r)
+
+abbrev pub is_opening_spent : Limits → MemberChoice → ℕ → Records → Bool
+is_opening_spent limits choice now r = is_spent (rows_written (opening_deeds limits choice now r) (unopened now r))
+
+-- Broker opening: some choice of the members leads from what is stored to the state, and no number is spent
+pub record BrokerOpening (limits : Limits) (r : Records) (now : ℕ) (new : Broker) : Type 0 where
+  pub choice : MemberChoice
+  pub unspent : is_opening_spent limits choice now r ≡ false
+  pub new_is : new ≡ opened limits choice now r
+
+-- an opening that is refused: by some choice a number is spent
+pub record SpentOpening (limits : Limits) (r : Records) (now : ℕ) : Type 0 where
+  pub choice : MemberChoice
+  pub spent : is_opening_spent limits choice now r ≡ true
 
 -- ---- the copy that has an identifier in the queue of a line's session
 

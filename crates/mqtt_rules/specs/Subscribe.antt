@@ -1,13 +1,11 @@
 -- SUBSCRIBE and UNSUBSCRIBE, filter by filter (MQTT 5.0, 3.8 to 3.11).
 use Rattle.std.specs.Prelude.{ℕ, suc, min, Bool, true, false, not, ◌&&◌, ◌||◌, List, [], ◌∷◌, ◌++◌, length, filter, find, map, flat_map, nat_lt, nat_le, bytes_eq, Option, Some, None}
 use Rattle.std.specs.List.{list_any}
-use Rattle.mqtt_base.specs.declared.session.Qos.{Qos}
 use Rattle.mqtt_base.specs.declared.session.Cause.TheVariants.{Retained as RetainedBy}
 use Rattle.mqtt_base.specs.declared.session.RetainHandling.{RetainHandling}
 use Rattle.mqtt_base.specs.declared.session.RetainHandling.TheVariants.{SendAlways, SendIfNew, DoNotSend}
 use Rattle.mqtt_base.specs.declared.session.SubscriptionOptions.{SubscriptionOptions}
 use Rattle.mqtt_props.specs.declared.table.PropName.TheVariants.{SubscriptionIdentifier}
-use Rattle.mqtt_props.specs.Properties.{Prop}
 use Rattle.mqtt_codec.specs.declared.subscribe.Subscribe.{Subscribe}
 use Rattle.mqtt_codec.specs.declared.unsubscribe.Unsubscribe.{Unsubscribe}
 use Rattle.mqtt_codec.specs.Subscriptions.{Subscription as Asked}
@@ -16,8 +14,8 @@ use Rattle.mqtt_codec.specs.Heads.{qos_number}
 use Rattle.mqtt_topic.specs.Filters.{is_filter, begins_share}
 use Rattle.mqtt_routes.specs.declared.retained.Kept.{Kept}
 use Rattle.mqtt_routes.specs.Retained.{kept_for}
-use Rattle.mqtt_base.specs.Codes.{identifier_in_use, quota_exceeded}
-use Rattle.mqtt_flow.specs.Inbound.{is_open}
+use Rattle.mqtt_base.specs.Codes.{success, no_subscription_existed, topic_filter_invalid, identifier_in_use, quota_exceeded}
+use Rattle.mqtt_flow.specs.Identifiers.{is_among}
 use Rattle.mqtt_message.specs.declared.message.MessageCopy.{MessageCopy}
 use Rattle.mqtt_message.specs.declared.message.RetainedMessage.{RetainedMessage}
 use Rattle.mqtt_records.specs.declared.subscription.Subscription.{Subscription}
@@ -29,7 +27,7 @@ use Rattle.mqtt_rules.specs.State.{Broker, Env, session_at, line_at}
 use Rattle.mqtt_rules.specs.Deeds.{whose, Deed, Count, At, Act, after_all, always, series, offer}
 use Rattle.mqtt_rules.specs.Deeds as deeds
 use Rattle.mqtt_rules.specs.Outbound.{room}
-use Rattle.mqtt_rules.specs.Routing.{Delivery, is_queued, deliver}
+use Rattle.mqtt_rules.specs.Routing.{CopyTo, is_queued, deliver}
 
 -- ---- what the session has
 
@@ -84,28 +82,28 @@ retained_copy birth number w k = record {
   content = k.content;
 }
 
-abbrev pub retained_delivery : ℕ → ℕ → Wish → RetainedMessage → Delivery
-retained_delivery birth number w k = record { birth = birth; copy = retained_copy birth number w k }
+abbrev pub retained_copy_to : ℕ → ℕ → Wish → RetainedMessage → CopyTo
+retained_copy_to birth number w k = record { birth = birth; copy = retained_copy birth number w k }
 
 -- in the order in which their topics were first retained
-abbrev pub brought_if : Bool → ℕ → ℕ → Session → Wish → List RetainedMessage → List Delivery
+abbrev pub brought_if : Bool → ℕ → ℕ → Session → Wish → List RetainedMessage → List CopyTo
 brought_if false now number s w ks = []
 brought_if true now number s w ks =
-    map (retained_delivery s.birth number w) (filter (is_brought now s w) (map message_in (kept_for w.filter (map kept_of ks))))
+    map (retained_copy_to s.birth number w) (filter (is_brought now s w) (map message_in (kept_for w.filter (map kept_of ks))))
 
-abbrev pub brought : ℕ → ℕ → Session → Wish → List RetainedMessage → List Delivery
+abbrev pub brought : ℕ → ℕ → Session → Wish → List RetainedMessage → List CopyTo
 brought now number s w ks =
     brought_if (not (begins_share w.filter) && wants_retained w.options.retain_handling (has_filter w.filter s)) now number s w ks
 
 -- ---- one filter: its code, its deeds, and the copies that go out after the SUBACK
 
-pub record Granted : Type 0 where
+pub record FilterAnswer : Type 0 where
   pub code : ℕ
   pub deeds : List Deed
-  pub late : List Delivery
+  pub late : List CopyTo
 
-abbrev pub refuses : ℕ → Granted
-refuses code = record { code = code; deeds = []; late = [] }
+abbrev pub refused_filter : ℕ → FilterAnswer
+refused_filter code = record { code = code; deeds = []; late = [] }
 
 abbrev pub subscription : ℕ → Session → Wish → Subscription
 subscription number s w = record {
@@ -115,34 +113,34 @@ subscription number s w = record {
   identifier = w.identifier;
 }
 
-abbrev pub grants : Env → ℕ → Session → Wish → List Delivery → Broker → Granted
-grants env number s w ds b = record {
+abbrev pub granted_filter : Env → ℕ → Session → Wish → List CopyTo → Broker → FilterAnswer
+granted_filter env number s w ds b = record {
   code = qos_number w.options.qos;
   deeds = series (always (Count number ∷ At (whose s) (deeds.Subscribe (subscription number s w)) ∷ []) ∷ map (deliver env) (filter is_queued ds)) b;
   late = filter (λ d. not (is_queued d)) ds;
 }
 
 -- a valid filter, and room for it and for its copies
-abbrev pub granted_by : Bool → Bool → Env → ℕ → Session → Wish → List Delivery → Broker → Granted
-granted_by false has_room env number s w ds b = refuses 0x8f
-granted_by true false env number s w ds b = refuses quota_exceeded
-granted_by true true env number s w ds b = grants env number s w ds b
+abbrev pub answer_by : Bool → Bool → Env → ℕ → Session → Wish → List CopyTo → Broker → FilterAnswer
+answer_by false has_room env number s w ds b = refused_filter topic_filter_invalid
+answer_by true false env number s w ds b = refused_filter quota_exceeded
+answer_by true true env number s w ds b = granted_filter env number s w ds b
 
 abbrev pub next_number : Records → ℕ
 next_number r = suc r.subscribes
 
-abbrev pub granted : Env → Wish → Broker → Session → Granted
-granted env w b s =
+abbrev pub filter_answer : Env → Wish → Broker → Session → FilterAnswer
+filter_answer env w b s =
     let number = next_number b.records in
     let ds = brought b.now number s w b.records.retained in
-    granted_by (is_filter w.filter)
+    answer_by (is_filter w.filter)
     ((has_filter w.filter s || nat_lt (length s.subscriptions) SUBSCRIPTION_LIMIT) && nat_le (length (filter is_queued ds)) (room env s))
     env number s w ds b
 
-abbrev pub granted_to : Env → Option Wish → Broker → Option Session → Granted
-granted_to env w b None = refuses 0x8f
-granted_to env None b (Some s) = refuses 0x8f
-granted_to env (Some w) b (Some s) = granted env w b s
+abbrev pub filter_answer_of : Env → Option Wish → Broker → Option Session → FilterAnswer
+filter_answer_of env w b None = refused_filter topic_filter_invalid
+filter_answer_of env None b (Some s) = refused_filter topic_filter_invalid
+filter_answer_of env (Some w) b (Some s) = filter_answer env w b s
 
 -- options that no subscription has are no wish; the codec lets none through
 abbrev pub wish_by : List ℕ → Option ℕ → Option SubscriptionOptions → Option Wish
@@ -154,32 +152,32 @@ wish_of identifier a = wish_by a.filter identifier (options_of a.options)
 
 -- ---- all filters, each on what the ones before it left
 
-pub record Answered : Type 0 where
+pub record FilterAnswers : Type 0 where
   pub codes : List ℕ
   pub deeds : List Deed
-  pub late : List Delivery
+  pub late : List CopyTo
 
-abbrev pub before : Granted → Answered → Answered
+abbrev pub before : FilterAnswer → FilterAnswers → FilterAnswers
 before g a = record { codes = g.code ∷ a.codes; deeds = g.deeds ++ a.deeds; late = g.late ++ a.late }
 
-abbrev pub all_granted : Env → ℕ → Option ℕ → List Asked → Broker → Answered
-all_granted env birth identifier [] b = record { codes = []; deeds = []; late = [] }
-all_granted env birth identifier (a ∷ rest) b =
-    let g = granted_to env (wish_of identifier a) b (session_at birth b.records) in
-    before g (all_granted env birth identifier rest (after_all g.deeds b))
+abbrev pub filter_answers : Env → ℕ → Option ℕ → List Asked → Broker → FilterAnswers
+filter_answers env birth identifier [] b = record { codes = []; deeds = []; late = [] }
+filter_answers env birth identifier (a ∷ rest) b =
+    let g = filter_answer_of env (wish_of identifier a) b (session_at birth b.records) in
+    before g (filter_answers env birth identifier rest (after_all g.deeds b))
 
-abbrev pub late_sends : ℕ → ℕ → Delivery → Broker → List Deed
+abbrev pub late_sends : ℕ → ℕ → CopyTo → Broker → List Deed
 late_sends line now d b = offer (line_at line b) (publish_of now false 0 d.copy)
 
 abbrev pub subscribe_by : Bool → Env → ℕ → Session → Subscribe → Act
 subscribe_by true env line s p b = offer (line_at line b) (suback p.identifier (map (λ a. identifier_in_use) p.subscriptions))
 subscribe_by false env line s p b =
-    let a = all_granted env s.birth (number_at SubscriptionIdentifier p.properties) p.subscriptions b in
+    let a = filter_answers env s.birth (number_at SubscriptionIdentifier p.properties) p.subscriptions b in
     a.deeds ++ offer (line_at line b) (suback p.identifier a.codes) ++ flat_map (λ d. late_sends line b.now d b) a.late
 
 -- an identifier that is open for a QoS 2 PUBLISH is in use (2.2.1)
 abbrev pub on_subscribe : Env → ℕ → Session → Subscribe → Act
-on_subscribe env line s p b = subscribe_by (is_open p.identifier s.inbound) env line s p b
+on_subscribe env line s p b = subscribe_by (is_among p.identifier s.inbound) env line s p b
 
 -- ---- UNSUBSCRIBE (3.10, 3.11)
 
@@ -187,9 +185,9 @@ abbrev pub unsubscribes : Session → List ℕ → List Deed
 unsubscribes s text = At (whose s) (deeds.Unsubscribe text) ∷ []
 
 abbrev pub drop_code : Bool → Bool → ℕ
-drop_code false there = 0x8f
-drop_code true false = 0x11
-drop_code true true = 0x00
+drop_code false there = topic_filter_invalid
+drop_code true false = no_subscription_existed
+drop_code true true = success
 
 -- a filter that stands twice is gone at the second time
 abbrev pub drop_codes : Session → List (List ℕ) → List (List ℕ) → List ℕ
@@ -203,4 +201,4 @@ unsubscribe_by false line s p b =
     flat_map (unsubscribes s) (filter (λ f. has_filter f s) p.filters) ++ offer (line_at line b) (unsuback p.identifier (drop_codes s [] p.filters))
 
 abbrev pub on_unsubscribe : ℕ → Session → Unsubscribe → Act
-on_unsubscribe line s p b = unsubscribe_by (is_open p.identifier s.inbound) line s p b
+on_unsubscribe line s p b = unsubscribe_by (is_among p.identifier s.inbound) line s p b

@@ -1,5 +1,7 @@
 -- `tick`: the first of these that is due, and nothing else (MQTT 5.0, 3.1.2.10, 3.1.2.11.2, 3.1.3.2.2, 3.3.2.3.3).
 use Rattle.std.specs.Prelude.{ℕ, ◌*◌, Bool, true, false, ◌&&◌, List, [], ◌∷◌, flat_map, find, nat_lt, nat_le, Option, Some, None, option_map}
+use Rattle.mqtt_base.specs.Codes.{keep_alive_timeout}
+use Rattle.mqtt_base.specs.declared.limits.TheConstants.{CONNECT_TIME}
 use Rattle.mqtt_flow.specs.declared.entry.Turn.{Turn}
 use Rattle.mqtt_flow.specs.Outbound.{expired}
 use Rattle.mqtt_message.specs.declared.message.RetainedMessage.{RetainedMessage}
@@ -10,18 +12,14 @@ use Rattle.mqtt_rules.specs.Deeds.{Deed, Forget, Act, always}
 use Rattle.mqtt_rules.specs.Outbound.{leave_deeds}
 use Rattle.mqtt_rules.specs.Closing.{close, drop_line, publish_will, end_session, has_due_will, has_due_end}
 
--- how long a line may stand without CONNECT, in milliseconds (ours)
-abbrev pub connect_time : ℕ
-connect_time = 10000
-
--- one and a half times Keep Alive, in milliseconds, has passed without a packet (3.1.2.10)
+-- CONNECT didn't come in CONNECT_TIME milliseconds (ours); one and a half times Keep Alive, in milliseconds, has passed without a packet (3.1.2.10)
 abbrev pub is_silent : ℕ → Option ℕ → Line → Bool
-is_silent now None l = nat_le (later l.heard connect_time) now
+is_silent now None l = nat_le (later l.heard CONNECT_TIME) now
 is_silent now (Some birth) l = nat_lt 0 l.keep_alive && nat_le (later l.heard (1500 * l.keep_alive)) now
 
 abbrev pub silence : Env → Option ℕ → Line → Act
 silence env None l b = close env true l b
-silence env (Some birth) l b = drop_line env 0x8d l b
+silence env (Some birth) l b = drop_line env keep_alive_timeout l b
 
 -- the copies of a session that wait and have expired
 abbrev pub lapses : ℕ → Session → List Turn

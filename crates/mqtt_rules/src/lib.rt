@@ -5,6 +5,7 @@
 mod flight_laws;
 mod laws;
 mod number_laws;
+mod routing_laws;
 
 pub use flight_laws::identifiers_in_flight_are_unique;
 pub use laws::{at_most_twenty_open, limits_are_kept, stored_part_follows, tables_are_ordered};
@@ -14,6 +15,7 @@ pub use number_laws::{
     births_and_places_are_unique, births_are_new, copies_are_of_accepted_publications,
     counted_numbers_are_apart, counters_never_fall, new_places_are_last, numbers_are_new,
 };
+pub use routing_laws::{copies_find_room, members_are_reached};
 
 /// The sizes of the tables.
 #[derive(Clone, Copy, Debug, PartialEq, Eq)]

@@ -9,21 +9,23 @@ ghost use Rattle.mqtt_message.specs.Queue.{CopyRow};
 ghost use Rattle.mqtt_records.specs.declared.records.Records.{Records};
 ghost use Rattle.mqtt_records.specs.declared.session.Session.{Session};
 ghost use Rattle.mqtt_rules.specs.declared.Limits.{Limits as TheLimits};
-ghost use Rattle.mqtt_rules.specs.State.{Broker, session_at};
+ghost use Rattle.mqtt_rules.specs.State.{Broker, session_at, MemberChoice};
 ghost use Rattle.mqtt_rules.specs.Deeds.{new_entry};
 ghost use Rattle.mqtt_rules.specs.Routing.{place_of_kept};
 ghost use Rattle.mqtt_rules.specs.Subscribe.{Wish, has_filter, subscription};
 ghost use Rattle.mqtt_rules.specs.Step.{Call, deeds, stepped, opening, opened, unopened, env_of};
 ghost use Rattle.mqtt_rules.specs.Numbers.{CountsOn, CountOn, NoneFell, IsTimed, HasGivenBirths, HasAcceptedNumbers, AreInOrder};
 
+use mqtt_base::LAST_NUMBER;
+
 /// Each birth, each publication's number, each granted filter's number and each number of an assigned
 /// client identifier that a step gives is the next one, one above the last that was ever given, and the
 /// counter after the step is the last given; likewise when a broker opens.
 pub fn numbers_are_new()
-    ensures step { (limits : TheLimits) (choice : ℕ → List ℕ) (now : ℕ) (call : Call) (b : Broker)
+    ensures step { (limits : TheLimits) (choice : MemberChoice) (now : ℕ) (call : Call) (b : Broker)
         → CountOn (deeds limits choice now call b) b.records
         (stepped limits choice now call b).records }
-    ensures opening { (limits : TheLimits) (choice : ℕ → List ℕ) (now : ℕ) (r : Records)
+    ensures opening { (limits : TheLimits) (choice : MemberChoice) (now : ℕ) (r : Records)
         → CountOn (opening (env_of limits choice (unopened now r)) (unopened now r)) r
         (opened limits choice now r).records }
 {}
@@ -39,17 +41,19 @@ pub fn counted_numbers_are_apart()
 {}
 
 /// No counter falls, whatever is asked of the broker, nor when it opens. The stored moment doesn't fall
-/// where it isn't above the greatest moment handed in, as it never is once the broker is open.
+/// where it isn't above the greatest moment handed in, as it never is once the broker is open on what a
+/// store has, whose moment is at most the last one.
 pub fn counters_never_fall()
-    ensures step { (limits : TheLimits) (choice : ℕ → List ℕ) (now : ℕ) (call : Call) (b : Broker)
+    ensures step { (limits : TheLimits) (choice : MemberChoice) (now : ℕ) (call : Call) (b : Broker)
         → NoneFell b.records (stepped limits choice now call b).records }
-    ensures opening { (limits : TheLimits) (choice : ℕ → List ℕ) (now : ℕ) (r : Records)
+    ensures opening { (limits : TheLimits) (choice : MemberChoice) (now : ℕ) (r : Records)
         → NoneFell r (opened limits choice now r).records }
-    ensures moment { (limits : TheLimits) (choice : ℕ → List ℕ) (now : ℕ) (call : Call) (b : Broker)
+    ensures moment { (limits : TheLimits) (choice : MemberChoice) (now : ℕ) (call : Call) (b : Broker)
         → IsTimed b
         → (b.records.moment ≤ (stepped limits choice now call b).records.moment)
         × IsTimed (stepped limits choice now call b) }
-    ensures opening_moment { (limits : TheLimits) (choice : ℕ → List ℕ) (now : ℕ) (r : Records)
+    ensures opening_moment { (limits : TheLimits) (choice : MemberChoice) (now : ℕ) (r : Records)
+        → r.moment ≤ LAST_NUMBER
         → (r.moment ≤ (opened limits choice now r).records.moment)
         × IsTimed (opened limits choice now r) }
 {}
@@ -58,9 +62,9 @@ pub fn counters_never_fall()
 /// had, and after its opening, and none has where nothing is stored; so the birth of a new session is
 /// that of none that stands.
 pub fn births_are_new()
-    ensures step { (limits : TheLimits) (choice : ℕ → List ℕ) (now : ℕ) (call : Call) (b : Broker)
+    ensures step { (limits : TheLimits) (choice : MemberChoice) (now : ℕ) (call : Call) (b : Broker)
         → HasGivenBirths b.records → HasGivenBirths (stepped limits choice now call b).records }
-    ensures opening { (limits : TheLimits) (choice : ℕ → List ℕ) (now : ℕ) (r : Records)
+    ensures opening { (limits : TheLimits) (choice : MemberChoice) (now : ℕ) (r : Records)
         → HasGivenBirths r → HasGivenBirths (opened limits choice now r).records }
     ensures nothing { HasGivenBirths nothing }
     ensures next { (r : Records) → HasGivenBirths r → session_at (suc r.births) r ≡ None }
@@ -70,10 +74,10 @@ pub fn births_are_new()
 /// after any step of a broker where none had, and after its opening, and none has where nothing is stored;
 /// so a new publication's number is above those of all copies and retained messages that stand.
 pub fn copies_are_of_accepted_publications()
-    ensures step { (limits : TheLimits) (choice : ℕ → List ℕ) (now : ℕ) (call : Call) (b : Broker)
+    ensures step { (limits : TheLimits) (choice : MemberChoice) (now : ℕ) (call : Call) (b : Broker)
         → HasAcceptedNumbers b.records
         → HasAcceptedNumbers (stepped limits choice now call b).records }
-    ensures opening { (limits : TheLimits) (choice : ℕ → List ℕ) (now : ℕ) (r : Records)
+    ensures opening { (limits : TheLimits) (choice : MemberChoice) (now : ℕ) (r : Records)
         → HasAcceptedNumbers r → HasAcceptedNumbers (opened limits choice now r).records }
     ensures nothing { HasAcceptedNumbers nothing }
 {}
@@ -82,9 +86,9 @@ pub fn copies_are_of_accepted_publications()
 /// session in that of their places, and open identifiers ascend, after any step of a broker where they did,
 /// and after its opening; so no birth, no place and no open identifier comes twice.
 pub fn births_and_places_are_unique()
-    ensures step { (limits : TheLimits) (choice : ℕ → List ℕ) (now : ℕ) (call : Call) (b : Broker)
+    ensures step { (limits : TheLimits) (choice : MemberChoice) (now : ℕ) (call : Call) (b : Broker)
         → AreInOrder b.records → AreInOrder (stepped limits choice now call b).records }
-    ensures opening { (limits : TheLimits) (choice : ℕ → List ℕ) (now : ℕ) (r : Records)
+    ensures opening { (limits : TheLimits) (choice : MemberChoice) (now : ℕ) (r : Records)
         → AreInOrder r → AreInOrder (opened limits choice now r).records }
     ensures nothing { AreInOrder nothing }
 {}

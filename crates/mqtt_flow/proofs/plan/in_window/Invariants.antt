@@ -1,6 +1,6 @@
-use Rattle.std.proofs.Common.{◌≡◌, ◌+◌, ◌≤◌, drop}
+use Rattle.std.proofs.Common.{◌≡◌, ◌+◌, ◌≤◌, map, drop}
 use Rattle.mqtt_flow.specs.Queue.{in_window}
 use Rattle.mqtt_flow.proofs.plan.in_window.Given as goal
 
-abbrev pub invariant-loop-entry : goal.invariant-loop-entry
-invariant-loop-entry l = record { counted : l.count + in_window (drop l.entry-index l.entries) ≡ in_window l.entries; within : l.count ≤ l.entry-index }
+abbrev pub invariant-loop-row : goal.invariant-loop-row
+invariant-loop-row g l = record { counted : l.count + in_window (map (g.R.QueueRow.entry l.went) (drop l.row-index l.rows)) ≡ in_window (map (g.R.QueueRow.entry l.went) l.rows); within : l.count ≤ l.row-index }

@@ -1,11 +1,15 @@
 use Rattle.std.proofs.Common.{ap, ◌∙◌, subst}
-use Rattle.mqtt_flow.proofs.Places.{placed, OfPlace, found, missed}
+use Rattle.std.specs.Prelude.{IfOk, IfErr}
+use Rattle.mqtt_flow.specs.Inflow.{StandsAt, BelongsAt}
 use Rattle.mqtt_flow.proofs.inflow.Inflow.place.Goals as goal
+
+pub place-requires : goal.place-requires
+place-requires c = rw c.deref.ensures.value c.self.invariant
 
 pub returns-clause-found : goal.returns-clause-found
 returns-clause-found c =
-    found c.args.id c.args.self.now.ids c.binary_search.result (subst (λ ids. OfPlace c.args.id ids c.binary_search.result) (c.deref.ensures.value ∙ ap (λ v. v.ids) c.self.view_is) (placed c.args.id c.deref.result.now c.binary_search.result (rw c.deref.ensures.value c.self.invariant.ascending) c.binary_search.ensures.position))
+    subst (λ ids. IfOk c.place.result (StandsAt c.args.id ids)) (c.deref.ensures.value ∙ ap (λ v. v.ids) c.self.view_is) c.place.ensures.found
 
 pub returns-clause-missing : goal.returns-clause-missing
 returns-clause-missing c =
-    missed c.args.id c.args.self.now.ids c.binary_search.result (subst (λ ids. OfPlace c.args.id ids c.binary_search.result) (c.deref.ensures.value ∙ ap (λ v. v.ids) c.self.view_is) (placed c.args.id c.deref.result.now c.binary_search.result (rw c.deref.ensures.value c.self.invariant.ascending) c.binary_search.ensures.position))
+    subst (λ ids. IfErr c.place.result (BelongsAt c.args.id ids)) (c.deref.ensures.value ∙ ap (λ v. v.ids) c.self.view_is) c.place.ensures.missing

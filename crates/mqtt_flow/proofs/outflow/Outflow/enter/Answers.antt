@@ -1,7 +1,7 @@
 use Rattle.std.proofs.Common.{◌∙◌, ap, arith, length}
 use Rattle.mqtt_flow.specs.Queue.{greatest_given, after_all, greatest_place}
 use Rattle.mqtt_flow.specs.Outbound.{way_made}
-use Rattle.mqtt_flow.proofs.OutRoom.{way_made-orders, places-after_all}
+use Rattle.mqtt_flow.proofs.outbound.Room.{way_made-orders, places-after_all}
 use Rattle.mqtt_flow.proofs.outflow.Outflow.enter.Goals as goal
 
 pub take_all-requires : goal.take_all-requires
@@ -26,6 +26,6 @@ add-requires-clause-place c =
     let since = c.args.since in
     let queue = c.args.self.now.queue in
     let made = c.take_all.ensures.queue ∙ ap (λ ts. after_all ts c.make_room.new.self.queue) (c.deref.ensures.value ∙ c.in_ok-turns.ensures.turns) ∙ ap (λ q. after_all (way_made limits since queue) q) c.make_room.ensures.queue in
-    let low = places-after_all (way_made limits since queue) queue in
+    let low = c.requires.place c.in_ok-turns.ensures.only in
     let place = ap greatest_place made in
     omega arith
