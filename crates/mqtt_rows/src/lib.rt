@@ -1,10 +1,12 @@
 //! Rows in the order of their keys: the lists that records are made of.
 #![tactic(auto)]
 
+mod distinct;
 mod laws;
 mod row;
 mod rows;
 
+pub use distinct::are_distinct;
 pub use laws::{newest_comes_last, rows_are_determined, rows_are_found};
 pub use row::{Boxed, CloneRow, Editable, Named, Parted, Row};
 pub use rows::Rows;

@@ -1,0 +1,407 @@
+//! A subscriber's and a publisher's rows, each kind of change, a failing device, want of memory.
+
+use bytes::Bytes;
+use mqtt_base::{
+    Cause, CopyId, OPEN_LIMIT, Phase, QUEUE_LIMIT, Qos, RetainHandling, SESSION_LIMIT,
+    SUBSCRIPTION_LIMIT, SubscriptionOptions, Text,
+};
+use mqtt_props::PropList;
+use mqtt_records::faulty::{Failure, FaultyKeep};
+use mqtt_records::{
+    Boxed, Change, Columns, Content, CopyRow, Counter, Keep, KeepError, MemKeep, MessageCopy,
+    PassedOn, Records, RetainedMessage, Rows, SessionRow, Subscription, SubscriptionIdentifiers,
+    Will,
+};
+use std::alloc::{AllocError, Global};
+use std::test::Fail;
+
+/// A text that is one.
+fn text(alloc: Global, text: &str) -> Result<Text, AllocError> {
+    if !Text::may_hold(text) {
+        return Err(AllocError);
+    }
+    Text::new(alloc, text)
+}
+
+fn content(alloc: Global) -> Result<Content, AllocError> {
+    Ok(Content {
+        topic: text(alloc, "a/b")?,
+        properties: PassedOn::new(),
+        payload: Bytes::copy_from_slice(alloc, b"hi")?,
+        arrived: 0,
+    })
+}
+
+fn session(
+    alloc: Global,
+    birth: u64,
+    client: &str,
+    closed: Option<u64>,
+) -> Result<Change, AllocError> {
+    let columns = Columns {
+        birth,
+        client: text(alloc, client)?,
+        expiry: 60,
+        closed,
+    };
+    Ok(Change::PutSession {
+        row: SessionRow::new(alloc, columns)?,
+    })
+}
+
+fn subscription(alloc: Global, birth: u64, filter: &str, place: u64) -> Result<Change, AllocError> {
+    let subscription = Subscription {
+        filter: text(alloc, filter)?,
+        place,
+        options: SubscriptionOptions {
+            qos: Qos::ExactlyOnce,
+            no_local: false,
+            retain_as_published: false,
+            retain_handling: RetainHandling::SendAlways,
+        },
+        identifier: None,
+    };
+    Ok(Change::PutSubscription {
+        birth,
+        subscription: Boxed::new(alloc, subscription)?,
+    })
+}
+
+fn copy(alloc: Global, birth: u64, place: u64) -> Result<Change, AllocError> {
+    let mut identifiers = SubscriptionIdentifiers::new(alloc);
+    identifiers.push(7)?;
+    let copy = MessageCopy {
+        id: CopyId {
+            publication: 1,
+            birth,
+            cause: Cause::Share {
+                group: text(alloc, "g/a/b")?,
+            },
+        },
+        qos: Qos::ExactlyOnce,
+        retain: false,
+        identifiers,
+        content: content(alloc)?,
+    };
+    let Ok(row) = CopyRow::new(alloc, place, Phase::Waiting, copy) else {
+        return Err(AllocError);
+    };
+    Ok(Change::PutCopy {
+        birth,
+        row: Boxed::new(alloc, row)?,
+    })
+}
+
+fn will(alloc: Global, birth: u64) -> Result<Change, AllocError> {
+    Ok(Change::PutWill {
+        birth,
+        will: Will {
+            delay: 5,
+            qos: Qos::AtLeastOnce,
+            retain: true,
+            topic: text(alloc, "w")?,
+            properties: PropList::new(),
+            payload: Bytes::copy_from_slice(alloc, b"gone")?,
+        },
+    })
+}
+
+fn retained(alloc: Global, place: u64) -> Result<Change, AllocError> {
+    let kept = RetainedMessage {
+        place,
+        sender: text(alloc, "p1")?,
+        publication: 1,
+        qos: Qos::ExactlyOnce,
+        content: content(alloc)?,
+    };
+    Ok(Change::PutRetained {
+        kept: Boxed::new(alloc, kept)?,
+    })
+}
+
+fn counter(counter: Counter, value: u64) -> Change {
+    Change::SetCounter { counter, value }
+}
+
+/// `r1` comes and subscribes `a/b` at QoS 2; `p1` comes and publishes under identifier 10; the copy
+/// is sent.
+fn course(alloc: Global) -> Result<Vec<Change>, AllocError> {
+    let mut changes = Vec::new(alloc);
+    changes.push(session(alloc, 1, "r1", None)?)?;
+    changes.push(counter(Counter::Births, 1))?;
+    changes.push(subscription(alloc, 1, "a/b", 1)?)?;
+    changes.push(counter(Counter::Subscribes, 1))?;
+    changes.push(session(alloc, 2, "p1", None)?)?;
+    changes.push(counter(Counter::Births, 2))?;
+    changes.push(counter(Counter::Publications, 1))?;
+    changes.push(Change::PutInbound {
+        birth: 2,
+        identifier: 10,
+    })?;
+    changes.push(copy(alloc, 1, 1)?)?;
+    changes.push(Change::SetCopy {
+        birth: 1,
+        place: 1,
+        phase: Phase::Sent { identifier: 1 },
+    })?;
+    Ok(changes)
+}
+
+/// Rows of sessions, Wills, subscriptions, open identifiers, copies and retained messages.
+fn rows(records: &Records) -> [usize; 6] {
+    let mut rows = [0_usize; 6];
+    rows[0] = records.sessions.len();
+    for session in records.sessions.as_slice() {
+        let session = session.get();
+        rows[1] = rows[1].wrapping_add(usize::from(session.will.is_some()));
+        rows[2] = rows[2].wrapping_add(session.subscriptions.len());
+        rows[3] = rows[3].wrapping_add(session.inbound.len());
+        rows[4] = rows[4].wrapping_add(session.queue.len());
+    }
+    rows[5] = records.retained.len();
+    rows
+}
+
+fn numbers(records: &Records) -> [u64; 5] {
+    [
+        records.births,
+        records.publications,
+        records.subscribes,
+        records.autos,
+        records.moment,
+    ]
+}
+
+fn phase(records: &Records, birth: u64, place: u64) -> Option<Phase> {
+    let session = records.sessions.get(birth)?;
+    let row = session.get().queue.get(place)?;
+    Some(row.get().phase())
+}
+
+/// Loads, changes, and loads again, through what any store promises.
+fn kept<K: Keep>(keep: &mut K, alloc: Global, changes: &[Change]) -> Result<Records, KeepError> {
+    let _before = keep.load(alloc)?;
+    keep.apply(changes)?;
+    keep.load(alloc)
+}
+
+#[test]
+fn a_copy_that_is_sent_is_kept_with_its_identifier(rt: HostRuntime) -> Result<(), Fail> {
+    let alloc = rt.alloc();
+    let mut keep = MemKeep::new(alloc)?;
+    let changes = course(alloc)?;
+    let records = kept(&mut keep, alloc, &changes)?;
+    assert_eq!(rt; rows(&records), [2, 0, 1, 1, 1, 0], "rows of each kind");
+    assert_eq!(rt; numbers(&records), [2, 1, 1, 0, 0], "the numbers");
+    assert_eq!(rt;
+        phase(&records, 1, 1),
+        Some(Phase::Sent { identifier: 1 }),
+        "the copy"
+    );
+    assert_eq!(rt; phase(&records, 2, 1), None, "the publisher has no copy");
+    let publisher = records.sessions.get(2).ok_or("the publisher's session")?;
+    assert_eq!(rt;
+        publisher.get().inbound.as_slice(),
+        [10].as_slice(),
+        "its open identifier"
+    );
+    assert_eq!(rt; publisher.get().client.as_str(), "p1");
+    assert_eq!(rt; keep.failures(), 0);
+    Ok(())
+}
+
+#[test]
+fn a_session_ends_with_all_its_rows(rt: HostRuntime) -> Result<(), Fail> {
+    let alloc = rt.alloc();
+    let mut records = Records::new(alloc)?;
+    records.change_all(course(alloc)?);
+    records.change(will(alloc, 1)?);
+    assert_eq!(rt; rows(&records), [2, 1, 1, 1, 1, 0], "before");
+    records.change(Change::RemoveSession { birth: 1 });
+    assert_eq!(rt; rows(&records), [1, 0, 0, 1, 0, 0], "the subscriber ended");
+    records.change(Change::RemoveSession { birth: 2 });
+    assert_eq!(rt; rows(&records), [0, 0, 0, 0, 0, 0], "the publisher ended");
+    assert_eq!(rt; numbers(&records), [2, 1, 1, 0, 0], "the numbers stay");
+    Ok(())
+}
+
+/// The rows after each change of `change_at`, made one after the other behind `course`.
+const ROWS: [(&str, [usize; 6]); 17] = [
+    ("a number", [2, 0, 1, 1, 1, 0]),
+    ("a moment", [2, 0, 1, 1, 1, 0]),
+    ("a session", [3, 0, 1, 1, 1, 0]),
+    ("its row anew", [3, 0, 1, 1, 1, 0]),
+    ("a Will", [3, 1, 1, 1, 1, 0]),
+    ("a second subscription", [3, 1, 2, 1, 1, 0]),
+    ("the same filter", [3, 1, 2, 1, 1, 0]),
+    ("an identifier", [3, 1, 2, 2, 1, 0]),
+    ("a second copy", [3, 1, 2, 2, 2, 0]),
+    ("a retained message", [3, 1, 2, 2, 2, 1]),
+    ("it anew", [3, 1, 2, 2, 2, 1]),
+    ("it is removed", [3, 1, 2, 2, 2, 0]),
+    ("a copy ends", [3, 1, 2, 2, 1, 0]),
+    ("an identifier closes", [3, 1, 2, 1, 1, 0]),
+    ("an UNSUBSCRIBE", [3, 1, 1, 1, 1, 0]),
+    ("the Will is dropped", [3, 0, 1, 1, 1, 0]),
+    ("a session ends", [2, 0, 1, 1, 1, 0]),
+];
+
+/// A change of each kind, in an order in which each fits.
+fn change_at(alloc: Global, turn: usize) -> Result<Change, AllocError> {
+    match turn {
+        0 => Ok(counter(Counter::Autos, 3)),
+        1 => Ok(counter(Counter::Moment, 9)),
+        2 => session(alloc, 3, "x", Some(5)),
+        3 => session(alloc, 1, "r1", Some(6)),
+        4 => will(alloc, 1),
+        5 => subscription(alloc, 1, "c", 2),
+        6 => subscription(alloc, 1, "a/b", 1),
+        7 => Ok(Change::PutInbound {
+            birth: 2,
+            identifier: 4,
+        }),
+        8 => copy(alloc, 1, 2),
+        9 | 10 => retained(alloc, 1),
+        11 => Ok(Change::RemoveRetained { place: 1 }),
+        12 => Ok(Change::RemoveCopy { birth: 1, place: 1 }),
+        13 => Ok(Change::RemoveInbound {
+            birth: 2,
+            identifier: 10,
+        }),
+        14 => Ok(Change::RemoveSubscription {
+            birth: 1,
+            filter: text(alloc, "a/b")?,
+        }),
+        15 => Ok(Change::RemoveWill { birth: 1 }),
+        _ => Ok(Change::RemoveSession { birth: 3 }),
+    }
+}
+
+#[test]
+fn each_kind_of_change_changes_its_rows(rt: HostRuntime) -> Result<(), Fail> {
+    let alloc = rt.alloc();
+    let mut keep = MemKeep::new(alloc)?;
+    keep.change_all(&course(alloc)?)?;
+    for (turn, (name, wanted)) in ROWS.iter().enumerate() {
+        let records = kept(&mut keep, alloc, &[change_at(alloc, turn)?])?;
+        assert_eq!(rt; rows(&records), *wanted, "after {name}");
+    }
+    let records = keep.load(alloc)?;
+    assert_eq!(rt; numbers(&records), [2, 1, 1, 3, 9], "the numbers");
+    let session = records.sessions.get(1).ok_or("the subscriber's session")?;
+    assert_eq!(rt; session.get().closed, Some(6), "its new row");
+    assert_eq!(rt;
+        phase(&records, 1, 2),
+        Some(Phase::Waiting),
+        "the copy that is left"
+    );
+    Ok(())
+}
+
+#[test]
+fn a_failing_device_leaves_all_changes_or_none(rt: HostRuntime) -> Result<(), Fail> {
+    let alloc = rt.alloc();
+    let table = [
+        ("not made", Failure::BeforeChanges, [0, 0, 0, 0, 0, 0]),
+        ("made", Failure::AfterChanges, [2, 0, 1, 1, 1, 0]),
+    ];
+    for (name, failure, left) in table {
+        let mut keep = FaultyKeep::new(alloc, 1, failure)?;
+        let none = kept(&mut keep, alloc, &[])?;
+        assert_eq!(rt; rows(&none), [0; 6], "{name}: no changes");
+        assert_eq!(rt; keep.failures(), 0, "{name}: no failure yet");
+        let changes = course(alloc)?;
+        assert_eq!(rt;
+            keep.apply(&changes),
+            Err(KeepError::Disk),
+            "{name}: the second call"
+        );
+        assert_eq!(rt; keep.failures(), 1, "{name}: counted");
+        assert_eq!(rt; rows(&keep.load(alloc)?), left, "{name}: what is left");
+        assert_eq!(rt; keep.apply(&changes), Ok(()), "{name}: the third call");
+        assert_eq!(rt;
+            rows(&keep.load(alloc)?),
+            [2, 0, 1, 1, 1, 0],
+            "{name}: at the end"
+        );
+        assert_eq!(rt; keep.failures(), 1, "{name}: no further failure");
+    }
+    Ok(())
+}
+
+/// Run with each allocation refused in turn.
+#[test]
+fn want_of_memory_changes_nothing(rt: HostRuntime) -> Result<(), Fail> {
+    let alloc = rt.alloc();
+    let mut keep = MemKeep::new(alloc)?;
+    let mut changes = course(alloc)?;
+    changes.push(will(alloc, 1)?)?;
+    changes.push(retained(alloc, 1)?)?;
+    if let Err(fault) = keep.apply(&changes) {
+        assert_eq!(rt; fault, KeepError::Memory);
+        assert_eq!(rt; rows(&keep.load(alloc)?), [0; 6], "no row");
+        assert_eq!(rt; numbers(&keep.load(alloc)?), [0; 5], "no number");
+        assert_eq!(rt; keep.apply(&changes), Ok(()), "a second try");
+    }
+    let records = match keep.load(alloc) {
+        Ok(records) => records,
+        Err(fault) => {
+            assert_eq!(rt; fault, KeepError::Memory);
+            keep.load(alloc)?
+        }
+    };
+    assert_eq!(rt; rows(&records), [2, 1, 1, 1, 1, 1], "all rows");
+    assert_eq!(rt; phase(&records, 1, 1), Some(Phase::Sent { identifier: 1 }));
+    Ok(())
+}
+
+#[test]
+fn a_list_is_in_order_and_has_its_limit(rt: HostRuntime) -> Result<(), Fail> {
+    let mut open: Rows<u16, OPEN_LIMIT> = Rows::new(rt.alloc())?;
+    // 40, 38 .. 2, from the greatest down
+    for turn in 0..20 {
+        open.put(40 - 2 * turn);
+    }
+    assert_eq!(rt; open.len(), OPEN_LIMIT, "our Receive Maximum");
+    open.put(5);
+    assert!(rt; !open.has(5), "there is no room for another");
+    open.put(40);
+    assert_eq!(rt; open.len(), OPEN_LIMIT, "one of them is there already");
+    assert_eq!(rt; open.at(0), Some(&2), "the lowest");
+    assert_eq!(rt; open.at(19), Some(&40), "the highest");
+    assert_eq!(rt; open.at(20), None, "past the end");
+    assert_eq!(rt; open.get(6), Some(&6));
+    open.remove(6);
+    assert_eq!(rt; open.get(6), None, "removed");
+    open.put(5);
+    let shared = open.clone()?;
+    assert_eq!(rt;
+        shared.as_slice(),
+        [
+            2, 4, 5, 8, 10, 12, 14, 16, 18, 20, 22, 24, 26, 28, 30, 32, 34, 36, 38, 40
+        ]
+        .as_slice(),
+        "in ascending order"
+    );
+    Ok(())
+}
+
+#[test]
+fn limits_and_numbers_of_faults_are_fixed(rt: HostRuntime) -> Result<(), Fail> {
+    assert_eq!(rt;
+        [SESSION_LIMIT, SUBSCRIPTION_LIMIT, OPEN_LIMIT, QUEUE_LIMIT],
+        [1000, 100, 20, 1000]
+    );
+    let faults = [
+        (KeepError::Memory, 1, "want of memory"),
+        (KeepError::Disk, 2, "the device failed"),
+        (KeepError::Size, 3, "the device is full"),
+        (KeepError::Corrupt, 4, "the records break their rules"),
+        (KeepError::Schema, 5, "the records are of another schema"),
+    ];
+    for (fault, number, said) in faults {
+        assert_eq!(rt; fault as u8, number, "{said}");
+        assert_eq!(rt; format!(in rt.alloc(); "{fault}")?.as_str(), said);
+    }
+    Ok(())
+}

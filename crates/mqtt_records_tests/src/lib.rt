@@ -1,0 +1,7 @@
+//! Tests of mqtt_records and the crates that it re-exports, over their public calls.
+#![tactic(auto)]
+
+#[cfg(test)]
+mod kept;
+#[cfg(test)]
+mod sent;
