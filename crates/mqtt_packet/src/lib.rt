@@ -12,5 +12,6 @@ pub use mqtt_codec::{
     Ack, AckRef, Connack, ConnackRef, Connect, ConnectRef, Delivery, Fault, Filters, FiltersRef,
     Notice, NoticeRef, Packet, PacketRef, Publish, PublishRef, Suback, SubackRef, Subscribe,
     SubscribeRef, SubscriptionRef, Subscriptions, SubscriptionsRef, Unsubscribe, UnsubscribeRef,
-    Will, WillRef, decode, encode, lawful, look_at, one_packet, round_trip,
+    Will, WillRef, decode, encode, encode_into, lawful, look_at, one_packet, round_trip,
+    spelled_len,
 };

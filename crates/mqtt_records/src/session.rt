@@ -97,9 +97,9 @@ fn new_inner(
 /// Clones of the lists of a session.
 fn clone_lists(session: &Session) -> Result<Lists, AllocError>
     ensures { IfOk result (λ lists. lists ≡ record {
-        subscriptions = session.now.subscriptions;
-        inbound = session.now.inbound;
-        queue = session.now.queue;
+      subscriptions = session.now.subscriptions;
+      inbound = session.now.inbound;
+      queue = session.now.queue;
     }) }
 {
     let subscriptions = session.subscriptions.clone()?;
