@@ -13,6 +13,7 @@ use mqtt_records::{
     Will,
 };
 use std::alloc::{AllocError, Global};
+use std::process::Abort;
 use std::test::Fail;
 
 /// A text that is one.
@@ -24,12 +25,19 @@ fn text(alloc: Global, text: &str) -> Result<Text, AllocError> {
 }
 
 fn content(alloc: Global) -> Result<Content, AllocError> {
-    Ok(Content {
-        topic: text(alloc, "a/b")?,
-        properties: PassedOn::new(),
-        payload: Bytes::copy_from_slice(alloc, b"hi")?,
-        arrived: 0,
-    })
+    let topic = text(alloc, "a/b")?;
+    match Bytes::copy_from_slice(alloc, b"hi") {
+        Ok(payload) => Ok(Content {
+            topic,
+            properties: PassedOn::new(),
+            payload,
+            arrived: 0,
+        }),
+        Err(fault) => {
+            drop(topic);
+            Err(fault)
+        }
+    }
 }
 
 fn session(
@@ -67,22 +75,48 @@ fn subscription(alloc: Global, birth: u64, filter: &str, place: u64) -> Result<C
     })
 }
 
-fn copy(alloc: Global, birth: u64, place: u64) -> Result<Change, AllocError> {
-    let mut identifiers = SubscriptionIdentifiers::new(alloc);
-    identifiers.push(7)?;
-    let copy = MessageCopy {
-        id: CopyId {
-            publication: 1,
-            birth,
-            cause: Cause::Share {
-                group: text(alloc, "g/a/b")?,
-            },
-        },
-        qos: Qos::ExactlyOnce,
-        retain: false,
-        identifiers,
-        content: content(alloc)?,
+/// What tells a shared copy from all others.
+fn copy_id(alloc: Global, birth: u64) -> Result<CopyId, AllocError> {
+    let group = text(alloc, "g/a/b")?;
+    Ok(CopyId {
+        publication: 1,
+        birth,
+        cause: Cause::Share { group },
+    })
+}
+
+/// A copy with these identifiers.
+fn message_copy(
+    alloc: Global,
+    birth: u64,
+    identifiers: SubscriptionIdentifiers,
+) -> Result<MessageCopy, AllocError> {
+    let content = match content(alloc) {
+        Ok(content) => content,
+        Err(fault) => {
+            drop(identifiers);
+            return Err(fault);
+        }
     };
+    match copy_id(alloc, birth) {
+        Ok(id) => Ok(MessageCopy {
+            id,
+            qos: Qos::ExactlyOnce,
+            retain: false,
+            identifiers,
+            content,
+        }),
+        Err(fault) => {
+            drop(identifiers);
+            drop(content);
+            Err(fault)
+        }
+    }
+}
+
+fn copy(alloc: Global, birth: u64, place: u64) -> Result<Change, AllocError> {
+    let identifiers = SubscriptionIdentifiers::from_slice(alloc, &[7])?;
+    let copy = message_copy(alloc, birth, identifiers)?;
     let Ok(row) = CopyRow::new(alloc, place, Phase::Waiting, copy) else {
         return Err(AllocError);
     };
@@ -93,27 +127,46 @@ fn copy(alloc: Global, birth: u64, place: u64) -> Result<Change, AllocError> {
 }
 
 fn will(alloc: Global, birth: u64) -> Result<Change, AllocError> {
-    Ok(Change::PutWill {
-        birth,
-        will: Will {
-            delay: 5,
-            qos: Qos::AtLeastOnce,
-            retain: true,
-            topic: text(alloc, "w")?,
-            properties: PropList::new(),
-            payload: Bytes::copy_from_slice(alloc, b"gone")?,
-        },
-    })
+    let topic = text(alloc, "w")?;
+    match Bytes::copy_from_slice(alloc, b"gone") {
+        Ok(payload) => Ok(Change::PutWill {
+            birth,
+            will: Will {
+                delay: 5,
+                qos: Qos::AtLeastOnce,
+                retain: true,
+                topic,
+                properties: PropList::new(),
+                payload,
+            },
+        }),
+        Err(fault) => {
+            drop(topic);
+            Err(fault)
+        }
+    }
+}
+
+/// A message of `p1` that was retained.
+fn retained_message(alloc: Global, place: u64) -> Result<RetainedMessage, AllocError> {
+    let sender = text(alloc, "p1")?;
+    match content(alloc) {
+        Ok(content) => Ok(RetainedMessage {
+            place,
+            sender,
+            publication: 1,
+            qos: Qos::ExactlyOnce,
+            content,
+        }),
+        Err(fault) => {
+            drop(sender);
+            Err(fault)
+        }
+    }
 }
 
 fn retained(alloc: Global, place: u64) -> Result<Change, AllocError> {
-    let kept = RetainedMessage {
-        place,
-        sender: text(alloc, "p1")?,
-        publication: 1,
-        qos: Qos::ExactlyOnce,
-        content: content(alloc)?,
-    };
+    let kept = retained_message(alloc, place)?;
     Ok(Change::PutRetained {
         kept: Boxed::new(alloc, kept)?,
     })
@@ -123,28 +176,74 @@ fn counter(counter: Counter, value: u64) -> Change {
     Change::SetCounter { counter, value }
 }
 
+/// Adds a change that could be made.
+fn add(changes: &mut Vec<Change>, change: Result<Change, AllocError>) -> Result<(), AllocError> {
+    let change = change?;
+    changes.push(change)?;
+    Ok(())
+}
+
+/// Adds what `course` makes.
+fn add_course(changes: &mut Vec<Change>, alloc: Global) -> Result<(), AllocError> {
+    add(changes, session(alloc, 1, "r1", None))?;
+    add(changes, Ok(counter(Counter::Births, 1)))?;
+    add(changes, subscription(alloc, 1, "a/b", 1))?;
+    add(changes, Ok(counter(Counter::Subscribes, 1)))?;
+    add(changes, session(alloc, 2, "p1", None))?;
+    add(changes, Ok(counter(Counter::Births, 2)))?;
+    add(changes, Ok(counter(Counter::Publications, 1)))?;
+    add(changes, Ok(open(10)))?;
+    add(changes, copy(alloc, 1, 1))?;
+    add(changes, Ok(sent(1)))
+}
+
+/// The publisher's identifier is opened.
+fn open(identifier: u16) -> Change {
+    Change::PutInbound {
+        birth: 2,
+        identifier,
+    }
+}
+
+/// The subscriber's first copy is sent.
+fn sent(identifier: u16) -> Change {
+    Change::SetCopy {
+        birth: 1,
+        place: 1,
+        phase: Phase::Sent { identifier },
+    }
+}
+
+/// Changes, or why not all of them could be made.
+fn all(changes: Vec<Change>, made: Result<(), AllocError>) -> Result<Vec<Change>, AllocError> {
+    match made {
+        Ok(()) => Ok(changes),
+        Err(fault) => {
+            drop(changes);
+            Err(fault)
+        }
+    }
+}
+
 /// `r1` comes and subscribes `a/b` at QoS 2; `p1` comes and publishes under identifier 10; the copy
 /// is sent.
 fn course(alloc: Global) -> Result<Vec<Change>, AllocError> {
     let mut changes = Vec::new(alloc);
-    changes.push(session(alloc, 1, "r1", None)?)?;
-    changes.push(counter(Counter::Births, 1))?;
-    changes.push(subscription(alloc, 1, "a/b", 1)?)?;
-    changes.push(counter(Counter::Subscribes, 1))?;
-    changes.push(session(alloc, 2, "p1", None)?)?;
-    changes.push(counter(Counter::Births, 2))?;
-    changes.push(counter(Counter::Publications, 1))?;
-    changes.push(Change::PutInbound {
-        birth: 2,
-        identifier: 10,
-    })?;
-    changes.push(copy(alloc, 1, 1)?)?;
-    changes.push(Change::SetCopy {
-        birth: 1,
-        place: 1,
-        phase: Phase::Sent { identifier: 1 },
-    })?;
-    Ok(changes)
+    let made = add_course(&mut changes, alloc);
+    all(changes, made)
+}
+
+/// The course, a Will and a retained message.
+fn long_course(alloc: Global) -> Result<Vec<Change>, AllocError> {
+    let mut changes = Vec::new(alloc);
+    let made = add_long_course(&mut changes, alloc);
+    all(changes, made)
+}
+
+fn add_long_course(changes: &mut Vec<Change>, alloc: Global) -> Result<(), AllocError> {
+    add_course(changes, alloc)?;
+    add(changes, will(alloc, 1))?;
+    add(changes, retained(alloc, 1))
 }
 
 /// Rows of sessions, Wills, subscriptions, open identifiers, copies and retained messages.
@@ -180,7 +279,8 @@ fn phase(records: &Records, birth: u64, place: u64) -> Option<Phase> {
 
 /// Loads, changes, and loads again, through what any store promises.
 fn kept<K: Keep>(keep: &mut K, alloc: Global, changes: &[Change]) -> Result<Records, KeepError> {
-    let _before = keep.load(alloc)?;
+    let before = keep.load(alloc)?;
+    drop(before);
     keep.apply(changes)?;
     keep.load(alloc)
 }
@@ -191,6 +291,7 @@ fn a_copy_that_is_sent_is_kept_with_its_identifier(rt: HostRuntime) -> Result<()
     let mut keep = MemKeep::new(alloc)?;
     let changes = course(alloc)?;
     let records = kept(&mut keep, alloc, &changes)?;
+    drop(changes);
     assert_eq!(rt; rows(&records), [2, 0, 1, 1, 1, 0], "rows of each kind");
     assert_eq!(rt; numbers(&records), [2, 1, 1, 0, 0], "the numbers");
     assert_eq!(rt;
@@ -199,34 +300,49 @@ fn a_copy_that_is_sent_is_kept_with_its_identifier(rt: HostRuntime) -> Result<()
         "the copy"
     );
     assert_eq!(rt; phase(&records, 2, 1), None, "the publisher has no copy");
-    let publisher = records.sessions.get(2).ok_or("the publisher's session")?;
-    assert_eq!(rt;
-        publisher.get().inbound.as_slice(),
-        [10].as_slice(),
-        "its open identifier"
-    );
-    assert_eq!(rt; publisher.get().client.as_str(), "p1");
+    assert!(rt; is_publisher(&records), "its open identifier and its name");
     assert_eq!(rt; keep.failures(), 0);
+    drop(records);
+    drop(keep);
     Ok(())
+}
+
+/// Session 2 is `p1`, with identifier 10 open.
+fn is_publisher(records: &Records) -> bool {
+    match records.sessions.get(2) {
+        Some(session) => {
+            let session = session.get();
+            session.inbound.as_slice() == [10].as_slice() && session.client.as_str() == "p1"
+        }
+        None => false,
+    }
 }
 
 #[test]
 fn a_session_ends_with_all_its_rows(rt: HostRuntime) -> Result<(), Fail> {
     let alloc = rt.alloc();
     let mut records = Records::new(alloc)?;
-    records.change_all(course(alloc)?);
-    records.change(will(alloc, 1)?);
+    let changed = change_by_course(&mut records, alloc);
+    assert_eq!(rt; changed.is_ok(), true, "there is memory");
     assert_eq!(rt; rows(&records), [2, 1, 1, 1, 1, 0], "before");
     records.change(Change::RemoveSession { birth: 1 });
     assert_eq!(rt; rows(&records), [1, 0, 0, 1, 0, 0], "the subscriber ended");
     records.change(Change::RemoveSession { birth: 2 });
     assert_eq!(rt; rows(&records), [0, 0, 0, 0, 0, 0], "the publisher ended");
     assert_eq!(rt; numbers(&records), [2, 1, 1, 0, 0], "the numbers stay");
+    drop(records);
+    Ok(())
+}
+
+/// The course, and a Will of the subscriber.
+fn change_by_course(records: &mut Records, alloc: Global) -> Result<(), AllocError> {
+    records.change_all(course(alloc)?);
+    records.change(will(alloc, 1)?);
     Ok(())
 }
 
 /// The rows after each change of `change_at`, made one after the other behind `course`.
-const ROWS: [(&str, [usize; 6]); 17] = [
+const ROWS: &[(&str, [usize; 6])] = &[
     ("a number", [2, 0, 1, 1, 1, 0]),
     ("a moment", [2, 0, 1, 1, 1, 0]),
     ("a session", [3, 0, 1, 1, 1, 0]),
@@ -245,6 +361,10 @@ const ROWS: [(&str, [usize; 6]); 17] = [
     ("the Will is dropped", [3, 0, 1, 1, 1, 0]),
     ("a session ends", [2, 0, 1, 1, 1, 0]),
 ];
+
+fn table() -> &'static [(&'static str, [usize; 6])] {
+    ROWS
+}
 
 /// A change of each kind, in an order in which each fits.
 fn change_at(alloc: Global, turn: usize) -> Result<Change, AllocError> {
@@ -277,54 +397,125 @@ fn change_at(alloc: Global, turn: usize) -> Result<Change, AllocError> {
     }
 }
 
+/// What is kept after one further change.
+fn kept_after(keep: &mut MemKeep, alloc: Global, turn: usize) -> Result<Records, KeepError> {
+    let changes = [change_at(alloc, turn)?];
+    let records = kept(keep, alloc, &changes);
+    drop(changes);
+    records
+}
+
+/// A store that has the course.
+fn started(alloc: Global) -> Result<MemKeep, AllocError> {
+    let mut records = Records::new(alloc)?;
+    let changed = course(alloc);
+    match changed {
+        Ok(changes) => {
+            records.change_all(changes);
+            Ok(MemKeep::with(alloc, records))
+        }
+        Err(fault) => {
+            drop(records);
+            Err(fault)
+        }
+    }
+}
+
 #[test]
 fn each_kind_of_change_changes_its_rows(rt: HostRuntime) -> Result<(), Fail> {
     let alloc = rt.alloc();
-    let mut keep = MemKeep::new(alloc)?;
-    keep.change_all(&course(alloc)?)?;
-    for (turn, (name, wanted)) in ROWS.iter().enumerate() {
-        let records = kept(&mut keep, alloc, &[change_at(alloc, turn)?])?;
+    let mut keep = started(alloc)?;
+    for (turn, (name, wanted)) in table().iter().enumerate() {
+        let records = kept_after(&mut keep, alloc, turn)?;
         assert_eq!(rt; rows(&records), *wanted, "after {name}");
+        drop(records);
     }
     let records = keep.load(alloc)?;
+    drop(keep);
     assert_eq!(rt; numbers(&records), [2, 1, 1, 3, 9], "the numbers");
-    let session = records.sessions.get(1).ok_or("the subscriber's session")?;
-    assert_eq!(rt; session.get().closed, Some(6), "its new row");
+    assert_eq!(rt; closed(&records, 1), Some(6), "its new row");
     assert_eq!(rt;
         phase(&records, 1, 2),
         Some(Phase::Waiting),
         "the copy that is left"
     );
+    drop(records);
+    Ok(())
+}
+
+/// When the connection of a session closed.
+fn closed(records: &Records, birth: u64) -> Option<u64> {
+    records.sessions.get(birth)?.get().closed
+}
+
+/// Rows that are kept, of a store that may want memory.
+fn rows_of<K: Keep>(keep: &mut K, alloc: Global) -> Result<[usize; 6], KeepError> {
+    let records = keep.load(alloc)?;
+    let found = rows(&records);
+    drop(records);
+    Ok(found)
+}
+
+/// A store of which the second call of `apply` fails.
+fn fails_once(
+    rt: &impl Abort,
+    alloc: Global,
+    keep: &mut FaultyKeep,
+    changes: &[Change],
+    left: [usize; 6],
+) -> Result<(), Fail> {
+    assert_eq!(rt; keep.apply(&[]), Ok(()), "no changes");
+    assert_eq!(rt; rows_of(keep, alloc)?, [0; 6], "no rows");
+    assert_eq!(rt; keep.failures(), 0, "no failure yet");
+    assert_eq!(rt;
+        keep.apply(changes),
+        Err(KeepError::Disk),
+        "the second call"
+    );
+    assert_eq!(rt; keep.failures(), 1, "counted");
+    assert_eq!(rt; rows_of(keep, alloc)?, left, "what is left");
+    assert_eq!(rt; keep.apply(changes), Ok(()), "the third call");
+    assert_eq!(rt; rows_of(keep, alloc)?, [2, 0, 1, 1, 1, 0], "at the end");
+    assert_eq!(rt; keep.failures(), 1, "no further failure");
     Ok(())
 }
 
 #[test]
 fn a_failing_device_leaves_all_changes_or_none(rt: HostRuntime) -> Result<(), Fail> {
     let alloc = rt.alloc();
+    let changes = course(alloc)?;
     let table = [
-        ("not made", Failure::BeforeChanges, [0, 0, 0, 0, 0, 0]),
-        ("made", Failure::AfterChanges, [2, 0, 1, 1, 1, 0]),
+        (Failure::BeforeChanges, [0, 0, 0, 0, 0, 0]),
+        (Failure::AfterChanges, [2, 0, 1, 1, 1, 0]),
     ];
-    for (name, failure, left) in table {
+    for (failure, left) in table {
         let mut keep = FaultyKeep::new(alloc, 1, failure)?;
-        let none = kept(&mut keep, alloc, &[])?;
-        assert_eq!(rt; rows(&none), [0; 6], "{name}: no changes");
-        assert_eq!(rt; keep.failures(), 0, "{name}: no failure yet");
-        let changes = course(alloc)?;
-        assert_eq!(rt;
-            keep.apply(&changes),
-            Err(KeepError::Disk),
-            "{name}: the second call"
-        );
-        assert_eq!(rt; keep.failures(), 1, "{name}: counted");
-        assert_eq!(rt; rows(&keep.load(alloc)?), left, "{name}: what is left");
-        assert_eq!(rt; keep.apply(&changes), Ok(()), "{name}: the third call");
-        assert_eq!(rt;
-            rows(&keep.load(alloc)?),
-            [2, 0, 1, 1, 1, 0],
-            "{name}: at the end"
-        );
-        assert_eq!(rt; keep.failures(), 1, "{name}: no further failure");
+        let done = fails_once(&rt, alloc, &mut keep, &changes, left);
+        drop(keep);
+        done?;
+    }
+    drop(changes);
+    Ok(())
+}
+
+/// Makes changes in a store that may want memory, and a second time if it does.
+fn made_in_the_end(
+    rt: &impl Abort,
+    alloc: Global,
+    keep: &mut MemKeep,
+    changes: &[Change],
+) -> Result<(), Fail> {
+    if let Err(fault) = keep.apply(changes) {
+        assert_eq!(rt; fault, KeepError::Memory);
+        assert_eq!(rt; rows_of(keep, alloc)?, [0; 6], "no row");
+        assert_eq!(rt; keep.apply(changes), Ok(()), "a second try");
+    }
+    match rows_of(keep, alloc) {
+        Ok(found) => assert_eq!(rt; found, [2, 1, 1, 1, 1, 1], "all rows"),
+        Err(fault) => {
+            assert_eq!(rt; fault, KeepError::Memory);
+            assert_eq!(rt; rows_of(keep, alloc)?, [2, 1, 1, 1, 1, 1], "all rows");
+        }
     }
     Ok(())
 }
@@ -334,25 +525,11 @@ fn a_failing_device_leaves_all_changes_or_none(rt: HostRuntime) -> Result<(), Fa
 fn want_of_memory_changes_nothing(rt: HostRuntime) -> Result<(), Fail> {
     let alloc = rt.alloc();
     let mut keep = MemKeep::new(alloc)?;
-    let mut changes = course(alloc)?;
-    changes.push(will(alloc, 1)?)?;
-    changes.push(retained(alloc, 1)?)?;
-    if let Err(fault) = keep.apply(&changes) {
-        assert_eq!(rt; fault, KeepError::Memory);
-        assert_eq!(rt; rows(&keep.load(alloc)?), [0; 6], "no row");
-        assert_eq!(rt; numbers(&keep.load(alloc)?), [0; 5], "no number");
-        assert_eq!(rt; keep.apply(&changes), Ok(()), "a second try");
-    }
-    let records = match keep.load(alloc) {
-        Ok(records) => records,
-        Err(fault) => {
-            assert_eq!(rt; fault, KeepError::Memory);
-            keep.load(alloc)?
-        }
-    };
-    assert_eq!(rt; rows(&records), [2, 1, 1, 1, 1, 1], "all rows");
-    assert_eq!(rt; phase(&records, 1, 1), Some(Phase::Sent { identifier: 1 }));
-    Ok(())
+    let changes = long_course(alloc)?;
+    let done = made_in_the_end(&rt, alloc, &mut keep, &changes);
+    drop(changes);
+    drop(keep);
+    done
 }
 
 #[test]
