@@ -9,18 +9,20 @@ use std::env;
 use std::time::{CpuClock, Duration};
 
 /// One packet of each of nine kinds, and a second PUBLISH, as a broker meets them.
-const FRAMES: [&[u8]; 10] = [
-    b"\xc0\x00",
-    b"\x30\x07\x00\x03a/b\x00!",
-    b"\x40\x03\x00\x0a\x00",
-    b"\x10\x0d\x00\x04MQTT\x05\x02\x00\x3c\x00\x00\x00",
-    b"\x20\x17\x00\x00\x14\x12\x00\x06auto-1\x21\x00\x14\x22\x00\x0a\x27\x00\x01\x00\x00",
-    b"\x82\x09\x00\x01\x00\x00\x03a/b\x02",
-    b"\x90\x04\x00\x01\x00\x02",
-    b"\xe0\x01\x93",
-    b"\x50\x03\x00\x0a\x10",
-    b"\x34\x0e\x00\x03a/b\x00\x01\x04\x0b\x01\x0b\x02hi",
-];
+fn frames() -> &'static [&'static [u8]] {
+    &[
+        b"\xc0\x00",
+        b"\x30\x07\x00\x03a/b\x00!",
+        b"\x40\x03\x00\x0a\x00",
+        b"\x10\x0d\x00\x04MQTT\x05\x02\x00\x3c\x00\x00\x00",
+        b"\x20\x17\x00\x00\x14\x12\x00\x06auto-1\x21\x00\x14\x22\x00\x0a\x27\x00\x01\x00\x00",
+        b"\x82\x09\x00\x01\x00\x00\x03a/b\x02",
+        b"\x90\x04\x00\x01\x00\x02",
+        b"\xe0\x01\x93",
+        b"\x50\x03\x00\x0a\x10",
+        b"\x34\x0e\x00\x03a/b\x00\x01\x04\x0b\x01\x0b\x02hi",
+    ]
+}
 
 /// How often the frames are gone through where the command line gives no other number.
 const DEFAULT_ROUNDS: u64 = 100;
@@ -43,21 +45,31 @@ impl Tally {
 fn looked(rounds: u64) -> Result<Tally, Fault> {
     let mut tally = Tally::default();
     for _ in 0..rounds {
-        for frame in FRAMES {
+        for frame in frames() {
             let packet = look_at(frame)?;
             tally.add(packet.kind() as u64);
+            drop(packet);
         }
     }
     Ok(tally)
+}
+
+/// The number of a packet's kind.
+fn kind_of(packet: &Packet) -> u64 {
+    let lent = packet.lend();
+    let kind = lent.kind() as u64;
+    drop(lent);
+    kind
 }
 
 /// Decodes each frame into memory of its own, and sums the kinds.
 fn decoded(alloc: Global, rounds: u64) -> Result<Tally, Fault> {
     let mut tally = Tally::default();
     for _ in 0..rounds {
-        for frame in FRAMES {
+        for frame in frames() {
             let packet = decode(alloc, frame)?;
-            tally.add(packet.lend().kind() as u64);
+            tally.add(kind_of(&packet));
+            drop(packet);
         }
     }
     Ok(tally)
@@ -73,6 +85,7 @@ fn encoded(alloc: Global, packets: &[Packet], rounds: u64) -> Result<Tally, Faul
             }
             let frame = encode(alloc, packet)?;
             tally.add(frame.len() as u64);
+            drop(frame);
         }
     }
     Ok(tally)
@@ -90,26 +103,73 @@ fn report(
     Ok(())
 }
 
-fn main(rt: HostRuntime) -> anyhow::Result<()> {
-    let words: Vec<String> = env::args(&rt)?.collect(rt.alloc())?;
+/// How often the frames are gone through: the first word of the command line.
+fn rounds_asked(rt: &HostRuntime) -> anyhow::Result<u64> {
+    let words: Vec<String> = env::args(rt)?.collect(rt.alloc())?;
     let rounds = match words.get(1) {
-        Some(word) => word.parse::<u64>().context("the number of rounds")?,
-        None => DEFAULT_ROUNDS,
+        Some(word) => word.parse::<u64>().context("the number of rounds"),
+        None => Ok(DEFAULT_ROUNDS),
     };
-    let mut packets = Vec::new(rt.alloc());
-    for frame in FRAMES {
-        packets.push(decode(rt.alloc(), frame)?)?;
+    drop(words);
+    rounds
+}
+
+/// Adds the packet of the frame.
+fn push_decoded(alloc: Global, packets: &mut Vec<Packet>, frame: &[u8]) -> Result<(), Fault> {
+    let packet = decode(alloc, frame)?;
+    match packets.push(packet) {
+        Ok(()) => Ok(()),
+        Err(failed) => {
+            drop(failed);
+            Err(Fault::Memory)
+        }
     }
+}
+
+/// Adds the packets of all frames.
+fn push_all(alloc: Global, packets: &mut Vec<Packet>) -> Result<(), Fault> {
+    for frame in frames() {
+        push_decoded(alloc, packets, frame)?;
+    }
+    Ok(())
+}
+
+/// Looks at the frames, and tells how long it took.
+fn measure_looks(rt: &HostRuntime, rounds: u64) -> anyhow::Result<()> {
     let start = rt.process_cpu_time()?;
     let tally = looked(rounds)?;
     let end = rt.process_cpu_time()?;
-    report(&rt, "looked", tally, end.saturating_sub(start))?;
+    report(rt, "looked", tally, end.saturating_sub(start))
+}
+
+/// Decodes the frames, and tells how long it took.
+fn measure_decoding(rt: &HostRuntime, rounds: u64) -> anyhow::Result<()> {
     let start = rt.process_cpu_time()?;
     let tally = decoded(rt.alloc(), rounds)?;
     let end = rt.process_cpu_time()?;
-    report(&rt, "decoded", tally, end.saturating_sub(start))?;
+    report(rt, "decoded", tally, end.saturating_sub(start))
+}
+
+/// Encodes the packets, and tells how long it took.
+fn measure_encoding(rt: &HostRuntime, packets: &[Packet], rounds: u64) -> anyhow::Result<()> {
     let start = rt.process_cpu_time()?;
-    let tally = encoded(rt.alloc(), packets.as_slice(), rounds)?;
+    let tally = encoded(rt.alloc(), packets, rounds)?;
     let end = rt.process_cpu_time()?;
-    report(&rt, "encoded", tally, end.saturating_sub(start))
+    report(rt, "encoded", tally, end.saturating_sub(start))
+}
+
+/// Makes the packets, and encodes them.
+fn encode_all(rt: &HostRuntime, packets: &mut Vec<Packet>, rounds: u64) -> anyhow::Result<()> {
+    push_all(rt.alloc(), packets)?;
+    measure_encoding(rt, packets.as_slice(), rounds)
+}
+
+fn main(rt: HostRuntime) -> anyhow::Result<()> {
+    let rounds = rounds_asked(&rt)?;
+    measure_looks(&rt, rounds)?;
+    measure_decoding(&rt, rounds)?;
+    let mut packets = Vec::new(rt.alloc());
+    let done = encode_all(&rt, &mut packets, rounds);
+    drop(packets);
+    done
 }

@@ -10,8 +10,6 @@ mod number;
 mod pair;
 mod reason;
 mod session;
-#[cfg(test)]
-mod tests;
 mod text;
 mod varint;
 

@@ -141,31 +141,3 @@ impl Clone for CopyId {
         })
     }
 }
-
-#[cfg(test)]
-mod tests {
-    use super::*;
-    use std::test::Fail;
-
-    #[test]
-    fn a_clone_names_the_same_copy(rt: HostRuntime) -> Result<(), Fail> {
-        let group = "name/a/b";
-        assert!(rt; Text::may_hold(group));
-        let causes = [
-            Cause::Direct,
-            Cause::Share {
-                group: Text::new(rt.alloc(), group)?,
-            },
-            Cause::Retained { subscribe: 3 },
-        ];
-        for cause in causes {
-            let id = CopyId {
-                publication: 1,
-                birth: 2,
-                cause,
-            };
-            assert_eq!(rt; id.clone()?, id);
-        }
-        Ok(())
-    }
-}

@@ -60,17 +60,41 @@ fn groups_read(bytes: &[u8]) -> Result<(u32, usize), ReadFault>
         [] => Err(ReadFault::Short),
         [0, ..] => Err(ReadFault::Overlong),
         [a, ..] if *a < 128 => Ok((u32::from(*a), 1)),
-        [_] => Err(ReadFault::Short),
-        [_, 0, ..] => Err(ReadFault::Overlong),
-        [a, b, ..] if *b < 128 => Ok((u32::from(*a - 128) + 128 * u32::from(*b), 2)),
-        [_, _] => Err(ReadFault::Short),
-        [_, _, 0, ..] => Err(ReadFault::Overlong),
-        [a, b, c, ..] if *c < 128 => {
-            Ok((
-                u32::from(*a - 128) + 128 * u32::from(*b - 128) + 16384 * u32::from(*c),
-                3,
-            ))
+        [a, rest @ ..] => {
+            let (high, taken) = last_two_groups_read(rest)?;
+            Ok((u32::from(*a - 128) + 128 * high, taken + 1))
         }
+    }
+}
+
+/// The groups behind two bytes that have the high bit.
+#[inline(always)]
+#[tactic(auto, unfolding(crate::specs::Reading::groups_at))]
+fn last_two_groups_read(bytes: &[u8]) -> Result<(u32, usize), ReadFault>
+    ensures exact { Reads (λ n. n) result bytes.now (groups_at 1 bytes.now) }
+    ensures below { IfOk result (λ x. x.0 < 2 ^ 14) }
+{
+    match bytes {
+        [] => Err(ReadFault::Short),
+        [a, ..] if *a == 0 => Err(ReadFault::Overlong),
+        [a, ..] if *a < 128 => Ok((u32::from(*a), 1)),
+        [a, rest @ ..] => {
+            let (high, taken) = last_group_read(rest)?;
+            Ok((u32::from(*a - 128) + 128 * high, taken + 1))
+        }
+    }
+}
+
+/// The group behind three bytes that have the high bit: the last there may be.
+#[inline(always)]
+#[tactic(auto, unfolding(crate::specs::Reading::groups_at))]
+fn last_group_read(bytes: &[u8]) -> Result<(u32, usize), ReadFault>
+    ensures exact { Reads (λ n. n) result bytes.now (groups_at 0 bytes.now) }
+    ensures below { IfOk result (λ x. x.0 < 2 ^ 7) }
+{
+    match bytes {
+        [] => Err(ReadFault::Short),
+        [a, ..] if 0 < *a && *a < 128 => Ok((u32::from(*a), 1)),
         _ => Err(ReadFault::Overlong),
     }
 }

@@ -1,4 +1,5 @@
 pub mod Parts
+pub mod Fronts
 pub mod Readers
 pub mod TailLemmas
 pub mod AckLemmas

@@ -2,6 +2,7 @@
 use Rattle.std.specs.Prelude.{◌≡◌, ℕ, zero, suc, Bool, true, false, ◌&&◌, ◌||◌, not, List, ◌∷◌, length, Option, Some, None, Result, Ok, Err, ◌==◌, if◌then◌else◌}
 use Rattle.mqtt_base.specs.declared.kind.Kind.TheVariants as kinds
 use Rattle.mqtt_base.specs.Reading.{◌>>=◌, u8_at}
+use Rattle.mqtt_base.specs.Codes.{success}
 use Rattle.mqtt_base.specs.Reasons.{is_code}
 use Rattle.mqtt_props.specs.declared.place.Place.TheVariants as places
 use Rattle.mqtt_props.specs.Properties.{block}
@@ -24,7 +25,7 @@ connack_body c = bit c.session_present ∷ (c.reason.0 ∷ block c.properties)
 
 -- its laws: those of its block, and a code above 00 goes without Session Present (3.2.2.1.1, ours its code)
 abbrev pub lawful_connack : Connack → Bool
-lawful_connack c = keeps_laws places.Connack c.properties && (c.reason.0 == 0 || not c.session_present)
+lawful_connack c = keeps_laws places.Connack c.properties && (c.reason.0 == success || not c.session_present)
 
 -- the Connect Acknowledge Flags, of which all bits but bit 0 are 0
 abbrev pub session_present_of : ℕ → Option Bool

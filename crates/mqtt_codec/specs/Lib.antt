@@ -1,4 +1,5 @@
 pub mod Reading
+pub mod Writing
 pub mod Faults
 pub mod Heads
 pub mod Blocks

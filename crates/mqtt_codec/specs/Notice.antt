@@ -3,6 +3,7 @@ use Rattle.std.specs.Prelude.{◌≡◌, ℕ, Bool, true, ◌&&◌, ◌||◌, Li
 use Rattle.mqtt_base.specs.declared.kind.Kind.{Kind}
 use Rattle.mqtt_base.specs.declared.kind.Kind.TheVariants as kinds
 use Rattle.mqtt_base.specs.Reading.{◌>>=◌}
+use Rattle.mqtt_base.specs.Codes.{success}
 use Rattle.mqtt_base.specs.Reasons.{is_code}
 use Rattle.mqtt_props.specs.declared.place.Place.{Place}
 use Rattle.mqtt_props.specs.declared.place.Place.TheVariants as places
@@ -34,11 +35,11 @@ disconnect_body n = tail n.reason.0 n.properties
 -- ---- AUTH: nothing, which stands for the code 00, or a code and properties (3.15.2; a code alone is malformed, ours)
 
 abbrev pub IsAuthBody : Notice → List ℕ → Type 0
-IsAuthBody n [] = (n.reason.0 ≡ 0) × (n.properties ≡ [])
+IsAuthBody n [] = (n.reason.0 ≡ success) × (n.properties ≡ [])
 IsAuthBody n (c ∷ rest) = (c ≡ n.reason.0) × (rest ≡ block n.properties)
 
 abbrev pub auth_body_of : ℕ → List Prop → List ℕ
-auth_body_of code [] = if code == 0 then [] else code ∷ block []
+auth_body_of code [] = if code == success then [] else code ∷ block []
 auth_body_of code (p ∷ ps) = code ∷ block (p ∷ ps)
 
 abbrev pub auth_body : Notice → List ℕ
@@ -48,10 +49,10 @@ auth_body n = auth_body_of n.reason.0 n.properties
 abbrev pub lawful_auth : Notice → Bool
 lawful_auth n =
     keeps_laws places.Auth n.properties
-    && ((n.reason.0 == 0 && length n.properties == 0) || has AuthenticationMethod n.properties)
+    && ((n.reason.0 == success && length n.properties == 0) || has AuthenticationMethod n.properties)
 
 unfoldable pub auth_at : List ℕ → Result Notice Fault
-auth_at [] = Ok (record { reason = record { 0 = 0 }; properties = [] })
+auth_at [] = Ok (record { reason = record { 0 = success }; properties = [] })
 auth_at (c ∷ rest) = do
   ps ← malformed (layout_at places.Auth rest)
   if length ps.1 == 0 && is_code kinds.Auth c then Ok (record { reason = record { 0 = c }; properties = ps.0 }) else Err Malformed

@@ -1,7 +1,8 @@
 //! PUBACK, PUBREC, PUBREL and PUBCOMP: the packets of the handshakes (3.4 to 3.7).
 
-ghost use Rattle.std.specs.Prelude.{◌≡◌, ◌<◌, ◌^◌, ◌++◌, IfOk, OnOk, IsTrue, ◌↔◌, length};
+ghost use Rattle.std.specs.Prelude.{◌≡◌, ◌<◌, ◌^◌, ◌++◌, IfOk, OnOk, OnErr, IsTrue, ◌↔◌, length};
 ghost use Rattle.mqtt_codec.specs.Reading.{Gives};
+ghost use Rattle.mqtt_codec.specs.Writing.{KeepsFront};
 ghost use Rattle.mqtt_codec.specs.Ack.{ack_at, ack_of, ack_body, FitsAck, lawful_ack};
 
 use crate::blocks::stands;
@@ -63,9 +64,10 @@ impl AckRef<'_> {
 
     /// Writes the shortest body at the end.
     #[inline(always)]
-    #[tactic(auto, using(std::proofs::lemmas::List::append_assoc))]
+    #[tactic(auto, using(std::proofs::lemmas::List::append_assoc, crate::proofs::Fronts::begins_same, crate::proofs::Fronts::begins_less))]
     pub(crate) fn push(&self, out: &mut Vec<u8>) -> Result<(), AllocError>
-        ensures { OnOk result (out.new.items ≡ out.old.items ++ ack_body (ack_of self.now)) }
+        ensures ok { OnOk result (out.new.items ≡ out.old.items ++ ack_body (ack_of self.now)) }
+        ensures front { OnErr result (KeepsFront out.old.items out.new.items) }
     {
         u16_push(out, self.identifier)?;
         tail_push(out, self.reason.0, &self.properties)

@@ -1,7 +1,8 @@
 //! CONNACK: the answer to CONNECT (3.2).
 
-ghost use Rattle.std.specs.Prelude.{◌≡◌, ◌<◌, ◌^◌, ◌++◌, IfOk, OnOk, IsTrue, ◌↔◌, length};
+ghost use Rattle.std.specs.Prelude.{◌≡◌, ◌<◌, ◌^◌, ◌++◌, IfOk, OnOk, OnErr, IsTrue, ◌↔◌, length};
 ghost use Rattle.mqtt_codec.specs.Reading.{Gives};
+ghost use Rattle.mqtt_codec.specs.Writing.{KeepsFront};
 ghost use Rattle.mqtt_codec.specs.Connack.{connack_at, connack_of, connack_body, session_present_of, FitsConnack, lawful_connack};
 
 use crate::blocks::stands;
@@ -80,9 +81,10 @@ impl ConnackRef<'_> {
 
     /// Writes the body at the end.
     #[inline(always)]
-    #[tactic(auto, using(std::proofs::lemmas::List::append_assoc))]
+    #[tactic(auto, using(std::proofs::lemmas::List::append_assoc, crate::proofs::Fronts::begins_same, crate::proofs::Fronts::begins_less))]
     pub(crate) fn push(&self, out: &mut Vec<u8>) -> Result<(), AllocError>
-        ensures { OnOk result (out.new.items ≡ out.old.items ++ connack_body (connack_of self.now)) }
+        ensures ok { OnOk result (out.new.items ≡ out.old.items ++ connack_body (connack_of self.now)) }
+        ensures front { OnErr result (KeepsFront out.old.items out.new.items) }
     {
         out.push(u8::from(self.session_present))?;
         out.push(self.reason.0)?;

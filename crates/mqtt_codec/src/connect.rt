@@ -1,16 +1,18 @@
 //! CONNECT: a client asks for a connection (3.1).
 
-ghost use Rattle.std.specs.Prelude.{◌≡◌, ◌<◌, ◌^◌, ◌++◌, true, IfOk, OnOk, IsTrue, ◌↔◌, length};
+ghost use Rattle.std.specs.Prelude.{◌≡◌, ◌<◌, ◌^◌, ◌++◌, true, IfOk, OnOk, OnErr, IsTrue, ◌↔◌, length};
 ghost use Rattle.std.specs.Option.{option_map};
 ghost use Rattle.mqtt_base.specs.Values.{blob, FitsText};
 ghost use Rattle.mqtt_base.specs.Reading.{Reads};
 ghost use Rattle.mqtt_codec.specs.Fields.{optional, FitsOptional};
 ghost use Rattle.mqtt_codec.specs.Reading.{Gives};
+ghost use Rattle.mqtt_codec.specs.Writing.{KeepsFront};
 ghost use Rattle.mqtt_codec.specs.Connect.{will_at, will_of, will_field, user_name_at, password_at, fields_at, connect_at, connect_of, connect_body, connect_fields, FitsConnect, FitsWill, lawful_connect, lawful_will, flags_of_connect, will_flags_of, is_version_5, mqtt};
 
 use crate::blocks::stands;
 use crate::connect_flags::{Flags, WillFlags, flags_read};
 use crate::fault::Fault;
+use crate::owned::both;
 use mqtt_base::{Blob, Qos, Text, blob_push, blob_read, text_read, u8_read, u16_push, u16_read};
 use mqtt_props::{Place, PropList, PropsRef, layout_read};
 use std::alloc::{AllocError, Global};
@@ -194,10 +196,11 @@ pub(crate) fn connect_read(body: &[u8]) -> Result<ConnectRef<'_>, Fault>
 impl WillRef<'_> {
     /// Writes the fields at the end.
     #[inline(always)]
-    #[tactic(auto, using(std::proofs::lemmas::List::append_assoc))]
+    #[tactic(auto, using(std::proofs::lemmas::List::append_assoc, crate::proofs::Fronts::begins_same, crate::proofs::Fronts::begins_less))]
     fn push(&self, out: &mut Vec<u8>) -> Result<(), AllocError>
         requires { FitsWill (will_of self.now) }
-        ensures { OnOk result (out.new.items ≡ out.old.items ++ will_field (will_of self.now)) }
+        ensures ok { OnOk result (out.new.items ≡ out.old.items ++ will_field (will_of self.now)) }
+        ensures front { OnErr result (KeepsFront out.old.items out.new.items) }
     {
         self.properties.push_block(out)?;
         blob_push(out, self.topic.as_bytes())?;
@@ -220,12 +223,16 @@ impl WillRef<'_> {
         requires { FitsWill (will_of self.now) }
         ensures { IfOk result (λ w. w ≡ will_of self.now) }
     {
+        let topic = Text::new(alloc, self.topic)?;
+        let (topic, payload) = both(topic, Blob::new(alloc, self.payload))?;
+        let properties = self.properties.to_list(alloc);
+        let ((topic, payload), properties) = both((topic, payload), properties)?;
         Ok(Will {
             qos: self.qos,
             retain: self.retain,
-            properties: self.properties.to_list(alloc)?,
-            topic: Text::new(alloc, self.topic)?,
-            payload: Blob::new(alloc, self.payload)?,
+            properties,
+            topic,
+            payload,
         })
     }
 }
@@ -258,9 +265,11 @@ impl Will {
 
 /// Writes the Will's fields at the end, if there is one.
 #[inline(always)]
+#[tactic(auto, using(crate::proofs::Fronts::begins_same, crate::proofs::Fronts::begins_less))]
 fn will_push(out: &mut Vec<u8>, will: &Option<WillRef<'_>>) -> Result<(), AllocError>
     requires { FitsOptional FitsWill (option_map will_of will.now) }
-    ensures { OnOk result (out.new.items ≡ out.old.items ++ optional will_field (option_map will_of will.now)) }
+    ensures ok { OnOk result (out.new.items ≡ out.old.items ++ optional will_field (option_map will_of will.now)) }
+    ensures front { OnErr result (KeepsFront out.old.items out.new.items) }
 {
     match will {
         Some(will) => will.push(out),
@@ -270,9 +279,11 @@ fn will_push(out: &mut Vec<u8>, will: &Option<WillRef<'_>>) -> Result<(), AllocE
 
 /// Writes a text or binary data at the end, if there is any.
 #[inline(always)]
+#[tactic(auto, using(crate::proofs::Fronts::begins_same, crate::proofs::Fronts::begins_less))]
 fn blob_push_some(out: &mut Vec<u8>, bytes: Option<&[u8]>) -> Result<(), AllocError>
     requires { FitsOptional (λ b. length b < 2 ^ 16) (option_map (λ b. b.now) bytes) }
-    ensures { OnOk result (out.new.items ≡ out.old.items ++ optional blob (option_map (λ b. b.now) bytes.entry)) }
+    ensures ok { OnOk result (out.new.items ≡ out.old.items ++ optional blob (option_map (λ b. b.now) bytes.entry)) }
+    ensures front { OnErr result (KeepsFront out.old.items out.new.items) }
 {
     match bytes {
         Some(bytes) => blob_push(out, bytes),
@@ -290,6 +301,42 @@ fn will_flags_of(will: &Option<WillRef<'_>>) -> Option<WillFlags>
             retain: will.retain,
         }),
         None => None,
+    }
+}
+
+/// An owned copy of a text, if there is one.
+#[inline(always)]
+fn to_text(alloc: Global, text: Option<&str>) -> Result<Option<Text>, AllocError>
+    requires { FitsOptional FitsText (option_map (λ t. t.now) text) }
+    ensures { IfOk result (λ copy. copy ≡ option_map (λ t. t.now) text.entry) }
+{
+    match text {
+        Some(text) => Text::new(alloc, text).map(Some),
+        None => Ok(None),
+    }
+}
+
+/// An owned copy of binary data, if there is any.
+#[inline(always)]
+fn to_blob(alloc: Global, bytes: Option<&[u8]>) -> Result<Option<Blob>, AllocError>
+    requires { FitsOptional (λ b. length b < 2 ^ 16) (option_map (λ b. b.now) bytes) }
+    ensures { IfOk result (λ copy. copy ≡ option_map (λ b. b.now) bytes.entry) }
+{
+    match bytes {
+        Some(bytes) => Blob::new(alloc, bytes).map(Some),
+        None => Ok(None),
+    }
+}
+
+/// An owned copy of the Will, if there is one.
+#[inline(always)]
+fn to_will(alloc: Global, will: &Option<WillRef<'_>>) -> Result<Option<Will>, AllocError>
+    requires { FitsOptional FitsWill (option_map will_of will.now) }
+    ensures { IfOk result (λ copy. copy ≡ option_map will_of will.now) }
+{
+    match will {
+        Some(will) => will.to_will(alloc).map(Some),
+        None => Ok(None),
     }
 }
 
@@ -320,10 +367,11 @@ impl ConnectRef<'_> {
 
     /// Writes the body at the end.
     #[inline(always)]
-    #[tactic(auto, using(std::proofs::lemmas::List::append_assoc))]
+    #[tactic(auto, using(std::proofs::lemmas::List::append_assoc, crate::proofs::Fronts::begins_same, crate::proofs::Fronts::begins_less))]
     pub(crate) fn push(&self, out: &mut Vec<u8>) -> Result<(), AllocError>
         requires { FitsConnect (connect_of self.now) }
-        ensures { OnOk result (out.new.items ≡ out.old.items ++ connect_body (connect_of self.now)) }
+        ensures ok { OnOk result (out.new.items ≡ out.old.items ++ connect_body (connect_of self.now)) }
+        ensures front { OnErr result (KeepsFront out.old.items out.new.items) }
     {
         blob_push(out, b"MQTT")?;
         out.push(5)?;
@@ -333,10 +381,11 @@ impl ConnectRef<'_> {
 
     /// Writes what follows the flags at the end.
     #[inline(always)]
-    #[tactic(auto, using(std::proofs::lemmas::List::append_assoc))]
+    #[tactic(auto, using(std::proofs::lemmas::List::append_assoc, crate::proofs::Fronts::begins_same, crate::proofs::Fronts::begins_less))]
     fn push_fields(&self, out: &mut Vec<u8>) -> Result<(), AllocError>
         requires { FitsConnect (connect_of self.now) }
-        ensures { OnOk result (out.new.items ≡ out.old.items ++ connect_fields (connect_of self.now)) }
+        ensures ok { OnOk result (out.new.items ≡ out.old.items ++ connect_fields (connect_of self.now)) }
+        ensures front { OnErr result (KeepsFront out.old.items out.new.items) }
     {
         u16_push(out, self.keep_alive)?;
         self.properties.push_block(out)?;
@@ -375,23 +424,20 @@ impl ConnectRef<'_> {
         requires { FitsConnect (connect_of self.now) }
         ensures { IfOk result (λ c. c ≡ connect_of self.now) }
     {
+        let client_identifier = Text::new(alloc, self.client_identifier)?;
+        let names = both(client_identifier, to_text(alloc, self.user_name))?;
+        let secrets = both(names, to_blob(alloc, self.password))?;
+        let properties = both(secrets, self.properties.to_list(alloc))?;
+        let all = both(properties, to_will(alloc, &self.will))?;
+        let ((((client_identifier, user_name), password), properties), will) = all;
         Ok(Connect {
             clean_start: self.clean_start,
             keep_alive: self.keep_alive,
-            properties: self.properties.to_list(alloc)?,
-            client_identifier: Text::new(alloc, self.client_identifier)?,
-            will: match &self.will {
-                Some(will) => Some(will.to_will(alloc)?),
-                None => None,
-            },
-            user_name: match self.user_name {
-                Some(name) => Some(Text::new(alloc, name)?),
-                None => None,
-            },
-            password: match self.password {
-                Some(password) => Some(Blob::new(alloc, password)?),
-                None => None,
-            },
+            properties,
+            client_identifier,
+            will,
+            user_name,
+            password,
         })
     }
 }
@@ -475,9 +521,11 @@ fn password_fits(password: &Option<Blob>) -> bool
 
 /// Writes a text at the end, if there is one.
 #[inline(always)]
+#[tactic(auto, using(crate::proofs::Fronts::begins_same, crate::proofs::Fronts::begins_less))]
 fn text_push_some(out: &mut Vec<u8>, text: Option<&str>) -> Result<(), AllocError>
     requires { FitsOptional FitsText (option_map (λ t. t.now) text) }
-    ensures { OnOk result (out.new.items ≡ out.old.items ++ optional blob (option_map (λ t. t.now) text.entry)) }
+    ensures ok { OnOk result (out.new.items ≡ out.old.items ++ optional blob (option_map (λ t. t.now) text.entry)) }
+    ensures front { OnErr result (KeepsFront out.old.items out.new.items) }
 {
     match text {
         Some(text) => blob_push(out, text.as_bytes()),

@@ -7,6 +7,7 @@ ghost use Rattle.mqtt_base.specs.Reading.{Reads};
 ghost use Rattle.mqtt_base.specs.Items.{items_at, Answers};
 ghost use Rattle.mqtt_codec.specs.declared.fault.Fault.TheVariants.{Malformed};
 ghost use Rattle.mqtt_codec.specs.Reading.{Gives};
+ghost use Rattle.mqtt_codec.specs.Writing.{KeepsFront};
 ghost use Rattle.mqtt_codec.specs.Filters.{filter_at};
 
 use crate::fault::Fault;
@@ -109,8 +110,10 @@ impl<'a> FiltersRef<'a> {
     }
 
     /// Writes them at the end.
+    #[tactic(auto, using(crate::proofs::Fronts::begins_same))]
     pub(crate) fn push(&self, out: &mut Vec<u8>) -> Result<(), AllocError>
-        ensures { OnOk result (out.new.items ≡ out.old.items ++ flat_map blob self.now) }
+        ensures ok { OnOk result (out.new.items ≡ out.old.items ++ flat_map blob self.now) }
+        ensures front { OnErr result (KeepsFront out.old.items out.new.items) }
     {
         out.extend_from_slice(self.bytes)
     }
@@ -119,9 +122,8 @@ impl<'a> FiltersRef<'a> {
     pub(crate) fn to_list(&self, alloc: Global) -> Result<Filters, AllocError>
         ensures { IfOk result (λ list. list ≡ self.now) }
     {
-        Ok(Filters {
-            bytes: Bytes::copy_from_slice(alloc, self.bytes)?,
-        })
+        let bytes = Bytes::copy_from_slice(alloc, self.bytes)?;
+        Ok(Filters { bytes })
     }
 }
 

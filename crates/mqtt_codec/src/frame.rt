@@ -1,11 +1,12 @@
 //! Packets read from frames and written to them (2.1, 4.13).
 
-ghost use Rattle.std.specs.Prelude.{◌≡◌, ◌<◌, ◌^◌, ◌⊎◌, ◌↔◌, ◌++◌, ◌∷◌, ℕ, List, length, true, IfOk, IfErr, IsTrue, OnOk, Ok};
+ghost use Rattle.std.specs.Prelude.{◌≡◌, ◌<◌, ◌+◌, ◌^◌, ◌⊎◌, ◌↔◌, ◌++◌, ◌∷◌, ℕ, List, length, true, IfOk, IfErr, IsTrue, OnOk, OnErr, Ok};
 ghost use Rattle.mqtt_base.specs.Values.{varint};
 ghost use Rattle.mqtt_codec.specs.declared.fault.Fault.TheVariants as faults;
 ghost use Rattle.mqtt_codec.specs.declared.packet.Packet.{Packet};
 ghost use Rattle.mqtt_codec.specs.Heads.{first};
 ghost use Rattle.mqtt_codec.specs.Reading.{Gives};
+ghost use Rattle.mqtt_codec.specs.Writing.{KeepsFront};
 ghost use Rattle.mqtt_codec.specs.Packets.{head, Fits, Spells, Refusal, is_lawful, shortest_body, shortest_of, HasSpelling, IsShortest};
 ghost use Rattle.mqtt_codec.specs.Frames.{frame_at, empty_at, versioned_at, version_at, lawful_at, packet_at, packet_of};
 
@@ -20,12 +21,11 @@ use crate::publish::publish_read;
 use crate::suback::suback_read;
 use crate::subscribe::subscribe_read;
 use crate::unsubscribe::unsubscribe_read;
-use mqtt_base::{Kind, ReadFault, text_read, u8_read, varint_push, varint_read};
+use mqtt_base::{
+    Kind, ReadFault, VARINT_LIMIT, text_read, u8_read, varint_len, varint_push, varint_read,
+};
 use mqtt_props::Place;
 use std::alloc::{AllocError, Global};
-
-/// Bytes: a Remaining Length is below it, since it is a Variable Byte Integer (2.1.4).
-const BODY_LIMIT: usize = 268_435_456;
 
 #[inline(always)]
 #[tactic(auto, unfolding(crate::specs::Frames::frame_at))]
@@ -103,6 +103,7 @@ macro_rules! lawful_part {
             return Err(Fault::Malformed);
         };
         if !part.$test($($place)?) {
+            drop(part);
             return Err(Fault::Protocol);
         }
         Ok(PacketRef::$packet(part))
@@ -174,7 +175,9 @@ pub fn decode(alloc: Global, frame: &[u8]) -> Result<Packet, Fault>
     ensures refused { IfErr result (λ fault. (fault ≡ faults.Memory) ⊎ Refusal fault frame.now) }
 {
     let packet = look_at(frame)?;
-    Ok(packet.to_packet(alloc)?)
+    let owned = packet.to_packet(alloc);
+    drop(packet);
+    Ok(owned?)
 }
 
 impl PacketRef<'_> {
@@ -212,16 +215,14 @@ impl PacketRef<'_> {
             PacketRef::Connect(connect) => connect.len(),
             PacketRef::Connack(connack) => connack.len(),
             PacketRef::Publish(publish) => publish.len(),
-            PacketRef::Puback(ack) => ack.len(),
-            PacketRef::Pubrec(ack) => ack.len(),
-            PacketRef::Pubrel(ack) => ack.len(),
-            PacketRef::Pubcomp(ack) => ack.len(),
+            PacketRef::Puback(ack)
+            | PacketRef::Pubrec(ack)
+            | PacketRef::Pubrel(ack)
+            | PacketRef::Pubcomp(ack) => ack.len(),
             PacketRef::Subscribe(subscribe) => subscribe.len(),
-            PacketRef::Suback(suback) => suback.len(),
+            PacketRef::Suback(suback) | PacketRef::Unsuback(suback) => suback.len(),
             PacketRef::Unsubscribe(unsubscribe) => unsubscribe.len(),
-            PacketRef::Unsuback(suback) => suback.len(),
-            PacketRef::Pingreq => 0,
-            PacketRef::Pingresp => 0,
+            PacketRef::Pingreq | PacketRef::Pingresp => 0,
             PacketRef::Disconnect(notice) => notice.disconnect_len(),
             PacketRef::Auth(notice) => notice.auth_len(),
         }
@@ -231,22 +232,21 @@ impl PacketRef<'_> {
     #[inline(always)]
     fn push_body(&self, out: &mut Vec<u8>) -> Result<(), AllocError>
         requires { Fits (packet_of self.now) }
-        ensures { OnOk result (out.new.items ≡ out.old.items ++ shortest_body (packet_of self.now)) }
+        ensures ok { OnOk result (out.new.items ≡ out.old.items ++ shortest_body (packet_of self.now)) }
+        ensures front { OnErr result (KeepsFront out.old.items out.new.items) }
     {
         match self {
             PacketRef::Connect(connect) => connect.push(out),
             PacketRef::Connack(connack) => connack.push(out),
             PacketRef::Publish(publish) => publish.push(out),
-            PacketRef::Puback(ack) => ack.push(out),
-            PacketRef::Pubrec(ack) => ack.push(out),
-            PacketRef::Pubrel(ack) => ack.push(out),
-            PacketRef::Pubcomp(ack) => ack.push(out),
+            PacketRef::Puback(ack)
+            | PacketRef::Pubrec(ack)
+            | PacketRef::Pubrel(ack)
+            | PacketRef::Pubcomp(ack) => ack.push(out),
             PacketRef::Subscribe(subscribe) => subscribe.push(out),
-            PacketRef::Suback(suback) => suback.push(out),
+            PacketRef::Suback(suback) | PacketRef::Unsuback(suback) => suback.push(out),
             PacketRef::Unsubscribe(unsubscribe) => unsubscribe.push(out),
-            PacketRef::Unsuback(suback) => suback.push(out),
-            PacketRef::Pingreq => Ok(()),
-            PacketRef::Pingresp => Ok(()),
+            PacketRef::Pingreq | PacketRef::Pingresp => Ok(()),
             PacketRef::Disconnect(notice) => notice.push_disconnect(out),
             PacketRef::Auth(notice) => notice.push_auth(out),
         }
@@ -261,7 +261,37 @@ pub fn lawful(packet: &Packet) -> bool
         return false;
     }
     let lent = packet.lend();
-    lent.body_len() < BODY_LIMIT && lent.is_lawful()
+    lent.body_len() < VARINT_LIMIT as usize && lent.is_lawful()
+}
+
+/// How many bytes the shortest spelling of the packet takes (2.1). Takes no memory.
+#[inline(always)]
+pub fn spelled_len(packet: &PacketRef<'_>) -> usize
+    requires { HasSpelling (packet_of packet.now) }
+    ensures exact { result ≡ length (shortest_of (packet_of packet.now)) }
+    ensures within { result < 2 ^ 28 + 5 }
+{
+    let len = packet.body_len();
+    1 + varint_len(len as u32) + len
+}
+
+/// Writes the shortest spelling of the packet (2.1) at the end; `Memory` (5) is its only refusal, and
+/// leaves the bytes as they were.
+#[inline(always)]
+pub fn encode_into(packet: &PacketRef<'_>, out: &mut Vec<u8>) -> Result<(), Fault>
+    requires { HasSpelling (packet_of packet.now) }
+    ensures ok { OnOk result (out.new.items ≡ out.old.items ++ shortest_of (packet_of packet.now)) }
+    ensures fault { IfErr result (λ fault. fault ≡ faults.Memory) }
+    ensures err { OnErr result (out.new.items ≡ out.old.items) }
+{
+    let start = out.len();
+    match frame_push(packet, out) {
+        Ok(()) => Ok(()),
+        Err(_) => {
+            out.truncate(start);
+            Err(Fault::Memory)
+        }
+    }
 }
 
 /// Writes the shortest spelling of the packet (2.1); `Memory` (5) is its only refusal.
@@ -272,19 +302,29 @@ pub fn encode(alloc: Global, packet: &Packet) -> Result<Vec<u8>, Fault>
     ensures shortest { IfOk result (λ frame. IsShortest packet.now frame.items) }
     ensures fault { IfErr result (λ fault. fault ≡ faults.Memory) }
 {
-    Ok(encode_lent(alloc, &packet.lend())?)
+    let lent = packet.lend();
+    let mut frame = Vec::new(alloc);
+    let written = encode_into(&lent, &mut frame);
+    drop(lent);
+    match written {
+        Ok(()) => Ok(frame),
+        Err(fault) => {
+            drop(frame);
+            Err(fault)
+        }
+    }
 }
 
 #[inline(always)]
-#[tactic(auto, using(std::proofs::lemmas::List::append_assoc))]
-fn encode_lent(alloc: Global, packet: &PacketRef<'_>) -> Result<Vec<u8>, AllocError>
+#[tactic(auto, using(std::proofs::lemmas::List::append_assoc, crate::proofs::Fronts::begins_same, crate::proofs::Fronts::begins_less))]
+fn frame_push(packet: &PacketRef<'_>, out: &mut Vec<u8>) -> Result<(), AllocError>
     requires { HasSpelling (packet_of packet.now) }
-    ensures { IfOk result (λ frame. frame.items ≡ shortest_of (packet_of packet.now)) }
+    ensures ok { OnOk result (out.new.items ≡ out.old.items ++ shortest_of (packet_of packet.now)) }
+    ensures front { OnErr result (KeepsFront out.old.items out.new.items) }
 {
     let len = packet.body_len();
-    let mut frame = Vec::with_capacity(alloc, 5 + len)?;
-    frame.push(packet.first_byte())?;
-    varint_push(&mut frame, len as u32)?;
-    packet.push_body(&mut frame)?;
-    Ok(frame)
+    out.reserve(5 + len)?;
+    out.push(packet.first_byte())?;
+    varint_push(out, len as u32)?;
+    packet.push_body(out)
 }

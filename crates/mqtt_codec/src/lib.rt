@@ -13,14 +13,13 @@ mod head;
 mod laws;
 mod notice;
 mod options;
+mod owned;
 mod packet;
 mod publish;
 mod suback;
 mod subscribe;
 mod subscriptions;
 mod tail;
-#[cfg(test)]
-mod tests;
 mod unsubscribe;
 
 pub use ack::{Ack, AckRef};
@@ -28,7 +27,7 @@ pub use connack::{Connack, ConnackRef};
 pub use connect::{Connect, ConnectRef, Will, WillRef};
 pub use fault::Fault;
 pub use filters::{Filters, FiltersRef};
-pub use frame::{decode, encode, lawful, look_at};
+pub use frame::{decode, encode, encode_into, lawful, look_at, spelled_len};
 pub use head::{Head, head_read};
 pub use laws::{one_packet, round_trip};
 pub use notice::{Notice, NoticeRef};

@@ -1,8 +1,9 @@
 //! DISCONNECT and AUTH: a reason code and properties (3.14, 3.15).
 
-ghost use Rattle.std.specs.Prelude.{◌≡◌, ◌<◌, ◌^◌, ◌++◌, IfOk, OnOk, IsTrue, ◌↔◌, length};
+ghost use Rattle.std.specs.Prelude.{◌≡◌, ◌<◌, ◌^◌, ◌++◌, IfOk, OnOk, OnErr, IsTrue, ◌↔◌, length};
 ghost use Rattle.mqtt_codec.specs.Blocks.{keeps_laws};
 ghost use Rattle.mqtt_codec.specs.Reading.{Gives};
+ghost use Rattle.mqtt_codec.specs.Writing.{KeepsFront};
 ghost use Rattle.mqtt_codec.specs.Notice.{disconnect_at, disconnect_body, auth_at, auth_body, notice_of, FitsNotice, lawful_auth};
 
 use crate::blocks::stands;
@@ -87,17 +88,20 @@ impl NoticeRef<'_> {
 
     /// Writes the shortest body of DISCONNECT at the end.
     #[inline(always)]
+    #[tactic(auto, using(crate::proofs::Fronts::begins_same, crate::proofs::Fronts::begins_less))]
     pub(crate) fn push_disconnect(&self, out: &mut Vec<u8>) -> Result<(), AllocError>
-        ensures { OnOk result (out.new.items ≡ out.old.items ++ disconnect_body (notice_of self.now)) }
+        ensures ok { OnOk result (out.new.items ≡ out.old.items ++ disconnect_body (notice_of self.now)) }
+        ensures front { OnErr result (KeepsFront out.old.items out.new.items) }
     {
         tail_push(out, self.reason.0, &self.properties)
     }
 
     /// Writes the shortest body of AUTH at the end.
     #[inline(always)]
-    #[tactic(auto, using(std::proofs::lemmas::List::append_assoc))]
+    #[tactic(auto, using(std::proofs::lemmas::List::append_assoc, crate::proofs::Fronts::begins_same, crate::proofs::Fronts::begins_less))]
     pub(crate) fn push_auth(&self, out: &mut Vec<u8>) -> Result<(), AllocError>
-        ensures { OnOk result (out.new.items ≡ out.old.items ++ auth_body (notice_of self.now)) }
+        ensures ok { OnOk result (out.new.items ≡ out.old.items ++ auth_body (notice_of self.now)) }
+        ensures front { OnErr result (KeepsFront out.old.items out.new.items) }
     {
         if self.reason.0 == 0 && self.properties.is_empty() {
             return Ok(());

@@ -162,25 +162,23 @@ impl PacketRef<'_> {
         ensures { IfOk result (λ p. p ≡ packet_of self.now) }
     {
         match self {
-            PacketRef::Connect(connect) => Ok(Packet::Connect(connect.to_connect(alloc)?)),
-            PacketRef::Connack(connack) => Ok(Packet::Connack(connack.to_connack(alloc)?)),
-            PacketRef::Publish(publish) => Ok(Packet::Publish(publish.to_publish(alloc)?)),
-            PacketRef::Puback(ack) => Ok(Packet::Puback(ack.to_ack(alloc)?)),
-            PacketRef::Pubrec(ack) => Ok(Packet::Pubrec(ack.to_ack(alloc)?)),
-            PacketRef::Pubrel(ack) => Ok(Packet::Pubrel(ack.to_ack(alloc)?)),
-            PacketRef::Pubcomp(ack) => Ok(Packet::Pubcomp(ack.to_ack(alloc)?)),
-            PacketRef::Subscribe(subscribe) => Ok(Packet::Subscribe(subscribe.to_subscribe(
-                alloc,
-            )?)),
-            PacketRef::Suback(suback) => Ok(Packet::Suback(suback.to_suback(alloc)?)),
-            PacketRef::Unsubscribe(unsubscribe) => Ok(Packet::Unsubscribe(
-                unsubscribe.to_unsubscribe(alloc)?,
-            )),
-            PacketRef::Unsuback(suback) => Ok(Packet::Unsuback(suback.to_suback(alloc)?)),
+            PacketRef::Connect(connect) => connect.to_connect(alloc).map(Packet::Connect),
+            PacketRef::Connack(connack) => connack.to_connack(alloc).map(Packet::Connack),
+            PacketRef::Publish(publish) => publish.to_publish(alloc).map(Packet::Publish),
+            PacketRef::Puback(ack) => ack.to_ack(alloc).map(Packet::Puback),
+            PacketRef::Pubrec(ack) => ack.to_ack(alloc).map(Packet::Pubrec),
+            PacketRef::Pubrel(ack) => ack.to_ack(alloc).map(Packet::Pubrel),
+            PacketRef::Pubcomp(ack) => ack.to_ack(alloc).map(Packet::Pubcomp),
+            PacketRef::Subscribe(subscribe) => subscribe.to_subscribe(alloc).map(Packet::Subscribe),
+            PacketRef::Suback(suback) => suback.to_suback(alloc).map(Packet::Suback),
+            PacketRef::Unsubscribe(unsubscribe) => unsubscribe
+                .to_unsubscribe(alloc)
+                .map(Packet::Unsubscribe),
+            PacketRef::Unsuback(suback) => suback.to_suback(alloc).map(Packet::Unsuback),
             PacketRef::Pingreq => Ok(Packet::Pingreq),
             PacketRef::Pingresp => Ok(Packet::Pingresp),
-            PacketRef::Disconnect(notice) => Ok(Packet::Disconnect(notice.to_notice(alloc)?)),
-            PacketRef::Auth(notice) => Ok(Packet::Auth(notice.to_notice(alloc)?)),
+            PacketRef::Disconnect(notice) => notice.to_notice(alloc).map(Packet::Disconnect),
+            PacketRef::Auth(notice) => notice.to_notice(alloc).map(Packet::Auth),
         }
     }
 }

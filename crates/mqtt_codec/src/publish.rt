@@ -1,14 +1,16 @@
 //! PUBLISH: a message of a client, or a copy of one for a client (3.3).
 
-ghost use Rattle.std.specs.Prelude.{◌≡◌, ◌<◌, ◌++◌, Bool, IfOk, OnOk, IsTrue, ◌↔◌, length};
+ghost use Rattle.std.specs.Prelude.{◌≡◌, ◌<◌, ◌++◌, Bool, IfOk, OnOk, OnErr, IsTrue, ◌↔◌, length};
 ghost use Rattle.mqtt_base.specs.Reading.{Reads};
 ghost use Rattle.mqtt_codec.specs.Reading.{Gives};
+ghost use Rattle.mqtt_codec.specs.Writing.{KeepsFront};
 ghost use Rattle.mqtt_codec.specs.declared.head.Head.TheVariants as heads;
 ghost use Rattle.mqtt_codec.specs.Heads.{first};
 ghost use Rattle.mqtt_codec.specs.Publish.{delivery_head, delivery_qos, delivery_dup, delivery_identifier, delivery_at, publish_at, publish_of, publish_body, identifier_field, FitsPublish, FitsDelivery, lawful_identifier, lawful_publish};
 
 use crate::blocks::stands;
 use crate::fault::Fault;
+use crate::owned::both;
 use bytes::Bytes;
 use mqtt_base::{Qos, ReadFault, Text, blob_push, text_read, u16_push, u16_read};
 use mqtt_props::{Place, PropList, PropName, PropsRef, layout_read};
@@ -162,8 +164,10 @@ impl Delivery {
     }
 
     #[inline(always)]
+    #[tactic(auto, using(crate::proofs::Fronts::begins_same, crate::proofs::Fronts::begins_less))]
     fn push(self, out: &mut Vec<u8>) -> Result<(), AllocError>
-        ensures { OnOk result (out.new.items ≡ out.old.items ++ identifier_field self) }
+        ensures ok { OnOk result (out.new.items ≡ out.old.items ++ identifier_field self) }
+        ensures front { OnErr result (KeepsFront out.old.items out.new.items) }
     {
         match self {
             Delivery::AtMostOnce => Ok(()),
@@ -186,10 +190,11 @@ impl PublishRef<'_> {
 
     /// Writes the body at the end.
     #[inline(always)]
-    #[tactic(auto, using(std::proofs::lemmas::List::append_assoc))]
+    #[tactic(auto, using(std::proofs::lemmas::List::append_assoc, crate::proofs::Fronts::begins_same, crate::proofs::Fronts::begins_less))]
     pub(crate) fn push(&self, out: &mut Vec<u8>) -> Result<(), AllocError>
         requires { FitsPublish (publish_of self.now) }
-        ensures { OnOk result (out.new.items ≡ out.old.items ++ publish_body (publish_of self.now)) }
+        ensures ok { OnOk result (out.new.items ≡ out.old.items ++ publish_body (publish_of self.now)) }
+        ensures front { OnErr result (KeepsFront out.old.items out.new.items) }
     {
         blob_push(out, self.topic.as_bytes())?;
         self.delivery.push(out)?;
@@ -216,12 +221,16 @@ impl PublishRef<'_> {
         requires { FitsPublish (publish_of self.now) }
         ensures { IfOk result (λ p. p ≡ publish_of self.now) }
     {
+        let topic = Text::new(alloc, self.topic)?;
+        let (topic, properties) = both(topic, self.properties.to_list(alloc))?;
+        let payload = Bytes::copy_from_slice(alloc, self.payload);
+        let ((topic, properties), payload) = both((topic, properties), payload)?;
         Ok(Publish {
             delivery: self.delivery,
             retain: self.retain,
-            topic: Text::new(alloc, self.topic)?,
-            properties: self.properties.to_list(alloc)?,
-            payload: Bytes::copy_from_slice(alloc, self.payload)?,
+            topic,
+            properties,
+            payload,
         })
     }
 }

@@ -1,11 +1,13 @@
 //! SUBACK and UNSUBACK: a code for each filter (3.9, 3.11).
 
-ghost use Rattle.std.specs.Prelude.{◌≡◌, ◌<◌, ◌^◌, ◌++◌, IfOk, OnOk, IsTrue, ◌↔◌, length};
+ghost use Rattle.std.specs.Prelude.{◌≡◌, ◌<◌, ◌^◌, ◌++◌, IfOk, OnOk, OnErr, IsTrue, ◌↔◌, length};
 ghost use Rattle.mqtt_codec.specs.Reading.{Gives};
+ghost use Rattle.mqtt_codec.specs.Writing.{KeepsFront};
 ghost use Rattle.mqtt_codec.specs.Suback.{are_codes, suback_at, suback_of, suback_body, FitsSuback, lawful_suback};
 
 use crate::blocks::stands;
 use crate::fault::Fault;
+use crate::owned::both;
 use bytes::Bytes;
 use mqtt_base::{Kind, Reason, u16_push, u16_read};
 use mqtt_props::{Place, PropList, PropsRef, layout_read};
@@ -72,9 +74,10 @@ impl SubackRef<'_> {
 
     /// Writes the body at the end.
     #[inline(always)]
-    #[tactic(auto, using(std::proofs::lemmas::List::append_assoc))]
+    #[tactic(auto, using(std::proofs::lemmas::List::append_assoc, crate::proofs::Fronts::begins_same, crate::proofs::Fronts::begins_less))]
     pub(crate) fn push(&self, out: &mut Vec<u8>) -> Result<(), AllocError>
-        ensures { OnOk result (out.new.items ≡ out.old.items ++ suback_body (suback_of self.now)) }
+        ensures ok { OnOk result (out.new.items ≡ out.old.items ++ suback_body (suback_of self.now)) }
+        ensures front { OnErr result (KeepsFront out.old.items out.new.items) }
     {
         u16_push(out, self.identifier)?;
         self.properties.push_block(out)?;
@@ -94,10 +97,12 @@ impl SubackRef<'_> {
     pub(crate) fn to_suback(&self, alloc: Global) -> Result<Suback, AllocError>
         ensures { IfOk result (λ s. s ≡ suback_of self.now) }
     {
+        let properties = self.properties.to_list(alloc)?;
+        let (properties, codes) = both(properties, Bytes::copy_from_slice(alloc, self.codes))?;
         Ok(Suback {
             identifier: self.identifier,
-            properties: self.properties.to_list(alloc)?,
-            codes: Bytes::copy_from_slice(alloc, self.codes)?,
+            properties,
+            codes,
         })
     }
 }

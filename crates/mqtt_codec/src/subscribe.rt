@@ -1,11 +1,13 @@
 //! SUBSCRIBE (3.8).
 
-ghost use Rattle.std.specs.Prelude.{◌≡◌, ◌<◌, ◌^◌, ◌++◌, IfOk, OnOk, IsTrue, ◌↔◌, length};
+ghost use Rattle.std.specs.Prelude.{◌≡◌, ◌<◌, ◌^◌, ◌++◌, IfOk, OnOk, OnErr, IsTrue, ◌↔◌, length};
 ghost use Rattle.mqtt_codec.specs.Reading.{Gives};
+ghost use Rattle.mqtt_codec.specs.Writing.{KeepsFront};
 ghost use Rattle.mqtt_codec.specs.Subscribe.{subscribe_at, subscribe_of, subscribe_body, FitsSubscribe, lawful_subscribe};
 
 use crate::blocks::stands;
 use crate::fault::Fault;
+use crate::owned::both;
 use crate::subscriptions::{Subscriptions, SubscriptionsRef, subscriptions_read};
 use mqtt_base::{u16_push, u16_read};
 use mqtt_props::{Place, PropList, PropsRef, layout_read};
@@ -66,9 +68,10 @@ impl SubscribeRef<'_> {
 
     /// Writes the body at the end.
     #[inline(always)]
-    #[tactic(auto, using(std::proofs::lemmas::List::append_assoc))]
+    #[tactic(auto, using(std::proofs::lemmas::List::append_assoc, crate::proofs::Fronts::begins_same, crate::proofs::Fronts::begins_less))]
     pub(crate) fn push(&self, out: &mut Vec<u8>) -> Result<(), AllocError>
-        ensures { OnOk result (out.new.items ≡ out.old.items ++ subscribe_body (subscribe_of self.now)) }
+        ensures ok { OnOk result (out.new.items ≡ out.old.items ++ subscribe_body (subscribe_of self.now)) }
+        ensures front { OnErr result (KeepsFront out.old.items out.new.items) }
     {
         u16_push(out, self.identifier)?;
         self.properties.push_block(out)?;
@@ -88,10 +91,12 @@ impl SubscribeRef<'_> {
     pub(crate) fn to_subscribe(&self, alloc: Global) -> Result<Subscribe, AllocError>
         ensures { IfOk result (λ s. s ≡ subscribe_of self.now) }
     {
+        let properties = self.properties.to_list(alloc)?;
+        let (properties, subscriptions) = both(properties, self.subscriptions.to_list(alloc))?;
         Ok(Subscribe {
             identifier: self.identifier,
-            properties: self.properties.to_list(alloc)?,
-            subscriptions: self.subscriptions.to_list(alloc)?,
+            properties,
+            subscriptions,
         })
     }
 }

@@ -8,6 +8,7 @@ ghost use Rattle.mqtt_base.specs.Reading.{Reads};
 ghost use Rattle.mqtt_base.specs.Items.{items_at, Answers};
 ghost use Rattle.mqtt_codec.specs.declared.fault.Fault.TheVariants.{Malformed};
 ghost use Rattle.mqtt_codec.specs.Reading.{Gives};
+ghost use Rattle.mqtt_codec.specs.Writing.{KeepsFront};
 ghost use Rattle.mqtt_codec.specs.Subscriptions.{subscription, IsSubscription, lawful_subscription, subscription_at, is_shared};
 ghost use Rattle.mqtt_codec.specs.Options.{options_byte};
 ghost use Rattle.mqtt_codec.specs.SubscriptionViews.{subscription_of, asked};
@@ -170,8 +171,10 @@ impl<'a> SubscriptionsRef<'a> {
     }
 
     /// Writes them at the end.
+    #[tactic(auto, using(crate::proofs::Fronts::begins_same))]
     pub(crate) fn push(&self, out: &mut Vec<u8>) -> Result<(), AllocError>
-        ensures { OnOk result (out.new.items ≡ out.old.items ++ flat_map subscription self.now) }
+        ensures ok { OnOk result (out.new.items ≡ out.old.items ++ flat_map subscription self.now) }
+        ensures front { OnErr result (KeepsFront out.old.items out.new.items) }
     {
         out.extend_from_slice(self.bytes)
     }
@@ -180,9 +183,8 @@ impl<'a> SubscriptionsRef<'a> {
     pub(crate) fn to_list(&self, alloc: Global) -> Result<Subscriptions, AllocError>
         ensures { IfOk result (λ list. list ≡ self.now) }
     {
-        Ok(Subscriptions {
-            bytes: Bytes::copy_from_slice(alloc, self.bytes)?,
-        })
+        let bytes = Bytes::copy_from_slice(alloc, self.bytes)?;
+        Ok(Subscriptions { bytes })
     }
 }
 

@@ -1,8 +1,9 @@
 //! A reason code and properties at the end of a packet, of which the last parts may be left out
 //! (3.4.2, 3.14.2, 3.15.2).
 
-ghost use Rattle.std.specs.Prelude.{◌≡◌, ◌∷◌, ◌<◌, ◌^◌, ◌++◌, OnOk, length};
+ghost use Rattle.std.specs.Prelude.{◌≡◌, ◌∷◌, ◌<◌, ◌^◌, ◌++◌, OnOk, OnErr, length};
 ghost use Rattle.mqtt_codec.specs.Reading.{Gives};
+ghost use Rattle.mqtt_codec.specs.Writing.{KeepsFront};
 ghost use Rattle.mqtt_codec.specs.Tails.{tail_at, tail};
 
 use crate::fault::Fault;
@@ -31,13 +32,14 @@ pub(crate) fn tail_read(place: Place, bytes: &[u8]) -> Result<(u8, PropsRef<'_>)
 
 /// Writes the shortest tail at the end.
 #[inline(always)]
-#[tactic(auto, using(std::proofs::lemmas::List::append_assoc))]
+#[tactic(auto, using(std::proofs::lemmas::List::append_assoc, crate::proofs::Fronts::begins_same, crate::proofs::Fronts::begins_less))]
 pub(crate) fn tail_push(
     out: &mut Vec<u8>,
     code: u8,
     properties: &PropsRef<'_>,
 ) -> Result<(), AllocError>
-    ensures { OnOk result (out.new.items ≡ out.old.items ++ tail code properties.now) }
+    ensures ok { OnOk result (out.new.items ≡ out.old.items ++ tail code properties.now) }
+    ensures front { OnErr result (KeepsFront out.old.items out.new.items) }
 {
     if !properties.is_empty() {
         out.push(code)?;

@@ -1,12 +1,14 @@
 //! UNSUBSCRIBE (3.10).
 
-ghost use Rattle.std.specs.Prelude.{◌≡◌, ◌<◌, ◌^◌, ◌++◌, IfOk, OnOk, IsTrue, ◌↔◌, length};
+ghost use Rattle.std.specs.Prelude.{◌≡◌, ◌<◌, ◌^◌, ◌++◌, IfOk, OnOk, OnErr, IsTrue, ◌↔◌, length};
 ghost use Rattle.mqtt_codec.specs.Reading.{Gives};
+ghost use Rattle.mqtt_codec.specs.Writing.{KeepsFront};
 ghost use Rattle.mqtt_codec.specs.Unsubscribe.{unsubscribe_at, unsubscribe_of, unsubscribe_body, FitsUnsubscribe, lawful_unsubscribe};
 
 use crate::blocks::stands;
 use crate::fault::Fault;
 use crate::filters::{Filters, FiltersRef, filters_read};
+use crate::owned::both;
 use mqtt_base::{u16_push, u16_read};
 use mqtt_props::{Place, PropList, PropsRef, layout_read};
 use std::alloc::{AllocError, Global};
@@ -65,9 +67,10 @@ impl UnsubscribeRef<'_> {
 
     /// Writes the body at the end.
     #[inline(always)]
-    #[tactic(auto, using(std::proofs::lemmas::List::append_assoc))]
+    #[tactic(auto, using(std::proofs::lemmas::List::append_assoc, crate::proofs::Fronts::begins_same, crate::proofs::Fronts::begins_less))]
     pub(crate) fn push(&self, out: &mut Vec<u8>) -> Result<(), AllocError>
-        ensures { OnOk result (out.new.items ≡ out.old.items ++ unsubscribe_body (unsubscribe_of self.now)) }
+        ensures ok { OnOk result (out.new.items ≡ out.old.items ++ unsubscribe_body (unsubscribe_of self.now)) }
+        ensures front { OnErr result (KeepsFront out.old.items out.new.items) }
     {
         u16_push(out, self.identifier)?;
         self.properties.push_block(out)?;
@@ -87,10 +90,12 @@ impl UnsubscribeRef<'_> {
     pub(crate) fn to_unsubscribe(&self, alloc: Global) -> Result<Unsubscribe, AllocError>
         ensures { IfOk result (λ s. s ≡ unsubscribe_of self.now) }
     {
+        let properties = self.properties.to_list(alloc)?;
+        let (properties, filters) = both(properties, self.filters.to_list(alloc))?;
         Ok(Unsubscribe {
             identifier: self.identifier,
-            properties: self.properties.to_list(alloc)?,
-            filters: self.filters.to_list(alloc)?,
+            properties,
+            filters,
         })
     }
 }

@@ -3,12 +3,13 @@ use Rattle.std.specs.Prelude.{ℕ, Bool, true, false, ◌||◌, List, [], ◌∷
 use Rattle.mqtt_base.specs.declared.limits.TheConstants.{OPEN_LIMIT}
 use Rattle.mqtt_flow.specs.declared.inflow.Published.{Published}
 use Rattle.mqtt_flow.specs.declared.inflow.Published.TheVariants.{New, Again, Over}
-use Rattle.mqtt_flow.specs.declared.inflow.Released.{Released}
-use Rattle.mqtt_flow.specs.declared.inflow.Released.TheVariants.{Known, Unknown}
+use Rattle.mqtt_flow.specs.declared.inflow.ReleaseAnswer.{ReleaseAnswer}
+use Rattle.mqtt_flow.specs.declared.inflow.ReleaseAnswer.TheVariants.{Known, Unknown}
 use Rattle.mqtt_base.specs.Codes.{success, no_matching_subscribers, session_taken_over, identifier_in_use, identifier_not_found, receive_maximum_exceeded, quota_exceeded}
-use Rattle.mqtt_flow.specs.Inbound.{answer_to, open_after, answer_to_release, ids_without}
+use Rattle.mqtt_flow.specs.Identifiers.{ids_without, free_identifier}
+use Rattle.mqtt_flow.specs.Inbound.{answer_to, open_after, answer_to_release}
 use Rattle.mqtt_flow.specs.Line.{Link, away, asked, live, sent_on}
-use Rattle.mqtt_flow.specs.Publisher.{Qos, Fate, FromPublisher, CONNECT, PUBLISH_1, PUBLISH_2, PUBREL, ToPublisher, CONNACK, CONNACK_REFUSED, PUBACK, PUBREC, PUBCOMP, DISCONNECT, in_flight, free_identifier, first_fate, first_packet, resent_from, on_new_session, on_puback, on_pubrec, on_pubcomp, pubrel_for}
+use Rattle.mqtt_flow.specs.Publisher.{Qos, Fate, FromPublisher, CONNECT, PUBLISH_1, PUBLISH_2, PUBREL, ToPublisher, CONNACK, CONNACK_REFUSED, PUBACK, PUBREC, PUBCOMP, DISCONNECT, in_flight, first_fate, first_packet, resent_from, on_new_session, on_puback, on_pubrec, on_pubcomp, pubrel_for, IsConnectAlone, IsHeard}
 
 pub record World : Type 0 where
   -- the publisher: a fate for each message that went out, by its number, and those that wait behind them
@@ -134,7 +135,7 @@ answer_2 refuse id = PUBREC id quota_exceeded
 answer_2 repeat id = PUBREC id success
 answer_2 shut id = DISCONNECT receive_maximum_exceeded
 
-abbrev pub answer_to_pubrel : Released → ℕ → ToPublisher
+abbrev pub answer_to_pubrel : ReleaseAnswer → ℕ → ToPublisher
 answer_to_pubrel Known id = PUBCOMP id success
 answer_to_pubrel Unknown id = PUBCOMP id identifier_not_found
 
@@ -271,6 +272,15 @@ run (event ∷ events) w = run events (step w event)
 -- the world after these events
 abbrev pub after : List Event → World
 after events = run events start
+
+-- a CONNECT is alone under way, on the publisher's line and on the one that it gave up last (3.1)
+abbrev pub ConnectsAlone : World → Type 0
+ConnectsAlone w = IsConnectAlone w.up × IsConnectAlone w.old
+
+-- what is under way on the publisher's line is nothing, or begins with CONNECT, or the session is connected there. So it
+-- is with what stays under way when the publisher gives its line up
+abbrev pub Heard : World → Type 0
+Heard w = IsHeard w.linked w.up
 
 -- what became of a message, and how often it was accepted
 abbrev pub fate_of : ℕ → World → Option Fate

@@ -20,7 +20,7 @@ use Rattle.mqtt_flow.specs.declared.entry.Turn.TheVariants.{Send, Resend, Releas
 use Rattle.mqtt_flow.specs.declared.entry.Way.{Way}
 use Rattle.mqtt_flow.specs.declared.pump.Step.{Step}
 use Rattle.mqtt_flow.specs.declared.pump.Step.TheVariants.{Stop, GoOn, Take}
-use Rattle.mqtt_flow.specs.FreeIdentifier.{closed_in, free_identifier}
+use Rattle.mqtt_flow.specs.Identifiers.{ids_without, free_identifier}
 use Rattle.mqtt_flow.specs.Pacing.{Pacing}
 use Rattle.mqtt_flow.specs.Queue.{identifiers, holder, next_order, in_window, entering, after, after_all, order_given}
 
@@ -148,9 +148,9 @@ pump_step way p e = step_by p.left (verdict way e) e.place p
 -- an identifier is free once its copy has left
 abbrev pub freed : Phase → List ℕ → List ℕ
 freed Waiting used = used
-freed (Sent i) used = closed_in i used
-freed (Released i order) used = closed_in i used
-freed (Oversize i order) used = closed_in i used
+freed (Sent i) used = ids_without i used
+freed (Released i order) used = ids_without i used
+freed (Oversize i order) used = ids_without i used
 
 abbrev pub paced : Turn → Phase → Pacing → Pacing
 paced (Send place i) phase p = record p { left = p.left - 1; room = p.room - 1; used = p.used ++ i ∷ [] }
@@ -197,9 +197,9 @@ lapsed now queue = after_all (expired now queue) queue
 abbrev pub is_refusal : ℕ → Bool
 is_refusal code = nat_le 0x80 code
 
-abbrev pub outcome : Bool → Ending
-outcome true = Refused
-outcome false = Taken
+abbrev pub ending_by : Bool → Ending
+ending_by true = Refused
+ending_by false = Taken
 
 abbrev pub Answer : Type 0
 Answer = Result (Option Turn) FlowFault
@@ -213,7 +213,7 @@ takes t = Ok (Some t)
 -- PUBACK ends a sent copy of QoS 1 (4.3.2)
 abbrev pub acknowledged : Qos → ℕ → ℕ → Answer
 acknowledged AtMostOnce code place = wrong
-acknowledged AtLeastOnce code place = takes (Leave place (outcome (is_refusal code)))
+acknowledged AtLeastOnce code place = takes (Leave place (ending_by (is_refusal code)))
 acknowledged ExactlyOnce code place = wrong
 
 abbrev pub puback_by : Phase → Qos → ℕ → ℕ → Answer
@@ -272,9 +272,9 @@ abbrev pub after_turn : Option Turn → List Entry → List Entry
 after_turn None queue = queue
 after_turn (Some t) queue = after t queue
 
-abbrev pub answered : Answer → List Entry → List Entry
-answered (Ok t) queue = after_turn t queue
-answered (Err fault) queue = queue
+abbrev pub after_answer : Answer → List Entry → List Entry
+after_answer (Ok t) queue = after_turn t queue
+after_answer (Err fault) queue = queue
 
 -- the order of release that an answer gives
 abbrev pub order_of_turn : Option Turn → ℕ

@@ -5,6 +5,7 @@ use Rattle.mqtt_base.specs.declared.Ending.{Ending}
 use Rattle.mqtt_base.specs.declared.Ending.TheVariants.{SessionEnded}
 use Rattle.mqtt_base.specs.declared.Qos.{Qos}
 use Rattle.mqtt_base.specs.declared.Qos.TheVariants.{AtMostOnce, AtLeastOnce, ExactlyOnce}
+use Rattle.mqtt_base.specs.Codes.{success, identifier_not_found}
 use Rattle.mqtt_flow.specs.declared.entry.Entry.{Entry}
 use Rattle.mqtt_flow.specs.declared.entry.QueuedCopy.{QueuedCopy}
 use Rattle.mqtt_flow.specs.declared.entry.QueueLimits.{QueueLimits}
@@ -13,17 +14,18 @@ use Rattle.mqtt_flow.specs.declared.entry.Turn.TheVariants.{Send, Resend, Releas
 use Rattle.mqtt_flow.specs.Queue.{entering, marked}
 use Rattle.mqtt_flow.specs.Outbound as rules
 use Rattle.mqtt_flow.specs.Outbound.{has_room, way_made, expired, unsent, resumed_with}
-use Rattle.mqtt_flow.specs.Receiver.{Body, Output, connack, no_connack, publish, pubrel, disconnect, Answer, connect, puback, pubrec, pubcomp, away, Hop, goes, spared, leaves, down_comes, gives_up, joins}
+use Rattle.mqtt_flow.specs.Line.{away, sent_on}
+use Rattle.mqtt_flow.specs.Receiver.{Body, Output, connack, no_connack, publish, pubrel, disconnect, Answer, connect, puback, pubrec, pubcomp, Hop, spared, leaves, down_comes, gives_up, joins}
 
 -- what a copy carries
-pub record Message : Type 0 where
+pub record TopicAndPayload : Type 0 where
   pub topic : List ℕ
   pub payload : List ℕ
 
 -- a copy that entered stands in the queue, or has ended; its number is its place in the list of all copies
 pub data Lot : Type 0 where
-  standing : (e : Entry) (m : Message) → Lot
-  past : (ending : Ending) (e : Entry) (m : Message) → Lot
+  standing : (e : Entry) (m : TopicAndPayload) → Lot
+  past : (ending : Ending) (e : Entry) (m : TopicAndPayload) → Lot
 
 -- the session's queue
 abbrev pub queue_of : List Lot → List Entry
@@ -45,11 +47,11 @@ is_twice AtMostOnce = false
 is_twice AtLeastOnce = false
 is_twice ExactlyOnce = true
 
-abbrev pub body : Entry → Message → Body
+abbrev pub body : Entry → TopicAndPayload → Body
 body e m = record { twice = is_twice e.copy.qos; topic = m.topic; payload = m.payload }
 
 -- a turn moves the copy at its place: this is `after`, with the copies that have ended beside the queue
-abbrev pub ended_by : Bool → Ending → Entry → Message → Lot
+abbrev pub ended_by : Bool → Ending → Entry → TopicAndPayload → Lot
 ended_by true ending e m = past ending e m
 ended_by false ending e m = standing e m
 
@@ -79,10 +81,10 @@ sends dup i place n (past ending e m ∷ ls) = sends dup i place (suc n) ls
 abbrev pub packets : Turn → List Lot → List Output
 packets (Send place i) lots = sends false i place 0 lots
 packets (Resend place i) lots = sends true i place 0 lots
-packets (Release place i order) lots = pubrel i 0 ∷ []
-packets (Outgrow place i order) lots = pubrel i 0 ∷ []
-packets (Repeat i) lots = pubrel i 0 ∷ []
-packets (Unknown i) lots = pubrel i 0x92 ∷ []
+packets (Release place i order) lots = pubrel i success ∷ []
+packets (Outgrow place i order) lots = pubrel i success ∷ []
+packets (Repeat i) lots = pubrel i success ∷ []
+packets (Unknown i) lots = pubrel i identifier_not_found ∷ []
 packets (Leave place ending) lots = []
 
 abbrev pub all_packets : List Turn → List Lot → List Output
@@ -91,7 +93,7 @@ all_packets (t ∷ ts) lots = packets t lots ++ all_packets ts lots
 
 abbrev pub told : List Output → World → World
 told [] w = w
-told (p ∷ ps) w = record w { down = goes w.linked w.down (p ∷ ps) }
+told (p ∷ ps) w = record w { down = sent_on w.linked w.down (p ∷ ps) }
 
 abbrev pub take_turn : Turn → World → World
 take_turn t w = told (packets t w.copies) (record w { copies = lots_after t w.copies })
@@ -101,10 +103,10 @@ take_turns [] w = w
 take_turns (t ∷ ts) w = take_turns ts (take_turn t w)
 
 -- a copy of QoS 1 or 2 enters the queue of a session that stands and has room
-abbrev pub pushes : QueuedCopy → Message → World → World
+abbrev pub pushes : QueuedCopy → TopicAndPayload → World → World
 pushes copy m w = record w { copies = w.copies ++ standing (entering copy (queue_of w.copies)) m ∷ [] }
 
-abbrev pub enters : Bool → Bool → Bool → QueueLimits → ℕ → QueuedCopy → Message → World → World
+abbrev pub enters : Bool → Bool → Bool → QueueLimits → ℕ → QueuedCopy → TopicAndPayload → World → World
 enters false granted room limits since copy m w = w
 enters true false room limits since copy m w = w
 enters true true false limits since copy m w = w
@@ -136,8 +138,8 @@ connects true false r rest w = resumed rest w
 abbrev pub connects_old : Bool → Bool → Bool → List Answer → World → World
 connects_old false c true rest w = record w { old = rest }
 connects_old false c false rest w = record w { old = rest; stands = true; copies = map cut w.copies }
-connects_old true true r rest w = record w { old = rest; copies = map cut w.copies; down = goes w.linked w.down (disconnect ∷ []); up = if w.linked then [] else w.up; linked = false }
-connects_old true false r rest w = record w { old = rest; copies = map renewed w.copies; down = goes w.linked w.down (disconnect ∷ []); up = if w.linked then [] else w.up; linked = false }
+connects_old true true r rest w = record w { old = rest; copies = map cut w.copies; down = sent_on w.linked w.down (disconnect ∷ []); up = if w.linked then [] else w.up; linked = false }
+connects_old true false r rest w = record w { old = rest; copies = map renewed w.copies; down = sent_on w.linked w.down (disconnect ∷ []); up = if w.linked then [] else w.up; linked = false }
 
 -- an answer is a turn, or none; a protocol error closes the line
 abbrev pub settles : Option Turn → World → World
@@ -145,7 +147,7 @@ settles None w = w
 settles (Some t) w = take_turn t w
 
 abbrev pub replied : rules.Answer → List Answer → World → World
-replied (Err fault) rest w = record w { up = []; linked = false; down = goes w.linked w.down (disconnect ∷ []) }
+replied (Err fault) rest w = record w { up = []; linked = false; down = sent_on w.linked w.down (disconnect ∷ []) }
 replied (Ok t) rest w = settles t (record w { up = rest })
 
 -- what goes out on the line that was given up is lost
@@ -175,7 +177,7 @@ old_comes r (pubcomp i code ∷ rest) w = replied_old (rules.pubcomp i (queue_of
 
 -- what can happen. A stop of the broker is `restart`, before the commit of an event in its place, after it behind it
 pub data Event : Type 0 where
-  enter : (limits : QueueLimits) (since : ℕ) (copy : QueuedCopy) (m : Message) → Event
+  enter : (limits : QueueLimits) (since : ℕ) (copy : QueuedCopy) (m : TopicAndPayload) → Event
   expire : (now : ℕ) → Event
   pump : (window now : ℕ) → Event
   to_broker : (refuse : Bool) → Event
@@ -199,7 +201,7 @@ step largest w to_end = down_comes w.down w
 step largest w give_up = gives_up w.clean w.link w
 step largest w break_line = leaves w
 step largest w (make_line c) = joins w.link c w
-step largest w close = record w { up = []; linked = false; down = goes w.linked w.down (disconnect ∷ []) }
+step largest w close = record w { up = []; linked = false; down = sent_on w.linked w.down (disconnect ∷ []) }
 step largest w close_old = record w { old = [] }
 step largest w restart = record w { link = away; linked = false; up = []; down = []; old = []; copies = map renewed w.copies }
 

@@ -1,8 +1,7 @@
 -- A conforming publisher: what becomes of its messages, and what it sends for them (4.3.2, 4.3.3, 4.4, 4.9).
-use Rattle.std.specs.Prelude.{ℕ, zero, suc, Bool, true, false, ◌&&◌, List, [], ◌∷◌, length, nat_eq, if◌then◌else◌, Option, Some, None, ⊤}
+use Rattle.std.specs.Prelude.{◌≡◌, ℕ, suc, Bool, true, false, ◌&&◌, List, [], ◌∷◌, nat_eq, Option, Some, None, ⊤, if◌then◌else◌}
 use Rattle.std.specs.List.{list_any}
 use Rattle.mqtt_base.specs.Codes.{is_success}
-use Rattle.mqtt_flow.specs.Inbound.{is_open}
 
 -- at least once (4.3.2), exactly once (4.3.3)
 pub data Qos : Type 0 where
@@ -30,6 +29,31 @@ pub data FromPublisher : Type 0 where
   PUBLISH_2 : (id n : ℕ) (dup : Bool) → FromPublisher
   PUBREL : (id : ℕ) → FromPublisher
 
+-- no CONNECT is under way
+abbrev pub HasNoConnect : List FromPublisher → Type 0
+HasNoConnect [] = ⊤
+HasNoConnect (CONNECT clean ∷ rest) = ⊥
+HasNoConnect (PUBLISH_1 id n dup ∷ rest) = HasNoConnect rest
+HasNoConnect (PUBLISH_2 id n dup ∷ rest) = HasNoConnect rest
+HasNoConnect (PUBREL id ∷ rest) = HasNoConnect rest
+
+-- or one alone
+abbrev pub IsConnectAlone : List FromPublisher → Type 0
+IsConnectAlone [] = ⊤
+IsConnectAlone (CONNECT clean ∷ rest) = rest ≡ []
+IsConnectAlone (PUBLISH_1 id n dup ∷ rest) = HasNoConnect rest
+IsConnectAlone (PUBLISH_2 id n dup ∷ rest) = HasNoConnect rest
+IsConnectAlone (PUBREL id ∷ rest) = HasNoConnect rest
+
+-- by whether the session is connected there: a PUBLISH or PUBREL is under way only where it is, a CONNECT only where it
+-- isn't yet
+abbrev pub IsHeard : Bool → List FromPublisher → Type 0
+IsHeard linked [] = ⊤
+IsHeard linked (CONNECT clean ∷ rest) = linked ≡ false
+IsHeard linked (PUBLISH_1 id n dup ∷ rest) = linked ≡ true
+IsHeard linked (PUBLISH_2 id n dup ∷ rest) = linked ≡ true
+IsHeard linked (PUBREL id ∷ rest) = linked ≡ true
+
 -- packets to a publisher. A CONNACK of success has Session Present, the other has none
 pub data ToPublisher : Type 0 where
   CONNACK : (present : Bool) → ToPublisher
@@ -47,15 +71,6 @@ in_flight (ended_1 by ∷ fates) = in_flight fates
 in_flight (sent id ∷ fates) = id ∷ in_flight fates
 in_flight (released id ∷ fates) = id ∷ in_flight fates
 in_flight (ended by ∷ fates) = in_flight fates
-
--- the lowest identifier from `id` on that isn't used, among the first `more + 1`
-abbrev pub lowest_from : ℕ → ℕ → List ℕ → ℕ
-lowest_from zero id used = id
-lowest_from (suc more) id used = if is_open id used then lowest_from more (suc id) used else id
-
--- the lowest one from 1 on (2.2.1)
-abbrev pub free_identifier : List ℕ → ℕ
-free_identifier used = lowest_from (length used) 1 used
 
 -- a message goes out
 abbrev pub first_fate : Qos → ℕ → Fate

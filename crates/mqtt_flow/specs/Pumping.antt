@@ -4,7 +4,7 @@ use Rattle.mqtt_flow.specs.declared.entry.Entry.{Entry}
 use Rattle.mqtt_flow.specs.declared.entry.Turn.{Turn}
 use Rattle.mqtt_flow.specs.declared.entry.Turn.TheVariants.{Send, Resend, Release, Outgrow, Repeat, Unknown, Leave}
 use Rattle.mqtt_flow.specs.declared.entry.Way.{Way}
-use Rattle.mqtt_flow.specs.FreeIdentifier.{has}
+use Rattle.mqtt_flow.specs.Identifiers.{is_among}
 use Rattle.mqtt_flow.specs.Queue.{Above, Ascends, in_window, after_all}
 use Rattle.mqtt_flow.specs.Outbound.{pump}
 
@@ -30,5 +30,5 @@ WithinWindow way queue = Ascends queue → in_window (after_all (pump way queue)
 -- the identifier of a first PUBLISH is the lowest that no copy has (2.2.1)
 pub record IsLowestFree (used : List ℕ) (i : ℕ) : Type 0 where
   pub some : 1 ≤ i
-  pub free : has i used ≡ false
-  pub lowest : (j : ℕ) → 1 ≤ j → j < i → has j used ≡ true
+  pub free : is_among i used ≡ false
+  pub lowest : (j : ℕ) → 1 ≤ j → j < i → is_among j used ≡ true

@@ -1,6 +1,8 @@
 -- A conforming receiver, its line, and the line that it gave up last (MQTT 5.0, 4.3, 4.4).
-use Rattle.std.specs.Prelude.{ℕ, ◌+◌, ◌<◌, Bool, true, false, cond, ◌||◌, List, [], ◌∷◌, ◌++◌, nat_eq, if◌then◌else◌, All, ⊤}
-use Rattle.mqtt_flow.specs.FreeIdentifier.{has, closed_in}
+use Rattle.std.specs.Prelude.{◌≡◌, ℕ, ◌+◌, ◌<◌, Bool, true, false, cond, ◌||◌, List, [], ◌∷◌, ◌++◌, nat_eq, if◌then◌else◌, All, ⊤}
+use Rattle.mqtt_base.specs.Codes.{success, identifier_not_found}
+use Rattle.mqtt_flow.specs.Identifiers.{is_among, ids_without}
+use Rattle.mqtt_flow.specs.Line.{Link, away, asked, live, sent_on}
 
 -- what a copy carries. `twice` says that its granted QoS is 2, not 1
 pub record Body : Type 0 where
@@ -22,12 +24,6 @@ pub data Answer : Type 0 where
   puback : (i code : ℕ) → Answer
   pubrec : (i code : ℕ) → Answer
   pubcomp : (i code : ℕ) → Answer
-
--- the receiver has no line, has sent CONNECT, or has read CONNACK
-pub data Link : Type 0 where
-  away : Link
-  asked : Link
-  live : Link
 
 -- what the receiver has read
 pub record Handed : Type 0 where
@@ -52,14 +48,6 @@ pub record Hop (C : Type 0) : Type 0 where
   pub ledger : List Handed
   pub reads : List Handed
 
--- what goes out where the session isn't connected on the receiver's line is lost
-abbrev pub goes : Bool → List Output → List Output → List Output
-goes linked down packets = if linked then down ++ packets else down
-
--- and what the receiver sends on a line that the broker has closed
-abbrev pub sent_on : Bool → List Answer → Answer → List Answer
-sent_on linked up p = if linked then up ++ p ∷ [] else up
-
 -- the line of a session that is connected anew is closed: what is under way there is not read, but for a CONNECT
 abbrev pub spared : List Answer → List Answer
 spared [] = []
@@ -68,16 +56,40 @@ spared (puback i code ∷ rest) = []
 spared (pubrec i code ∷ rest) = []
 spared (pubcomp i code ∷ rest) = []
 
+-- no CONNECT is under way
+abbrev pub HasNoConnect : List Answer → Type 0
+HasNoConnect [] = ⊤
+HasNoConnect (connect c ∷ rest) = ⊥
+HasNoConnect (puback i code ∷ rest) = HasNoConnect rest
+HasNoConnect (pubrec i code ∷ rest) = HasNoConnect rest
+HasNoConnect (pubcomp i code ∷ rest) = HasNoConnect rest
+
+-- or one alone
+abbrev pub IsConnectAlone : List Answer → Type 0
+IsConnectAlone [] = ⊤
+IsConnectAlone (connect c ∷ rest) = rest ≡ []
+IsConnectAlone (puback i code ∷ rest) = HasNoConnect rest
+IsConnectAlone (pubrec i code ∷ rest) = HasNoConnect rest
+IsConnectAlone (pubcomp i code ∷ rest) = HasNoConnect rest
+
+-- by whether the session is connected there: an answer is under way only where it is, a CONNECT only where it isn't yet
+abbrev pub IsHeard : Bool → List Answer → Type 0
+IsHeard linked [] = ⊤
+IsHeard linked (connect c ∷ rest) = linked ≡ false
+IsHeard linked (puback i code ∷ rest) = linked ≡ true
+IsHeard linked (pubrec i code ∷ rest) = linked ≡ true
+IsHeard linked (pubcomp i code ∷ rest) = linked ≡ true
+
 -- the receiver reads
 abbrev pub kept_after : ℕ → List ℕ → List ℕ
-kept_after i kept = if has i kept then kept else kept ++ i ∷ []
+kept_after i kept = if is_among i kept then kept else kept ++ i ∷ []
 
 abbrev pub ledger_after : ℕ → ℕ → Body → List ℕ → List Handed → List Handed
-ledger_after i n b kept ledger = if has i kept then ledger else ledger ++ record { copy = n; body = b } ∷ []
+ledger_after i n b kept ledger = if is_among i kept then ledger else ledger ++ record { copy = n; body = b } ∷ []
 
 abbrev pub read_publish : {C : Type 0} → Bool → ℕ → ℕ → Body → List Output → Hop C → Hop C
-read_publish true i n b rest w = record w { down = rest; kept = kept_after i w.kept; ledger = ledger_after i n b w.kept w.ledger; up = sent_on w.linked w.up (pubrec i 0) }
-read_publish false i n b rest w = record w { down = rest; reads = w.reads ++ record { copy = n; body = b } ∷ []; up = sent_on w.linked w.up (puback i 0) }
+read_publish true i n b rest w = record w { down = rest; kept = kept_after i w.kept; ledger = ledger_after i n b w.kept w.ledger; up = sent_on w.linked w.up (pubrec i success ∷ []) }
+read_publish false i n b rest w = record w { down = rest; reads = w.reads ++ record { copy = n; body = b } ∷ []; up = sent_on w.linked w.up (puback i success ∷ []) }
 
 -- a CONNACK that was not asked for is passed over
 abbrev pub read_connack : {C : Type 0} → Link → Bool → List Output → Hop C → Hop C
@@ -88,12 +100,17 @@ read_connack live p rest w = record w { down = rest }
 abbrev pub leaves : {C : Type 0} → Hop C → Hop C
 leaves w = record w { link = away; linked = false; up = []; down = [] }
 
+-- the code of PUBCOMP, by whether its identifier was known (3.7.2.1)
+abbrev pub release_code : Bool → ℕ
+release_code true = success
+release_code false = identifier_not_found
+
 abbrev pub down_comes : {C : Type 0} → List Output → Hop C → Hop C
 down_comes [] w = w
 down_comes (connack p ∷ rest) w = read_connack w.link p rest w
 down_comes (no_connack ∷ rest) w = leaves (record w { clean = false })
 down_comes (publish i n dup b ∷ rest) w = read_publish b.twice i n b rest w
-down_comes (pubrel i code ∷ rest) w = record w { down = rest; kept = closed_in i w.kept; up = sent_on w.linked w.up (pubcomp i (if has i w.kept then 0 else 146)) }
+down_comes (pubrel i code ∷ rest) w = record w { down = rest; kept = ids_without i w.kept; up = sent_on w.linked w.up (pubcomp i (release_code (is_among i w.kept)) ∷ []) }
 down_comes (disconnect ∷ rest) w = leaves w
 
 -- a Clean Start is carried through

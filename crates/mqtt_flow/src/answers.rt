@@ -2,7 +2,7 @@
 
 ghost use Rattle.std.specs.Prelude.{◌≡◌, ◌≤◌};
 ghost use Rattle.mqtt_flow.specs.Queue.{next_order};
-ghost use Rattle.mqtt_flow.specs.Outbound.{answered, is_refusal, order_asked, outcome, puback, pubcomp, pubrec};
+ghost use Rattle.mqtt_flow.specs.Outbound.{after_answer, is_refusal, order_asked, ending_by, puback, pubcomp, pubrec};
 
 use crate::entry::Turn;
 use crate::fault::FlowFault;
@@ -11,7 +11,7 @@ use mqtt_base::{Ending, LAST_NUMBER, Phase, Qos, Reason};
 
 /// The end that a reason code gives.
 fn ending_of(code: Reason) -> Ending
-    ensures { result ≡ outcome (is_refusal code.0) }
+    ensures { result ≡ ending_by (is_refusal code.0) }
 {
     if code.0 >= 0x80 {
         Ending::Refused
@@ -88,7 +88,7 @@ impl Outflow {
     /// Does what an answer asks for.
     fn settle(&mut self, answer: Result<Option<Turn>, FlowFault>)
         requires { order_asked answer ≤ LAST_NUMBER }
-        ensures queue { self.new.queue ≡ answered answer self.old.queue }
+        ensures queue { self.new.queue ≡ after_answer answer self.old.queue }
         ensures room { self.old.room ≤ self.new.room }
     {
         if let Ok(Some(turn)) = answer {
@@ -100,7 +100,7 @@ impl Outflow {
     /// memory.
     pub fn puback(&mut self, identifier: u16, code: Reason) -> Result<Option<Turn>, FlowFault>
         ensures answer { result ≡ puback identifier code.0 self.old.queue }
-        ensures queue { self.new.queue ≡ answered result self.old.queue }
+        ensures queue { self.new.queue ≡ after_answer result self.old.queue }
     {
         let answer = self.look_puback(identifier, code);
         self.settle(answer);
@@ -111,7 +111,7 @@ impl Outflow {
     pub fn pubrec(&mut self, identifier: u16, code: Reason) -> Result<Option<Turn>, FlowFault>
         requires { next_order self.old.queue ≤ LAST_NUMBER }
         ensures answer { result ≡ pubrec identifier code.0 self.old.queue }
-        ensures queue { self.new.queue ≡ answered result self.old.queue }
+        ensures queue { self.new.queue ≡ after_answer result self.old.queue }
     {
         let answer = self.look_pubrec(identifier, code);
         self.settle(answer);
@@ -122,7 +122,7 @@ impl Outflow {
     /// memory.
     pub fn pubcomp(&mut self, identifier: u16) -> Result<Option<Turn>, FlowFault>
         ensures answer { result ≡ pubcomp identifier self.old.queue }
-        ensures queue { self.new.queue ≡ answered result self.old.queue }
+        ensures queue { self.new.queue ≡ after_answer result self.old.queue }
     {
         let answer = self.look_pubcomp(identifier);
         self.settle(answer);

@@ -1,7 +1,8 @@
 //! The identifiers of QoS 2 PUBLISH packets that a session has open (4.3.3, 4.4, 4.9).
 
 ghost use Rattle.std.specs.Prelude.{◌≡◌, ◌<◌, ◌≤◌, [], IfErr, IfOk, OnErr, OnOk};
-ghost use Rattle.mqtt_flow.specs.Inbound.{is_open, answer_to, open_after, answer_to_release, ids_without, IsOpenList};
+ghost use Rattle.mqtt_flow.specs.Identifiers.{ids_without, is_among};
+ghost use Rattle.mqtt_flow.specs.Inbound.{answer_to, open_after, answer_to_release, IsOpenList};
 ghost use Rattle.mqtt_flow.specs.Inflow.{StandsAt, BelongsAt};
 
 use crate::fault::FlowFault;
@@ -22,7 +23,7 @@ pub enum Published {
 
 /// What the identifier of a PUBREL is (4.3.3).
 #[derive(Clone, Copy, Debug, PartialEq, Eq)]
-pub enum Released {
+pub enum ReleaseAnswer {
     /// Open, and closed from now on; answered PUBCOMP 0x00.
     Known,
     /// Not open; answered PUBCOMP 0x92.
@@ -118,7 +119,7 @@ impl Inflow {
     }
 
     /// Takes the identifier of a PUBREL (4.3.3). Takes no memory.
-    pub fn release(&mut self, id: u16) -> Released
+    pub fn release(&mut self, id: u16) -> ReleaseAnswer
         ensures answer { result ≡ answer_to_release id self.old.ids }
         ensures ok { self.new.ids ≡ ids_without id self.old.ids }
         ensures room { self.old.room ≤ self.new.room }
@@ -126,15 +127,15 @@ impl Inflow {
         match self.place(id) {
             Ok(place) => {
                 self.ids.remove(place);
-                Released::Known
+                ReleaseAnswer::Known
             }
-            Err(_) => Released::Unknown,
+            Err(_) => ReleaseAnswer::Unknown,
         }
     }
 
     /// Whether the identifier is open. Takes no memory.
     pub fn is_open(&self, id: u16) -> bool
-        ensures { result ≡ is_open id self.now.ids }
+        ensures { result ≡ is_among id self.now.ids }
     {
         self.place(id).is_ok()
     }

@@ -1,9 +1,10 @@
 //! Laws of the definitions: of open identifiers, and of every run of an inbound hop (4.3.2, 4.3.3, 4.9).
 
 ghost use Rattle.std.specs.Prelude.{◌≡◌, ◌≢◌, ℕ, ◌≤◌, true, false, List, ◌++◌, length, Some, None};
-ghost use Rattle.mqtt_flow.specs.Inbound.{is_open, answer_to, open_after, ids_without, IsOpenList};
+ghost use Rattle.mqtt_flow.specs.Identifiers.{ids_without, is_among};
+ghost use Rattle.mqtt_flow.specs.Inbound.{answer_to, open_after, IsOpenList};
 ghost use Rattle.mqtt_flow.specs.Publisher.{IsExactlyOnce, IsEnded, completed, refused, ended_1, ended};
-ghost use Rattle.mqtt_flow.specs.InboundWorld.{Event, after, fate_of, accepted_count};
+ghost use Rattle.mqtt_flow.specs.InboundWorld.{Event, after, fate_of, accepted_count, ConnectsAlone, Heard};
 ghost use Rattle.mqtt_flow.specs.declared.inflow.Published.TheVariants.{New};
 
 use mqtt_base::OPEN_LIMIT;
@@ -11,12 +12,12 @@ use mqtt_base::OPEN_LIMIT;
 /// A PUBLISH opens its own identifier, a PUBREL closes its own, and neither concerns another (4.3.3).
 pub fn own_identifier_alone()
     ensures opens { (id : ℕ) (ids : List ℕ) →
-        answer_to id ids ≡ New → is_open id (open_after id ids) ≡ true }
-    ensures closes { (id : ℕ) (ids : List ℕ) → is_open id (ids_without id ids) ≡ false }
+        answer_to id ids ≡ New → is_among id (open_after id ids) ≡ true }
+    ensures closes { (id : ℕ) (ids : List ℕ) → is_among id (ids_without id ids) ≡ false }
     ensures publish_alone { (id other : ℕ) (ids : List ℕ) →
-        other ≢ id → is_open other (open_after id ids) ≡ is_open other ids }
+        other ≢ id → is_among other (open_after id ids) ≡ is_among other ids }
     ensures release_alone { (id other : ℕ) (ids : List ℕ) →
-        other ≢ id → is_open other (ids_without id ids) ≡ is_open other ids }
+        other ≢ id → is_among other (ids_without id ids) ≡ is_among other ids }
 
     // What a session keeps stays a lawful list.
     ensures publish_lawful { (id : ℕ) (ids : List ℕ) → IsOpenList ids → IsOpenList (open_after id ids) }
@@ -44,4 +45,8 @@ pub fn inbound_once()
 
     // The session never has more identifiers open than its Receive Maximum (4.9).
     ensures within { (events : List Event) → length (after events).ids ≤ OPEN_LIMIT }
+
+    // What is under way on the publisher's line, and on the one that it gave up last.
+    ensures alone { (events : List Event) → ConnectsAlone (after events) }
+    ensures heard { (events : List Event) → Heard (after events) }
 {}

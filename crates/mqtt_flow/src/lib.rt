@@ -8,18 +8,14 @@ mod fault;
 mod inflow;
 mod laws;
 mod outbound_laws;
-#[cfg(test)]
-mod outbound_tests;
 mod outflow;
 mod plan;
 mod pump;
 mod queueing;
-#[cfg(test)]
-mod tests;
 
 pub use entry::{Entry, Full, QueueLimits, QueuedCopy, Turn, Way};
 pub use fault::FlowFault;
-pub use inflow::{Inflow, Published, Released};
+pub use inflow::{Inflow, Published, ReleaseAnswer};
 pub use laws::{inbound_once, own_identifier_alone};
 pub use outbound_laws::{outbound_once, pump_in_order};
 pub use outflow::Outflow;

@@ -4,10 +4,10 @@ ghost use Rattle.std.specs.Prelude.{ℕ, List};
 ghost use Rattle.mqtt_base.specs.declared.Ending.TheVariants.{Expired, Dropped};
 ghost use Rattle.mqtt_flow.specs.declared.entry.Entry.{Entry};
 ghost use Rattle.mqtt_flow.specs.declared.entry.Way.{Way};
-ghost use Rattle.mqtt_flow.specs.FreeIdentifier.{free_identifier};
+ghost use Rattle.mqtt_flow.specs.Identifiers.{free_identifier};
 ghost use Rattle.mqtt_flow.specs.Pumping.{InQueueOrder, WithinWindow, IsLowestFree};
 ghost use Rattle.mqtt_flow.specs.OutboundWorld.{Event, run, start};
-ghost use Rattle.mqtt_flow.specs.OutboundCourse.{Once, TakenOnce, ReleasedOnce, Unhanded, InOrder, GoOn, Carried, TakenRead};
+ghost use Rattle.mqtt_flow.specs.OutboundCourse.{Once, TakenOnce, ReleasedOnce, Unhanded, InOrder, GoOn, Carried, TakenRead, Grow, ReleasedForGood, ConnectsAlone, Heard};
 
 /// Every pump sends in the order of the queue, fills the client's window at most, and gives the
 /// lowest free identifiers
@@ -22,9 +22,8 @@ pub fn pump_in_order()
 /// whose PUBREC was
 /// taken is handed over once, with its publication's topic and payload and in the order of the
 /// queue; each copy waits
-/// on or ends once, for one cause; and a copy of QoS 1 that was taken was read. The receiver's
-/// Maximum Packet Size is
-/// the same on each of its lines (`largest`).
+/// on or ends once, for one cause; a copy of QoS 1 that was taken was read; and what was read stays
+/// read. The receiver's Maximum Packet Size is the same on each of its lines (`largest`).
 pub fn outbound_once()
     ensures once { (largest : ℕ) (events : List Event) → Once (run largest events start) }
     ensures taken { (largest : ℕ) (events : List Event) → TakenOnce (run largest events start) }
@@ -39,4 +38,12 @@ pub fn outbound_once()
     ensures read { (largest : ℕ) (events : List Event) → TakenRead (run largest events start) }
     ensures course { (largest : ℕ) (events later : List Event) →
         GoOn (run largest events start) (run largest later (run largest events start)) }
+    ensures grows { (largest : ℕ) (events later : List Event) →
+        Grow (run largest events start) (run largest later (run largest events start)) }
+    ensures for_good { (largest : ℕ) (events later : List Event) →
+        ReleasedForGood (run largest events start) (run largest later (run largest events start)) }
+
+    // What is under way on the receiver's line, and on the one that it gave up last.
+    ensures alone { (largest : ℕ) (events : List Event) → ConnectsAlone (run largest events start) }
+    ensures heard { (largest : ℕ) (events : List Event) → Heard (run largest events start) }
 {}

@@ -3,7 +3,7 @@
 ghost use Rattle.std.specs.Prelude.{◌≡◌, ◌+◌, ◌<◌, ◌≤◌, [], true, length, OnOk, IfOk, OnErr, IfErr, filter, map, nat_eq, not, vec_capacity, vec_len};
 ghost use Rattle.std.specs.Option.{option_copied};
 ghost use Rattle.mqtt_flow.specs.Queue.{IsQueue, after, after_all, greatest_given, holder, marked, next_order, next_place, order_given};
-ghost use Rattle.mqtt_flow.specs.Outbound.{KeptOut, anew, answered, entered, expired, has_room, is_refusal, outcome, puback, pubcomp, pubrec, pump, pushed, resumed_with, unsent, way_made};
+ghost use Rattle.mqtt_flow.specs.Outbound.{KeptOut, anew, after_answer, entered, expired, has_room, is_refusal, ending_by, puback, pubcomp, pubrec, pump, pushed, resumed_with, unsent, way_made};
 
 use crate::change::{apply, forget};
 use crate::entry::{Entry, QueueLimits, QueuedCopy, Turn, Way};

@@ -1,7 +1,7 @@
 //! What a session sees in its queue before it does anything (4.3, 4.4, 4.6, 4.9).
 
 ghost use Rattle.std.specs.Prelude.{◌≡◌, ◌+◌, ◌≤◌, ◌<◌, ◌^◌, [], length, IfOk, IfErr, OnOk, insert};
-ghost use Rattle.mqtt_flow.specs.FreeIdentifier.{free_identifier};
+ghost use Rattle.mqtt_flow.specs.Identifiers.{free_identifier};
 ghost use Rattle.mqtt_flow.specs.Queue.{is_holder, order_of, greatest_place, greatest_order, in_window, identifiers};
 ghost use Rattle.mqtt_flow.specs.Outbound.{is_waiting, gives_way, staying, has_room, dropped, is_late, is_large, expired, due_from, by_order};
 

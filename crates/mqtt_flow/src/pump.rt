@@ -1,7 +1,7 @@
 //! What a session sends on its connection (4.3, 4.4, 4.6, 4.9).
 
 ghost use Rattle.std.specs.Prelude.{◌≡◌, ◌+◌, ◌≤◌, ◌<◌, ◌^◌, ◌++◌, [], ◌∷◌, length, IfOk, IfErr, OnOk, OnErr};
-ghost use Rattle.mqtt_flow.specs.FreeIdentifier.{closed_in};
+ghost use Rattle.mqtt_flow.specs.Identifiers.{ids_without};
 ghost use Rattle.mqtt_flow.specs.Queue.{greatest_order};
 ghost use Rattle.mqtt_flow.specs.Outbound.{first_step, freed, in_room, later_step, pace, paced, pump, pump_step};
 
@@ -117,7 +117,7 @@ fn step_at(way: Way, pace: &Pace, entry: &Entry) -> Step
 
 /// Closes an identifier.
 fn close(used: &mut Vec<u16>, identifier: u16)
-    ensures items { used.new.items ≡ closed_in identifier used.old.items }
+    ensures items { used.new.items ≡ ids_without identifier used.old.items }
     ensures len { length used.new.items ≤ length used.old.items }
 {
     used.retain(|other| *other != identifier);

@@ -1,0 +1,3 @@
+pub mod PassedOn
+pub mod Queue
+pub mod Refusals

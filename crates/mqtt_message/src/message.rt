@@ -1,6 +1,7 @@
 //! What is kept of a message: content, Will, copy, retained message (3.1.3, 3.3).
 ghost use Rattle.std.specs.Prelude.{◌≡◌, ◌++◌, [], ◌∷◌, List, IfOk, OnOk, length};
 
+use crate::properties::PassedOn;
 use bytes::Bytes;
 use mqtt_base::{CopyId, Qos, Text};
 use mqtt_props::PropList;
@@ -30,6 +31,15 @@ impl SubscriptionIdentifiers {
         SubscriptionIdentifiers {
             all: Vec::new(alloc),
         }
+    }
+
+    /// Those of a slice.
+    pub fn from_slice(alloc: Global, identifiers: &[u32]) -> Result<Self, AllocError>
+        ensures { IfOk result (λ all. all ≡ identifiers.now) }
+    {
+        Ok(SubscriptionIdentifiers {
+            all: Vec::from_slice(alloc, identifiers)?,
+        })
     }
 
     /// Adds one at the end.
@@ -62,9 +72,8 @@ impl Clone for SubscriptionIdentifiers {
 pub struct Content {
     /// The topic name.
     pub topic: Text,
-    /// Properties in the order in which they are sent, without Subscription Identifiers and Topic
-    /// Alias.
-    pub properties: PropList,
+    /// Its properties as they are passed on.
+    pub properties: PassedOn,
     /// The payload.
     pub payload: Bytes,
     /// When the publication was accepted: a moment in milliseconds.

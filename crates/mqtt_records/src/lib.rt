@@ -15,7 +15,8 @@ pub use keep::{Keep, KeepError};
 pub use laws::{ended_session_leaves_nothing, numbers_never_fall};
 pub use memory::MemKeep;
 pub use mqtt_message::{
-    Content, CopyRow, MessageCopy, RetainedMessage, SubscriptionIdentifiers, Will,
+    Content, CopyFault, CopyRow, MessageCopy, PassedOn, RetainedMessage, SubscriptionIdentifiers,
+    Will,
 };
 pub use mqtt_rows::{
     Boxed, CloneRow, Editable, Named, Parted, Row, Rows, newest_comes_last, rows_are_determined,

@@ -19,11 +19,12 @@ use Rattle.mqtt_flow.specs.declared.entry.Turn.{Turn}
 use Rattle.mqtt_flow.specs.declared.entry.Turn.TheVariants as turns
 use Rattle.mqtt_flow.specs.declared.inflow.Published.{Published}
 use Rattle.mqtt_flow.specs.declared.inflow.Published.TheVariants.{New, Again, Over}
-use Rattle.mqtt_flow.specs.declared.inflow.Released.{Released}
-use Rattle.mqtt_flow.specs.declared.inflow.Released.TheVariants.{Known, Unknown}
+use Rattle.mqtt_flow.specs.declared.inflow.ReleaseAnswer.{ReleaseAnswer}
+use Rattle.mqtt_flow.specs.declared.inflow.ReleaseAnswer.TheVariants.{Known, Unknown}
 use Rattle.mqtt_base.specs.Codes.{success, identifier_in_use, identifier_not_found, quota_exceeded, receive_maximum_exceeded, session_taken_over}
 use Rattle.mqtt_base.specs.declared.limits.TheConstants.{SUBSCRIPTION_LIMIT}
-use Rattle.mqtt_flow.specs.Inbound.{answer_to, answer_to_release, is_open}
+use Rattle.mqtt_flow.specs.Identifiers.{is_among}
+use Rattle.mqtt_flow.specs.Inbound.{answer_to, answer_to_release}
 use Rattle.mqtt_flow.specs.Outbound.{Answer, due_from}
 use Rattle.mqtt_flow.specs.Outbound as rules
 use Rattle.mqtt_message.specs.declared.message.RetainedMessage.{RetainedMessage}
@@ -44,7 +45,7 @@ use Rattle.mqtt_rules.specs.Tick.{is_silent, silence, has_lapsed, lapse_deeds, i
 use Rattle.mqtt_rules.specs.Step.{Call, NewLine, Input, BadInput, Lost, Pump, Tick, first_packet, next_packet, on_packet, on_fault, late_code, on_pump, can_link, deeds_of, close_if, opening}
 use Rattle.mqtt_rules.proofs.FlightRows.{found_key}
 use Rattle.mqtt_rules.specs.Laws.{IsAmong}
-use Rattle.mqtt_rules.proofs.Leads.{found_among, found_passes, row_among, Leads, Leading, leads_append, leads_series, leads_two, leads_flat, leads_map, leads_cond, leads_if, leads_of_session, leads_of_client, leads_with_line}
+use Rattle.mqtt_rules.proofs.Leads.{found_among, found_passes, row_among, Leads, Leading, leads_append, leads_series, leads_two, leads_flat, leads_map, leads_cond, leads_of_session, leads_of_client, leads_with_line}
 
 -- ---- whom a step concerns
 
@@ -492,7 +493,7 @@ module _ (env : Env) (about : About) (Keep : Broker → Type 0) (Good : Deed →
 
   -- other packets
 
-  leads_release : (x : Released) (l : Line) (s : Session) (id : ℕ) (b : Broker) → Keep b → about.line l → about.session s.birth → Led (release_by x l s id) b
+  leads_release : (x : ReleaseAnswer) (l : Line) (s : Session) (id : ℕ) (b : Broker) → Keep b → about.line l → about.session s.birth → Led (release_by x l s id) b
   leads_release Known l s id b k its own =
       let first = At (whose s) (Release id) in
       leads_append Keep Good (first ∷ []) (Send l.number (pubcomp id success) ∷ []) b (law.alone (whose s) (Release id) b k own refl)
@@ -580,8 +581,8 @@ module _ (env : Env) (about : About) (Keep : Broker → Type 0) (Good : Deed →
   leads_next l (packets.Pubrec a) s b k its on came own there = leads_answered (rules.pubrec a.identifier a.reason.0 (queue_on l.went s)) l s b k its on own there (inr (inl (a.identifier, a.reason.0, refl)))
   leads_next l (packets.Pubrel a) s b k its on came own there = leads_release (answer_to_release a.identifier s.inbound) l s a.identifier b k its own
   leads_next l (packets.Pubcomp a) s b k its on came own there = leads_answered (rules.pubcomp a.identifier (queue_on l.went s)) l s b k its on own there (inr (inr (a.identifier, refl)))
-  leads_next l (packets.Subscribe p) s b k its on came own there = leads_subscribe (is_open p.identifier s.inbound) l.number s p b k (law.finds.its_number l its) own
-  leads_next l (packets.Unsubscribe p) s b k its on came own there = leads_unsubscribe (is_open p.identifier s.inbound) l.number s p b k (law.finds.its_number l its) own
+  leads_next l (packets.Subscribe p) s b k its on came own there = leads_subscribe (is_among p.identifier s.inbound) l.number s p b k (law.finds.its_number l its) own
+  leads_next l (packets.Unsubscribe p) s b k its on came own there = leads_unsubscribe (is_among p.identifier s.inbound) l.number s p b k (law.finds.its_number l its) own
   leads_next l packets.Pingreq s b k its on came own there = law.sends l.number packets.Pingresp b k (law.finds.its_number l its)
   leads_next l (packets.Disconnect m) s b k its on came own there =
       let expiry = number_at SessionExpiryInterval m.properties in

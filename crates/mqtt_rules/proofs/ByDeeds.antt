@@ -18,9 +18,8 @@ use Rattle.mqtt_flow.specs.Outbound.{Answer, way_made}
 use Rattle.mqtt_message.specs.declared.message.MessageCopy.{MessageCopy}
 use Rattle.mqtt_message.specs.declared.message.RetainedMessage.{RetainedMessage}
 use Rattle.mqtt_message.specs.declared.message.Will.{Will}
-use Rattle.mqtt_message.specs.declared.queue.CopyRow.{CopyRow}
+use Rattle.mqtt_message.specs.Queue.{CopyRow}
 use Rattle.mqtt_records.specs.declared.session.Session.{Session}
-use Rattle.mqtt_records.specs.declared.subscription.Subscription.{Subscription}
 use Rattle.mqtt_rows.specs.Order.{row_at}
 use Rattle.mqtt_records.specs.Session.{birth_of, copy_place}
 use Rattle.mqtt_rules.specs.Packets.{connack, pubrel, publish_of}
@@ -37,7 +36,6 @@ use Rattle.mqtt_rules.specs.Step.{Call, deeds_of, opening}
 use Rattle.mqtt_rules.specs.Tick.{lapses, lapse_deeds}
 use Rattle.mqtt_rules.proofs.FlightRows.{found_key}
 use Rattle.mqtt_rules.proofs.Goods.{AreGood}
-use Rattle.mqtt_rules.specs.Laws.{IsAmong}
 use Rattle.mqtt_rules.proofs.Leads.{Leads, leads_end, leads_append, leads_flat, leads_cond, leads_with_session, leads_of_entry}
 use Rattle.mqtt_rules.proofs.Acts.{About, anyone, call_of_anyone, leads_call, leads_opening, IsAnswer, is_alone, closing_session, closing_on, closing, brought_to, Finds, Law, IsAdmitted, IsGranted}
 use Rattle.mqtt_rules.proofs.Copies.{AreNumbered, IsMade, AreMade, routed_numbered, brought_made, made_numbered, beside_leaves, beside_deliver, made_stays, are_made_stay, each_filter}

@@ -202,25 +202,9 @@ enters_one = out ((2, pubrec 10 0) ∷ []) [] (Accepted 1 ∷ Entered (direct 1 
 abbrev enters_none : Outcome
 enters_none = out ((2, pubrec 10 0x10) ∷ []) [] (Accepted 1 ∷ []) false
 
-a_plus_matches_one_level : with_filter (codes "/+") (codes "/finance") ≡ enters_one
-unfolding varint
-a_plus_matches_one_level = refl
-
-a_plus_matches_an_empty_level : with_filter (codes "+/+") (codes "/finance") ≡ enters_one
-unfolding varint
-a_plus_matches_an_empty_level = refl
-
 a_plus_matches_no_second_level : with_filter (codes "+") (codes "/finance") ≡ enters_none
 unfolding varint
 a_plus_matches_no_second_level = refl
-
-a_hash_matches_its_parent : with_filter (codes "sport/#") (codes "sport") ≡ enters_one
-unfolding varint
-a_hash_matches_its_parent = refl
-
-a_dollar_topic_by_its_name : with_filter (codes "$SYS/#") (codes "$SYS/x") ≡ enters_one
-unfolding varint
-a_dollar_topic_by_its_name = refl
 
 a_hash_matches_no_dollar_topic : with_filter (codes "#") (codes "$SYS/x") ≡ enters_none
 unfolding varint

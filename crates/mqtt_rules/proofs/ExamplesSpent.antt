@@ -11,7 +11,7 @@ use Rattle.mqtt_records.specs.Records.{nothing}
 use Rattle.mqtt_rules.specs.Packets.{pubrec}
 use Rattle.mqtt_rules.specs.State.{Broker}
 use Rattle.mqtt_rules.specs.Step.{NewLine, Input, is_step_spent, is_opening_spent, unopened, opened}
-use Rattle.mqtt_rules.proofs.Play.{usual, blank, first, Event, at, runs, hello, hello_with, in_line, wants, topic, hi, sends, subscribed, entry, waiting, queued}
+use Rattle.mqtt_rules.proofs.Play.{usual, blank, first, Event, at, runs, hello, hello_with, in_line, wants, topic, hi, sends, subscribed, entry, waiting, queued, keeps}
 
 -- what is given is one above the greatest that stands
 abbrev gives_too_much : Event → Broker → Bool
@@ -88,6 +88,32 @@ the_last_subscribe = refl
 a_subscribe_above_the_last : gives_too_much (at 0 (Input 1 (wants 2 topic ExactlyOnce))) (counts 2 0 LAST_NUMBER) ≡ true
 unfolding varint
 a_subscribe_above_the_last = refl
+
+-- a retained message's place: a topic that stands keeps its own
+abbrev kept_at : ℕ → Broker
+kept_at place = let b = runs subscribed blank in record b {
+  records = record b.records {
+    retained = record {
+      place = place;
+      sender = codes "p1";
+      publication = 1;
+      qos = ExactlyOnce;
+      content = record { topic = codes "x"; properties = []; payload = hi; arrived = 0 };
+    } ∷ [];
+  };
+}
+
+the_last_retained_place : gives_too_much (at 0 (Input 2 (keeps topic 10))) (kept_at (LAST_NUMBER - 1)) ≡ false
+unfolding varint
+the_last_retained_place = refl
+
+a_retained_place_above_the_last : gives_too_much (at 0 (Input 2 (keeps topic 10))) (kept_at LAST_NUMBER) ≡ true
+unfolding varint
+a_retained_place_above_the_last = refl
+
+a_topic_that_stands_takes_none : gives_too_much (at 0 (Input 2 (keeps (codes "x") 10))) (kept_at LAST_NUMBER) ≡ false
+unfolding varint
+a_topic_that_stands_takes_none = refl
 
 -- ---- a moment is no number: a later one counts as the last
 

@@ -13,12 +13,12 @@ use Rattle.mqtt_flow.specs.declared.entry.QueuedCopy.{QueuedCopy}
 use Rattle.mqtt_flow.specs.declared.entry.Turn.{Turn}
 use Rattle.mqtt_flow.specs.declared.entry.Turn.TheVariants as turns
 use Rattle.mqtt_flow.specs.declared.entry.Way.{Way}
-use Rattle.mqtt_flow.specs.FreeIdentifier.{has, closed_in, free_identifier}
+use Rattle.mqtt_flow.specs.Identifiers.{is_among, ids_without, free_identifier}
 use Rattle.mqtt_flow.specs.Pacing.{Pacing}
 use Rattle.mqtt_flow.specs.Queue.{identifier_of, also, identifiers}
 use Rattle.mqtt_flow.specs.Outbound.{Verdict, pass, end, outgrow, send, resend, first_time, too_large, once_more, is_late, is_large, verdict_by, verdict, in_room, step_on, step_by, freed, paced, then_on, pump_from, pace, pump}
-use Rattle.mqtt_flow.proofs.OutIds.{has-push, has-closed_other, free_is_free}
-use Rattle.mqtt_message.specs.declared.queue.CopyRow.{CopyRow}
+use Rattle.mqtt_flow.proofs.Identifiers.{is_among-push, is_among-ids_without_other, free_is_free}
+use Rattle.mqtt_message.specs.Queue.{CopyRow}
 use Rattle.mqtt_records.specs.declared.session.Session.{Session}
 use Rattle.mqtt_rows.specs.Order.{IsAbove, IsAscending, row_at, remove_row, change_row}
 use Rattle.mqtt_records.specs.Session.{copy_place, in_phase}
@@ -38,13 +38,13 @@ use Rattle.mqtt_rules.proofs.FlightRecords.{Sits, flight_of, sits-marked, sits-l
 
 -- they hold all that a queue has
 abbrev pub Covers : List ℕ → List CopyRow → Type 0
-Covers used queue = (place id : ℕ) → identifier_at place queue ≡ Some id → has id used ≡ true
+Covers used queue = (place id : ℕ) → identifier_at place queue ≡ Some id → is_among id used ≡ true
 
-covers-also : (o : Option ℕ) (id : ℕ) (used : List ℕ) → has id used ≡ true → has id (also o used) ≡ true
+covers-also : (o : Option ℕ) (id : ℕ) (used : List ℕ) → is_among id used ≡ true → is_among id (also o used) ≡ true
 covers-also None id used h = h
 covers-also (Some j) id used h = elim (cases_Bool (nat_eq j id)) [ inl same ↦ rw same refl | inr other ↦ rw other h ]
 
-covers-first : (o : Option ℕ) (id : ℕ) (used : List ℕ) → o ≡ Some id → has id (also o used) ≡ true
+covers-first : (o : Option ℕ) (id : ℕ) (used : List ℕ) → o ≡ Some id → is_among id (also o used) ≡ true
 covers-first None id used e = absurd cc
 covers-first (Some j) id used e = let is : j ≡ id = cc in rw (ap (λ n. nat_eq n id) is ∙ nat_eq_equiv.refl id) refl
 
@@ -61,8 +61,8 @@ or_true false = refl
 
 covers-sent : (place i : ℕ) (e : CopyRow) (used : List ℕ) (queue : List CopyRow) → row_at copy_place place queue ≡ Some e → Covers used queue → Covers (used ++ i ∷ []) (change_row copy_place place (in_phase (Sent i)) queue)
 covers-sent place i e used queue there covers other id h = elim (identifier-marked place other id (Sent i) e queue there h) [
-  | inl it ↦ let new : Some i ≡ Some id = it.1 in let is : i ≡ id = cc in has-push id i used ∙ rw (ap (λ n. nat_eq id n) is ∙ nat_eq_equiv.refl id) (or_true (has id used))
-  | inr it ↦ has-push id i used ∙ rw (covers other id it.1) refl
+  | inl it ↦ let new : Some i ≡ Some id = it.1 in let is : i ≡ id = cc in is_among-push id i used ∙ rw (ap (λ n. nat_eq id n) is ∙ nat_eq_equiv.refl id) (or_true (is_among id used))
+  | inr it ↦ is_among-push id i used ∙ rw (covers other id it.1) refl
 ]
 
 covers-kept : (place : ℕ) (phase : Phase) (e : CopyRow) (used : List ℕ) (queue : List CopyRow) → row_at copy_place place queue ≡ Some e → identifier_of phase ≡ identifier_of e.phase → Covers used queue → Covers used (change_row copy_place place (in_phase phase) queue)
@@ -72,7 +72,7 @@ covers-kept place phase e used queue there same covers other id h = elim (identi
 ]
 
 -- the identifier of a copy that leaves is free, for no other copy has it
-covers-closed : (place j : ℕ) (used : List ℕ) (queue : List CopyRow) → identifier_at place queue ≡ Some j → IsFlight queue → Covers used queue → Covers (closed_in j used) (remove_row copy_place place queue)
+covers-closed : (place j : ℕ) (used : List ℕ) (queue : List CopyRow) → identifier_at place queue ≡ Some j → IsFlight queue → Covers used queue → Covers (ids_without j used) (remove_row copy_place place queue)
 covers-closed place j used queue its flight covers other id h =
     let left = identifier-removed other place id queue h in
     let apart_ids : nat_eq id j ≡ false = apart id j (λ same.
@@ -81,7 +81,7 @@ covers-closed place j used queue its flight covers other id h =
     let not = left.0 in
     let no : true ≡ false = sym is ∙ not in
     absurd cc) in
-    has-closed_other id j used apart_ids ∙ covers other id left.1
+    is_among-ids_without_other id j used apart_ids ∙ covers other id left.1
 
 covers-left : (phase : Phase) (place : ℕ) (used : List ℕ) (queue : List CopyRow) → identifier_at place queue ≡ identifier_of phase → IsFlight queue → Covers used queue → Covers (freed phase used) (remove_row copy_place place queue)
 covers-left Waiting place used queue its flight covers = λ other id h. covers other id (identifier-removed other place id queue h).1

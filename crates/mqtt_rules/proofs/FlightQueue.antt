@@ -5,7 +5,7 @@ use Rattle.std.proofs.lemmas.Bool.{eqb-true, cases_Bool}
 use Rattle.mqtt_base.specs.declared.session.Phase.{Phase}
 use Rattle.mqtt_base.specs.declared.session.Phase.TheVariants.{Sent}
 use Rattle.mqtt_flow.specs.Queue.{identifier_of}
-use Rattle.mqtt_message.specs.declared.queue.CopyRow.{CopyRow}
+use Rattle.mqtt_message.specs.Queue.{CopyRow}
 use Rattle.mqtt_rows.specs.Order.{IsAscending, row_at, has_row, put_row, insert_row, remove_row, change_row}
 use Rattle.mqtt_records.specs.Session.{copy_place, in_phase}
 use Rattle.mqtt_rows.proofs.OrderLemmas.{insert-ascending, remove-ascending, change-ascending}

@@ -7,11 +7,11 @@ use Rattle.mqtt_flow.specs.declared.entry.Turn.{Turn}
 use Rattle.mqtt_flow.specs.declared.entry.Turn.TheVariants as turns
 use Rattle.mqtt_flow.specs.Outbound.{staying, way_made, has_room}
 use Rattle.mqtt_flow.specs.Queue as flow
-use Rattle.mqtt_flow.proofs.OutRoom.{below_limit}
+use Rattle.mqtt_flow.proofs.outbound.Room.{below_limit}
 use Rattle.mqtt_base.specs.declared.session.Ending.{Ending}
 use Rattle.mqtt_message.specs.declared.message.MessageCopy.{MessageCopy}
 use Rattle.mqtt_message.specs.declared.message.Will.{Will}
-use Rattle.mqtt_message.specs.declared.queue.CopyRow.{CopyRow}
+use Rattle.mqtt_message.specs.Queue.{CopyRow}
 use Rattle.mqtt_base.specs.declared.limits.TheConstants.{QUEUE_LIMIT, SESSION_LIMIT}
 use Rattle.mqtt_records.specs.declared.session.Session.{Session}
 use Rattle.mqtt_records.specs.declared.session.Columns.{Columns}

@@ -25,11 +25,11 @@ use Rattle.mqtt_records.specs.declared.session.Session.{Session}
 use Rattle.mqtt_records.specs.Records.{nothing, changed_all}
 use Rattle.mqtt_rules.specs.declared.Limits.{Limits}
 use Rattle.mqtt_rules.specs.declared.Report.{Report}
-use Rattle.mqtt_rules.specs.Packets.{property, connack}
+use Rattle.mqtt_rules.specs.Packets.{property, connack, disconnect}
 use Rattle.mqtt_rules.specs.State.{Broker, session_at, stored, MemberChoice}
 use Rattle.mqtt_rules.specs.Step.{Call, NewLine, Input, Outcome, stepped, told, opened, at_moment, deeds, with_moment}
 use Rattle.mqtt_message.specs.declared.message.MessageCopy.{MessageCopy}
-use Rattle.mqtt_message.specs.declared.queue.CopyRow.{CopyRow}
+use Rattle.mqtt_message.specs.Queue.{CopyRow}
 use Rattle.mqtt_rows.specs.Order.{change_row}
 use Rattle.mqtt_records.specs.Session.{birth_of, fresh}
 use Rattle.mqtt_records.specs.declared.change.Change.{Change}
@@ -298,3 +298,20 @@ shared = codes "$share/g/a/b"
 
 abbrev pub in_group : ℕ → ℕ → CopyId
 in_group number birth = record { publication = number; birth = birth; cause = Share (codes "g/a/b") }
+
+-- ---- answers on line 1: CONNACK with a code, or DISCONNECT with one, and it closes; or it closes without an answer
+
+abbrev pub turned_away : ℕ → Outcome
+turned_away code = out ((1, connack false code []) ∷ []) (1 ∷ []) [] false
+
+abbrev pub told_off : ℕ → Outcome
+told_off code = out ((1, disconnect code) ∷ []) (1 ∷ []) [] false
+
+abbrev pub hung_up : Outcome
+hung_up = out [] (1 ∷ []) [] false
+
+abbrev pub nothing_at_all : Outcome
+nothing_at_all = out [] [] [] false
+
+abbrev pub linked : List Event
+linked = at 0 NewLine ∷ []

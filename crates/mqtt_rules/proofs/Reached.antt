@@ -1,10 +1,10 @@
 -- Each eligible member of a group is chosen by some number, and a choice for one group leaves those of the others free.
-use Rattle.std.proofs.Common.{◌≡◌, ℕ, zero, suc, Bool, true, List, [], ◌∷◌, ◌++◌, length, filter, Option, Some, None, refl, ap, sym, subst, ◌∙◌, inl, inr}
+use Rattle.std.proofs.Common.{◌≡◌, ℕ, suc, Bool, true, List, [], ◌∷◌, ◌++◌, length, filter, Option, Some, None, ap, ◌∙◌, inl, inr}
 use Rattle.std.specs.Prelude.{slice_index_or}
 use Rattle.std.specs.Option.{option_and_then}
 use Rattle.std.proofs.lemmas.Bool.{cases_Bool}
 use Rattle.mqtt_routes.specs.Intended.{Publication, Answers, Copy, Member, in_group}
-use Rattle.mqtt_routes.specs.Acceptance.{Served, is_eligible, later_choices, first_choice, chosen, outcome, eligible_of, serve_one, serve}
+use Rattle.mqtt_routes.specs.Acceptance.{Served, is_eligible, chosen, outcome, eligible_of, serve_one, serve}
 use Rattle.mqtt_rules.specs.Laws.{IsAmong, served_by}
 
 among_filter : {X : Type 0} (test : X → Bool) (x : X) (xs : List X) → IsAmong x xs → test x ≡ true → IsAmong x (filter test xs)

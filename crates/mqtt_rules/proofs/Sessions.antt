@@ -34,18 +34,6 @@ at_once = Some (will_with [])
 
 -- ---- DISCONNECT, and other ways to leave
 
-a_disconnect_drops_the_will : asks (with_will forever at_once) (at 0 (Input 2 (disconnect 0))) ≡ out [] (2 ∷ []) [] false
-unfolding varint
-a_disconnect_drops_the_will = refl
-
-a_disconnect_with_a_code_keeps_it : asks (with_will forever at_once) (at 0 (Input 2 (disconnect 4))) ≡ out [] (2 ∷ []) (Accepted 1 ∷ Entered (direct 1 1) (codes "r1") ∷ []) false
-unfolding varint
-a_disconnect_with_a_code_keeps_it = refl
-
-a_lost_line_keeps_it : asks (with_will forever at_once) (at 0 (Lost 2)) ≡ out [] (2 ∷ []) (Accepted 1 ∷ Entered (direct 1 1) (codes "r1") ∷ []) false
-unfolding varint
-a_lost_line_keeps_it = refl
-
 -- it is published once
 a_will_is_published_once : all_reports (with_will forever at_once ++ at 0 (Lost 2) ∷ at 10 Tick ∷ in_line 3 (hello (codes "w1")) ++ at 20 (Lost 3) ∷ at 30 Tick ∷ []) blank
     ≡ Accepted 1 ∷ Entered (direct 1 1) (codes "r1") ∷ []

@@ -1,5 +1,5 @@
--- Full tables and queues, and copies that are too large: matching, and the oldest that make way (MQTT 5.0, 3.1.2.11.4, 4.7, 4.9).
-use Rattle.std.proofs.Common.{◌≡◌, ℕ, Bool, true, false, List, [], ◌∷◌, ◌++◌, map, length, None, refl}
+-- Full tables and queues, and copies that are too large: room, and the oldest that make way (MQTT 5.0, 3.1.2.11.4, 4.9).
+use Rattle.std.proofs.Common.{◌≡◌, ℕ, true, false, List, [], ◌∷◌, ◌++◌, length, None, refl}
 use Rattle.std.specs.Prelude.{codes, replicate}
 use Rattle.mqtt_base.specs.Values.{varint}
 use Rattle.mqtt_base.specs.declared.session.Qos.TheVariants.{ExactlyOnce}
@@ -11,8 +11,6 @@ use Rattle.mqtt_props.specs.Properties.{U32}
 use Rattle.mqtt_codec.specs.declared.publish.Delivery.TheVariants as delivery
 use Rattle.mqtt_codec.specs.declared.packet.Packet.{Packet}
 use Rattle.mqtt_codec.specs.declared.packet.Packet.TheVariants.{Publish}
-use Rattle.mqtt_topic.specs.Filters.{is_filter}
-use Rattle.mqtt_topic.specs.Matching.{is_match}
 use Rattle.mqtt_flow.specs.declared.entry.Full.{Full}
 use Rattle.mqtt_flow.specs.declared.entry.Full.TheVariants.{Refuse, Drop}
 use Rattle.mqtt_rules.specs.declared.Report.{Report}
@@ -21,31 +19,6 @@ use Rattle.mqtt_rules.specs.Packets.{property, pubrec, pubrel, pubcomp, suback}
 use Rattle.mqtt_rules.specs.State.{Broker}
 use Rattle.mqtt_rules.specs.Step.{NewLine, Input, Lost, Pump, Outcome}
 use Rattle.mqtt_rules.proofs.Play.{usual, blank, Event, at, runs, tells, asks, runs_with, tells_with, step, out, hello, hello_with, never_expires, in_line, wants_with, wish, options, wants, topic, message, sends, direct, subscribed, Keeps, nothing_written, narrow, entry, waiting, queued, keeps}
-
--- ---- matching (4.7.1, 4.7.2)
-
-abbrev matching : List ℕ → List (List ℕ) → List Bool
-matching name filters = map (λ f. is_match f name) filters
-
-a_leading_slash_makes_an_empty_level : matching (codes "/finance") (codes "/+" ∷ codes "+/+" ∷ codes "+" ∷ []) ≡ true ∷ true ∷ false ∷ []
-a_leading_slash_makes_an_empty_level = refl
-
-a_hash_matches_its_parent : matching (codes "sport") (codes "sport/#" ∷ codes "sport" ∷ codes "#" ∷ codes "sport/+" ∷ [])
-    ≡ true ∷ true ∷ true ∷ false ∷ []
-a_hash_matches_its_parent = refl
-
-a_leading_wildcard_skips_a_dollar : matching (codes "$SYS/x") (codes "$SYS/#" ∷ codes "#" ∷ codes "+/x" ∷ codes "$SYS/+" ∷ [])
-    ≡ true ∷ false ∷ false ∷ true ∷ []
-a_leading_wildcard_skips_a_dollar = refl
-
-valid_filters : map is_filter (codes "a/#" ∷ codes "a/+/b" ∷ codes "#" ∷ codes "+" ∷ codes "/" ∷ codes "$share/g/a/+" ∷ [])
-    ≡ replicate 6 true
-valid_filters = refl
-
-no_filters : map is_filter (codes "a/#/b" ∷ codes "a#" ∷ codes "+a" ∷ [] ∷ codes "$share/g" ∷ codes "$share//a" ∷ codes "$share/g/"
-    ∷ codes "$share/g+/a" ∷ [])
-    ≡ replicate 8 false
-no_filters = refl
 
 -- ---- a queue that is full
 

@@ -51,12 +51,16 @@ least_packet_size = 64
 abbrev pub auto : List ℕ
 auto = codes "auto-"
 
+-- a name of that form which no session has
+abbrev pub is_unassigned : List ℕ → Records → Bool
+is_unassigned name r = starts_with nat_eq name auto && is_none (session_named name r)
+
 abbrev pub refusal : Connect → Records → Option ℕ
 refusal c r = first_case (
     case (has AuthenticationMethod c.properties) bad_authentication_method
     ∷ case (nat_lt (largest_of c) least_packet_size) packet_too_large
     ∷ case (nat_lt CLIENT_LIMIT (length c.client_identifier)) client_identifier_not_valid
-    ∷ case (starts_with nat_eq c.client_identifier auto && is_none (session_named c.client_identifier r)) client_identifier_not_valid
+    ∷ case (is_unassigned c.client_identifier r) client_identifier_not_valid
     ∷ case (has_bad_topic c.will) topic_name_invalid
     ∷ [])
 
@@ -66,7 +70,8 @@ refusal_size = 5
 
 -- CONNACK with the code, where the client takes so many bytes, and the line closes
 abbrev pub refused : Line → Connect → ℕ → List Deed
-refused l c code = cond (nat_lt (largest_of c) refusal_size) [] (Send l.number (connack false code []) ∷ []) ++ Gone l.number ∷ []
+refused l c code =
+    cond (nat_lt (largest_of c) refusal_size) [] (Send l.number (connack false code []) ∷ []) ++ Gone l.number ∷ []
 
 -- ---- what comes before the new connection: takeover, settling, and Clean Start (3.1.4, 3.1.2.4)
 
@@ -131,7 +136,9 @@ will_of c = option_map will_kept c.will
 -- CONNACK, then PUBREL for each released copy, in the order of release (4.4)
 abbrev pub resume : Line → Connect → ℕ → Session → List Deed
 resume l c now s =
-    At (whose s) (Resume (expiry_of c) (will_of c)) ∷ greet l c s.birth ∷ Send l.number (connack true success (connack_properties false []))
+    At (whose s) (Resume (expiry_of c) (will_of c))
+    ∷ greet l c s.birth
+    ∷ Send l.number (connack true success (connack_properties false []))
     ∷ all_turn_deeds now l.number s (resumed_with (queue_on [] s))
 
 abbrev pub fresh_row : ℕ → List ℕ → Connect → Columns
@@ -139,7 +146,10 @@ fresh_row birth client c = record { birth = birth; client = client; expiry = exp
 
 abbrev pub begin : Line → Connect → Bool → List ℕ → ℕ → List Deed
 begin l c is_assigned client birth =
-    Begin (fresh_row birth client c) (will_of c) ∷ greet l c birth ∷ Send l.number (connack false success (connack_properties is_assigned client)) ∷ []
+    Begin (fresh_row birth client c) (will_of c)
+    ∷ greet l c birth
+    ∷ Send l.number (connack false success (connack_properties is_assigned client))
+    ∷ []
 
 -- an empty client identifier is given one (3.1.3.1)
 abbrev pub begin_named : Bool → Line → Connect → Records → List Deed

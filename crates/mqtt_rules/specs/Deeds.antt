@@ -1,17 +1,18 @@
 -- A step is a list of deeds, in the order of what they tell. All else of a step is read off its deeds.
 use Rattle.std.specs.Prelude.{ℕ, Bool, true, false, cond, not, List, [], ◌∷◌, ◌++◌, filter, map, nat_eq, nat_le, Option, Some, None}
+use Rattle.mqtt_base.specs.declared.limits.TheConstants.{ALIAS_LIMIT}
 use Rattle.mqtt_base.specs.declared.session.Qos.{Qos}
 use Rattle.mqtt_base.specs.declared.session.Phase.{Phase}
 use Rattle.mqtt_base.specs.declared.session.Phase.TheVariants.{Waiting}
 use Rattle.mqtt_base.specs.declared.session.Ending.{Ending}
 use Rattle.mqtt_props.specs.Properties.{Prop}
 use Rattle.mqtt_codec.specs.declared.packet.Packet.{Packet}
-use Rattle.mqtt_topic.specs.Aliases.{with_topic}
-use Rattle.mqtt_flow.specs.FreeIdentifier.{closed_in}
+use Rattle.mqtt_topic.specs.Aliases.{no_aliases, after_resolve}
+use Rattle.mqtt_flow.specs.Identifiers.{ids_without}
 use Rattle.mqtt_message.specs.declared.message.MessageCopy.{MessageCopy}
 use Rattle.mqtt_message.specs.declared.message.RetainedMessage.{RetainedMessage}
 use Rattle.mqtt_message.specs.declared.message.Will.{Will}
-use Rattle.mqtt_message.specs.declared.queue.CopyRow.{CopyRow}
+use Rattle.mqtt_message.specs.Queue.{CopyRow}
 use Rattle.mqtt_records.specs.declared.subscription.Subscription.{Subscription}
 use Rattle.mqtt_records.specs.declared.session.Session.{Session}
 use Rattle.mqtt_records.specs.declared.session.Columns.{Columns}
@@ -145,7 +146,7 @@ fresh_line n now = record {
   keep_alive = 0;
   window = 0;
   largest = 0;
-  aliases = [];
+  aliases = no_aliases ALIAS_LIMIT;
   went = [];
 }
 
@@ -153,7 +154,7 @@ abbrev pub line_after : ℕ → LinePart → Line → Line
 line_after now Hear l = record l { heard = now }
 line_after now (Greet birth keep_alive window largest) l =
     record l { session = Some birth; keep_alive = keep_alive; window = window; largest = largest }
-line_after now (SetAlias alias topic) l = record l { aliases = with_topic alias topic l.aliases }
+line_after now (SetAlias alias topic) l = record l { aliases = after_resolve l.aliases topic (Some alias) }
 line_after now (Went place) l = record l { went = l.went ++ place ∷ [] }
 
 abbrev pub on_line : ℕ → ℕ → LinePart → List Line → List Line
@@ -162,7 +163,7 @@ on_line now n part (l ∷ ls) = cond (nat_eq l.number n) (line_after now part l 
 
 -- a copy that left its session's queue is sent on its line no longer
 abbrev pub without_place : ℕ → ℕ → Line → Line
-without_place birth place l = cond (is_of l.session birth) (record l { went = closed_in place l.went }) l
+without_place birth place l = cond (is_of l.session birth) (record l { went = ids_without place l.went }) l
 
 abbrev pub lines_at : ℕ → Part → List Line → List Line
 lines_at birth (Leave e ending) ls = map (without_place birth e.place) ls

@@ -2,7 +2,7 @@
 use Rattle.std.specs.Prelude.{◌≡◌, ℕ, List, Option, Some, None}
 use Rattle.std.specs.List.{AllByRecursion}
 use Rattle.mqtt_flow.specs.Queue.{identifier_of}
-use Rattle.mqtt_message.specs.declared.queue.CopyRow.{CopyRow}
+use Rattle.mqtt_message.specs.Queue.{CopyRow}
 use Rattle.mqtt_records.specs.declared.records.Records.{Records}
 use Rattle.mqtt_rows.specs.Order.{IsAscending, row_at}
 use Rattle.mqtt_records.specs.Session.{copy_place}
@@ -18,7 +18,8 @@ identifier_at place queue = identifier_in (row_at copy_place place queue)
 -- each place of a queue is above those before it, and copies at different places have different packet identifiers
 pub record IsFlight (queue : List CopyRow) : Type 0 where
   pub places : IsAscending copy_place queue
-  pub identifiers : (place other id : ℕ) → identifier_at place queue ≡ Some id → identifier_at other queue ≡ Some id → place ≡ other
+  pub identifiers : (place other id : ℕ)
+      → identifier_at place queue ≡ Some id → identifier_at other queue ≡ Some id → place ≡ other
 
 -- so it is in each session
 abbrev pub HasDistinctIdentifiers : Records → Type 0

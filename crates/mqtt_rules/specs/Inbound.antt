@@ -1,5 +1,5 @@
 -- What a connected client sends, SUBSCRIBE and UNSUBSCRIBE aside (MQTT 5.0, 3.3 to 3.7, 3.14, 4.3, 4.4).
-use Rattle.std.specs.Prelude.{ℕ, Bool, true, false, cond, not, ◌&&◌, ◌||◌, List, [], ◌∷◌, nat_eq, nat_lt, Option, Some, None, Ok, Err}
+use Rattle.std.specs.Prelude.{ℕ, Bool, true, false, cond, not, ◌&&◌, List, [], ◌∷◌, nat_eq, nat_lt, nat_le, Option, Some, None, Ok, Err}
 use Rattle.mqtt_props.specs.declared.table.PropName.TheVariants.{SubscriptionIdentifier, TopicAlias}
 use Rattle.mqtt_props.specs.Laws.{has}
 use Rattle.mqtt_codec.specs.declared.publish.Delivery.{Delivery}
@@ -7,14 +7,15 @@ use Rattle.mqtt_codec.specs.declared.publish.Delivery.TheVariants as delivery
 use Rattle.mqtt_codec.specs.declared.publish.Publish.{Publish}
 use Rattle.mqtt_codec.specs.Publish.{delivery_qos}
 use Rattle.mqtt_topic.specs.Names.{is_topic_name, is_empty}
-use Rattle.mqtt_topic.specs.Aliases.{topic_of}
+use Rattle.mqtt_topic.specs.declared.fault.TopicFault.{TopicFault}
+use Rattle.mqtt_topic.specs.declared.fault.TopicFault.TheVariants.{Empty, WildcardInName, WildcardPlace, Share, AliasRange, AliasUnknown, Memory}
+use Rattle.mqtt_topic.specs.Aliases.{AliasTable, topic_of}
 use Rattle.mqtt_flow.specs.declared.entry.Turn.{Turn}
 use Rattle.mqtt_flow.specs.declared.inflow.Published.{Published}
 use Rattle.mqtt_flow.specs.declared.inflow.Published.TheVariants.{New, Again, Over}
-use Rattle.mqtt_flow.specs.declared.inflow.Released.{Released}
-use Rattle.mqtt_flow.specs.declared.inflow.Released.TheVariants.{Known, Unknown}
-use Rattle.mqtt_base.specs.Codes.{success, normal_disconnection, no_matching_subscribers, protocol_error, topic_name_invalid, identifier_in_use, identifier_not_found, receive_maximum_exceeded, topic_alias_invalid, quota_exceeded}
-use Rattle.mqtt_base.specs.declared.limits.TheConstants.{ALIAS_LIMIT}
+use Rattle.mqtt_flow.specs.declared.inflow.ReleaseAnswer.{ReleaseAnswer}
+use Rattle.mqtt_flow.specs.declared.inflow.ReleaseAnswer.TheVariants.{Known, Unknown}
+use Rattle.mqtt_base.specs.Codes.{success, normal_disconnection, no_matching_subscribers, unspecified_error, protocol_error, topic_name_invalid, identifier_in_use, identifier_not_found, receive_maximum_exceeded, topic_alias_invalid, quota_exceeded}
 use Rattle.mqtt_flow.specs.Inbound.{answer_to, answer_to_release}
 use Rattle.mqtt_flow.specs.Outbound.{Answer, pump}
 use Rattle.mqtt_flow.specs.Outbound as rules
@@ -26,35 +27,49 @@ use Rattle.mqtt_rules.specs.Outbound.{turn_deeds, all_turn_deeds, way_of}
 use Rattle.mqtt_rules.specs.Routing.{CopyTo, accepted_copies, publish, is_wanted}
 use Rattle.mqtt_rules.specs.Closing.{close, drop_line}
 
--- ---- the topic that a PUBLISH means, or the code for one that means none (3.3.2.1, 3.3.2.3.4)
+-- ---- the topic that a PUBLISH means, or the code for one that means none (3.3.2.1, 3.3.2.3.4), case by case as
+-- `Resolves` and `RefusesAlias` of mqtt_topic have it
 
 pub data Meaning : Type 0 where
   Means : (topic : List ℕ) → Meaning
   Wrong : (code : ℕ) → Meaning
 
-abbrev pub is_out_of_range : Option ℕ → Bool
-is_out_of_range None = false
-is_out_of_range (Some n) = nat_eq n 0 || nat_lt ALIAS_LIMIT n
-
-abbrev pub stands_for : Option ℕ → List (ℕ × List ℕ) → Option (List ℕ)
-stands_for None aliases = None
-stands_for (Some n) aliases = topic_of n aliases
-
-abbrev pub meant : Option (List ℕ) → Meaning
-meant None = Wrong protocol_error
-meant (Some topic) = Means topic
-
+-- a topic of its own
 abbrev pub named : List ℕ → Meaning
-named topic = cond (is_topic_name topic) (Means topic) (Wrong topic_name_invalid)
+named [] = Wrong protocol_error
+named (c ∷ cs) = cond (is_topic_name (c ∷ cs)) (Means (c ∷ cs)) (Wrong topic_name_invalid)
 
--- in the order of the refusals
-abbrev pub meaning : Publish → List (ℕ × List ℕ) → Meaning
-meaning p aliases =
-    let alias = number_at TopicAlias p.properties in
-    cond (has SubscriptionIdentifier p.properties) (Wrong protocol_error) (
-    cond (is_out_of_range alias) (Wrong topic_alias_invalid) (
-    cond (is_empty p.topic) (meant (stands_for alias aliases)) (
-    named p.topic)))
+abbrev pub known : Option (List ℕ) → Meaning
+known None = Wrong protocol_error
+known (Some topic) = Means topic
+
+-- with an alias it may be empty: then it is what the alias stands for
+abbrev pub named_by : AliasTable → List ℕ → ℕ → Meaning
+named_by table [] alias = known (topic_of alias table.topics)
+named_by table (c ∷ cs) alias = named (c ∷ cs)
+
+abbrev pub is_in_range : ℕ → ℕ → Bool
+is_in_range max alias = nat_lt 0 alias && nat_le alias max
+
+abbrev pub resolved : AliasTable → List ℕ → Option ℕ → Meaning
+resolved table topic None = named topic
+resolved table topic (Some alias) =
+    cond (is_in_range table.max alias) (named_by table topic alias) (Wrong topic_alias_invalid)
+
+abbrev pub meaning : Publish → AliasTable → Meaning
+meaning p table =
+    cond (has SubscriptionIdentifier p.properties) (Wrong protocol_error)
+    (resolved table p.topic (number_at TopicAlias p.properties))
+
+-- the code that tells why a topic is none; a PUBLISH meets no other of these faults
+abbrev pub topic_code : TopicFault → ℕ
+topic_code Empty = protocol_error
+topic_code WildcardInName = topic_name_invalid
+topic_code WildcardPlace = topic_name_invalid
+topic_code Share = topic_name_invalid
+topic_code AliasRange = topic_alias_invalid
+topic_code AliasUnknown = protocol_error
+topic_code Memory = unspecified_error
 
 -- an alias that comes with a topic is set
 abbrev pub sets_alias : Bool → Option ℕ → ℕ → List ℕ → List Deed
@@ -126,7 +141,7 @@ on_publish env l s p b = publish_meant (meaning p l.aliases) env l s p b
 
 -- ---- PUBREL (4.3.3)
 
-abbrev pub release_by : Released → Line → Session → ℕ → List Deed
+abbrev pub release_by : ReleaseAnswer → Line → Session → ℕ → List Deed
 release_by Known l s id = At (whose s) (Release id) ∷ Send l.number (pubcomp id success) ∷ []
 release_by Unknown l s id = Send l.number (pubcomp id identifier_not_found) ∷ []
 
@@ -173,7 +188,8 @@ new_expiry (Some n) s = At (whose s) (SetExpiry n) ∷ []
 
 abbrev pub leave_by : Bool → Env → Line → Session → ℕ → Option ℕ → Act
 leave_by true env l s code expiry b = drop_line env protocol_error l b
-leave_by false env l s code expiry b = series (always (new_expiry expiry s) ∷ close env (not (nat_eq code normal_disconnection)) l ∷ []) b
+leave_by false env l s code expiry b =
+    series (always (new_expiry expiry s) ∷ close env (not (nat_eq code normal_disconnection)) l ∷ []) b
 
 abbrev pub on_disconnect : Env → Line → Session → ℕ → Option ℕ → Act
 on_disconnect env l s code expiry b = leave_by (is_late_expiry expiry s.expiry) env l s code expiry b

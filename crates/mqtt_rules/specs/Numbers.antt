@@ -42,7 +42,10 @@ CountOn ds old new =
 -- no counter is below what it was
 abbrev pub NoneFell : Records → Records → Type 0
 NoneFell old new =
-    (old.births ≤ new.births) × (old.publications ≤ new.publications) × (old.subscribes ≤ new.subscribes) × (old.autos ≤ new.autos)
+    (old.births ≤ new.births)
+    × (old.publications ≤ new.publications)
+    × (old.subscribes ≤ new.subscribes)
+    × (old.autos ≤ new.autos)
 
 -- the stored moment isn't above the greatest that was handed in
 abbrev pub IsTimed : Broker → Type 0
@@ -58,7 +61,9 @@ HasCopiesUpTo n s = AllByRecursion (λ e. e.copy.id.publication ≤ n) s.queue
 
 -- each copy in a queue, and each retained message, has the number of a publication that was accepted
 abbrev pub HasAcceptedNumbers : Records → Type 0
-HasAcceptedNumbers r = AllByRecursion (HasCopiesUpTo r.publications) r.sessions × AllByRecursion (λ k. k.publication ≤ r.publications) r.retained
+HasAcceptedNumbers r =
+    AllByRecursion (HasCopiesUpTo r.publications) r.sessions
+    × AllByRecursion (λ k. k.publication ≤ r.publications) r.retained
 
 -- of a session: its subscriptions by place, its open identifiers and its copies by place, each once
 abbrev pub IsInOrder : Session → Type 0
@@ -66,4 +71,5 @@ IsInOrder s = IsAscending place_of s.subscriptions × IsAscending number_of s.in
 
 -- sessions by birth, retained messages by place, and all that sessions have, each once
 abbrev pub AreInOrder : Records → Type 0
-AreInOrder r = IsAscending birth_of r.sessions × AllByRecursion IsInOrder r.sessions × IsAscending kept_place r.retained
+AreInOrder r =
+    IsAscending birth_of r.sessions × AllByRecursion IsInOrder r.sessions × IsAscending kept_place r.retained

@@ -10,7 +10,7 @@ use Rattle.mqtt_flow.specs.declared.entry.Way.{Way}
 use Rattle.mqtt_flow.specs.Outbound.{staying, way_made}
 use Rattle.mqtt_base.specs.Codes.{success, identifier_not_found}
 use Rattle.mqtt_message.specs.declared.message.MessageCopy.{MessageCopy}
-use Rattle.mqtt_message.specs.declared.queue.CopyRow.{CopyRow}
+use Rattle.mqtt_message.specs.Queue.{CopyRow}
 use Rattle.mqtt_records.specs.declared.session.Session.{Session}
 use Rattle.mqtt_records.specs.declared.records.Records.{Records}
 use Rattle.mqtt_rows.specs.Order.{row_at}
@@ -36,7 +36,8 @@ leave_deeds s t = []
 -- a turn of a session that is connected on a line
 abbrev pub turn_deeds : ℕ → ℕ → Session → Turn → List Deed
 turn_deeds now line s (turns.Send place id) =
-    at_place place s (λ e. At (whose s) (Mark place (Sent id)) ∷ On line (Went place) ∷ Send line (publish_of now false id e.copy) ∷ [])
+    at_place place s
+    (λ e. At (whose s) (Mark place (Sent id)) ∷ On line (Went place) ∷ Send line (publish_of now false id e.copy) ∷ [])
 turn_deeds now line s (turns.Resend place id) =
     at_place place s (λ e. On line (Went place) ∷ Send line (publish_of now true id e.copy) ∷ [])
 turn_deeds now line s (turns.Release place id order) =
@@ -87,4 +88,5 @@ room_at env (Some s) = room env s
 -- a copy enters the queue, and the oldest that wait make way for it (ours)
 abbrev pub enter_deeds : Env → MessageCopy → Session → List Deed
 enter_deeds env copy s =
-    flat_map (leave_deeds s) (way_made (queue_limits env) (since env s) (queue_on [] s)) ++ At (whose s) (Enter copy) ∷ []
+    flat_map (leave_deeds s) (way_made (queue_limits env) (since env s) (queue_on [] s))
+    ++ At (whose s) (Enter copy) ∷ []

@@ -1,13 +1,11 @@
 -- What the rules read off packets, and how they write their own (MQTT 5.0, 3.1 to 3.14).
-use Rattle.std.specs.Prelude.{ℕ, ◌-◌, ◌/◌, Bool, cond, List, [], ◌++◌, length, map, find, Option, option_map, unwrap_or}
+use Rattle.std.specs.Prelude.{ℕ, ◌-◌, ◌/◌, Bool, List, [], length, unwrap_or}
 use Rattle.mqtt_base.specs.declared.session.Qos.{Qos}
 use Rattle.mqtt_base.specs.declared.session.Qos.TheVariants as qos
 use Rattle.mqtt_base.specs.declared.reason.Reason.{Reason}
 use Rattle.mqtt_props.specs.declared.table.PropName.{PropName}
-use Rattle.mqtt_props.specs.declared.table.PropName.TheVariants.{PayloadFormatIndicator, MessageExpiryInterval, ContentType, ResponseTopic, CorrelationData, SubscriptionIdentifier, UserProperty}
-use Rattle.mqtt_props.specs.Properties.{Value, Byte, U16, U32, VarInt, Text, Binary, Pair, Prop}
-use Rattle.mqtt_props.specs.Laws.{is_named}
-use Rattle.mqtt_props.specs.Edits.{only, without}
+use Rattle.mqtt_props.specs.declared.table.PropName.TheVariants.{MessageExpiryInterval}
+use Rattle.mqtt_props.specs.Properties.{Prop}
 use Rattle.mqtt_codec.specs.declared.publish.Delivery.{Delivery}
 use Rattle.mqtt_codec.specs.declared.publish.Delivery.TheVariants as delivery
 use Rattle.mqtt_codec.specs.declared.packet.Packet.{Packet}
@@ -15,35 +13,15 @@ use Rattle.mqtt_codec.specs.declared.packet.Packet.TheVariants.{Connack, Publish
 use Rattle.mqtt_codec.specs.ConnectFlags.{qos_of}
 use Rattle.mqtt_codec.specs.Packets.{shortest_of}
 use Rattle.mqtt_flow.specs.Outbound.{is_past}
+pub use Rattle.mqtt_message.specs.PassedOn.{number_in, number_at, property, passed_on, aged, identified}
+use Rattle.mqtt_message.specs.PassedOn.{sent_after}
 use Rattle.mqtt_message.specs.declared.message.Content.{Content}
 use Rattle.mqtt_message.specs.declared.message.MessageCopy.{MessageCopy}
 
 -- ---- properties
 
-abbrev pub number_in : Value → ℕ
-number_in (Byte n) = n
-number_in (U16 n) = n
-number_in (U32 n) = n
-number_in (VarInt n) = n
-number_in (Text text) = 0
-number_in (Binary bytes) = 0
-number_in (Pair key text) = 0
-
--- the number that a property of this name has in a block, if it is there
-abbrev pub number_at : PropName → List Prop → Option ℕ
-number_at name ps = option_map (λ p. number_in p.value) (find (is_named name) ps)
-
 abbrev pub number_or : ℕ → PropName → List Prop → ℕ
 number_or absent name ps = unwrap_or (number_at name ps) absent
-
-abbrev pub property : PropName → Value → Prop
-property name value = record { name = name; value = value }
-
--- what a publication passes on to its copies, in the order in which it is sent (3.3.2.3); a Topic Alias isn't
-abbrev pub passed_on : List Prop → List Prop
-passed_on ps =
-    only PayloadFormatIndicator ps ++ only MessageExpiryInterval ps ++ only ContentType ps ++ only ResponseTopic ps
-    ++ only CorrelationData ps ++ only UserProperty ps
 
 -- ---- packets that the broker sends
 
@@ -97,18 +75,9 @@ seconds_waited now content = (now - content.arrived) / 1000
 abbrev pub is_expired : ℕ → Content → Bool
 is_expired now content = is_past (number_at MessageExpiryInterval content.properties) (seconds_waited now content)
 
--- a property as it is sent: Message Expiry Interval less what was waited (3.3.2.3.3)
-abbrev pub aged : ℕ → Prop → Prop
-aged waited p = cond (is_named MessageExpiryInterval p) (property MessageExpiryInterval (U32 (number_in p.value - waited))) p
-
-abbrev pub identified : ℕ → Prop
-identified n = property SubscriptionIdentifier (VarInt n)
-
--- the block of a copy: the publication's properties, before its User Properties the Subscription Identifiers (3.3.2.3)
+-- the block of a copy
 abbrev pub properties_sent : ℕ → MessageCopy → List Prop
-properties_sent now copy =
-    map (aged (seconds_waited now copy.content)) (without UserProperty copy.content.properties)
-    ++ map identified copy.identifiers ++ only UserProperty copy.content.properties
+properties_sent now copy = sent_after (seconds_waited now copy.content) copy.identifiers copy.content.properties
 
 -- a copy's PUBLISH at a moment, with its DUP flag and its packet identifier (3.3)
 abbrev pub publish_of : ℕ → Bool → ℕ → MessageCopy → Packet

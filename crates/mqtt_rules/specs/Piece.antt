@@ -1,4 +1,4 @@
--- The step of a piece: bytes come on a line, and the first packet or fault that is whole is answered (MQTT 5.0, 2.1, 4.13).
+-- The step of a piece: bytes come on a line; the first whole packet, or fault, is answered (MQTT 5.0, 2.1, 4.13).
 use Rattle.std.specs.Prelude.{◌≡◌, ℕ, ◌-◌, ◌/◌, min, Bool, true, false, ◌&&◌, List, [], ◌∷◌, ◌++◌, length, take, nat_eq, Option, Some, None, is_some, Result, Ok, Err}
 use Rattle.mqtt_base.specs.Codes.{unspecified_error}
 use Rattle.mqtt_base.specs.declared.limits.TheConstants.{PACKET_LIMIT}
@@ -92,7 +92,8 @@ abbrev pub held_on : Option Line → List ℕ → Framing → Framing
 held_on None piece f = f
 held_on (Some l) piece f = without_first (fed piece f)
 
--- the state, and what the line holds, after the step; and what it answers: call again where the line stands and more is whole
+-- the state, and what the line holds, after the step; and what it answers: call again where the line stands and more is
+-- whole
 pub record Pieced : Type 0 where
   pub broker : Broker
   pub framing : Framing
@@ -112,9 +113,10 @@ pieced limits choice now line piece f b =
       };
     }
 
--- Step of a piece: some choice of the members leads from the state, and what its line holds, to what is there after it, with
--- this outcome, and no number is spent
-pub record PieceStep (limits : Limits) (old : Broker) (now line : ℕ) (piece : List ℕ) (held : Framing) (new : Pieced) : Type 0 where
+-- Step of a piece: some choice of the members leads from the state, and what its line holds, to what is there after it,
+-- with this outcome, and no number is spent
+pub record PieceStep (limits : Limits) (old : Broker) (now line : ℕ) (piece : List ℕ) (held : Framing) (new : Pieced)
+    : Type 0 where
   pub choice : MemberChoice
   pub unspent : is_spent_if limits choice now (call_on (line_at line old) piece held) old ≡ false
   pub is : new ≡ pieced limits choice now line piece held old

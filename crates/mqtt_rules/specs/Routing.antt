@@ -90,13 +90,15 @@ abbrev pub served_copies_to : ℕ → ℕ → Message → Served → List CopyTo
 served_copies_to number now m s = map (copy_to number now m (Share s.group)) (copies_in s.copy)
 
 abbrev pub copies_to : ℕ → ℕ → Message → Routed → List CopyTo
-copies_to number now m r = map (copy_to number now m Direct) r.direct ++ flat_map (served_copies_to number now m) r.served
+copies_to number now m r =
+    map (copy_to number now m Direct) r.direct ++ flat_map (served_copies_to number now m) r.served
 
 abbrev pub next_publication : Records → ℕ
 next_publication r = suc r.publications
 
 abbrev pub routing_of : Env → Message → Records → Option Routed
-routing_of env m r = acceptance.routed (answers env r) (publication_of m) (env.choice (next_publication r) m.sender) (subscribers r)
+routing_of env m r =
+    acceptance.routed (answers env r) (publication_of m) (env.choice (next_publication r) m.sender) (subscribers r)
 
 abbrev pub accepted_if : Bool → Option (List CopyTo) → Option (List CopyTo)
 accepted_if true ds = ds

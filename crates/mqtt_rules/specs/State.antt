@@ -2,11 +2,12 @@
 use Rattle.std.specs.Prelude.{ℕ, suc, ◌+◌, min, Bool, false, List, find, map, nat_eq, bytes_eq, Option, Some, None, is_none}
 use Rattle.mqtt_flow.specs.declared.entry.Entry.{Entry as FlowEntry}
 use Rattle.mqtt_flow.specs.declared.entry.QueuedCopy.{QueuedCopy}
-use Rattle.mqtt_flow.specs.FreeIdentifier.{has}
+use Rattle.mqtt_flow.specs.Identifiers.{is_among}
 use Rattle.mqtt_base.specs.declared.limits.TheConstants.{LAST_NUMBER}
 use Rattle.mqtt_props.specs.declared.table.PropName.TheVariants.{MessageExpiryInterval}
+use Rattle.mqtt_topic.specs.Aliases.{AliasTable}
 use Rattle.mqtt_message.specs.declared.message.MessageCopy.{MessageCopy}
-use Rattle.mqtt_message.specs.declared.queue.CopyRow.{CopyRow}
+use Rattle.mqtt_message.specs.Queue.{CopyRow}
 use Rattle.mqtt_records.specs.declared.session.Session.{Session}
 use Rattle.mqtt_records.specs.declared.records.Records.{Records}
 use Rattle.mqtt_rows.specs.Order.{row_at}
@@ -23,7 +24,7 @@ pub record Line : Type 0 where
   pub keep_alive : ℕ  -- seconds, 0 turns it off (3.1.2.10)
   pub window : ℕ  -- the client's Receive Maximum (3.1.2.11.3)
   pub largest : ℕ  -- the client's Maximum Packet Size (3.1.2.11.4)
-  pub aliases : List (ℕ × List ℕ)  -- what Topic Aliases stand for (3.3.2.3.4)
+  pub aliases : AliasTable  -- what Topic Aliases stand for (3.3.2.3.4)
   pub went : List ℕ  -- the places of the copies whose PUBLISH went out on it
 
 pub record Broker : Type 0 where
@@ -36,8 +37,9 @@ pub record Broker : Type 0 where
 abbrev pub stored : Broker → Records
 stored b = b.records
 
--- the free choice, for the publication of a number by a sender, of a member for each group in order; a Will that is refused
--- takes no number, so when several sessions close in one step the number alone doesn't tell their publications apart (ours)
+-- the free choice, for the publication of a number by a sender, of a member for each group in order; a Will that is
+-- refused takes no number, so where several sessions close in one step the number alone doesn't tell their publications
+-- apart (ours)
 abbrev pub MemberChoice : Type 0
 MemberChoice = ℕ → List ℕ → List ℕ
 
@@ -81,7 +83,7 @@ queued_copy copy = record {
 }
 
 abbrev pub entry_on : List ℕ → CopyRow → FlowEntry
-entry_on went e = record { place = e.place; copy = queued_copy e.copy; phase = e.phase; here = has e.place went }
+entry_on went e = record { place = e.place; copy = queued_copy e.copy; phase = e.phase; here = is_among e.place went }
 
 -- the queue, with the copies whose PUBLISH went out on a line
 abbrev pub queue_on : List ℕ → Session → List FlowEntry

@@ -66,7 +66,8 @@ abbrev pub late_code : ℕ → ℕ
 late_code code = cond (nat_eq code unsupported_protocol_version) protocol_error code
 
 abbrev pub on_fault : Env → Line → Bool → ℕ → Option ℕ → Act
-on_fault env l true code None b = series (always (Send l.number (connack false code []) ∷ []) ∷ close env true l ∷ []) b
+on_fault env l true code None b =
+    series (always (Send l.number (connack false code []) ∷ []) ∷ close env true l ∷ []) b
 on_fault env l false code None b = close env true l b
 on_fault env l is_connect code (Some birth) b = drop_line env (late_code code) l b
 
@@ -195,7 +196,8 @@ abbrev pub is_step_spent : Limits → MemberChoice → ℕ → Call → Broker �
 is_step_spent limits choice now call b = is_spent (rows_written (deeds limits choice now call b) (at_moment now b))
 
 -- Broker step: some choice of the members leads from one state to the other, with this outcome, and no number is spent
-pub record BrokerStep (limits : Limits) (old : Broker) (now : ℕ) (call : Call) (out : Outcome) (new : Broker) : Type 0 where
+pub record BrokerStep (limits : Limits) (old : Broker) (now : ℕ) (call : Call) (out : Outcome) (new : Broker)
+    : Type 0 where
   pub choice : MemberChoice
   pub unspent : is_step_spent limits choice now call old ≡ false
   pub new_is : new ≡ stepped limits choice now call old

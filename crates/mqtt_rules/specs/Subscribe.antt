@@ -15,7 +15,7 @@ use Rattle.mqtt_topic.specs.Filters.{is_filter, begins_share}
 use Rattle.mqtt_routes.specs.declared.retained.Kept.{Kept}
 use Rattle.mqtt_routes.specs.Retained.{kept_for}
 use Rattle.mqtt_base.specs.Codes.{success, no_subscription_existed, topic_filter_invalid, identifier_in_use, quota_exceeded}
-use Rattle.mqtt_flow.specs.Inbound.{is_open}
+use Rattle.mqtt_flow.specs.Identifiers.{is_among}
 use Rattle.mqtt_message.specs.declared.message.MessageCopy.{MessageCopy}
 use Rattle.mqtt_message.specs.declared.message.RetainedMessage.{RetainedMessage}
 use Rattle.mqtt_records.specs.declared.subscription.Subscription.{Subscription}
@@ -67,7 +67,8 @@ message_in k = k.message
 
 -- No Local bars one's own; an expired one isn't sent
 abbrev pub is_brought : ℕ → Session → Wish → RetainedMessage → Bool
-is_brought now s w k = not (w.options.no_local && bytes_eq s.client k.sender) && not (is_expired now k.content)
+is_brought now s w k =
+    not (w.options.no_local && bytes_eq s.client k.sender) && not (is_expired now k.content)
 
 abbrev pub identifiers_of : Option ℕ → List ℕ
 identifiers_of None = []
@@ -89,11 +90,13 @@ retained_copy_to birth number w k = record { birth = birth; copy = retained_copy
 abbrev pub brought_if : Bool → ℕ → ℕ → Session → Wish → List RetainedMessage → List CopyTo
 brought_if false now number s w ks = []
 brought_if true now number s w ks =
-    map (retained_copy_to s.birth number w) (filter (is_brought now s w) (map message_in (kept_for w.filter (map kept_of ks))))
+    map (retained_copy_to s.birth number w)
+    (filter (is_brought now s w) (map message_in (kept_for w.filter (map kept_of ks))))
 
 abbrev pub brought : ℕ → ℕ → Session → Wish → List RetainedMessage → List CopyTo
 brought now number s w ks =
-    brought_if (not (begins_share w.filter) && wants_retained w.options.retain_handling (has_filter w.filter s)) now number s w ks
+    brought_if (not (begins_share w.filter) && wants_retained w.options.retain_handling (has_filter w.filter s))
+    now number s w ks
 
 -- ---- one filter: its code, its deeds, and the copies that go out after the SUBACK
 
@@ -116,7 +119,9 @@ subscription number s w = record {
 abbrev pub granted_filter : Env → ℕ → Session → Wish → List CopyTo → Broker → FilterAnswer
 granted_filter env number s w ds b = record {
   code = qos_number w.options.qos;
-  deeds = series (always (Count number ∷ At (whose s) (deeds.Subscribe (subscription number s w)) ∷ []) ∷ map (deliver env) (filter is_queued ds)) b;
+  deeds = series (
+      always (Count number ∷ At (whose s) (deeds.Subscribe (subscription number s w)) ∷ [])
+      ∷ map (deliver env) (filter is_queued ds)) b;
   late = filter (λ d. not (is_queued d)) ds;
 }
 
@@ -134,7 +139,8 @@ filter_answer env w b s =
     let number = next_number b.records in
     let ds = brought b.now number s w b.records.retained in
     answer_by (is_filter w.filter)
-    ((has_filter w.filter s || nat_lt (length s.subscriptions) SUBSCRIPTION_LIMIT) && nat_le (length (filter is_queued ds)) (room env s))
+    ((has_filter w.filter s || nat_lt (length s.subscriptions) SUBSCRIPTION_LIMIT)
+    && nat_le (length (filter is_queued ds)) (room env s))
     env number s w ds b
 
 abbrev pub filter_answer_of : Env → Option Wish → Broker → Option Session → FilterAnswer
@@ -170,14 +176,15 @@ abbrev pub late_sends : ℕ → ℕ → CopyTo → Broker → List Deed
 late_sends line now d b = offer (line_at line b) (publish_of now false 0 d.copy)
 
 abbrev pub subscribe_by : Bool → Env → ℕ → Session → Subscribe → Act
-subscribe_by true env line s p b = offer (line_at line b) (suback p.identifier (map (λ a. identifier_in_use) p.subscriptions))
+subscribe_by true env line s p b =
+    offer (line_at line b) (suback p.identifier (map (λ a. identifier_in_use) p.subscriptions))
 subscribe_by false env line s p b =
     let a = filter_answers env s.birth (number_at SubscriptionIdentifier p.properties) p.subscriptions b in
     a.deeds ++ offer (line_at line b) (suback p.identifier a.codes) ++ flat_map (λ d. late_sends line b.now d b) a.late
 
 -- an identifier that is open for a QoS 2 PUBLISH is in use (2.2.1)
 abbrev pub on_subscribe : Env → ℕ → Session → Subscribe → Act
-on_subscribe env line s p b = subscribe_by (is_open p.identifier s.inbound) env line s p b
+on_subscribe env line s p b = subscribe_by (is_among p.identifier s.inbound) env line s p b
 
 -- ---- UNSUBSCRIBE (3.10, 3.11)
 
@@ -198,7 +205,8 @@ drop_codes s seen (f ∷ fs) =
 abbrev pub unsubscribe_by : Bool → ℕ → Session → Unsubscribe → Act
 unsubscribe_by true line s p b = offer (line_at line b) (unsuback p.identifier (map (λ f. identifier_in_use) p.filters))
 unsubscribe_by false line s p b =
-    flat_map (unsubscribes s) (filter (λ f. has_filter f s) p.filters) ++ offer (line_at line b) (unsuback p.identifier (drop_codes s [] p.filters))
+    flat_map (unsubscribes s) (filter (λ f. has_filter f s) p.filters)
+    ++ offer (line_at line b) (unsuback p.identifier (drop_codes s [] p.filters))
 
 abbrev pub on_unsubscribe : ℕ → Session → Unsubscribe → Act
-on_unsubscribe line s p b = unsubscribe_by (is_open p.identifier s.inbound) line s p b
+on_unsubscribe line s p b = unsubscribe_by (is_among p.identifier s.inbound) line s p b

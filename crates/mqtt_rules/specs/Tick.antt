@@ -12,7 +12,8 @@ use Rattle.mqtt_rules.specs.Deeds.{Deed, Forget, Act, always}
 use Rattle.mqtt_rules.specs.Outbound.{leave_deeds}
 use Rattle.mqtt_rules.specs.Closing.{close, drop_line, publish_will, end_session, has_due_will, has_due_end}
 
--- CONNECT didn't come in CONNECT_TIME milliseconds (ours); one and a half times Keep Alive, in milliseconds, has passed without a packet (3.1.2.10)
+-- CONNECT didn't come in CONNECT_TIME milliseconds (ours), or one and a half times Keep Alive, in milliseconds, has
+-- passed without a packet (3.1.2.10)
 abbrev pub is_silent : ℕ → Option ℕ → Line → Bool
 is_silent now None l = nat_le (later l.heard CONNECT_TIME) now
 is_silent now (Some birth) l = nat_lt 0 l.keep_alive && nat_le (later l.heard (1500 * l.keep_alive)) now

@@ -7,6 +7,7 @@ mod flight_laws;
 mod laws;
 mod number_laws;
 mod routing_laws;
+mod topic_laws;
 
 pub use fit_laws::rows_always_fit;
 pub use flight_laws::identifiers_in_flight_are_unique;
@@ -18,6 +19,7 @@ pub use number_laws::{
     counted_numbers_are_apart, counters_never_fall, new_places_are_last, numbers_are_new,
 };
 pub use routing_laws::{copies_find_room, members_are_reached};
+pub use topic_laws::topics_are_resolved;
 
 /// The sizes of the tables.
 #[derive(Clone, Copy, Debug, PartialEq, Eq)]

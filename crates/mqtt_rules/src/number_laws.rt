@@ -5,7 +5,7 @@ ghost use Rattle.mqtt_records.specs.Session.{copy_place, number_of};
 ghost use Rattle.mqtt_records.specs.Records.{nothing, kept_place};
 ghost use Rattle.mqtt_message.specs.declared.message.MessageCopy.{MessageCopy};
 ghost use Rattle.mqtt_message.specs.declared.message.RetainedMessage.{RetainedMessage};
-ghost use Rattle.mqtt_message.specs.declared.queue.CopyRow.{CopyRow};
+ghost use Rattle.mqtt_message.specs.Queue.{CopyRow};
 ghost use Rattle.mqtt_records.specs.declared.records.Records.{Records};
 ghost use Rattle.mqtt_records.specs.declared.session.Session.{Session};
 ghost use Rattle.mqtt_rules.specs.declared.Limits.{Limits as TheLimits};

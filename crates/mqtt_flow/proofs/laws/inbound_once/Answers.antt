@@ -1,7 +1,8 @@
 use Rattle.mqtt_flow.specs.Publisher.{completed, refused}
 use Rattle.mqtt_flow.specs.InboundWorld.{after}
-use Rattle.mqtt_flow.proofs.InboundRun.{is_good, once, unsent_is, ended_is, ended_1_is, few}
-use Rattle.mqtt_flow.proofs.InboundForGood.{for_good}
+use Rattle.mqtt_flow.proofs.inbound.Runs.{is_good, once, unsent_is, ended_is, ended_1_is, few}
+use Rattle.mqtt_flow.proofs.inbound.ForGood.{for_good}
+use Rattle.mqtt_flow.proofs.inbound.Heard.{alone_run, heard_run}
 use Rattle.mqtt_flow.proofs.laws.inbound_once.Goals as goal
 
 pub returns-clause-once : goal.returns-clause-once
@@ -24,3 +25,9 @@ returns-clause-within c = λ events. few (after events) (is_good events)
 
 pub returns-clause-for_good : goal.returns-clause-for_good
 returns-clause-for_good c = for_good
+
+pub returns-clause-alone : goal.returns-clause-alone
+returns-clause-alone c = alone_run
+
+pub returns-clause-heard : goal.returns-clause-heard
+returns-clause-heard c = heard_run

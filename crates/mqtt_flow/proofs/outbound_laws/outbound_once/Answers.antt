@@ -1,5 +1,5 @@
 use Rattle.mqtt_flow.specs.OutboundWorld.{run, start}
-use Rattle.mqtt_flow.proofs.OutLaw.{good_run, once_of, taken_of, released_of, expired_of, dropped_of, in_order_of, read_of, carried_run, course_run}
+use Rattle.mqtt_flow.proofs.outbound.HopLaw.{good_run, once_of, taken_of, released_of, expired_of, dropped_of, in_order_of, read_of, carried_run, course_run, grow_run, for_good_run, alone_of, heard_of}
 use Rattle.mqtt_flow.proofs.outbound_laws.outbound_once.Goals as goal
 
 pub returns-clause-once : goal.returns-clause-once
@@ -28,3 +28,15 @@ returns-clause-read c = λ largest events. read_of (run largest events start) (g
 
 pub returns-clause-course : goal.returns-clause-course
 returns-clause-course c = course_run
+
+pub returns-clause-grows : goal.returns-clause-grows
+returns-clause-grows c = grow_run
+
+pub returns-clause-for_good : goal.returns-clause-for_good
+returns-clause-for_good c = for_good_run
+
+pub returns-clause-alone : goal.returns-clause-alone
+returns-clause-alone c = λ largest events. alone_of (run largest events start) (good_run largest events)
+
+pub returns-clause-heard : goal.returns-clause-heard
+returns-clause-heard c = λ largest events. heard_of (run largest events start) (good_run largest events)

@@ -1,4 +1,4 @@
-use Rattle.mqtt_flow.proofs.OutPumping.{in_queue_order, within_window, is_lowest_free}
+use Rattle.mqtt_flow.proofs.outbound.PumpLaws.{in_queue_order, within_window, is_lowest_free}
 use Rattle.mqtt_flow.proofs.outbound_laws.pump_in_order.Goals as goal
 
 pub returns-clause-order : goal.returns-clause-order

@@ -1,12 +1,12 @@
 use Rattle.std.proofs.Common.{◌≡◌, ℕ, suc, ◌+◌, ◌-◌, List, true, false, length, arith, sym, ◌∙◌}
-use Rattle.mqtt_flow.specs.FreeIdentifier.{has, lowest}
+use Rattle.mqtt_flow.specs.Identifiers.{is_among, lowest_from}
 use Rattle.mqtt_flow.proofs.plan.lowest_free.Goals as goal
 
 -- one identifier is tried after the other
-found : (n m i f : ℕ) (used : List ℕ) → n ≡ m + 1 → lowest n i used ≡ f → has i used ≡ false → i ≡ f
+found : (n m i f : ℕ) (used : List ℕ) → n ≡ m + 1 → lowest_from n i used ≡ f → is_among i used ≡ false → i ≡ f
 found n m i f used e h free = let s : n ≡ suc m = omega arith in let h' = rw s at h in (rw free at h')
 
-passed : (n m i f : ℕ) (used : List ℕ) → n ≡ m + 1 → lowest n i used ≡ f → has i used ≡ true → lowest m (i + 1) used ≡ f
+passed : (n m i f : ℕ) (used : List ℕ) → n ≡ m + 1 → lowest_from n i used ≡ f → is_among i used ≡ true → lowest_from m (i + 1) used ≡ f
 passed n m i f used e h taken = let s : n ≡ suc m = omega arith in let t : i + 1 ≡ suc i = omega arith in let h' = rw s at h in rw t (rw taken at h')
 
 pub returns-then-not-contains : goal.returns-then-not-contains

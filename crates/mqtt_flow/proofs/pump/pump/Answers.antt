@@ -1,6 +1,6 @@
 use Rattle.std.proofs.Common.{length, arith, ap}
 use Rattle.mqtt_flow.specs.Outbound.{pump_from}
-use Rattle.mqtt_flow.proofs.OutQueue.{length-identifiers}
+use Rattle.mqtt_flow.proofs.outbound.Queues.{length-identifiers}
 use Rattle.mqtt_flow.proofs.pump.pump.Goals as goal
 
 pub loop-entry-init : goal.loop-entry-init

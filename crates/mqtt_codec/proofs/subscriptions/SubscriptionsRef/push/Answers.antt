@@ -12,7 +12,7 @@ appended : {X E : Type 0} (r : Result X E) (new old more text : List ℕ) → ne
 appended {X} {E} (Ok x) new old more text e f = e ∙ ap (λ (w : List ℕ). old ++ w) f
 appended {X} {E} (Err d) new old more text e f = tt
 
-pub returns : goal.returns
-returns c =
+pub returns-clause-ok : goal.returns-clause-ok
+returns-clause-ok c =
     appended c.extend_from_slice.result c.extend_from_slice.new.self.items c.args.out.now.items c.self.inside.bytes.now (flat_map subscription c.args.self.now) c.extend_from_slice.ensures.items
     ((items_are Malformed subscription_at subscription IsSubscription subscription_reads c.self.inside.bytes.now c.self.invariant).0 ∙ ap (flat_map subscription) c.self.view_is)

@@ -1,5 +1,5 @@
 use Rattle.std.proofs.Common.{ap, ◌∙◌, subst}
-use Rattle.mqtt_flow.proofs.Places.{placed, OfPlace, found, missed}
+use Rattle.mqtt_flow.proofs.inbound.Places.{placed, OfPlace, found, missed}
 use Rattle.mqtt_flow.proofs.inflow.Inflow.place.Goals as goal
 
 pub returns-clause-found : goal.returns-clause-found

@@ -1,6 +1,6 @@
 use Rattle.std.proofs.Common.{sym, subst, arith}
 use Rattle.mqtt_flow.specs.Inflow.{BelongsAt}
-use Rattle.mqtt_flow.proofs.Ascending.{lawful_insert}
+use Rattle.mqtt_flow.proofs.inbound.OpenLists.{lawful_insert}
 use Rattle.mqtt_flow.proofs.inflow.Inflow.publish.Goals as goal
 
 pub invariant_of-self : goal.invariant_of-self

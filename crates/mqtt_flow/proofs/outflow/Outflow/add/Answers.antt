@@ -1,7 +1,7 @@
 use Rattle.std.proofs.Common.{◌≡◌, ap, subst}
 use Rattle.mqtt_flow.specs.Queue.{IsQueue}
 use Rattle.mqtt_flow.specs.Outbound.{pushed}
-use Rattle.mqtt_flow.proofs.OutQueue.{is_queue-pushed}
+use Rattle.mqtt_flow.proofs.outbound.Queues.{is_queue-pushed}
 use Rattle.mqtt_flow.proofs.outflow.Outflow.add.Goals as goal
 
 pub invariant_of-self : goal.invariant_of-self

@@ -1,6 +1,6 @@
 use Rattle.std.proofs.Common.{◌∙◌, ap, arith}
 use Rattle.mqtt_flow.specs.Queue.{greatest_given}
-use Rattle.mqtt_flow.proofs.OutRoom.{expired-orders}
+use Rattle.mqtt_flow.proofs.outbound.Room.{expired-orders}
 use Rattle.mqtt_flow.proofs.outflow.Outflow.expire.Goals as goal
 
 pub take_all-requires : goal.take_all-requires

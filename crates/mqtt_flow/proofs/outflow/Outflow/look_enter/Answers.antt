@@ -1,6 +1,6 @@
 use Rattle.std.proofs.Common.{◌≡◌, true, sym, ap, ◌∙◌, rules}
 use Rattle.mqtt_flow.specs.Outbound.{has_room}
-use Rattle.mqtt_flow.proofs.OutRoom.{below_limit}
+use Rattle.mqtt_flow.proofs.outbound.Room.{below_limit}
 use Rattle.mqtt_flow.proofs.outflow.Outflow.look_enter.Goals as goal
 
 pub returns-clause-below : goal.returns-clause-below

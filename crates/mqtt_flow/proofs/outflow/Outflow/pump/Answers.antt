@@ -1,6 +1,6 @@
 use Rattle.std.proofs.Common.{◌∙◌, ap, arith}
 use Rattle.mqtt_flow.specs.Queue.{greatest_given}
-use Rattle.mqtt_flow.proofs.OutRoom.{pump-orders}
+use Rattle.mqtt_flow.proofs.outbound.Room.{pump-orders}
 use Rattle.mqtt_flow.proofs.outflow.Outflow.pump.Goals as goal
 
 pub take_all-requires : goal.take_all-requires

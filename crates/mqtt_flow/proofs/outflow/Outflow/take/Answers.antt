@@ -1,4 +1,4 @@
-use Rattle.mqtt_flow.proofs.OutQueue.{is_queue-after}
+use Rattle.mqtt_flow.proofs.outbound.Queues.{is_queue-after}
 use Rattle.mqtt_flow.proofs.outflow.Outflow.take.Goals as goal
 
 pub invariant_of-self : goal.invariant_of-self

@@ -1,0 +1,23 @@
+-- Lemmas on the queue of outbound copies and its hop.
+pub mod BrokerReads
+pub mod Carried
+pub mod Course
+pub mod Growing
+pub mod HopLaw
+pub mod Lives
+pub mod LivesCourse
+pub mod LivesWorld
+pub mod PumpLaws
+pub mod QueueWalks
+pub mod Queues
+pub mod ReceiverReads
+pub mod Room
+pub mod Sends
+pub mod SessionAnswers
+pub mod SessionLives
+pub mod SessionQueues
+pub mod SessionSteps
+pub mod Stages
+pub mod Steps
+pub mod WorkedQueues
+pub mod WorkedRuns

@@ -1,0 +1,7 @@
+//! Tests of the handshakes of a session, over the public calls of mqtt_flow.
+#![tactic(auto)]
+
+#[cfg(test)]
+mod inbound;
+#[cfg(test)]
+mod outbound;

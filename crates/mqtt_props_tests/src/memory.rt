@@ -1,0 +1,83 @@
+//! Want of memory: to be run with each allocation failing in turn. Every answer is the right one or
+//! want of memory, which changes nothing.
+
+use crate::rows::PUBLISH;
+use mqtt_props::{Place, PropFault, PropList, PropName, PropRef, ValueRef, look_at, read, write};
+use std::alloc::Global;
+use std::process::Abort;
+
+/// A call that changes a list, and the length that it leaves after Ok.
+fn assert_memory_changes_nothing(
+    rt: &impl Abort,
+    found: Result<(), PropFault>,
+    len: usize,
+    before: usize,
+    after: usize,
+) {
+    match found {
+        Ok(()) => assert!(rt; len == after),
+        Err(fault) => {
+            assert!(rt; fault == PropFault::Memory);
+            assert!(rt; len == before);
+        }
+    }
+}
+
+/// The list of the block `PUBLISH`, or an empty one for want of memory.
+fn list_or_none(rt: &impl Abort, alloc: Global) -> PropList {
+    match read(alloc, &PUBLISH, Place::Publish) {
+        Ok((list, taken)) => {
+            assert!(rt; taken == 15);
+            list
+        }
+        Err(fault) => {
+            assert!(rt; fault == PropFault::Memory);
+            PropList::new()
+        }
+    }
+}
+
+#[test]
+fn want_of_memory_writes_nothing(rt: HostRuntime) {
+    let list = list_or_none(&rt, rt.alloc());
+    let mut out = Vec::new(rt.alloc());
+    let found = write(&list, &mut out);
+    assert_memory_changes_nothing(&rt, found, out.len(), 0, list.lend().block_len());
+}
+
+#[test]
+fn want_of_memory_adds_no_property(rt: HostRuntime) {
+    let mut list = list_or_none(&rt, rt.alloc());
+    let before = list.lend().len();
+    let prop = PropRef {
+        name: PropName::ReasonString,
+        value: ValueRef::Text("why"),
+    };
+    let found = list.push(rt.alloc(), prop);
+    let after = before.saturating_add(1);
+    assert_memory_changes_nothing(&rt, found, list.lend().len(), before, after);
+}
+
+#[test]
+fn want_of_memory_adds_no_list(rt: HostRuntime) {
+    let mut list = list_or_none(&rt, rt.alloc());
+    let before = list.lend().len();
+    let (props, _) = look_at(&PUBLISH, Place::Publish).expect(&rt, "it is read");
+    let found = list.append(rt.alloc(), &props);
+    let after = before.saturating_add(props.len());
+    assert_memory_changes_nothing(&rt, found, list.lend().len(), before, after);
+}
+
+#[test]
+fn what_is_made_from_a_list_is_right_or_want_of_memory(rt: HostRuntime) {
+    let (props, _) = look_at(&PUBLISH, Place::Publish).expect(&rt, "it is read");
+    if let Ok(more) = props.only(rt.alloc(), PropName::UserProperty) {
+        assert!(rt; more.lend().len() == 1);
+    }
+    if let Ok(less) = props.without(rt.alloc(), PropName::TopicAlias) {
+        assert!(rt; !less.lend().has(PropName::TopicAlias));
+    }
+    if let Ok(copy) = props.to_list(rt.alloc()) {
+        assert!(rt; copy.lend().len() == props.len());
+    }
+}

@@ -1,0 +1,150 @@
+"""The crates of this repository, the words of a check by the kit's rattle, and what runs side by side."""
+import os
+import re
+import shutil
+import sys
+import threading
+from concurrent.futures import FIRST_COMPLETED, ThreadPoolExecutor, wait
+
+ROOT = os.path.dirname(os.path.dirname(os.path.realpath(__file__)))
+
+
+class Crate:
+    """A line of crates.txt: its name, its folder, all libraries that it lists, and the crates below it, lowest first."""
+
+    def __init__(self, root, name, libraries, known):
+        self.name, self.folder = name, f"{root}/crates/{name}"
+        self.of_kit = [it for it in libraries if it not in known]
+        self.own = [known[it] for it in libraries if it in known]
+        self.below = []
+        for it in self.own:
+            self.below += [other for other in [*it.below, it] if other not in self.below]
+        self.is_program = os.path.isfile(f"{self.folder}/src/main.rt")
+        self.root_file = "src/main.rt" if self.is_program else "src/lib.rt"
+        self.rlib = f"{self.folder}/out/rlib/{name}.rlib"
+
+    def files(self):
+        """Returns all files that a check of the crate reads."""
+        return [
+            f"{at}/{it}"
+            for part in ("src", "specs", "proofs")
+            for at, _, names in os.walk(f"{self.folder}/{part}")
+            for it in names
+        ]
+
+    def lines(self, ending):
+        """Returns how many lines the crate's files with this ending have."""
+        found = 0
+        for file in self.files():
+            if file.endswith(ending):
+                with open(file, "rb") as it:
+                    found += it.read().count(b"\n")
+        return found
+
+    def memory(self):
+        """Returns about how many bytes a check of the crate takes."""
+        below = sum(it.lines(".rt") for it in self.below)
+        return 900_000_000 + 500_000 * self.lines(".rt") + 100_000 * self.lines(".antt") + 50_000 * below
+
+
+def crates_of(root):
+    """Returns the crates of crates.txt by name, each after those that it stands on."""
+    listed, found = {}, {}
+    with open(f"{root}/crates.txt", encoding="utf-8") as it:
+        for line in it:
+            head, colon, libraries = line.partition("#")[0].partition(":")
+            if colon:
+                listed[head.split()[0]] = libraries.split()
+
+    def add(name):
+        if name not in found:
+            for it in listed[name]:
+                if it in listed:
+                    add(it)
+            found[name] = Crate(root, name, listed[name], found)
+
+    for name in listed:
+        add(name)
+    return found
+
+
+def kit():
+    """Returns the kit's folder, by its command rt."""
+    rt = shutil.which("rt")
+    if not rt:
+        sys.exit("the Rattle kit's command rt is not on PATH")
+    return os.path.dirname(os.path.dirname(os.path.realpath(rt)))
+
+
+def check_words(crate):
+    """Returns the words of a check of the crate, or of a copy of it, as rt calls it, over the libraries in out/rlib."""
+    home = kit()
+    words = [f"{home}/bin/rattle", "check", "--crate-name", crate.name, crate.root_file]
+    for it in ["std", *crate.of_kit]:
+        words += ["--extern", f"{it}={home}/rlibs/{it}.rlib"]
+    words += ["-L", f"dependency={home}/rlibs"]
+    for it in crate.own:
+        words += ["--extern", f"{it.name}={it.rlib}"]
+    for it in crate.below:
+        words += ["-L", f"dependency={os.path.dirname(it.rlib)}"]
+    words += ["--antt-project", f"{home}/rattle/logic/antt-project.json"]
+    return [*words, "--logic-built", f"{home}/logic_built", "--links", f"{crate.name}="]
+
+
+def number_in(file, pattern):
+    """Returns the number that the pattern finds in a file, or None."""
+    try:
+        with open(file, encoding="utf-8") as it:
+            return int(re.search(pattern, it.read())[1])
+    except (OSError, TypeError):
+        return None
+
+
+def processors():
+    """Returns how many processors there are to use, by the quota of the control group too."""
+    found = len(os.sched_getaffinity(0))
+    quota = number_in("/sys/fs/cgroup/cpu.max", r"^(\d+)")
+    period = number_in("/sys/fs/cgroup/cpu.max", r"(\d+)\s*$")
+    return min(found, max(quota // period, 1)) if quota and period else found
+
+
+def free_memory():
+    """Returns the free memory in bytes, under the limit of the control group too."""
+    found = [1024 * (number_in("/proc/meminfo", r"MemAvailable:\s+(\d+)") or 4_000_000)]
+    limit = number_in("/sys/fs/cgroup/memory.max", r"(\d+)")
+    if limit:
+        found.append(limit - (number_in("/sys/fs/cgroup/memory.current", r"(\d+)") or 0))
+    return min(found)
+
+
+def side_by_side(tasks):
+    """Runs tasks, each once those that it waits for have ended, as many as processors and memory hold.
+
+    A task is its key, the keys that it waits for, its memory in bytes, its weight, and a call that takes a number of jobs. Those with
+    the greatest weight behind them go first. Returns what each call gave, by key. RT_JOBS is how many run at a time, as under rt ci.
+    """
+    number = os.environ.get("RT_JOBS", "")
+    fixed = int(number) if number.isdigit() else 0
+    lanes, memory = fixed or processors(), 0.85 * free_memory()
+    by_key, behind = {it[0]: it for it in tasks}, {it[0]: it[3] for it in tasks}
+    for key, waits, _, _, _ in reversed(tasks):
+        for it in waits:
+            behind[it] = max(behind[it], by_key[it][3] + behind[key])
+    left = sorted(by_key, key=lambda it: -behind[it])
+    running, given, turn = {}, {}, threading.Lock()
+    with ThreadPoolExecutor(lanes) as pool:
+        while left or running:
+            ready = [it for it in left if all(below in given for below in by_key[it][1])]
+            for at, key in enumerate(ready):
+                _, _, need, _, call = by_key[key]
+                free = lanes - sum(jobs for _, _, jobs in running.values())
+                room = memory - sum(it for _, it, _ in running.values())
+                if free > 0 and (fixed or not running or need <= room):
+                    # a further job is for the processors that no other task waits for
+                    jobs = 1 if fixed else max(1, min(4, free // (len(ready) - at), 1 + int((room / need - 1) / 0.6)))
+                    with turn:
+                        left.remove(key)
+                    running[pool.submit(call, jobs)] = key, need * (1 + 0.6 * (jobs - 1)), jobs
+            for it in wait(running, return_when=FIRST_COMPLETED).done:
+                given[running.pop(it)[0]] = it.result()
+    return given
