@@ -1,5 +1,5 @@
 -- A law that speaks of one deed at a time: from what it says of each kind of deed, what the induction asks of each unit.
-use Rattle.std.proofs.Common.{◌≡◌, ℕ, Bool, true, false, List, [], ◌∷◌, ◌++◌, length, filter, map, Option, Some, None, refl, sym, subst}
+use Rattle.std.proofs.Common.{◌≡◌, ℕ, Bool, true, false, List, [], ◌∷◌, ◌++◌, length, filter, map, Option, Some, None, refl, sym, subst, arith}
 use Rattle.std.specs.Prelude.{⊤, suc, nat_lt, flat_map, decimal, Ok}
 use Rattle.mqtt_base.specs.declared.session.Ending.{Ending}
 use Rattle.mqtt_base.specs.declared.session.Ending.TheVariants.{SessionEnded}
@@ -38,7 +38,7 @@ use Rattle.mqtt_rules.proofs.FlightRows.{found_key}
 use Rattle.mqtt_rules.proofs.Goods.{AreGood}
 use Rattle.mqtt_rules.proofs.Leads.{Leads, leads_end, leads_append, leads_flat, leads_cond, leads_with_session, leads_of_entry}
 use Rattle.mqtt_rules.proofs.Acts.{About, anyone, call_of_anyone, leads_call, leads_opening, IsAnswer, is_alone, closing_session, closing_on, closing, brought_to, Finds, Law, IsAdmitted, IsGranted}
-use Rattle.mqtt_rules.proofs.Copies.{IsMade, AreMade, routed_numbered, brought_made, made_numbered, beside_leaves, beside_deliver, made_stays, are_made_stay, each_filter}
+use Rattle.mqtt_rules.proofs.Copies.{AreNumbered, IsMade, AreMade, routed_numbered, brought_made, made_numbered, beside_leaves, beside_deliver, made_stays, are_made_stay, each_filter}
 
 -- ---- what is said of each kind of deed, on the state that it comes on
 
@@ -53,7 +53,7 @@ pub record DeedLaw (env : Env) (about : About) (Keeps : Broker → Type 0) (Good
       → Good (Keep (kept_message b.records.publications b.now m (place_of_kept (retained_of m.topic b.records) b.records.retained))) b
   pub forget : (place : ℕ) (b : Broker) → Keeps b → Good (Forget place) b
   -- a copy is of an accepted publication, or of a retained message that stands
-  pub enter : (who : Whose) (copy : MessageCopy) (b : Broker) → Keeps b → IsMade copy b.records → Good (At who (Enter copy)) b
+  pub enter : (who : Whose) (copy : MessageCopy) (b : Broker) → Keeps b → IsMade who.birth copy b → Good (At who (Enter copy)) b
   pub leave : (who : Whose) (e : CopyRow) (ending : Ending) (b : Broker) → Keeps b → Good (At who (Leave e ending)) b
   pub refuse_will : (who : Whose) (b : Broker) → Keeps b → about.session who.birth → Good (RefuseWill who) b
   -- an identifier opens where its PUBLISH was new to the session, which stood before the publication's deeds
@@ -62,7 +62,7 @@ pub record DeedLaw (env : Env) (about : About) (Keeps : Broker → Type 0) (Good
       → session_at s.birth b.records ≡ Some s → answer_to id s.inbound ≡ New → accepted_copies env m b ≡ Some ds
       → Good (At (whose s) (Open id)) (after_all (publish env FromClient m ds b) b)
   pub alone : (who : Whose) (part : Part) (b : Broker) → Keeps b → about.session who.birth → is_alone part ≡ true → Good (At who part) b
-  pub close : (who : Whose) (moment : ℕ) (b : Broker) → Keeps b → about.session who.birth → Good (At who (Close moment)) b
+  pub close : (who : Whose) (b : Broker) → Keeps b → about.session who.birth → Good (At who (Close b.now)) b
   pub finish : (who : Whose) (b : Broker) → Keeps b → about.session who.birth → Good (Finish who) b
   pub resume : (who : Whose) (expiry : ℕ) (will : Option Will) (b : Broker) → Keeps b → about.session who.birth → Good (At who (Resume expiry will)) b
   pub name : (b : Broker) → Keeps b → Good (Name (suc b.records.autos)) b
@@ -101,6 +101,15 @@ retain_numbers : (retain empty : Bool) (number : ℕ) (m : Message) (b : Broker)
 retain_numbers false empty number m b = refl
 retain_numbers true true number m b = forget_numbers (retained_of m.topic b.records) b
 retain_numbers true false number m b = refl
+
+retain_now : (retain empty : Bool) (number : ℕ) (m : Message) (b : Broker) → (after_all (retain_by retain empty number m b) b).now ≡ b.now
+retain_now false empty number m b = refl
+retain_now true true number m b = forgotten (retained_of m.topic b.records)
+  where
+    forgotten : (o : Option RetainedMessage) → (after_all (forgets o) b).now ≡ b.now
+    forgotten None = refl
+    forgotten (Some x) = refl
+retain_now true false number m b = refl
 
 pub place_found : (env : Env) (m : Message) (b : Broker) (ds : List CopyTo) → accepted_copies env m b ≡ Some ds → finds_place env m b.records ≡ true
 place_found env m b ds e = accepted (finds_place env m b.records) _ ds e
@@ -142,22 +151,23 @@ module _ (env : Env) (about : About) (Keeps : Broker → Type 0) (Good : Deed �
   leads_leave s (turns.Repeat id) b k = nothing b k
   leads_leave s (turns.Unknown id) b k = nothing b k
 
-  pub leads_enter : (copy : MessageCopy) (s : Session) (b : Broker) → Keeps b → IsMade copy b.records → Led (enter_deeds env copy s) b
+  pub leads_enter : (copy : MessageCopy) (s : Session) (b : Broker) → Keeps b → IsMade s.birth copy b → Led (enter_deeds env copy s) b
   leads_enter copy s b k made =
       let ts = way_made (queue_limits env) (since env s) (queue_on [] s) in
       let first = flat_map (leave_deeds s) ts in
       leads_append Keeps Good first (At (whose s) (Enter copy) ∷ []) b
       (leads_flat Keeps Good (leave_deeds s) (leads_leave s) ts b k)
-      (λ h. one (At (whose s) (Enter copy)) (after_all first b) h (law.enter (whose s) copy (after_all first b) h (made_stays copy first b (beside_leaves s ts b) made)))
+      (λ h. one (At (whose s) (Enter copy)) (after_all first b) h (law.enter (whose s) copy (after_all first b) h (made_stays s.birth copy first b (beside_leaves s ts b) made)))
 
   -- ---- publications
 
-  leads_deliver_by : (t : Bool) (d : CopyTo) (b : Broker) → Keeps b → IsMade d.copy b.records → Led (deliver_by t env d b) b
+  leads_deliver_by : (t : Bool) (d : CopyTo) (b : Broker) → Keeps b → IsMade d.birth d.copy b → Led (deliver_by t env d b) b
   leads_deliver_by true d b k made =
-      leads_with_session Keeps Good (session_at d.birth b.records) (λ s. always (enter_deeds env d.copy s)) b k (λ s e. leads_enter d.copy s b k made)
+      leads_with_session Keeps Good (session_at d.birth b.records) (λ s. always (enter_deeds env d.copy s)) b k
+      (λ s e. leads_enter d.copy s b k (subst (λ (birth : ℕ). IsMade birth d.copy b) (sym (found_key birth_of d.birth s b.records.sessions e)) made))
   leads_deliver_by false d b k made = leads_offer (line_of d.birth b) (publish_of b.now false 0 d.copy) b k
 
-  pub leads_deliveries : (ds : List CopyTo) (b : Broker) → Keeps b → AreMade ds b.records → Led (series (map (deliver env) ds) b) b
+  pub leads_deliveries : (ds : List CopyTo) (b : Broker) → Keeps b → AreMade ds b → Led (series (map (deliver env) ds) b) b
   leads_deliveries [] b k made = nothing b k
   leads_deliveries (d ∷ ds) b k made =
       let first = deliver env d b in
@@ -184,22 +194,23 @@ module _ (env : Env) (about : About) (Keeps : Broker → Type 0) (Good : Deed �
       more (Accept number origin m) (next ++ series (map (deliver env) ds) d) b k (law.accept origin m b k said)
       (λ h. leads_append Keeps Good next (series (map (deliver env) ds) d) c
       (leads_retain m.retain (is_empty m.payload) m c h said refl refl (place_found env m b ds e))
-      (λ g. leads_deliveries ds d g (made_numbered number ds d (retain_numbers m.retain (is_empty m.payload) number m c) (routed_numbered env m b ds e))))
+      (λ g. leads_deliveries ds d g (made_numbered number ds d (retain_numbers m.retain (is_empty m.payload) number m c)
+          (subst (λ (now : ℕ). AreNumbered number now ds) (sym (retain_now m.retain (is_empty m.payload) number m c)) (routed_numbered env m b ds e)))))
 
   -- ---- sessions
 
-  leads_closed : (keeps_will : Bool) (now : ℕ) (o : Option Session) (b : Broker) → Keeps b → ((s : Session) → o ≡ Some s → about.session s.birth) → Led (closing_session keeps_will now o) b
-  leads_closed keeps_will now None b k its = nothing b k
-  leads_closed true now (Some s) b k its = one (At (whose s) (Close now)) b k (law.close (whose s) now b k (its s refl))
-  leads_closed false now (Some s) b k its =
-      more (At (whose s) DropWill) (At (whose s) (Close now) ∷ []) b k (law.alone (whose s) DropWill b k (its s refl) refl)
-      (λ h. one (At (whose s) (Close now)) (after (At (whose s) DropWill) b) h (law.close (whose s) now (after (At (whose s) DropWill) b) h (its s refl)))
+  leads_closed : (keeps_will : Bool) (o : Option Session) (b : Broker) → Keeps b → ((s : Session) → o ≡ Some s → about.session s.birth) → Led (closing_session keeps_will b.now o) b
+  leads_closed keeps_will None b k its = nothing b k
+  leads_closed true (Some s) b k its = one (At (whose s) (Close b.now)) b k (law.close (whose s) b k (its s refl))
+  leads_closed false (Some s) b k its =
+      more (At (whose s) DropWill) (At (whose s) (Close b.now) ∷ []) b k (law.alone (whose s) DropWill b k (its s refl) refl)
+      (λ h. one (At (whose s) (Close b.now)) (after (At (whose s) DropWill) b) h (law.close (whose s) (after (At (whose s) DropWill) b) h (its s refl)))
 
   leads_closing : (keeps_will : Bool) (l : Line) (session : Option ℕ) (b : Broker) → Keeps b → about.line l → l.session ≡ session → Led (Gone l.number ∷ closing_on keeps_will b.now session b.records) b
   leads_closing keeps_will l None b k its is = one (Gone l.number) b k (law.gone l.number b k)
   leads_closing keeps_will l (Some birth) b k its is =
       more (Gone l.number) (closing_session keeps_will b.now (session_at birth b.records)) b k (law.gone l.number b k)
-      (λ h. leads_closed keeps_will b.now (session_at birth b.records) (after (Gone l.number) b) h
+      (λ h. leads_closed keeps_will (session_at birth b.records) (after (Gone l.number) b) h
       (λ s e. subst about.session (sym (found_key birth_of birth s b.records.sessions e)) (law.finds.its_session l birth its is)))
 
   leads_ended : (s : Session) (b : Broker) → Keeps b → about.session s.birth → Led (end_session s) b
@@ -240,7 +251,8 @@ module _ (env : Env) (about : About) (Keeps : Broker → Type 0) (Good : Deed �
       let queued = filter is_queued ds in
       more (Count number) (At (whose s) (deeds.Subscribe x) ∷ series (map (deliver env) queued) c) b k (law.count b k)
       (λ h. more (At (whose s) (deeds.Subscribe x)) (series (map (deliver env) queued) c) (after (Count number) b) h (law.subscribe w s b k h its granted)
-      (λ g. leads_deliveries queued c g (are_made_stay queued first b (tt, (tt, tt)) (each_filter (λ d. IsMade d.copy b.records) is_queued ds (brought_made b.now number s w b.records)))))
+      (λ g. let d = after (Count number) b in
+      leads_deliveries queued c g (are_made_stay queued (At (whose s) (deeds.Subscribe x) ∷ []) d (tt, tt) (each_filter (λ y. IsMade y.birth y.copy d) is_queued ds (brought_made number s w d (omega arith))))))
 
   -- ---- turns
 
@@ -312,7 +324,7 @@ module _ (env : Env) (about : About) (Keeps : Broker → Type 0) (Good : Deed �
   by_ends stays turn = law_told (λ d b. ⊤) (λ ds b h. leads_end Keeps ds b h.1) (λ client ds b k led its. stays client b (after_all ds b) its) turn
 
   pub by_deeds_shuts : ((birth : ℕ) → about.session birth) → (s : Session) (b : Broker) → Keeps b → s.closed ≡ None → Led (At (whose s) (Close b.now) ∷ []) b
-  by_deeds_shuts all s b k is = one (At (whose s) (Close b.now)) b k (law.close (whose s) b.now b k (all s.birth))
+  by_deeds_shuts all s b k is = one (At (whose s) (Close b.now)) b k (law.close (whose s) b k (all s.birth))
 
 -- ---- for any step and any opening
 

@@ -16,7 +16,7 @@ pub has_entered : (env : Env) (copy : MessageCopy) (s : Session) (b : Broker)
     → HasEntered env s b.records (after_all (enter_deeds env copy s) b).records
 has_entered env copy s b small ordered short found free =
     let same = stay_is env.limits.full (since env s) s.birth s.queue in
-    let made = enters env copy s b small (all_found birth_of HasTables s.birth b.records.sessions s ordered.each found) found (omega (arith, same, free)) (record { ordered = ordered; short = short }) in
+    let made = enters env.limits.queue env copy s b (omega arith) small (all_found birth_of HasTables s.birth b.records.sessions s ordered.each found) found (omega (arith, same, free)) (record { ordered = ordered; short = short }) in
     let e = made.0 in
     let stays = e.stays in
     let after = stay_is env.limits.full (since env e.mine) e.mine.birth e.mine.queue in

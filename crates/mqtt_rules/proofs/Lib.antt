@@ -55,3 +55,13 @@ pub mod OrderedFull
 pub mod Meanings
 pub mod Reached
 pub mod Entered
+pub mod LookedUp
+pub mod Unique
+pub mod Coherent
+pub mod Names
+pub mod FitLaw
+pub mod Turns
+pub mod TurnLists
+pub mod StandLaw
+pub mod FitRows
+pub mod RowsFit

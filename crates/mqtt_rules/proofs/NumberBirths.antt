@@ -168,7 +168,7 @@ given_other : (d : Deed) (b : Broker) → BirthBelow (suc b.records.births) d �
 given_other d b less same low =
     subst (λ (i : ℕ). IsBelow birth_of (suc i) (after d b).records.sessions) same (below_deed (suc b.records.births) d b.records less low)
 
-given_deed : (d : Deed) (b : Broker) → GivesNext d b → HasGivenBirths b.records → HasGivenBirths (after d b).records
+pub given_deed : (d : Deed) (b : Broker) → GivesNext d b → HasGivenBirths b.records → HasGivenBirths (after d b).records
 given_deed (Begin row will) b e low = given_begin row will b e low
 given_deed d b e low = given_other d b tt (sym (ap (λ (c : Counts). c.births) (counts_deed d b.records))) low
 

@@ -22,7 +22,7 @@ use Rattle.mqtt_rules.specs.State.{Broker, Env, session_at, MemberChoice}
 use Rattle.mqtt_rules.specs.Deeds.{Whose, Part, Resume, Enter, Deed, Accept, Begin, At, Finish, Keep, Forget, part_rows, part_rows_of, rows_of_all, after, after_all}
 use Rattle.mqtt_rules.specs.Step.{Call, deeds, at_moment, env_of, with_moment, done, stepped, opening, unopened, opened}
 use Rattle.mqtt_rules.specs.Numbers.{HasCopiesUpTo, HasAcceptedNumbers}
-use Rattle.mqtt_rules.proofs.Copies.{IsMade, HasNumber, Kinds, kinds_deed, each_filter, each_more}
+use Rattle.mqtt_rules.proofs.Copies.{IsOf, IsMade, Kinds, kinds_at, each_filter, each_more}
 use Rattle.mqtt_rules.proofs.Goods.{AreGood}
 use Rattle.mqtt_rules.proofs.Acts.{is_alone, anyone, finds_anyone}
 use Rattle.mqtt_rules.proofs.ByDeeds.{DeedLaw, MarkLaw, leads_deeds, leads_opened}
@@ -120,7 +120,7 @@ queues_all n (change ∷ changes) r fit h = queues_all n changes (changed change
 -- a copy that enters, and a message that is retained, have numbers that were given
 abbrev pub OfAccepted : Deed → Broker → Type 0
 OfAccepted (Accept number origin m) b = b.records.publications ≤ number
-OfAccepted (At who (Enter copy)) b = IsMade copy b.records
+OfAccepted (At who (Enter copy)) b = IsMade who.birth copy b
 OfAccepted (Keep kept) b = kept.publication ≡ b.records.publications
 OfAccepted d b = ⊤
 
@@ -141,7 +141,7 @@ accepted_law env = record {
   refuse_will = λ who b k its. tt;
   open_id = λ s id m ds b k h its there new is. tt;
   alone = λ who part b k its is. accepted_alone who part b is;
-  close = λ who moment b k its. tt;
+  close = λ who b k its. tt;
   finish = λ who b k its. tt;
   resume = λ who expiry will b k its. tt;
   name = λ b k. tt;
@@ -159,23 +159,23 @@ accepted_mark : MarkLaw (λ b. ⊤) OfAccepted
 accepted_mark who place phase b k = tt
 
 -- a copy that was made has a number up to the last
-number_within : (n m : ℕ) (ks : List RetainedMessage) → HasNumber n ks → AllByRecursion (λ k. k.publication ≤ m) ks → n ≤ m
-number_within n m [] h all = absurd h
-number_within n m (k ∷ ks) h all = elim h [
-  | inl e ↦ let first = all.0 in omega (arith, e, first)
-  | inr more ↦ number_within n m ks more all.1
+number_within : (copy : MessageCopy) (m : ℕ) (ks : List RetainedMessage) → IsOf copy ks → AllByRecursion (λ k. k.publication ≤ m) ks → copy.id.publication ≤ m
+number_within copy m [] h all = absurd h
+number_within copy m (k ∷ ks) h all = elim h [
+  | inl it ↦ let first = all.0 in let e = it.0 in omega (arith, e, first)
+  | inr more ↦ number_within copy m ks more all.1
 ]
 
-made_within : (copy : MessageCopy) (r : Records) → IsMade copy r → HasAcceptedNumbers r → copy.id.publication ≤ r.publications
-made_within copy r made h = elim made [
-  | inl le ↦ le
-  | inr has ↦ number_within copy.id.publication r.publications r.retained has h.1
+made_within : (birth : ℕ) (copy : MessageCopy) (b : Broker) → IsMade birth copy b → HasAcceptedNumbers b.records → copy.id.publication ≤ b.records.publications
+made_within birth copy b made h = elim made.source [
+  | inl le ↦ le.0
+  | inr of ↦ number_within copy b.records.publications b.records.retained of h.1
 ]
 
 part_up_to : (who : Whose) (part : Part) (s : Session) (b : Broker) → OfAccepted (At who part) b → HasAcceptedNumbers b.records → RowsUpTo b.records.publications (part_rows part s)
 part_up_to who (Resume expiry None) s b q h = (tt, (tt, tt))
 part_up_to who (Resume expiry (Some will)) s b q h = (tt, (tt, tt))
-part_up_to who (Enter copy) s b q h = (made_within copy b.records q h, tt)
+part_up_to who (Enter copy) s b q h = (made_within who.birth copy b q h, tt)
 part_up_to who part s b q h = (tt, tt)
 
 part_up_to_of : (who : Whose) (part : Part) (o : Option Session) (b : Broker) → OfAccepted (At who part) b → HasAcceptedNumbers b.records → RowsUpTo b.records.publications (part_rows_of part o)
@@ -189,7 +189,7 @@ accepted_part who part b q h =
     let rows = part_rows_of part (session_at who.birth b.records) in
     let queues : QueuesUpTo n (after d b).records.sessions = queues_all n rows b.records (part_up_to_of who part (session_at who.birth b.records) b q h) h.0 in
     subst (λ (k : Kinds). QueuesUpTo k.publications (after d b).records.sessions × AllByRecursion (λ x. x.publication ≤ k.publications) k.retained)
-    (sym (kinds_deed d b tt)) (queues, h.1)
+    (sym (kinds_at who part b)) (queues, h.1)
 
 accepted_deed : (d : Deed) (b : Broker) → OfAccepted d b → HasAcceptedNumbers b.records → HasAcceptedNumbers (after d b).records
 accepted_deed (Accept number origin m) b q h =

@@ -26,7 +26,7 @@ use Rattle.mqtt_rules.specs.Closing.{end_session}
 use Rattle.mqtt_rules.specs.Connect.{of_client, greet, expiry_of, will_of, connack_properties, fresh_row, begin, begin_named, auto}
 use Rattle.mqtt_rules.specs.Inbound.{pump_turns, pump_deeds}
 use Rattle.mqtt_rules.specs.Subscribe as sub
-use Rattle.mqtt_rules.proofs.Goods.{after_append}
+use Rattle.mqtt_rules.proofs.Goods.{after_append, AreGood}
 use Rattle.mqtt_rules.proofs.Leads.{Leads, leads_end}
 use Rattle.mqtt_rules.proofs.Acts.{anyone, call_of_anyone, finds_anyone, is_alone, closing_session, closing_on, closing, brought_to, Law, leads_call, leads_opening}
 use Rattle.mqtt_rules.specs.Tick.{lapses, lapse_deeds}
@@ -142,15 +142,17 @@ module _ (P : Records → Type 0) where
 
 -- ---- what the deeds of a step have to keep
 
-pub record Keeping (env : Env) (P : Records → Type 0) : Type 0 where
+pub record Keeping (env : Env) (P : Records → Type 0) (Good : Deed → Broker → Type 0) : Type 0 where
   pub plain : (d : Deed) (r : Records) → IsPlain d → P r → P (stored_after d r)
+  pub good : (d : Deed) (b : Broker) → IsPlain d → P b.records → Good d b
+  pub born : (row : Columns) (will : Option Will) (b : Broker) → P b.records → Good (Begin row will) b
   pub begin : (row : Columns) (will : Option Will) (r : Records) → length r.sessions < env.limits.sessions → P r → P (stored_after (Begin row will) r)
-  pub publish : (origin : Origin) (m : Message) (ds : List CopyTo) (b : Broker) → accepted_copies env m b ≡ Some ds → P b.records → P (stored (after_all (publish env origin m ds b) b))
+  pub publish : (origin : Origin) (m : Message) (ds : List CopyTo) (b : Broker) → accepted_copies env m b ≡ Some ds → P b.records → Leads (λ c. P c.records) Good (publish env origin m ds b) b
   pub grants : (w : sub.Wish) (s : Session) (b : Broker)
       → session_at s.birth b.records ≡ Some s
       → nat_le (length (filter is_queued (brought_to w s b))) (room env s) ≡ true
       → P b.records
-      → P (stored (after_all (sub.granted_filter env (sub.next_number b.records) s w (brought_to w s b) b).deeds b))
+      → Leads (λ c. P c.records) Good (sub.granted_filter env (sub.next_number b.records) s w (brought_to w s b) b).deeds b
   pub moment : (now : ℕ) (r : Records) → P r → P (record r { moment = now })
 
 pub birth_found : (birth : ℕ) (ss : List Session) (s : Session) → row_at birth_of birth ss ≡ Some s → s.birth ≡ birth
@@ -163,7 +165,7 @@ birth_found birth (x ∷ xs) s found = elim (cases_Bool (nat_eq (birth_of x) bir
   | inr other ↦ birth_found birth xs s (rw other at found)
 ]
 
-module _ (env : Env) (P : Records → Type 0) (k : Keeping env P) where
+module _ (env : Env) (P : Records → Type 0) (Good : Deed → Broker → Type 0) (k : Keeping env P Good) where
   pub plains : (ds : List Deed) (b : Broker) → ArePlain ds → P b.records → P (stored (after_all ds b))
   plains [] b q p = p
   plains (d ∷ ds) b q p = plains ds (after d b) q.1 (k.plain d b.records q.0 p)
@@ -177,10 +179,14 @@ module _ (env : Env) (P : Records → Type 0) (k : Keeping env P) where
   Keeps_ b = P b.records
 
   abbrev Led : List Deed → Broker → Type 0
-  Led = Leads Keeps_ (λ d c. ⊤)
+  Led = Leads Keeps_ Good
 
   led : (ds : List Deed) (b : Broker) → ArePlain ds → P b.records → Led ds b
-  led ds b q p = leads_end Keeps_ ds b (plains ds b q p)
+  led ds b q p = (goods ds b q p, plains ds b q p)
+    where
+      goods : (ds : List Deed) (b : Broker) → ArePlain ds → P b.records → AreGood Good ds b
+      goods [] b q p = tt
+      goods (d ∷ ds) b q p = (k.good d b q.0 p, goods ds (after d b) q.1 (k.plain d b.records q.0 p))
 
   plain_alone : (part : Part) → is_alone part ≡ true → IsPlainPart part
   plain_alone (Enter copy) is = absurd cc
@@ -196,32 +202,33 @@ module _ (env : Env) (P : Records → Type 0) (k : Keeping env P) where
   plain_closing keeps_will now (Some birth) r = plain_closed keeps_will now (session_at birth r)
 
   born : (l : Line) (c : Greeting) (is_assigned : Bool) (client : List ℕ) (b : Broker) → P b.records → length b.records.sessions < env.limits.sessions
-      → P (stored (after_all (begin l c is_assigned client (suc b.records.births)) b))
+      → Led (begin l c is_assigned client (suc b.records.births)) b
   born l c is_assigned client b p room =
-      let d = Begin (fresh_row (suc b.records.births) client c) (will_of c) in
-      plains (greet l c (suc b.records.births) ∷ Send l.number (connack false success (connack_properties is_assigned client)) ∷ []) (after d b) (tt, (tt, tt)) (k.begin (fresh_row (suc b.records.births) client c) (will_of c) b.records room p)
+      let row = fresh_row (suc b.records.births) client c in
+      let d = Begin row (will_of c) in
+      let rest = led (greet l c (suc b.records.births) ∷ Send l.number (connack false success (connack_properties is_assigned client)) ∷ []) (after d b) (tt, (tt, tt)) (k.begin row (will_of c) b.records room p) in
+      ((k.born row (will_of c) b p, rest.0), rest.1)
 
-  begins_named : (t : Bool) (l : Line) (c : Greeting) (b : Broker) → P b.records → length b.records.sessions < env.limits.sessions → P (stored (after_all (begin_named t l c b.records) b))
+  begins_named : (t : Bool) (l : Line) (c : Greeting) (b : Broker) → P b.records → length b.records.sessions < env.limits.sessions → Led (begin_named t l c b.records) b
   begins_named false l c b p room = born l c false c.client_identifier b p room
   begins_named true l c b p room =
       let d = Name (suc b.records.autos) in
-      born l c true (auto ++ decimal (suc b.records.autos)) (after d b) (k.plain d b.records tt p) room
+      let rest = born l c true (auto ++ decimal (suc b.records.autos)) (after d b) (k.plain d b.records tt p) room in
+      ((k.good d b tt p, rest.0), rest.1)
 
-  pub keeping_law : Law env anyone Keeps_ (λ d c. ⊤)
+  pub keeping_law : Law env anyone Keeps_ Good
   keeping_law = record {
     finds = finds_anyone Keeps_;
     client_stays = λ client ds b k led its. tt;
-    publishes = λ origin m ds b p said e. leads_end Keeps_ (publish env origin m ds b) b (k.publish origin m ds b e p);
+    publishes = λ origin m ds b p said e. k.publish origin m ds b e p;
     open_id = λ s id m ds b p h its there new is. led (At (whose s) (Open id) ∷ []) (after_all (publish env FromClient m ds b) b) (tt, tt) h;
     refuse_will = λ who b p its. led (RefuseWill who ∷ []) b (tt, tt) p;
     alone = λ who part b p its is. led (At who part ∷ []) b (plain_alone part is, tt) p;
     closes = λ keeps_will l b p its on. led (closing keeps_will l b) b (tt, plain_closing keeps_will b.now l.session b.records) p;
     ends = λ s b p its among. led (end_session s) b (plain_end s) p;
     resumes = λ l c s b p its none came taken own is. led (At (whose s) (Resume (expiry_of c) (will_of c)) ∷ greet l c s.birth ∷ []) b (tt, (tt, tt)) p;
-    begins = λ l c b p its none came taken name is room.
-        leads_end Keeps_ (begin_named (is_empty c.client_identifier) l c b.records) b (begins_named (is_empty c.client_identifier) l c b p (ltb-true (length b.records.sessions) env.limits.sessions room));
-    grants = λ w s b p its granted.
-        leads_end Keeps_ (sub.granted_filter env (sub.next_number b.records) s w (brought_to w s b) b).deeds b (k.grants w s b granted.session granted.has_room p);
+    begins = λ l c b p its none came taken name is room. begins_named (is_empty c.client_identifier) l c b p (ltb-true (length b.records.sessions) env.limits.sessions room);
+    grants = λ w s b p its granted. k.grants w s b granted.session granted.has_room p;
     pumps = λ l s b p its is there. led (pump_deeds l b.now s) b (plain_turns b.now l.number s (pump_turns l b.now s)) p;
     turns = λ a t l s b p its own there is e. led (turn_deeds b.now l.number s t) b (plain_turn b.now l.number s t) p;
     lapses = λ s b p among. led (lapse_deeds b.now s) b (plain_flat (leave_deeds s) (plain_leave s) (lapses b.now s)) p;
@@ -232,11 +239,17 @@ module _ (env : Env) (P : Records → Type 0) (k : Keeping env P) where
     sends = λ n packet b p its. led (Send n packet ∷ []) b (tt, tt) p;
   }
 
+  pub leads_all : (call : Call) (b : Broker) → P b.records → Led (deeds_of env call b) b
+  leads_all call b p = leads_call env anyone Keeps_ Good keeping_law call b p (call_of_anyone call b)
+
+  pub leads_open : (b : Broker) → P b.records → Led (opening env b) b
+  leads_open b p = leads_opening env anyone Keeps_ Good keeping_law (λ s c q is. led (At (whose s) (Close c.now) ∷ []) c (tt, tt) q) (λ birth. tt) b p
+
   pub keeps_call : (call : Call) → Keeps P (deeds_of env call)
-  keeps_call call b p = (leads_call env anyone Keeps_ (λ d c. ⊤) keeping_law call b p (call_of_anyone call b)).1
+  keeps_call call b p = (leads_all call b p).1
 
   pub keeps_opening : Keeps P (opening env)
-  keeps_opening b p = (leads_opening env anyone Keeps_ (λ d c. ⊤) keeping_law (λ s c q is. led (At (whose s) (Close c.now) ∷ []) c (tt, tt) q) (λ birth. tt) b p).1
+  keeps_opening b p = (leads_open b p).1
 
   keeps_moment : (rows : List Change) (b : Broker) → P b.records → P (stored (with_moment rows b))
   keeps_moment [] b p = p

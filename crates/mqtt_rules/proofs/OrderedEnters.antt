@@ -1,6 +1,6 @@
 -- No queue outgrows its limit: every deed but an entering keeps that, and a copy enters where there is room.
 use Rattle.std.proofs.Common.{◌≡◌, ℕ, suc, ◌+◌, ◌-◌, ◌<◌, ◌≤◌, Bool, true, false, cond, not, List, [], ◌∷◌, ◌++◌, length, map, Option, Some, None, nat_eq, refl, ap, sym, subst, ◌∙◌, arith, inl, inr}
-use Rattle.std.specs.Prelude.{flat_map, is_some}
+use Rattle.std.specs.Prelude.{⊤, flat_map, is_some}
 use Rattle.std.specs.List.{AllByRecursion}
 use Rattle.std.proofs.lemmas.Bool.{cases_Bool, eqb-true, lt-ltb}
 use Rattle.mqtt_flow.specs.declared.entry.Turn.{Turn}
@@ -30,7 +30,7 @@ use Rattle.mqtt_rules.specs.Deeds as deed
 use Rattle.mqtt_rules.specs.Outbound.{of_entry, leave_deeds, is_new, since, queue_limits, enter_deeds}
 use Rattle.mqtt_rules.specs.Laws.{HasTables, IsOrdered}
 use Rattle.mqtt_rules.proofs.Ordered.{length-filter_le, length-change_row, all-filter, all-change_row, all-put_row, either, changed_all-ordered}
-use Rattle.mqtt_rules.proofs.Goods.{after_append}
+use Rattle.mqtt_rules.proofs.Goods.{after_append, AreGood, good_append, good_flat, good_of_entry}
 use Rattle.mqtt_rules.proofs.OrderedActs.{IsPlainPart, IsPlain, ArePlain, plain_leave, plain_flat, birth_found}
 use Rattle.mqtt_rules.proofs.OrderedQueues.{length-mapped, stay, stay_is, leaving, GivesWay, dropped_gives, leaving_flow, first_place, stay_more, below_own, length-append_one}
 
@@ -188,19 +188,19 @@ still_one (Gone line) p = tt
 
 -- ---- tables in order, and no queue above its limit
 
-pub record ShortQueues (env : Env) (r : Records) : Type 0 where
+pub record ShortQueues (limit : ℕ) (r : Records) : Type 0 where
   pub ordered : IsOrdered r
-  pub short : AreShort env.limits.queue r.sessions
+  pub short : AreShort limit r.sessions
 
-pub still_short : (env : Env) (d : Deed) (r : Records) → IsStill d → ShortQueues env r → ShortQueues env (stored_after d r)
-still_short env d r q h = record {
+pub still_short : (limit : ℕ) (d : Deed) (r : Records) → IsStill d → ShortQueues limit r → ShortQueues limit (stored_after d r)
+still_short limit d r q h = record {
   ordered = changed_all-ordered (rows_of d r) r h.ordered;
-  short = changes_short env.limits.queue (rows_of d r) r (deed_other d r q) h.short;
+  short = changes_short limit (rows_of d r) r (deed_other d r q) h.short;
 }
 
-pub plain_short : (env : Env) (ds : List Deed) (b : Broker) → ArePlain ds → ShortQueues env b.records → ShortQueues env (stored (after_all ds b))
-plain_short env [] b q h = h
-plain_short env (d ∷ ds) b q h = plain_short env ds (after d b) q.1 (still_short env d b.records (still_one d q.0) h)
+pub plain_short : (limit : ℕ) (ds : List Deed) (b : Broker) → ArePlain ds → ShortQueues limit b.records → ShortQueues limit (stored (after_all ds b))
+plain_short limit [] b q h = h
+plain_short limit (d ∷ ds) b q h = plain_short limit ds (after d b) q.1 (still_short limit d b.records (still_one d q.0) h)
 
 -- ---- the copies that give way leave
 
@@ -285,9 +285,26 @@ pub record Entered (env : Env) (s : Session) (ss new : List Session) : Type 0 wh
   pub stays : own_stay env mine ≤ suc (own_stay env s)
   pub others : (other : ℕ) → nat_eq s.birth other ≡ false → row_at birth_of other new ≡ row_at birth_of other ss
 
-pub enters : (env : Env) (copy : MessageCopy) (s : Session) (b : Broker) → env.limits.queue ≤ QUEUE_LIMIT → HasTables s → session_at s.birth b.records ≡ Some s → own_stay env s < env.limits.queue → ShortQueues env b.records
-    → Entered env s b.records.sessions (stored (after_all (enter_deeds env copy s) b)).sessions × ShortQueues env (stored (after_all (enter_deeds env copy s) b))
-enters env copy s b small tables found free short =
+-- a session's queue has room for one more, and so it is where a copy enters
+abbrev pub HasQueueRoom : ℕ → Records → Type 0
+HasQueueRoom birth r = (t : Session) → session_at birth r ≡ Some t → length t.queue < QUEUE_LIMIT
+
+abbrev pub RoomToEnter : Deed → Broker → Type 0
+RoomToEnter (At who (Enter copy)) b = HasQueueRoom who.birth b.records
+RoomToEnter d b = ⊤
+
+room_to_leave : (s : Session) (t : Turn) (b : Broker) → AreGood RoomToEnter (leave_deeds s t) b
+room_to_leave s (turns.Leave place ending) b = good_of_entry RoomToEnter (row_at copy_place place s.queue) (λ e. At (whose s) (Leave e ending) ∷ []) b (λ e. (tt, tt))
+room_to_leave s (turns.Send place id) b = tt
+room_to_leave s (turns.Resend place id) b = tt
+room_to_leave s (turns.Release place id order) b = tt
+room_to_leave s (turns.Outgrow place id order) b = tt
+room_to_leave s (turns.Repeat id) b = tt
+room_to_leave s (turns.Unknown id) b = tt
+
+pub enters : (limit : ℕ) (env : Env) (copy : MessageCopy) (s : Session) (b : Broker) → env.limits.queue ≤ limit → env.limits.queue ≤ QUEUE_LIMIT → HasTables s → session_at s.birth b.records ≡ Some s → own_stay env s < env.limits.queue → ShortQueues limit b.records
+    → Entered env s b.records.sessions (stored (after_all (enter_deeds env copy s) b)).sessions × ShortQueues limit (stored (after_all (enter_deeds env copy s) b)) × AreGood RoomToEnter (enter_deeds env copy s) b
+enters limit env copy s b le small tables found free short =
     let first = since env s in
     let ts = way_made (queue_limits env) first (queue_on [] s) in
     let gives = dropped_gives (length (queue_on [] s) + 1 - env.limits.queue) first s.birth s.queue in
@@ -329,11 +346,16 @@ enters env copy s b small tables found free short =
       stays = stays;
       others = λ other differ. ap (row_at birth_of other) is ∙ change_other birth_of s.birth other (with_copy n) c.records.sessions (λ x. refl) differ ∙ left.others other differ;
     } in
-    let before = plain_short env ds b (plain_flat (leave_deeds s) (plain_leave s) ts) short in
-    let after_it : ShortQueues env d.records = record {
+    let before = plain_short limit ds b (plain_flat (leave_deeds s) (plain_leave s) ts) short in
+    let after_it : ShortQueues limit d.records = record {
       ordered = changed_all-ordered (rows_of (At (whose s) (Enter copy)) c.records) c.records before.ordered;
-      short = subst (AreShort env.limits.queue) (sym is) (all_changed birth_of (IsShort env.limits.queue) s.birth (with_copy n) c.records.sessions
-          (λ x there. let it : left.mine ≡ x = some_same left.mine x (sym left.found ∙ there) in subst (λ (y : Session). length (with_copy n y).queue ≤ env.limits.queue) it long)
+      short = subst (AreShort limit) (sym is) (all_changed birth_of (IsShort limit) s.birth (with_copy n) c.records.sessions
+          (λ x there. let it : left.mine ≡ x = some_same left.mine x (sym left.found ∙ there) in subst (λ (y : Session). length (with_copy n y).queue ≤ limit) it (omega (arith, long, le)))
           before.short);
     } in
-    subst (λ (x : Broker). Entered env s b.records.sessions x.records.sessions × ShortQueues env x.records) (sym (after_append ds (At (whose s) (Enter copy) ∷ []) b)) (entered, after_it)
+    let room : AreGood RoomToEnter (enter_deeds env copy s) b
+    = good_append RoomToEnter ds (At (whose s) (Enter copy) ∷ []) b (good_flat RoomToEnter (leave_deeds s) (room_to_leave s) ts b)
+      ((λ t there. let it : left.mine ≡ t = some_same left.mine t (sym left.found ∙ there) in subst (λ (y : Session). length y.queue < QUEUE_LIMIT) it (omega (arith, less, small))), tt)
+    in
+    let end = subst (λ (x : Broker). Entered env s b.records.sessions x.records.sessions × ShortQueues limit x.records) (sym (after_append ds (At (whose s) (Enter copy) ∷ []) b)) (entered, after_it) in
+    (end.0, end.1, room)

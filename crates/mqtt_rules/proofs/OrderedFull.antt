@@ -1,5 +1,5 @@
 -- Every step, and every opening, keeps each queue within the limit.
-use Rattle.std.proofs.Common.{◌≡◌, ℕ, suc, ◌+◌, ◌≤◌, Bool, true, false, cond, ◌&&◌, List, [], ◌∷◌, length, filter, map, Option, Some, None, nat_eq, refl, ap, sym, subst, ◌∙◌, arith, inl, inr}
+use Rattle.std.proofs.Common.{◌≡◌, ℕ, suc, ◌+◌, ◌-◌, ◌++◌, ◌≤◌, Bool, true, false, cond, ◌&&◌, List, [], ◌∷◌, length, filter, map, Option, Some, None, nat_eq, refl, ap, sym, subst, ◌∙◌, arith, inl, inr}
 use Rattle.std.specs.Prelude.{nat_le}
 use Rattle.std.specs.List.{AllByRecursion}
 use Rattle.std.proofs.lemmas.Bool.{cases_Bool, eqb-true}
@@ -14,13 +14,13 @@ use Rattle.mqtt_records.specs.declared.subscription.Subscription.{Subscription}
 use Rattle.mqtt_records.specs.declared.records.Records.{Records}
 use Rattle.mqtt_records.specs.declared.change.Counter.TheVariants.{Moment}
 use Rattle.mqtt_records.specs.declared.change.Change.TheVariants.{SetCounter}
-use Rattle.mqtt_rows.specs.Order.{row_at, change_row}
+use Rattle.mqtt_rows.specs.Order.{IsAscending, row_at, change_row}
 use Rattle.mqtt_records.specs.Session.{birth_of, with_subscription}
 use Rattle.mqtt_records.specs.Records.{changed_all}
 use Rattle.mqtt_rules.specs.declared.Limits.{Limits}
 use Rattle.mqtt_rules.specs.Packets.{publish_of, size_of}
 use Rattle.mqtt_rules.specs.State.{Line, Broker, Env, stored, session_at, line_of, MemberChoice}
-use Rattle.mqtt_rules.specs.Deeds.{whose, Message, Origin, Part, Deed, Accept, Count, At, Keep, Forget, Act, after, after_all, part_rows_of, stored_after, then, always, series, with_session, of_session, offer}
+use Rattle.mqtt_rules.specs.Deeds.{whose, Message, Origin, Part, Enter, Deed, Accept, Count, At, Keep, Forget, Act, after, after_all, part_rows_of, stored_after, then, always, series, with_session, of_session, offer}
 use Rattle.mqtt_rules.specs.Deeds as deed
 use Rattle.mqtt_rules.specs.Outbound.{since, room, room_at, enter_deeds}
 use Rattle.mqtt_rules.specs.Routing.{CopyTo, retained_of, next_publication, accepted_copies, is_queued, deliver_by, deliver, forgets, retain_by, publish}
@@ -28,20 +28,22 @@ use Rattle.mqtt_rules.specs.Subscribe as sub
 use Rattle.mqtt_rules.specs.Step.{Call, stepped, env_of, unopened, opened}
 use Rattle.mqtt_rules.specs.Laws.{HasTables, IsOrdered}
 use Rattle.mqtt_rules.proofs.Ordered.{length-filter_le, all-filter, changed-ordered}
-use Rattle.mqtt_rules.proofs.OrderedActs.{both, Keeping, birth_found}
+use Rattle.mqtt_rules.proofs.OrderedActs.{IsPlain, both, Keeping, birth_found}
+use Rattle.mqtt_rules.proofs.Goods.{AreGood, good_append, good_cond}
+use Rattle.mqtt_rules.proofs.Leads.{Leads, leads_append}
 use Rattle.mqtt_rules.proofs.Acts.{brought_to}
 use Rattle.mqtt_rules.proofs.OrderedAccepted.{is_to, accepted_within}
-use Rattle.mqtt_rules.proofs.OrderedQueues.{stay_is, stay_le}
+use Rattle.mqtt_rules.proofs.OrderedQueues.{stay_is}
 use Rattle.mqtt_rules.proofs.OrderedLimits.{step_keeps, opening_keeps}
-use Rattle.mqtt_rules.proofs.OrderedEnters.{change_here, change_other, all_found, IsShort, AreShort, ShortQueues, still_short, own_stay, enters, some_same, still_one}
+use Rattle.mqtt_rules.proofs.OrderedEnters.{change_here, all_found, AreShort, ShortQueues, RoomToEnter, still_short, own_stay, enters, some_same, still_one}
 
 -- the copies still to be delivered fit
 abbrev Fits : Env → List CopyTo → List Session → Type 0
-Fits env ds ss = (birth : ℕ) (s : Session) → row_at birth_of birth ss ≡ Some s → own_stay env s + length (filter (is_to birth) ds) ≤ env.limits.queue
+Fits env ds ss = (birth : ℕ) (s : Session) → row_at birth_of birth ss ≡ Some s → length (filter (is_to birth) ds) ≤ env.limits.queue - own_stay env s
 
 -- what a list of deeds leaves of a state
-abbrev Good : Env → List CopyTo → Broker → Type 0
-Good env ds b = ShortQueues env b.records × Fits env ds b.records.sessions
+abbrev Good : ℕ → Env → List CopyTo → Broker → Type 0
+Good limit env ds b = ShortQueues limit b.records × Fits env ds b.records.sessions
 
 fewer_fit : (env : Env) (d : CopyTo) (ds : List CopyTo) (ss : List Session) → Fits env (d ∷ ds) ss → Fits env ds ss
 fewer_fit env d ds ss fits birth s found =
@@ -62,29 +64,32 @@ own_birth birth s ss same found = ap (λ n. row_at birth_of n ss) same ∙ found
 birth_is : (birth : ℕ) (ss : List Session) (s : Session) → row_at birth_of birth ss ≡ Some s → s.birth ≡ birth
 birth_is birth ss s found = birth_found birth ss s found
 
-delivered : (env : Env) (d : CopyTo) (ds : List CopyTo) (b : Broker) (o : Option Session) → env.limits.queue ≤ QUEUE_LIMIT → is_queued d ≡ true → session_at d.birth b.records ≡ o → Good env (d ∷ ds) b
-    → Good env ds (after_all (with_session o (λ s. always (enter_deeds env d.copy s)) b) b)
-delivered env d ds b None small queued is good = (good.0, fewer_fit env d ds b.records.sessions good.1)
-delivered env d ds b (Some s) small queued is good =
+delivered : (limit : ℕ) (env : Env) (d : CopyTo) (ds : List CopyTo) (b : Broker) (o : Option Session) → env.limits.queue ≤ limit → env.limits.queue ≤ QUEUE_LIMIT → is_queued d ≡ true → session_at d.birth b.records ≡ o → Good limit env (d ∷ ds) b
+    → Good limit env ds (after_all (with_session o (λ s. always (enter_deeds env d.copy s)) b) b) × AreGood RoomToEnter (with_session o (λ s. always (enter_deeds env d.copy s)) b) b
+delivered limit env d ds b None le small queued is good = ((good.0, fewer_fit env d ds b.records.sessions good.1), tt)
+delivered limit env d ds b (Some s) le small queued is good =
     let ss = b.records.sessions in
     let mine = birth_is d.birth ss s is in
     let own = own_birth d.birth s ss mine is in
     let all = one_fits env d ds ss s queued good.1 is in
     let tables = all_found birth_of HasTables d.birth ss s good.0.ordered.each is in
-    let made = enters env d.copy s b small tables own (omega (arith, all)) good.0 in
+    let made = enters limit env d.copy s b le small tables own (omega (arith, all)) good.0 in
     let new = (after_all (enter_deeds env d.copy s) b).records.sessions in
     let e = made.0 in (
-      made.1,
-      λ birth x found. elim (cases_Bool (nat_eq s.birth birth)) [
-        | inl same ↦
-            let at : s.birth ≡ birth = eqb-true s.birth birth same in
-            let it : e.mine ≡ x = some_same e.mine x (sym e.found ∙ ap (λ n. row_at birth_of n new) at ∙ found) in
-            let to : d.birth ≡ birth = sym mine ∙ at in
-            let bound : own_stay env e.mine + length (filter (is_to d.birth) ds) ≤ env.limits.queue = (let stays = e.stays in omega (arith, stays, all)) in
-            let there : own_stay env e.mine + length (filter (is_to birth) ds) ≤ env.limits.queue = subst (λ (n : ℕ). own_stay env e.mine + length (filter (is_to n) ds) ≤ env.limits.queue) to bound in
-            subst (λ (y : Session). own_stay env y + length (filter (is_to birth) ds) ≤ env.limits.queue) it there
-        | inr other ↦ fewer_fit env d ds ss good.1 birth x (sym (e.others birth other) ∙ found)
-      ],
+      (
+        made.1,
+        λ birth x found. elim (cases_Bool (nat_eq s.birth birth)) [
+          | inl same ↦
+              let at : s.birth ≡ birth = eqb-true s.birth birth same in
+              let it : e.mine ≡ x = some_same e.mine x (sym e.found ∙ ap (λ n. row_at birth_of n new) at ∙ found) in
+              let to : d.birth ≡ birth = sym mine ∙ at in
+              let bound : length (filter (is_to d.birth) ds) ≤ env.limits.queue - own_stay env e.mine = (let stays = e.stays in omega (arith, stays, all)) in
+              let there : length (filter (is_to birth) ds) ≤ env.limits.queue - own_stay env e.mine = subst (λ (n : ℕ). length (filter (is_to n) ds) ≤ env.limits.queue - own_stay env e.mine) to bound in
+              subst (λ (y : Session). length (filter (is_to birth) ds) ≤ env.limits.queue - own_stay env y) it there
+          | inr other ↦ fewer_fit env d ds ss good.1 birth x (sym (e.others birth other) ∙ found)
+        ],
+      ),
+      made.2,
     )
 
 offered : (l : Option Line) (p : Packet) (b : Broker) → stored (after_all (offer l p) b) ≡ stored b
@@ -95,51 +100,64 @@ offered (Some l) p b = offered_if (nat_le (size_of p) l.largest) l p b
     offered_if true l p b = refl
     offered_if false l p b = refl
 
-deliver_good : (t : Bool) (env : Env) (d : CopyTo) (ds : List CopyTo) (b : Broker) → env.limits.queue ≤ QUEUE_LIMIT → is_queued d ≡ t → Good env (d ∷ ds) b → Good env ds (after_all (deliver_by t env d b) b)
-deliver_good true env d ds b small is good = delivered env d ds b (session_at d.birth b.records) small is refl good
-deliver_good false env d ds b small is good =
-    subst (λ (r : Records). ShortQueues env r × Fits env ds r.sessions) (sym (offered (line_of d.birth b) (publish_of b.now false 0 d.copy) b)) (good.0, fewer_fit env d ds b.records.sessions good.1)
+offer_room : (l : Option Line) (p : Packet) (b : Broker) → AreGood RoomToEnter (offer l p) b
+offer_room None p b = tt
+offer_room (Some l) p b = good_cond RoomToEnter (nat_le (size_of p) l.largest) (deed.Send l.number p ∷ []) [] b (tt, tt) tt
 
-all_delivered : (env : Env) (ds : List CopyTo) (b : Broker) → env.limits.queue ≤ QUEUE_LIMIT → Good env ds b → ShortQueues env (stored (after_all (series (map (deliver env) ds) b) b))
-all_delivered env [] b small good = good.0
-all_delivered env (d ∷ ds) b small good =
+deliver_good : (limit : ℕ) (t : Bool) (env : Env) (d : CopyTo) (ds : List CopyTo) (b : Broker) → env.limits.queue ≤ limit → env.limits.queue ≤ QUEUE_LIMIT → is_queued d ≡ t → Good limit env (d ∷ ds) b
+    → Good limit env ds (after_all (deliver_by t env d b) b) × AreGood RoomToEnter (deliver_by t env d b) b
+deliver_good limit true env d ds b le small is good = delivered limit env d ds b (session_at d.birth b.records) le small is refl good
+deliver_good limit false env d ds b le small is good = (
+  subst (λ (r : Records). ShortQueues limit r × Fits env ds r.sessions) (sym (offered (line_of d.birth b) (publish_of b.now false 0 d.copy) b)) (good.0, fewer_fit env d ds b.records.sessions good.1),
+  offer_room (line_of d.birth b) (publish_of b.now false 0 d.copy) b,
+)
+
+abbrev Short : ℕ → Broker → Type 0
+Short limit b = ShortQueues limit b.records
+
+all_delivered : (limit : ℕ) (env : Env) (ds : List CopyTo) (b : Broker) → env.limits.queue ≤ limit → env.limits.queue ≤ QUEUE_LIMIT → Good limit env ds b → Leads (Short limit) RoomToEnter (series (map (deliver env) ds) b) b
+all_delivered limit env [] b le small good = (tt, good.0)
+all_delivered limit env (d ∷ ds) b le small good =
     let first = deliver env d b in
     let c = after_all first b in
-    both (ShortQueues env) first (series (map (deliver env) ds) c) b (all_delivered env ds c small (deliver_good (is_queued d) env d ds b small refl good))
+    let one = deliver_good limit (is_queued d) env d ds b le small refl good in
+    let rest = all_delivered limit env ds c le small one.0 in
+    (good_append RoomToEnter first (series (map (deliver env) ds) c) b one.1 rest.0, both (ShortQueues limit) first (series (map (deliver env) ds) c) b rest.1)
 
 -- ---- a publication
 
-within_room : (env : Env) (s : Session) (n : ℕ) → n ≤ room env s → length s.queue ≤ env.limits.queue → own_stay env s + n ≤ env.limits.queue
-within_room env s n le short =
+within_room : (env : Env) (s : Session) (n : ℕ) → n ≤ room env s → n ≤ env.limits.queue - own_stay env s
+within_room env s n le =
     let same = stay_is env.limits.full (since env s) s.birth s.queue in
-    let fewer = stay_le env.limits.full (since env s) s.queue in
-    omega (arith, same, fewer, le, short)
+    omega (arith, same, le)
 
-accepted_fit : (env : Env) (m : Message) (b : Broker) (ds : List CopyTo) → accepted_copies env m b ≡ Some ds → ShortQueues env b.records → Fits env ds b.records.sessions
-accepted_fit env m b ds is short birth s found =
-    let few = accepted_within env m b ds birth is short.ordered.sessions.ascending in
-    let le : length (filter (is_to birth) ds) ≤ room env s = subst (λ (o : Option Session). length (filter (is_to birth) ds) ≤ room_at env o) found few in
-    within_room env s (length (filter (is_to birth) ds)) le (all_found birth_of (IsShort env.limits.queue) birth b.records.sessions s short.short found)
+accepted_fit : (env : Env) (m : Message) (b : Broker) (ds : List CopyTo) → accepted_copies env m b ≡ Some ds → IsAscending birth_of b.records.sessions → Fits env ds b.records.sessions
+accepted_fit env m b ds is up birth s found =
+    let few = accepted_within env m b ds birth is up in
+    within_room env s (length (filter (is_to birth) ds)) (subst (λ (o : Option Session). length (filter (is_to birth) ds) ≤ room_at env o) found few)
 
-forgets_good : (env : Env) (ds : List CopyTo) (o : Option RetainedMessage) (b : Broker) → Good env ds b → Good env ds (after_all (forgets o) b)
-forgets_good env ds None b good = good
-forgets_good env ds (Some k) b good = (still_short env (Forget k.place) b.records tt good.0, good.1)
+forgets_good : (limit : ℕ) (env : Env) (ds : List CopyTo) (o : Option RetainedMessage) (b : Broker) → Good limit env ds b → Good limit env ds (after_all (forgets o) b) × AreGood RoomToEnter (forgets o) b
+forgets_good limit env ds None b good = (good, tt)
+forgets_good limit env ds (Some k) b good = ((still_short limit (Forget k.place) b.records tt good.0, good.1), (tt, tt))
 
-retain_good : (env : Env) (ds : List CopyTo) (t e : Bool) (number : ℕ) (m : Message) (b : Broker) → Good env ds b → Good env ds (after_all (retain_by t e number m b) b)
-retain_good env ds false e number m b good = good
-retain_good env ds true true number m b good = forgets_good env ds (retained_of m.topic b.records) b good
-retain_good env ds true false number m b good = (still_short env (Keep _) b.records tt good.0, good.1)
+retain_good : (limit : ℕ) (env : Env) (ds : List CopyTo) (t e : Bool) (number : ℕ) (m : Message) (b : Broker) → Good limit env ds b
+    → Good limit env ds (after_all (retain_by t e number m b) b) × AreGood RoomToEnter (retain_by t e number m b) b
+retain_good limit env ds false e number m b good = (good, tt)
+retain_good limit env ds true true number m b good = forgets_good limit env ds (retained_of m.topic b.records) b good
+retain_good limit env ds true false number m b good = ((still_short limit (Keep _) b.records tt good.0, good.1), (tt, tt))
 
-publishes_short : (env : Env) (origin : Origin) (m : Message) (ds : List CopyTo) (b : Broker) → env.limits.queue ≤ QUEUE_LIMIT → accepted_copies env m b ≡ Some ds → ShortQueues env b.records → ShortQueues env (stored (after_all (publish env origin m ds b) b))
-publishes_short env origin m ds b small is short =
+publishes_short : (limit : ℕ) (env : Env) (origin : Origin) (m : Message) (ds : List CopyTo) (b : Broker) → env.limits.queue ≤ limit → env.limits.queue ≤ QUEUE_LIMIT → accepted_copies env m b ≡ Some ds → ShortQueues limit b.records
+    → Leads (Short limit) RoomToEnter (publish env origin m ds b) b
+publishes_short limit env origin m ds b le small is short =
     let number = next_publication b.records in
     let first : List Deed = Accept number origin m ∷ [] in
     let c = after_all first b in
     let kept = retain_by m.retain (is_empty m.payload) number m c in
-    let good : Good env ds c = (still_short env (Accept number origin m) b.records tt short, accepted_fit env m b ds is short) in
-    both (ShortQueues env) first (series (retain_by m.retain (is_empty m.payload) number m ∷ map (deliver env) ds) c) b
-    (both (ShortQueues env) kept (series (map (deliver env) ds) (after_all kept c)) c
-    (all_delivered env ds (after_all kept c) small (retain_good env ds m.retain (is_empty m.payload) number m c good)))
+    let good : Good limit env ds c = (still_short limit (Accept number origin m) b.records tt short, accepted_fit env m b ds is short.ordered.sessions.ascending) in
+    let next = retain_good limit env ds m.retain (is_empty m.payload) number m c good in
+    let rest = all_delivered limit env ds (after_all kept c) le small next.0 in
+    leads_append (Short limit) RoomToEnter first (kept ++ series (map (deliver env) ds) (after_all kept c)) b ((tt, tt), good.0)
+    (λ h. leads_append (Short limit) RoomToEnter kept (series (map (deliver env) ds) (after_all kept c)) c (next.1, next.0.0) (λ g. rest))
 
 -- ---- retained messages for a subscription
 
@@ -166,26 +184,23 @@ none_for birth other (d ∷ ds) differ all =
     and_false false y is = refl
 
 granted_fit : (env : Env) (s : Session) (x : Subscription) (ds : List CopyTo) (ss new : List Session) → new ≡ change_row birth_of s.birth (with_subscription x) ss
-    → row_at birth_of s.birth ss ≡ Some s → AllByRecursion (IsFor s.birth) ds → length ds ≤ room env s → AreShort env.limits.queue ss → Fits env ds new
-granted_fit env s x ds ss new is found all le short birth y there = elim (cases_Bool (nat_eq s.birth birth)) [
+    → row_at birth_of s.birth ss ≡ Some s → AllByRecursion (IsFor s.birth) ds → length ds ≤ room env s → Fits env ds new
+granted_fit env s x ds ss new is found all le birth y there = elim (cases_Bool (nat_eq s.birth birth)) [
   | inl same ↦
       let at : s.birth ≡ birth = eqb-true s.birth birth same in
       let mine : row_at birth_of s.birth new ≡ Some (with_subscription x s) = ap (row_at birth_of s.birth) is ∙ change_here birth_of s.birth (with_subscription x) ss s (λ z. refl) found in
       let it : with_subscription x s ≡ y = some_same (with_subscription x s) y (sym mine ∙ ap (λ n. row_at birth_of n new) at ∙ there) in
       let fewer = length-filter_le (is_to birth) ds in
-      let bound : own_stay env s + length (filter (is_to birth) ds) ≤ env.limits.queue = within_room env s (length (filter (is_to birth) ds)) (omega (arith, fewer, le)) (all_found birth_of (IsShort env.limits.queue) s.birth ss s short found) in
-      subst (λ (z : Session). own_stay env z + length (filter (is_to birth) ds) ≤ env.limits.queue) it bound
+      let bound : length (filter (is_to birth) ds) ≤ env.limits.queue - own_stay env s = within_room env s (length (filter (is_to birth) ds)) (omega (arith, fewer, le)) in
+      subst (λ (z : Session). length (filter (is_to birth) ds) ≤ env.limits.queue - own_stay env z) it bound
   | inr other ↦
-      let old : row_at birth_of birth ss ≡ Some y = sym (ap (row_at birth_of birth) is ∙ change_other birth_of s.birth birth (with_subscription x) ss (λ z. refl) other) ∙ there in
       let none = none_for s.birth birth ds other all in
-      let long = all_found birth_of (IsShort env.limits.queue) birth ss y short old in
-      let fewer = stay_le env.limits.full (since env y) y.queue in
-      omega (arith, none, long, fewer)
+      omega (arith, none)
 ]
 
-grants_short : (env : Env) (w : sub.Wish) (s : Session) (b : Broker) → env.limits.queue ≤ QUEUE_LIMIT → session_at s.birth b.records ≡ Some s → length (filter is_queued (brought_to w s b)) ≤ room env s → ShortQueues env b.records
-    → ShortQueues env (stored (after_all (sub.granted_filter env (sub.next_number b.records) s w (brought_to w s b) b).deeds b))
-grants_short env w s b small found le short =
+grants_short : (limit : ℕ) (env : Env) (w : sub.Wish) (s : Session) (b : Broker) → env.limits.queue ≤ limit → env.limits.queue ≤ QUEUE_LIMIT → session_at s.birth b.records ≡ Some s → length (filter is_queued (brought_to w s b)) ≤ room env s
+    → ShortQueues limit b.records → Leads (Short limit) RoomToEnter (sub.granted_filter env (sub.next_number b.records) s w (brought_to w s b) b).deeds b
+grants_short limit env w s b up small found le short =
     let number = sub.next_number b.records in
     let x = sub.subscription number s w in
     let ds = filter is_queued (brought_to w s b) in
@@ -197,16 +212,22 @@ grants_short env w s b small found le short =
     = ap (λ (o : Option Session). (changed_all (part_rows_of (deed.Subscribe x) o) (stored_after count b.records)).sessions) found
     in
     let all = all-filter (IsFor s.birth) is_queued (brought_to w s b) (brought_for _ b.now number s w b.records.retained) in
-    let still = still_short env put (stored_after count b.records) tt (still_short env count b.records tt short) in
-    both (ShortQueues env) first (series (map (deliver env) ds) c) b
-    (all_delivered env ds c small (still, granted_fit env s x ds b.records.sessions c.records.sessions is found all le short.short))
+    let still = still_short limit put (stored_after count b.records) tt (still_short limit count b.records tt short) in
+    leads_append (Short limit) RoomToEnter first (series (map (deliver env) ds) c) b ((tt, (tt, tt)), still)
+    (λ h. all_delivered limit env ds c up small (still, granted_fit env s x ds b.records.sessions c.records.sessions is found all le))
 
-pub queues_keeping : (env : Env) → env.limits.queue ≤ QUEUE_LIMIT → Keeping env (ShortQueues env)
-queues_keeping env small = record {
-  plain = λ d r q p. still_short env d r (still_one d q) p;
-  begin = λ row will r room p. still_short env (deed.Begin row will) r tt p;
-  publish = λ origin m ds b is p. publishes_short env origin m ds b small is p;
-  grants = λ w s b found fits p. grants_short env w s b small found (grind (arith, nat_tests)) p;
+room_plain : (d : Deed) (b : Broker) → IsPlain d → RoomToEnter d b
+room_plain (At who (Enter copy)) b plain = absurd plain
+room_plain d b plain = tt
+
+pub queues_keeping : (limit : ℕ) (env : Env) → env.limits.queue ≤ limit → env.limits.queue ≤ QUEUE_LIMIT → Keeping env (ShortQueues limit) RoomToEnter
+queues_keeping limit env le small = record {
+  plain = λ d r q p. still_short limit d r (still_one d q) p;
+  good = λ d b q p. room_plain d b q;
+  born = λ row will b p. tt;
+  begin = λ row will r room p. still_short limit (deed.Begin row will) r tt p;
+  publish = λ origin m ds b is p. publishes_short limit env origin m ds b le small is p;
+  grants = λ w s b found fits p. grants_short limit env w s b le small found (grind (arith, nat_tests)) p;
   moment = λ now r p. record { ordered = changed-ordered (SetCounter Moment now) r p.ordered; short = p.short };
 }
 
@@ -214,10 +235,10 @@ pub step_queues : (limits : Limits) (choice : MemberChoice) (now : ℕ) (call : 
     → AreShort limits.queue (stored (stepped limits choice now call b)).sessions
 step_queues limits choice now call b small ordered short =
     let env = env_of limits choice b in
-    (step_keeps limits choice now call b (ShortQueues env) (queues_keeping env small) (record { ordered = ordered; short = short })).short
+    (step_keeps limits choice now call b (ShortQueues limits.queue) RoomToEnter (queues_keeping limits.queue env (omega arith) small) (record { ordered = ordered; short = short })).short
 
 pub opening_queues : (limits : Limits) (choice : MemberChoice) (now : ℕ) (r : Records) → limits.queue ≤ QUEUE_LIMIT → IsOrdered r → AreShort limits.queue r.sessions
     → AreShort limits.queue (stored (opened limits choice now r)).sessions
 opening_queues limits choice now r small ordered short =
     let env = env_of limits choice (unopened now r) in
-    (opening_keeps limits choice now r (ShortQueues env) (queues_keeping env small) (record { ordered = ordered; short = short })).short
+    (opening_keeps limits choice now r (ShortQueues limits.queue) RoomToEnter (queues_keeping limits.queue env (omega arith) small) (record { ordered = ordered; short = short })).short

@@ -1,6 +1,6 @@
 -- Sessions begin, and messages are retained, only where there is room.
 use Rattle.std.proofs.Common.{◌≡◌, ℕ, suc, ◌<◌, ◌≤◌, Bool, true, false, not, ◌&&◌, ◌||◌, List, [], ◌∷◌, ◌++◌, length, filter, map, Option, Some, None, nat_eq, nat_lt, refl, ap, sym, subst, ◌∙◌, arith, inl, inr}
-use Rattle.std.specs.Prelude.{flat_map, find, is_some}
+use Rattle.std.specs.Prelude.{⊤, flat_map, find, is_some}
 use Rattle.std.proofs.lemmas.Bool.{cases_Bool, ltb-true}
 use Rattle.std.proofs.lemmas.Cmp.{nat_eq_equiv}
 use Rattle.mqtt_topic.specs.Names.{is_empty}
@@ -31,6 +31,7 @@ use Rattle.mqtt_rules.specs.State.{queue_on}
 use Rattle.mqtt_rules.specs.Laws.{IsTable}
 use Rattle.mqtt_rules.proofs.Ordered.{length-filter_le, length-change_row, length-insert_row, length-insert_found, filter-table, either}
 use Rattle.mqtt_rules.proofs.OrderedActs.{IsPlain, ArePlain, plain_leave, plain_flat, plain_offer, Keeps, both, follows, keeps_series, keeps_map, keeps_of, Keeping, birth_found}
+use Rattle.mqtt_rules.proofs.Leads.{leads_end}
 use Rattle.mqtt_rules.proofs.Acts.{brought_to}
 
 -- ---- all deeds but those that a session begins with, or a retained message is kept with
@@ -120,16 +121,18 @@ module _ (env : Env) (P : Records → Type 0) (k : Roomy env P) where
       (retains m.retain (is_empty m.payload) number m c refl refl found (k.steady (Accept number origin m) b.records tt p))
       (keeps_series P (map (deliver env) ds) (keeps_map P (deliver env) delivers ds)))
 
-  pub roomy_keeps : Keeping env P
+  pub roomy_keeps : Keeping env P (λ d b. ⊤)
   roomy_keeps = record {
     plain = λ d r q p. k.steady d r (steady_one d q) p;
+    good = λ d b q p. tt;
+    born = λ row will b p. tt;
     begin = k.begin;
-    publish = publishes;
+    publish = λ origin m ds b is p. leads_end (λ c. P c.records) (publish env origin m ds b) b (publishes origin m ds b is p);
     grants = λ w s b at fits p.
         let number = sub.next_number b.records in
         let ds = filter is_queued (brought_to w s b) in
         let first : List Deed = Count number ∷ At (whose s) (deed.Subscribe (sub.subscription number s w)) ∷ [] in
-        keeps_series P (always first ∷ map (deliver env) ds) (steady_always first (tt, (tt, tt)), keeps_map P (deliver env) delivers ds) b p;
+        leads_end (λ c. P c.records) (sub.granted_filter env number s w (brought_to w s b) b).deeds b (keeps_series P (always first ∷ map (deliver env) ds) (steady_always first (tt, (tt, tt)), keeps_map P (deliver env) delivers ds) b p);
     moment = k.moment;
   }
 
@@ -239,7 +242,7 @@ sessions_roomy env = record {
   moment = λ now r p. p;
 }
 
-pub sessions_keeping : (env : Env) → Keeping env (FewSessions env)
+pub sessions_keeping : (env : Env) → Keeping env (FewSessions env) (λ d b. ⊤)
 sessions_keeping env = roomy_keeps env (FewSessions env) (sessions_roomy env)
 
 -- ---- how many retained messages there are
@@ -268,11 +271,11 @@ part_retained (Enter copy) s r = refl
 part_retained (Mark place phase) s r = refl
 part_retained (Leave e ending) s r = refl
 
-at_retained : (part : Part) (r : Records) (o : Option Session) → (changed_all (part_rows_of part o) r).retained ≡ r.retained
+pub at_retained : (part : Part) (r : Records) (o : Option Session) → (changed_all (part_rows_of part o) r).retained ≡ r.retained
 at_retained part r None = refl
 at_retained part r (Some s) = part_retained part s r
 
-begin_retained : (row : Columns) (will : Option Will) (r : Records) → (stored_after (Begin row will) r).retained ≡ r.retained
+pub begin_retained : (row : Columns) (will : Option Will) (r : Records) → (stored_after (Begin row will) r).retained ≡ r.retained
 begin_retained row None r = refl
 begin_retained row (Some will) r = refl
 
@@ -333,7 +336,7 @@ either_is : (x y : Bool) → y ≡ true → (x || y) ≡ true
 either_is true y h = refl
 either_is false y h = h
 
-place_is_fit : (env : Env) (m : Message) (number now : ℕ) (r : Records) (o : Option RetainedMessage) → retained_of m.topic r ≡ o
+pub place_is_fit : (env : Env) (m : Message) (number now : ℕ) (r : Records) (o : Option RetainedMessage) → retained_of m.topic r ≡ o
     → (is_some o || nat_lt (length r.retained) env.limits.retained) ≡ true
     → (has_row kept_place (kept_message number now m (place_of_kept o r.retained)).place r.retained || nat_lt (length r.retained) env.limits.retained) ≡ true
 place_is_fit env m number now r None is fits = either_is (has_row kept_place (place_of_kept None r.retained) r.retained) (nat_lt (length r.retained) env.limits.retained) fits
@@ -341,7 +344,7 @@ place_is_fit env m number now r (Some x) is fits =
     let there : has_row kept_place x.place r.retained ≡ true = kept_there (is_topic m.topic) r.retained x is in
     rw there refl
 
-found_place : (t e : Bool) (rest : Bool) → t ≡ true → e ≡ false → (not (t && not e) || rest) ≡ true → rest ≡ true
+pub found_place : (t e : Bool) (rest : Bool) → t ≡ true → e ≡ false → (not (t && not e) || rest) ≡ true → rest ≡ true
 found_place true false rest is empty h = h
 found_place true true rest is empty h = absurd cc
 found_place false e rest is empty h = absurd cc
@@ -357,5 +360,5 @@ retained_roomy env = record {
   moment = λ now r p. p;
 }
 
-pub retained_keeping : (env : Env) → Keeping env (FewRetained env)
+pub retained_keeping : (env : Env) → Keeping env (FewRetained env) (λ d b. ⊤)
 retained_keeping env = roomy_keeps env (FewRetained env) (retained_roomy env)

@@ -1,17 +1,20 @@
 -- What the laws of a step speak of: tables in order and within their limits, and runs of calls.
-use Rattle.std.specs.Prelude.{◌≡◌, ℕ, suc, ◌≤◌, ◌⊎◌, Bool, false, ◌&&◌, nat_eq, Some, List, [], ◌∷◌, length}
+use Rattle.std.specs.Prelude.{◌≡◌, ℕ, suc, ◌≤◌, ◌⊎◌, Bool, true, false, ◌&&◌, nat_eq, Option, Some, option_map, decimal, List, [], ◌∷◌, ◌++◌, length}
 use Rattle.mqtt_topic.specs.Filters.{group_of}
 use Rattle.mqtt_routes.specs.Intended.{Publication, Member}
 use Rattle.mqtt_routes.specs.Acceptance.{Served, shared_copy}
-use Rattle.std.specs.List.{AllByRecursion}
+use Rattle.std.specs.List.{AllByRecursion, starts_with}
 use Rattle.mqtt_base.specs.declared.limits.TheConstants.{SUBSCRIPTION_LIMIT, OPEN_LIMIT, QUEUE_LIMIT, SESSION_LIMIT, RETAINED_LIMIT}
 use Rattle.mqtt_records.specs.declared.session.Session.{Session}
 use Rattle.mqtt_records.specs.declared.records.Records.{Records}
-use Rattle.mqtt_rows.specs.Order.{IsAscending}
+use Rattle.mqtt_message.specs.declared.message.RetainedMessage.{RetainedMessage}
+use Rattle.mqtt_rows.specs.Order.{IsAscending, row_at}
 use Rattle.mqtt_records.specs.Session.{birth_of, place_of, number_of, copy_place}
-use Rattle.mqtt_records.specs.Records.{kept_place, nothing}
+use Rattle.mqtt_records.specs.Records.{kept_place, nothing, IsNumber, IsMoment}
 use Rattle.mqtt_rules.specs.declared.Limits.{Limits}
 use Rattle.mqtt_rules.specs.State.{Broker, Env, stored, session_at, MemberChoice}
+use Rattle.mqtt_rules.specs.Connect.{auto}
+use Rattle.mqtt_rules.specs.Numbers.{HasGivenBirths}
 use Rattle.mqtt_rules.specs.Outbound.{room}
 use Rattle.mqtt_rules.specs.Routing.{CopyTo, is_queued}
 use Rattle.mqtt_rules.specs.Step.{Call, stepped, unopened, opened}
@@ -94,3 +97,52 @@ pub record HasEntered (env : Env) (s : Session) (old new : Records) : Type 0 whe
   pub within : length session.queue ≤ env.limits.queue
   pub room : room env s ≤ suc (room env session)
   pub others : (birth : ℕ) → nat_eq s.birth birth ≡ false → session_at birth new ≡ session_at birth old
+
+-- ---- what stands together
+
+-- nothing is found at two numbers
+abbrev pub IsUnique : {X : Type 0} → (ℕ → Option X) → Type 0
+IsUnique {X} found = (j k : ℕ) (x : X) → found j ≡ Some x → found k ≡ Some x → j ≡ k
+
+-- the client identifier of the session with a birth, and the topic retained at a place
+abbrev pub client_at : ℕ → Records → Option (List ℕ)
+client_at birth r = option_map (λ s. s.client) (session_at birth r)
+
+abbrev pub topic_at : ℕ → Records → Option (List ℕ)
+topic_at place r = option_map (λ k. k.content.topic) (row_at kept_place place r.retained)
+
+-- a client identifier with the front of those that the broker assigns is one that it assigned, with a number up to n
+abbrev pub IsAssignedUpTo : ℕ → List ℕ → Type 0
+IsAssignedUpTo n client = starts_with nat_eq client auto ≡ true → (k : ℕ) × (k ≤ n) × (client ≡ auto ++ decimal k)
+
+-- no subscription has a place above the last number granted, and the moment of a close is one that is kept
+abbrev pub IsCoherentSession : ℕ → ℕ → Session → Type 0
+IsCoherentSession autos subscribes s =
+    IsAssignedUpTo autos s.client × AllByRecursion (λ x. x.place ≤ subscribes) s.subscriptions × IsMoment s.closed
+
+-- a retained message is of a publication up to the last, and its arrival is a moment that is kept
+abbrev pub IsCoherentMessage : ℕ → RetainedMessage → Type 0
+IsCoherentMessage publications k = (k.publication ≤ publications) × IsNumber k.content.arrived
+
+pub record HasKeptCounters (r : Records) : Type 0 where
+  pub moment : IsNumber r.moment
+  pub births : IsNumber r.births
+  pub publications : IsNumber r.publications
+  pub subscribes : IsNumber r.subscribes
+  pub autos : IsNumber r.autos
+
+-- tables in order, client identifiers of sessions and topics of retained messages that differ, and numbers that were given
+pub record IsCoherent (r : Records) : Type 0 where
+  pub ordered : IsOrdered r
+  pub clients : IsUnique (λ birth. client_at birth r)
+  pub topics : IsUnique (λ place. topic_at place r)
+  pub births : HasGivenBirths r
+  pub sessions : AllByRecursion (IsCoherentSession r.autos r.subscribes) r.sessions
+  pub retained : AllByRecursion (IsCoherentMessage r.publications) r.retained
+  pub counters : HasKeptCounters r
+
+-- the limits that a broker is given are within those of the tables
+pub record AreWithin (limits : Limits) : Type 0 where
+  pub queue : limits.queue ≤ QUEUE_LIMIT
+  pub sessions : limits.sessions ≤ SESSION_LIMIT
+  pub retained : limits.retained ≤ RETAINED_LIMIT

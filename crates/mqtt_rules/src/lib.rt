@@ -2,12 +2,14 @@
 //! those that the rules speak of and the code shares; `docs/RULES.md` tells the rules in words.
 #![tactic(auto)]
 
+mod fit_laws;
 mod flight_laws;
 mod laws;
 mod number_laws;
 mod routing_laws;
 mod topic_laws;
 
+pub use fit_laws::rows_always_fit;
 pub use flight_laws::identifiers_in_flight_are_unique;
 pub use laws::{at_most_twenty_open, limits_are_kept, stored_part_follows, tables_are_ordered};
 use mqtt_base::{CopyId, Ending, Text};
