@@ -5,6 +5,7 @@ use anyhow::Context;
 use mqtt_packet::{Fault, Framer, Packet, PacketRef};
 use std::alloc::{AllocError, Global};
 use std::env;
+use std::rt::Env;
 use std::time::{CpuClock, Duration};
 
 /// A PUBLISH at QoS 0 of `12345` to the topic `a/b`.
@@ -66,19 +67,31 @@ fn owned(alloc: Global, stream: &[u8]) -> Result<Tally, Fault> {
     Ok(tally)
 }
 
-/// Frames a stream a packet at a time, and only looks at each.
+/// Looks at each whole packet of a framer, and skips it.
+fn skim(framer: &mut Framer, tally: &mut Tally) -> Result<(), Fault> {
+    'packets: loop {
+        let size = match framer.look_sized() {
+            Ok(Some((packet, _place, size))) => {
+                match packet {
+                    PacketRef::Publish(publish) => tally.add(publish.payload),
+                    _other => tally.add(b""),
+                }
+                size
+            }
+            Ok(None) => return Ok(()),
+            Err((fault, _)) => return Err(fault),
+        };
+        framer.skip(size);
+    }
+}
+
+/// Frames a stream by pieces, and only looks at each packet.
 fn looked(alloc: Global, stream: &[u8]) -> Result<Tally, Fault> {
     let mut framer = Framer::new(alloc);
     let mut tally = Tally::default();
-    for piece in stream.chunks(PACKET.len()) {
+    for piece in stream.chunks(CHUNK_SIZE) {
         framer.feed(piece).map_err(|(fault, _)| fault)?;
-        match framer.look() {
-            Ok(Some((PacketRef::Publish(publish), _))) => tally.add(publish.payload),
-            Ok(_) => {}
-            Err((fault, _)) => return Err(fault),
-        }
-        let held = framer.held();
-        framer.give_back(held);
+        skim(&mut framer, &mut tally)?;
     }
     Ok(tally)
 }
@@ -95,19 +108,31 @@ fn report(
     Ok(())
 }
 
-fn main(rt: HostRuntime) -> anyhow::Result<()> {
-    let words: Vec<String> = env::args(&rt)?.collect(rt.alloc())?;
+/// The number of bytes that the command line gives.
+fn size_of_words(rt: &(impl Env + AllocGlobal)) -> anyhow::Result<usize> {
+    let words: Vec<String> = env::args(rt)?.collect(rt.alloc())?;
     let size = match words.get(1) {
-        Some(word) => word.parse::<usize>().context("the number of bytes")?,
-        None => DEFAULT_SIZE,
+        Some(word) => word.parse::<usize>().context("the number of bytes"),
+        None => Ok(DEFAULT_SIZE),
     };
-    let stream = stream_of(rt.alloc(), size)?;
+    drop(words);
+    size
+}
+
+/// Frames the stream in both ways, and tells how long each took.
+fn compare(rt: &HostRuntime, stream: &[u8]) -> anyhow::Result<()> {
     let start = rt.process_cpu_time()?;
-    let tally = owned(rt.alloc(), stream.as_slice())?;
+    let tally = owned(rt.alloc(), stream)?;
     let middle = rt.process_cpu_time()?;
-    report(&rt, "owned", tally, middle.saturating_sub(start))?;
+    report(rt, "owned", tally, middle.saturating_sub(start))?;
     let start = rt.process_cpu_time()?;
-    let tally = looked(rt.alloc(), stream.as_slice())?;
+    let tally = looked(rt.alloc(), stream)?;
     let end = rt.process_cpu_time()?;
-    report(&rt, "looked", tally, end.saturating_sub(start))
+    report(rt, "looked", tally, end.saturating_sub(start))
+}
+
+fn main(rt: HostRuntime) -> anyhow::Result<()> {
+    let size = size_of_words(&rt)?;
+    let stream = stream_of(rt.alloc(), size)?;
+    compare(&rt, stream.as_slice())
 }
