@@ -65,3 +65,13 @@ own n = grind (arith, nat_tests)
 pub restored-with_topic : (alias : ℕ) (topic : List ℕ) (topics : List (ℕ × List ℕ)) → restored alias (topic_of alias topics) (with_topic alias topic topics) ≡ topics
 restored-with_topic alias topic [] = rw (own alias) refl
 restored-with_topic alias topic (e ∷ es) = back_by (nat_eq alias e.0) alias topic e es refl (restored-with_topic alias topic es)
+
+stands_by : (b : Bool) (alias : ℕ) (topic : List ℕ) (e : ℕ × List ℕ) (es : List (ℕ × List ℕ)) → nat_eq alias e.0 ≡ b → topic_of alias (with_topic alias topic es) ≡ Some topic
+    → topic_of alias (cond b ((e.0, topic) ∷ es) (e ∷ with_topic alias topic es)) ≡ Some topic
+stands_by true alias topic e es at more = rw at refl
+stands_by false alias topic e es at more = rw at more
+
+-- what an alias stands for once it is set
+pub topic_of-with_topic : (alias : ℕ) (topic : List ℕ) (topics : List (ℕ × List ℕ)) → topic_of alias (with_topic alias topic topics) ≡ Some topic
+topic_of-with_topic alias topic [] = rw (own alias) refl
+topic_of-with_topic alias topic (e ∷ es) = stands_by (nat_eq alias e.0) alias topic e es refl (topic_of-with_topic alias topic es)

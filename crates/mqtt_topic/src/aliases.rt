@@ -125,6 +125,7 @@ impl Aliases {
         ensures before { result ≡ topic_of alias self.old.table.topics }
         ensures after { self.new.table
             ≡ with_topics self.old.table (with_topic alias topic self.old.table.topics) }
+        ensures stands { topic_of alias self.new.table.topics ≡ Some topic }
     {
         self.topics.insert(alias, topic).unwrap()
     }

@@ -54,36 +54,25 @@ fn shown(aliases: &Aliases, alias: u16) -> &str {
     }
 }
 
-/// Sets alias 3 and takes it back; `before` is what it stands for.
-fn set_and_restore(
-    rt: &impl Abort,
-    alloc: Global,
-    aliases: &mut Aliases,
-    before: &str,
-) -> Result<(), Fail> {
+/// Sets alias 3 of a new table, and takes it back: what it stood for, and is shown by then and at last.
+fn set_and_restore(rt: &impl Abort, alloc: Global) -> Result<(bool, bool, bool), Fail> {
     let topic = TopicName::parse(alloc, "new")?;
+    let mut aliases = Aliases::new(alloc, 10);
     assert_eq!(rt; aliases.make_room(), Ok(()));
-    let old = aliases.set(3, topic);
-    assert_eq!(rt; shown(aliases, 3), "new");
-    aliases.restore(3, old);
-    assert_eq!(rt; shown(aliases, 3), before);
-    Ok(())
-}
-
-/// An alias that is new, and one that stands for a topic.
-fn restore_both(rt: &impl Abort, alloc: Global, aliases: &mut Aliases) -> Result<(), Fail> {
-    set_and_restore(rt, alloc, aliases, "")?;
-    let is = is_answered(aliases, &("a/b", Some(3), "a/b", None));
-    assert!(rt; is);
-    set_and_restore(rt, alloc, aliases, "a/b")
+    let before = aliases.set(3, topic);
+    let was_new = before.is_none();
+    let is_set = shown(&aliases, 3) == "new";
+    aliases.restore(3, before);
+    let is_gone = shown(&aliases, 3).is_empty();
+    drop(aliases);
+    Ok((was_new, is_set, is_gone))
 }
 
 #[test]
 fn what_was_set_is_taken_back(rt: HostRuntime) -> Result<(), Fail> {
-    let mut aliases = Aliases::new(rt.alloc(), 10);
-    let done = restore_both(&rt, rt.alloc(), &mut aliases);
-    drop(aliases);
-    done
+    let found = set_and_restore(&rt, rt.alloc())?;
+    assert_eq!(rt; found, (true, true, true));
+    Ok(())
 }
 
 /// What a text with alias 3 would mean: a text, or a fault.
