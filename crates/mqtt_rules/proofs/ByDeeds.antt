@@ -195,7 +195,7 @@ module _ (env : Env) (about : About) (Keeps : Broker → Type 0) (Good : Deed �
       (λ h. leads_append Keeps Good next (series (map (deliver env) ds) d) c
       (leads_retain m.retain (is_empty m.payload) m c h said refl refl (place_found env m b ds e))
       (λ g. leads_deliveries ds d g (made_numbered number ds d (retain_numbers m.retain (is_empty m.payload) number m c)
-          (subst (λ (now : ℕ). AreNumbered number now ds) (sym (retain_now m.retain (is_empty m.payload) number m c)) (routed_numbered env m b ds e)))))
+      (subst (λ (now : ℕ). AreNumbered number now ds) (sym (retain_now m.retain (is_empty m.payload) number m c)) (routed_numbered env m b ds e)))))
 
   -- ---- sessions
 

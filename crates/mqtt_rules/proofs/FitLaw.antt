@@ -123,8 +123,8 @@ admitted_name : (c : Greeting) (b : Broker) → Keeps b → refusal c b.records 
 admitted_name c b k e starts =
     let r = b.records in
     let fails = fourth_fails (has AuthenticationMethod c.properties) (nat_lt (largest_of c) least_packet_size) (nat_lt CLIENT_LIMIT (length c.client_identifier))
-        (starts_with nat_eq c.client_identifier auto && is_none (session_named c.client_identifier r))
-        bad_authentication_method packet_too_large client_identifier_not_valid client_identifier_not_valid (cond (has_bad_topic c.will) (Some topic_name_invalid) None) e
+    (starts_with nat_eq c.client_identifier auto && is_none (session_named c.client_identifier r))
+    bad_authentication_method packet_too_large client_identifier_not_valid client_identifier_not_valid (cond (has_bad_topic c.will) (Some topic_name_invalid) None) e
     in
     named (session_named c.client_identifier r) refl (ap (λ (t : Bool). t && is_none (session_named c.client_identifier r)) (sym starts) ∙ fails)
   where
@@ -430,19 +430,19 @@ fit_law env within = record {
   resume = λ who expiry will b k its. tt;
   name = λ b k. refl;
   begin_given = λ c b k came taken name is room. record {
-      next = refl;
-      room = fewer_sessions env within (length b.records.sessions) room;
-      new = λ le birth there. name_is_new c.client_identifier b.records is birth there;
-      name = name;
-      connected = refl;
-    };
+    next = refl;
+    room = fewer_sessions env within (length b.records.sessions) room;
+    new = λ le birth there. name_is_new c.client_identifier b.records is birth there;
+    name = name;
+    connected = refl;
+  };
   begin_assigned = λ c b k h came taken room. record {
-      next = refl;
-      room = fewer_sessions env within (length b.records.sessions) room;
-      new = λ le birth there. assigned_is_new b.records k.0.sessions le birth there;
-      name = λ starts. (suc b.records.autos, omega arith, refl);
-      connected = refl;
-    };
+    next = refl;
+    room = fewer_sessions env within (length b.records.sessions) room;
+    new = λ le birth there. assigned_is_new b.records k.0.sessions le birth there;
+    name = λ starts. (suc b.records.autos, omega arith, refl);
+    connected = refl;
+  };
   count = λ b k. refl;
   subscribe = λ w s b k h its granted. fit_subscribe env w s b k granted;
   link = λ b k. tt;

@@ -120,13 +120,18 @@ fits_part : (part : Part) (s : Session) (b : Broker) → session_at s.birth b.re
     → Stands (At (record { birth = s.birth; client = s.client }) part) b → AreNumbers (counts b.records) → is_spent (part_rows part s) ≡ false → FitAll (part_rows part s) b.records
 fits_part (Resume expiry will) s b there h fit room stands n e =
     let r = b.records in
-    let row : Columns = record { birth = s.birth; client = s.client; expiry = expiry; closed = None } in
-    ((has_some (λ (x : Session). x.client ≡ s.client) (session_at s.birth r) s there refl, tt),
-    fits_will s.birth will (with_columns row s) (changed (SetSession row) r) (change_row-here birth_of s.birth (with_columns row) s r.sessions (λ x. refl) there))
+    let row : Columns = record { birth = s.birth; client = s.client; expiry = expiry; closed = None } in (
+      (has_some (λ (x : Session). x.client ≡ s.client) (session_at s.birth r) s there refl, tt),
+      fits_will s.birth will (with_columns row s) (changed (SetSession row) r) (change_row-here birth_of s.birth (with_columns row) s r.sessions (λ x. refl) there),
+    )
 fits_part (Close moment) s b there h fit room stands n e = ((has_some (λ (x : Session). x.client ≡ s.client) (session_at s.birth b.records) s there refl, fit), tt)
-fits_part (SetExpiry expiry) s b there h fit room stands n e =
-    ((has_some (λ (x : Session). x.client ≡ s.client) (session_at s.birth b.records) s there refl,
-    (all_at birth_of (IsCoherentSession b.records.autos b.records.subscribes) s.birth s b.records.sessions h.sessions there).2), tt)
+fits_part (SetExpiry expiry) s b there h fit room stands n e = (
+  (
+    has_some (λ (x : Session). x.client ≡ s.client) (session_at s.birth b.records) s there refl,
+    (all_at birth_of (IsCoherentSession b.records.autos b.records.subscribes) s.birth s b.records.sessions h.sessions there).2,
+  ),
+  tt,
+)
 fits_part DropWill s b there h fit room stands n e = (tt, tt)
 fits_part (Subscribe x) s b there h fit room stands n e =
     ((has_some (λ (t : Session). TakesSubscription x (without_filter x.filter t.subscriptions)) (session_at s.birth b.records) s there (fit s there).0, (unspent_one (PutSubscription s.birth x) [] e).0), tt)
@@ -142,7 +147,7 @@ fits_part (Enter copy) s b there h fit room stands n e =
     let least = n.subscribes in (
       (
         has_some (λ (x : Session). HasRoomFor copy_place QUEUE_LIMIT row.place x.queue) (session_at s.birth b.records) s there
-        (or_right (has_row copy_place row.place s.queue) (nat_lt (length s.queue) QUEUE_LIMIT) (lt-ltb (length s.queue) QUEUE_LIMIT less)),
+            (or_right (has_row copy_place row.place s.queue) (nat_lt (length s.queue) QUEUE_LIMIT) (lt-ltb (length s.queue) QUEUE_LIMIT less)),
         record {
           session = fit.its_birth;
           place = (unspent_one (PutCopy s.birth row) [] e).0;
@@ -218,9 +223,13 @@ fits_deed (Begin row None) b h fit room stands n e =
 fits_deed (Begin row (Some will)) b h fit room stands n e =
     let one = unspent_one (PutSession row) (SetCounter Births row.birth ∷ PutWill row.birth will ∷ []) e in
     let next = fit.next in
-    let r = b.records in
-    (fits_row row r h fit n one.0, ((omega (arith, next), one.0),
-    (has_some (λ (x : Session). Unit {0}) (session_at row.birth (changed (PutSession row) r)) (fresh row) (begun row r h fit) tt, tt)))
+    let r = b.records in (
+      fits_row row r h fit n one.0,
+      (
+        (omega (arith, next), one.0),
+        (has_some (λ (x : Session). Unit {0}) (session_at row.birth (changed (PutSession row) r)) (fresh row) (begun row r h fit) tt, tt),
+      ),
+    )
 fits_deed (Name k) b h fit room stands n e = ((omega (arith, fit), (unspent_one (SetCounter Autos k) [] e).0), tt)
 fits_deed (Count k) b h fit room stands n e = ((omega (arith, fit), (unspent_one (SetCounter Subscribes k) [] e).0), tt)
 fits_deed (At who part) b h fit room stands n e = fits_part_of who part (session_at who.birth b.records) b refl h fit room stands n e

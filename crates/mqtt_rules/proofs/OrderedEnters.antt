@@ -355,7 +355,7 @@ enters limit env copy s b le small tables found free short =
     } in
     let room : AreGood RoomToEnter (enter_deeds env copy s) b
     = good_append RoomToEnter ds (At (whose s) (Enter copy) ∷ []) b (good_flat RoomToEnter (leave_deeds s) (room_to_leave s) ts b)
-      ((λ t there. let it : left.mine ≡ t = some_same left.mine t (sym left.found ∙ there) in subst (λ (y : Session). length y.queue < QUEUE_LIMIT) it (omega (arith, less, small))), tt)
+    ((λ t there. let it : left.mine ≡ t = some_same left.mine t (sym left.found ∙ there) in subst (λ (y : Session). length y.queue < QUEUE_LIMIT) it (omega (arith, less, small))), tt)
     in
     let end = subst (λ (x : Broker). Entered env s b.records.sessions x.records.sessions × ShortQueues limit x.records) (sym (after_append ds (At (whose s) (Enter copy) ∷ []) b)) (entered, after_it) in
     (end.0, end.1, room)

@@ -96,9 +96,11 @@ stands_publish : (env : Env) (origin : Origin) (m : Message) (ds : List CopyTo) 
 stands_publish env origin m ds b h =
     let number = next_publication b.records in
     let c = after (Accept number origin m) b in
-    let next = retain_by m.retain (is_empty m.payload) number m c in
-    (tt, good_append Stands next (series (map (deliver env) ds) (after_all next c)) c (stands_retain m.retain (is_empty m.payload) number m c)
-    (stands_deliveries env ds (after_all next c) (ordered_all next c (ordered_all (Accept number origin m ∷ []) b h))))
+    let next = retain_by m.retain (is_empty m.payload) number m c in (
+      tt,
+      good_append Stands next (series (map (deliver env) ds) (after_all next c)) c (stands_retain m.retain (is_empty m.payload) number m c)
+          (stands_deliveries env ds (after_all next c) (ordered_all next c (ordered_all (Accept number origin m ∷ []) b h))),
+    )
 
 stands_grants : (env : Env) (w : sub.Wish) (s : Session) (b : Broker) → Orders b → AreGood Stands (sub.granted_filter env (sub.next_number b.records) s w (brought_to w s b) b).deeds b
 stands_grants env w s b h =
