@@ -3,7 +3,7 @@ use Rattle.std.proofs.Common.{◌≡◌, ◌≢◌, ℕ, Bool, true, false, cond
 use Rattle.std.proofs.lemmas.Bool.{and_from, ltb-true, leb-true, lt-ltb, le-leb, false_from_ne_true}
 use Rattle.mqtt_base.specs.Codes.{protocol_error, topic_name_invalid, topic_alias_invalid}
 use Rattle.mqtt_topic.specs.declared.fault.TopicFault.{TopicFault}
-use Rattle.mqtt_topic.specs.declared.fault.TopicFault.TheVariants.{Empty, WildcardInName, WildcardPlace, Share, AliasRange, AliasUnknown, Memory}
+use Rattle.mqtt_topic.specs.declared.fault.TopicFault.TheVariants.{Empty, WildcardInName, WildcardPlace, Share, AliasRange, AliasUnknown, Memory, NotText}
 use Rattle.mqtt_topic.specs.Names.{has_wildcard, IsTopicName, RefusesName}
 use Rattle.mqtt_topic.specs.Aliases.{AliasTable, IsInRange, Resolves, RefusesTopic, RefusesAlias, topic_of}
 use Rattle.mqtt_rules.specs.Inbound.{Meaning, Means, Wrong, named, known, named_by, is_in_range, resolved, topic_code}
@@ -24,15 +24,16 @@ named_only (c ∷ cs) name e = by_plain (has_wildcard (c ∷ cs)) refl e
     by_plain true h f = absurd (cc)
     by_plain false h f = let same : (c ∷ cs) ≡ name = cc in (sym same, record { some = λ none. absurd (cc); plain = h })
 
-named_refused : (topic : List ℕ) (fault : TopicFault) → fault ≢ Memory → RefusesName topic fault → named topic ≡ Wrong (topic_code fault)
-named_refused topic Empty some r = ap named r
-named_refused [] WildcardInName some r = absurd (r.0 refl)
-named_refused (c ∷ cs) WildcardInName some r = ap (λ w. cond (not w) (Means (c ∷ cs)) (Wrong topic_name_invalid)) r.1
-named_refused topic WildcardPlace some r = absurd r
-named_refused topic Share some r = absurd r
-named_refused topic AliasRange some r = absurd r
-named_refused topic AliasUnknown some r = absurd r
-named_refused topic Memory some r = absurd (some refl)
+named_refused : (topic : List ℕ) (fault : TopicFault) → fault ≢ Memory → fault ≢ NotText → RefusesName topic fault → named topic ≡ Wrong (topic_code fault)
+named_refused topic Empty some fits r = ap named r
+named_refused [] WildcardInName some fits r = absurd (r.0 refl)
+named_refused (c ∷ cs) WildcardInName some fits r = ap (λ w. cond (not w) (Means (c ∷ cs)) (Wrong topic_name_invalid)) r.1
+named_refused topic WildcardPlace some fits r = absurd r
+named_refused topic Share some fits r = absurd r
+named_refused topic AliasRange some fits r = absurd r
+named_refused topic AliasUnknown some fits r = absurd r
+named_refused topic Memory some fits r = absurd (some refl)
+named_refused topic NotText some fits r = absurd (fits refl)
 
 -- ---- with an alias
 
@@ -55,16 +56,17 @@ known_only : (o : Option (List ℕ)) (name : List ℕ) → known o ≡ Means nam
 known_only None name e = absurd (cc)
 known_only (Some topic) name e = cc
 
-by_refused : (table : AliasTable) (topic : List ℕ) (alias : ℕ) (fault : TopicFault) → fault ≢ Memory → RefusesTopic table topic alias fault
+by_refused : (table : AliasTable) (topic : List ℕ) (alias : ℕ) (fault : TopicFault) → fault ≢ Memory → fault ≢ NotText → RefusesTopic table topic alias fault
     → named_by table topic alias ≡ Wrong (topic_code fault)
-by_refused table [] alias Empty some r = absurd r
-by_refused table [] alias WildcardInName some r = absurd r
-by_refused table [] alias WildcardPlace some r = absurd r
-by_refused table [] alias Share some r = absurd r
-by_refused table [] alias AliasRange some r = absurd r
-by_refused table [] alias AliasUnknown some r = ap known r
-by_refused table [] alias Memory some r = absurd (some refl)
-by_refused table (c ∷ cs) alias fault some r = named_refused (c ∷ cs) fault some r
+by_refused table [] alias Empty some fits r = absurd r
+by_refused table [] alias WildcardInName some fits r = absurd r
+by_refused table [] alias WildcardPlace some fits r = absurd r
+by_refused table [] alias Share some fits r = absurd r
+by_refused table [] alias AliasRange some fits r = absurd r
+by_refused table [] alias AliasUnknown some fits r = ap known r
+by_refused table [] alias Memory some fits r = absurd (some refl)
+by_refused table [] alias NotText some fits r = absurd r
+by_refused table (c ∷ cs) alias fault some fits r = named_refused (c ∷ cs) fault some fits r
 
 -- ---- both
 
@@ -89,23 +91,24 @@ resolved_only table (c ∷ cs) (Some alias) name e =
     let own = named_only (c ∷ cs) name parts.1 in
     (in_range_only table.max alias parts.0, own.0, own.1)
 
-beyond : (table : AliasTable) (topic : List ℕ) (alias : ℕ) (fault : TopicFault) → fault ≢ Memory
+beyond : (table : AliasTable) (topic : List ℕ) (alias : ℕ) (fault : TopicFault) → fault ≢ Memory → fault ≢ NotText
     → IsInRange table.max alias × RefusesTopic table topic alias fault → resolved table topic (Some alias) ≡ Wrong (topic_code fault)
-beyond table topic alias fault some r =
+beyond table topic alias fault some fits r =
     ap (λ t. cond t (named_by table topic alias) (Wrong topic_alias_invalid)) (in_range table.max alias r.0)
-    ∙ by_refused table topic alias fault some r.1
+    ∙ by_refused table topic alias fault some fits r.1
 
-pub resolved_refused : (table : AliasTable) (topic : List ℕ) (alias : Option ℕ) (fault : TopicFault) → fault ≢ Memory → RefusesAlias table topic alias fault
+pub resolved_refused : (table : AliasTable) (topic : List ℕ) (alias : Option ℕ) (fault : TopicFault) → fault ≢ Memory → fault ≢ NotText → RefusesAlias table topic alias fault
     → resolved table topic alias ≡ Wrong (topic_code fault)
-resolved_refused table topic None fault some r = named_refused topic fault some r
-resolved_refused table topic (Some alias) AliasRange some r =
+resolved_refused table topic None fault some fits r = named_refused topic fault some fits r
+resolved_refused table topic (Some alias) AliasRange some fits r =
     ap (λ t. cond t (named_by table topic alias) (Wrong topic_alias_invalid)) (out_of_range table.max alias r)
-resolved_refused table topic (Some alias) Empty some r = beyond table topic alias Empty some r
-resolved_refused table topic (Some alias) WildcardInName some r = beyond table topic alias WildcardInName some r
-resolved_refused table topic (Some alias) WildcardPlace some r = beyond table topic alias WildcardPlace some r
-resolved_refused table topic (Some alias) Share some r = beyond table topic alias Share some r
-resolved_refused table topic (Some alias) AliasUnknown some r = beyond table topic alias AliasUnknown some r
-resolved_refused table topic (Some alias) Memory some r = absurd (some refl)
+resolved_refused table topic (Some alias) Empty some fits r = beyond table topic alias Empty some fits r
+resolved_refused table topic (Some alias) WildcardInName some fits r = beyond table topic alias WildcardInName some fits r
+resolved_refused table topic (Some alias) WildcardPlace some fits r = beyond table topic alias WildcardPlace some fits r
+resolved_refused table topic (Some alias) Share some fits r = beyond table topic alias Share some fits r
+resolved_refused table topic (Some alias) AliasUnknown some fits r = beyond table topic alias AliasUnknown some fits r
+resolved_refused table topic (Some alias) Memory some fits r = absurd (some refl)
+resolved_refused table topic (Some alias) NotText some fits r = absurd (fits refl)
 
 -- ---- a Subscription Identifier comes first
 

@@ -4,7 +4,7 @@ ghost use Rattle.mqtt_props.specs.declared.table.PropName.TheVariants.{Subscript
 ghost use Rattle.mqtt_props.specs.Laws.{has};
 ghost use Rattle.mqtt_codec.specs.declared.publish.Publish.{Publish};
 ghost use Rattle.mqtt_topic.specs.declared.fault.TopicFault.{TopicFault};
-ghost use Rattle.mqtt_topic.specs.declared.fault.TopicFault.TheVariants.{Memory};
+ghost use Rattle.mqtt_topic.specs.declared.fault.TopicFault.TheVariants.{Memory, NotText};
 ghost use Rattle.mqtt_topic.specs.Aliases.{AliasTable, Resolves, RefusesAlias};
 ghost use Rattle.mqtt_base.specs.Codes.{protocol_error};
 ghost use Rattle.mqtt_rules.specs.Packets.{number_at};
@@ -12,6 +12,7 @@ ghost use Rattle.mqtt_rules.specs.Inbound.{Means, Wrong, meaning, topic_code};
 
 /// What a PUBLISH means is the name to which its topic and alias resolve, and what resolves to none is
 /// answered with the fault's code; a Subscription Identifier comes first (3.3.2.1, 3.3.2.3.4, 3.3.4).
+/// No text of a packet meets `NotText`.
 pub fn topics_are_resolved()
     ensures name { (p : Publish) (table : AliasTable) (name : List ℕ)
         → has SubscriptionIdentifier p.properties ≡ false
@@ -22,7 +23,7 @@ pub fn topics_are_resolved()
         → Resolves table p.topic (number_at TopicAlias p.properties) name }
     ensures refused { (p : Publish) (table : AliasTable) (fault : TopicFault)
         → has SubscriptionIdentifier p.properties ≡ false
-        → fault ≢ Memory
+        → fault ≢ Memory → fault ≢ NotText
         → RefusesAlias table p.topic (number_at TopicAlias p.properties) fault
         → meaning p table ≡ Wrong (topic_code fault) }
     ensures identified { (p : Publish) (table : AliasTable)

@@ -58,7 +58,8 @@ fn shown(aliases: &Aliases, alias: u16) -> &str {
 fn set_and_restore(rt: &impl Abort, alloc: Global) -> Result<(bool, bool, bool), Fail> {
     let topic = TopicName::parse(alloc, "new")?;
     let mut aliases = Aliases::new(alloc, 10);
-    assert_eq!(rt; aliases.make_room(), Ok(()));
+    let made = aliases.make_room();
+    assert_eq!(rt; made, Ok(()));
     let before = aliases.set(3, topic);
     let was_new = before.is_none();
     let is_set = shown(&aliases, 3) == "new";

@@ -17,9 +17,9 @@ returns-clause-only c = λ p table name e.
     (identified_only (has SubscriptionIdentifier p.properties) (resolved table p.topic (number_at TopicAlias p.properties)) name e)
 
 pub returns-clause-refused : goal.returns-clause-refused
-returns-clause-refused c = λ p table fault none some r.
+returns-clause-refused c = λ p table fault none some fits r.
     unless_identified (has SubscriptionIdentifier p.properties) (resolved table p.topic (number_at TopicAlias p.properties)) none
-    ∙ resolved_refused table p.topic (number_at TopicAlias p.properties) fault some r
+    ∙ resolved_refused table p.topic (number_at TopicAlias p.properties) fault some fits r
 
 pub returns-clause-identified : goal.returns-clause-identified
 returns-clause-identified c = λ p table there.
