@@ -195,7 +195,9 @@ fn each_vector_gives_its_packet_or_its_fault(rt: HostRuntime) -> Result<(), Fail
 /// In one piece and byte by byte the stream gives the same packets, fault and place.
 fn assert_cut_is_one(rt: &impl Abort, alloc: Global, stream: &[u8]) -> Result<(), Fail> {
     let whole = cut_text(alloc, stream, 64)?;
-    assert_cut(rt, alloc, stream, whole.as_str())
+    let bytewise = cut_text(alloc, stream, 1)?;
+    assert!(rt; bytewise.as_str() == whole.as_str());
+    Ok(())
 }
 
 /// Each front of a frame is cut in one way; how many there are.
