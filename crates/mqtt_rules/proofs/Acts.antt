@@ -17,14 +17,14 @@ use Rattle.mqtt_topic.specs.Names.{is_empty}
 use Rattle.mqtt_topic.specs.Filters.{is_filter}
 use Rattle.mqtt_flow.specs.declared.entry.Turn.{Turn}
 use Rattle.mqtt_flow.specs.declared.entry.Turn.TheVariants as turns
-use Rattle.mqtt_flow.specs.declared.inflow.Published.{Published}
-use Rattle.mqtt_flow.specs.declared.inflow.Published.TheVariants.{New, Again, Over}
-use Rattle.mqtt_flow.specs.declared.inflow.ReleaseAnswer.{ReleaseAnswer}
-use Rattle.mqtt_flow.specs.declared.inflow.ReleaseAnswer.TheVariants.{Known, Unknown}
+use Rattle.mqtt_inbound.specs.declared.inflow.Published.{Published}
+use Rattle.mqtt_inbound.specs.declared.inflow.Published.TheVariants.{New, Again, Over}
+use Rattle.mqtt_inbound.specs.declared.inflow.ReleaseAnswer.{ReleaseAnswer}
+use Rattle.mqtt_inbound.specs.declared.inflow.ReleaseAnswer.TheVariants.{Known, Unknown}
 use Rattle.mqtt_base.specs.Codes.{success, identifier_in_use, identifier_not_found, quota_exceeded, receive_maximum_exceeded, session_taken_over}
 use Rattle.mqtt_base.specs.declared.limits.TheConstants.{SUBSCRIPTION_LIMIT}
-use Rattle.mqtt_flow.specs.Identifiers.{is_among}
-use Rattle.mqtt_flow.specs.Inbound.{answer_to, answer_to_release}
+use Rattle.mqtt_inbound.specs.Identifiers.{is_among}
+use Rattle.mqtt_inbound.specs.Inbound.{answer_to, answer_to_release}
 use Rattle.mqtt_flow.specs.Outbound.{Answer, due_from}
 use Rattle.mqtt_flow.specs.Outbound as rules
 use Rattle.mqtt_message.specs.declared.message.RetainedMessage.{RetainedMessage}

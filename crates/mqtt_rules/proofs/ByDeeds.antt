@@ -12,8 +12,8 @@ use Rattle.mqtt_codec.specs.declared.packet.Packet.TheVariants as packets
 use Rattle.mqtt_topic.specs.Names.{is_empty}
 use Rattle.mqtt_flow.specs.declared.entry.Turn.{Turn}
 use Rattle.mqtt_flow.specs.declared.entry.Turn.TheVariants as turns
-use Rattle.mqtt_flow.specs.declared.inflow.Published.TheVariants.{New}
-use Rattle.mqtt_flow.specs.Inbound.{answer_to}
+use Rattle.mqtt_inbound.specs.declared.inflow.Published.TheVariants.{New}
+use Rattle.mqtt_inbound.specs.Inbound.{answer_to}
 use Rattle.mqtt_flow.specs.Outbound.{Answer, way_made}
 use Rattle.mqtt_message.specs.declared.message.MessageCopy.{MessageCopy}
 use Rattle.mqtt_message.specs.declared.message.RetainedMessage.{RetainedMessage}
