@@ -1,6 +1,6 @@
 //! What a session sees in its queue before it does anything (4.3, 4.4, 4.6, 4.9).
 
-ghost use Rattle.std.specs.Prelude.{◌≡◌, ◌+◌, ◌≤◌, ◌<◌, ◌++◌, [], ◌∷◌, length, map, IfOk, IfErr, OnOk, insert};
+ghost use Rattle.std.specs.Prelude.{◌≡◌, ◌+◌, ◌≤◌, ◌<◌, ◌&&◌, ◌++◌, [], ◌∷◌, length, map, IfOk, IfErr, OnOk, insert};
 ghost use Rattle.mqtt_flow.specs.declared.entry.Turn.TheVariants.{Repeat};
 ghost use Rattle.mqtt_flow.specs.Queue.{is_holder, order_of, greatest_place, greatest_order, in_window};
 ghost use Rattle.mqtt_flow.specs.Outbound.{is_waiting, gives_way, staying, has_room, dropped, is_late, is_large, expired, due_from, due_of, by_order};
@@ -166,6 +166,13 @@ pub(crate) fn push_dropped<R: QueueRow>(
     Ok(())
 }
 
+/// Whether a copy's time is up: it waits and is late (3.3.2.3.3).
+fn is_up<R: QueueRow>(now: u64, row: &R) -> bool
+    ensures { (went : R.Went) → result ≡ (is_waiting (R.entry went row.now).phase && is_late now (R.entry went row.now).copy) }
+{
+    is_waiting(row.phase()) && is_late(now, row)
+}
+
 /// Adds the turns by which late copies that wait leave (3.3.2.3.3).
 pub(crate) fn push_expired<R: QueueRow>(
     turns: &mut Vec<Turn>,
@@ -176,7 +183,7 @@ pub(crate) fn push_expired<R: QueueRow>(
     ensures fault { IfErr result (λ fault. fault ≡ FlowFault.Memory) }
 {
     for row in rows {
-        if is_waiting(row.phase()) && is_late(now, row) {
+        if is_up(now, row) {
             let (place, ending) = (row.place(), Ending::Expired);
             add(turns, Turn::Leave { place, ending })?;
         }

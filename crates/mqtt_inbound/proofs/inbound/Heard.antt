@@ -7,7 +7,7 @@ use Rattle.mqtt_inbound.specs.Identifiers.{free_identifier}
 use Rattle.mqtt_inbound.specs.Inbound.{answer_to}
 use Rattle.mqtt_inbound.specs.Line.{Link, away, asked, live, sent_on}
 use Rattle.mqtt_inbound.specs.Publisher.{Qos, qos_1, qos_2, Fate, sent_1, ended_1, sent, released, ended, FromPublisher, CONNECT, PUBLISH_1, PUBLISH_2, PUBREL, ToPublisher, CONNACK, CONNACK_REFUSED, PUBACK, PUBREC, PUBCOMP, DISCONNECT, in_flight, first_fate, first_packet, resent_from, on_new_session, on_puback, on_pubrec, on_pubcomp, is_sent, pubrel_if, pubrel_for, HasNoConnect, IsConnectAlone, IsHeard}
-use Rattle.mqtt_inbound.specs.InboundWorld.{World, Choice, takes, takes_unheard, refuses, Verdict, accept, refuse, repeat, shut, verdict_on, Event, publish, to_broker, old_to_broker, to_end, give_up, break, connect, close, close_old, restart, send_one, send_all, send_unsent, on_connack, publisher_reads, on_publish_1, on_publish_2, on_connect, taken_over, on_old_connect, broker_reads, on_old_publish_1, on_old_publish_2, broker_reads_old, on_give_up, on_join, step, start, run, after, ConnectsAlone, Heard}
+use Rattle.mqtt_inbound.specs.InboundWorld.{World, Choice, takes, takes_unheard, refuses, Verdict, accept, refuse, repeat, shut, verdict_on, Event, publish, to_broker, old_to_broker, to_end, give_up, break, connect, close, close_old, restart, send_one, send_all, send_unsent, on_connack, publisher_reads, on_publish_1, on_publish_2, on_connect, taken_over, on_old_connect, broker_reads, broker_reads_old, on_give_up, on_join, step, start, run, after, ConnectsAlone, Heard}
 use Rattle.mqtt_inbound.proofs.inbound.Stages.{is_connect, IsOld, IsLate, Calm, is_away, is_asking, is_shut, is_turned, is_answered, is_live, Blank, blank_away, blank_asking, blank_shut, blank_answered, Good}
 use Rattle.mqtt_inbound.proofs.inbound.Runs.{begins, good_keeps, is_good}
 

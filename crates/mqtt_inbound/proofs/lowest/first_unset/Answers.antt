@@ -1,5 +1,5 @@
 -- One identifier is tried after the other.
-use Rattle.std.proofs.Common.{◌≡◌, ℕ, suc, ◌+◌, ◌-◌, ◌<◌, List, Bool, true, false, not, length, get_or, arith, sym, ◌∙◌, ap}
+use Rattle.std.proofs.Common.{◌≡◌, ℕ, suc, ◌+◌, ◌-◌, ◌<◌, List, true, false, length, get_or, arith, sym, ◌∙◌, ap}
 use Rattle.mqtt_inbound.specs.Identifiers.{is_among, lowest_from}
 use Rattle.mqtt_inbound.proofs.lowest.first_unset.Goals as goal
 
