@@ -24,13 +24,19 @@ use Rattle.mqtt_subscribe.specs.Unsubscribe.{unsubscribe_at, unsubscribe_of}
 use Rattle.mqtt_codec.specs.Notice.{disconnect_at, auth_at, notice_of}
 use Rattle.mqtt_codec.specs.Packets.{is_lawful}
 
+-- how many bytes follow, and these
+abbrev pub sized_at : List ℕ → Result (List ℕ) Fault
+sized_at bytes = do
+  n ← malformed (varint_at bytes)
+  if length n.1 == n.0 then Ok n.1 else Err Malformed
+
 -- the head and the body
 unfoldable pub frame_at : List ℕ → Result (Head × List ℕ) Fault
 frame_at [] = Err Malformed
 frame_at (b ∷ bytes) = do
   h ← known (head_of b)
-  n ← malformed (varint_at bytes)
-  if length n.1 == n.0 then Ok (h, n.1) else Err Malformed
+  body ← sized_at bytes
+  Ok (h, body)
 
 unfoldable pub empty_at : List ℕ → Result (Unit {0}) Fault
 empty_at [] = Ok tt

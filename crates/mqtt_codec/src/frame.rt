@@ -8,7 +8,7 @@ ghost use Rattle.mqtt_codec.specs.Heads.{first};
 ghost use Rattle.mqtt_fields.specs.Reading.{Gives};
 ghost use Rattle.mqtt_fields.specs.Writing.{KeepsFront};
 ghost use Rattle.mqtt_codec.specs.Packets.{head, Fits, Spells, Refusal, is_lawful, shortest_body, shortest_of, HasSpelling, IsShortest};
-ghost use Rattle.mqtt_codec.specs.Frames.{frame_at, empty_at, versioned_at, version_at, lawful_at, packet_at, packet_of};
+ghost use Rattle.mqtt_codec.specs.Frames.{sized_at, frame_at, empty_at, versioned_at, version_at, lawful_at, packet_at, packet_of};
 
 use crate::ack::ack_read;
 use crate::connack::connack_read;
@@ -26,6 +26,19 @@ use mqtt_props::Place;
 use mqtt_subscribe::{subscribe_read, unsubscribe_read};
 use std::alloc::{AllocError, Global};
 
+/// The bytes that follow, as many as the Remaining Length says (2.1.4).
+#[inline(always)]
+fn sized_read(bytes: &[u8]) -> Result<&[u8], Fault>
+    ensures { Gives (λ body. body.now) result (sized_at bytes.now) }
+{
+    let (len, taken) = varint_read(bytes)?;
+    let (_, body) = bytes.split_at(taken);
+    if body.len() != len as usize {
+        return Err(Fault::Malformed);
+    }
+    Ok(body)
+}
+
 #[inline(always)]
 #[tactic(auto, unfolding(crate::specs::Frames::frame_at))]
 fn frame_read(frame: &[u8]) -> Result<(Head, &[u8]), Fault>
@@ -37,11 +50,7 @@ fn frame_read(frame: &[u8]) -> Result<(Head, &[u8]), Fault>
     let Some(head) = head_read(*first) else {
         return Err(Fault::Malformed);
     };
-    let (len, taken) = varint_read(rest)?;
-    let (_, body) = rest.split_at(taken);
-    if body.len() != len as usize {
-        return Err(Fault::Malformed);
-    }
+    let body = sized_read(rest)?;
     Ok((head, body))
 }
 

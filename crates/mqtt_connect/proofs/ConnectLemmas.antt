@@ -23,7 +23,7 @@ use Rattle.mqtt_fields.specs.declared.fault.Fault.TheVariants.{Malformed}
 use Rattle.mqtt_fields.specs.Reading.{malformed, known}
 use Rattle.mqtt_fields.specs.Fields.{optional, FitsOptional}
 use Rattle.mqtt_connect.specs.ConnectFlags.{flags_of, flags_byte}
-use Rattle.mqtt_connect.specs.Connect.{FitsWill, will_field, will_flags_of, flags_of_connect, FitsConnect, connect_fields, connect_body, mqtt, is_version_5, will_at, user_name_at, password_at, fields_at, flagged_at, connect_at}
+use Rattle.mqtt_connect.specs.Connect.{FitsWill, will_field, will_flags_of, flags_of_connect, FitsConnect, connect_payload, connect_fields, connect_body, mqtt, is_version_5, will_at, user_name_at, password_at, login_at, payload_at, fields_at, flagged_at, connect_at}
 use Rattle.mqtt_fields.proofs.Parts.{malformed_ok, known_ok, both_true}
 use Rattle.mqtt_fields.proofs.Readers.{IsReader}
 use Rattle.mqtt_connect.proofs.FlagLemmas.{flags_is, flags_again}
@@ -102,6 +102,68 @@ unfolding password_at
 password_again None rest fits = refl
 password_again (Some b) rest fits = rw (blob_again b rest fits) refl
 
+-- ---- the payload
+
+record IsLogin (f : Flags) (bytes : List ℕ) (l : Option (List ℕ) × Option (List ℕ)) : Type 0 where
+  is : bytes ≡ optional blob l.0 ++ optional blob l.1
+  user_fits : FitsOptional FitsText l.0
+  user_said : is_some l.0 ≡ f.user_name
+  password_fits : FitsOptional IsShort l.1
+  password_said : is_some l.1 ≡ f.password
+
+login_takes : (f : Flags) (bytes : List ℕ) (l : Option (List ℕ) × Option (List ℕ)) → IsBytes bytes → login_at f bytes ≡ Ok l → IsLogin f bytes l
+login_takes f bytes l fits e =
+    let u = bind_ok (user_name_at f.user_name bytes) _ l e in
+    let s = bind_ok (password_at f.password u.0.1) _ l u.2 in
+    let made : Option (List ℕ) × Option (List ℕ) = (u.0.0, s.0.0) in
+    let g = when_ok (eqb (length s.0.1) 0) Malformed (Ok made) l s.2 in
+    let t0 = user_name_takes f.user_name bytes u.0 fits u.1 in
+    let t1 = password_takes f.password u.0.1 s.0 t0.takes.rest_fits s.1 in
+    let nothing : s.0.1 ≡ [] = nil_from_length s.0.1 (eqb-true _ _ g.0) in
+    let e1 : u.0.1 ≡ optional blob s.0.0 = t1.takes.parts ∙ ap (λ (r : List ℕ). optional blob s.0.0 ++ r) nothing ∙ append-nil (optional blob s.0.0) in
+    let e0 : bytes ≡ optional blob u.0.0 ++ optional blob s.0.0 = t0.takes.parts ∙ ap (λ (r : List ℕ). optional blob u.0.0 ++ r) e1 in
+    subst (λ (y : Option (List ℕ) × Option (List ℕ)). IsLogin f bytes y) (ok_is made l g.1)
+    (record { is = e0; user_fits = t0.fits; user_said = t0.said; password_fits = t1.fits; password_said = t1.said })
+
+login_again : (c : Connect) → FitsConnect c → login_at (flags_of_connect c) (optional blob c.user_name ++ optional blob c.password) ≡ Ok (c.user_name, c.password)
+login_again c fits =
+    let rest = optional blob c.password in
+    let last : password_at (is_some c.password) rest ≡ Ok (c.password, []) = ap (password_at (is_some c.password)) (sym (append-nil rest)) ∙ password_again c.password [] fits.5 in
+    rw (user_name_again c.user_name rest fits.4, last) refl
+
+record IsPayload (f : Flags) (bytes : List ℕ) (p : List ℕ × Option Will × Option (List ℕ) × Option (List ℕ)) : Type 0 where
+  is : bytes ≡ blob p.0 ++ (optional will_field p.1 ++ (optional blob p.2 ++ optional blob p.3))
+  client_fits : FitsText p.0
+  will_fits : FitsOptional FitsWill p.1
+  will_said : option_map will_flags_of p.1 ≡ f.will
+  login : IsLogin f (optional blob p.2 ++ optional blob p.3) (p.2, p.3)
+
+payload_takes : (f : Flags) (bytes : List ℕ) (p : List ℕ × Option Will × Option (List ℕ) × Option (List ℕ)) → IsBytes bytes → payload_at f bytes ≡ Ok p → IsPayload f bytes p
+payload_takes f bytes p fits e =
+    let i = bind_ok (malformed (text_at bytes)) _ p e in
+    let w = bind_ok (will_at f.will i.0.1) _ p i.2 in
+    let l = bind_ok (login_at f w.0.1) _ p w.2 in
+    let t0 = text_takes bytes i.0 fits (malformed_ok (text_at bytes) i.0 i.1) in
+    let t1 = will_takes f.will i.0.1 w.0 t0.0.rest_fits w.1 in
+    let t2 = login_takes f w.0.1 l.0 t1.takes.rest_fits l.1 in
+    let made : List ℕ × Option Will × Option (List ℕ) × Option (List ℕ) = (i.0.0, w.0.0, l.0.0, l.0.1) in
+    let e1 : i.0.1 ≡ optional will_field w.0.0 ++ (optional blob l.0.0 ++ optional blob l.0.1) = t1.takes.parts ∙ ap (λ (r : List ℕ). optional will_field w.0.0 ++ r) t2.is in
+    let e0 : bytes ≡ blob i.0.0 ++ (optional will_field w.0.0 ++ (optional blob l.0.0 ++ optional blob l.0.1)) = t0.0.parts ∙ ap (λ (r : List ℕ). blob i.0.0 ++ r) e1 in
+    subst (λ (y : List ℕ × Option Will × Option (List ℕ) × Option (List ℕ)). IsPayload f bytes y) (ok_is made p l.2)
+    (record {
+      is = e0;
+      client_fits = (t0.1, t0.2);
+      will_fits = t1.fits;
+      will_said = t1.said;
+      login = record { is = refl; user_fits = t2.user_fits; user_said = t2.user_said; password_fits = t2.password_fits; password_said = t2.password_said };
+    })
+
+payload_again : (c : Connect) → FitsConnect c → payload_at (flags_of_connect c) (connect_payload c) ≡ Ok (c.client_identifier, c.will, c.user_name, c.password)
+payload_again c fits =
+    let r1 = optional blob c.user_name ++ optional blob c.password in
+    let r0 = optional will_field c.will ++ r1 in
+    rw (text_again c.client_identifier r0 fits.2.0 fits.2.1, will_again c.will r1 fits.3, login_again c fits) refl
+
 -- ---- the fields
 
 record AreFields (f : Flags) (bytes : List ℕ) (c : Connect) : Type 0 where
@@ -116,51 +178,27 @@ fields_takes : (f : Flags) (bytes : List ℕ) (c : Connect) → IsBytes bytes �
 unfolding fields_at
 fields_takes f bytes c fits e =
     let k = bind_ok (malformed (number_at w16 bytes)) _ c e in
-    let p = bind_ok (malformed (layout_at places.Connect k.0.1)) _ c k.2 in
-    let i = bind_ok (malformed (text_at p.0.1)) _ c p.2 in
-    let w = bind_ok (will_at f.will i.0.1) _ c i.2 in
-    let u = bind_ok (user_name_at f.user_name w.0.1) _ c w.2 in
-    let s = bind_ok (password_at f.password u.0.1) _ c u.2 in
-    let made : Connect = record { clean_start = f.clean_start; keep_alive = k.0.0; properties = p.0.0; client_identifier = i.0.0; will = w.0.0; user_name = u.0.0; password = s.0.0 } in
-    let g = when_ok (eqb (length s.0.1) 0) Malformed (Ok made) c s.2 in
+    let b = bind_ok (malformed (layout_at places.Connect k.0.1)) _ c k.2 in
+    let p = bind_ok (payload_at f b.0.1) _ c b.2 in
+    let made : Connect = record { clean_start = f.clean_start; keep_alive = k.0.0; properties = b.0.0; client_identifier = p.0.0; will = p.0.1; user_name = p.0.2; password = p.0.3 } in
     let t0 = number_takes w16 (2 ^ 16) wide16 bytes k.0 fits (malformed_ok (number_at w16 bytes) k.0 k.1) in
-    let t1 = layout_takes places.Connect k.0.1 p.0 t0.0.rest_fits (malformed_ok (layout_at places.Connect k.0.1) p.0 p.1) in
-    let t2 = text_takes p.0.1 i.0 t1.0.rest_fits (malformed_ok (text_at p.0.1) i.0 i.1) in
-    let t3 = will_takes f.will i.0.1 w.0 t2.0.rest_fits w.1 in
-    let t4 = user_name_takes f.user_name w.0.1 u.0 t3.takes.rest_fits u.1 in
-    let t5 = password_takes f.password u.0.1 s.0 t4.takes.rest_fits s.1 in
-    let nothing : s.0.1 ≡ [] = nil_from_length s.0.1 (eqb-true _ _ g.0) in
-    let e5 : u.0.1 ≡ optional blob s.0.0 = t5.takes.parts ∙ ap (λ (r : List ℕ). optional blob s.0.0 ++ r) nothing ∙ append-nil (optional blob s.0.0) in
-    let e4 : w.0.1 ≡ optional blob u.0.0 ++ optional blob s.0.0 = t4.takes.parts ∙ ap (λ (r : List ℕ). optional blob u.0.0 ++ r) e5 in
-    let e3 : i.0.1 ≡ optional will_field w.0.0 ++ (optional blob u.0.0 ++ optional blob s.0.0) = t3.takes.parts ∙ ap (λ (r : List ℕ). optional will_field w.0.0 ++ r) e4 in
-    let e2 : p.0.1 ≡ blob i.0.0 ++ (optional will_field w.0.0 ++ (optional blob u.0.0 ++ optional blob s.0.0)) = t2.0.parts ∙ ap (λ (r : List ℕ). blob i.0.0 ++ r) e3 in
-    let e1 : k.0.1 ≡ block p.0.0 ++ (blob i.0.0 ++ (optional will_field w.0.0 ++ (optional blob u.0.0 ++ optional blob s.0.0))) = t1.0.parts ∙ ap (λ (r : List ℕ). block p.0.0 ++ r) e2 in
+    let t1 = layout_takes places.Connect k.0.1 b.0 t0.0.rest_fits (malformed_ok (layout_at places.Connect k.0.1) b.0 b.1) in
+    let t2 = payload_takes f b.0.1 p.0 t1.0.rest_fits p.1 in
+    let e1 : k.0.1 ≡ block b.0.0 ++ connect_payload made = t1.0.parts ∙ ap (λ (r : List ℕ). block b.0.0 ++ r) t2.is in
     let e0 : bytes ≡ connect_fields made = t0.0.parts ∙ ap (λ (r : List ℕ). two_bytes k.0.0 ++ r) e1 in
     let said : flags_of_connect made ≡ f =
-    ap (λ (o : Option WillFlags). flags_made f.clean_start o (is_some u.0.0) (is_some s.0.0)) t3.said
-    ∙ ap (λ (b : Bool). flags_made f.clean_start f.will b (is_some s.0.0)) t4.said
-    ∙ ap (λ (b : Bool). flags_made f.clean_start f.will f.user_name b) t5.said
+    ap (λ (o : Option WillFlags). flags_made f.clean_start o (is_some p.0.2) (is_some p.0.3)) t2.will_said
+    ∙ ap (λ (u : Bool). flags_made f.clean_start f.will u (is_some p.0.3)) t2.login.user_said
+    ∙ ap (λ (u : Bool). flags_made f.clean_start f.will f.user_name u) t2.login.password_said
     in
-    subst (λ (y : Connect). AreFields f bytes y) (ok_is made c g.1)
-    (record { fits = (t0.1, (t1.1, t1.2), (t2.1, t2.2), t3.fits, t4.fits, t5.fits); is = e0; said = said })
+    subst (λ (y : Connect). AreFields f bytes y) (ok_is made c p.2)
+    (record { fits = (t0.1, (t1.1, t1.2), t2.client_fits, t2.will_fits, t2.login.user_fits, t2.login.password_fits); is = e0; said = said })
 
 fields_again : (c : Connect) → FitsConnect c → fields_at (flags_of_connect c) (connect_fields c) ≡ Ok c
 unfolding fields_at
 fields_again c fits =
-    let r5 = optional blob c.password in
-    let r4 = optional blob c.user_name ++ r5 in
-    let r3 = optional will_field c.will ++ r4 in
-    let r2 = blob c.client_identifier ++ r3 in
-    let r1 = block c.properties ++ r2 in
-    let last : password_at (is_some c.password) r5 ≡ Ok (c.password, []) = ap (password_at (is_some c.password)) (sym (append-nil r5)) ∙ password_again c.password [] fits.5 in
-    rw (
-      number_again w16 (2 ^ 16) wide16 c.keep_alive r1 fits.0,
-      layout_again places.Connect c.properties r2 fits.1.0 fits.1.1,
-      text_again c.client_identifier r3 fits.2.0 fits.2.1,
-      will_again c.will r4 fits.3,
-      user_name_again c.user_name r5 fits.4,
-      last,
-    ) refl
+    let r0 = connect_payload c in
+    rw (number_again w16 (2 ^ 16) wide16 c.keep_alive (block c.properties ++ r0) fits.0, layout_again places.Connect c.properties r0 fits.1.0 fits.1.1, payload_again c fits) refl
 
 -- ---- the packet
 

@@ -42,15 +42,14 @@ FitsConnect c =
     (c.keep_alive < 2 ^ 16) × Stands places.Connect c.properties × FitsText c.client_identifier
     × FitsOptional FitsWill c.will × FitsOptional FitsText c.user_name × FitsOptional (λ p. length p < 2 ^ 16) c.password
 
--- what follows the flags: Keep Alive, properties, Client Identifier, and what the flags say (3.1.2.10, 3.1.2.11, 3.1.3)
+-- the payload: Client Identifier, and what the flags say (3.1.3)
+abbrev pub connect_payload : Connect → List ℕ
+connect_payload c =
+    blob c.client_identifier ++ (optional will_field c.will ++ (optional blob c.user_name ++ optional blob c.password))
+
+-- what follows the flags: Keep Alive, properties, and the payload (3.1.2.10, 3.1.2.11, 3.1.3)
 abbrev pub connect_fields : Connect → List ℕ
-connect_fields c =
-    two_bytes c.keep_alive
-    ++ (block c.properties
-    ++ (blob c.client_identifier
-    ++ (optional will_field c.will
-    ++ (optional blob c.user_name
-    ++ optional blob c.password))))
+connect_fields c = two_bytes c.keep_alive ++ (block c.properties ++ connect_payload c)
 
 -- the protocol's name (3.1.2.1)
 abbrev pub mqtt : List ℕ
@@ -87,15 +86,27 @@ user_name_at flag bytes = optional_at flag (field_at text_at) bytes
 unfoldable pub password_at : Bool → List ℕ → Result (Option (List ℕ) × List ℕ) Fault
 password_at flag bytes = optional_at flag (field_at blob_at) bytes
 
+-- User Name and Password, and nothing behind them (3.1.3.5, 3.1.3.6)
+abbrev pub login_at : Flags → List ℕ → Result (Option (List ℕ) × Option (List ℕ)) Fault
+login_at f bytes = do
+  user ← user_name_at f.user_name bytes
+  password ← password_at f.password user.1
+  if length password.1 == 0 then Ok (user.0, password.0) else Err Malformed
+
+-- Client Identifier, Will, User Name and Password (3.1.3)
+abbrev pub payload_at : Flags → List ℕ → Result (List ℕ × Option Will × Option (List ℕ) × Option (List ℕ)) Fault
+payload_at f bytes = do
+  client ← malformed (text_at bytes)
+  will ← will_at f.will client.1
+  login ← login_at f will.1
+  Ok (client.0, will.0, login.0, login.1)
+
 unfoldable pub fields_at : Flags → List ℕ → Result Connect Fault
 fields_at f bytes = do
   keep ← malformed (number_at w16 bytes)
   ps ← malformed (layout_at places.Connect keep.1)
-  client ← malformed (text_at ps.1)
-  will ← will_at f.will client.1
-  user ← user_name_at f.user_name will.1
-  password ← password_at f.password user.1
-  if length password.1 == 0 then Ok (record { clean_start = f.clean_start; keep_alive = keep.0; properties = ps.0; client_identifier = client.0; will = will.0; user_name = user.0; password = password.0 }) else Err Malformed
+  p ← payload_at f ps.1
+  Ok (record { clean_start = f.clean_start; keep_alive = keep.0; properties = ps.0; client_identifier = p.0; will = p.1; user_name = p.2; password = p.3 })
 
 -- the flags and what follows them
 abbrev pub flagged_at : List ℕ → Result Connect Fault

@@ -7,7 +7,7 @@ ghost use Rattle.mqtt_base.specs.Reading.{Reads};
 ghost use Rattle.mqtt_fields.specs.Fields.{optional, FitsOptional};
 ghost use Rattle.mqtt_fields.specs.Reading.{Gives};
 ghost use Rattle.mqtt_fields.specs.Writing.{KeepsFront};
-ghost use Rattle.mqtt_connect.specs.Connect.{will_at, will_of, will_field, user_name_at, password_at, fields_at, connect_at, connect_of, connect_body, connect_fields, FitsConnect, FitsWill, lawful_connect, lawful_will, flags_of_connect, will_flags_of, is_version_5, mqtt};
+ghost use Rattle.mqtt_connect.specs.Connect.{will_at, will_of, will_field, user_name_at, password_at, login_at, payload_at, fields_at, connect_at, connect_of, connect_body, connect_payload, connect_fields, FitsConnect, FitsWill, lawful_connect, lawful_will, flags_of_connect, will_flags_of, is_version_5, mqtt};
 
 use crate::connect_flags::{Flags, WillFlags, flags_read};
 use mqtt_base::{Blob, Qos, Text, blob_push, blob_read, text_read, u8_read, u16_push, u16_read};
@@ -132,6 +132,45 @@ fn password_read(flag: bool, bytes: &[u8]) -> Result<(Option<&[u8]>, usize), Fau
     Ok((Some(password), taken))
 }
 
+/// The User Name and the Password, and nothing behind them.
+#[inline(always)]
+fn login_read(flags: Flags, bytes: &[u8]) -> Result<(Option<&str>, Option<&[u8]>), Fault>
+    ensures { Gives (λ x. (option_map (λ t. t.now) x.0, option_map (λ p. p.now) x.1)) result (login_at flags bytes.now) }
+{
+    let (user_name, taken) = user_name_read(flags.user_name, bytes)?;
+    let (_, rest) = bytes.split_at(taken);
+    let (password, taken) = password_read(flags.password, rest)?;
+    if taken != rest.len() {
+        return Err(Fault::Malformed);
+    }
+    Ok((user_name, password))
+}
+
+/// What is lent of a payload: Client Identifier, Will, User Name, Password.
+type PayloadRef<'a> = (
+    &'a str,
+    Option<WillRef<'a>>,
+    Option<&'a str>,
+    Option<&'a [u8]>,
+);
+
+#[inline(always)]
+fn payload_read(flags: Flags, bytes: &[u8]) -> Result<PayloadRef<'_>, Fault>
+    ensures { Gives (λ x. (x.0.now, option_map will_of x.1, option_map (λ t. t.now) x.2, option_map (λ p. p.now) x.3)) result (payload_at flags bytes.now) }
+{
+    let (client_identifier, taken) = text_read(bytes)?;
+    let (_, rest) = bytes.split_at(taken);
+    let (will, taken) = will_read(flags.will, rest)?;
+    let (_, rest) = rest.split_at(taken);
+    match login_read(flags, rest) {
+        Ok((user_name, password)) => Ok((client_identifier, will, user_name, password)),
+        Err(fault) => {
+            drop(will);
+            Err(fault)
+        }
+    }
+}
+
 #[inline(always)]
 #[tactic(auto, unfolding(crate::specs::Connect::fields_at))]
 fn fields_read(flags: Flags, bytes: &[u8]) -> Result<ConnectRef<'_>, Fault>
@@ -143,25 +182,21 @@ fn fields_read(flags: Flags, bytes: &[u8]) -> Result<ConnectRef<'_>, Fault>
         return Err(Fault::Malformed);
     };
     let (_, rest) = rest.split_at(taken);
-    let (client_identifier, taken) = text_read(rest)?;
-    let (_, rest) = rest.split_at(taken);
-    let (will, taken) = will_read(flags.will, rest)?;
-    let (_, rest) = rest.split_at(taken);
-    let (user_name, taken) = user_name_read(flags.user_name, rest)?;
-    let (_, rest) = rest.split_at(taken);
-    let (password, taken) = password_read(flags.password, rest)?;
-    if taken != rest.len() {
-        return Err(Fault::Malformed);
+    match payload_read(flags, rest) {
+        Ok((client_identifier, will, user_name, password)) => Ok(ConnectRef {
+            clean_start: flags.clean_start,
+            keep_alive,
+            properties,
+            client_identifier,
+            will,
+            user_name,
+            password,
+        }),
+        Err(fault) => {
+            drop(properties);
+            Err(fault)
+        }
     }
-    Ok(ConnectRef {
-        clean_start: flags.clean_start,
-        keep_alive,
-        properties,
-        client_identifier,
-        will,
-        user_name,
-        password,
-    })
 }
 
 /// Whether the protocol's name and the version are those of MQTT 5.0 (3.1.2.1, 3.1.2.2). Takes no
@@ -390,6 +425,17 @@ impl ConnectRef<'_> {
     {
         u16_push(out, self.keep_alive)?;
         self.properties.push_block(out)?;
+        self.push_payload(out)
+    }
+
+    /// Writes the payload at the end.
+    #[inline(always)]
+    #[tactic(auto, using(std::proofs::lemmas::List::append_assoc, mqtt_fields::proofs::Fronts::begins_same, mqtt_fields::proofs::Fronts::begins_less))]
+    fn push_payload(&self, out: &mut Vec<u8>) -> Result<(), AllocError>
+        requires { FitsConnect (connect_of self.now) }
+        ensures ok { OnOk result (out.new.items ≡ out.old.items ++ connect_payload (connect_of self.now)) }
+        ensures front { OnErr result (KeepsFront out.old.items out.new.items) }
+    {
         blob_push(out, self.client_identifier.as_bytes())?;
         will_push(out, &self.will)?;
         text_push_some(out, self.user_name)?;
