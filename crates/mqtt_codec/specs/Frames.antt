@@ -4,8 +4,8 @@ use Rattle.mqtt_base.specs.declared.fault.ReadFault.{ReadFault}
 use Rattle.mqtt_base.specs.declared.kind.Kind.TheVariants as kinds
 use Rattle.mqtt_base.specs.Reading.{◌>>=◌, varint_at, text_at, u8_at}
 use Rattle.mqtt_props.specs.declared.place.Place.TheVariants as places
-use Rattle.mqtt_codec.specs.declared.fault.Fault.{Fault}
-use Rattle.mqtt_codec.specs.declared.fault.Fault.TheVariants.{Malformed, Protocol, Version}
+use Rattle.mqtt_fields.specs.declared.fault.Fault.{Fault}
+use Rattle.mqtt_fields.specs.declared.fault.Fault.TheVariants.{Malformed, Protocol, Version}
 use Rattle.mqtt_codec.specs.declared.head.Head.{Head}
 use Rattle.mqtt_codec.specs.declared.head.Head.TheVariants as heads
 use Rattle.mqtt_codec.specs.declared.packet.Packet.{Packet}
@@ -13,24 +13,30 @@ use Rattle.mqtt_codec.specs.declared.packet.Packet.TheVariants.{Connect, Connack
 use Rattle.mqtt_codec.specs.declared.packet.PacketRef.{PacketRef}
 use Rattle.mqtt_codec.specs.declared.packet.PacketRef.TheVariants as refs
 use Rattle.mqtt_codec.specs.Heads.{head_of}
-use Rattle.mqtt_codec.specs.Reading.{malformed, known}
-use Rattle.mqtt_codec.specs.Connect.{connect_at, connect_of, is_version_5}
+use Rattle.mqtt_fields.specs.Reading.{malformed, known}
+use Rattle.mqtt_connect.specs.Connect.{connect_at, connect_of, is_version_5}
 use Rattle.mqtt_codec.specs.Connack.{connack_at, connack_of}
 use Rattle.mqtt_codec.specs.Publish.{publish_at, publish_of}
 use Rattle.mqtt_codec.specs.Ack.{ack_at, ack_of}
-use Rattle.mqtt_codec.specs.Subscribe.{subscribe_at, subscribe_of}
+use Rattle.mqtt_subscribe.specs.Subscribe.{subscribe_at, subscribe_of}
 use Rattle.mqtt_codec.specs.Suback.{suback_at, suback_of}
-use Rattle.mqtt_codec.specs.Unsubscribe.{unsubscribe_at, unsubscribe_of}
+use Rattle.mqtt_subscribe.specs.Unsubscribe.{unsubscribe_at, unsubscribe_of}
 use Rattle.mqtt_codec.specs.Notice.{disconnect_at, auth_at, notice_of}
 use Rattle.mqtt_codec.specs.Packets.{is_lawful}
+
+-- how many bytes follow, and these
+abbrev pub sized_at : List ℕ → Result (List ℕ) Fault
+sized_at bytes = do
+  n ← malformed (varint_at bytes)
+  if length n.1 == n.0 then Ok n.1 else Err Malformed
 
 -- the head and the body
 unfoldable pub frame_at : List ℕ → Result (Head × List ℕ) Fault
 frame_at [] = Err Malformed
 frame_at (b ∷ bytes) = do
   h ← known (head_of b)
-  n ← malformed (varint_at bytes)
-  if length n.1 == n.0 then Ok (h, n.1) else Err Malformed
+  body ← sized_at bytes
+  Ok (h, body)
 
 unfoldable pub empty_at : List ℕ → Result (Unit {0}) Fault
 empty_at [] = Ok tt

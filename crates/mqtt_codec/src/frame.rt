@@ -2,30 +2,42 @@
 
 ghost use Rattle.std.specs.Prelude.{◌≡◌, ◌<◌, ◌+◌, ◌^◌, ◌⊎◌, ◌↔◌, ◌++◌, ◌∷◌, ℕ, List, length, true, IfOk, IfErr, IsTrue, OnOk, OnErr, Ok};
 ghost use Rattle.mqtt_base.specs.Values.{varint};
-ghost use Rattle.mqtt_codec.specs.declared.fault.Fault.TheVariants as faults;
+ghost use Rattle.mqtt_fields.specs.declared.fault.Fault.TheVariants as faults;
 ghost use Rattle.mqtt_codec.specs.declared.packet.Packet.{Packet};
 ghost use Rattle.mqtt_codec.specs.Heads.{first};
-ghost use Rattle.mqtt_codec.specs.Reading.{Gives};
-ghost use Rattle.mqtt_codec.specs.Writing.{KeepsFront};
+ghost use Rattle.mqtt_fields.specs.Reading.{Gives};
+ghost use Rattle.mqtt_fields.specs.Writing.{KeepsFront};
 ghost use Rattle.mqtt_codec.specs.Packets.{head, Fits, Spells, Refusal, is_lawful, shortest_body, shortest_of, HasSpelling, IsShortest};
-ghost use Rattle.mqtt_codec.specs.Frames.{frame_at, empty_at, versioned_at, version_at, lawful_at, packet_at, packet_of};
+ghost use Rattle.mqtt_codec.specs.Frames.{sized_at, frame_at, empty_at, versioned_at, version_at, lawful_at, packet_at, packet_of};
 
 use crate::ack::ack_read;
 use crate::connack::connack_read;
-use crate::connect::{connect_read, is_version_5};
-use crate::fault::Fault;
 use crate::head::{Head, head_read};
 use crate::notice::{auth_read, disconnect_read};
 use crate::packet::{Packet, PacketRef};
 use crate::publish::publish_read;
 use crate::suback::suback_read;
-use crate::subscribe::subscribe_read;
-use crate::unsubscribe::unsubscribe_read;
 use mqtt_base::{
     Kind, ReadFault, VARINT_LIMIT, text_read, u8_read, varint_len, varint_push, varint_read,
 };
+use mqtt_connect::{connect_read, is_version_5};
+use mqtt_fields::Fault;
 use mqtt_props::Place;
+use mqtt_subscribe::{subscribe_read, unsubscribe_read};
 use std::alloc::{AllocError, Global};
+
+/// The bytes that follow, as many as the Remaining Length says (2.1.4).
+#[inline(always)]
+fn sized_read(bytes: &[u8]) -> Result<&[u8], Fault>
+    ensures { Gives (λ body. body.now) result (sized_at bytes.now) }
+{
+    let (len, taken) = varint_read(bytes)?;
+    let (_, body) = bytes.split_at(taken);
+    if body.len() != len as usize {
+        return Err(Fault::Malformed);
+    }
+    Ok(body)
+}
 
 #[inline(always)]
 #[tactic(auto, unfolding(crate::specs::Frames::frame_at))]
@@ -38,11 +50,7 @@ fn frame_read(frame: &[u8]) -> Result<(Head, &[u8]), Fault>
     let Some(head) = head_read(*first) else {
         return Err(Fault::Malformed);
     };
-    let (len, taken) = varint_read(rest)?;
-    let (_, body) = rest.split_at(taken);
-    if body.len() != len as usize {
-        return Err(Fault::Malformed);
-    }
+    let body = sized_read(rest)?;
     Ok((head, body))
 }
 
@@ -330,7 +338,7 @@ fn encode_lent(alloc: Global, packet: &PacketRef<'_>) -> Result<Vec<u8>, AllocEr
 
 /// Writes the shortest spelling at the end, whose body takes so many bytes.
 #[inline(always)]
-#[tactic(auto, using(std::proofs::lemmas::List::append_assoc, crate::proofs::Fronts::begins_same, crate::proofs::Fronts::begins_less))]
+#[tactic(auto, using(std::proofs::lemmas::List::append_assoc, mqtt_fields::proofs::Fronts::begins_same, mqtt_fields::proofs::Fronts::begins_less))]
 fn frame_push(packet: &PacketRef<'_>, len: usize, out: &mut Vec<u8>) -> Result<(), AllocError>
     requires spelling { HasSpelling (packet_of packet.now) }
     requires len { len ≡ length (shortest_body (packet_of packet.now)) }

@@ -6,14 +6,13 @@ ghost use Rattle.mqtt_codec.specs.Frames.{packet_of};
 
 use crate::ack::{Ack, AckRef};
 use crate::connack::{Connack, ConnackRef};
-use crate::connect::{Connect, ConnectRef};
 use crate::notice::{Notice, NoticeRef};
 use crate::publish::{Publish, PublishRef};
 use crate::suback::{Suback, SubackRef};
-use crate::subscribe::{Subscribe, SubscribeRef};
-use crate::unsubscribe::{Unsubscribe, UnsubscribeRef};
 use mqtt_base::Kind;
+use mqtt_connect::{Connect, ConnectRef};
 use mqtt_props::{Place, PropsRef};
+use mqtt_subscribe::{Subscribe, SubscribeRef, Unsubscribe, UnsubscribeRef};
 use std::alloc::{AllocError, Global};
 
 /// A control packet (2.1.2).

@@ -4,12 +4,12 @@ use Rattle.std.specs.Prelude.{⊤, suc, nat_lt, nat_le, flat_map, find, option_m
 use Rattle.std.proofs.lemmas.Bool.{cases_Bool, eqb-true}
 use Rattle.std.proofs.lemmas.Slice.Eq.{bytes_eq-Decides}
 use Rattle.mqtt_props.specs.declared.table.PropName.TheVariants.{SessionExpiryInterval, SubscriptionIdentifier, TopicAlias}
-use Rattle.mqtt_codec.specs.declared.connect.Connect.{Connect as Greeting}
+use Rattle.mqtt_connect.specs.declared.connect.Connect.{Connect as Greeting}
 use Rattle.mqtt_codec.specs.declared.publish.Delivery.{Delivery as Quality}
 use Rattle.mqtt_codec.specs.declared.publish.Delivery.TheVariants as delivery
 use Rattle.mqtt_codec.specs.declared.publish.Publish.{Publish as Publication}
-use Rattle.mqtt_codec.specs.declared.subscribe.Subscribe.{Subscribe as Asking}
-use Rattle.mqtt_codec.specs.declared.unsubscribe.Unsubscribe.{Unsubscribe as GivingUp}
+use Rattle.mqtt_subscribe.specs.declared.subscribe.Subscribe.{Subscribe as Asking}
+use Rattle.mqtt_subscribe.specs.declared.unsubscribe.Unsubscribe.{Unsubscribe as GivingUp}
 use Rattle.mqtt_codec.specs.declared.packet.Packet.{Packet}
 use Rattle.mqtt_codec.specs.declared.packet.Packet.TheVariants as packets
 use Rattle.mqtt_codec.specs.Subscriptions.{Subscription as Asked}

@@ -6,7 +6,7 @@ use Rattle.std.proofs.lemmas.Bool.{cases_Bool, eqb-true, ltb-true, lt-ltb}
 use Rattle.std.proofs.lemmas.Cmp.{nat_eq_equiv}
 use Rattle.std.proofs.lemmas.Slice.Eq.{bytes_eq-Decides}
 use Rattle.mqtt_base.specs.declared.limits.TheConstants.{LAST_NUMBER, CLIENT_LIMIT, OPEN_LIMIT, SUBSCRIPTION_LIMIT, SESSION_LIMIT, RETAINED_LIMIT}
-use Rattle.mqtt_codec.specs.declared.connect.Connect.{Connect as Greeting}
+use Rattle.mqtt_connect.specs.declared.connect.Connect.{Connect as Greeting}
 use Rattle.mqtt_topic.specs.Names.{is_empty}
 use Rattle.mqtt_inbound.specs.declared.inflow.Published.{Published}
 use Rattle.mqtt_inbound.specs.declared.inflow.Published.TheVariants.{New, Again, Over}

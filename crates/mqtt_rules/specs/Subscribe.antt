@@ -6,8 +6,8 @@ use Rattle.mqtt_base.specs.declared.session.RetainHandling.{RetainHandling}
 use Rattle.mqtt_base.specs.declared.session.RetainHandling.TheVariants.{SendAlways, SendIfNew, DoNotSend}
 use Rattle.mqtt_base.specs.declared.session.SubscriptionOptions.{SubscriptionOptions}
 use Rattle.mqtt_props.specs.declared.table.PropName.TheVariants.{SubscriptionIdentifier}
-use Rattle.mqtt_codec.specs.declared.subscribe.Subscribe.{Subscribe}
-use Rattle.mqtt_codec.specs.declared.unsubscribe.Unsubscribe.{Unsubscribe}
+use Rattle.mqtt_subscribe.specs.declared.subscribe.Subscribe.{Subscribe}
+use Rattle.mqtt_subscribe.specs.declared.unsubscribe.Unsubscribe.{Unsubscribe}
 use Rattle.mqtt_codec.specs.Subscriptions.{Subscription as Asked}
 use Rattle.mqtt_codec.specs.Options.{options_of}
 use Rattle.mqtt_codec.specs.Heads.{qos_number}
