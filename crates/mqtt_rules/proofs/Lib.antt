@@ -65,3 +65,10 @@ pub mod TurnLists
 pub mod StandLaw
 pub mod FitRows
 pub mod RowsFit
+pub mod LineRows
+pub mod LineActs
+pub mod LineUnits
+pub mod LineLaw
+pub mod LinePrepared
+pub mod LineSteps
+pub mod CopySizes

@@ -12,4 +12,5 @@ pub mod Step
 pub mod Piece
 pub mod Laws
 pub mod Flight
+pub mod Lines
 pub mod Numbers
