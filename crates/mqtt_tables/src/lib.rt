@@ -1,0 +1,14 @@
+//! The broker's tables, and a step under way on them: deeds of the rules done in place, noted for the
+//! store, and taken back whole where the step isn't made (MQTT 5.0, 4.1).
+#![tactic(auto)]
+
+mod fault;
+mod line;
+mod step;
+mod tables;
+mod undo;
+
+pub use fault::StepFault;
+pub use line::{LineChange, LineState};
+pub use step::Step;
+pub use undo::Undo;
