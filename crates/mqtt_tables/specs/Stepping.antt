@@ -68,6 +68,12 @@ abbrev pub IsRefusedRow : Change → StepFault → Type 0
 IsRefusedRow row Memory = Unit {0}
 IsRefusedRow row Spent = is_spent (row ∷ []) ≡ true
 
+-- a refusal where a deed of that row was to be done
+pub record IsLeftRow (row : Change) (fault : StepFault) (old new : Stepping) : Type 0 where
+  pub start : new.start ≡ old.start
+  pub limits : new.limits ≡ old.limits
+  pub spent : fault ≡ Spent → is_spent (row ∷ []) ≡ true
+
 -- ---- one thing more
 
 -- a row for the store

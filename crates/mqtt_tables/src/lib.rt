@@ -3,7 +3,9 @@
 #![tactic(auto)]
 
 mod fault;
+mod handshakes;
 mod line;
+mod numbers;
 mod step;
 mod tables;
 mod undo;

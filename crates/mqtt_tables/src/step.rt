@@ -5,7 +5,7 @@ ghost use Rattle.mqtt_flow.specs.Queue.{order_of};
 ghost use Rattle.mqtt_rules.specs.State.{session_at};
 ghost use Rattle.mqtt_rules.specs.Step.{count_given, number_given};
 ghost use Rattle.mqtt_tables.specs.Undoing.{broker_of};
-ghost use Rattle.mqtt_tables.specs.Stepping.{at_rest, written, told, shut, sent, IsRefusedRow};
+ghost use Rattle.mqtt_tables.specs.Stepping.{at_rest, written, told, shut, sent, IsLeftRow, IsRefusedRow};
 
 use crate::fault::StepFault;
 use crate::tables::Tables;
@@ -138,6 +138,22 @@ impl Step {
         Ok(())
     }
 
+    /// Makes a change that another takes back, notes its row, and tells of it.
+    pub(crate) fn make_told(
+        &mut self,
+        row: Change,
+        undo: Change,
+        report: Report,
+    ) -> Result<(), StepFault>
+        requires { changed undo (changed row self.old.broker.records)
+            ≡ self.old.broker.records }
+        ensures ok { OnOk result (self.new ≡ told report (written row self.old)) }
+        ensures left { IfErr result (λ fault. IsLeftRow row fault self.old self.new) }
+    {
+        self.make(row, undo)?;
+        self.tell(report)
+    }
+
     /// A line closed.
     pub(crate) fn shut(&mut self, line: u64) -> Result<(), StepFault>
         ensures ok { OnOk result (self.new ≡ shut line self.old) }
@@ -163,6 +179,27 @@ impl Step {
         ensures { option_copied result ≡ session_at birth self.now.broker.records }
     {
         self.tables.session(birth)
+    }
+
+    /// The number of the last publication. Takes no memory.
+    pub fn publications(&self) -> u64
+        ensures { result ≡ self.now.broker.records.publications }
+    {
+        self.tables.records().publications
+    }
+
+    /// The number in the last client identifier that was assigned. Takes no memory.
+    pub fn autos(&self) -> u64
+        ensures { result ≡ self.now.broker.records.autos }
+    {
+        self.tables.records().autos
+    }
+
+    /// The number of the last granted filter. Takes no memory.
+    pub fn subscribes(&self) -> u64
+        ensures { result ≡ self.now.broker.records.subscribes }
+    {
+        self.tables.records().subscribes
     }
 
     /// Takes the whole step back. Takes no memory.

@@ -102,6 +102,13 @@ impl Tables {
         }
     }
 
+    /// What is stored.
+    pub(crate) fn records(&self) -> &Records
+        ensures { result.now ≡ self.now.broker.records }
+    {
+        &self.records
+    }
+
     /// Makes a change that another takes back. Want of memory changes nothing.
     pub(crate) fn make(&mut self, change: Change, undo: Change) -> Result<(), AllocError>
         requires { changed undo (changed change self.old.broker.records)
