@@ -25,3 +25,7 @@ change_is us us2 u b b2 b3 us_is back is = two changes (start_stays us us2 u b b
 -- the last change taken back
 pub taken_last : (us us2 : List Undo) (u : Undo) (b b2 start : Broker) → us ≡ us2 ++ u ∷ [] → b2 ≡ undone u b → taken_back us b ≡ start → taken_back us2 b2 ≡ start
 taken_last us us2 u b b2 start us_is is done = ap (taken_back us2) is ∙ (sym (taken_back_push us2 u b) ∙ (ap (λ xs. taken_back xs b) (sym us_is) ∙ done))
+
+-- where there was nothing to change
+pub same_is : (us us2 : List Undo) (b b2 b3 : Broker) → us2 ≡ us → b2 ≡ b → b2 ≡ b3 → changing us2 b2 ≡ become b3 (changing us b)
+same_is us us2 b b2 b3 us_is same is = two changes (ap (λ xs. taken_back xs b2) us_is ∙ ap (taken_back us) same) is

@@ -8,10 +8,10 @@ use Rattle.mqtt_rules.specs.declared.Limits.{Limits}
 use Rattle.mqtt_rules.specs.declared.Report.{Report}
 use Rattle.mqtt_rules.specs.State.{Broker, Env, MemberChoice}
 use Rattle.mqtt_rules.specs.Deeds.{Part, Deed, Act, whose, At, after_all, rows_of_all, of_session, always, output, closing, report}
-use Rattle.mqtt_rules.specs.Step.{is_spent}
+use Rattle.mqtt_rules.specs.Step.{is_spent, stamped, with_moment}
 use Rattle.mqtt_tables.specs.declared.fault.StepFault.{StepFault}
 use Rattle.mqtt_tables.specs.declared.fault.StepFault.TheVariants.{Memory, Spent}
-use Rattle.mqtt_tables.specs.Undoing.{with_change}
+use Rattle.mqtt_tables.specs.Undoing.{with_change, moment_of}
 
 pub record Stepping : Type 0 where
   pub limits : Limits
@@ -94,6 +94,10 @@ sent n bytes s = record s { outputs = s.outputs ++ (n, bytes) ∷ [] }
 -- lines or the moment, of which the store is told nothing
 abbrev pub with_broker : Broker → Stepping → Stepping
 with_broker b s = record s { broker = b }
+
+-- with its moment, where it stores anything
+abbrev pub with_stamp : Stepping → Stepping
+with_stamp s = record s { broker = with_moment s.rows s.broker; rows = stamped (moment_of s.broker) s.rows }
 
 -- no step is under way
 abbrev pub at_rest : Limits → Broker → Stepping

@@ -21,6 +21,12 @@ with_records r b = record b { records = r }
 abbrev pub with_lines : List Line → Broker → Broker
 with_lines ls b = record b { lines = ls }
 
+abbrev pub moment_of : Broker → ℕ
+moment_of b = b.now
+
+abbrev pub with_moment_of : ℕ → Broker → Broker
+with_moment_of moment b = record b { now = moment }
+
 -- a change of what is stored
 abbrev pub with_change : Change → Broker → Broker
 with_change change b = with_records (changed change b.records) b

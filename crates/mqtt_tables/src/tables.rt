@@ -7,7 +7,7 @@ ghost use Rattle.mqtt_records.specs.Session.{birth_of, copy_place};
 ghost use Rattle.mqtt_records.specs.declared.change.Change.TheVariants.{RemoveSession, RemoveCopy, RemoveRetained};
 ghost use Rattle.mqtt_rules.specs.State.{Line, session_at};
 ghost use Rattle.mqtt_tables.specs.Lines.{line_changed, line_number};
-ghost use Rattle.mqtt_tables.specs.Undoing.{become, settled, taken_back, undone, broker_of, with_change, with_lines, with_line_changed};
+ghost use Rattle.mqtt_tables.specs.Undoing.{become, settled, taken_back, undone, broker_of, with_change, with_lines, with_line_changed, with_moment_of, moment_of};
 
 use crate::line::{LineChange, LineState};
 use crate::undo::Undo;
@@ -109,6 +109,26 @@ impl Tables {
         &self.records
     }
 
+    /// The moment.
+    pub(crate) fn moment(&self) -> u64
+        ensures { result ≡ moment_of self.now.broker }
+    {
+        self.moment
+    }
+
+    /// Sets the moment. Want of memory changes nothing.
+    pub(crate) fn set_moment(&mut self, moment: u64) -> Result<(), AllocError>
+        ensures ok { OnOk result (self.new
+            ≡ become (with_moment_of moment self.old.broker) self.old) }
+        ensures err { OnErr result (self.new ≡ self.old) }
+    {
+        self.journal.push(Undo::SetMoment {
+            moment: self.moment,
+        })?;
+        self.moment = moment;
+        Ok(())
+    }
+
     /// Makes a change that another takes back. Want of memory changes nothing.
     pub(crate) fn make(&mut self, change: Change, undo: Change) -> Result<(), AllocError>
         requires { changed undo (changed change self.old.broker.records)
@@ -119,6 +139,90 @@ impl Tables {
     {
         self.journal.push(Undo::Make { change: undo })?;
         self.records.change(change);
+        Ok(())
+    }
+
+    /// A line that stands.
+    pub(crate) fn line(&self, number: u64) -> Option<&LineState>
+        ensures { option_copied result ≡ row_at line_number number self.now.broker.lines }
+    {
+        self.lines.get(number)
+    }
+
+    /// The lines, in the order in which they were linked.
+    pub(crate) fn lines(&self) -> &[LineState]
+        ensures { result.now ≡ self.now.broker.lines }
+    {
+        self.lines.as_slice()
+    }
+
+    /// Changes a part of a line, if it stands. Want of memory changes nothing.
+    pub(crate) fn edit_line(
+        &mut self,
+        number: u64,
+        change: LineChange,
+        undo: LineChange,
+    ) -> Result<(), AllocError>
+        requires { (l : Line) → row_at line_number number self.old.broker.lines ≡ Some l
+            → line_changed undo (line_changed change l) ≡ l }
+        ensures ok { OnOk result (self.new
+            ≡ become (with_line_changed number change self.old.broker) self.old) }
+        ensures err { OnErr result (self.new ≡ self.old) }
+    {
+        self.journal.push(Undo::EditLine {
+            number,
+            change: undo,
+        })?;
+        self.lines.edit(number, change);
+        Ok(())
+    }
+
+    /// Removes a line, if it stands; the journal keeps it whole. Want of memory changes nothing.
+    pub(crate) fn take_line(&mut self, number: u64) -> Result<(), AllocError>
+        ensures ok { OnOk result (self.new ≡ become
+            (with_lines (remove_row line_number number self.old.broker.lines) self.old.broker)
+            self.old) }
+        ensures err { OnErr result (self.new ≡ self.old) }
+    {
+        self.journal.reserve(1)?;
+        self.lines.as_slice();
+        match self.lines.take(number) {
+            Some(line) => self.journal.push(Undo::PutLine { line }).unwrap(),
+            None => {}
+        }
+        Ok(())
+    }
+
+    /// Removes a session whole, if it stands; the journal keeps it. Want of memory changes nothing.
+    pub(crate) fn take_session(&mut self, birth: u64) -> Result<(), AllocError>
+        ensures ok { OnOk result (self.new
+            ≡ become (with_change (RemoveSession birth) self.old.broker) self.old) }
+        ensures err { OnErr result (self.new ≡ self.old) }
+    {
+        self.journal.reserve(1)?;
+        self.records.sessions.as_slice();
+        match self.records.sessions.take(birth) {
+            Some(session) => self.journal.push(Undo::PutSession { session }).unwrap(),
+            None => {}
+        }
+        Ok(())
+    }
+
+    /// Removes a retained message, if it stands; the journal keeps it. Want of memory changes nothing.
+    pub(crate) fn take_retained(&mut self, place: u64) -> Result<(), AllocError>
+        ensures ok { OnOk result (self.new
+            ≡ become (with_change (RemoveRetained place) self.old.broker) self.old) }
+        ensures err { OnErr result (self.new ≡ self.old) }
+    {
+        self.journal.reserve(1)?;
+        self.records.retained.as_slice();
+        match self.records.retained.take(place) {
+            Some(kept) => {
+                let change = Change::PutRetained { kept };
+                self.journal.push(Undo::Make { change }).unwrap();
+            }
+            None => {}
+        }
         Ok(())
     }
 
