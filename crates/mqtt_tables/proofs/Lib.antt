@@ -1,0 +1,5 @@
+pub mod Journal
+pub mod Rows
+pub mod Doing
+pub mod Inverse
+pub mod Backs

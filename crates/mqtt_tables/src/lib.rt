@@ -1,0 +1,19 @@
+//! The broker's tables, and a step under way on them: deeds of the rules done in place, noted for the
+//! store, and taken back whole where the step isn't made (MQTT 5.0, 4.1).
+#![tactic(auto)]
+
+mod call;
+mod fault;
+mod handshakes;
+mod line;
+mod numbers;
+mod outputs;
+mod step;
+mod tables;
+mod undo;
+
+pub use call::{EngineError, Outcome, commit};
+pub use fault::StepFault;
+pub use line::{LineChange, LineState};
+pub use step::Step;
+pub use undo::Undo;
