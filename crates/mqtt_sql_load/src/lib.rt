@@ -1,0 +1,6 @@
+//! Records out of the rows of all tables of the SQL store (4.1).
+#![tactic(auto)]
+
+mod lists;
+
+pub use lists::{all_of, part_of};
