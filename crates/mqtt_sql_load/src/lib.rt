@@ -2,5 +2,7 @@
 #![tactic(auto)]
 
 mod lists;
+mod sessions;
 
 pub use lists::{all_of, part_of};
+pub use sessions::{PartRows, sessions_of};
