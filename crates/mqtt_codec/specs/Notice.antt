@@ -45,6 +45,10 @@ auth_body_of code (p ∷ ps) = code ∷ block (p ∷ ps)
 abbrev pub auth_body : Notice → List ℕ
 auth_body n = auth_body_of n.reason.0 n.properties
 
+-- the laws of DISCONNECT: those of its block
+abbrev pub lawful_disconnect : Notice → Bool
+lawful_disconnect n = keeps_laws places.Disconnect n.properties
+
 -- an AUTH with another code or with a property has an Authentication Method (ours)
 abbrev pub lawful_auth : Notice → Bool
 lawful_auth n =

@@ -1,5 +1,5 @@
 -- Packets and the bytes that spell them (MQTT 5.0, 2.1, 3.1 to 3.15).
-use Rattle.std.specs.Prelude.{◌≡◌, ℕ, ◌<◌, ◌≤◌, ◌^◌, Bool, true, false, List, [], ◌∷◌, ◌++◌, length}
+use Rattle.std.specs.Prelude.{◌≡◌, ◌⊎◌, ℕ, ◌<◌, ◌≤◌, ◌^◌, Bool, true, false, List, [], ◌∷◌, ◌++◌, length}
 use Rattle.mqtt_base.specs.declared.kind.Kind.{Kind}
 use Rattle.mqtt_base.specs.declared.kind.Kind.TheVariants as kinds
 use Rattle.mqtt_base.specs.Values.{varint, blob, FitsText}
@@ -40,6 +40,10 @@ kind_of Pingreq = kinds.Pingreq
 kind_of Pingresp = kinds.Pingresp
 kind_of (Disconnect n) = kinds.Disconnect
 kind_of (Auth n) = kinds.Auth
+
+-- a type of the acks (3.4 to 3.7)
+abbrev pub IsAckKind : Kind → Type 0
+IsAckKind k = (k ≡ kinds.Puback) ⊎ ((k ≡ kinds.Pubrec) ⊎ ((k ≡ kinds.Pubrel) ⊎ (k ≡ kinds.Pubcomp)))
 
 -- the properties of its own block; PINGREQ and PINGRESP have no block (2.2.2)
 abbrev pub properties_of : Packet → List Prop

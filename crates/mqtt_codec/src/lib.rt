@@ -5,6 +5,7 @@ mod ack;
 mod connack;
 mod frame;
 mod head;
+mod judged;
 mod laws;
 mod notice;
 mod packet;

@@ -14,49 +14,77 @@ use std::test::Fail;
 fn connect_of(frame: &[u8]) -> Option<ConnectRef<'_>> {
     match look_at(frame) {
         Ok(PacketRef::Connect(connect)) => Some(connect),
-        _ => None,
+        Ok(other) => {
+            drop(other);
+            None
+        }
+        Err(_) => None,
     }
 }
 
 fn connack_of(frame: &[u8]) -> Option<ConnackRef<'_>> {
     match look_at(frame) {
         Ok(PacketRef::Connack(connack)) => Some(connack),
-        _ => None,
+        Ok(other) => {
+            drop(other);
+            None
+        }
+        Err(_) => None,
     }
 }
 
 fn publish_of(frame: &[u8]) -> Option<PublishRef<'_>> {
     match look_at(frame) {
         Ok(PacketRef::Publish(publish)) => Some(publish),
-        _ => None,
+        Ok(other) => {
+            drop(other);
+            None
+        }
+        Err(_) => None,
     }
 }
 
 fn subscribe_of(frame: &[u8]) -> Option<SubscribeRef<'_>> {
     match look_at(frame) {
         Ok(PacketRef::Subscribe(subscribe)) => Some(subscribe),
-        _ => None,
+        Ok(other) => {
+            drop(other);
+            None
+        }
+        Err(_) => None,
     }
 }
 
 fn suback_of(frame: &[u8]) -> Option<SubackRef<'_>> {
     match look_at(frame) {
         Ok(PacketRef::Suback(suback)) => Some(suback),
-        _ => None,
+        Ok(other) => {
+            drop(other);
+            None
+        }
+        Err(_) => None,
     }
 }
 
 fn unsubscribe_of(frame: &[u8]) -> Option<UnsubscribeRef<'_>> {
     match look_at(frame) {
         Ok(PacketRef::Unsubscribe(unsubscribe)) => Some(unsubscribe),
-        _ => None,
+        Ok(other) => {
+            drop(other);
+            None
+        }
+        Err(_) => None,
     }
 }
 
 fn disconnect_of(frame: &[u8]) -> Option<NoticeRef<'_>> {
     match look_at(frame) {
         Ok(PacketRef::Disconnect(notice)) => Some(notice),
-        _ => None,
+        Ok(other) => {
+            drop(other);
+            None
+        }
+        Err(_) => None,
     }
 }
 
@@ -68,8 +96,13 @@ const CONNECT: &[u8] = &[
 
 /// The Will of a CONNECT.
 fn will_of(frame: &[u8]) -> Option<WillRef<'_>> {
-    let connect = connect_of(frame)?;
-    connect.will
+    let ConnectRef {
+        properties,
+        will,
+        ..
+    } = connect_of(frame)?;
+    drop(properties);
+    will
 }
 
 fn assert_will(rt: &impl Abort, will: WillRef<'_>) {
