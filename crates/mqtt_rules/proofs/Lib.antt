@@ -65,3 +65,5 @@ pub mod TurnLists
 pub mod StandLaw
 pub mod FitRows
 pub mod RowsFit
+pub mod LawfulRecords
+pub mod OpenLists

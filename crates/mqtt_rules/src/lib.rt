@@ -4,6 +4,7 @@
 
 mod fit_laws;
 mod flight_laws;
+mod lawful_laws;
 mod laws;
 mod number_laws;
 mod routing_laws;
@@ -11,6 +12,7 @@ mod topic_laws;
 
 pub use fit_laws::rows_always_fit;
 pub use flight_laws::identifiers_in_flight_are_unique;
+pub use lawful_laws::{lawful_records_may_be_opened, open_identifiers_are_one_list};
 pub use laws::{at_most_twenty_open, limits_are_kept, stored_part_follows, tables_are_ordered};
 use mqtt_base::{CopyId, Ending, Text};
 use mqtt_flow::Full;
