@@ -72,3 +72,5 @@ pub mod LineLaw
 pub mod LinePrepared
 pub mod LineSteps
 pub mod CopySizes
+pub mod LawfulRecords
+pub mod OpenLists

@@ -1,0 +1,8 @@
+use Rattle.mqtt_rules.proofs.LawfulRecords.{lawful_coherent, lawful_accepted}
+use Rattle.mqtt_rules.proofs.lawful_laws.lawful_records_may_be_opened.Goals as goal
+
+pub returns-clause-coherent : goal.returns-clause-coherent
+returns-clause-coherent c = lawful_coherent
+
+pub returns-clause-accepted : goal.returns-clause-accepted
+returns-clause-accepted c = lawful_accepted
