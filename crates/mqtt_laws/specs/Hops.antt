@@ -1,8 +1,9 @@
 -- When a step of the broker is what one publisher's hop does: its line and its session, and the steps of others (MQTT 5.0, 4.3, 4.4).
-use Rattle.std.specs.Prelude.{◌≡◌, ℕ, ◌≤◌, ⊤, Bool, false, List, [], ◌∷◌, ◌++◌, length, filter_map, map, nat_eq, nat_lt, Option, Some, None}
+use Rattle.std.specs.Prelude.{◌≡◌, ℕ, ◌≤◌, ⊤, Bool, true, false, List, [], ◌∷◌, ◌++◌, length, filter_map, map, nat_eq, nat_lt, Option, Some, None}
 use Rattle.std.specs.List.{AllByRecursion, starts_with}
 use Rattle.mqtt_codec.specs.declared.packet.Packet.{Packet}
 use Rattle.mqtt_codec.specs.declared.packet.Packet.TheVariants.{Connect}
+use Rattle.mqtt_flow.specs.Line.{Link, away, asked, live}
 use Rattle.mqtt_flow.specs.Publisher.{CONNECT, PUBLISH_2}
 use Rattle.mqtt_flow.specs.InboundWorld.{Event as HopEvent, spared, step, after}
 use Rattle.mqtt_message.specs.declared.message.Will.{Will}
@@ -148,6 +149,15 @@ abbrev pub lost_by : Limits → MemberChoice → ℕ → ℕ → Publisher → B
 lost_by limits choice now n p b =
     let q = publisher_told (stepped limits choice now (Lost n) b) (told limits choice now (Lost n) b) p in
     record q { line = left q.line }
+
+-- ---- it gives its line up
+
+-- not while a Clean Start is carried through
+abbrev pub MayGiveUp : Link → Bool → Type 0
+MayGiveUp away clean = ⊤
+MayGiveUp asked true = ⊥
+MayGiveUp asked false = ⊤
+MayGiveUp live clean = ⊤
 
 -- ---- runs of a hop
 

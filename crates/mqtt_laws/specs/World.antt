@@ -1,5 +1,5 @@
 -- The world: a broker, any number of conforming ends and strangers, and the lines between them; what can happen (MQTT 5.0, 4.2 to 4.4).
-use Rattle.std.specs.Prelude.{ℕ, zero, suc, ◌+◌, ◌/◌, Bool, true, false, cond, not, ◌&&◌, ◌||◌, List, [], ◌∷◌, ◌++◌, length, drop, find, map, nat_eq, nat_lt, nat_le, bytes_eq, Option, Some, None, is_some, is_none, option_map, Result, Ok, Err}
+use Rattle.std.specs.Prelude.{ℕ, zero, suc, ◌+◌, Bool, true, false, cond, not, ◌&&◌, ◌||◌, List, [], ◌∷◌, ◌++◌, length, drop, find, map, nat_eq, nat_lt, nat_le, bytes_eq, Option, Some, None, is_some, is_none, option_map, Ok, Err}
 use Rattle.std.specs.List.{starts_with}
 use Rattle.mqtt_base.specs.declared.limits.TheConstants.{CLIENT_LIMIT, PACKET_LIMIT}
 use Rattle.mqtt_base.specs.declared.session.Qos.{Qos as Quality}
@@ -19,7 +19,7 @@ use Rattle.mqtt_rules.specs.declared.Limits.{Limits}
 use Rattle.mqtt_rules.specs.State.{Broker, MemberChoice, session_named}
 use Rattle.mqtt_rules.specs.Connect.{auto}
 use Rattle.mqtt_rules.specs.Piece.{Front, first_call}
-use Rattle.mqtt_rules.specs.Step.{Call, NewLine, Input, BadInput, Lost, Pump, Tick, can_link, stepped, Outcome, told, unopened, opened}
+use Rattle.mqtt_rules.specs.Step.{Call, NewLine, Input, Lost, Pump, Tick, can_link, stepped, Outcome, told, unopened, opened}
 use Rattle.mqtt_laws.specs.Lines.{Line, stands, left, gives_up, joined, restarted, told_by}
 use Rattle.mqtt_laws.specs.Ends.{Draft, Sent, shake, Publisher, new_publisher, publish_with, wire, published, publisher_reads, Wish, Back, answers, asks_for, Receiver, new_receiver, wire_back, receiver_reads, goes}
 
