@@ -1,0 +1,103 @@
+//! Laws of the world: what a publisher sees of a step of the broker is what its hop does (4.3, 4.4).
+ghost use Rattle.std.specs.Prelude.{◌≡◌, ℕ, ◌≤◌, ◌∷◌, Bool, List, Some, None, false, nat_eq, slice_get, count_by};
+ghost use Rattle.std.specs.List.{starts_with};
+ghost use Rattle.mqtt_flow.specs.Publisher.{Qos, IsExactlyOnce, completed, refused, ended, ended_1, CONNECT, PUBLISH_2, PUBREL};
+ghost use Rattle.mqtt_flow.specs.InboundWorld.{Event as HopEvent, takes, to_broker, publish, give_up, break, step, run};
+ghost use Rattle.mqtt_records.specs.declared.session.Session.{Session};
+ghost use Rattle.mqtt_rules.specs.declared.Limits.{Limits};
+ghost use Rattle.mqtt_rules.specs.State.{Line, Broker, MemberChoice};
+ghost use Rattle.mqtt_rules.specs.Connect.{auto};
+ghost use Rattle.mqtt_rules.specs.Step.{Call, Input, Lost, stepped, told};
+ghost use Rattle.mqtt_laws.specs.Lines.{gives_up};
+ghost use Rattle.mqtt_laws.specs.Ends.{Draft, Sent, shake, Publisher, wire, published, publisher_reads};
+ghost use Rattle.mqtt_laws.specs.World.{publisher_told};
+ghost use Rattle.mqtt_laws.specs.Seen.{qos_of_draft, is_linked, seen};
+ghost use Rattle.mqtt_laws.specs.Hops.{IsConnected, IsAsking, Own, IsFarCall, IsRun};
+ghost use Rattle.mqtt_laws.specs.Hops.{MayGiveUp, after_step, wire_2, hello_packet, lost_by, Becomes};
+
+/// The broker reads the first packet of a publisher's line. Whatever the limits, the routing, the queues
+/// and all other sessions and lines, what the publisher sees of it is one event of its hop (4.3.3, 4.4).
+pub fn own_packets_are_steps_of_the_hop()
+    // PUBLISH of QoS 2: new and accepted, or refused; again; above the Receive Maximum; without a topic.
+    ensures publish { (limits : Limits) (choice : MemberChoice) (now : ℕ) (p : Publisher) (rest : List Sent)
+        → (id k : ℕ) (dup : Bool) (l : Line) (s : Session) (b : Broker) (accepted : List ℕ)
+        → p.line.up ≡ shake (PUBLISH_2 id k dup) ∷ rest → IsConnected p l s b
+        → (e : HopEvent) × Becomes limits choice now (Input l.number (wire_2 p id k dup)) k p b accepted e }
+    ensures release { (limits : Limits) (choice : MemberChoice) (now : ℕ) (p : Publisher) (rest : List Sent)
+        → (id k : ℕ) (l : Line) (s : Session) (b : Broker) (accepted : List ℕ)
+        → p.line.up ≡ shake (PUBREL id) ∷ rest → IsConnected p l s b
+        → Becomes limits choice now (Input l.number (wire p.client p.contents (shake (PUBREL id)))) k p b accepted
+        (to_broker takes) }
+
+    // After either the session and the line are still its own.
+    ensures publish_stays { (limits : Limits) (choice : MemberChoice) (now : ℕ) (p : Publisher) (id k : ℕ)
+        → (dup : Bool) (l : Line) (s : Session) (b : Broker)
+        → IsConnected p l s b → Own p.client s.birth l.number b
+        → Own p.client s.birth l.number (stepped limits choice now (Input l.number (wire_2 p id k dup)) b) }
+    ensures release_stays { (limits : Limits) (choice : MemberChoice) (now : ℕ) (p : Publisher) (id : ℕ)
+        → (l : Line) (s : Session) (b : Broker) → IsConnected p l s b → Own p.client s.birth l.number b
+        → Own p.client s.birth l.number
+        (stepped limits choice now (Input l.number (wire p.client p.contents (shake (PUBREL id)))) b) }
+
+    // CONNECT without Clean Start while its session stands, which may be connected on the line given up.
+    ensures connect { (limits : Limits) (choice : MemberChoice) (now : ℕ) (p : Publisher) (rest : List Sent)
+        → (l : Line) (s : Session) (b : Broker) (accepted : List ℕ)
+        → p.line.up ≡ shake (CONNECT false) ∷ rest → IsAsking p l s b
+        → seen accepted (after_step limits choice now (Input l.number (hello_packet p)) p b)
+        (stepped limits choice now (Input l.number (hello_packet p)) b)
+        ≡ step (seen accepted p b) (to_broker takes) }
+
+    // The line is lost on both sides.
+    ensures lost { (limits : Limits) (choice : MemberChoice) (now : ℕ) (p : Publisher) (l : Line) (s : Session)
+        → (b : Broker) (accepted : List ℕ) → IsConnected p l s b
+        → seen accepted (lost_by limits choice now l.number p b)
+        (stepped limits choice now (Lost l.number) b)
+        ≡ step (seen accepted p b) break }
+{}
+
+/// A packet, a fault or a loss on another line, that is no CONNECT of this client, a new line, any pump and
+/// any tick: the publisher whose session is connected sees nothing of it, but that the line which it gave
+/// up may be closed; and the session and the line stay its own (3.1.4, 4.1).
+pub fn steps_of_others_are_unseen()
+    ensures unseen { (limits : Limits) (choice : MemberChoice) (now : ℕ) (call : Call) (p : Publisher) (l : Line)
+        → (s : Session) (b : Broker) (accepted : List ℕ)
+        → IsConnected p l s b → Own p.client s.birth l.number b
+        → starts_with nat_eq p.client auto ≡ false → IsFarCall p.client l.number call
+        → (es : List HopEvent)
+        × (seen accepted (publisher_told (stepped limits choice now call b) (told limits choice now call b) p)
+        (stepped limits choice now call b) ≡ run es (seen accepted p b)) }
+    ensures own { (limits : Limits) (choice : MemberChoice) (now : ℕ) (call : Call) (client : List ℕ) (birth n : ℕ)
+        → (b : Broker) → Own client birth n b
+        → starts_with nat_eq client auto ≡ false → IsFarCall client n call
+        → Own client birth n (stepped limits choice now call b) }
+{}
+
+/// Where what a publisher sees of the world is a run of its hop, the law of the hop holds of its messages:
+/// each of QoS 2 was accepted at most once, once if it is completed, not at all if it was refused or has
+/// not gone out; one of QoS 1 that was acknowledged at least once (4.3.2, 4.3.3).
+pub fn a_run_of_the_hop_accepts_once()
+    ensures once { (accepted : List ℕ) (p : Publisher) (b : Broker) → IsRun accepted p b → (n : ℕ)
+        → IsExactlyOnce (slice_get p.fates n) → count_by (nat_eq n) accepted ≤ 1 }
+    ensures unsent { (accepted : List ℕ) (p : Publisher) (b : Broker) → IsRun accepted p b → (n : ℕ)
+        → slice_get p.fates n ≡ None → count_by (nat_eq n) accepted ≡ 0 }
+    ensures completed { (accepted : List ℕ) (p : Publisher) (b : Broker) → IsRun accepted p b → (n : ℕ)
+        → slice_get p.fates n ≡ Some (ended completed) → count_by (nat_eq n) accepted ≡ 1 }
+    ensures refused { (accepted : List ℕ) (p : Publisher) (b : Broker) → IsRun accepted p b → (n : ℕ)
+        → slice_get p.fates n ≡ Some (ended refused) → count_by (nat_eq n) accepted ≡ 0 }
+    ensures acknowledged { (accepted : List ℕ) (p : Publisher) (b : Broker) → IsRun accepted p b → (n : ℕ)
+        → slice_get p.fates n ≡ Some (ended_1 completed) → 1 ≤ count_by (nat_eq n) accepted }
+{}
+
+/// What a publisher does and reads is what the publisher of its hop does and reads, where its line stands
+/// exactly if its session is connected there; a packet that it passes over is no event (4.3, 4.4, 4.9).
+pub fn own_doings_are_steps_of_the_hop()
+    ensures publish { (accepted : List ℕ) (b : Broker) (t : Bool) (d : Draft) (q : Qos) (p : Publisher)
+        → qos_of_draft d ≡ Some q → is_linked p.line.number b ≡ t
+        → seen accepted (published t d p) b ≡ step (seen accepted p b) (publish q) }
+    ensures gives_up { (accepted : List ℕ) (b : Broker) (p : Publisher)
+        → MayGiveUp p.line.link p.line.clean
+        → seen accepted (record p { line = gives_up p.line.link p.line }) b
+        ≡ step (seen accepted p b) give_up }
+    ensures reads { (accepted : List ℕ) (b : Broker) (t : Bool) (p : Publisher) → is_linked p.line.number b ≡ t
+        → (es : List HopEvent) × (seen accepted (publisher_reads t p.line.down p) b ≡ run es (seen accepted p b)) }
+{}
