@@ -20,7 +20,7 @@ on_line_found moment n part change l (x ∷ xs) found is = elim (cases_Bool (nat
       let first : Some x ≡ Some l = ap (λ (b : Bool). cond b (Some x) (row_at line_number n xs)) (sym here) ∙ found in
       let same : x ≡ l = cc in
       let as_found : line_changed change x ≡ line_after moment part x =
-        ap (line_changed change) same ∙ (is ∙ ap (line_after moment part) (sym same)) in
+      ap (line_changed change) same ∙ (is ∙ ap (line_after moment part) (sym same)) in
       rw here (ap (λ (y : Line). y ∷ xs) as_found)
   | inr later ↦
       let there : row_at line_number n xs ≡ Some l = ap (λ (b : Bool). cond b (Some x) (row_at line_number n xs)) (sym later) ∙ found in
@@ -49,7 +49,7 @@ pub on_ok_line : (n : ℕ) (part : LinePart) (change : LineChange) (l : Line) (s
     → Did (always (On n part ∷ [])) s new
 on_ok_line n part change l s new found is changed = record {
   is = changed ∙ did_lines n part (change_row line_number n (line_changed change) s.broker.lines) s
-    (on_line_found s.broker.now n part change l s.broker.lines found is);
+      (on_line_found s.broker.now n part change l s.broker.lines found is);
 }
 
 pub on_no_line : (n : ℕ) (part : LinePart) (s : Stepping) → row_at line_number n s.broker.lines ≡ None → Did (always (On n part ∷ [])) s s

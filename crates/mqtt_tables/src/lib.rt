@@ -3,6 +3,7 @@
 #![tactic(auto)]
 
 mod call;
+mod entering;
 mod fault;
 mod handshakes;
 mod line;

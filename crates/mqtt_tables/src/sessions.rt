@@ -13,11 +13,7 @@ use mqtt_records::{Change, Columns, Session};
 use std::alloc::AllocError;
 
 /// What a session's own row says, with the moment of its close and its expiry as told.
-fn columns(
-    session: &Session,
-    expiry: u32,
-    closed: Option<u64>,
-) -> Result<Columns, AllocError>
+fn columns(session: &Session, expiry: u32, closed: Option<u64>) -> Result<Columns, AllocError>
     ensures { IfOk result (λ row. row
         ≡ record (columns_of session.now) { expiry = expiry; closed = closed }) }
 {
