@@ -8,8 +8,10 @@ use Rattle.mqtt_message.specs.Queue.{CopyRow}
 use Rattle.mqtt_rows.specs.Order.{row_at, has_row}
 use Rattle.mqtt_records.specs.declared.records.Records.{Records}
 use Rattle.mqtt_records.specs.declared.session.Session.{Session}
+use Rattle.mqtt_records.specs.declared.session.Columns.{Columns}
+use Rattle.mqtt_message.specs.declared.message.Will.{Will}
 use Rattle.mqtt_records.specs.Records.{in_session}
-use Rattle.mqtt_records.specs.Session.{birth_of, number_of, copy_place, with_open, without_open, with_copy, without_copy, with_phase, in_phase}
+use Rattle.mqtt_records.specs.Session.{birth_of, number_of, copy_place, with_open, without_open, with_copy, without_copy, with_phase, in_phase, columns_of, with_columns, with_will}
 use Rattle.mqtt_rules.specs.State.{session_at}
 use Rattle.mqtt_rows.proofs.OrderLemmas.{remove-none, change-none}
 use Rattle.mqtt_rules.specs.Laws.{HasTables}
@@ -77,3 +79,17 @@ pub marked_same : (place : ℕ) (phase : Phase) (s : Session) → row_at copy_pl
 marked_same place phase s none =
     let same : with_phase place phase s ≡ s = ap (λ (q : List CopyRow). record s { queue = q }) (change-none copy_place place (in_phase phase) s.queue none) in
     ap (with_phase place phase) same ∙ same
+
+-- a session's own row is set, and set as it was
+pub columns_set_back : (row back : Columns) (s : Session) (r : Records) → row.birth ≡ s.birth → back ≡ columns_of s → session_at s.birth r ≡ Some s
+    → in_session back.birth (with_columns back) (in_session row.birth (with_columns row) r) ≡ r
+columns_set_back row back s r birth is found =
+    ap (λ (b : Columns). in_session b.birth (with_columns b) (in_session row.birth (with_columns row) r)) is
+    ∙ (ap (λ n. in_session s.birth (with_columns (columns_of s)) (in_session n (with_columns row) r)) birth
+    ∙ session_back (with_columns row) (with_columns (columns_of s)) s r (λ x. refl) refl found)
+
+-- a Will is dropped, and is there again
+pub will_set_back : (will : Option Will) (s : Session) (r : Records) → s.will ≡ will → session_at s.birth r ≡ Some s
+    → in_session s.birth (with_will will) (in_session s.birth (with_will None) r) ≡ r
+will_set_back will s r is found =
+    session_back (with_will None) (with_will will) s r (λ x. refl) (ap (λ (o : Option Will). record s { will = o }) (sym is)) found

@@ -149,14 +149,14 @@ pub did_part : (birth : ℕ) (part : Part) (c : Change) (x : Session) (s : Stepp
     → lines_at x.birth part s.broker.lines ≡ s.broker.lines → part_report (whose x) part ≡ None → Did (to_session birth part) s (written c s)
 did_part birth part c x s found rows lines none = record {
   is = did_row (At (whose x) part) c s (record { lines = lines; given = refl; output = refl; closing = refl }) none (rows_of_part birth part c s.broker.records x found rows)
-    ∙ ap (λ ds. did ds s) (sym (part_of birth part s.broker x found));
+      ∙ ap (λ ds. did ds s) (sym (part_of birth part s.broker x found));
 }
 
 pub did_part_told : (birth : ℕ) (part : Part) (c : Change) (y : Report) (x : Session) (s : Stepping) → session_at birth s.broker.records ≡ Some x → part_rows part x ≡ c ∷ []
     → lines_at x.birth part s.broker.lines ≡ s.broker.lines → part_report (whose x) part ≡ Some y → Did (to_session birth part) s (told y (written c s))
 did_part_told birth part c y x s found rows lines tells = record {
   is = did_row_told (At (whose x) part) c y s (record { lines = lines; given = refl; output = refl; closing = refl }) tells (rows_of_part birth part c s.broker.records x found rows)
-    ∙ ap (λ ds. did ds s) (sym (part_of birth part s.broker x found));
+      ∙ ap (λ ds. did ds s) (sym (part_of birth part s.broker x found));
 }
 
 pub did_nobody : (birth : ℕ) (part : Part) (s : Stepping) → session_at birth s.broker.records ≡ None → Did (to_session birth part) s s

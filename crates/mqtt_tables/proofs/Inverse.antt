@@ -14,10 +14,10 @@ module _ {X : Type 0} (key : X → ℕ) where
       same_rows key (remove_row key (key row) (insert_row key row xs)) xs
       (remove-ascending key (key row) (insert_row key row xs) (insert-ascending key row xs up)) up
       (λ k. row_at-remove_row key k (key row) (insert_row key row xs)
-        ∙ elim (cases_Bool (nat_eq (key row) k)) [
-          | inl asked ↦ let is : key row ≡ k = eqb-true (key row) k asked in rw asked (sym none ∙ ap (λ n. row_at key n xs) is)
-          | inr other ↦ rw other (row_at-insert_row key k row xs ∙ ap (λ (b : Bool). cond b (Some row) (row_at key k xs)) other)
-        ])
+      ∙ elim (cases_Bool (nat_eq (key row) k)) [
+        | inl asked ↦ let is : key row ≡ k = eqb-true (key row) k asked in rw asked (sym none ∙ ap (λ n. row_at key n xs) is)
+        | inr other ↦ rw other (row_at-insert_row key k row xs ∙ ap (λ (b : Bool). cond b (Some row) (row_at key k xs)) other)
+      ])
 
   pub put_back : (limit : ℕ) (row : X) (xs : List X) → IsAscending key xs → row_at key (key row) xs ≡ None → remove_row key (key row) (put_row key limit row xs) ≡ xs
   put_back limit row xs up none = elim (cases_Bool (has_row key (key row) xs || nat_lt (length xs) limit)) [
@@ -95,13 +95,13 @@ module _ {X : Type 0} (key : X → ℕ) where
       let less = remove_less k xs x found in
       let room : nat_lt (length (remove_row key k xs)) limit ≡ true = lt-ltb (length (remove_row key k xs)) limit (omega (arith, less, few)) in
       let takes : (has_row key (key x) (remove_row key k xs) || nat_lt (length (remove_row key k xs)) limit) ≡ true =
-        ap (λ b. has_row key (key x) (remove_row key k xs) || b) room ∙ or_true (has_row key (key x) (remove_row key k xs)) in
+      ap (λ b. has_row key (key x) (remove_row key k xs) || b) room ∙ or_true (has_row key (key x) (remove_row key k xs)) in
       rw takes (same_rows key (insert_row key x (remove_row key k xs)) xs
       (insert-ascending key x (remove_row key k xs) (remove-ascending key k xs up)) up
       (λ j. row_at-insert_row key j x (remove_row key k xs)
-        ∙ (ap (λ o. cond (nat_eq (key x) j) (Some x) o) (row_at-remove_row key j k xs)
-        ∙ (ap (λ n. cond (nat_eq n j) (Some x) (cond (nat_eq k j) None (row_at key j xs))) is
-        ∙ both_keys k j x (row_at key j xs) (λ same. ap (λ n. row_at key n xs) (sym (eqb-true k j same)) ∙ found)))))
+      ∙ (ap (λ o. cond (nat_eq (key x) j) (Some x) o) (row_at-remove_row key j k xs)
+      ∙ (ap (λ n. cond (nat_eq n j) (Some x) (cond (nat_eq k j) None (row_at key j xs))) is
+      ∙ both_keys k j x (row_at key j xs) (λ same. ap (λ n. row_at key n xs) (sym (eqb-true k j same)) ∙ found)))))
     where
       or_true : (b : Bool) → (b || true) ≡ true
       or_true true = refl

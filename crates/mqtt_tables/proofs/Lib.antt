@@ -3,3 +3,4 @@ pub mod Rows
 pub mod Doing
 pub mod Inverse
 pub mod Backs
+pub mod LineDeeds

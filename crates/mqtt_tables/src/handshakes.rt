@@ -14,7 +14,7 @@ use mqtt_records::{Change, Session};
 use mqtt_rules::Report;
 
 /// What is so of every session: its lists are in order and within their limits. Shows it to the prover.
-fn has_tables(session: &Session)
+pub(crate) fn has_tables(session: &Session)
     ensures { HasTables session.now }
 {
     session.inbound.as_slice();

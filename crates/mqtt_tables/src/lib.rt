@@ -3,11 +3,14 @@
 #![tactic(auto)]
 
 mod call;
+mod entering;
 mod fault;
 mod handshakes;
 mod line;
+mod lines;
 mod numbers;
 mod outputs;
+mod sessions;
 mod step;
 mod tables;
 mod undo;

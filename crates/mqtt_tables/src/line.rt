@@ -27,14 +27,15 @@ impl Model for LineState {
     ghost Value = { Line };
 
     ghost view = { λ a. record {
-        number = a.number;
-        heard = a.heard;
-        session = a.session;
-        keep_alive = a.keep_alive;
-        window = a.window;
-        largest = a.largest;
-        aliases = a.aliases.table;
-        went = a.went.items } };
+      number = a.number;
+      heard = a.heard;
+      session = a.session;
+      keep_alive = a.keep_alive;
+      window = a.window;
+      largest = a.largest;
+      aliases = a.aliases.table;
+      went = a.went.items;
+    } };
 }
 
 impl LineState {
@@ -123,7 +124,9 @@ impl Row for LineState {
 #[derive(Drop)]
 pub enum LineChange {
     /// It was heard at a moment.
-    Hear { heard: u64 },
+    Hear {
+        heard: u64,
+    },
     /// A session is connected on it, or none is.
     Greet {
         session: Option<u64>,
@@ -132,7 +135,9 @@ pub enum LineChange {
         largest: u32,
     },
     /// The places of the copies whose PUBLISH went out on it are these.
-    SetWent { went: Vec<u64> },
+    SetWent {
+        went: Vec<u64>,
+    },
 }
 
 impl Editable for LineState {

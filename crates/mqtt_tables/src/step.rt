@@ -34,13 +34,14 @@ impl Model for Step {
     ghost Value = { Stepping };
 
     ghost view = { λ a. record {
-        limits = a.limits;
-        start = a.tables.start;
-        broker = a.tables.broker;
-        rows = a.rows.items;
-        outputs = a.outputs.items;
-        closed = a.closed.items;
-        reports = a.reports.items } };
+      limits = a.limits;
+      start = a.tables.start;
+      broker = a.tables.broker;
+      rows = a.rows.items;
+      outputs = a.outputs.items;
+      closed = a.closed.items;
+      reports = a.reports.items;
+    } };
 
     ghost invariant = { λ a. IsStep a.tables.start a.tables.broker a.rows.items };
 }

@@ -14,5 +14,5 @@ invariant_of-self-2 c =
     let rows : c.push.new.self.items ≡ c.self.inside.rows.items ++ c.args.row ∷ [] = cc in
     let made : c.make.new.self ≡ become (with_change c.args.row c.self.inside.tables.broker) c.self.inside.tables = c.in_ok-make.ensures.ok in
     let within : nat_lt LAST_NUMBER (number_given c.args.row) ≡ false =
-      ap (nat_lt LAST_NUMBER) (sym c.number_given.ensures) ∙ le-ltb LAST_NUMBER c.number_given.result c.if-number_given-gt-LAST_NUMBER.false in
+    ap (nat_lt LAST_NUMBER) (sym c.number_given.ensures) ∙ le-ltb LAST_NUMBER c.number_given.result c.if-number_given-gt-LAST_NUMBER.false in
     row_more c.self.inside.tables c.make.new.self c.self.inside.rows.items c.push.new.self.items c.args.row c.self.invariant rows made within

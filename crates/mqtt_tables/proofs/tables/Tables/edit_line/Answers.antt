@@ -17,9 +17,9 @@ returns-clause-ok c =
     let pushed : c.push.new.self.items ≡ c.self.inside.journal.items ++ EditLine c.args.number c.args.undo ∷ [] = c.in_ok-push.ensures.items in
     let edited : c.edit.new.self ≡ change_row line_number c.args.number (line_changed c.args.change) ls = c.edit.ensures in
     let back : change_row line_number c.args.number (line_changed c.args.undo) c.edit.new.self ≡ ls =
-      ap (change_row line_number c.args.number (line_changed c.args.undo)) edited
-      ∙ edit_back line_number c.args.number (line_changed c.args.change) (line_changed c.args.undo) ls (number-line_changed c.args.change)
-        (subst (λ (xs : List Line). (l : Line) → row_at line_number c.args.number xs ≡ Some l → line_changed c.args.undo (line_changed c.args.change l) ≡ l) (sym here) c.requires) in
+    ap (change_row line_number c.args.number (line_changed c.args.undo)) edited
+    ∙ edit_back line_number c.args.number (line_changed c.args.change) (line_changed c.args.undo) ls (number-line_changed c.args.change)
+    (subst (λ (xs : List Line). (l : Line) → row_at line_number c.args.number xs ≡ Some l → line_changed c.args.undo (line_changed c.args.change l) ≡ l) (sym here) c.requires) in
     change_is c.self.inside.journal.items c.push.new.self.items (EditLine c.args.number c.args.undo) b (with_lines c.edit.new.self b) (with_line_changed c.args.number c.args.change b)
     pushed (ap (λ (xs : List Line). with_lines xs b) back) (ap (λ (xs : List Line). with_lines xs b) edited)
     ∙ ap (λ (v : Changing). become (with_line_changed c.args.number c.args.change v.broker) v) c.self.view_is

@@ -15,7 +15,7 @@ returns-clause-ok c =
     let pushed : c.push.new.self.items ≡ c.self.inside.journal.items ++ Make c.args.undo ∷ [] = c.in_ok-push.ensures.items in
     let made : c.change-2.new.self ≡ changed c.args.change r = c.change-2.ensures in
     let back : changed c.args.undo c.change-2.new.self ≡ r =
-      ap (changed c.args.undo) made ∙ subst (λ (x : Records). changed c.args.undo (changed c.args.change x) ≡ x) (sym here) c.requires in
+    ap (changed c.args.undo) made ∙ subst (λ (x : Records). changed c.args.undo (changed c.args.change x) ≡ x) (sym here) c.requires in
     change_is c.self.inside.journal.items c.push.new.self.items (Make c.args.undo) b (with_records c.change-2.new.self b) (with_change c.args.change b)
     pushed (ap (λ (x : Records). with_records x b) back) (ap (λ (x : Records). with_records x b) made)
     ∙ ap (λ (v : Changing). become (with_change c.args.change v.broker) v) c.self.view_is

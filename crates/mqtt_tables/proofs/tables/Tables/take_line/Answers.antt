@@ -20,7 +20,7 @@ returns-in-Some-clause-ok c =
     let pushed : c.push.new.self.items ≡ c.self.inside.journal.items ++ PutLine c.in-Some.line ∷ [] = cc in
     let rest : c.take.new.self ≡ remove_row line_number c.args.number xs = c.take.ensures.rest in
     let back = ap (λ (ys : List Line). put_row line_number LINE_LIMIT c.in-Some.line ys) rest
-      ∙ removed_back line_number LINE_LIMIT c.args.number c.in-Some.line xs c.as_slice.ensures.order (sym c.in-Some.ensures.row) c.as_slice.ensures.few in
+    ∙ removed_back line_number LINE_LIMIT c.args.number c.in-Some.line xs c.as_slice.ensures.order (sym c.in-Some.ensures.row) c.as_slice.ensures.few in
     change_is c.self.inside.journal.items c.push.new.self.items (PutLine c.in-Some.line) b (with_lines c.take.new.self b) (with_lines (remove_row line_number c.args.number xs) b)
     pushed (ap (λ (ys : List Line). with_lines ys b) back) (ap (λ (ys : List Line). with_lines ys b) rest)
     ∙ ap (λ (v : Changing). become (with_lines (remove_row line_number c.args.number v.broker.lines) v.broker) v) c.self.view_is

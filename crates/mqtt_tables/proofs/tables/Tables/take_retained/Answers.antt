@@ -22,7 +22,7 @@ returns-in-Some-clause-ok c =
     let pushed : c.push.new.self.items ≡ c.self.inside.journal.items ++ Make (PutRetained c.in-Some.kept) ∷ [] = cc in
     let rest : c.take.new.self ≡ remove_row kept_place c.args.place xs = c.take.ensures.rest in
     let back = ap (λ (ys : List RetainedMessage). put_row kept_place RETAINED_LIMIT c.in-Some.kept ys) rest
-      ∙ removed_back kept_place RETAINED_LIMIT c.args.place c.in-Some.kept xs c.as_slice.ensures.order (sym c.in-Some.ensures.row) c.as_slice.ensures.few in
+    ∙ removed_back kept_place RETAINED_LIMIT c.args.place c.in-Some.kept xs c.as_slice.ensures.order (sym c.in-Some.ensures.row) c.as_slice.ensures.few in
     change_is c.self.inside.journal.items c.push.new.self.items (Make (PutRetained c.in-Some.kept)) b (with_records (record c.self.inside.records { retained = c.take.new.self }) b) (with_change (RemoveRetained c.args.place) b)
     pushed (ap (λ (ys : List RetainedMessage). with_records (record c.self.inside.records { retained = ys }) b) back) (ap (λ (ys : List RetainedMessage). with_records (record c.self.inside.records { retained = ys }) b) rest)
     ∙ ap (λ (v : Changing). become (with_change (RemoveRetained c.args.place) v.broker) v) c.self.view_is

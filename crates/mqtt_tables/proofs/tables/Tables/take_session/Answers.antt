@@ -22,7 +22,7 @@ returns-in-Some-clause-ok c =
     let pushed : c.push.new.self.items ≡ c.self.inside.journal.items ++ PutSession c.in-Some.session ∷ [] = cc in
     let rest : c.take.new.self ≡ remove_row birth_of c.args.birth xs = c.take.ensures.rest in
     let back = ap (λ (ys : List Session). put_row birth_of SESSION_LIMIT c.in-Some.session ys) rest
-      ∙ removed_back birth_of SESSION_LIMIT c.args.birth c.in-Some.session xs c.as_slice.ensures.order (sym c.in-Some.ensures.row) c.as_slice.ensures.few in
+    ∙ removed_back birth_of SESSION_LIMIT c.args.birth c.in-Some.session xs c.as_slice.ensures.order (sym c.in-Some.ensures.row) c.as_slice.ensures.few in
     change_is c.self.inside.journal.items c.push.new.self.items (PutSession c.in-Some.session) b (with_records (record c.self.inside.records { sessions = c.take.new.self }) b) (with_change (RemoveSession c.args.birth) b)
     pushed (ap (λ (ys : List Session). with_records (record c.self.inside.records { sessions = ys }) b) back) (ap (λ (ys : List Session). with_records (record c.self.inside.records { sessions = ys }) b) rest)
     ∙ ap (λ (v : Changing). become (with_change (RemoveSession c.args.birth) v.broker) v) c.self.view_is
