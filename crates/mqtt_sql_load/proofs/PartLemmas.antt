@@ -1,5 +1,5 @@
 -- The rows of several tables and the sessions that they say.
-use Rattle.std.proofs.Common.{◌≡◌, ℕ, suc, ◌+◌, ◌<◌, ◌≤◌, List, [], ◌∷◌, ◌++◌, length, drop, get_or, refl, sym, ap, subst, ◌∙◌, append_assoc, arith}
+use Rattle.std.proofs.Common.{◌≡◌, ℕ, suc, ◌+◌, ◌<◌, List, [], ◌∷◌, ◌++◌, length, drop, get_or, refl, sym, ap, subst, ◌∙◌, append_assoc, arith}
 use Rattle.std.specs.List.{AllByRecursion}
 use Rattle.std.proofs.Math.Seq.{drop-cons}
 use Rattle.sqlite_value.specs.Order.{Row, column}
@@ -8,7 +8,7 @@ use Rattle.mqtt_records.specs.Session.{birth_of, columns_of}
 use Rattle.mqtt_rows.specs.Order.{IsAbove, IsAscending}
 use Rattle.mqtt_sql_rows.specs.Ones.{one_number}
 use Rattle.mqtt_sql_rows.specs.Rows.{SaysSession, SaysWill, SaysSubscription, SaysOpen, SaysCopy}
-use Rattle.mqtt_sql_load.specs.Lists.{IsOf, AllOf, BeginsOther, Takes, TakesAll}
+use Rattle.mqtt_sql_load.specs.Lists.{AllOf, BeginsOther, Takes, TakesAll}
 use Rattle.mqtt_sql_load.specs.Gives.{Parts, no_parts, list_of, TakesParts, AreSessions, IsWithin}
 use Rattle.mqtt_sql_load.specs.Ends.{EndsParts}
 

@@ -1,3 +1,4 @@
 pub mod Lists
 pub mod Gives
 pub mod Ends
+pub mod Tables

@@ -15,7 +15,9 @@ ghost use Rattle.mqtt_sql_load.specs.Ends.{EndsParts};
 
 use crate::lists::{part_of, will_part};
 use mqtt_base::{OPEN_LIMIT, QUEUE_LIMIT, SESSION_LIMIT, SUBSCRIPTION_LIMIT};
-use mqtt_records::{Boxed, CopyRow, KeepError, Rows, Session, Subscription, Will, newest_comes_last};
+use mqtt_records::{
+    Boxed, CopyRow, KeepError, Rows, Session, Subscription, Will, newest_comes_last,
+};
 use mqtt_sql_rows::columns_of;
 use sqlite::Row;
 use std::alloc::Global;
@@ -67,11 +69,14 @@ fn wishes_of<'a>(
         → IsList place_of SUBSCRIPTION_LIMIT all → ⊥ }
     ensures fault { IfErr result (λ e. (e ≡ KeepError.Memory) ⊎ (e ≡ KeepError.Corrupt)) }
 {
-    let (subscriptions, more) =
-        match part_of::<Boxed<Subscription>, SUBSCRIPTION_LIMIT>(alloc, birth, subscriptions) {
-            Ok(part) => part,
-            Err(fault) => return Err(fault),
-        };
+    let (subscriptions, more) = match part_of::<Boxed<Subscription>, SUBSCRIPTION_LIMIT>(
+        alloc,
+        birth,
+        subscriptions,
+    ) {
+        Ok(part) => part,
+        Err(fault) => return Err(fault),
+    };
     match will_part(alloc, birth, wills) {
         Ok((will, rest)) => Ok(((will, subscriptions), rest, more)),
         Err(fault) => {
@@ -133,14 +138,18 @@ fn session_of<'a>(
         Ok(columns) => columns,
         Err(fault) => return Err(fault),
     };
-    let ((will, subscriptions), wills, more) =
-        match wishes_of(alloc, columns.birth, parts.wills, parts.subscriptions) {
-            Ok(found) => found,
-            Err(fault) => {
-                drop(columns);
-                return Err(fault);
-            }
-        };
+    let ((will, subscriptions), wills, more) = match wishes_of(
+        alloc,
+        columns.birth,
+        parts.wills,
+        parts.subscriptions,
+    ) {
+        Ok(found) => found,
+        Err(fault) => {
+            drop(columns);
+            return Err(fault);
+        }
+    };
     match flights_of(alloc, columns.birth, parts.inbound, parts.copies) {
         Ok(((inbound, queue), opened, copies)) => {
             let session = Session {

@@ -1,8 +1,8 @@
 -- A row says one thing.
-use Rattle.std.proofs.Common.{◌≡◌, ℕ, zero, pos, Bool, true, false, List, [], refl, sym, ap, ◌∙◌, arith}
+use Rattle.std.proofs.Common.{◌≡◌, ℕ, zero, pos, Bool, true, false, List, [], ◌∷◌, refl, sym, ap, ◌∙◌, arith}
 use Rattle.std.specs.Prelude.{Option, Some, None, Result, Ok, Err}
 use Rattle.sqlite_value.specs.declared.value.Value.{Value}
-use Rattle.sqlite_value.specs.declared.value.Value.TheVariants.{Int, Text, Blob}
+use Rattle.sqlite_value.specs.declared.value.Value.TheVariants.{Null, Int, Text, Blob}
 use Rattle.sqlite_value.specs.Order.{Row}
 use Rattle.mqtt_base.specs.Service.{qos_number}
 use Rattle.mqtt_base.specs.declared.session.Cause.{Cause}
@@ -25,11 +25,14 @@ use Rattle.mqtt_props.proofs.Judged.{lawful_again}
 use Rattle.mqtt_message.specs.declared.message.Content.{Content}
 use Rattle.mqtt_message.specs.declared.message.MessageCopy.{MessageCopy}
 use Rattle.mqtt_message.specs.declared.message.RetainedMessage.{RetainedMessage}
+use Rattle.mqtt_message.specs.declared.message.Will.{Will}
 use Rattle.mqtt_message.specs.Queue.{CopyRow}
+use Rattle.mqtt_records.specs.declared.session.Columns.{Columns}
 use Rattle.mqtt_records.specs.declared.subscription.Subscription.{Subscription}
-use Rattle.mqtt_sql_rows.specs.Values.{number, flag, handling_number, or_zero, IsIdentifier}
+use Rattle.mqtt_sql_rows.specs.declared.meta.Counters.{Counters}
+use Rattle.mqtt_sql_rows.specs.Values.{number, number_or_null, flag, handling_number, or_zero, IsIdentifier}
 use Rattle.mqtt_sql_rows.specs.Blocks.{IsBlockOf, identifiers_in, SaysPassed, SaysSent}
-use Rattle.mqtt_sql_rows.specs.Rows.{SaysOptions, SaysSubscription, SaysCause, SaysId, SaysPhase, SaysSentContent, SaysMessage, SaysCopy, SaysContent, SaysRetained}
+use Rattle.mqtt_sql_rows.specs.Rows.{SaysNumbers, SaysSession, SaysOpen, SaysOptions, SaysSubscription, SaysCause, SaysId, SaysPhase, SaysSentContent, SaysMessage, SaysCopy, SaysContent, SaysRetained, SaysWill}
 
 -- ---- values
 
@@ -73,6 +76,55 @@ same_qos ExactlyOnce ExactlyOnce h = refl
 
 one_qos : (v : Value) (a b : Qos) → v ≡ number (qos_number a) → v ≡ number (qos_number b) → a ≡ b
 one_qos v a b h k = same_qos a b (one_number v (qos_number a) (qos_number b) h k)
+
+-- ---- meta
+
+abbrev counters_of : ℕ → ℕ → ℕ → ℕ → ℕ → Counters
+counters_of births publications subscribes autos moment =
+    record { births = births; publications = publications; subscribes = subscribes; autos = autos; moment = moment }
+
+same_counters : (a b c d e f g h i j : ℕ) → a ≡ b → c ≡ d → e ≡ f → g ≡ h → i ≡ j → counters_of a c e g i ≡ counters_of b d f h j
+same_counters a b c d e f g h i j p q r s t = rw (p, q, r, s, t) refl
+
+same_numbers : (x y : Counters) (autos births moment publications schema subscribes : Row) → SaysNumbers x (autos ∷ births ∷ moment ∷ publications ∷ schema ∷ subscribes ∷ []) → SaysNumbers y (autos ∷ births ∷ moment ∷ publications ∷ schema ∷ subscribes ∷ []) → x ≡ y
+same_numbers x y autos births moment publications schema subscribes h k =
+    same_counters x.births y.births x.publications y.publications x.subscribes y.subscribes x.autos y.autos x.moment y.moment
+    (one_number _ _ _ h.1.value k.1.value) (one_number _ _ _ h.3.value k.3.value) (one_number _ _ _ h.5.value k.5.value)
+    (one_number _ _ _ h.0.value k.0.value) (one_number _ _ _ h.2.value k.2.value)
+
+pub one_numbers : (x y : Counters) (rows : List Row) → SaysNumbers x rows → SaysNumbers y rows → x ≡ y
+one_numbers x y [] h k = absurd h
+one_numbers x y (a ∷ []) h k = absurd h
+one_numbers x y (a ∷ b ∷ []) h k = absurd h
+one_numbers x y (a ∷ b ∷ c ∷ []) h k = absurd h
+one_numbers x y (a ∷ b ∷ c ∷ d ∷ []) h k = absurd h
+one_numbers x y (a ∷ b ∷ c ∷ d ∷ e ∷ []) h k = absurd h
+one_numbers x y (a ∷ b ∷ c ∷ d ∷ e ∷ f ∷ []) h k = same_numbers x y a b c d e f h k
+one_numbers x y (a ∷ b ∷ c ∷ d ∷ e ∷ f ∷ g ∷ rows) h k = absurd h
+
+-- ---- session
+
+one_moment : (v : Value) (o p : Option ℕ) → v ≡ number_or_null o → v ≡ number_or_null p → o ≡ p
+one_moment v None None h k = refl
+one_moment v None (Some n) h k = let e : Null ≡ number n = sym h ∙ k in absurd cc
+one_moment v (Some n) None h k = let e : Null ≡ number n = sym k ∙ h in absurd cc
+one_moment v (Some n) (Some m) h k = ap Some (one_number v n m h k)
+
+abbrev columns_of : ℕ → List ℕ → ℕ → Option ℕ → Columns
+columns_of birth client expiry closed = record { birth = birth; client = client; expiry = expiry; closed = closed }
+
+same_columns : (a b : ℕ) (c d : List ℕ) (e f : ℕ) (g h : Option ℕ) → a ≡ b → c ≡ d → e ≡ f → g ≡ h → columns_of a c e g ≡ columns_of b d f h
+same_columns a b c d e f g h p q r s = rw (p, q, r, s) refl
+
+pub one_columns : (x y : Columns) (row : Row) → SaysSession x row → SaysSession y row → x ≡ y
+one_columns x y row h k =
+    same_columns _ _ _ _ _ _ _ _ (one_number _ _ _ h.birth k.birth) (one_text _ _ _ h.client k.client) (one_number _ _ _ h.expiry k.expiry)
+    (one_moment _ _ _ h.closed k.closed)
+
+-- ---- inbound
+
+pub one_open : (x y : ℕ) (row : Row) → SaysOpen x row → SaysOpen y row → x ≡ y
+one_open x y row h k = one_number _ x y h.identifier k.identifier
 
 -- ---- sub
 
@@ -135,6 +187,20 @@ one_sent : (ps qs : List Prop) (ids others : List ℕ) (v : Value) → SaysSent 
 one_sent ps qs ids others v h k =
     let same : h.all ≡ k.all = one_block _ _ _ v h.block k.block in
     (sym h.passed ∙ (ap (without SubscriptionIdentifier) same ∙ k.passed), sym h.identifiers ∙ (ap identifiers_in same ∙ k.identifiers))
+
+-- ---- will
+
+abbrev will_of : ℕ → Qos → Bool → List ℕ → List Prop → List ℕ → Will
+will_of delay qos retain topic properties payload =
+    record { delay = delay; qos = qos; retain = retain; topic = topic; properties = properties; payload = payload }
+
+same_will : (a b : ℕ) (c d : Qos) (e f : Bool) (g h : List ℕ) (i j : List Prop) (k l : List ℕ) → a ≡ b → c ≡ d → e ≡ f → g ≡ h → i ≡ j → k ≡ l → will_of a c e g i k ≡ will_of b d f h j l
+same_will a b c d e f g h i j k l p q r s t u = rw (p, q, r, s, t, u) refl
+
+pub one_will : (x y : Will) (row : Row) → SaysWill x row → SaysWill y row → x ≡ y
+one_will x y row h k =
+    same_will _ _ _ _ _ _ _ _ _ _ _ _ (one_number _ _ _ h.delay k.delay) (one_qos _ _ _ h.qos k.qos) (one_flag _ _ _ h.retain k.retain)
+    (one_text _ _ _ h.topic k.topic) (one_block _ _ _ _ h.properties k.properties) (one_blob _ _ _ h.payload k.payload)
 
 -- ---- retained
 

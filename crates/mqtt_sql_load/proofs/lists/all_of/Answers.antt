@@ -1,11 +1,10 @@
-use Rattle.std.proofs.Common.{◌≡◌, ℕ, ◌+◌, ◌<◌, ◌≤◌, [], ◌∷◌, ◌++◌, List, length, take, drop, refl, sym, ap, subst, ◌∙◌, arith}
+use Rattle.std.proofs.Common.{◌≡◌, ◌+◌, ◌<◌, [], ◌∷◌, ◌++◌, List, length, take, drop, sym, ap, subst, ◌∙◌, arith}
 use Rattle.std.specs.Prelude.{Err}
 use Rattle.mqtt_records.specs.declared.keep.KeepError.{KeepError}
 use Rattle.std.proofs.lemmas.List.{length-take-le, take_all}
 use Rattle.sqlite_value.specs.Order.{Row}
-use Rattle.mqtt_rows.specs.Order.{IsBelow, put_row}
 use Rattle.mqtt_sql_load.specs.Lists.{AreRows}
-use Rattle.mqtt_sql_load.proofs.ListLemmas.{are_more, are_at, same_length, last_from, last_push, below_push, below_less, above_zero, ascending_push, rises, seam}
+use Rattle.mqtt_sql_load.proofs.ListLemmas.{are_more, are_at, same_length, last_push, below_push, below_less, above_zero, ascending_push, rises, seam}
 use Rattle.mqtt_sql_load.proofs.lists.all_of.Goals as goal
 
 pub returns-then-rows-clause-err : goal.returns-then-rows-clause-err

@@ -1,6 +1,5 @@
 use Rattle.std.proofs.Common.{◌≡◌, ℕ, ◌+◌, ◌<◌, List, [], ◌∷◌, ◌++◌, length, length-append, append-nil, drop, refl, sym, ap, subst, ◌∙◌, arith}
 use Rattle.std.specs.Prelude.{Err}
-use Rattle.std.specs.List.{AllByRecursion}
 use Rattle.std.proofs.lemmas.List.{drop_all}
 use Rattle.sqlite_value.specs.Order.{Row}
 use Rattle.mqtt_base.specs.declared.limits.TheConstants.{SESSION_LIMIT}
@@ -9,9 +8,9 @@ use Rattle.mqtt_records.specs.declared.session.Session.{Session}
 use Rattle.mqtt_records.specs.Session.{birth_of}
 use Rattle.mqtt_rows.specs.Order.{put_row}
 use Rattle.mqtt_sql_rows.specs.Ones.{one_number}
-use Rattle.mqtt_sql_load.specs.Gives.{Parts, no_parts, AreSessions, IsWithin}
+use Rattle.mqtt_sql_load.specs.Gives.{no_parts, AreSessions, IsWithin}
 use Rattle.mqtt_sql_load.proofs.ListLemmas.{below_less, below_push, ascending_push}
-use Rattle.mqtt_sql_load.proofs.PartLemmas.{Left, all_push, first_of_left, left_more, left_none, above_none, as_many, drop_is, sound_more}
+use Rattle.mqtt_sql_load.proofs.PartLemmas.{Left, all_push, first_of_left, left_more, above_none, as_many, drop_is, sound_more}
 use Rattle.mqtt_sql_load.proofs.sessions.sessions_of.Goals as goal
 
 pub returns-then-rows-gt-SESSION_LIMIT-clause-err : goal.returns-then-rows-gt-SESSION_LIMIT-clause-err
