@@ -187,6 +187,7 @@ pub fn publish_row(
 ) -> Result<Bytes, AllocError>
     ensures { IfOk result (λ bytes. bytes ≡ shortest_of (publish_of now dup identifier row.now.copy)) }
 {
+    // This shows that the copy's PUBLISH has a spelling.
     let _spelled = row.size();
     publish(alloc, now, dup, identifier, row.copy())
 }
