@@ -5,7 +5,7 @@ use Rattle.mqtt_cli.proofs.Lines.{views_start, views_next, fed_next, front_of, v
 use Rattle.mqtt_cli.proofs.viewer.view_by.Goals as goal
 
 pub loop-init : goal.loop-init
-loop-init g c = views_start _ _ _ _ c.new-framer.ensures
+loop-init g c = views_start _ _ _ _ c.requires.start
 
 pub returns-in-Err-2-clause-err : goal.returns-in-Err-2-clause-err
 returns-in-Err-2-clause-err g c = λ n. front_of _ _ _ _ _ _ _ c.loop.invariant.so_far (Keeps-refl _)
