@@ -1,7 +1,7 @@
 -- A tree of four filters, walked by names (MQTT 5.0, 4.7).
 use Rattle.std.proofs.Common.{◌≡◌, ℕ, List, [], ◌∷◌, refl, Some, None}
 use Rattle.std.specs.Prelude.{codes}
-use Rattle.mqtt_tree.specs.Tree.{Node, no_node, walk_name}
+use Rattle.mqtt_tree.specs.Tree.{Node, walk_name}
 
 -- the root with `#`, which is 3; `a`; behind it `+`, which is 2, and `b`, which is 1; and `+` with `#`, which is 4
 abbrev four : List (Node ℕ)

@@ -1,16 +1,16 @@
 -- A walk from the root finds what matches a name.
-use Rattle.std.proofs.Common.{◌≡◌, ℕ, ◌+◌, Bool, true, false, cond, not, ◌&&◌, ◌||◌, List, [], ◌∷◌, nat_eq, refl, sym, ap, subst, ◌∙◌, arith, bytes_eq, Option, Some, None}
+use Rattle.std.proofs.Common.{◌≡◌, ℕ, Bool, true, false, cond, not, ◌&&◌, ◌||◌, List, [], ◌∷◌, nat_eq, refl, sym, ap, ◌∙◌, arith, bytes_eq, Some}
 use Rattle.std.specs.List.{count_by, onto_first}
 use Rattle.std.proofs.lemmas.Bool.Decides.{nat_tests}
 use Rattle.std.proofs.lemmas.Slice.Eq.{bytes_eq-Decides}
 use Rattle.mqtt_topic.specs.Names.{plus, hash, is_wildcard, has_wildcard}
 use Rattle.mqtt_topic.specs.Levels.{is_slash, levels, is_none_left}
-use Rattle.mqtt_topic.specs.Filters.{is_plus, is_hash, is_filter_level, are_filter_levels, is_filter}
+use Rattle.mqtt_topic.specs.Filters.{is_plus, is_hash, is_filter_level, are_filter_levels}
 use Rattle.mqtt_topic.specs.Matching.{dollar, is_first, matches_levels, is_match}
 use Rattle.mqtt_topic.proofs.LevelLemmas.{is_none_left-levels}
 use Rattle.mqtt_topic.proofs.MatchLemmas.{are_filter_levels-of}
-use Rattle.mqtt_tree.specs.Tree.{Node, Planted, Filed, planted, AreFiled, AreFilters, ArePlain, Holds, items_where, items_for, walk, walk_first, walk_name, child, node}
-use Rattle.mqtt_tree.proofs.WalkLemmas.{worth, where_by, part, tails, tail_by, count-tails, false_by, no_hash, no_plus, apart, holds_own, filters-tails, found}
+use Rattle.mqtt_tree.specs.Tree.{Node, Filed, planted, AreFiled, AreFilters, ArePlain, Holds, items_where, items_for, walk_first, walk_name, child, node}
+use Rattle.mqtt_tree.proofs.WalkLemmas.{worth, where_by, part, tails, count-tails, false_by, no_hash, no_plus, apart, holds_own, filters-tails, found}
 
 or_parts : (a b : Bool) → (a || b) ≡ false → (a ≡ false) × (b ≡ false)
 or_parts true b h = cc
