@@ -99,9 +99,7 @@ fn view_by<R: Read, W: Write>(
             Err(_) => return Err(ViewFault::Read),
         };
         if count == 0 {
-            let left = framer.held();
-            write_rest(alloc, writer, framer.place(), left)?;
-            return Ok(status_of(left));
+            return end_view(alloc, writer, framer);
         }
         let piece = &chunk[..count];
         if let Some((fault, place)) = write_packets(alloc, framer, piece, writer, payload)? {
@@ -110,6 +108,20 @@ fn view_by<R: Read, W: Write>(
         }
     }
     Err(ViewFault::Read)
+}
+
+/// Writes the line of what is left at the end of the input, and tells how the stream ended.
+fn end_view<W: Write>(alloc: Global, writer: &mut W, framer: &Framer) -> Result<Status, ViewFault>
+    ensures ok { OnOk result (Appends (W.contents writer.old) (W.contents writer.new)
+        (rest_line framer.now.place (length framer.now.held))) }
+    ensures status { IfOk result (λ status. status
+        ≡ (if length framer.now.held == 0 then Status.Whole else Status.Faulty)) }
+    ensures memory { IfErr result (λ e. e ≢ ViewFault.Write
+        → Keeps (W.contents writer.old) (W.contents writer.new)) }
+{
+    let left = framer.held();
+    write_rest(alloc, writer, framer.place(), left)?;
+    Ok(status_of(left))
 }
 
 /// Takes the next bytes of the stream, and writes a line for each packet that is whole then. The
