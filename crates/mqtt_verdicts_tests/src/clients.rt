@@ -3,7 +3,9 @@
 use mqtt_base::{Blob, Qos, Text};
 use mqtt_codec::{Connect, Will};
 use mqtt_props::{PropFault, PropList, PropName, PropRef, ValueRef};
-use mqtt_verdicts::{expiry_of, fresh_columns, largest_of, refusal, will_of, window_of};
+use mqtt_verdicts::{
+    assigned_name, expiry_of, fresh_columns, largest_of, refusal, takes_refusal, will_of, window_of,
+};
 use std::alloc::{AllocError, Global};
 use std::process::Abort;
 use std::test::Fail;
@@ -151,5 +153,26 @@ fn a_will_has_a_topic_name(rt: HostRuntime) -> Result<(), Fail> {
     };
     assert_eq!(rt; delay, 10);
     drop(kept);
+    Ok(())
+}
+
+#[test]
+fn the_first_name_is_auto_1(rt: HostRuntime) -> Result<(), Fail> {
+    let name = assigned_name(rt.alloc(), 1)?;
+    assert_eq!(rt; name.as_str(), "auto-1");
+    drop(name);
+    Ok(())
+}
+
+#[test]
+fn a_refusal_has_five_bytes(rt: HostRuntime) -> Result<(), Fail> {
+    let alloc = rt.alloc();
+    let name = PropName::MaximumPacketSize;
+    let five = connect(alloc, "c", one(alloc, name, ValueRef::U32(5))?, None)?;
+    assert!(rt; takes_refusal(&five), "five bytes are taken");
+    drop(five);
+    let four = connect(alloc, "c", one(alloc, name, ValueRef::U32(4))?, None)?;
+    assert!(rt; !takes_refusal(&four), "four are too few");
+    drop(four);
     Ok(())
 }

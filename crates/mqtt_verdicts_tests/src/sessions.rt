@@ -6,8 +6,9 @@ use mqtt_message::{Content, PassedOn, RetainedMessage, Will};
 use mqtt_props::{PropList, PropName, PropRef, ValueRef};
 use mqtt_records::{Boxed, Rows, Session, Subscription};
 use mqtt_verdicts::{
-    end_due, has_due_end, has_due_will, has_filter, has_lapsed, is_brought, is_expired, is_settled,
-    is_stale, place_among, retained_copy, seconds_waited, will_due,
+    end_due, expiry_due, has_due_end, has_due_will, has_filter, has_lapsed, is_brought, is_expired,
+    is_new, is_settled, is_stale, place_among, retained_copy, seconds_waited, settling_due,
+    subscription_of, will_due,
 };
 use std::alloc::{AllocError, Global};
 use std::process::Abort;
@@ -67,6 +68,7 @@ fn a_closed_session_is_settled_until_then(rt: HostRuntime) -> Result<(), Fail> {
     let closed = session(alloc, Some(0), None)?;
     assert!(rt; is_settled(4_999, &closed), "a millisecond before");
     assert!(rt; !is_settled(5_000, &closed), "it ends");
+    assert_eq!(rt; settling_due(&closed), Some(5_000));
     assert!(rt; has_due_end(5_000, &closed), "its end is due");
     assert!(rt; !has_due_will(5_000, &closed), "it has no Will");
     assert!(rt; !has_lapsed(5_000, &closed), "nothing is queued");
@@ -124,6 +126,7 @@ fn a_retained_message_is_brought_until_it_expires(rt: HostRuntime) -> Result<(),
     let alloc = rt.alloc();
     let kept = kept(alloc)?;
     assert_eq!(rt; seconds_waited(4_999, &kept.content), 4);
+    assert_eq!(rt; expiry_due(&kept.content), Some(5_000));
     assert!(rt; !is_expired(4_999, &kept.content), "a millisecond before");
     assert!(rt; is_stale(5_000, &kept), "after five seconds");
     let session = session(alloc, None, None)?;
@@ -148,6 +151,8 @@ fn a_retained_copy_has_the_lesser_quality(rt: HostRuntime) -> Result<(), Fail> {
     drop(kept);
     let copy = copy?;
     assert_eq!(rt; copy.qos, Qos::AtLeastOnce);
+    assert!(rt; is_new(3, 1, &copy), "its subscribe is new");
+    assert!(rt; !is_new(3, 2, &copy), "it was made before");
     assert!(rt; copy.retain, "it was retained");
     assert_eq!(rt; copy.identifiers.as_slice(), [7].as_slice());
     drop(copy);
@@ -170,5 +175,18 @@ fn a_filter_keeps_its_place(rt: HostRuntime) -> Result<(), Fail> {
     assert_eq!(rt; place_among(9, "a/#", &session), 4);
     assert_eq!(rt; place_among(9, "a/b", &session), 9);
     drop(session);
+    Ok(())
+}
+
+#[test]
+fn a_new_filter_takes_its_number(rt: HostRuntime) -> Result<(), Fail> {
+    let alloc = rt.alloc();
+    let session = session(alloc, None, None)?;
+    let filter = text(alloc, "a/b")?;
+    let subscription = subscription_of(9, &session, filter, OPTIONS, Some(7));
+    drop(session);
+    assert_eq!(rt; subscription.place, 9);
+    assert_eq!(rt; subscription.identifier, Some(7));
+    drop(subscription);
     Ok(())
 }
