@@ -5,7 +5,7 @@ use Rattle.std.proofs.lemmas.Bool.{eqb-true, cases_Bool}
 use Rattle.std.proofs.lemmas.Slice.Eq.{bytes_eq-Decides}
 use Rattle.std.specs.Prelude.{⊤, suc, nat_lt, nat_le, decimal, ◌*◌, flat_map, find}
 use Rattle.mqtt_base.specs.declared.session.Ending.TheVariants.{SessionEnded}
-use Rattle.mqtt_codec.specs.declared.connect.Connect.{Connect as Greeting}
+use Rattle.mqtt_connect.specs.declared.connect.Connect.{Connect as Greeting}
 use Rattle.mqtt_topic.specs.Names.{is_empty}
 use Rattle.mqtt_flow.specs.declared.entry.Turn.{Turn}
 use Rattle.mqtt_flow.specs.declared.entry.Turn.TheVariants as turns

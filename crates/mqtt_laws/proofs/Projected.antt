@@ -2,7 +2,7 @@
 use Rattle.std.proofs.Common.{◌≡◌, ℕ, ◌≤◌, List, Some, None, count_by, nat_eq, slice_get, sym, subst}
 use Rattle.mqtt_flow.specs.Publisher.{IsExactlyOnce, completed, refused, ended, ended_1}
 use Rattle.mqtt_flow.specs.InboundWorld.{World as Hop, Event as HopEvent, after, fate_of, accepted_count}
-use Rattle.mqtt_flow.proofs.inbound.Runs.{is_good, once, unsent_is, ended_is, ended_1_is}
+use Rattle.mqtt_inbound.proofs.inbound.Runs.{is_good, once, unsent_is, ended_is, ended_1_is}
 use Rattle.mqtt_rules.specs.State.{Broker}
 use Rattle.mqtt_laws.specs.Ends.{Publisher}
 use Rattle.mqtt_laws.specs.Seen.{seen}

@@ -9,10 +9,10 @@ use Rattle.mqtt_codec.specs.declared.publish.Delivery.TheVariants as delivery
 use Rattle.mqtt_codec.specs.declared.publish.Publish.{Publish as Publication}
 use Rattle.mqtt_topic.specs.Names.{is_empty}
 use Rattle.mqtt_base.specs.declared.limits.TheConstants.{OPEN_LIMIT}
-use Rattle.mqtt_flow.specs.declared.inflow.Published.{Published}
-use Rattle.mqtt_flow.specs.declared.inflow.Published.TheVariants.{New, Again, Over}
-use Rattle.mqtt_flow.specs.declared.inflow.ReleaseAnswer.{ReleaseAnswer}
-use Rattle.mqtt_flow.specs.declared.inflow.ReleaseAnswer.TheVariants.{Known, Unknown}
+use Rattle.mqtt_inbound.specs.declared.inflow.Published.{Published}
+use Rattle.mqtt_inbound.specs.declared.inflow.Published.TheVariants.{New, Again, Over}
+use Rattle.mqtt_inbound.specs.declared.inflow.ReleaseAnswer.{ReleaseAnswer}
+use Rattle.mqtt_inbound.specs.declared.inflow.ReleaseAnswer.TheVariants.{Known, Unknown}
 use Rattle.mqtt_base.specs.Codes.{success, no_matching_subscribers, quota_exceeded, receive_maximum_exceeded}
 use Rattle.mqtt_flow.specs.Identifiers.{is_among, ids_with, ids_without}
 use Rattle.mqtt_flow.specs.Inbound.{answer_to, answer_to_release, ids_on, open_after}

@@ -115,8 +115,10 @@ pub fn unsuback(alloc: Global, identifier: u16, codes: &[u8]) -> Result<Bytes, A
 /// How many bytes the SUBACK, and the UNSUBACK, to so many filters takes (3.9, 3.11). Takes no memory.
 pub fn suback_len(filters: usize) -> usize
     requires { filters + 3 < 2 ^ 28 }
-    ensures suback { (id : ℕ) (codes : List ℕ) → length codes ≡ filters → result ≡ size_of (suback id codes) }
-    ensures unsuback { (id : ℕ) (codes : List ℕ) → length codes ≡ filters → result ≡ size_of (unsuback id codes) }
+    ensures suback { (id : ℕ) (codes : List ℕ) → length codes ≡ filters
+        → result ≡ size_of (suback id codes) }
+    ensures unsuback { (id : ℕ) (codes : List ℕ) → length codes ≡ filters
+        → result ≡ size_of (unsuback id codes) }
 {
     let remaining = 3 + filters;
     1 + varint_len(remaining as u32) + remaining

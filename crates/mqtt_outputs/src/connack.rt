@@ -43,7 +43,11 @@ fn granted_push(out: &mut Vec<u8>) -> Result<(), AllocError>
 /// Writes the body of a CONNACK 00 without an assigned client identifier at the end.
 fn body_push(out: &mut Vec<u8>, session_present: bool) -> Result<(), AllocError>
     ensures { OnOk result (out.new.items
-        ≡ out.old.items ++ connack_body (record { session_present = session_present; reason = reason success; properties = connack_properties false [] })) }
+        ≡ out.old.items ++ connack_body (record {
+          session_present = session_present;
+          reason = reason success;
+          properties = connack_properties false [];
+        })) }
 {
     out.push(u8::from(session_present))?;
     out.push(0)?;
@@ -54,7 +58,8 @@ fn body_push(out: &mut Vec<u8>, session_present: bool) -> Result<(), AllocError>
 /// CONNACK 00 with what the broker grants, for a client that named itself (3.2.2.1.1, 3.2.2.3).
 #[tactic(auto, unfolding(mqtt_base::specs::Values::varint))]
 pub fn connack_granted(alloc: Global, session_present: bool) -> Result<Bytes, AllocError>
-    ensures { IfOk result (λ bytes. bytes ≡ shortest_of (connack session_present success (connack_properties false []))) }
+    ensures { IfOk result (λ bytes. bytes
+        ≡ shortest_of (connack session_present success (connack_properties false []))) }
 {
     let mut out = frame_begin(alloc, 0x20, 3 + GRANTED_LEN)?;
     let written = body_push(&mut out, session_present);
@@ -66,7 +71,11 @@ fn named_push(out: &mut Vec<u8>, client: &str, pairs: usize) -> Result<(), Alloc
     requires fits { length client.now < 2 ^ 16 }
     requires pairs { pairs ≡ length (props (connack_properties true client.now)) }
     ensures { OnOk result (out.new.items
-        ≡ out.old.items ++ connack_body (record { session_present = false; reason = reason success; properties = connack_properties true client.now })) }
+        ≡ out.old.items ++ connack_body (record {
+          session_present = false;
+          reason = reason success;
+          properties = connack_properties true client.now;
+        })) }
 {
     out.push(0)?;
     out.push(0)?;
@@ -78,7 +87,8 @@ fn named_push(out: &mut Vec<u8>, client: &str, pairs: usize) -> Result<(), Alloc
 
 /// CONNACK 00 with what the broker grants, and the client identifier that it assigned (3.2.2.3.7).
 pub fn connack_assigned(alloc: Global, client: &Text) -> Result<Bytes, AllocError>
-    ensures { IfOk result (λ bytes. bytes ≡ shortest_of (connack false success (connack_properties true client.now))) }
+    ensures { IfOk result (λ bytes. bytes
+        ≡ shortest_of (connack false success (connack_properties true client.now))) }
 {
     let client = client.as_str();
     let pairs = 3 + client.len() + GRANTED_LEN;

@@ -37,9 +37,18 @@ fn passed(alloc: Global, expiry: Option<u32>, has_user: bool) -> Result<PassedOn
     Ok(passed?)
 }
 
+/// The topic of each copy.
+fn topic(alloc: Global) -> Result<Text, AllocError> {
+    let text = "a/b";
+    if !Text::may_hold(text) {
+        return Err(AllocError);
+    }
+    Text::new(alloc, text)
+}
+
 /// `hi` to `a/b`, accepted at the first moment.
 fn content(alloc: Global, properties: PassedOn) -> Result<Content, AllocError> {
-    let topic = Text::new(alloc, "a/b")?;
+    let topic = topic(alloc)?;
     match Bytes::copy_from_slice(alloc, b"hi") {
         Ok(payload) => Ok(Content {
             topic,

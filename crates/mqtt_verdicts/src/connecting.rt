@@ -1,10 +1,10 @@
 //! CONNECT: its refusals, and what is kept of it (3.1, 3.2.2.2).
-ghost use Rattle.std.specs.Prelude.{◌≡◌, nat_eq, IfOk, is_some, option_map};
+ghost use Rattle.std.specs.Prelude.{◌≡◌, ◌++◌, nat_eq, nat_lt, not, decimal, IfOk, is_some, option_map};
 ghost use Rattle.std.specs.List.{starts_with};
 ghost use Rattle.mqtt_topic.specs.Names.{has_wildcard, is_topic_name};
 ghost use Rattle.mqtt_records.specs.declared.records.Records.{Records};
 ghost use Rattle.mqtt_rules.specs.State.{session_named};
-ghost use Rattle.mqtt_rules.specs.Connect.{auto, expiry_of, fresh_row, has_bad_topic, largest_of, refusal, will_kept, will_of, window_of};
+ghost use Rattle.mqtt_rules.specs.Connect.{auto, expiry_of, fresh_row, has_bad_topic, largest_of, refusal, refusal_size, will_kept, will_of, window_of};
 
 use crate::numbers::{number_at, u16_at};
 use mqtt_base::{CLIENT_LIMIT, Reason, Text};
@@ -12,10 +12,13 @@ use mqtt_codec::{Connect, Will as WillAsked};
 use mqtt_message::Will;
 use mqtt_props::PropName;
 use mqtt_records::Columns;
-use std::alloc::AllocError;
+use std::alloc::{AllocError, Global};
 
 /// Bytes: the smallest Maximum Packet Size that the broker takes (ours).
 const LEAST_PACKET_SIZE: u32 = 64;
+
+/// Bytes of a CONNACK that refuses (3.2).
+const REFUSAL_SIZE: u32 = 5;
 
 /// The client's Receive Maximum, 65,535 where it sent none (3.1.2.11.3). Takes no memory.
 pub fn window_of(connect: &Connect) -> u16
@@ -136,4 +139,21 @@ pub fn fresh_columns(birth: u64, client: &Text, connect: &Connect) -> Result<Col
         expiry: expiry_of(connect),
         closed: None,
     })
+}
+
+/// Whether the client takes the five bytes of a CONNACK that refuses it (3.1.2.11.4). Takes no memory.
+pub fn takes_refusal(connect: &Connect) -> bool
+    ensures { result ≡ not (nat_lt (largest_of connect.now) refusal_size) }
+{
+    largest_of(connect) >= REFUSAL_SIZE
+}
+
+/// The client identifier that the broker assigns under a number (3.1.3.1).
+pub fn assigned_name(alloc: Global, number: u64) -> Result<Text, AllocError>
+    ensures { IfOk result (λ name. name ≡ auto ++ decimal number) }
+{
+    let text = format!(in alloc; "auto-{number}")?;
+    let name = Text::new(alloc, text.as_str());
+    drop(text);
+    name
 }

@@ -2,10 +2,12 @@
 ghost use Rattle.std.specs.Prelude.{◌≡◌, min, IfOk};
 ghost use Rattle.mqtt_codec.specs.Heads.{qos_number};
 ghost use Rattle.mqtt_rules.specs.Packets.{quality};
-ghost use Rattle.mqtt_rules.specs.Subscribe.{Wish, has_filter, identifiers_of, is_brought, is_to, place_among, retained_copy, wants_retained};
+ghost use Rattle.mqtt_rules.specs.Subscribe.{Wish, has_filter, identifiers_of, is_brought, is_to, place_among, retained_copy, subscription, wants_retained};
+ghost use Rattle.mqtt_rules.specs.Outbound.{is_new};
+ghost use Rattle.mqtt_records.specs.declared.records.Records.{Records};
 
 use crate::moments::is_expired;
-use mqtt_base::{Cause, CopyId, Qos, RetainHandling, SubscriptionOptions};
+use mqtt_base::{Cause, CopyId, Qos, RetainHandling, SubscriptionOptions, Text};
 use mqtt_message::{MessageCopy, RetainedMessage, SubscriptionIdentifiers};
 use mqtt_records::{Session, Subscription};
 use std::alloc::{AllocError, Global};
@@ -117,4 +119,36 @@ pub fn retained_copy(
         identifiers: identifiers_of(alloc, identifier)?,
         content: kept.content.clone()?,
     })
+}
+
+/// The subscription of a session to a filter that is granted under a number (3.8.4). Takes no memory.
+pub fn subscription_of(
+    number: u64,
+    session: &Session,
+    filter: Text,
+    options: SubscriptionOptions,
+    identifier: Option<u32>,
+) -> Subscription
+    ensures { (w : Wish) → w.filter ≡ filter → w.options ≡ options → w.identifier ≡ identifier
+        → result ≡ subscription number session.now w }
+{
+    let place = place_among(number, filter.as_str(), session);
+    Subscription {
+        filter,
+        place,
+        options,
+        identifier,
+    }
+}
+
+/// Whether a copy was made in the step that began with these two numbers as the newest. Takes no memory.
+pub fn is_new(publications: u64, subscribes: u64, copy: &MessageCopy) -> bool
+    ensures { (start : Records) → start.publications ≡ publications → start.subscribes ≡ subscribes
+        → result ≡ is_new start copy.now }
+{
+    let is_new_cause = match &copy.id.cause {
+        Cause::Direct | Cause::Share { .. } => false,
+        Cause::Retained { subscribe } => subscribes < *subscribe,
+    };
+    publications < copy.id.publication || is_new_cause
 }

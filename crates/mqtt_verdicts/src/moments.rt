@@ -1,5 +1,6 @@
 //! Moments in milliseconds: their sums, what is due, what has expired (3.1.2.10, 3.3.2.3.3).
-ghost use Rattle.std.specs.Prelude.{◌≡◌, ℕ, Option, is_some};
+ghost use Rattle.std.specs.Prelude.{◌≡◌, ◌≤◌, ℕ, Option, is_some};
+ghost use Rattle.mqtt_base.specs.declared.limits.TheConstants.{LAST_NUMBER};
 ghost use Rattle.mqtt_message.specs.PassedOn.{number_at};
 ghost use Rattle.mqtt_rules.specs.Packets.{is_expired, seconds_waited};
 ghost use Rattle.mqtt_rules.specs.State.{Line, capped, later};
@@ -50,6 +51,18 @@ pub fn is_expired(now: u64, content: &Content) -> bool
     match number_at(&list, PropName::MessageExpiryInterval) {
         Some(interval) => u64::from(interval) <= seconds_waited(now, content),
         None => false,
+    }
+}
+
+/// When its Message Expiry Interval has passed, never without one (3.3.2.3.3). Takes no memory.
+pub fn expiry_due(content: &Content) -> Option<u64>
+    ensures { (now : ℕ) → now ≤ LAST_NUMBER → is_due now result ≡ is_expired now content.now }
+{
+    let list = content.properties.lend();
+    match number_at(&list, PropName::MessageExpiryInterval) {
+        Some(0) => Some(0),
+        Some(interval) => Some(content.arrived.saturating_add(1_000 * u64::from(interval))),
+        None => None,
     }
 }
 

@@ -1,8 +1,8 @@
 //! When a session's Will and its end are due, and whether copies have expired (3.1.2.11.2, 3.1.3.2.2).
-ghost use Rattle.std.specs.Prelude.{◌≡◌, ◌||◌, ◌&&◌, not, [], Some, IsTrue};
+ghost use Rattle.std.specs.Prelude.{◌≡◌, ◌||◌, ◌&&◌, not, [], ℕ, Some, IsTrue};
 ghost use Rattle.std.specs.List.{list_any};
 ghost use Rattle.mqtt_rules.specs.State.{Broker, Env, session_at};
-ghost use Rattle.mqtt_rules.specs.Closing.{end_due, earlier, will_due, has_due_will, has_due_end, settle};
+ghost use Rattle.mqtt_rules.specs.Closing.{is_due, end_due, earlier, will_due, has_due_will, has_due_end, settle};
 ghost use Rattle.mqtt_rules.specs.Tick.{has_lapsed};
 ghost use Rattle.mqtt_verdicts.specs.Verdicts.{is_lapsed};
 
@@ -62,6 +62,17 @@ pub fn has_due_end(now: u64, session: &Session) -> bool
     ensures { result ≡ has_due_end now session.now }
 {
     is_due(now, end_due(session.closed, session.expiry))
+}
+
+/// When a session is to be settled: when its Will or its end is due. Takes no memory.
+pub fn settling_due(session: &Session) -> Option<u64>
+    ensures { (now : ℕ) → is_due now result ≡ (has_due_will now session.now || has_due_end now session.now) }
+{
+    let end = end_due(session.closed, session.expiry);
+    match will_due(session.closed, session.expiry, &session.will) {
+        Some(will) => Some(earlier(will, end)),
+        None => end,
+    }
 }
 
 /// Whether neither a Will nor the end of a session is due, so that settling it does nothing. Takes no

@@ -3,7 +3,10 @@
 use mqtt_base::{Blob, Qos, Text};
 use mqtt_codec::{Connect, Will};
 use mqtt_props::{PropFault, PropList, PropName, PropRef, ValueRef};
-use mqtt_verdicts::{expiry_of, fresh_columns, largest_of, refusal, will_of, window_of};
+use mqtt_records::Columns;
+use mqtt_verdicts::{
+    assigned_name, expiry_of, fresh_columns, largest_of, refusal, takes_refusal, will_of, window_of,
+};
 use std::alloc::{AllocError, Global};
 use std::process::Abort;
 use std::test::Fail;
@@ -100,20 +103,37 @@ fn packets_of_64_bytes_are_taken(rt: HostRuntime) -> Result<(), Fail> {
 
 #[test]
 fn what_is_absent_has_its_default(rt: HostRuntime) -> Result<(), Fail> {
-    let alloc = rt.alloc();
-    let plain = connect(alloc, "c", PropList::new(), None)?;
+    let plain = connect(rt.alloc(), "c", PropList::new(), None)?;
     assert_eq!(rt; window_of(&plain), 65_535);
     assert_eq!(rt; expiry_of(&plain), 0);
     drop(plain);
+    Ok(())
+}
+
+#[test]
+fn a_window_of_one_is_told(rt: HostRuntime) -> Result<(), Fail> {
+    let alloc = rt.alloc();
     let list = one(alloc, PropName::ReceiveMaximum, ValueRef::U16(1))?;
     let narrow = connect(alloc, "c", list, None)?;
     assert_eq!(rt; window_of(&narrow), 1);
     drop(narrow);
+    Ok(())
+}
+
+/// The row that a CONNECT begins, as the seventh birth of `c`.
+fn seventh(alloc: Global, connect: &Connect) -> Result<Columns, AllocError> {
+    let client = text(alloc, "c")?;
+    let row = fresh_columns(7, &client, connect);
+    drop(client);
+    row
+}
+
+#[test]
+fn a_session_begins_with_its_interval(rt: HostRuntime) -> Result<(), Fail> {
+    let alloc = rt.alloc();
     let list = one(alloc, PropName::SessionExpiryInterval, ValueRef::U32(5))?;
     let lasting = connect(alloc, "c", list, None)?;
-    let client = text(alloc, "c")?;
-    let row = fresh_columns(7, &client, &lasting);
-    drop(client);
+    let row = seventh(alloc, &lasting);
     drop(lasting);
     let row = row?;
     assert_eq!(rt; row.birth, 7);
@@ -151,5 +171,26 @@ fn a_will_has_a_topic_name(rt: HostRuntime) -> Result<(), Fail> {
     };
     assert_eq!(rt; delay, 10);
     drop(kept);
+    Ok(())
+}
+
+#[test]
+fn the_first_name_is_auto_1(rt: HostRuntime) -> Result<(), Fail> {
+    let name = assigned_name(rt.alloc(), 1)?;
+    assert_eq!(rt; name.as_str(), "auto-1");
+    drop(name);
+    Ok(())
+}
+
+#[test]
+fn a_refusal_has_five_bytes(rt: HostRuntime) -> Result<(), Fail> {
+    let alloc = rt.alloc();
+    let name = PropName::MaximumPacketSize;
+    let five = connect(alloc, "c", one(alloc, name, ValueRef::U32(5))?, None)?;
+    assert!(rt; takes_refusal(&five), "five bytes are taken");
+    drop(five);
+    let four = connect(alloc, "c", one(alloc, name, ValueRef::U32(4))?, None)?;
+    assert!(rt; !takes_refusal(&four), "four are too few");
+    drop(four);
     Ok(())
 }

@@ -48,7 +48,7 @@ fn publish(alloc: Global, topic: &str, properties: PropList) -> Result<Publish, 
 }
 
 /// The code of a PUBLISH that means no topic, by a table in which no alias stands for one.
-fn code(alloc: Global, publish: Publish) -> Option<u8> {
+fn code(alloc: Global, publish: Publish) -> Result<Option<u8>, AllocError> {
     let aliases = Aliases::new(alloc, 10);
     let found = meaning(&publish, &aliases);
     drop(publish);
@@ -56,10 +56,10 @@ fn code(alloc: Global, publish: Publish) -> Option<u8> {
     match found {
         Ok(name) => {
             drop(name);
-            None
+            Ok(None)
         }
-        Err(Unmeant::Wrong(code)) => Some(code.0),
-        Err(Unmeant::Memory) => Some(0),
+        Err(Unmeant::Wrong(code)) => Ok(Some(code.0)),
+        Err(Unmeant::Memory) => Err(AllocError),
     }
 }
 
@@ -67,11 +67,11 @@ fn code(alloc: Global, publish: Publish) -> Option<u8> {
 fn a_topic_of_its_own_is_a_name(rt: HostRuntime) -> Result<(), Fail> {
     let alloc = rt.alloc();
     let named = publish(alloc, "a/b", PropList::new())?;
-    assert_eq!(rt; code(alloc, named), None);
+    assert_eq!(rt; code(alloc, named)?, None);
     let wild = publish(alloc, "a/#", PropList::new())?;
-    assert_eq!(rt; code(alloc, wild), Some(0x90));
+    assert_eq!(rt; code(alloc, wild)?, Some(0x90));
     let empty = publish(alloc, "", PropList::new())?;
-    assert_eq!(rt; code(alloc, empty), Some(0x82));
+    assert_eq!(rt; code(alloc, empty)?, Some(0x82));
     Ok(())
 }
 
@@ -80,11 +80,11 @@ fn ten_aliases_are_taken(rt: HostRuntime) -> Result<(), Fail> {
     let alloc = rt.alloc();
     let name = PropName::TopicAlias;
     let greatest = publish(alloc, "a/b", one(alloc, name, ValueRef::U16(10))?)?;
-    assert_eq!(rt; code(alloc, greatest), None);
+    assert_eq!(rt; code(alloc, greatest)?, None);
     let greater = publish(alloc, "a/b", one(alloc, name, ValueRef::U16(11))?)?;
-    assert_eq!(rt; code(alloc, greater), Some(0x94));
+    assert_eq!(rt; code(alloc, greater)?, Some(0x94));
     let unknown = publish(alloc, "", one(alloc, name, ValueRef::U16(1))?)?;
-    assert_eq!(rt; code(alloc, unknown), Some(0x82));
+    assert_eq!(rt; code(alloc, unknown)?, Some(0x82));
     Ok(())
 }
 
@@ -97,7 +97,7 @@ fn a_client_sends_no_subscription_identifier(rt: HostRuntime) -> Result<(), Fail
         Some(1)
     );
     let identified = publish(alloc, "a/b", list)?;
-    assert_eq!(rt; code(alloc, identified), Some(0x82));
+    assert_eq!(rt; code(alloc, identified)?, Some(0x82));
     Ok(())
 }
 

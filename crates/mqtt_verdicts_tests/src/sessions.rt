@@ -4,10 +4,11 @@ use bytes::Bytes;
 use mqtt_base::{Qos, RetainHandling, SubscriptionOptions, Text};
 use mqtt_message::{Content, PassedOn, RetainedMessage, Will};
 use mqtt_props::{PropList, PropName, PropRef, ValueRef};
-use mqtt_records::{Boxed, Rows, Session, Subscription};
+use mqtt_records::{Boxed, Columns, Session, SessionRow, Subscription};
 use mqtt_verdicts::{
-    end_due, has_due_end, has_due_will, has_filter, has_lapsed, is_brought, is_expired, is_settled,
-    is_stale, place_among, retained_copy, seconds_waited, will_due,
+    end_due, expiry_due, has_due_end, has_due_will, has_filter, has_lapsed, is_brought, is_expired,
+    is_new, is_settled, is_stale, place_among, retained_copy, seconds_waited, settling_due,
+    subscription_of, will_due,
 };
 use std::alloc::{AllocError, Global};
 use std::process::Abort;
@@ -34,17 +35,14 @@ fn will(alloc: Global) -> Result<Will, AllocError> {
 }
 
 /// A session of `r1` that expires five seconds after it closes.
-fn session(alloc: Global, closed: Option<u64>, will: Option<Will>) -> Result<Session, AllocError> {
-    Ok(Session {
+fn session(alloc: Global, closed: Option<u64>) -> Result<Session, AllocError> {
+    let columns = Columns {
         birth: 1,
         client: text(alloc, "r1")?,
         expiry: 5,
         closed,
-        will,
-        subscriptions: Rows::new(alloc)?,
-        inbound: Rows::new(alloc)?,
-        queue: Rows::new(alloc)?,
-    })
+    };
+    Ok(SessionRow::new(alloc, columns)?.into_session().into_row())
 }
 
 #[test]
@@ -64,14 +62,15 @@ fn the_session_ends_before_the_will_delay(rt: HostRuntime) -> Result<(), Fail> {
 #[test]
 fn a_closed_session_is_settled_until_then(rt: HostRuntime) -> Result<(), Fail> {
     let alloc = rt.alloc();
-    let closed = session(alloc, Some(0), None)?;
+    let closed = session(alloc, Some(0))?;
     assert!(rt; is_settled(4_999, &closed), "a millisecond before");
     assert!(rt; !is_settled(5_000, &closed), "it ends");
+    assert_eq!(rt; settling_due(&closed), Some(5_000));
     assert!(rt; has_due_end(5_000, &closed), "its end is due");
     assert!(rt; !has_due_will(5_000, &closed), "it has no Will");
     assert!(rt; !has_lapsed(5_000, &closed), "nothing is queued");
     drop(closed);
-    let connected = session(alloc, None, None)?;
+    let connected = session(alloc, None)?;
     assert!(rt; is_settled(5_000, &connected), "it is connected");
     drop(connected);
     Ok(())
@@ -124,9 +123,10 @@ fn a_retained_message_is_brought_until_it_expires(rt: HostRuntime) -> Result<(),
     let alloc = rt.alloc();
     let kept = kept(alloc)?;
     assert_eq!(rt; seconds_waited(4_999, &kept.content), 4);
+    assert_eq!(rt; expiry_due(&kept.content), Some(5_000));
     assert!(rt; !is_expired(4_999, &kept.content), "a millisecond before");
     assert!(rt; is_stale(5_000, &kept), "after five seconds");
-    let session = session(alloc, None, None)?;
+    let session = session(alloc, None)?;
     assert!(rt;
         is_brought(0, &session, OPTIONS, &kept),
         "of another client"
@@ -148,27 +148,56 @@ fn a_retained_copy_has_the_lesser_quality(rt: HostRuntime) -> Result<(), Fail> {
     drop(kept);
     let copy = copy?;
     assert_eq!(rt; copy.qos, Qos::AtLeastOnce);
+    assert!(rt; is_new(3, 1, &copy), "its subscribe is new");
+    assert!(rt; !is_new(3, 2, &copy), "it was made before");
     assert!(rt; copy.retain, "it was retained");
     assert_eq!(rt; copy.identifiers.as_slice(), [7].as_slice());
     drop(copy);
     Ok(())
 }
 
-#[test]
-fn a_filter_keeps_its_place(rt: HostRuntime) -> Result<(), Fail> {
-    let alloc = rt.alloc();
-    let mut session = session(alloc, None, None)?;
+/// A subscription to `a/#` at the fourth place.
+fn fourth(alloc: Global) -> Result<Boxed<Subscription>, AllocError> {
+    let filter = text(alloc, "a/#")?;
     let subscription = Subscription {
-        filter: text(alloc, "a/#")?,
+        filter,
         place: 4,
         options: OPTIONS,
         identifier: None,
     };
-    session.subscriptions.put(Boxed::new(alloc, subscription)?);
-    assert!(rt; has_filter(&session, "a/#"), "it is there");
-    assert!(rt; !has_filter(&session, "a/b"), "it isn't");
-    assert_eq!(rt; place_among(9, "a/#", &session), 4);
-    assert_eq!(rt; place_among(9, "a/b", &session), 9);
+    Boxed::new(alloc, subscription)
+}
+
+#[test]
+fn a_filter_keeps_its_place(rt: HostRuntime) -> Result<(), Fail> {
+    let alloc = rt.alloc();
+    let fourth = fourth(alloc)?;
+    match session(alloc, None) {
+        Ok(mut session) => {
+            session.subscriptions.put(fourth);
+            assert!(rt; has_filter(&session, "a/#"), "it is there");
+            assert!(rt; !has_filter(&session, "a/b"), "it isn't");
+            assert_eq!(rt; place_among(9, "a/#", &session), 4);
+            assert_eq!(rt; place_among(9, "a/b", &session), 9);
+            drop(session);
+            Ok(())
+        }
+        Err(fault) => {
+            drop(fourth);
+            Err(fault.into())
+        }
+    }
+}
+
+#[test]
+fn a_new_filter_takes_its_number(rt: HostRuntime) -> Result<(), Fail> {
+    let alloc = rt.alloc();
+    let session = session(alloc, None)?;
+    let filter = text(alloc, "a/b")?;
+    let subscription = subscription_of(9, &session, filter, OPTIONS, Some(7));
     drop(session);
+    assert_eq!(rt; subscription.place, 9);
+    assert_eq!(rt; subscription.identifier, Some(7));
+    drop(subscription);
     Ok(())
 }
