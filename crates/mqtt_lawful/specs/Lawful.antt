@@ -48,6 +48,7 @@ pub record AreNumbers (last : Last) : Type 0 where
   pub autos : IsNumber last.autos
   pub moment : IsNumber last.moment
 
+-- those of records
 abbrev pub last_of : Records → Last
 last_of r = record {
   births = r.births;
@@ -71,6 +72,7 @@ IsNumeralUpTo last text = (n : ℕ) × IsUpTo last n × (text ≡ decimal n)
 abbrev pub IsAssigned : ℕ → List ℕ → Type 0
 IsAssigned autos client = (rest : List ℕ) → client ≡ auto ++ rest → IsNumeralUpTo autos rest
 
+-- a client identifier that a session may have
 pub record IsClient (autos : ℕ) (client : List ℕ) : Type 0 where
   pub long : IsUpTo CLIENT_LIMIT (length client)
   pub assigned : IsAssigned autos client
@@ -100,6 +102,7 @@ abbrev pub IsIdentifier : Option ℕ → Type 0
 IsIdentifier None = Unit {0}
 IsIdentifier (Some n) = (1 ≤ n) × (n < VARINT_LIMIT)
 
+-- a filter, and a place that was given with a subscribe
 pub record IsSubscription (subscribes : ℕ) (subscription : Subscription) : Type 0 where
   pub place : IsUpTo subscribes subscription.place
   pub identifier : IsIdentifier subscription.identifier
@@ -118,6 +121,7 @@ pub record IsGroup (group : List ℕ) : Type 0 where
   pub lawful : IsTrue (is_shared_filter (share ++ slash ∷ group))
   pub fits : FitsText (share ++ slash ∷ group)
 
+-- why a session got a copy: by a group that there may be, or for a subscribe that was granted
 abbrev pub IsCause : ℕ → Cause → Type 0
 IsCause subscribes Direct = Unit {0}
 IsCause subscribes (Share group) = IsGroup group
@@ -136,12 +140,13 @@ IsPhase ExactlyOnce (Released identifier order) = (1 ≤ identifier) × IsUpTo L
 IsPhase ExactlyOnce (Oversize identifier order) = (1 ≤ identifier) × IsUpTo LAST_NUMBER order
 
 -- the packet identifier that a copy has (2.2.1), and its order of release
-abbrev pub identifier_in : Phase → Option ℕ
-identifier_in Waiting = None
-identifier_in (Sent identifier) = Some identifier
-identifier_in (Released identifier order) = Some identifier
-identifier_in (Oversize identifier order) = Some identifier
+abbrev pub identifier_of : Phase → Option ℕ
+identifier_of Waiting = None
+identifier_of (Sent identifier) = Some identifier
+identifier_of (Released identifier order) = Some identifier
+identifier_of (Oversize identifier order) = Some identifier
 
+-- none before it is released
 abbrev pub order_in : Phase → Option ℕ
 order_in Waiting = None
 order_in (Sent identifier) = None
@@ -165,7 +170,7 @@ pub record IsLawfulCopy (last : Last) (birth : ℕ) (row : CopyRow) : Type 0 whe
 -- no two copies have the same packet identifier, order of release or identity
 pub record IsLawfulQueue (last : Last) (birth : ℕ) (queue : List CopyRow) : Type 0 where
   pub table : IsTable copy_place QUEUE_LIMIT queue
-  pub identifiers : AllDiffer (filter_map (λ row. identifier_in row.phase) queue)
+  pub identifiers : AllDiffer (filter_map (λ row. identifier_of row.phase) queue)
   pub orders : AllDiffer (filter_map (λ row. order_in row.phase) queue)
   pub copies : AllDiffer (map (λ row. row.copy.id) queue)
   pub each : AllByRecursion (IsLawfulCopy last birth) queue
@@ -177,6 +182,7 @@ pub record AreOpen (identifiers : List ℕ) : Type 0 where
   pub table : IsTable number_of OPEN_LIMIT identifiers
   pub each : AllByRecursion (λ identifier. 1 ≤ identifier) identifiers
 
+-- a session, and all that it has
 pub record IsLawfulSession (last : Last) (session : Session) : Type 0 where
   pub birth : IsUpTo last.births session.birth
   pub closed : HasBeen last.moment session.closed
@@ -195,6 +201,7 @@ pub record AreLawfulSessions (last : Last) (sessions : List Session) : Type 0 wh
 
 -- ---- retained messages
 
+-- of a publication that was accepted by now
 pub record IsLawfulRetained (last : Last) (kept : RetainedMessage) : Type 0 where
   pub place : IsUpTo LAST_NUMBER kept.place
   pub publication : IsUpTo last.publications kept.publication
@@ -209,6 +216,7 @@ pub record AreLawfulRetained (last : Last) (retained : List RetainedMessage) : T
 
 -- ---- records
 
+-- a store may be opened with these
 pub record IsLawful (r : Records) : Type 0 where
   pub numbers : AreNumbers (last_of r)
   pub sessions : AreLawfulSessions (last_of r) r.sessions

@@ -2,7 +2,7 @@
 ghost use Rattle.std.specs.Prelude.{◌↔◌, ◌≡◌, ℕ, filter_map, map, IfOk, IsTrue};
 ghost use Rattle.mqtt_base.specs.declared.session.CopyId.{CopyId};
 ghost use Rattle.mqtt_rows.specs.Distinct.{AllDiffer};
-ghost use Rattle.mqtt_lawful.specs.Lawful.{IsLawfulQueue, identifier_in, order_in};
+ghost use Rattle.mqtt_lawful.specs.Lawful.{IsLawfulQueue, identifier_of, order_in};
 ghost use Rattle.mqtt_lawful.specs.CopyKeys.{key_of, value_of};
 
 use crate::rows::{Last, are_lawful};
@@ -16,8 +16,8 @@ use std::alloc::{AllocError, Global};
 type CopyKey<'a> = (u64, u64, u64, u64, &'a str);
 
 /// The packet identifier that a copy in this phase has.
-fn identifier_in(phase: Phase) -> Option<u64>
-    ensures { result ≡ identifier_in phase }
+fn identifier_of(phase: Phase) -> Option<u64>
+    ensures { result ≡ identifier_of phase }
 {
     match phase {
         Phase::Waiting => None,
@@ -40,12 +40,12 @@ fn order_in(phase: Phase) -> Option<u64>
 /// Whether no two copies have the same packet identifier.
 fn have_identifiers_apart(alloc: Global, queue: &[Boxed<CopyRow>]) -> Result<bool, AllocError>
     ensures { IfOk result (λ apart. IsTrue apart
-        ↔ AllDiffer (filter_map (λ row. identifier_in row.phase) queue.now)) }
+        ↔ AllDiffer (filter_map (λ row. identifier_of row.phase) queue.now)) }
 {
     let mut identifiers = Vec::with_capacity(alloc, queue.len())?;
     let mut rest = queue;
     while let Some((row, after)) = rest.split_first() {
-        if let Some(identifier) = identifier_in(row.get().phase()) {
+        if let Some(identifier) = identifier_of(row.get().phase()) {
             identifiers.push(identifier)?;
         }
         rest = after;

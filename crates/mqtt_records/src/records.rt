@@ -1,7 +1,8 @@
 //! All that is kept: five numbers, sessions and retained messages (4.1).
 ghost use Rattle.std.specs.Prelude.{◌≡◌, IfOk};
 ghost use Rattle.mqtt_records.specs.Records.{nothing, changed, changed_all};
-ghost use Rattle.mqtt_records.specs.Records.{with_counter, put_session, copy_at};
+ghost use Rattle.mqtt_records.specs.Records.{with_counter, put_session, in_session, copy_at};
+ghost use Rattle.mqtt_records.specs.Session.{part_changed};
 
 use crate::change::{Change, Counter};
 use crate::session::{Session, SessionPart, SessionRow};
@@ -71,6 +72,13 @@ impl Records {
         }
     }
 
+    /// Changes a part of the session with this birth, if there is one.
+    fn edit(&mut self, birth: u64, part: SessionPart)
+        ensures { self.new ≡ in_session birth (part_changed part) self.old }
+    {
+        self.sessions.edit(birth, part);
+    }
+
     /// Makes one change. Takes no memory.
     pub fn change(&mut self, change: Change)
         ensures { self.new ≡ changed change self.old }
@@ -80,34 +88,34 @@ impl Records {
             Change::PutSession { row } => self.put_session(row),
             Change::SetSession { row } => {
                 let birth = row.birth;
-                self.sessions.edit(birth, SessionPart::SetColumns { row });
+                self.edit(birth, SessionPart::SetColumns { row });
             }
             Change::RemoveSession { birth } => self.sessions.remove(birth),
             Change::PutWill { birth, will } => {
-                self.sessions.edit(birth, SessionPart::PutWill { will });
+                self.edit(birth, SessionPart::PutWill { will });
             }
-            Change::RemoveWill { birth } => self.sessions.edit(birth, SessionPart::RemoveWill),
+            Change::RemoveWill { birth } => self.edit(birth, SessionPart::RemoveWill),
             Change::PutSubscription {
                 birth,
                 subscription,
             } => {
                 let part = SessionPart::PutSubscription { subscription };
-                self.sessions.edit(birth, part);
+                self.edit(birth, part);
             }
             Change::RemoveSubscription { birth, filter } => {
                 let part = SessionPart::RemoveSubscription { filter };
-                self.sessions.edit(birth, part);
+                self.edit(birth, part);
             }
             Change::PutInbound { birth, identifier } => {
                 let part = SessionPart::PutInbound { identifier };
-                self.sessions.edit(birth, part);
+                self.edit(birth, part);
             }
             Change::RemoveInbound { birth, identifier } => {
                 let part = SessionPart::RemoveInbound { identifier };
-                self.sessions.edit(birth, part);
+                self.edit(birth, part);
             }
             Change::PutCopy { birth, row } => {
-                self.sessions.edit(birth, SessionPart::PutCopy { row });
+                self.edit(birth, SessionPart::PutCopy { row });
             }
             Change::SetCopy {
                 birth,
@@ -115,10 +123,10 @@ impl Records {
                 phase,
             } => {
                 let part = SessionPart::SetCopy { place, phase };
-                self.sessions.edit(birth, part);
+                self.edit(birth, part);
             }
             Change::RemoveCopy { birth, place } => {
-                self.sessions.edit(birth, SessionPart::RemoveCopy { place });
+                self.edit(birth, SessionPart::RemoveCopy { place });
             }
             Change::PutRetained { kept } => self.retained.put(kept),
             Change::RemoveRetained { place } => self.retained.remove(place),

@@ -456,6 +456,32 @@ fn rows_of<K: Keep>(keep: &mut K, alloc: Global) -> Result<[usize; 6], KeepError
     Ok(found)
 }
 
+/// A store that has nothing yet, of which no call has failed.
+fn has_nothing(rt: &impl Abort, alloc: Global, keep: &mut FaultyKeep) -> Result<(), Fail> {
+    assert_eq!(rt; keep.apply(&[]), Ok(()), "no changes");
+    assert_eq!(rt; rows_of(keep, alloc)?, [0; 6], "no rows");
+    assert_eq!(rt; keep.failures(), 0, "no failure yet");
+    Ok(())
+}
+
+/// A store of which the next call of `apply` fails.
+fn fails(
+    rt: &impl Abort,
+    alloc: Global,
+    keep: &mut FaultyKeep,
+    changes: &[Change],
+    left: [usize; 6],
+) -> Result<(), Fail> {
+    assert_eq!(rt;
+        keep.apply(changes),
+        Err(KeepError::Disk),
+        "the second call"
+    );
+    assert_eq!(rt; keep.failures(), 1, "counted");
+    assert_eq!(rt; rows_of(keep, alloc)?, left, "what is left");
+    Ok(())
+}
+
 /// A store of which the second call of `apply` fails.
 fn fails_once(
     rt: &impl Abort,
@@ -464,16 +490,8 @@ fn fails_once(
     changes: &[Change],
     left: [usize; 6],
 ) -> Result<(), Fail> {
-    assert_eq!(rt; keep.apply(&[]), Ok(()), "no changes");
-    assert_eq!(rt; rows_of(keep, alloc)?, [0; 6], "no rows");
-    assert_eq!(rt; keep.failures(), 0, "no failure yet");
-    assert_eq!(rt;
-        keep.apply(changes),
-        Err(KeepError::Disk),
-        "the second call"
-    );
-    assert_eq!(rt; keep.failures(), 1, "counted");
-    assert_eq!(rt; rows_of(keep, alloc)?, left, "what is left");
+    has_nothing(rt, alloc, keep)?;
+    fails(rt, alloc, keep, changes, left)?;
     assert_eq!(rt; keep.apply(changes), Ok(()), "the third call");
     assert_eq!(rt; rows_of(keep, alloc)?, [2, 0, 1, 1, 1, 0], "at the end");
     assert_eq!(rt; keep.failures(), 1, "no further failure");
@@ -532,34 +550,52 @@ fn want_of_memory_changes_nothing(rt: HostRuntime) -> Result<(), Fail> {
     done
 }
 
-#[test]
-fn a_list_is_in_order_and_has_its_limit(rt: HostRuntime) -> Result<(), Fail> {
-    let mut open: Rows<u16, OPEN_LIMIT> = Rows::new(rt.alloc())?;
-    // 40, 38 .. 2, from the greatest down
+/// 40, 38 .. 2, put from the greatest down.
+fn even(alloc: Global) -> Result<Rows<u16, OPEN_LIMIT>, AllocError> {
+    let mut open: Rows<u16, OPEN_LIMIT> = Rows::new(alloc)?;
     for turn in 0..20 {
         open.put(40 - 2 * turn);
     }
+    Ok(open)
+}
+
+#[test]
+fn a_full_list_takes_no_other_key(rt: HostRuntime) -> Result<(), Fail> {
+    let mut open = even(rt.alloc())?;
     assert_eq!(rt; open.len(), OPEN_LIMIT, "our Receive Maximum");
     open.put(5);
     assert!(rt; !open.has(5), "there is no room for another");
     open.put(40);
     assert_eq!(rt; open.len(), OPEN_LIMIT, "one of them is there already");
+    drop(open);
+    Ok(())
+}
+
+#[test]
+fn a_list_is_in_order(rt: HostRuntime) -> Result<(), Fail> {
+    let mut open = even(rt.alloc())?;
     assert_eq!(rt; open.at(0), Some(&2), "the lowest");
     assert_eq!(rt; open.at(19), Some(&40), "the highest");
     assert_eq!(rt; open.at(20), None, "past the end");
     assert_eq!(rt; open.get(6), Some(&6));
     open.remove(6);
     assert_eq!(rt; open.get(6), None, "removed");
+    drop(open);
+    Ok(())
+}
+
+#[test]
+fn a_copy_of_a_list_is_in_its_order(rt: HostRuntime) -> Result<(), Fail> {
+    let mut open = even(rt.alloc())?;
+    open.remove(6);
     open.put(5);
     let shared = open.clone()?;
-    assert_eq!(rt;
-        shared.as_slice(),
-        [
-            2, 4, 5, 8, 10, 12, 14, 16, 18, 20, 22, 24, 26, 28, 30, 32, 34, 36, 38, 40
-        ]
-        .as_slice(),
-        "in ascending order"
-    );
+    drop(open);
+    let wanted = [
+        2, 4, 5, 8, 10, 12, 14, 16, 18, 20, 22, 24, 26, 28, 30, 32, 34, 36, 38, 40,
+    ];
+    assert_eq!(rt; shared.as_slice(), wanted.as_slice(), "in ascending order");
+    drop(shared);
     Ok(())
 }
 

@@ -142,10 +142,22 @@ fn a_row_knows_the_size_of_its_publish(rt: HostRuntime) -> Result<(), Fail> {
         size(alloc, Qos::ExactlyOnce, PassedOn::new(), &[7, 128])?,
         17
     );
+    Ok(())
+}
+
+#[test]
+fn a_row_knows_the_size_of_its_properties(rt: HostRuntime) -> Result<(), Fail> {
+    let alloc = rt.alloc();
     let list = received(alloc)?;
     let passed = PassedOn::of(alloc, &list.lend())?;
     drop(list);
     assert_eq!(rt; size(alloc, Qos::ExactlyOnce, passed, &[])?, 26);
+    Ok(())
+}
+
+#[test]
+fn a_copy_that_has_no_spelling_gets_no_row(rt: HostRuntime) -> Result<(), Fail> {
+    let alloc = rt.alloc();
     let fault = size(alloc, Qos::ExactlyOnce, PassedOn::new(), &[1 << 28]);
     assert_eq!(rt; fault, Err(CopyFault::Unspelled), "too great an identifier");
     assert_eq!(rt; CopyFault::Unspelled as u8, 1);

@@ -1,4 +1,3 @@
-use Rattle.std.proofs.Common.{◌∙◌}
 use Rattle.mqtt_rows.proofs.OrderLemmas.{last-read}
 use Rattle.mqtt_rows.proofs.rows.Rows.last.Goals as goal
 
