@@ -1,11 +1,10 @@
 -- A publisher joins by a new line: it is that event of its hop.
-use Rattle.std.proofs.Common.{◌≡◌, ℕ, suc, ◌<◌, Bool, true, false, cond, ◌||◌, List, [], ◌∷◌, ◌++◌, Option, Some, None, nat_eq, bytes_eq, refl, sym, ap, subst, ◌∙◌, arith, inl, inr}
+use Rattle.std.proofs.Common.{◌≡◌, ℕ, suc, Bool, true, false, cond, ◌||◌, List, [], ◌∷◌, ◌++◌, Option, Some, None, nat_eq, refl, sym, ap, ◌∙◌, arith}
 use Rattle.std.specs.Prelude.{find, filter_map, is_some}
-use Rattle.std.proofs.lemmas.Bool.{cases_Bool}
 use Rattle.std.proofs.lemmas.Cmp.{nat_eq_equiv}
 use Rattle.mqtt_rows.specs.Order.{IsBelow}
 use Rattle.mqtt_rows.proofs.OrderLemmas.{apart}
-use Rattle.mqtt_flow.specs.Line.{Link, away, asked, live}
+use Rattle.mqtt_flow.specs.Line.{Link, away, asked}
 use Rattle.mqtt_flow.specs.Publisher.{CONNECT}
 use Rattle.mqtt_flow.specs.InboundWorld.{connect, on_join, step}
 use Rattle.mqtt_rules.specs.declared.Limits.{Limits}

@@ -19,7 +19,7 @@ use Rattle.mqtt_rules.specs.Deeds.{Message, FromClient, Deed, Accept, after, aft
 use Rattle.mqtt_rules.specs.Routing.{CopyTo, accepted_copies, next_publication, is_wanted}
 use Rattle.mqtt_rules.specs.Closing.{never}
 use Rattle.mqtt_rules.specs.Inbound.{Meaning, Means, Wrong, meaning, sets_alias, standing, answer, opens, code_again, code_accepted, publish_new, publish_by, message_of, publish_meant, on_publish}
-use Rattle.mqtt_rules.specs.Step.{Call, Input, next_packet, env_of, stepped}
+use Rattle.mqtt_rules.specs.Step.{Input, next_packet, env_of, stepped}
 use Rattle.mqtt_laws.specs.Ends.{Content, Sent, shake, plain, content_at, Publisher, wire}
 use Rattle.mqtt_laws.specs.Seen.{shaken, heard_in, seen}
 use Rattle.mqtt_laws.specs.Hops.{IsConnected, after_step, counted, numbers_of, wire_1, Becomes}

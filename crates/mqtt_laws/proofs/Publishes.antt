@@ -207,7 +207,7 @@ drop_is env code l s b at on no_will no_end =
     ∙ (ap (λ (o : Option Session). with_session o (close_session env true) c) at ∙ session_closes env s c at no_will no_end) in
     ap (λ (ds : List Deed). Send l.number (disconnect code) ∷ ((Gone l.number ∷ (ds ++ [])) ++ [])) inner
 
-line_none : (n : ℕ) (ls : List Line) → session_on n (filter (λ (l : Line). not (nat_eq l.number n)) ls) ≡ None
+pub line_none : (n : ℕ) (ls : List Line) → session_on n (filter (λ (l : Line). not (nat_eq l.number n)) ls) ≡ None
 line_none n [] = refl
 line_none n (l ∷ ls) = elim (cases_Bool (nat_eq l.number n)) [
   | inl goes ↦ rw goes (line_none n ls)

@@ -10,10 +10,13 @@ use Rattle.mqtt_message.specs.declared.message.Will.{Will}
 use Rattle.mqtt_records.specs.declared.session.Session.{Session}
 use Rattle.mqtt_records.specs.declared.records.Records.{Records}
 use Rattle.mqtt_rules.specs.declared.Limits.{Limits}
-use Rattle.mqtt_rules.specs.State.{MemberChoice, Line as BrokerLine, Broker, session_at, line_at, line_of}
+use Rattle.mqtt_rules.specs.State.{MemberChoice, Line as BrokerLine, Broker, session_at, session_named, line_at, line_of}
 use Rattle.mqtt_rules.specs.Closing.{never}
 use Rattle.mqtt_rules.specs.Connect.{auto}
 use Rattle.mqtt_rules.specs.Step.{Call, NewLine, Input, BadInput, Lost, Pump, Tick, can_link, deeds, stepped, told}
+use Rattle.mqtt_base.specs.declared.limits.TheConstants.{CLIENT_LIMIT, SESSION_LIMIT}
+use Rattle.mqtt_topic.specs.Names.{is_empty}
+use Rattle.mqtt_rules.specs.Numbers.{HasGivenBirths}
 use Rattle.mqtt_rules.specs.Lines.{line_number}
 use Rattle.mqtt_rows.specs.Order.{IsBelow}
 use Rattle.mqtt_laws.specs.Lines.{is_one_of, unless_closed, left, joined}
@@ -154,6 +157,24 @@ pub record IsAsking (p : Publisher) (l : BrokerLine) (s : Session) (b : Broker) 
   pub taken : IsTaken (line_of s.birth b) s.birth l.number
   -- what is under way on the line that was given up is a CONNECT, or the session is connected there, or there is nothing
   pub old : filter_map shaken (unless_closed (is_one_of p.line.old_number (lines_left (line_of s.birth b))) p.line.old) ≡ spared (filter_map shaken p.line.old)
+
+abbrev pub connect_packet : Bool → Publisher → Packet
+connect_packet clean p = wire p.client p.contents (shake (CONNECT clean))
+
+-- the publisher's line waits, and no session of its name stands
+pub record IsFirst (limits : Limits) (p : Publisher) (l : BrokerLine) (b : Broker) : Type 0 where
+  pub number : p.line.number ≡ Some l.number
+  pub line : line_at l.number b ≡ Some l
+  pub waits : l.session ≡ None
+  pub none : session_named p.client b.records ≡ None
+  pub births : HasGivenBirths b.records
+  pub within : limits.sessions ≤ SESSION_LIMIT
+  pub some : is_empty p.client ≡ false
+  pub short : nat_lt CLIENT_LIMIT (length p.client) ≡ false
+  pub plain : starts_with nat_eq p.client auto ≡ false
+  -- the line that it gave up is another one, and a CONNECT is under way there, or nothing
+  pub apart : is_one_of p.line.old_number (l.number ∷ []) ≡ false
+  pub old : filter_map shaken p.line.old ≡ spared (filter_map shaken p.line.old)
 
 abbrev pub hello_packet : Publisher → Packet
 hello_packet p = wire p.client p.contents (shake (CONNECT false))
