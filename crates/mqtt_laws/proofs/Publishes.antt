@@ -180,7 +180,7 @@ abbrev pub closed_row : ℕ → Session → Columns
 closed_row now s = record (columns_of s) { closed = Some now }
 
 -- the session after it was closed
-closed_at : (now : ℕ) (s : Session) (r : Records) → session_at s.birth r ≡ Some s → session_at s.birth (changed_all (part_rows_of (Close now) (Some s)) r) ≡ Some (with_columns (closed_row now s) s)
+pub closed_at : (now : ℕ) (s : Session) (r : Records) → session_at s.birth r ≡ Some s → session_at s.birth (changed_all (part_rows_of (Close now) (Some s)) r) ≡ Some (with_columns (closed_row now s) s)
 closed_at now s r at = change_row-here birth_of s.birth (with_columns (closed_row now s)) s r.sessions (λ y. refl) at
 
 pub closed_after : (now : ℕ) (s : Session) (b : Broker) → session_at s.birth b.records ≡ Some s

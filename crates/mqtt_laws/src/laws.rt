@@ -1,19 +1,19 @@
 //! Laws of the world: what a publisher sees of a step of the broker is what its hop does (4.3, 4.4).
 ghost use Rattle.std.specs.Prelude.{◌≡◌, ℕ, ◌≤◌, [], ◌∷◌, Bool, List, Some, None, false, nat_eq, slice_get, count_by};
-ghost use Rattle.std.specs.List.{starts_with};
+ghost use Rattle.std.specs.List.{AllByRecursion, starts_with};
 ghost use Rattle.mqtt_flow.specs.Publisher.{Qos, IsExactlyOnce, completed, refused, ended, ended_1, CONNECT, PUBLISH_1, PUBLISH_2, PUBREL};
-ghost use Rattle.mqtt_flow.specs.InboundWorld.{Event as HopEvent, takes, to_broker, publish, give_up, break, connect, step, run};
+ghost use Rattle.mqtt_flow.specs.InboundWorld.{Event as HopEvent, takes, to_broker, publish, give_up, break, connect, restart, step, run};
 ghost use Rattle.mqtt_records.specs.declared.session.Session.{Session};
 ghost use Rattle.mqtt_rules.specs.declared.Limits.{Limits};
 ghost use Rattle.mqtt_rules.specs.State.{Line, Broker, MemberChoice};
 ghost use Rattle.mqtt_rules.specs.Connect.{auto};
-ghost use Rattle.mqtt_rules.specs.Step.{Call, NewLine, Input, Lost, stepped, told};
+ghost use Rattle.mqtt_rules.specs.Step.{Call, NewLine, Input, Lost, opened, stepped, told};
 ghost use Rattle.mqtt_laws.specs.Lines.{gives_up};
 ghost use Rattle.mqtt_laws.specs.Ends.{Content, Draft, Sent, shake, plain, Publisher, wire, published, publisher_reads};
-ghost use Rattle.mqtt_laws.specs.World.{publisher_told};
+ghost use Rattle.mqtt_laws.specs.World.{publisher_restarted, publisher_told};
 ghost use Rattle.mqtt_laws.specs.Seen.{qos_of_draft, is_linked, seen};
 ghost use Rattle.mqtt_laws.specs.Hops.{IsConnected, IsAsking, Own, IsFarCall, IsRun};
-ghost use Rattle.mqtt_laws.specs.Hops.{connect_packet, IsFirst, joined_by, MayJoin, IsNoConnect, IsUnheard, MayGiveUp, after_step, wire_1, wire_2, hello_packet, lost_by, Becomes};
+ghost use Rattle.mqtt_laws.specs.Hops.{IsKept, IsOurs, connect_packet, IsFirst, joined_by, MayJoin, IsNoConnect, IsUnheard, MayGiveUp, after_step, wire_1, wire_2, hello_packet, lost_by, Becomes};
 
 /// The broker reads the first packet of a publisher's line. Whatever the limits, the routing, the queues
 /// and all other sessions and lines, what the publisher sees of it is one event of its hop (4.3.3, 4.4).
@@ -69,6 +69,16 @@ pub fn own_packets_are_steps_of_the_hop()
         → seen accepted (lost_by limits choice now l.number p b)
         (stepped limits choice now (Lost l.number) b)
         ≡ step (seen accepted p b) break }
+{}
+
+/// The broker restarts while the publisher's session stands, connected or not: whatever Wills are due and
+/// sessions end, the publisher sees that one event of its hop (4.1).
+pub fn a_restart_is_a_step_of_the_hop()
+    ensures restarts { (limits : Limits) (choice : MemberChoice) (now : ℕ) (p : Publisher) (s : Session) (b : Broker)
+        → (accepted : List ℕ) → IsKept p.client s b
+        → AllByRecursion (IsOurs p.client s.birth) b.records.sessions → s.birth ≤ b.records.births
+        → seen accepted (publisher_restarted p) (opened limits choice now b.records)
+        ≡ step (seen accepted p b) restart }
 {}
 
 /// A packet, a fault or a loss on another line, that is no CONNECT of this client, a new line, any pump and
