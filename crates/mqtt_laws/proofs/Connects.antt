@@ -112,7 +112,7 @@ resumed_face expiry x r at =
     let first : row_at birth_of x.birth set ≡ Some (with_columns row x) = change_row-here birth_of x.birth (with_columns row) x r.sessions (λ y. refl) at in
     ap (option_map face) (change_row-here birth_of x.birth (with_will None) (with_columns row x) set (λ y. refl) first)
 
-greeted_line : (now n k keep_alive window largest : ℕ) (ls : List BrokerLine) → session_on n ls ≡ Some None → session_on n (on_line now n (Greet k keep_alive window largest) ls) ≡ Some (Some k)
+pub greeted_line : (now n k keep_alive window largest : ℕ) (ls : List BrokerLine) → session_on n ls ≡ Some None → session_on n (on_line now n (Greet k keep_alive window largest) ls) ≡ Some (Some k)
 greeted_line now n k keep_alive window largest [] h = absurd cc
 greeted_line now n k keep_alive window largest (l ∷ ls) h = elim (cases_Bool (nat_eq l.number n)) [
   | inl here ↦ rw (here, here) refl
@@ -283,7 +283,7 @@ heard_line_of k m now b o e t = in_list b.lines o e t
           ]
     ]
 
-heard_on_line : (m now : ℕ) (ls : List BrokerLine) (x : Option ℕ) → session_on m ls ≡ Some x → session_on m (on_line now m Hear ls) ≡ Some x
+pub heard_on_line : (m now : ℕ) (ls : List BrokerLine) (x : Option ℕ) → session_on m ls ≡ Some x → session_on m (on_line now m Hear ls) ≡ Some x
 heard_on_line m now ls x h = line_on now m m Hear ls (inr tt) ∙ h
 
 -- the deeds of the call

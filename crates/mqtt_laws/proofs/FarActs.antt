@@ -218,14 +218,14 @@ module _ (client : List ℕ) (birth n : ℕ) where
   good_of [] b q = tt
   good_of (d ∷ ds) b q = (q.0, good_of ds (deeds.after d b) q.1)
 
-  far_of : (ds : List Deed) (b : Broker) → AreGood IsFarDeed ds b → Far ds
+  pub far_of : (ds : List Deed) (b : Broker) → AreGood IsFarDeed ds b → Far ds
   far_of [] b q = tt
   far_of (d ∷ ds) b q = (q.0, far_of ds (deeds.after d b) q.1)
 
   led : (ds : List Deed) (b : Broker) → Own client birth n b → Far ds → Leads (Own client birth n) IsFarDeed ds b
   led ds b o q = (good_of ds b q, own_deeds client birth n ds b q o)
 
-  far_law : (env : Env) → starts_with nat_eq client auto ≡ false → Law env others (Own client birth n) IsFarDeed
+  pub far_law : (env : Env) → starts_with nat_eq client auto ≡ false → Law env others (Own client birth n) IsFarDeed
   far_law env plain = record {
     finds = record {
       its_number = λ l its. its.number;

@@ -29,7 +29,9 @@ use Rattle.mqtt_rules.specs.Step.{Input, next_packet, env_of, at_moment, deeds, 
 use Rattle.mqtt_rules.specs.declared.Limits.{Limits}
 use Rattle.mqtt_rules.specs.Inbound.{Meaning, Means, Wrong, meaning, sets_alias, standing, answer, opens, code_again, code_accepted, publish_new, publish_by, message_of, publish_meant, release_by}
 use Rattle.mqtt_rules.proofs.FlightRows.{all_at}
-use Rattle.mqtt_laws.specs.Hops.{IsOurs, Own}
+use Rattle.mqtt_flow.specs.Publisher.{CONNECT, PUBLISH_1, PUBLISH_2, PUBREL}
+use Rattle.mqtt_laws.specs.Ends.{Sent, shake, plain, Publisher, wire}
+use Rattle.mqtt_laws.specs.Hops.{IsNoConnect, IsConnected, IsOurs, Own}
 use Rattle.mqtt_laws.proofs.Quiet.{copies_of, quiet_copies}
 use Rattle.mqtt_laws.proofs.Far.{IsFar, AreFar, all_keyed, gone_ours, at_lines, at_births, own_deed}
 use Rattle.mqtt_laws.proofs.FarActs.{far_quiet}
@@ -222,3 +224,15 @@ own_packet_stays limits choice now packet l s client n b q line on at w e own =
     let ds = deeds limits choice now (Input l.number packet) b in
     let o : Own client s.birth n start = record { sessions = own.sessions; lines = own.lines; births = own.births; given = own.given } in
     own_done client s.birth n (rows_of_all ds start.records) (after_all ds start) (mine_owns client s.birth n ds start (mine_call client s.birth n limits choice now packet l s b q line on at w e) o)
+
+-- each of its packets but CONNECT
+pub sent_stays : (limits : Limits) (choice : MemberChoice) (now : ℕ) (p : Publisher) (packet : Sent) (l : Line) (s : Session) (b : Broker) → IsNoConnect packet → IsConnected p l s b → Own p.client s.birth l.number b
+    → Own p.client s.birth l.number (stepped limits choice now (Input l.number (wire p.client p.contents packet)) b)
+sent_stays limits choice now p packet l s b other x own = own_packet_stays limits choice now (wire p.client p.contents packet) l s p.client l.number b (is_own packet other) x.line x.connected x.session x.no_will x.no_end own
+  where
+    is_own : (sent : Sent) → IsNoConnect sent → IsOwnPacket p.client s.birth l.number (wire p.client p.contents sent)
+    is_own (shake (CONNECT clean)) other = absurd other
+    is_own (shake (PUBLISH_1 id k dup)) other = tt
+    is_own (shake (PUBLISH_2 id k dup)) other = tt
+    is_own (shake (PUBREL id)) other = tt
+    is_own (plain content) other = tt

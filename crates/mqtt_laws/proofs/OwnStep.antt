@@ -43,7 +43,7 @@ input_is limits choice now packet l s b line on at =
     ∙ ap (λ (o : Option Session). On l.number Hear ∷ (with_session o (next_packet env l packet) d ++ [])) at)
 
 -- what the packet does, the call does
-input_gives : (limits : Limits) (choice : MemberChoice) (now : ℕ) (packet : Packet) (l : BrokerLine) (s : Session) (b : Broker) (f : Face) (on : Option (Option ℕ)) (ps : List ToPublisher) (t : Bool) (count : List ℕ)
+pub input_gives : (limits : Limits) (choice : MemberChoice) (now : ℕ) (packet : Packet) (l : BrokerLine) (s : Session) (b : Broker) (f : Face) (on : Option (Option ℕ)) (ps : List ToPublisher) (t : Bool) (count : List ℕ)
     → line_at l.number b ≡ Some l → l.session ≡ Some s.birth → session_at s.birth b.records ≡ Some s
     → Gives s.birth l.number (next_packet (env_of limits choice b) l packet s (heard_of now l.number b)) (heard_of now l.number b) f on ps t count
     → Gives s.birth l.number (deeds limits choice now (Input l.number packet) b) (at_moment now b) f on ps t count
@@ -55,7 +55,7 @@ input_gives limits choice now packet l s b f on ps t count line connected at g =
     (subst (λ (ds : List Deed). Gives s.birth l.number ds (heard_of now l.number b) f on ps t count) (sym (append-nil own)) g))
 
 -- the line, once it was heard of
-still_on : (now : ℕ) (l : BrokerLine) (s : Session) (b : Broker) → line_at l.number b ≡ Some l → l.session ≡ Some s.birth
+pub still_on : (now : ℕ) (l : BrokerLine) (s : Session) (b : Broker) → line_at l.number b ≡ Some l → l.session ≡ Some s.birth
     → session_on l.number (heard_of now l.number b).lines ≡ Some (Some s.birth)
 still_on now l s b line on =
     quiet_line s.birth l.number _ (On l.number Hear) b.lines tt

@@ -180,7 +180,7 @@ abbrev pub closed_row : ℕ → Session → Columns
 closed_row now s = record (columns_of s) { closed = Some now }
 
 -- the session after it was closed
-closed_at : (now : ℕ) (s : Session) (r : Records) → session_at s.birth r ≡ Some s → session_at s.birth (changed_all (part_rows_of (Close now) (Some s)) r) ≡ Some (with_columns (closed_row now s) s)
+pub closed_at : (now : ℕ) (s : Session) (r : Records) → session_at s.birth r ≡ Some s → session_at s.birth (changed_all (part_rows_of (Close now) (Some s)) r) ≡ Some (with_columns (closed_row now s) s)
 closed_at now s r at = change_row-here birth_of s.birth (with_columns (closed_row now s)) s r.sessions (λ y. refl) at
 
 pub closed_after : (now : ℕ) (s : Session) (b : Broker) → session_at s.birth b.records ≡ Some s
@@ -207,7 +207,7 @@ drop_is env code l s b at on no_will no_end =
     ∙ (ap (λ (o : Option Session). with_session o (close_session env true) c) at ∙ session_closes env s c at no_will no_end) in
     ap (λ (ds : List Deed). Send l.number (disconnect code) ∷ ((Gone l.number ∷ (ds ++ [])) ++ [])) inner
 
-line_none : (n : ℕ) (ls : List Line) → session_on n (filter (λ (l : Line). not (nat_eq l.number n)) ls) ≡ None
+pub line_none : (n : ℕ) (ls : List Line) → session_on n (filter (λ (l : Line). not (nat_eq l.number n)) ls) ≡ None
 line_none n [] = refl
 line_none n (l ∷ ls) = elim (cases_Bool (nat_eq l.number n)) [
   | inl goes ↦ rw goes (line_none n ls)

@@ -1,21 +1,26 @@
 -- When a step of the broker is what one publisher's hop does: its line and its session, and the steps of others (MQTT 5.0, 4.3, 4.4).
-use Rattle.std.specs.Prelude.{◌≡◌, ℕ, ◌≤◌, ⊤, Bool, true, false, List, [], ◌∷◌, ◌++◌, length, filter_map, map, nat_eq, nat_lt, Option, Some, None}
+use Rattle.std.specs.Prelude.{◌≡◌, suc, ℕ, ◌≤◌, ⊤, Bool, true, false, List, [], ◌∷◌, ◌++◌, length, filter_map, map, nat_eq, nat_lt, Option, Some, None}
 use Rattle.std.specs.List.{AllByRecursion, starts_with}
 use Rattle.mqtt_codec.specs.declared.packet.Packet.{Packet}
 use Rattle.mqtt_codec.specs.declared.packet.Packet.TheVariants.{Connect}
 use Rattle.mqtt_flow.specs.Line.{Link, away, asked, live}
-use Rattle.mqtt_flow.specs.Publisher.{CONNECT, PUBLISH_2}
-use Rattle.mqtt_flow.specs.InboundWorld.{Event as HopEvent, spared, step, after}
+use Rattle.mqtt_flow.specs.Publisher.{CONNECT, PUBLISH_1, PUBLISH_2}
+use Rattle.mqtt_flow.specs.InboundWorld.{Event as HopEvent, spared, step, run, after}
 use Rattle.mqtt_message.specs.declared.message.Will.{Will}
 use Rattle.mqtt_records.specs.declared.session.Session.{Session}
 use Rattle.mqtt_records.specs.declared.records.Records.{Records}
 use Rattle.mqtt_rules.specs.declared.Limits.{Limits}
-use Rattle.mqtt_rules.specs.State.{MemberChoice, Line as BrokerLine, Broker, session_at, line_at, line_of}
+use Rattle.mqtt_rules.specs.State.{MemberChoice, Line as BrokerLine, Broker, session_at, session_named, line_at, line_of}
 use Rattle.mqtt_rules.specs.Closing.{never}
 use Rattle.mqtt_rules.specs.Connect.{auto}
-use Rattle.mqtt_rules.specs.Step.{Call, NewLine, Input, BadInput, Lost, Pump, Tick, deeds, stepped, told}
-use Rattle.mqtt_laws.specs.Lines.{is_one_of, unless_closed, left}
-use Rattle.mqtt_laws.specs.Ends.{shake, Publisher, wire}
+use Rattle.mqtt_rules.specs.Step.{Call, NewLine, Input, BadInput, Lost, Pump, Tick, can_link, deeds, stepped, told}
+use Rattle.mqtt_base.specs.declared.limits.TheConstants.{CLIENT_LIMIT, SESSION_LIMIT}
+use Rattle.mqtt_topic.specs.Names.{is_empty}
+use Rattle.mqtt_rules.specs.Numbers.{HasGivenBirths}
+use Rattle.mqtt_rules.specs.Lines.{line_number}
+use Rattle.mqtt_rows.specs.Order.{IsBelow}
+use Rattle.mqtt_laws.specs.Lines.{is_one_of, unless_closed, left, joined}
+use Rattle.mqtt_laws.specs.Ends.{Sent, shake, Publisher, wire}
 use Rattle.mqtt_laws.specs.World.{publisher_told, taken_up}
 use Rattle.mqtt_laws.specs.Run.{client_number}
 use Rattle.mqtt_laws.specs.Seen.{shaken, seen}
@@ -97,6 +102,9 @@ after_step limits choice now call p b =
 abbrev pub counted : ℕ → List ℕ → List ℕ
 counted k numbers = map (λ number. k) numbers
 
+abbrev pub wire_1 : Publisher → ℕ → ℕ → Bool → Packet
+wire_1 p id k dup = wire p.client p.contents (shake (PUBLISH_1 id k dup))
+
 abbrev pub wire_2 : Publisher → ℕ → ℕ → Bool → Packet
 wire_2 p id k dup = wire p.client p.contents (shake (PUBLISH_2 id k dup))
 
@@ -108,6 +116,16 @@ abbrev pub Becomes : Limits → MemberChoice → ℕ → Call → ℕ → Publis
 Becomes limits choice now call k p b accepted e =
     seen (accepted ++ counted k (numbers_of limits choice now call b)) (after_step limits choice now call p b) (stepped limits choice now call b)
     ≡ step (seen accepted p b) e
+
+-- or what it saw is some events, with no message accepted
+abbrev pub IsUnheard : Limits → MemberChoice → ℕ → Call → Publisher → Broker → List ℕ → Type 0
+IsUnheard limits choice now call p b accepted =
+    (es : List HopEvent) × (seen accepted (after_step limits choice now call p b) (stepped limits choice now call b) ≡ run es (seen accepted p b))
+
+-- a PUBLISH or a PUBREL
+abbrev pub IsNoConnect : Sent → Type 0
+IsNoConnect (shake (CONNECT clean)) = ⊥
+IsNoConnect packet = ⊤
 
 -- ---- CONNECT
 
@@ -140,6 +158,24 @@ pub record IsAsking (p : Publisher) (l : BrokerLine) (s : Session) (b : Broker) 
   -- what is under way on the line that was given up is a CONNECT, or the session is connected there, or there is nothing
   pub old : filter_map shaken (unless_closed (is_one_of p.line.old_number (lines_left (line_of s.birth b))) p.line.old) ≡ spared (filter_map shaken p.line.old)
 
+abbrev pub connect_packet : Bool → Publisher → Packet
+connect_packet clean p = wire p.client p.contents (shake (CONNECT clean))
+
+-- the publisher's line waits, and no session of its name stands
+pub record IsFirst (limits : Limits) (p : Publisher) (l : BrokerLine) (b : Broker) : Type 0 where
+  pub number : p.line.number ≡ Some l.number
+  pub line : line_at l.number b ≡ Some l
+  pub waits : l.session ≡ None
+  pub none : session_named p.client b.records ≡ None
+  pub births : HasGivenBirths b.records
+  pub within : limits.sessions ≤ SESSION_LIMIT
+  pub some : is_empty p.client ≡ false
+  pub short : nat_lt CLIENT_LIMIT (length p.client) ≡ false
+  pub plain : starts_with nat_eq p.client auto ≡ false
+  -- the line that it gave up is another one, and a CONNECT is under way there, or nothing
+  pub apart : is_one_of p.line.old_number (l.number ∷ []) ≡ false
+  pub old : filter_map shaken p.line.old ≡ spared (filter_map shaken p.line.old)
+
 abbrev pub hello_packet : Publisher → Packet
 hello_packet p = wire p.client p.contents (shake (CONNECT false))
 
@@ -158,6 +194,20 @@ MayGiveUp away clean = ⊤
 MayGiveUp asked true = ⊥
 MayGiveUp asked false = ⊤
 MayGiveUp live clean = ⊤
+
+-- ---- it joins by a new line
+
+abbrev pub joined_by : Limits → MemberChoice → ℕ → Bool → Publisher → Broker → Publisher
+joined_by limits choice now clean p b =
+    let q = publisher_told (stepped limits choice now NewLine b) (told limits choice now NewLine b) p in
+    record q { line = joined (shake (CONNECT clean)) (suc b.given) clean q.line }
+
+-- a CONNECT for which there is a line, by an end that has none, which carries a Clean Start through
+pub record MayJoin (clean : Bool) (p : Publisher) (b : Broker) : Type 0 where
+  pub can : can_link b ≡ true
+  pub given : IsBelow line_number (suc b.given) b.lines
+  pub away : p.line.link ≡ away
+  pub carried : p.line.clean ≡ true → clean ≡ true
 
 -- ---- runs of a hop
 

@@ -1,19 +1,19 @@
 //! Laws of the world: what a publisher sees of a step of the broker is what its hop does (4.3, 4.4).
-ghost use Rattle.std.specs.Prelude.{◌≡◌, ℕ, ◌≤◌, ◌∷◌, Bool, List, Some, None, false, nat_eq, slice_get, count_by};
-ghost use Rattle.std.specs.List.{starts_with};
-ghost use Rattle.mqtt_flow.specs.Publisher.{Qos, IsExactlyOnce, completed, refused, ended, ended_1, CONNECT, PUBLISH_2, PUBREL};
-ghost use Rattle.mqtt_flow.specs.InboundWorld.{Event as HopEvent, takes, to_broker, publish, give_up, break, step, run};
+ghost use Rattle.std.specs.Prelude.{◌≡◌, ℕ, ◌≤◌, [], ◌∷◌, Bool, List, Some, None, false, nat_eq, slice_get, count_by};
+ghost use Rattle.std.specs.List.{AllByRecursion, starts_with};
+ghost use Rattle.mqtt_flow.specs.Publisher.{Qos, IsExactlyOnce, completed, refused, ended, ended_1, CONNECT, PUBLISH_1, PUBLISH_2, PUBREL};
+ghost use Rattle.mqtt_flow.specs.InboundWorld.{Event as HopEvent, takes, to_broker, publish, give_up, break, connect, restart, step, run};
 ghost use Rattle.mqtt_records.specs.declared.session.Session.{Session};
 ghost use Rattle.mqtt_rules.specs.declared.Limits.{Limits};
 ghost use Rattle.mqtt_rules.specs.State.{Line, Broker, MemberChoice};
 ghost use Rattle.mqtt_rules.specs.Connect.{auto};
-ghost use Rattle.mqtt_rules.specs.Step.{Call, Input, Lost, stepped, told};
+ghost use Rattle.mqtt_rules.specs.Step.{Call, NewLine, Input, Lost, opened, stepped, told};
 ghost use Rattle.mqtt_laws.specs.Lines.{gives_up};
-ghost use Rattle.mqtt_laws.specs.Ends.{Draft, Sent, shake, Publisher, wire, published, publisher_reads};
-ghost use Rattle.mqtt_laws.specs.World.{publisher_told};
+ghost use Rattle.mqtt_laws.specs.Ends.{Content, Draft, Sent, shake, plain, Publisher, wire, published, publisher_reads};
+ghost use Rattle.mqtt_laws.specs.World.{publisher_restarted, publisher_told};
 ghost use Rattle.mqtt_laws.specs.Seen.{qos_of_draft, is_linked, seen};
 ghost use Rattle.mqtt_laws.specs.Hops.{IsConnected, IsAsking, Own, IsFarCall, IsRun};
-ghost use Rattle.mqtt_laws.specs.Hops.{MayGiveUp, after_step, wire_2, hello_packet, lost_by, Becomes};
+ghost use Rattle.mqtt_laws.specs.Hops.{IsKept, IsOurs, connect_packet, IsFirst, joined_by, MayJoin, IsNoConnect, IsUnheard, MayGiveUp, after_step, wire_1, wire_2, hello_packet, lost_by, Becomes};
 
 /// The broker reads the first packet of a publisher's line. Whatever the limits, the routing, the queues
 /// and all other sessions and lines, what the publisher sees of it is one event of its hop (4.3.3, 4.4).
@@ -29,15 +29,22 @@ pub fn own_packets_are_steps_of_the_hop()
         → Becomes limits choice now (Input l.number (wire p.client p.contents (shake (PUBREL id)))) k p b accepted
         (to_broker takes) }
 
-    // After either the session and the line are still its own.
-    ensures publish_stays { (limits : Limits) (choice : MemberChoice) (now : ℕ) (p : Publisher) (id k : ℕ)
-        → (dup : Bool) (l : Line) (s : Session) (b : Broker)
-        → IsConnected p l s b → Own p.client s.birth l.number b
-        → Own p.client s.birth l.number (stepped limits choice now (Input l.number (wire_2 p id k dup)) b) }
-    ensures release_stays { (limits : Limits) (choice : MemberChoice) (now : ℕ) (p : Publisher) (id : ℕ)
-        → (l : Line) (s : Session) (b : Broker) → IsConnected p l s b → Own p.client s.birth l.number b
+    // PUBLISH of QoS 1, with the same outcomes; one of QoS 0 is no event, unless its topic closes the line.
+    ensures publish_once { (limits : Limits) (choice : MemberChoice) (now : ℕ) (p : Publisher) (rest : List Sent)
+        → (id k : ℕ) (dup : Bool) (l : Line) (s : Session) (b : Broker) (accepted : List ℕ)
+        → p.line.up ≡ shake (PUBLISH_1 id k dup) ∷ rest → IsConnected p l s b
+        → (e : HopEvent) × Becomes limits choice now (Input l.number (wire_1 p id k dup)) k p b accepted e }
+    ensures publish_plain { (limits : Limits) (choice : MemberChoice) (now : ℕ) (p : Publisher) (rest : List Sent)
+        → (content : Content) (l : Line) (s : Session) (b : Broker) (accepted : List ℕ)
+        → p.line.up ≡ plain content ∷ rest → IsConnected p l s b
+        → IsUnheard limits choice now (Input l.number (wire p.client p.contents (plain content))) p b accepted }
+
+    // After each of these the session and the line are still its own.
+    ensures stays { (limits : Limits) (choice : MemberChoice) (now : ℕ) (p : Publisher) (packet : Sent)
+        → (l : Line) (s : Session) (b : Broker)
+        → IsNoConnect packet → IsConnected p l s b → Own p.client s.birth l.number b
         → Own p.client s.birth l.number
-        (stepped limits choice now (Input l.number (wire p.client p.contents (shake (PUBREL id)))) b) }
+        (stepped limits choice now (Input l.number (wire p.client p.contents packet)) b) }
 
     // CONNECT without Clean Start while its session stands, which may be connected on the line given up.
     ensures connect { (limits : Limits) (choice : MemberChoice) (now : ℕ) (p : Publisher) (rest : List Sent)
@@ -47,12 +54,31 @@ pub fn own_packets_are_steps_of_the_hop()
         (stepped limits choice now (Input l.number (hello_packet p)) b)
         ≡ step (seen accepted p b) (to_broker takes) }
 
+    // CONNECT, with or without Clean Start, where no session of its name stands: one begins, or the table is full.
+    ensures first { (limits : Limits) (choice : MemberChoice) (now : ℕ) (clean : Bool) (p : Publisher)
+        → (l : Line) (b : Broker) (accepted : List ℕ)
+        → p.line.up ≡ shake (CONNECT clean) ∷ [] → IsFirst limits p l b
+        → (e : HopEvent)
+        × (seen accepted (after_step limits choice now (Input l.number (connect_packet clean p)) p b)
+        (stepped limits choice now (Input l.number (connect_packet clean p)) b)
+        ≡ step (seen accepted p b) e) }
+
     // The line is lost on both sides.
     ensures lost { (limits : Limits) (choice : MemberChoice) (now : ℕ) (p : Publisher) (l : Line) (s : Session)
         → (b : Broker) (accepted : List ℕ) → IsConnected p l s b
         → seen accepted (lost_by limits choice now l.number p b)
         (stepped limits choice now (Lost l.number) b)
         ≡ step (seen accepted p b) break }
+{}
+
+/// The broker restarts while the publisher's session stands, connected or not: whatever Wills are due and
+/// sessions end, the publisher sees that one event of its hop (4.1).
+pub fn a_restart_is_a_step_of_the_hop()
+    ensures restarts { (limits : Limits) (choice : MemberChoice) (now : ℕ) (p : Publisher) (s : Session) (b : Broker)
+        → (accepted : List ℕ) → IsKept p.client s b
+        → AllByRecursion (IsOurs p.client s.birth) b.records.sessions → s.birth ≤ b.records.births
+        → seen accepted (publisher_restarted p) (opened limits choice now b.records)
+        ≡ step (seen accepted p b) restart }
 {}
 
 /// A packet, a fault or a loss on another line, that is no CONNECT of this client, a new line, any pump and
@@ -98,6 +124,10 @@ pub fn own_doings_are_steps_of_the_hop()
         → MayGiveUp p.line.link p.line.clean
         → seen accepted (record p { line = gives_up p.line.link p.line }) b
         ≡ step (seen accepted p b) give_up }
+    ensures joins { (limits : Limits) (choice : MemberChoice) (now : ℕ) (clean : Bool) (p : Publisher) (b : Broker)
+        → (accepted : List ℕ) → MayJoin clean p b
+        → seen accepted (joined_by limits choice now clean p b) (stepped limits choice now NewLine b)
+        ≡ step (seen accepted p b) (connect clean) }
     ensures reads { (accepted : List ℕ) (b : Broker) (t : Bool) (p : Publisher) → is_linked p.line.number b ≡ t
         → (es : List HopEvent) × (seen accepted (publisher_reads t p.line.down p) b ≡ run es (seen accepted p b)) }
 {}
