@@ -38,7 +38,7 @@ left_first f g fault s new is =
       start = is.start;
       limits = is.limits;
       spent = λ e. ap is_spent (rows_append (f s.broker) (g (after_all (f s.broker) s.broker)) s.broker)
-        ∙ (spent_append (rows_of_all (f s.broker) s.broker.records) rest ∙ ap (λ b. b || is_spent rest) (is.spent e));
+          ∙ (spent_append (rows_of_all (f s.broker) s.broker.records) rest ∙ ap (λ b. b || is_spent rest) (is.spent e));
     }
 
 -- the first is done, and the second refused
@@ -49,9 +49,9 @@ left_then f g fault s s1 s2 first is =
       start = is.start ∙ ap (λ (x : Stepping). x.start) first.is;
       limits = is.limits ∙ ap (λ (x : Stepping). x.limits) first.is;
       spent = λ e.
-        ap is_spent (rows_append (f s.broker) (g (after_all (f s.broker) s.broker)) s.broker)
-        ∙ (spent_append rows (rows_of_all (g (after_all (f s.broker) s.broker)) (after_all (f s.broker) s.broker).records)
-        ∙ (ap (λ b. is_spent rows || b)
+          ap is_spent (rows_append (f s.broker) (g (after_all (f s.broker) s.broker)) s.broker)
+          ∙ (spent_append rows (rows_of_all (g (after_all (f s.broker) s.broker)) (after_all (f s.broker) s.broker).records)
+          ∙ (ap (λ b. is_spent rows || b)
           (ap (λ (x : Stepping). is_spent (rows_of_all (g x.broker) x.broker.records)) (sym first.is) ∙ is.spent e)
-        ∙ or_true (is_spent rows)));
+          ∙ or_true (is_spent rows)));
     }

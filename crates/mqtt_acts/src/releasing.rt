@@ -39,12 +39,7 @@ fn completed(identifier: u16, reason: Reason) -> Packet
 
 /// The identifier of a PUBREL is closed, and PUBCOMP answers it, with Packet Identifier not found where it
 /// wasn't open (4.3.3).
-pub fn pubrel(
-    step: &mut Step,
-    line: u64,
-    birth: u64,
-    identifier: u16,
-) -> Result<(), StepFault>
+pub fn pubrel(step: &mut Step, line: u64, birth: u64, identifier: u16) -> Result<(), StepFault>
     requires { 0 < identifier }
     ensures ok { (l : Line) → l.number ≡ line → OnOk result (Did
         (of_session birth (λ s. always (on_pubrel l s identifier))) step.old step.new) }
