@@ -1,8 +1,7 @@
 -- One act after another, and where the second is refused.
-use Rattle.std.proofs.Common.{◌≡◌, Bool, true, false, ◌||◌, List, [], ◌∷◌, ◌++◌, refl, ap, sym, ◌∙◌}
+use Rattle.std.proofs.Common.{◌≡◌, Bool, true, false, ◌||◌, List, refl, ap, sym, ◌∙◌}
 use Rattle.mqtt_records.specs.declared.change.Change.{Change}
-use Rattle.mqtt_rules.specs.State.{Broker}
-use Rattle.mqtt_rules.specs.Deeds.{Deed, Act, then, after_all, rows_of_all}
+use Rattle.mqtt_rules.specs.Deeds.{Act, then, after_all, rows_of_all}
 use Rattle.mqtt_rules.specs.Step.{is_spent}
 use Rattle.mqtt_tables.specs.declared.fault.StepFault.{StepFault}
 use Rattle.mqtt_tables.specs.Stepping.{Stepping, did, Did, IsLeft}
