@@ -1,20 +1,18 @@
 -- What deeds make of a step: one after the other, and one that is a row.
-use Rattle.std.proofs.Common.{◌≡◌, ℕ, suc, ◌≤◌, Bool, true, false, ◌||◌, cond, List, [], ◌∷◌, ◌++◌, nat_eq, nat_lt, refl, ap, sym, subst, ◌∙◌, append_assoc, append-nil, inl, inr}
-use Rattle.std.specs.Prelude.{filter_map, map, Option, Some, None, Result, Ok, Err, IfErr, OnErr, IfOk, OnOk}
+use Rattle.std.proofs.Common.{◌≡◌, ℕ, Bool, ◌||◌, cond, List, [], ◌∷◌, ◌++◌, nat_eq, refl, ap, sym, ◌∙◌, append_assoc, append-nil, inl, inr}
+use Rattle.std.specs.Prelude.{filter_map, map, Option, Some, None, Result, Ok, Err, IfErr, OnErr, OnOk}
 use Rattle.std.proofs.lemmas.List.Elements.{filter_map-append}
-use Rattle.std.proofs.lemmas.Bool.{cases_Bool, eqb-true, lt-ltb}
-use Rattle.mqtt_codec.specs.declared.packet.Packet.{Packet}
-use Rattle.mqtt_base.specs.declared.limits.TheConstants.{LAST_NUMBER}
+use Rattle.std.proofs.lemmas.Bool.{cases_Bool, eqb-true}
 use Rattle.mqtt_records.specs.declared.change.Change.{Change}
 use Rattle.mqtt_records.specs.declared.records.Records.{Records}
 use Rattle.mqtt_records.specs.declared.session.Session.{Session}
-use Rattle.mqtt_records.specs.Records.{changed, changed_all}
+use Rattle.mqtt_records.specs.Records.{changed_all}
 use Rattle.mqtt_records.specs.Session.{birth_of}
 use Rattle.mqtt_rows.specs.Order.{row_at}
 use Rattle.mqtt_rules.specs.declared.Report.{Report}
 use Rattle.mqtt_rules.specs.State.{Line, Broker, session_at}
-use Rattle.mqtt_rules.specs.Deeds.{Deed, Part, At, Act, whose, after, after_all, rows_of, rows_of_all, stored_after, lines_after, given_after, part_rows, part_rows_of, lines_at, part_report, of_session, with_session, always, series, output, closing, report}
-use Rattle.mqtt_rules.specs.Step.{is_spent, number_given}
+use Rattle.mqtt_rules.specs.Deeds.{Deed, Part, At, Act, whose, after, after_all, rows_of, rows_of_all, stored_after, lines_after, given_after, part_rows, part_rows_of, lines_at, part_report, with_session, always, series, output, closing, report}
+use Rattle.mqtt_rules.specs.Step.{is_spent}
 use Rattle.mqtt_rules.proofs.Goods.{after_append}
 use Rattle.mqtt_tables.specs.declared.fault.StepFault.{StepFault}
 use Rattle.mqtt_tables.specs.declared.fault.StepFault.TheVariants.{Memory, Spent}

@@ -1,7 +1,7 @@
 -- What takes an edit of a list of rows back.
-use Rattle.std.proofs.Common.{◌≡◌, ℕ, suc, ◌<◌, ◌≤◌, Bool, true, false, cond, not, ◌||◌, List, [], ◌∷◌, ◌++◌, length, map, filter, nat_eq, nat_lt, max, refl, ap, sym, subst, ◌∙◌, arith, inl, inr}
+use Rattle.std.proofs.Common.{◌≡◌, ℕ, ◌<◌, ◌≤◌, Bool, true, false, cond, ◌||◌, List, [], ◌∷◌, length, map, nat_eq, nat_lt, refl, ap, sym, subst, ◌∙◌, arith, inl, inr}
 use Rattle.std.specs.Prelude.{Option, Some, None, is_some}
-use Rattle.std.proofs.lemmas.Bool.{eqb-true, cases_Bool, cases_order, ltb-true, lt-ltb, le-ltb}
+use Rattle.std.proofs.lemmas.Bool.{eqb-true, eq-eqb, cases_Bool, lt-ltb}
 use Rattle.mqtt_routes.specs.Intended.{greatest}
 use Rattle.mqtt_rows.specs.Order.{IsAscending, row_at, has_row, insert_row, put_row, remove_row, change_row, last_row}
 use Rattle.mqtt_rows.proofs.OrderLemmas.{apart, change-none, remove-length, remove-none, remove-ascending, insert-ascending}
@@ -127,4 +127,31 @@ module _ {X : Type 0} (key : X → ℕ) where
       same_at j = elim (cases_Bool (nat_eq (key x) j)) [
         | inl here ↦ rw here (sym found ∙ ap (λ n. row_at key n xs) (eqb-true (key x) j here))
         | inr other ↦ rw other refl
+      ]
+
+  has_inserted : (row : X) (k : ℕ) (xs : List X) → key row ≡ k → has_row key k (insert_row key row xs) ≡ true
+  has_inserted row k xs same =
+      let asked : nat_eq (key row) k ≡ true = eq-eqb (key row) k same in
+      ap is_some (row_at-insert_row key k row xs ∙ ap (λ (b : Bool). cond b (Some row) (row_at key k xs)) asked)
+
+  -- a row put in the place of another, and that one put back
+  pub put_over : (limit : ℕ) (row old : X) (xs : List X) → IsAscending key xs → row_at key (key row) xs ≡ Some old → put_row key limit old (put_row key limit row xs) ≡ xs
+  put_over limit row old xs up found =
+      let same : key old ≡ key row = row_key (key row) xs old found in
+      let takes : (has_row key (key row) xs || nat_lt (length xs) limit) ≡ true = ap (λ o. is_some o || nat_lt (length xs) limit) found in
+      let takes_again : (has_row key (key old) (insert_row key row xs) || nat_lt (length (insert_row key row xs)) limit) ≡ true =
+      ap (λ b. b || nat_lt (length (insert_row key row xs)) limit) (has_inserted row (key old) xs (sym same)) in
+      rw (takes, takes_again) (same_rows key (insert_row key old (insert_row key row xs)) xs
+      (insert-ascending key old (insert_row key row xs) (insert-ascending key row xs up)) up
+      (λ j. row_at-insert_row key j old (insert_row key row xs)
+      ∙ (ap (λ o. cond (nat_eq (key old) j) (Some old) o) (row_at-insert_row key j row xs) ∙ at j same)))
+    where
+      at : (j : ℕ) → key old ≡ key row → cond (nat_eq (key old) j) (Some old) (cond (nat_eq (key row) j) (Some row) (row_at key j xs)) ≡ row_at key j xs
+      at j same = elim (cases_Bool (nat_eq (key row) j)) [
+        | inl here ↦
+            let again : nat_eq (key old) j ≡ true = ap (λ n. nat_eq n j) same ∙ here in
+            rw again (sym found ∙ ap (λ n. row_at key n xs) (eqb-true (key row) j here))
+        | inr other ↦
+            let again : nat_eq (key old) j ≡ false = ap (λ n. nat_eq n j) same ∙ other in
+            rw (again, other) refl
       ]

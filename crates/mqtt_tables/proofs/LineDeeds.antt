@@ -1,15 +1,15 @@
 -- What the deeds of a line make of a step.
-use Rattle.std.proofs.Common.{◌≡◌, ℕ, Bool, true, false, cond, List, [], ◌∷◌, ◌++◌, nat_eq, refl, ap, sym, ◌∙◌, append-nil, inl, inr}
+use Rattle.std.proofs.Common.{◌≡◌, ℕ, Bool, cond, List, [], ◌∷◌, nat_eq, refl, ap, sym, ◌∙◌, append-nil, inl, inr}
 use Rattle.std.specs.Prelude.{Some, None}
 use Rattle.std.proofs.lemmas.Bool.{cases_Bool}
-use Rattle.mqtt_rows.specs.Order.{row_at, change_row, remove_row}
-use Rattle.mqtt_rules.specs.State.{Line, Broker}
-use Rattle.mqtt_rules.specs.Deeds.{LinePart, On, Gone, always, on_line, line_after}
+use Rattle.mqtt_rows.specs.Order.{row_at, change_row}
+use Rattle.mqtt_rules.specs.State.{Line}
+use Rattle.mqtt_rules.specs.Deeds.{LinePart, On, always, on_line, line_after}
 use Rattle.mqtt_tables.specs.declared.line.LineChange.{LineChange}
 use Rattle.mqtt_tables.specs.Lines.{line_changed, line_number}
 use Rattle.mqtt_tables.specs.Undoing.{with_lines, with_line_changed}
-use Rattle.mqtt_tables.specs.Stepping.{Stepping, did, Did, with_broker, shut}
-use Rattle.mqtt_tables.proofs.Doing.{same_parts, did_none}
+use Rattle.mqtt_tables.specs.Stepping.{Stepping, did, Did, with_broker}
+use Rattle.mqtt_tables.proofs.Doing.{same_parts}
 
 -- the line that was found is changed as the rules have it
 on_line_found : (moment n : ℕ) (part : LinePart) (change : LineChange) (l : Line) (ls : List Line) → row_at line_number n ls ≡ Some l

@@ -1,9 +1,9 @@
 -- One row more for the store.
-use Rattle.std.proofs.Common.{◌≡◌, Bool, true, false, ◌||◌, List, [], ◌∷◌, ◌++◌, nat_lt, refl, ap, sym, subst, ◌∙◌, inl, inr}
+use Rattle.std.proofs.Common.{◌≡◌, false, ◌||◌, List, [], ◌∷◌, ◌++◌, nat_lt, refl, ap, sym, subst, ◌∙◌, inl, inr}
 use Rattle.std.proofs.lemmas.Bool.{cases_Bool}
 use Rattle.mqtt_base.specs.declared.limits.TheConstants.{LAST_NUMBER}
 use Rattle.mqtt_records.specs.declared.change.Change.{Change}
-use Rattle.mqtt_records.specs.Records.{changed, changed_all}
+use Rattle.mqtt_records.specs.Records.{changed}
 use Rattle.mqtt_rules.specs.Step.{is_spent, number_given}
 use Rattle.mqtt_rules.proofs.StoredLaw.{changed_all_append}
 use Rattle.mqtt_tables.specs.Undoing.{Changing, become, with_change}

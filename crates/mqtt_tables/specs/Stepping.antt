@@ -1,5 +1,5 @@
 -- A step under way: what stood when it began, what its deeds made of it, and what they wrote and told.
-use Rattle.std.specs.Prelude.{◌≡◌, ℕ, Bool, true, false, List, [], ◌∷◌, ◌++◌, map, filter_map}
+use Rattle.std.specs.Prelude.{◌≡◌, ℕ, true, false, List, [], ◌∷◌, ◌++◌, map, filter_map}
 use Rattle.mqtt_codec.specs.declared.packet.Packet.{Packet}
 use Rattle.mqtt_codec.specs.Packets.{shortest_of}
 use Rattle.mqtt_records.specs.declared.change.Change.{Change}

@@ -10,6 +10,7 @@ mod line;
 mod lines;
 mod numbers;
 mod outputs;
+mod retained;
 mod sessions;
 mod step;
 mod tables;

@@ -15,6 +15,7 @@ use mqtt_rules::Report;
 /// The number after the last one that was given.
 pub(crate) fn next(last: u64) -> Result<u64, StepFault>
     ensures next { IfOk result (λ number. number ≡ suc last) }
+    ensures within { IfOk result (λ number. number ≤ LAST_NUMBER) }
     ensures spent { IfErr result (λ fault. (fault ≡ StepFault.Spent) × (LAST_NUMBER ≤ last)) }
 {
     if last >= LAST_NUMBER {

@@ -3,7 +3,7 @@ ghost use Rattle.std.specs.Prelude.{◌≡◌, ◌∷◌, [], Some, IfOk, IfErr,
 ghost use Rattle.mqtt_records.specs.Session.{columns_of};
 ghost use Rattle.mqtt_records.specs.declared.session.Columns.{Columns as TheColumns};
 ghost use Rattle.mqtt_records.specs.declared.change.Change.TheVariants as change;
-ghost use Rattle.mqtt_rules.specs.Deeds.{Whose, Close, SetExpiry, DropWill, Finish, Forget, always};
+ghost use Rattle.mqtt_rules.specs.Deeds.{Whose, Close, SetExpiry, DropWill, Finish, always};
 ghost use Rattle.mqtt_tables.specs.Backs.{TakesBack};
 ghost use Rattle.mqtt_tables.specs.Stepping.{Did, IsLeft, written, to_session};
 
@@ -114,18 +114,6 @@ impl Step {
         self.rows.reserve(1)?;
         self.tables.take_session(birth)?;
         self.rows.push(Change::RemoveSession { birth }).unwrap();
-        Ok(())
-    }
-
-    /// A retained message is forgotten (3.3.1.3).
-    pub fn forget(&mut self, place: u64) -> Result<(), StepFault>
-        ensures ok { OnOk result (Did (always (Forget place ∷ [])) self.old self.new) }
-        ensures left { IfErr result (λ fault.
-            IsLeft (always (Forget place ∷ [])) fault self.old self.new) }
-    {
-        self.rows.reserve(1)?;
-        self.tables.take_retained(place)?;
-        self.rows.push(Change::RemoveRetained { place }).unwrap();
         Ok(())
     }
 }

@@ -1,5 +1,5 @@
-use Rattle.std.proofs.Common.{◌≡◌, refl, ap, sym, ◌∙◌}
-use Rattle.std.specs.Prelude.{Option, Some, None}
+use Rattle.std.proofs.Common.{◌≡◌, ap, sym, ◌∙◌}
+use Rattle.std.specs.Prelude.{Some, None}
 use Rattle.mqtt_message.specs.declared.message.Will.{Will}
 use Rattle.mqtt_tables.proofs.Backs.{will_set_back}
 use Rattle.mqtt_tables.proofs.sessions.will_back.Goals as goal

@@ -1,9 +1,7 @@
 use Rattle.std.proofs.Common.{◌≡◌, [], ◌∷◌, refl, ap, sym}
-use Rattle.std.specs.Prelude.{Some}
 use Rattle.mqtt_records.specs.declared.session.Columns.{Columns}
 use Rattle.mqtt_records.specs.declared.session.Session.{Session}
 use Rattle.mqtt_records.specs.declared.change.Change.TheVariants.{SetSession}
-use Rattle.mqtt_records.specs.Session.{columns_of}
 use Rattle.mqtt_rules.specs.Deeds.{Close, part_rows}
 use Rattle.mqtt_tables.proofs.Doing.{on_ok, if_err_too, stands, part_ok, part_left}
 use Rattle.mqtt_tables.proofs.step.Step.close.Goals as goal

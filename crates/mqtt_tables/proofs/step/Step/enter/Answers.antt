@@ -1,4 +1,4 @@
-use Rattle.std.proofs.Common.{◌≡◌, ℕ, suc, ◌<◌, true, nat_lt, [], ◌∷◌, arith, refl, ap, sym, ◌∙◌}
+use Rattle.std.proofs.Common.{◌≡◌, true, nat_lt, [], ◌∷◌, arith, refl, ap, sym, ◌∙◌}
 use Rattle.std.specs.Prelude.{Some, None}
 use Rattle.std.proofs.lemmas.Bool.{lt-ltb}
 use Rattle.mqtt_base.specs.declared.limits.TheConstants.{LAST_NUMBER}
@@ -10,7 +10,7 @@ use Rattle.mqtt_records.specs.declared.change.Change.TheVariants.{PutCopy}
 use Rattle.mqtt_records.specs.Session.{copy_place, with_copy, without_copy}
 use Rattle.mqtt_rules.specs.declared.Report.{Report}
 use Rattle.mqtt_rules.specs.State.{next_of}
-use Rattle.mqtt_rules.specs.Deeds.{Enter, new_entry, part_rows}
+use Rattle.mqtt_rules.specs.Deeds.{Enter, new_entry}
 use Rattle.mqtt_tables.proofs.Backs.{session_back, entered_back}
 use Rattle.mqtt_tables.proofs.Inverse.{none_above}
 use Rattle.mqtt_tables.proofs.Doing.{on_ok, if_err, stands, part_told, left_part}

@@ -1,7 +1,7 @@
 use Rattle.std.proofs.Common.{refl, sym}
 use Rattle.mqtt_records.specs.declared.change.Change.TheVariants.{PutInbound}
 use Rattle.mqtt_rules.specs.Deeds.{Open}
-use Rattle.mqtt_tables.proofs.Doing.{on_ok, if_err_too, stands, part_ok, part_told, part_left}
+use Rattle.mqtt_tables.proofs.Doing.{on_ok, stands, part_ok}
 use Rattle.mqtt_tables.proofs.step.Step.open.Goals as goal
 
 pub make-requires : goal.make-requires

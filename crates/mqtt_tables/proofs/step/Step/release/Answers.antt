@@ -3,7 +3,7 @@ use Rattle.std.specs.Prelude.{Some}
 use Rattle.mqtt_records.specs.declared.change.Change.TheVariants.{RemoveInbound}
 use Rattle.mqtt_rules.specs.Deeds.{Release}
 use Rattle.mqtt_rules.specs.declared.Report.TheVariants.{Released}
-use Rattle.mqtt_tables.proofs.Doing.{on_ok, if_err_too, stands, part_ok, part_told, part_left}
+use Rattle.mqtt_tables.proofs.Doing.{on_ok, stands, part_told}
 use Rattle.mqtt_tables.proofs.step.Step.release.Goals as goal
 
 pub make_told-requires : goal.make_told-requires

@@ -1,4 +1,4 @@
-use Rattle.std.proofs.Common.{◌≡◌, List, ◌∷◌, [], ◌++◌, refl, ap, sym, ◌∙◌}
+use Rattle.std.proofs.Common.{◌≡◌, List, ◌∷◌, [], ◌++◌, ap, sym, ◌∙◌}
 use Rattle.mqtt_rows.specs.Order.{remove_row}
 use Rattle.mqtt_rows.proofs.OrderLemmas.{remove-none}
 use Rattle.mqtt_rules.specs.State.{Line, Broker}

@@ -1,7 +1,7 @@
-use Rattle.std.proofs.Common.{◌≡◌, List, ◌∷◌, [], ◌++◌, refl, ap, sym, ◌∙◌}
+use Rattle.std.proofs.Common.{◌≡◌, List, ◌∷◌, [], ◌++◌, ap, sym, ◌∙◌}
 use Rattle.mqtt_rows.specs.Order.{remove_row}
 use Rattle.mqtt_rows.proofs.OrderLemmas.{remove-none}
-use Rattle.mqtt_rules.specs.State.{Line, Broker}
+use Rattle.mqtt_rules.specs.State.{Broker}
 use Rattle.mqtt_base.specs.declared.limits.TheConstants.{RETAINED_LIMIT}
 use Rattle.mqtt_rows.specs.Order.{put_row}
 use Rattle.mqtt_message.specs.declared.message.RetainedMessage.{RetainedMessage}
