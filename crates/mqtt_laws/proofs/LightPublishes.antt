@@ -6,8 +6,8 @@ use Rattle.mqtt_codec.specs.declared.publish.Delivery.{Delivery as Handing}
 use Rattle.mqtt_codec.specs.declared.publish.Delivery.TheVariants as delivery
 use Rattle.mqtt_codec.specs.declared.publish.Publish.{Publish as Publication}
 use Rattle.mqtt_topic.specs.Names.{is_empty}
-use Rattle.mqtt_flow.specs.declared.inflow.Published.{Published}
-use Rattle.mqtt_flow.specs.declared.inflow.Published.TheVariants.{New, Again, Over}
+use Rattle.mqtt_inbound.specs.declared.inflow.Published.{Published}
+use Rattle.mqtt_inbound.specs.declared.inflow.Published.TheVariants.{New, Again, Over}
 use Rattle.mqtt_base.specs.Codes.{success, no_matching_subscribers, quota_exceeded, receive_maximum_exceeded}
 use Rattle.mqtt_flow.specs.Inbound.{answer_to}
 use Rattle.mqtt_flow.specs.Publisher.{FromPublisher, PUBLISH_1, ToPublisher, PUBACK, PUBREC, DISCONNECT}
