@@ -1,7 +1,7 @@
 -- Whether an identifier is open, as the table of identifiers has it and as the rules do.
 use Rattle.std.proofs.Common.{◌≡◌, ℕ, nat_eq, List, [], ◌∷◌, refl, inl, inr}
 use Rattle.std.proofs.lemmas.Bool.{cases_Bool}
-use Rattle.mqtt_flow.specs.Identifiers.{is_among}
+use Rattle.mqtt_inbound.specs.Identifiers.{is_among}
 use Rattle.mqtt_rows.specs.Order.{has_row}
 use Rattle.mqtt_records.specs.Session.{number_of}
 

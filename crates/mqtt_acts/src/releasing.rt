@@ -3,7 +3,7 @@ ghost use Rattle.std.specs.Prelude.{◌≡◌, ◌<◌, true, OnOk, IfErr};
 ghost use Rattle.mqtt_base.specs.declared.kind.Kind.TheVariants as kinds;
 ghost use Rattle.mqtt_base.specs.Reasons.{is_code};
 ghost use Rattle.mqtt_codec.specs.Packets.{HasSpelling};
-ghost use Rattle.mqtt_flow.specs.Identifiers.{is_among};
+ghost use Rattle.mqtt_inbound.specs.Identifiers.{is_among};
 ghost use Rattle.mqtt_rules.specs.State.{Line};
 ghost use Rattle.mqtt_rules.specs.Packets.{pubcomp};
 ghost use Rattle.mqtt_rules.specs.Deeds.{always, of_session};

@@ -1,7 +1,7 @@
 -- The publisher's line is lost on both sides: it is the step of the hop (MQTT 5.0, 4.2).
 use Rattle.std.proofs.Common.{◌≡◌, ℕ, Bool, true, List, [], ◌∷◌, ◌++◌, Option, Some, None, bytes_eq, sym, ap, ◌∙◌}
 use Rattle.std.specs.Prelude.{option_map, find, filter_map, is_some}
-use Rattle.mqtt_flow.specs.InboundWorld.{break, step}
+use Rattle.mqtt_inbound.specs.InboundWorld.{break, step}
 use Rattle.mqtt_records.specs.declared.session.Session.{Session}
 use Rattle.mqtt_rules.specs.declared.Limits.{Limits}
 use Rattle.mqtt_rules.specs.State.{MemberChoice, Line as BrokerLine, Broker, session_at, session_named, line_at}

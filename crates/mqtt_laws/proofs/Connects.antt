@@ -12,8 +12,8 @@ use Rattle.mqtt_props.specs.Properties.{U32}
 use Rattle.mqtt_flow.specs.declared.entry.Turn.TheVariants as turns
 use Rattle.mqtt_base.specs.Codes.{success, session_taken_over}
 use Rattle.mqtt_flow.specs.Outbound.{due_from}
-use Rattle.mqtt_flow.specs.Publisher.{FromPublisher, CONNECT, ToPublisher, CONNACK}
-use Rattle.mqtt_flow.specs.InboundWorld.{takes, to_broker, spared, on_connect as on_hop, broker_reads, step}
+use Rattle.mqtt_inbound.specs.Publisher.{FromPublisher, CONNECT, ToPublisher, CONNACK}
+use Rattle.mqtt_inbound.specs.InboundWorld.{takes, to_broker, spared, on_connect as on_hop, broker_reads, step}
 use Rattle.mqtt_records.specs.declared.session.Session.{Session}
 use Rattle.mqtt_records.specs.declared.session.Columns.{Columns}
 use Rattle.mqtt_records.specs.declared.records.Records.{Records}

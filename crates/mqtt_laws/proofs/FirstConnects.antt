@@ -11,8 +11,8 @@ use Rattle.mqtt_base.specs.Codes.{quota_exceeded}
 use Rattle.mqtt_connect.specs.declared.connect.Connect.{Connect as Greeting}
 use Rattle.mqtt_codec.specs.declared.packet.Packet.TheVariants.{Connect}
 use Rattle.mqtt_topic.specs.Names.{is_empty}
-use Rattle.mqtt_flow.specs.Publisher.{FromPublisher, CONNECT, ToPublisher, CONNACK, CONNACK_REFUSED}
-use Rattle.mqtt_flow.specs.InboundWorld.{Event as HopEvent, takes, refuses, to_broker, spared, on_connect as on_hop, broker_reads, step}
+use Rattle.mqtt_inbound.specs.Publisher.{FromPublisher, CONNECT, ToPublisher, CONNACK, CONNACK_REFUSED}
+use Rattle.mqtt_inbound.specs.InboundWorld.{Event as HopEvent, takes, refuses, to_broker, spared, on_connect as on_hop, broker_reads, step}
 use Rattle.mqtt_records.specs.declared.session.Session.{Session}
 use Rattle.mqtt_records.specs.declared.session.Columns.{Columns}
 use Rattle.mqtt_records.specs.declared.records.Records.{Records}

@@ -3,8 +3,8 @@
 use Rattle.std.proofs.Common.{◌≡◌, ℕ, ◌≤◌, Bool, true, false, List, [], ◌∷◌, ◌++◌, Option, Some, nat_eq, bytes_eq, refl, sym, ap, subst, ◌∙◌, append-nil}
 use Rattle.std.specs.Prelude.{option_map, find, filter_map, is_some}
 use Rattle.std.specs.List.{AllByRecursion, starts_with}
-use Rattle.mqtt_flow.specs.Publisher.{ToPublisher}
-use Rattle.mqtt_flow.specs.InboundWorld.{World as Hop, Event as HopEvent, close_old, run}
+use Rattle.mqtt_inbound.specs.Publisher.{ToPublisher}
+use Rattle.mqtt_inbound.specs.InboundWorld.{World as Hop, Event as HopEvent, close_old, run}
 use Rattle.mqtt_records.specs.declared.session.Session.{Session}
 use Rattle.mqtt_records.specs.declared.change.Change.{Change}
 use Rattle.mqtt_rules.specs.declared.Limits.{Limits}

@@ -4,9 +4,9 @@ use Rattle.std.specs.Prelude.{find, filter_map, is_some}
 use Rattle.std.proofs.lemmas.Cmp.{nat_eq_equiv}
 use Rattle.mqtt_rows.specs.Order.{IsBelow}
 use Rattle.mqtt_rows.proofs.OrderLemmas.{apart}
-use Rattle.mqtt_flow.specs.Line.{Link, away, asked}
-use Rattle.mqtt_flow.specs.Publisher.{CONNECT}
-use Rattle.mqtt_flow.specs.InboundWorld.{connect, on_join, step}
+use Rattle.mqtt_inbound.specs.Line.{Link, away, asked}
+use Rattle.mqtt_inbound.specs.Publisher.{CONNECT}
+use Rattle.mqtt_inbound.specs.InboundWorld.{connect, on_join, step}
 use Rattle.mqtt_rules.specs.declared.Limits.{Limits}
 use Rattle.mqtt_rules.specs.State.{Line as BrokerLine, Broker, MemberChoice, session_named}
 use Rattle.mqtt_rules.specs.Deeds.{Link as Linked, fresh_line, after}

@@ -9,9 +9,9 @@ use Rattle.mqtt_topic.specs.Names.{is_empty}
 use Rattle.mqtt_inbound.specs.declared.inflow.Published.{Published}
 use Rattle.mqtt_inbound.specs.declared.inflow.Published.TheVariants.{New, Again, Over}
 use Rattle.mqtt_base.specs.Codes.{success, no_matching_subscribers, quota_exceeded, receive_maximum_exceeded}
-use Rattle.mqtt_flow.specs.Inbound.{answer_to}
-use Rattle.mqtt_flow.specs.Publisher.{FromPublisher, PUBLISH_1, ToPublisher, PUBACK, PUBREC, DISCONNECT}
-use Rattle.mqtt_flow.specs.InboundWorld.{World as Hop, Choice, takes, takes_unheard, refuses, Event as HopEvent, to_broker, close, Verdict, accept, refuse, repeat, shut, verdict_on, answer_1, on_publish_1, step, run}
+use Rattle.mqtt_inbound.specs.Inbound.{answer_to}
+use Rattle.mqtt_inbound.specs.Publisher.{FromPublisher, PUBLISH_1, ToPublisher, PUBACK, PUBREC, DISCONNECT}
+use Rattle.mqtt_inbound.specs.InboundWorld.{World as Hop, Choice, takes, takes_unheard, refuses, Event as HopEvent, to_broker, close, Verdict, accept, refuse, repeat, shut, verdict_on, answer_1, on_publish_1, step, run}
 use Rattle.mqtt_records.specs.declared.session.Session.{Session}
 use Rattle.mqtt_rules.specs.declared.Limits.{Limits}
 use Rattle.mqtt_rules.specs.State.{Line as BrokerLine, Broker, Env, MemberChoice, session_at}

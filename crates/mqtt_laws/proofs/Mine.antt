@@ -14,7 +14,7 @@ use Rattle.mqtt_inbound.specs.declared.inflow.Published.TheVariants.{New, Again,
 use Rattle.mqtt_inbound.specs.declared.inflow.ReleaseAnswer.{ReleaseAnswer}
 use Rattle.mqtt_inbound.specs.declared.inflow.ReleaseAnswer.TheVariants.{Known, Unknown}
 use Rattle.mqtt_base.specs.Codes.{quota_exceeded, receive_maximum_exceeded}
-use Rattle.mqtt_flow.specs.Inbound.{answer_to_release}
+use Rattle.mqtt_inbound.specs.Inbound.{answer_to_release}
 use Rattle.mqtt_records.specs.declared.session.Session.{Session}
 use Rattle.mqtt_records.specs.declared.records.Records.{Records}
 use Rattle.mqtt_rows.specs.Order.{change_row}
@@ -29,7 +29,7 @@ use Rattle.mqtt_rules.specs.Step.{Input, next_packet, env_of, at_moment, deeds, 
 use Rattle.mqtt_rules.specs.declared.Limits.{Limits}
 use Rattle.mqtt_rules.specs.Inbound.{Meaning, Means, Wrong, meaning, sets_alias, standing, answer, opens, code_again, code_accepted, publish_new, publish_by, message_of, publish_meant, release_by}
 use Rattle.mqtt_rules.proofs.FlightRows.{all_at}
-use Rattle.mqtt_flow.specs.Publisher.{CONNECT, PUBLISH_1, PUBLISH_2, PUBREL}
+use Rattle.mqtt_inbound.specs.Publisher.{CONNECT, PUBLISH_1, PUBLISH_2, PUBREL}
 use Rattle.mqtt_laws.specs.Ends.{Sent, shake, plain, Publisher, wire}
 use Rattle.mqtt_laws.specs.Hops.{IsNoConnect, IsConnected, IsOurs, Own}
 use Rattle.mqtt_laws.proofs.Quiet.{copies_of, quiet_copies}

@@ -4,10 +4,10 @@ use Rattle.std.specs.Prelude.{option_map, find, filter_map, is_some}
 use Rattle.mqtt_codec.specs.declared.packet.Packet.{Packet}
 use Rattle.mqtt_inbound.specs.declared.inflow.Published.{Published}
 use Rattle.mqtt_inbound.specs.declared.inflow.Published.TheVariants.{New, Again, Over}
-use Rattle.mqtt_flow.specs.Identifiers.{ids_without}
-use Rattle.mqtt_flow.specs.Inbound.{answer_to, answer_to_release, ids_on}
-use Rattle.mqtt_flow.specs.Publisher.{FromPublisher, PUBLISH_2, PUBREL, ToPublisher, DISCONNECT}
-use Rattle.mqtt_flow.specs.InboundWorld.{World as Hop, Choice, Event as HopEvent, takes, takes_unheard, refuses, to_broker, close, Verdict, accept, refuse, repeat, shut, verdict_on, ids_by, answer_2, answer_to_pubrel, on_publish_2, step}
+use Rattle.mqtt_inbound.specs.Identifiers.{ids_without}
+use Rattle.mqtt_inbound.specs.Inbound.{answer_to, answer_to_release, ids_on}
+use Rattle.mqtt_inbound.specs.Publisher.{FromPublisher, PUBLISH_2, PUBREL, ToPublisher, DISCONNECT}
+use Rattle.mqtt_inbound.specs.InboundWorld.{World as Hop, Choice, Event as HopEvent, takes, takes_unheard, refuses, to_broker, close, Verdict, accept, refuse, repeat, shut, verdict_on, ids_by, answer_2, answer_to_pubrel, on_publish_2, step}
 use Rattle.mqtt_records.specs.declared.session.Session.{Session}
 use Rattle.mqtt_rules.specs.declared.Limits.{Limits}
 use Rattle.mqtt_rules.specs.State.{MemberChoice, Line as BrokerLine, Broker, session_at, session_named, line_at}

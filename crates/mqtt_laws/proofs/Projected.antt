@@ -1,7 +1,7 @@
 -- What a publisher sees of a world is a run of its hop: so the law of the hop holds of its messages.
 use Rattle.std.proofs.Common.{◌≡◌, ℕ, ◌≤◌, List, Some, None, count_by, nat_eq, slice_get, sym, subst}
-use Rattle.mqtt_flow.specs.Publisher.{IsExactlyOnce, completed, refused, ended, ended_1}
-use Rattle.mqtt_flow.specs.InboundWorld.{World as Hop, Event as HopEvent, after, fate_of, accepted_count}
+use Rattle.mqtt_inbound.specs.Publisher.{IsExactlyOnce, completed, refused, ended, ended_1}
+use Rattle.mqtt_inbound.specs.InboundWorld.{World as Hop, Event as HopEvent, after, fate_of, accepted_count}
 use Rattle.mqtt_inbound.proofs.inbound.Runs.{is_good, once, unsent_is, ended_is, ended_1_is}
 use Rattle.mqtt_rules.specs.State.{Broker}
 use Rattle.mqtt_laws.specs.Ends.{Publisher}

@@ -14,10 +14,10 @@ use Rattle.mqtt_inbound.specs.declared.inflow.Published.TheVariants.{New, Again,
 use Rattle.mqtt_inbound.specs.declared.inflow.ReleaseAnswer.{ReleaseAnswer}
 use Rattle.mqtt_inbound.specs.declared.inflow.ReleaseAnswer.TheVariants.{Known, Unknown}
 use Rattle.mqtt_base.specs.Codes.{success, no_matching_subscribers, quota_exceeded, receive_maximum_exceeded}
-use Rattle.mqtt_flow.specs.Identifiers.{is_among, ids_with, ids_without}
-use Rattle.mqtt_flow.specs.Inbound.{answer_to, answer_to_release, ids_on, open_after}
-use Rattle.mqtt_flow.specs.Publisher.{ToPublisher, PUBREC, DISCONNECT}
-use Rattle.mqtt_flow.specs.InboundWorld.{Choice, takes, takes_unheard, refuses, Verdict, accept, refuse, repeat, shut, verdict_on, ids_by, answer_2, answer_to_pubrel}
+use Rattle.mqtt_inbound.specs.Identifiers.{is_among, ids_with, ids_without}
+use Rattle.mqtt_inbound.specs.Inbound.{answer_to, answer_to_release, ids_on, open_after}
+use Rattle.mqtt_inbound.specs.Publisher.{ToPublisher, PUBREC, DISCONNECT}
+use Rattle.mqtt_inbound.specs.InboundWorld.{Choice, takes, takes_unheard, refuses, Verdict, accept, refuse, repeat, shut, verdict_on, ids_by, answer_2, answer_to_pubrel}
 use Rattle.mqtt_message.specs.declared.message.Will.{Will}
 use Rattle.mqtt_records.specs.declared.session.Session.{Session}
 use Rattle.mqtt_records.specs.declared.session.Columns.{Columns}

@@ -7,7 +7,7 @@ use Rattle.mqtt_codec.specs.declared.packet.Packet.{Packet}
 use Rattle.mqtt_flow.specs.declared.entry.Turn.{Turn}
 use Rattle.mqtt_flow.specs.declared.entry.Turn.TheVariants as turns
 use Rattle.mqtt_flow.specs.Outbound.{way_made}
-use Rattle.mqtt_flow.specs.Publisher.{ToPublisher}
+use Rattle.mqtt_inbound.specs.Publisher.{ToPublisher}
 use Rattle.mqtt_topic.specs.Names.{is_empty}
 use Rattle.mqtt_message.specs.declared.message.MessageCopy.{MessageCopy}
 use Rattle.mqtt_message.specs.declared.message.RetainedMessage.{RetainedMessage}

@@ -3,8 +3,8 @@ use Rattle.std.proofs.Common.{◌≡◌, ℕ, ◌≤◌, Bool, true, false, List
 use Rattle.std.specs.Prelude.{option_map, find, filter_map, is_some}
 use Rattle.std.specs.List.{AllByRecursion, starts_with}
 use Rattle.std.proofs.lemmas.Bool.{cases_Bool, eqb-true}
-use Rattle.mqtt_flow.specs.Line.{away}
-use Rattle.mqtt_flow.specs.InboundWorld.{restart, step}
+use Rattle.mqtt_inbound.specs.Line.{away}
+use Rattle.mqtt_inbound.specs.InboundWorld.{restart, step}
 use Rattle.mqtt_records.specs.declared.session.Session.{Session}
 use Rattle.mqtt_records.specs.Records.{changed_all}
 use Rattle.mqtt_records.specs.Session.{birth_of, with_columns}

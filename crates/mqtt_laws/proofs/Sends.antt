@@ -6,11 +6,11 @@ use Rattle.std.proofs.lemmas.Bool.{cases_Bool}
 use Rattle.mqtt_base.specs.declared.session.Qos.{Qos as Quality}
 use Rattle.mqtt_base.specs.declared.session.Qos.TheVariants.{AtMostOnce, AtLeastOnce, ExactlyOnce}
 use Rattle.mqtt_base.specs.declared.limits.TheConstants.{OPEN_LIMIT}
-use Rattle.mqtt_flow.specs.Line.{Link, away, asked, live, sent_on}
-use Rattle.mqtt_flow.specs.Identifiers.{free_identifier}
-use Rattle.mqtt_flow.specs.Publisher.{Qos, qos_1, qos_2, FromPublisher, ToPublisher, CONNACK, CONNACK_REFUSED, PUBACK, PUBREC, PUBCOMP, DISCONNECT, in_flight, first_fate, first_packet, resent_from, on_new_session, on_puback, on_pubrec, on_pubcomp, pubrel_for}
-use Rattle.mqtt_flow.specs.InboundWorld.{World as Hop, Event as HopEvent, give_up, to_end, publish, step, run}
-use Rattle.mqtt_flow.specs.InboundWorld as hop
+use Rattle.mqtt_inbound.specs.Line.{Link, away, asked, live, sent_on}
+use Rattle.mqtt_inbound.specs.Identifiers.{free_identifier}
+use Rattle.mqtt_inbound.specs.Publisher.{Qos, qos_1, qos_2, FromPublisher, ToPublisher, CONNACK, CONNACK_REFUSED, PUBACK, PUBREC, PUBCOMP, DISCONNECT, in_flight, first_fate, first_packet, resent_from, on_new_session, on_puback, on_pubrec, on_pubcomp, pubrel_for}
+use Rattle.mqtt_inbound.specs.InboundWorld.{World as Hop, Event as HopEvent, give_up, to_end, publish, step, run}
+use Rattle.mqtt_inbound.specs.InboundWorld as hop
 use Rattle.mqtt_rules.specs.State.{Broker}
 use Rattle.mqtt_laws.specs.Lines.{Down, gives_up}
 use Rattle.mqtt_laws.specs.Ends.{Content, Draft, Sent, shake, plain, Publisher, goes, numbered, goes_out, send_one, send_all, send_unsent, published, heard, reads_connack, reads, reads_if, publisher_reads, connected}

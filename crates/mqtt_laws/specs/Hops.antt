@@ -3,9 +3,9 @@ use Rattle.std.specs.Prelude.{◌≡◌, suc, ℕ, ◌≤◌, ⊤, Bool, true, f
 use Rattle.std.specs.List.{AllByRecursion, starts_with}
 use Rattle.mqtt_codec.specs.declared.packet.Packet.{Packet}
 use Rattle.mqtt_codec.specs.declared.packet.Packet.TheVariants.{Connect}
-use Rattle.mqtt_flow.specs.Line.{Link, away, asked, live}
-use Rattle.mqtt_flow.specs.Publisher.{CONNECT, PUBLISH_1, PUBLISH_2}
-use Rattle.mqtt_flow.specs.InboundWorld.{Event as HopEvent, spared, step, run, after}
+use Rattle.mqtt_inbound.specs.Line.{Link, away, asked, live}
+use Rattle.mqtt_inbound.specs.Publisher.{CONNECT, PUBLISH_1, PUBLISH_2}
+use Rattle.mqtt_inbound.specs.InboundWorld.{Event as HopEvent, spared, step, run, after}
 use Rattle.mqtt_message.specs.declared.message.Will.{Will}
 use Rattle.mqtt_records.specs.declared.session.Session.{Session}
 use Rattle.mqtt_records.specs.declared.records.Records.{Records}

@@ -10,7 +10,7 @@ use Rattle.mqtt_base.specs.declared.session.Phase.TheVariants.{Waiting, Sent, Re
 use Rattle.mqtt_base.specs.declared.session.Qos.{Qos}
 use Rattle.mqtt_base.specs.declared.session.Qos.TheVariants.{AtMostOnce, AtLeastOnce, ExactlyOnce}
 use Rattle.mqtt_flow.specs.Receiver.{Body}
-use Rattle.mqtt_flow.specs.Publisher.{Fate, IsExactlyOnce, completed, refused, ended, ended_1}
+use Rattle.mqtt_inbound.specs.Publisher.{Fate, IsExactlyOnce, completed, refused, ended, ended_1}
 use Rattle.mqtt_message.specs.Queue.{CopyRow}
 use Rattle.mqtt_records.specs.declared.session.Session.{Session}
 use Rattle.mqtt_rules.specs.declared.Limits.{Limits}

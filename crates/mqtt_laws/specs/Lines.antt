@@ -6,7 +6,7 @@ use Rattle.mqtt_codec.specs.declared.publish.Delivery.{Delivery}
 use Rattle.mqtt_codec.specs.declared.publish.Delivery.TheVariants as delivery
 use Rattle.mqtt_codec.specs.declared.packet.Packet.{Packet}
 use Rattle.mqtt_codec.specs.declared.packet.Packet.TheVariants.{Publish}
-use Rattle.mqtt_flow.specs.Line.{Link, away, asked, live}
+use Rattle.mqtt_inbound.specs.Line.{Link, away, asked, live}
 use Rattle.mqtt_rules.specs.State.{Broker, line_at}
 use Rattle.mqtt_rules.specs.Step.{Outcome, copy_of}
 

@@ -8,7 +8,7 @@ use Rattle.mqtt_rules.specs.declared.Limits.{Limits}
 use Rattle.mqtt_rules.specs.State.{Broker, Env, MemberChoice}
 use Rattle.mqtt_rules.specs.Deeds.{Message, FromClient, Enter, Leave, Deed, Accept, At, after as after_deed}
 use Rattle.mqtt_rules.specs.Step.{Call, NewLine, env_of, at_moment, deeds, opening, unopened}
-use Rattle.mqtt_flow.specs.Line.{Link, away, asked, live}
+use Rattle.mqtt_inbound.specs.Line.{Link, away, asked, live}
 use Rattle.mqtt_laws.specs.Ends.{Sent, message_in, Publisher, Receiver}
 use Rattle.mqtt_laws.specs.World.{Setting, World, start, Event, ask, stop_before, stop_after, restart, connect_end, give_up, link_of, receiver_named, Asking, to_broker, old_to_broker, break, pump, tick, stranger, publisher_named, stranger_named, calls_if, comes, call_of, call_of_stranger, next_held, held_count, before, first_step, is_bad, step}
 

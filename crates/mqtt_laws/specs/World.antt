@@ -11,8 +11,8 @@ use Rattle.mqtt_codec.specs.declared.packet.Packet.{Packet}
 use Rattle.mqtt_codec.specs.declared.packet.Packet.TheVariants.{Connect}
 use Rattle.mqtt_codec.specs.Packets.{is_lawful}
 use Rattle.mqtt_packet.specs.Front.{first_of}
-use Rattle.mqtt_flow.specs.Line.{Link, away, asked, live}
-use Rattle.mqtt_flow.specs.Publisher.{CONNECT}
+use Rattle.mqtt_inbound.specs.Line.{Link, away, asked, live}
+use Rattle.mqtt_inbound.specs.Publisher.{CONNECT}
 use Rattle.mqtt_flow.specs.Receiver.{connect}
 use Rattle.mqtt_records.specs.Records.{nothing}
 use Rattle.mqtt_rules.specs.declared.Limits.{Limits}

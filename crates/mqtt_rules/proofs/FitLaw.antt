@@ -8,8 +8,8 @@ use Rattle.mqtt_base.specs.declared.limits.TheConstants.{LAST_NUMBER, CLIENT_LIM
 use Rattle.mqtt_connect.specs.declared.connect.Connect.{Connect as Greeting}
 use Rattle.mqtt_topic.specs.Names.{is_empty}
 use Rattle.mqtt_inbound.specs.declared.inflow.Published.TheVariants.{New, Again, Over}
-use Rattle.mqtt_flow.specs.Identifiers.{is_among}
-use Rattle.mqtt_flow.specs.Inbound.{answer_to}
+use Rattle.mqtt_inbound.specs.Identifiers.{is_among}
+use Rattle.mqtt_inbound.specs.Inbound.{answer_to}
 use Rattle.mqtt_message.specs.declared.message.MessageCopy.{MessageCopy}
 use Rattle.mqtt_message.specs.declared.message.RetainedMessage.{RetainedMessage}
 use Rattle.mqtt_message.specs.declared.message.Will.{Will}
