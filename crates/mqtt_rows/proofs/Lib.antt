@@ -1,3 +1,4 @@
 pub mod OrderLemmas
 pub mod LookUps
 pub mod KeyLemmas
+pub mod DifferLemmas

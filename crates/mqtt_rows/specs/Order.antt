@@ -1,5 +1,5 @@
 -- Lists of rows in the order of their keys: what is found, put and removed by key.
-use Rattle.std.specs.Prelude.{◌≡◌, ℕ, zero, suc, ◌<◌, Bool, true, cond, not, ◌||◌, List, [], ◌∷◌, length, filter, nat_eq, nat_lt, Option, Some, None, is_some, slice_get, Result, Ok, Err}
+use Rattle.std.specs.Prelude.{◌≡◌, ℕ, zero, suc, ◌<◌, ◌≤◌, Bool, true, cond, not, ◌||◌, List, [], ◌∷◌, length, filter, nat_eq, nat_lt, Option, Some, None, is_some, slice_get, Result, Ok, Err}
 
 module _ {X : Type 0} (key : X → ℕ) where
   -- each key is above n
@@ -64,3 +64,8 @@ module _ {X : Type 0} (key : X → ℕ) where
   abbrev pub IsFound : ℕ → List X → Result ℕ ℕ → Type 0
   IsFound k xs (Ok i) = (i ≡ front_len k xs) × (slice_get xs i ≡ row_at k xs) × (has_row k xs ≡ true)
   IsFound k xs (Err i) = (i ≡ front_len k xs) × (row_at k xs ≡ None)
+
+-- rows in the order of their keys, each key once, and no more of them than the limit
+pub record IsTable {X : Type 0} (key : X → ℕ) (limit : ℕ) (rows : List X) : Type 0 where
+  pub ascending : IsAscending key rows
+  pub within : length rows ≤ limit

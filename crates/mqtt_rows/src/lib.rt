@@ -6,7 +6,7 @@ mod laws;
 mod row;
 mod rows;
 
-pub use distinct::are_distinct;
+pub use distinct::{all_differ, are_distinct, are_named_apart};
 pub use laws::{newest_comes_last, rows_are_determined, rows_are_found};
 pub use row::{Boxed, CloneRow, Editable, Named, Parted, Row};
 pub use rows::Rows;

@@ -1,0 +1,17 @@
+//! Whether a store may be opened with what it has: the rules of records that no type keeps (4.1).
+#![tactic(auto)]
+
+mod client;
+mod copy;
+mod laws;
+mod message;
+mod queue;
+mod records;
+mod retained;
+mod rows;
+mod session;
+mod subscription;
+
+pub use laws::nothing_is_lawful;
+pub use message::ROW_LIMIT;
+pub use records::is_lawful;

@@ -1,0 +1,66 @@
+//! Topics, properties and payloads that a row may have (3.1.3, 3.3).
+ghost use Rattle.std.specs.Prelude.{◌↔◌, ◌≤◌, IfOk, IsTrue};
+ghost use Rattle.mqtt_topic.specs.Names.{IsTopicName};
+ghost use Rattle.mqtt_lawful.specs.Lawful.{HasLawfulWill, IsMessage, row_len};
+
+use bytes::Bytes;
+use mqtt_base::Text;
+use mqtt_message::Will;
+use mqtt_props::{Place, PropsRef};
+use mqtt_topic::TopicName;
+use std::alloc::AllocError;
+
+/// Bytes of topic, properties and payload of a row together (ours).
+pub const ROW_LIMIT: usize = 200_000;
+
+/// Whether topic, properties and payload have no more bytes than a row has.
+fn is_short(topic: &Text, properties: &PropsRef<'_>, payload: &Bytes) -> bool
+    ensures { IsTrue result ↔ (row_len topic.now properties.now payload.now ≤ ROW_LIMIT) }
+{
+    let payload = payload.len();
+    let others = topic.as_str().len() + properties.block_len();
+    payload <= ROW_LIMIT && others + payload <= ROW_LIMIT
+}
+
+/// Whether a text is a topic name.
+fn is_topic(text: &Text) -> Result<bool, AllocError>
+    ensures { IfOk result (λ lawful. IsTrue lawful ↔ IsTopicName text.now) }
+{
+    let text = text.clone()?;
+    match TopicName::from_text(text) {
+        Ok(name) => {
+            drop(name);
+            Ok(true)
+        }
+        Err(_) => Ok(false),
+    }
+}
+
+/// Whether a row may have this message, in a packet of this kind.
+pub(crate) fn is_message(
+    place: Place,
+    topic: &Text,
+    properties: &PropsRef<'_>,
+    payload: &Bytes,
+) -> Result<bool, AllocError>
+    ensures { IfOk result (λ lawful. IsTrue lawful
+        ↔ IsMessage place topic.now properties.now payload.now) }
+{
+    let is_block = properties.may_stand_in(place) && properties.is_lawful(place);
+    Ok(is_block && is_short(topic, properties, payload) && is_topic(topic)?)
+}
+
+/// Whether a Will keeps its rules, if there is one.
+pub(crate) fn has_lawful_will(will: &Option<Will>) -> Result<bool, AllocError>
+    ensures { IfOk result (λ lawful. IsTrue lawful ↔ HasLawfulWill will.now) }
+{
+    match will {
+        Some(will) => is_message(
+            Place::Will,
+            &will.topic,
+            &will.properties.lend(),
+            &will.payload,
+        ),
+        None => Ok(true),
+    }
+}
