@@ -1,3 +1,4 @@
 pub mod Tables
 pub mod Forms
 pub mod Named
+pub mod Creation
