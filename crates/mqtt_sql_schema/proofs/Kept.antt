@@ -1,5 +1,5 @@
 -- A statement inside a transaction commits nothing.
-use Rattle.std.proofs.Common.{◌≡◌, ℕ, List, Ok, Err, Result, refl, inl, inr, IsTrue, Bool, true, false}
+use Rattle.std.proofs.Common.{◌≡◌, ℕ, List, Ok, Err, Result, OnErr, IfErr, ap, sym, ◌∙◌, true≢false, refl, inl, inr, IsTrue, Bool, true, false}
 use Rattle.std.proofs.lemmas.Bool.{cases_Bool}
 use Rattle.sqlite_value.specs.Order.{Row}
 use Rattle.sqlite.specs.declared.error.Error.{Error}
@@ -7,6 +7,8 @@ use Rattle.sqlite.specs.declared.error.Error.TheVariants.{SqliteFailure}
 use Rattle.sqlite.specs.declared.error.ErrorCode.TheVariants.{TransactionState}
 use Rattle.sqlite_trees.specs.declared.store.Store.{Ghosts}
 use Rattle.sqlite.specs.Held.{Held, state}
+use Rattle.sqlite.specs.Steps.{FailsToCommit}
+use Rattle.mqtt_sql_schema.specs.Creation.{first, HasTables}
 use Rattle.sqlite.specs.State.{State, KeepsCommit, IsUnchanged, IsRolledBack, ExecutesInside}
 
 unchanged_keeps : (old new : State) → IsUnchanged old new → KeepsCommit old new
@@ -31,3 +33,17 @@ keeps_either g sql params old new r ended runs = elim (cases_Bool (state g old).
   | inl inside ↦ inside_keeps sql params (state g old) (state g new) r (runs inside)
   | inr out ↦ rw (ended out).1 (keeps_same (state g old))
 ]
+
+pub begun_has : (old begun : State) → begun ≡ record old { in_transaction = true } → old.now.schema ≡ first 0 → HasTables 0 begun
+begun_has old begun same none = rw same (record { schema = none; inside = refl; empty = tt })
+
+-- a commit that fails leaves what was committed
+pub commit_err : (old tx new : State) (res : Result (Unit {0}) Error) → (IsTrue tx.is_open → tx.committed ≡ old.committed) → IsTrue tx.in_transaction → IfErr res (FailsToCommit tx new) → IsTrue new.is_open
+    → OnErr res ((new.now ≡ old.committed) × (new.committed ≡ old.committed))
+commit_err old tx new (Ok t) kept inside h up = tt
+commit_err old tx new (Err e) kept inside (inl fails) up =
+    let rolled = fails.3 in
+    let undone = rolled.undone up in
+    let was = kept (rolled.was_open up) in
+    (undone.0 ∙ was, undone.1 ∙ was)
+commit_err old tx new (Err e) kept inside (inr ended) up = absurd (true≢false (sym inside ∙ ended.1))

@@ -1,2 +1,3 @@
 pub mod Creates
 pub mod Kept
+pub mod Fills

@@ -6,5 +6,5 @@ mod making;
 mod schema;
 mod tables;
 
-pub use making::make_table;
+pub use making::create_store;
 pub use schema::{StoreTable, is_schema};
