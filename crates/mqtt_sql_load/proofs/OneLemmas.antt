@@ -110,5 +110,5 @@ same_records a b c d e f p q r =
 pub one_records : (rows : Rows) (r s : Records) → Gives rows r → AreWithin r → Gives rows s → AreWithin s → r ≡ s
 one_records rows r s gives within others as_well =
     same_records (counters_of r) (counters_of s) r.sessions s.sessions r.retained s.retained (one_numbers (counters_of r) (counters_of s) rows.meta gives.numbers others.numbers)
-    (one_sessions rows.sessions rows.parts r.sessions s.sessions gives.sessions others.sessions within.sessions.order as_well.sessions.order)
+    (one_sessions rows.sessions rows.parts r.sessions s.sessions gives.sessions others.sessions within.sessions.ascending as_well.sessions.ascending)
     (same_rows SaysRetained one_retained rows.retained r.retained s.retained gives.retained others.retained)

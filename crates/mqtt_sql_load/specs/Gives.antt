@@ -10,7 +10,8 @@ use Rattle.mqtt_records.specs.Records.{kept_place}
 use Rattle.mqtt_records.specs.Session.{birth_of, place_of, number_of, copy_place, columns_of}
 use Rattle.mqtt_sql_rows.specs.declared.meta.Counters.{Counters}
 use Rattle.mqtt_sql_rows.specs.Rows.{SaysNumbers, SaysSession, SaysWill, SaysSubscription, SaysOpen, SaysCopy, SaysRetained}
-use Rattle.mqtt_sql_load.specs.Lists.{AreRows, Takes, IsList}
+use Rattle.mqtt_rows.specs.Order.{IsTable}
+use Rattle.mqtt_sql_load.specs.Lists.{AreRows, Takes}
 
 -- ---- sessions
 
@@ -46,9 +47,9 @@ AreSessions (row ∷ rows) parts (s ∷ ss) =
 
 -- the lists of a session are in order, and within their limits
 pub record IsWithin (s : Session) : Type 0 where
-  pub subscriptions : IsList place_of SUBSCRIPTION_LIMIT s.subscriptions
-  pub inbound : IsList number_of OPEN_LIMIT s.inbound
-  pub queue : IsList copy_place QUEUE_LIMIT s.queue
+  pub subscriptions : IsTable place_of SUBSCRIPTION_LIMIT s.subscriptions
+  pub inbound : IsTable number_of OPEN_LIMIT s.inbound
+  pub queue : IsTable copy_place QUEUE_LIMIT s.queue
 
 -- ---- all tables
 
@@ -70,6 +71,6 @@ pub record Gives (rows : Rows) (r : Records) : Type 0 where
 
 -- the lists of records are in order, and within their limits
 pub record AreWithin (r : Records) : Type 0 where
-  pub sessions : IsList birth_of SESSION_LIMIT r.sessions
+  pub sessions : IsTable birth_of SESSION_LIMIT r.sessions
   pub each : AllByRecursion IsWithin r.sessions
-  pub retained : IsList kept_place RETAINED_LIMIT r.retained
+  pub retained : IsTable kept_place RETAINED_LIMIT r.retained

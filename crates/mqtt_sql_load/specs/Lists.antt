@@ -1,8 +1,7 @@
 -- Which rows say the items of a list, and which of a table are one session's (4.1).
-use Rattle.std.specs.Prelude.{◌≡◌, ℕ, ◌≤◌, List, [], ◌∷◌, ◌++◌, length}
+use Rattle.std.specs.Prelude.{◌≡◌, ℕ, List, [], ◌∷◌, ◌++◌}
 use Rattle.std.specs.List.{AllByRecursion}
 use Rattle.sqlite_value.specs.Order.{Row, column}
-use Rattle.mqtt_rows.specs.Order.{IsAscending}
 use Rattle.mqtt_sql_rows.specs.Values.{number}
 
 -- each row says the item in its place
@@ -36,8 +35,3 @@ pub record Takes {X : Type 0} (Says : X → Row → Type 0) (birth : ℕ) (part 
 pub record TakesAll {X : Type 0} (Says : X → Row → Type 0) (birth : ℕ) (part : List X) (rows rest : List Row) : Type 0 where
   pub takes : Takes Says birth part rows rest
   pub ends : BeginsOther birth rest
-
--- in order, and within its limit
-pub record IsList {X : Type 0} (key : X → ℕ) (limit : ℕ) (xs : List X) : Type 0 where
-  pub order : IsAscending key xs
-  pub few : length xs ≤ limit

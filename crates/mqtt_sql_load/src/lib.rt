@@ -9,4 +9,4 @@ mod tables;
 pub use laws::rows_give_one;
 pub use lists::{all_of, part_of};
 pub use sessions::{PartRows, sessions_of};
-pub use tables::{Tables, records_of};
+pub use tables::{Tables, lawful_records_of, records_of};

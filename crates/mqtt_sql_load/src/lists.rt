@@ -3,7 +3,8 @@ ghost use Rattle.std.specs.Prelude.{◌≡◌, ◌⊎◌, ◌≤◌, List, Optio
 ghost use Rattle.sqlite_value.specs.Order.{Row as SqlRow};
 ghost use Rattle.mqtt_message.specs.declared.message.Will.{Will};
 ghost use Rattle.mqtt_sql_rows.specs.Rows.{SaysWill};
-ghost use Rattle.mqtt_sql_load.specs.Lists.{AreRows, AllOf, BeginsOther, TakesAll, IsList};
+ghost use Rattle.mqtt_sql_load.specs.Lists.{AreRows, AllOf, BeginsOther, TakesAll};
+ghost use Rattle.mqtt_rows.specs.Order.{IsTable};
 ghost use Rattle.mqtt_sql_load.specs.Gives.{list_of};
 
 use mqtt_records::{KeepError, Rows, Will, newest_comes_last};
@@ -17,9 +18,9 @@ pub fn all_of<P: Stored, const LIMIT: usize>(
     rows: &[Row],
 ) -> Result<Rows<P, LIMIT>, KeepError>
     ensures ok { IfOk result (λ all. AreRows P.says rows.now all) }
-    ensures within { IfOk result (λ all. IsList P.key_of LIMIT all) }
+    ensures within { IfOk result (λ all. IsTable P.key_of LIMIT all) }
     ensures err { IsErrOf result KeepError.Corrupt
-        → (all : List P) → AreRows P.says rows.now all → IsList P.key_of LIMIT all → ⊥ }
+        → (all : List P) → AreRows P.says rows.now all → IsTable P.key_of LIMIT all → ⊥ }
     ensures fault { IfErr result (λ e. (e ≡ KeepError.Memory) ⊎ (e ≡ KeepError.Corrupt)) }
 {
     if rows.len() > LIMIT {
@@ -64,9 +65,9 @@ pub fn part_of<'a, P: Stored, const LIMIT: usize>(
     rows: &'a [Row],
 ) -> Result<(Rows<P, LIMIT>, &'a [Row]), KeepError>
     ensures ok { IfOk result (λ x. TakesAll P.says birth x.0 rows.now x.1.now) }
-    ensures within { IfOk result (λ x. IsList P.key_of LIMIT x.0) }
+    ensures within { IfOk result (λ x. IsTable P.key_of LIMIT x.0) }
     ensures err { IsErrOf result KeepError.Corrupt → (all : List P) (rest : List SqlRow)
-        → TakesAll P.says birth all rows.now rest → IsList P.key_of LIMIT all → ⊥ }
+        → TakesAll P.says birth all rows.now rest → IsTable P.key_of LIMIT all → ⊥ }
     ensures fault { IfErr result (λ e. (e ≡ KeepError.Memory) ⊎ (e ≡ KeepError.Corrupt)) }
 {
     let count = front_of(rows, birth);

@@ -9,7 +9,8 @@ ghost use Rattle.mqtt_records.specs.declared.session.Session.{Session};
 ghost use Rattle.mqtt_records.specs.declared.subscription.Subscription.{Subscription};
 ghost use Rattle.mqtt_records.specs.Session.{birth_of, place_of, number_of, copy_place, columns_of};
 ghost use Rattle.mqtt_sql_rows.specs.Rows.{SaysSession, SaysWill, SaysSubscription, SaysOpen, SaysCopy};
-ghost use Rattle.mqtt_sql_load.specs.Lists.{TakesAll, IsList};
+ghost use Rattle.mqtt_sql_load.specs.Lists.{TakesAll};
+ghost use Rattle.mqtt_rows.specs.Order.{IsTable};
 ghost use Rattle.mqtt_sql_load.specs.Gives.{Parts, no_parts, list_of, TakesParts, AreSessions, IsWithin};
 ghost use Rattle.mqtt_sql_load.specs.Ends.{EndsParts};
 
@@ -61,12 +62,12 @@ fn wishes_of<'a>(
 ) -> Result<(Wishes, &'a [Row], &'a [Row]), KeepError>
     ensures will { IfOk result (λ x. TakesAll SaysWill birth (list_of x.0.0) wills.now x.1.now) }
     ensures subs { IfOk result (λ x. TakesAll SaysSubscription birth x.0.1 subscriptions.now x.2.now) }
-    ensures within { IfOk result (λ x. IsList place_of SUBSCRIPTION_LIMIT x.0.1) }
+    ensures within { IfOk result (λ x. IsTable place_of SUBSCRIPTION_LIMIT x.0.1) }
     ensures err { IsErrOf result KeepError.Corrupt
         → (will : Option Will) (all : List Subscription) (rest more : List SqlRow)
         → TakesAll SaysWill birth (list_of will) wills.now rest
         → TakesAll SaysSubscription birth all subscriptions.now more
-        → IsList place_of SUBSCRIPTION_LIMIT all → ⊥ }
+        → IsTable place_of SUBSCRIPTION_LIMIT all → ⊥ }
     ensures fault { IfErr result (λ e. (e ≡ KeepError.Memory) ⊎ (e ≡ KeepError.Corrupt)) }
 {
     let (subscriptions, more) = match part_of::<Boxed<Subscription>, SUBSCRIPTION_LIMIT>(
@@ -98,12 +99,12 @@ fn flights_of<'a>(
 ) -> Result<(Flights, &'a [Row], &'a [Row]), KeepError>
     ensures inbound { IfOk result (λ x. TakesAll SaysOpen birth x.0.0 inbound.now x.1.now) }
     ensures queue { IfOk result (λ x. TakesAll SaysCopy birth x.0.1 copies.now x.2.now) }
-    ensures numbers { IfOk result (λ x. IsList number_of OPEN_LIMIT x.0.0) }
-    ensures places { IfOk result (λ x. IsList copy_place QUEUE_LIMIT x.0.1) }
+    ensures numbers { IfOk result (λ x. IsTable number_of OPEN_LIMIT x.0.0) }
+    ensures places { IfOk result (λ x. IsTable copy_place QUEUE_LIMIT x.0.1) }
     ensures err { IsErrOf result KeepError.Corrupt
         → (ids : List ℕ) (queue : List CopyRow) (rest more : List SqlRow)
-        → TakesAll SaysOpen birth ids inbound.now rest → IsList number_of OPEN_LIMIT ids
-        → TakesAll SaysCopy birth queue copies.now more → IsList copy_place QUEUE_LIMIT queue → ⊥ }
+        → TakesAll SaysOpen birth ids inbound.now rest → IsTable number_of OPEN_LIMIT ids
+        → TakesAll SaysCopy birth queue copies.now more → IsTable copy_place QUEUE_LIMIT queue → ⊥ }
     ensures fault { IfErr result (λ e. (e ≡ KeepError.Memory) ⊎ (e ≡ KeepError.Corrupt)) }
 {
     let (inbound, rest) = match part_of::<u16, OPEN_LIMIT>(alloc, birth, inbound) {
@@ -211,10 +212,10 @@ pub fn sessions_of(
     parts: &PartRows<'_>,
 ) -> Result<Rows<Boxed<Session>, SESSION_LIMIT>, KeepError>
     ensures ok { IfOk result (λ all. AreSessions rows.now parts.now all) }
-    ensures within { IfOk result (λ all. IsList birth_of SESSION_LIMIT all × AllByRecursion IsWithin all) }
+    ensures within { IfOk result (λ all. IsTable birth_of SESSION_LIMIT all × AllByRecursion IsWithin all) }
     ensures err { IsErrOf result KeepError.Corrupt
         → (all : List Session) → AreSessions rows.now parts.now all
-        → IsList birth_of SESSION_LIMIT all → AllByRecursion IsWithin all → ⊥ }
+        → IsTable birth_of SESSION_LIMIT all → AllByRecursion IsWithin all → ⊥ }
     ensures fault { IfErr result (λ e. (e ≡ KeepError.Memory) ⊎ (e ≡ KeepError.Corrupt)) }
 {
     if rows.len() > SESSION_LIMIT {

@@ -1,5 +1,6 @@
 //! Records out of the rows of all tables (4.1).
 ghost use Rattle.std.specs.Prelude.{◌≡◌, ◌⊎◌, IfOk, IfErr, IsErrOf};
+ghost use Rattle.mqtt_lawful.specs.Lawful.{IsLawful};
 ghost use Rattle.mqtt_records.specs.declared.records.Records.{Records};
 ghost use Rattle.mqtt_sql_load.specs.Gives.{Parts, Gives, AreWithin};
 ghost use Rattle.mqtt_sql_load.specs.Tables.{parts_in, rows_in};
@@ -7,6 +8,7 @@ ghost use Rattle.mqtt_sql_load.specs.Tables.{parts_in, rows_in};
 use crate::lists::all_of;
 use crate::sessions::{PartRows, sessions_of};
 use mqtt_base::RETAINED_LIMIT;
+use mqtt_lawful::is_lawful;
 use mqtt_records::{Boxed, KeepError, Records, RetainedMessage};
 use mqtt_sql_rows::counters_of;
 use sqlite::Row;
@@ -74,6 +76,31 @@ pub fn records_of(alloc: Global, tables: &Tables) -> Result<Records, KeepError>
         Err(fault) => {
             drop(sessions);
             Err(fault)
+        }
+    }
+}
+
+/// The lawful records that the rows give. `Corrupt` where they give none.
+pub fn lawful_records_of(alloc: Global, tables: &Tables) -> Result<Records, KeepError>
+    ensures ok { IfOk result (λ r. Gives (rows_in tables.now) r) }
+    ensures lawful { IfOk result (λ r. IsLawful r) }
+    ensures err { IsErrOf result KeepError.Corrupt
+        → (r : Records) → Gives (rows_in tables.now) r → IsLawful r → ⊥ }
+    ensures fault { IfErr result (λ e. (e ≡ KeepError.Memory) ⊎ (e ≡ KeepError.Corrupt)) }
+{
+    let records = match records_of(alloc, tables) {
+        Ok(records) => records,
+        Err(fault) => return Err(fault),
+    };
+    match is_lawful(alloc, &records) {
+        Ok(true) => Ok(records),
+        Ok(false) => {
+            drop(records);
+            Err(KeepError::Corrupt)
+        }
+        Err(_) => {
+            drop(records);
+            Err(KeepError::Memory)
         }
     }
 }

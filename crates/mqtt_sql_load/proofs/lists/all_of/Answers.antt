@@ -11,7 +11,7 @@ pub returns-then-rows-clause-err : goal.returns-then-rows-clause-err
 returns-then-rows-clause-err g c e all are list =
     let long = c.if-rows.true in
     let same = same_length g.P.Stored.says c.args.rows.now all are in
-    let short = list.few in
+    let short = list.within in
     omega (arith, long, same, short)
 
 pub returns-in-Err-clause-err : goal.returns-in-Err-clause-err
@@ -31,7 +31,7 @@ returns-then-key-last-clause-err g c e all are list =
     let row = c.row-item.result in
     let parts = seam rows i row c.loop-row-test.true c.row-item.is in
     let more = rises g.P.Row.key_of g.P.Stored.says g.met.P.Stored.one 0 (take i rows) row (drop (i + 1) rows) c.loop-row.all all c.in-Ok.item c.loop-row.invariant.are
-    (subst (λ (l : List Row). AreRows g.P.Stored.says l all) parts are) c.in-Ok.ensures.ok (above_zero g.P.Row.key_of g.P.Stored.says g.met.P.Stored.from_one rows all are) list.order in
+    (subst (λ (l : List Row). AreRows g.P.Stored.says l all) parts are) c.in-Ok.ensures.ok (above_zero g.P.Row.key_of g.P.Stored.says g.met.P.Stored.from_one rows all are) list.ascending in
     let last = c.loop-row.invariant.last in
     let key = c.key-key.ensures in
     let le = c.if-key-last.true in
@@ -72,4 +72,4 @@ returns-clause-within g c =
     let are = subst (λ (l : List Row). AreRows g.P.Stored.says l c.loop-row.all) whole c.loop-row.invariant.are in
     let same = same_length g.P.Stored.says rows c.loop-row.all are in
     let short = c.if-rows.false in
-    record { order = c.loop-row.invariant.order; few = omega (arith, same, short) }
+    record { ascending = c.loop-row.invariant.order; within = omega (arith, same, short) }

@@ -16,7 +16,7 @@ use Rattle.mqtt_sql_load.proofs.sessions.sessions_of.Goals as goal
 pub returns-then-rows-gt-SESSION_LIMIT-clause-err : goal.returns-then-rows-gt-SESSION_LIMIT-clause-err
 returns-then-rows-gt-SESSION_LIMIT-clause-err c e all are list within =
     let long = c.if-rows-gt-SESSION_LIMIT.true in
-    let short = list.few in
+    let short = list.within in
     let same = as_many c.args.rows.now c.args.parts.now all are in
     omega (arith, long, same, short)
 
@@ -36,7 +36,7 @@ returns-in-Err-clause-err c e all are list within =
     let i = c.loop-row.row-index in
     let row = c.row-item.result in
     let same : c.in-Err.fault ≡ KeepError.Corrupt = cc in
-    let left = subst (λ (l : List Row). Left l c.loop-row.left c.loop-row.last) (drop_is rows i row c.loop-row-test.true c.row-item.is) (c.loop-row.invariant.complete all are within list.order) in
+    let left = subst (λ (l : List Row). Left l c.loop-row.left c.loop-row.last) (drop_is rows i row c.loop-row-test.true c.row-item.is) (c.loop-row.invariant.complete all are within list.ascending) in
     let f = first_of_left row (drop (i + 1) rows) _ _ left in
     c.in-Err.ensures.err (ap Err same) f.one f.more f.says f.takes f.ends f.within
 
@@ -45,7 +45,7 @@ returns-then-birth-last-clause-err c e all are list within =
     let rows = c.args.rows.now in
     let i = c.loop-row.row-index in
     let row = c.row-item.result in
-    let left = subst (λ (l : List Row). Left l c.loop-row.left c.loop-row.last) (drop_is rows i row c.loop-row-test.true c.row-item.is) (c.loop-row.invariant.complete all are within list.order) in
+    let left = subst (λ (l : List Row). Left l c.loop-row.left c.loop-row.last) (drop_is rows i row c.loop-row-test.true c.row-item.is) (c.loop-row.invariant.complete all are within list.ascending) in
     let f = first_of_left row (drop (i + 1) rows) _ _ left in
     let birth : f.one.birth ≡ c.in-Ok.found.0.birth = one_number _ _ _ f.says.birth c.in-Ok.ensures.says.birth in
     let above = f.above in
