@@ -44,7 +44,7 @@ hello_by clean client = record (hello client) { clean_start = clean }
 
 -- ---- the deeds of the call
 
-refused_not : (clean : Bool) (client : List ℕ) (r : Records) → nat_lt 64 (length client) ≡ false → starts_with nat_eq client auto ≡ false → refusal (hello_by clean client) r ≡ None
+pub refused_not : (clean : Bool) (client : List ℕ) (r : Records) → nat_lt 64 (length client) ≡ false → starts_with nat_eq client auto ≡ false → refusal (hello_by clean client) r ≡ None
 refused_not clean client r short plain = rw (short, plain) refl
 
 prepare_none : (env : Env) (clean : Bool) (client : List ℕ) (b : Broker) → session_named client b.records ≡ None → prepare env (hello_by clean client) b ≡ []
@@ -92,7 +92,7 @@ call_is limits choice now clean p l b a =
 
 -- ---- the new session
 
-only_none : (client : List ℕ) (birth : ℕ) (ss : List Session) → find (λ (x : Session). bytes_eq x.client client) ss ≡ None → AllByRecursion (IsIts client birth) ss
+pub only_none : (client : List ℕ) (birth : ℕ) (ss : List Session) → find (λ (x : Session). bytes_eq x.client client) ss ≡ None → AllByRecursion (IsIts client birth) ss
 only_none client birth [] e = tt
 only_none client birth (x ∷ xs) e = elim (cases_Bool (bytes_eq x.client client)) [
   | inl its ↦ let clash : Some x ≡ None = rw its at e in absurd cc
@@ -104,7 +104,7 @@ only_none client birth (x ∷ xs) e = elim (cases_Bool (bytes_eq x.client client
   )
 ]
 
-fresh_face : (row : Columns) (ss : List Session) → row_at birth_of row.birth ss ≡ None → length ss < SESSION_LIMIT → option_map face (row_at birth_of row.birth (put_session row ss)) ≡ Some (face (fresh row))
+pub fresh_face : (row : Columns) (ss : List Session) → row_at birth_of row.birth ss ≡ None → length ss < SESSION_LIMIT → option_map face (row_at birth_of row.birth (put_session row ss)) ≡ Some (face (fresh row))
 fresh_face row ss new less =
     let not_there : has_row birth_of row.birth ss ≡ false = ap is_some new in
     let room : (has_row birth_of row.birth ss || nat_lt (length ss) SESSION_LIMIT) ≡ true = either (has_row birth_of row.birth ss) (lt-ltb (length ss) SESSION_LIMIT less) in

@@ -158,6 +158,13 @@ pub record IsAsking (p : Publisher) (l : BrokerLine) (s : Session) (b : Broker) 
   -- what is under way on the line that was given up is a CONNECT, or the session is connected there, or there is nothing
   pub old : filter_map shaken (unless_closed (is_one_of p.line.old_number (lines_left (line_of s.birth b))) p.line.old) ≡ spared (filter_map shaken p.line.old)
 
+-- there is a place for a new session once its own has ended
+pub record MayBegin (limits : Limits) (client : List ℕ) (b : Broker) : Type 0 where
+  pub births : HasGivenBirths b.records
+  pub within : limits.sessions ≤ SESSION_LIMIT
+  pub room : length b.records.sessions ≤ limits.sessions
+  pub some : is_empty client ≡ false
+
 abbrev pub connect_packet : Bool → Publisher → Packet
 connect_packet clean p = wire p.client p.contents (shake (CONNECT clean))
 

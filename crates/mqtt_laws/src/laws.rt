@@ -1,5 +1,5 @@
 //! Laws of the world: what a publisher sees of a step of the broker is what its hop does (4.3, 4.4).
-ghost use Rattle.std.specs.Prelude.{◌≡◌, ℕ, ◌≤◌, [], ◌∷◌, Bool, List, Some, None, false, nat_eq, slice_get, count_by};
+ghost use Rattle.std.specs.Prelude.{◌≡◌, ℕ, ◌≤◌, [], ◌∷◌, Bool, List, Some, None, true, false, nat_eq, slice_get, count_by};
 ghost use Rattle.std.specs.List.{AllByRecursion, starts_with};
 ghost use Rattle.mqtt_flow.specs.Publisher.{Qos, IsExactlyOnce, completed, refused, ended, ended_1, CONNECT, PUBLISH_1, PUBLISH_2, PUBREL};
 ghost use Rattle.mqtt_flow.specs.InboundWorld.{Event as HopEvent, takes, to_broker, publish, give_up, break, connect, restart, step, run};
@@ -13,7 +13,7 @@ ghost use Rattle.mqtt_laws.specs.Ends.{Content, Draft, Sent, shake, plain, Publi
 ghost use Rattle.mqtt_laws.specs.World.{publisher_restarted, publisher_told};
 ghost use Rattle.mqtt_laws.specs.Seen.{qos_of_draft, is_linked, seen};
 ghost use Rattle.mqtt_laws.specs.Hops.{IsConnected, IsAsking, Own, IsFarCall, IsRun};
-ghost use Rattle.mqtt_laws.specs.Hops.{IsKept, IsOurs, connect_packet, IsFirst, joined_by, MayJoin, IsNoConnect, IsUnheard, MayGiveUp, after_step, wire_1, wire_2, hello_packet, lost_by, Becomes};
+ghost use Rattle.mqtt_laws.specs.Hops.{IsKept, IsOurs, connect_packet, IsFirst, MayBegin, joined_by, MayJoin, IsNoConnect, IsUnheard, MayGiveUp, after_step, wire_1, wire_2, hello_packet, lost_by, Becomes};
 
 /// The broker reads the first packet of a publisher's line. Whatever the limits, the routing, the queues
 /// and all other sessions and lines, what the publisher sees of it is one event of its hop (4.3.3, 4.4).
@@ -52,6 +52,14 @@ pub fn own_packets_are_steps_of_the_hop()
         → p.line.up ≡ shake (CONNECT false) ∷ rest → IsAsking p l s b
         → seen accepted (after_step limits choice now (Input l.number (hello_packet p)) p b)
         (stepped limits choice now (Input l.number (hello_packet p)) b)
+        ≡ step (seen accepted p b) (to_broker takes) }
+
+    // CONNECT with Clean Start while its session stands: it ends, with all that it has, and a new one begins.
+    ensures anew { (limits : Limits) (choice : MemberChoice) (now : ℕ) (p : Publisher) (rest : List Sent)
+        → (l : Line) (s : Session) (b : Broker) (accepted : List ℕ)
+        → p.line.up ≡ shake (CONNECT true) ∷ rest → IsAsking p l s b → MayBegin limits p.client b
+        → seen accepted (after_step limits choice now (Input l.number (connect_packet true p)) p b)
+        (stepped limits choice now (Input l.number (connect_packet true p)) b)
         ≡ step (seen accepted p b) (to_broker takes) }
 
     // CONNECT, with or without Clean Start, where no session of its name stands: one begins, or the table is full.
