@@ -24,7 +24,7 @@ use Rattle.mqtt_records.specs.Records.{changed_all}
 use Rattle.mqtt_rules.specs.declared.Limits.{Limits}
 use Rattle.mqtt_rules.specs.State.{MemberChoice, Line as BrokerLine, Broker, Env, session_at, session_named, line_of}
 use Rattle.mqtt_rules.specs.Deeds.{whose, Part, Resume, Close, SetExpiry, DropWill, Subscribe, Unsubscribe, Open, Release, Enter, Mark, Leave, Hear, Deed, At, Finish, On, Send, Gone, will_row, part_rows_of, output, closing, after, after_all, rows_of_all, Act, always, series, only_if, with_session, with_line}
-use Rattle.mqtt_rules.specs.Closing.{will_deeds, publish_will, end_session}
+use Rattle.mqtt_rules.specs.Closing.{never, will_deeds, publish_will, end_session}
 use Rattle.mqtt_rules.specs.Connect.{of_client, clear, prepare, fresh_row, begin, begin_named, refused, joins, joins_after, connect_by, on_connect}
 use Rattle.mqtt_rules.specs.Numbers.{HasGivenBirths}
 use Rattle.mqtt_rules.specs.Step.{Input, on_packet, at_moment, env_of, deeds, stepped}
@@ -35,13 +35,14 @@ use Rattle.mqtt_rules.proofs.NumberBirths.{below_none, given_all}
 use Rattle.mqtt_laws.specs.Lines.{sent_to, is_one_of, unless_closed}
 use Rattle.mqtt_laws.specs.Ends.{Sent, shake, Publisher}
 use Rattle.mqtt_laws.specs.Seen.{qos_of_draft, shaken, heard_in, is_linked, open_in, seen}
-use Rattle.mqtt_laws.specs.Hops.{IsIts, IsOnly, lines_left, IsTaken, IsKept, IsAsking, MayBegin, connect_packet, after_step}
+use Rattle.mqtt_laws.specs.Hops.{IsIts, IsOnly, lines_left, IsTaken, IsKept, IsAsking, MayBegin, Own, IsInOrder, connect_packet, after_step}
 use Rattle.mqtt_laws.proofs.Rows.{Face, face, face_at}
 use Rattle.mqtt_laws.proofs.Quiet.{AreQuiet, told_to, session_on, calm}
 use Rattle.mqtt_laws.proofs.Publishes.{told_append, act_none}
 use Rattle.mqtt_laws.proofs.Names.{BeginNone, only_deeds}
 use Rattle.mqtt_laws.proofs.Seeing.{done_sessions, done_lines, told_down, append_heard, linked_of, linked_is, some_face, named_face}
 use Rattle.mqtt_laws.proofs.OwnStep.{heard_of}
+use Rattle.mqtt_laws.proofs.Owned.{ArePatient, patient_append, patient_lines, found_alone, owned_after}
 use Rattle.mqtt_laws.proofs.Connects.{closings_append, left_by, left_leaves, greeted_line, taken_from, taken_at, taken_birth, taken_client, taken_will, named_taken, prepare_front, heard_line_of, heard_on_line, not_left}
 use Rattle.mqtt_laws.proofs.FirstConnects.{hello_by, refused_not, only_none, fresh_face}
 
@@ -69,6 +70,14 @@ ending_none client birth (Finish who ∷ ds) q = (tt, ending_none client birth d
 ending_none client birth (Send n packet ∷ ds) q = (tt, ending_none client birth ds q.1)
 ending_none client birth (Gone n ∷ ds) q = (tt, ending_none client birth ds q.1)
 ending_none client birth (d ∷ ds) q = absurd q.0
+
+ending_patient : (ds : List Deed) → AreEnding ds → ArePatient ds
+ending_patient [] q = tt
+ending_patient (At who part ∷ ds) q = (tt, ending_patient ds q.1)
+ending_patient (Finish who ∷ ds) q = (tt, ending_patient ds q.1)
+ending_patient (Send n packet ∷ ds) q = (tt, ending_patient ds q.1)
+ending_patient (Gone n ∷ ds) q = (tt, ending_patient ds q.1)
+ending_patient (d ∷ ds) q = absurd q.0
 
 ending_next : (ds : List Deed) (b : Broker) → AreEnding ds → AreGood GivesNext ds b
 ending_next [] b q = tt
@@ -286,6 +295,9 @@ record Renews (o : Option BrokerLine) (client : List ℕ) (n : ℕ) (ds : List D
   pub line_is : session_on n (after_all ds b).lines ≡ Some (Some birth)
   pub told_is : told_to n ds ≡ CONNACK false ∷ []
   pub closings_is : filter_map closing ds ≡ lines_left o
+  pub no_will : shown.will ≡ None
+  pub no_end : shown.expiry ≡ never
+  pub patient : ArePatient ds
 
 renews : (o : Option BrokerLine) (limits : Limits) (l : BrokerLine) (client : List ℕ) (s : Session) (b : Broker) → IsTaken o s.birth l.number → IsKept client s b → session_on l.number b.lines ≡ Some None
     → HasGivenBirths b.records → limits.sessions ≤ SESSION_LIMIT → count b ≤ limits.sessions
@@ -317,6 +329,9 @@ renews o limits l client s b t k on births within room =
       line_is = ap (λ (y : Broker). session_on n y.lines) whole ∙ greeted_line c.now n birth 0 _ _ c.lines given.line_is;
       told_is = told_append n ds es ∙ (ap (λ (zs : List ToPublisher). zs ++ told_to n es) given.told_is ∙ told);
       closings_is = closings_append ds es ∙ (ap (λ (zs : List ℕ). zs ++ []) given.closings_is ∙ append-nil (lines_left o));
+      no_will = refl;
+      no_end = refl;
+      patient = patient_append ds es (ending_patient ds given.ending) (tt, (refl, (tt, tt)));
     }
 
 call_renews : (limits : Limits) (choice : MemberChoice) (now : ℕ) (p : Publisher) (l : BrokerLine) (s : Session) (b : Broker) → IsAsking p l s b → MayBegin limits p.client b
@@ -352,6 +367,9 @@ call_renews limits choice now p l s b a m =
       line_is = own.line_is;
       told_is = own.told_is;
       closings_is = own.closings_is ∙ heard_lines.3;
+      no_will = own.no_will;
+      no_end = own.no_end;
+      patient = (tt, own.patient);
     })
 
 -- ---- what the publisher sees
@@ -410,3 +428,16 @@ clean_is_hop limits choice now p rest l s b accepted up a m =
     same
     ∙ (ap (λ (t : Bool). on_hop t true takes (filter_map shaken rest) w) (sym before.0)
     ∙ sym (ap (λ (xs : List FromPublisher). broker_reads takes xs w) (ap (filter_map shaken) up)))
+
+-- and the new session and the line are its own after it
+pub clean_owns : (limits : Limits) (choice : MemberChoice) (now : ℕ) (p : Publisher) (l : BrokerLine) (s : Session) (b : Broker) → IsAsking p l s b → MayBegin limits p.client b → l.keep_alive ≡ 0 → IsInOrder b
+    → IsInOrder (stepped limits choice now (Input l.number (connect_packet true p)) b) → (birth : ℕ) × Own p.client birth l.number (stepped limits choice now (Input l.number (connect_packet true p)) b)
+clean_owns limits choice now p l s b a m quiet order order_after =
+    let n = l.number in
+    let ds = deeds limits choice now (Input n (connect_packet true p)) b in
+    let start = at_moment now b in
+    let g = call_renews limits choice now p l s b a m in (
+      g.birth,
+      owned_after p.client g.birth n g.shown (rows_of_all ds start.records) (after_all ds start) order_after g.only g.face_is g.client_is g.no_will g.no_end g.line_is
+          (patient_lines n ds start g.patient (found_alone l b.lines order.lines.ascending a.line quiet)),
+    )

@@ -34,13 +34,14 @@ use Rattle.mqtt_rules.proofs.FlightRows.{change_row-here}
 use Rattle.mqtt_laws.specs.Lines.{sent_to, is_one_of, unless_closed}
 use Rattle.mqtt_laws.specs.Ends.{Sent, shake, Publisher}
 use Rattle.mqtt_laws.specs.Seen.{qos_of_draft, shaken, heard_in, is_linked, open_in, seen}
-use Rattle.mqtt_laws.specs.Hops.{IsOnly, lines_left, IsTaken, IsKept, IsAsking, hello_packet, after_step}
+use Rattle.mqtt_laws.specs.Hops.{IsOnly, lines_left, IsTaken, IsKept, IsAsking, Own, IsInOrder, hello_packet, after_step}
 use Rattle.mqtt_laws.proofs.Rows.{Face, face, face_at}
 use Rattle.mqtt_laws.proofs.Quiet.{AreQuiet, told_to, numbers, begun, session_on, calm, line_gone, line_on}
 use Rattle.mqtt_laws.proofs.Publishes.{told_append, numbers_append, begun_append, closed_row, closed_after, dropped, drop_is, settles_nothing, act_none}
 use Rattle.mqtt_laws.proofs.Names.{named_is, only_deeds, none_begun}
 use Rattle.mqtt_laws.proofs.Seeing.{done_sessions, done_lines, told_down, append_heard, linked_of, linked_is, named_face}
 use Rattle.mqtt_laws.proofs.OwnStep.{heard_of}
+use Rattle.mqtt_laws.proofs.Owned.{ArePatient, patient_append, patient_lines, found_alone, owned_after}
 
 -- ---- what a list of deeds leaves, with the lines that it closes
 
@@ -51,6 +52,7 @@ pub record Leaves (birth n : ℕ) (ds : List Deed) (b : Broker) (f : Face) (on :
   pub closings_is : filter_map closing ds ≡ closings
   pub numbers_is : numbers ds ≡ []
   pub begun_is : begun ds ≡ []
+  pub patient : ArePatient ds
 
 pub closings_append : (xs ys : List Deed) → filter_map closing (xs ++ ys) ≡ filter_map closing xs ++ filter_map closing ys
 closings_append [] ys = refl
@@ -70,6 +72,7 @@ leaves_append birth n xs ys b f g on then_on ps qs cs ds x y = record {
   closings_is = closings_append xs ys ∙ (ap (λ (zs : List ℕ). zs ++ filter_map closing ys) x.closings_is ∙ ap (λ (zs : List ℕ). cs ++ zs) y.closings_is);
   numbers_is = numbers_append xs ys ∙ (ap (λ (zs : List ℕ). zs ++ numbers ys) x.numbers_is ∙ y.numbers_is);
   begun_is = begun_append xs ys ∙ (ap (λ (zs : List ℕ). zs ++ begun ys) x.begun_is ∙ y.begun_is);
+  patient = patient_append xs ys x.patient y.patient;
 }
 
 -- ---- the session is taken over from the line that it is connected on, if it is
@@ -90,7 +93,7 @@ take_over_is (Some l) env s n b e t at no_will no_end =
 
 pub left_leaves : (o : Option BrokerLine) (s : Session) (n : ℕ) (b : Broker) (on : Option (Option ℕ)) → IsTaken o s.birth n → session_at s.birth b.records ≡ Some s → session_on n b.lines ≡ on
     → Leaves s.birth n (left_by o s b.now) b (left_face o b.now (face s)) on [] (lines_left o)
-left_leaves None s n b on t at is = record { face_is = ap (option_map face) at; line_is = is; told_is = refl; closings_is = refl; numbers_is = refl; begun_is = refl }
+left_leaves None s n b on t at is = record { face_is = ap (option_map face) at; line_is = is; told_is = refl; closings_is = refl; numbers_is = refl; begun_is = refl; patient = tt }
 left_leaves (Some l) s n b on t at is =
     let other : nat_eq l.number n ≡ false = t.another l refl in
     record {
@@ -100,6 +103,7 @@ left_leaves (Some l) s n b on t at is =
       closings_is = refl;
       numbers_is = refl;
       begun_is = refl;
+      patient = (tt, (tt, (tt, tt)));
     }
 
 -- ---- it is resumed
@@ -122,6 +126,10 @@ greeted_line now n k keep_alive window largest (l ∷ ls) h = elim (cases_Bool (
 repeats_quiet : {X : Type 0} (birth m now line : ℕ) (s : Session) (xs : List X) (id : X → ℕ) → AreQuiet birth m (all_turn_deeds now line s (map (λ x. turns.Repeat (id x)) xs))
 repeats_quiet birth m now line s [] id = tt
 repeats_quiet birth m now line s (x ∷ xs) id = (inr refl, repeats_quiet birth m now line s xs id)
+
+repeats_patient : {X : Type 0} (now line : ℕ) (s : Session) (xs : List X) (id : X → ℕ) → ArePatient (all_turn_deeds now line s (map (λ x. turns.Repeat (id x)) xs))
+repeats_patient now line s [] id = tt
+repeats_patient now line s (x ∷ xs) id = (tt, repeats_patient now line s xs id)
 
 repeats_close : {X : Type 0} (now line : ℕ) (s : Session) (xs : List X) (id : X → ℕ) → filter_map closing (all_turn_deeds now line s (map (λ x. turns.Repeat (id x)) xs)) ≡ []
 repeats_close now line s [] id = refl
@@ -154,6 +162,7 @@ resume_leaves now l client x b at on =
       closings_is = refl;
       numbers_is = refl;
       begun_is = refl;
+      patient = (tt, (refl, (tt, tt)));
     } in
     let c2 = after_all first b in
     let still = calm x.birth l.number reps c2 (repeats_quiet x.birth l.number now l.number x dues (λ d. d.identifier)) in
@@ -164,6 +173,7 @@ resume_leaves now l client x b at on =
       closings_is = repeats_close now l.number x dues (λ d. d.identifier);
       numbers_is = still.numbers_is;
       begun_is = still.begun_is;
+      patient = repeats_patient now l.number x dues (λ d. d.identifier);
     } in
     leaves_append x.birth l.number first reps b f f (Some (Some x.birth)) (Some (Some x.birth)) (CONNACK true ∷ []) [] [] [] head tail
 
@@ -301,7 +311,7 @@ connect_call limits choice now client l b line waits =
     ∙ ap (λ (o : Option ℕ). On l.number Hear ∷ (on_packet env l (Connect (hello client)) o (heard_of now l.number b) ++ [])) waits
 
 call_leaves : (limits : Limits) (choice : MemberChoice) (now : ℕ) (p : Publisher) (l : BrokerLine) (s : Session) (b : Broker) → IsAsking p l s b
-    → (f : Face) × Leaves s.birth l.number (deeds limits choice now (Input l.number (Connect (hello p.client))) b) (at_moment now b) f (Some (Some s.birth)) (CONNACK true ∷ []) (lines_left (line_of s.birth b)) × (f.client ≡ p.client) × (f.inbound ≡ s.inbound)
+    → (f : Face) × Leaves s.birth l.number (deeds limits choice now (Input l.number (Connect (hello p.client))) b) (at_moment now b) f (Some (Some s.birth)) (CONNACK true ∷ []) (lines_left (line_of s.birth b)) × (f.client ≡ p.client) × (f.inbound ≡ s.inbound) × (f.will ≡ None) × (f.expiry ≡ never)
 call_leaves limits choice now p l s b a =
     let n = l.number in
     let h = heard_of now n b in
@@ -319,12 +329,13 @@ call_leaves limits choice now p l s b a =
       closings_is = refl;
       numbers_is = refl;
       begun_is = refl;
+      patient = (tt, tt);
     } in
     let both = leaves_append s.birth n (On n Hear ∷ []) (on_connect env l (hello p.client) h) (at_moment now b) (face s) f (Some None) (Some (Some s.birth)) [] (CONNACK true ∷ []) [] (lines_left o) first own in
     let closed = subst (λ (zs : List ℕ). Leaves s.birth n (On n Hear ∷ on_connect env l (hello p.client) h) (at_moment now b) f (Some (Some s.birth)) (CONNACK true ∷ []) zs) heard_lines.3 both in
     let whole = subst (λ (zs : List Deed). Leaves s.birth n zs (at_moment now b) f (Some (Some s.birth)) (CONNACK true ∷ []) (lines_left (line_of s.birth b)))
     (ap (λ (zs : List Deed). On n Hear ∷ zs) (sym (append-nil (on_connect env l (hello p.client) h))) ∙ sym (connect_call limits choice now p.client l b a.line a.waits)) closed in
-    (f, whole, taken_client o h.now s ∙ a.kept.name, taken_inbound o h.now s)
+    (f, whole, taken_client o h.now s ∙ a.kept.name, taken_inbound o h.now s, refl, refl)
 
 pub not_left : (o : Option BrokerLine) (k n : ℕ) → IsTaken o k n → is_one_of (Some n) (lines_left o) ≡ false
 not_left None k n t = refl
@@ -387,3 +398,16 @@ connect_is_hop limits choice now p rest l s b accepted up a =
     same
     ∙ (ap (λ (t : Bool). on_hop t false takes (filter_map shaken rest) w) (sym before.0)
     ∙ sym (ap (λ (xs : List FromPublisher). broker_reads takes xs w) (ap (filter_map shaken) up)))
+
+-- and the session and the line are its own after it
+pub connect_owns : (limits : Limits) (choice : MemberChoice) (now : ℕ) (p : Publisher) (l : BrokerLine) (s : Session) (b : Broker) → IsAsking p l s b → l.keep_alive ≡ 0 → IsInOrder b
+    → IsInOrder (stepped limits choice now (Input l.number (hello_packet p)) b) → Own p.client s.birth l.number (stepped limits choice now (Input l.number (hello_packet p)) b)
+connect_owns limits choice now p l s b a quiet order order_after =
+    let n = l.number in
+    let ds = deeds limits choice now (Input n (hello_packet p)) b in
+    let start = at_moment now b in
+    let given = call_leaves limits choice now p l s b a in
+    let g = given.1 in
+    let only : IsOnly p.client s.birth (after_all ds start).records = only_deeds p.client s.birth ds start (none_begun p.client s.birth ds g.begun_is) a.kept.only in
+    owned_after p.client s.birth n given.0 (rows_of_all ds start.records) (after_all ds start) order_after only g.face_is given.2 given.4 given.5 g.line_is
+    (patient_lines n ds start g.patient (found_alone l b.lines order.lines.ascending a.line quiet))

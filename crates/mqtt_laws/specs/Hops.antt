@@ -17,8 +17,9 @@ use Rattle.mqtt_rules.specs.Step.{Call, NewLine, Input, BadInput, Lost, Pump, Ti
 use Rattle.mqtt_base.specs.declared.limits.TheConstants.{CLIENT_LIMIT, SESSION_LIMIT}
 use Rattle.mqtt_topic.specs.Names.{is_empty}
 use Rattle.mqtt_rules.specs.Numbers.{HasGivenBirths}
-use Rattle.mqtt_rules.specs.Lines.{line_number}
-use Rattle.mqtt_rows.specs.Order.{IsBelow}
+use Rattle.mqtt_rules.specs.Lines.{line_number, HasUniqueLines}
+use Rattle.mqtt_rows.specs.Order.{IsAscending, IsBelow}
+use Rattle.mqtt_records.specs.Session.{birth_of}
 use Rattle.mqtt_laws.specs.Lines.{is_one_of, unless_closed, left, joined}
 use Rattle.mqtt_laws.specs.Ends.{Sent, shake, Publisher, wire}
 use Rattle.mqtt_laws.specs.World.{publisher_told, taken_up}
@@ -62,6 +63,12 @@ pub record Own (client : List ℕ) (birth n : ℕ) (b : Broker) : Type 0 where
   pub lines : AllByRecursion (IsOurLine birth n) b.lines
   pub births : birth ≤ b.records.births
   pub given : n ≤ b.given
+
+-- sessions and lines are in order, as they are after every step and opening (laws of mqtt_rules)
+pub record IsInOrder (b : Broker) : Type 0 where
+  pub sessions : IsAscending birth_of b.records.sessions
+  pub births : HasGivenBirths b.records
+  pub lines : HasUniqueLines b
 
 -- ---- the publisher's line is connected to its session
 

@@ -1,5 +1,5 @@
 //! Laws of the world: what a publisher sees of a step of the broker is what its hop does (4.3, 4.4).
-ghost use Rattle.std.specs.Prelude.{◌≡◌, ℕ, ◌≤◌, [], ◌∷◌, Bool, List, Some, None, true, false, nat_eq, slice_get, count_by};
+ghost use Rattle.std.specs.Prelude.{◌≡◌, ℕ, ◌≤◌, [], ◌∷◌, Bool, List, Some, None, true, false, suc, length, nat_eq, nat_lt, slice_get, count_by};
 ghost use Rattle.std.specs.List.{AllByRecursion, starts_with};
 ghost use Rattle.mqtt_flow.specs.Publisher.{Qos, IsExactlyOnce, completed, refused, ended, ended_1, CONNECT, PUBLISH_1, PUBLISH_2, PUBREL};
 ghost use Rattle.mqtt_flow.specs.InboundWorld.{Event as HopEvent, takes, to_broker, publish, give_up, break, connect, restart, step, run};
@@ -12,7 +12,7 @@ ghost use Rattle.mqtt_laws.specs.Lines.{gives_up};
 ghost use Rattle.mqtt_laws.specs.Ends.{Content, Draft, Sent, shake, plain, Publisher, wire, published, publisher_reads};
 ghost use Rattle.mqtt_laws.specs.World.{publisher_restarted, publisher_told};
 ghost use Rattle.mqtt_laws.specs.Seen.{qos_of_draft, is_linked, seen};
-ghost use Rattle.mqtt_laws.specs.Hops.{IsConnected, IsAsking, Own, IsFarCall, IsRun};
+ghost use Rattle.mqtt_laws.specs.Hops.{IsConnected, IsAsking, IsInOrder, Own, IsFarCall, IsRun};
 ghost use Rattle.mqtt_laws.specs.Hops.{IsKept, IsOurs, connect_packet, IsFirst, MayBegin, joined_by, MayJoin, IsNoConnect, IsUnheard, MayGiveUp, after_step, wire_1, wire_2, hello_packet, lost_by, Becomes};
 
 /// The broker reads the first packet of a publisher's line. Whatever the limits, the routing, the queues
@@ -77,6 +77,29 @@ pub fn own_packets_are_steps_of_the_hop()
         → seen accepted (lost_by limits choice now l.number p b)
         (stepped limits choice now (Lost l.number) b)
         ≡ step (seen accepted p b) break }
+{}
+
+/// After a publisher's CONNECT the session and its line are its own, and after the loss of its line the
+/// session is, where sessions and lines are in order, which they are after each step (3.1.2.4, 3.1.4).
+pub fn a_connected_session_is_its_own()
+    ensures resumed { (limits : Limits) (choice : MemberChoice) (now : ℕ) (p : Publisher) (l : Line) (s : Session)
+        → (b : Broker) → IsAsking p l s b → l.keep_alive ≡ 0 → IsInOrder b
+        → IsInOrder (stepped limits choice now (Input l.number (hello_packet p)) b)
+        → Own p.client s.birth l.number (stepped limits choice now (Input l.number (hello_packet p)) b) }
+    ensures anew { (limits : Limits) (choice : MemberChoice) (now : ℕ) (p : Publisher) (l : Line) (s : Session)
+        → (b : Broker) → IsAsking p l s b → MayBegin limits p.client b → l.keep_alive ≡ 0 → IsInOrder b
+        → IsInOrder (stepped limits choice now (Input l.number (connect_packet true p)) b)
+        → (birth : ℕ)
+        × Own p.client birth l.number (stepped limits choice now (Input l.number (connect_packet true p)) b) }
+    ensures first { (limits : Limits) (choice : MemberChoice) (now : ℕ) (clean : Bool) (p : Publisher) (l : Line)
+        → (b : Broker) → IsFirst limits p l b → nat_lt (length b.records.sessions) limits.sessions ≡ true
+        → l.keep_alive ≡ 0 → IsInOrder b
+        → IsInOrder (stepped limits choice now (Input l.number (connect_packet clean p)) b)
+        → Own p.client (suc b.records.births) l.number
+        (stepped limits choice now (Input l.number (connect_packet clean p)) b) }
+    ensures lost { (limits : Limits) (choice : MemberChoice) (now : ℕ) (p : Publisher) (l : Line) (s : Session)
+        → (b : Broker) → IsConnected p l s b → Own p.client s.birth l.number b
+        → Own p.client s.birth l.number (stepped limits choice now (Lost l.number) b) }
 {}
 
 /// The broker restarts while the publisher's session stands, connected or not: whatever Wills are due and
