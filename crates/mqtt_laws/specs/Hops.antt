@@ -22,7 +22,7 @@ use Rattle.mqtt_rows.specs.Order.{IsAscending, IsBelow}
 use Rattle.mqtt_records.specs.Session.{birth_of}
 use Rattle.mqtt_laws.specs.Lines.{is_one_of, unless_closed, left, joined}
 use Rattle.mqtt_laws.specs.Ends.{Sent, shake, Publisher, wire}
-use Rattle.mqtt_laws.specs.World.{publisher_told, taken_up}
+use Rattle.mqtt_laws.specs.World.{publisher_told, taken_up, taken_old}
 use Rattle.mqtt_laws.specs.Run.{client_number}
 use Rattle.mqtt_laws.specs.Seen.{shaken, seen}
 
@@ -128,6 +128,35 @@ Becomes limits choice now call k p b accepted e =
 abbrev pub IsUnheard : Limits → MemberChoice → ℕ → Call → Publisher → Broker → List ℕ → Type 0
 IsUnheard limits choice now call p b accepted =
     (es : List HopEvent) × (seen accepted (after_step limits choice now call p b) (stepped limits choice now call b) ≡ run es (seen accepted p b))
+
+-- ---- the line that it gave up
+
+-- the publisher as if it had kept that line
+abbrev pub turned_back : Publisher → Publisher
+turned_back p =
+    record p { line = record p.line { number = p.line.old_number; up = p.line.old; old_number = p.line.number; old = p.line.up } }
+
+-- its session is connected there
+abbrev pub IsLingering : Publisher → BrokerLine → Session → Broker → Type 0
+IsLingering p l s b = IsConnected (turned_back p) l s b
+
+-- after a step in which the first packet of that line was read
+abbrev pub after_old_step : Limits → MemberChoice → ℕ → Call → Publisher → Broker → Publisher
+after_old_step limits choice now call p b =
+    let q = record p { line = taken_old p.line } in
+    publisher_told (stepped limits choice now call b) (told limits choice now call b) q
+
+abbrev pub BecomesOld : Limits → MemberChoice → ℕ → Call → ℕ → Publisher → Broker → List ℕ → HopEvent → Type 0
+BecomesOld limits choice now call k p b accepted e =
+    seen (accepted ++ counted k (numbers_of limits choice now call b)) (after_old_step limits choice now call p b)
+    (stepped limits choice now call b)
+    ≡ step (seen accepted p b) e
+
+abbrev pub IsUnheardOld : Limits → MemberChoice → ℕ → Call → Publisher → Broker → List ℕ → Type 0
+IsUnheardOld limits choice now call p b accepted =
+    (es : List HopEvent)
+    × (seen accepted (after_old_step limits choice now call p b) (stepped limits choice now call b)
+    ≡ run es (seen accepted p b))
 
 -- a PUBLISH or a PUBREL
 abbrev pub IsNoConnect : Sent → Type 0

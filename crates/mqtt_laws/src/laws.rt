@@ -2,7 +2,7 @@
 ghost use Rattle.std.specs.Prelude.{◌≡◌, ℕ, ◌≤◌, [], ◌∷◌, Bool, List, Some, None, true, false, suc, length, nat_eq, nat_lt, slice_get, count_by};
 ghost use Rattle.std.specs.List.{AllByRecursion, starts_with};
 ghost use Rattle.mqtt_flow.specs.Publisher.{Qos, IsExactlyOnce, completed, refused, ended, ended_1, CONNECT, PUBLISH_1, PUBLISH_2, PUBREL};
-ghost use Rattle.mqtt_flow.specs.InboundWorld.{Event as HopEvent, takes, to_broker, publish, give_up, break, connect, restart, step, run};
+ghost use Rattle.mqtt_flow.specs.InboundWorld.{Event as HopEvent, takes, to_broker, old_to_broker, publish, give_up, break, connect, restart, step, run};
 ghost use Rattle.mqtt_records.specs.declared.session.Session.{Session};
 ghost use Rattle.mqtt_rules.specs.declared.Limits.{Limits};
 ghost use Rattle.mqtt_rules.specs.State.{Line, Broker, MemberChoice};
@@ -14,6 +14,7 @@ ghost use Rattle.mqtt_laws.specs.World.{publisher_restarted, publisher_told};
 ghost use Rattle.mqtt_laws.specs.Seen.{qos_of_draft, is_linked, seen};
 ghost use Rattle.mqtt_laws.specs.Hops.{IsConnected, IsAsking, IsInOrder, Own, IsFarCall, IsRun};
 ghost use Rattle.mqtt_laws.specs.Hops.{IsKept, IsOurs, connect_packet, IsFirst, MayBegin, joined_by, MayJoin, IsNoConnect, IsUnheard, MayGiveUp, after_step, wire_1, wire_2, hello_packet, lost_by, Becomes};
+ghost use Rattle.mqtt_laws.specs.Hops.{IsLingering, BecomesOld, IsUnheardOld};
 
 /// The broker reads the first packet of a publisher's line. Whatever the limits, the routing, the queues
 /// and all other sessions and lines, what the publisher sees of it is one event of its hop (4.3.3, 4.4).
@@ -77,6 +78,28 @@ pub fn own_packets_are_steps_of_the_hop()
         → seen accepted (lost_by limits choice now l.number p b)
         (stepped limits choice now (Lost l.number) b)
         ≡ step (seen accepted p b) break }
+{}
+
+/// The broker reads what a publisher left on the line that it gave up, where its session is connected still:
+/// what the publisher sees of it is that event of its hop, and no answer (4.3.2, 4.3.3, 4.4).
+pub fn packets_of_the_line_given_up_are_steps_of_the_hop()
+    ensures publish { (limits : Limits) (choice : MemberChoice) (now : ℕ) (p : Publisher) (rest : List Sent)
+        → (id k : ℕ) (dup : Bool) (l : Line) (s : Session) (b : Broker) (accepted : List ℕ)
+        → p.line.old ≡ shake (PUBLISH_2 id k dup) ∷ rest → IsLingering p l s b
+        → (e : HopEvent) × BecomesOld limits choice now (Input l.number (wire_2 p id k dup)) k p b accepted e }
+    ensures release { (limits : Limits) (choice : MemberChoice) (now : ℕ) (p : Publisher) (rest : List Sent)
+        → (id k : ℕ) (l : Line) (s : Session) (b : Broker) (accepted : List ℕ)
+        → p.line.old ≡ shake (PUBREL id) ∷ rest → IsLingering p l s b
+        → BecomesOld limits choice now (Input l.number (wire p.client p.contents (shake (PUBREL id)))) k p b accepted
+        (old_to_broker takes) }
+    ensures publish_once { (limits : Limits) (choice : MemberChoice) (now : ℕ) (p : Publisher) (rest : List Sent)
+        → (id k : ℕ) (dup : Bool) (l : Line) (s : Session) (b : Broker) (accepted : List ℕ)
+        → p.line.old ≡ shake (PUBLISH_1 id k dup) ∷ rest → IsLingering p l s b
+        → (e : HopEvent) × BecomesOld limits choice now (Input l.number (wire_1 p id k dup)) k p b accepted e }
+    ensures publish_plain { (limits : Limits) (choice : MemberChoice) (now : ℕ) (p : Publisher) (rest : List Sent)
+        → (content : Content) (l : Line) (s : Session) (b : Broker) (accepted : List ℕ)
+        → p.line.old ≡ plain content ∷ rest → IsLingering p l s b
+        → IsUnheardOld limits choice now (Input l.number (wire p.client p.contents (plain content))) p b accepted }
 {}
 
 /// After a publisher's CONNECT the session and its line are its own, and after the loss of its line the
