@@ -5,7 +5,7 @@ ghost use Rattle.mqtt_flow.specs.Publisher.{Qos, IsExactlyOnce, completed, refus
 ghost use Rattle.mqtt_flow.specs.InboundWorld.{Event as HopEvent, takes, to_broker, old_to_broker, publish, give_up, break, connect, restart, step, run};
 ghost use Rattle.mqtt_records.specs.declared.session.Session.{Session};
 ghost use Rattle.mqtt_rules.specs.declared.Limits.{Limits};
-ghost use Rattle.mqtt_rules.specs.State.{Line, Broker, MemberChoice};
+ghost use Rattle.mqtt_rules.specs.State.{Line, Broker, MemberChoice, session_named};
 ghost use Rattle.mqtt_rules.specs.Connect.{auto};
 ghost use Rattle.mqtt_rules.specs.Step.{Call, NewLine, Input, Lost, opened, stepped, told};
 ghost use Rattle.mqtt_laws.specs.Lines.{gives_up};
@@ -125,12 +125,20 @@ pub fn a_connected_session_is_its_own()
         → Own p.client s.birth l.number (stepped limits choice now (Lost l.number) b) }
 {}
 
-/// The broker restarts while the publisher's session stands, connected or not: whatever Wills are due and
-/// sessions end, the publisher sees that one event of its hop (4.1).
+/// The broker restarts while the publisher's session stands, connected or not, or while it has none: whatever
+/// Wills are due and sessions end, the publisher sees that one event of its hop (4.1).
 pub fn a_restart_is_a_step_of_the_hop()
     ensures restarts { (limits : Limits) (choice : MemberChoice) (now : ℕ) (p : Publisher) (s : Session) (b : Broker)
         → (accepted : List ℕ) → IsKept p.client s b
         → AllByRecursion (IsOurs p.client s.birth) b.records.sessions → s.birth ≤ b.records.births
+        → seen accepted (publisher_restarted p) (opened limits choice now b.records)
+        ≡ step (seen accepted p b) restart }
+    ensures own { (limits : Limits) (choice : MemberChoice) (now : ℕ) (client : List ℕ) (s : Session) (b : Broker)
+        → IsKept client s b
+        → AllByRecursion (IsOurs client s.birth) b.records.sessions → s.birth ≤ b.records.births
+        → Own client s.birth 0 (opened limits choice now b.records) }
+    ensures without { (limits : Limits) (choice : MemberChoice) (now : ℕ) (p : Publisher) (b : Broker)
+        → (accepted : List ℕ) → session_named p.client b.records ≡ None
         → seen accepted (publisher_restarted p) (opened limits choice now b.records)
         ≡ step (seen accepted p b) restart }
 {}
@@ -143,6 +151,14 @@ pub fn steps_of_others_are_unseen()
         → (s : Session) (b : Broker) (accepted : List ℕ)
         → IsConnected p l s b → Own p.client s.birth l.number b
         → starts_with nat_eq p.client auto ≡ false → IsFarCall p.client l.number call
+        → (es : List HopEvent)
+        × (seen accepted (publisher_told (stepped limits choice now call b) (told limits choice now call b) p)
+        (stepped limits choice now call b) ≡ run es (seen accepted p b)) }
+
+    // The same while it has no line, and its session is connected on the line that it gave up, or nowhere.
+    ensures unseen_away { (limits : Limits) (choice : MemberChoice) (now : ℕ) (call : Call) (p : Publisher) (n : ℕ)
+        → (s : Session) (b : Broker) (accepted : List ℕ)
+        → p.line.number ≡ None → IsKept p.client s b → Own p.client s.birth n b → IsFarCall p.client n call
         → (es : List HopEvent)
         × (seen accepted (publisher_told (stepped limits choice now call b) (told limits choice now call b) p)
         (stepped limits choice now call b) ≡ run es (seen accepted p b)) }
