@@ -1,5 +1,5 @@
 -- The publisher's line is lost on both sides: it is the step of the hop (MQTT 5.0, 4.2).
-use Rattle.std.proofs.Common.{◌≡◌, ℕ, Bool, true, List, [], ◌∷◌, ◌++◌, Option, Some, None, bytes_eq, sym, ap, ◌∙◌}
+use Rattle.std.proofs.Common.{◌≡◌, ℕ, Bool, true, List, [], ◌∷◌, ◌++◌, Option, Some, None, bytes_eq, sym, ap, subst, ◌∙◌, inr}
 use Rattle.std.specs.Prelude.{option_map, find, filter_map, is_some}
 use Rattle.mqtt_inbound.specs.InboundWorld.{break, step}
 use Rattle.mqtt_records.specs.declared.session.Session.{Session}
@@ -11,11 +11,13 @@ use Rattle.mqtt_rules.specs.Step.{Lost, at_moment, env_of, deeds, stepped}
 use Rattle.mqtt_laws.specs.Lines.{is_one_of, unless_closed}
 use Rattle.mqtt_laws.specs.Ends.{Publisher}
 use Rattle.mqtt_laws.specs.Seen.{shaken, open_in, seen}
-use Rattle.mqtt_laws.specs.Hops.{IsOnly, IsConnected, lost_by}
+use Rattle.mqtt_laws.specs.Hops.{IsOnly, IsConnected, Own, lost_by}
 use Rattle.mqtt_laws.proofs.Rows.{face}
 use Rattle.mqtt_laws.proofs.Publishes.{session_closes, closed_after}
 use Rattle.mqtt_laws.proofs.Names.{only_deeds}
 use Rattle.mqtt_laws.proofs.Seeing.{done_sessions, named_face}
+use Rattle.mqtt_laws.proofs.Frame.{own_done}
+use Rattle.mqtt_laws.proofs.Mine.{AreMine, mine_owns}
 
 -- the deeds of a line that is lost
 lost_is : (limits : Limits) (choice : MemberChoice) (now : ℕ) (l : BrokerLine) (s : Session) (b : Broker) → line_at l.number b ≡ Some l → l.session ≡ Some s.birth → session_at s.birth b.records ≡ Some s
@@ -54,3 +56,14 @@ break_is_hop limits choice now p l s b accepted c =
     let ids : open_in (session_named p.client new.records) ≡ open_in (session_named p.client b.records) =
     ap (λ (ss : List Session). open_in (find (λ (x : Session). bytes_eq x.client p.client) ss)) sessions ∙ (named.1 ∙ sym before.1) in
     λ i. record (step (seen accepted p b) break) { old = olds i; stands = stands i; ids = ids i }
+
+-- and the session stays the publisher's own
+pub break_owns : (limits : Limits) (choice : MemberChoice) (now : ℕ) (p : Publisher) (l : BrokerLine) (s : Session) (b : Broker) → IsConnected p l s b → Own p.client s.birth l.number b
+    → Own p.client s.birth l.number (stepped limits choice now (Lost l.number) b)
+break_owns limits choice now p l s b c own =
+    let ds = deeds limits choice now (Lost l.number) b in
+    let start = at_moment now b in
+    let o : Own p.client s.birth l.number start = record { sessions = own.sessions; lines = own.lines; births = own.births; given = own.given } in
+    let is = lost_is limits choice now l s b c.line c.connected c.session c.no_will c.no_end in
+    let mine : AreMine p.client s.birth l.number ds = subst (AreMine p.client s.birth l.number) (sym is) (inr tt, (inr tt, tt)) in
+    own_done p.client s.birth l.number (rows_of_all ds start.records) (after_all ds start) (mine_owns p.client s.birth l.number ds start mine o)

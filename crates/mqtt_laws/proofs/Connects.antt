@@ -34,13 +34,14 @@ use Rattle.mqtt_rules.proofs.FlightRows.{change_row-here}
 use Rattle.mqtt_laws.specs.Lines.{sent_to, is_one_of, unless_closed}
 use Rattle.mqtt_laws.specs.Ends.{Sent, shake, Publisher}
 use Rattle.mqtt_laws.specs.Seen.{qos_of_draft, shaken, heard_in, is_linked, open_in, seen}
-use Rattle.mqtt_laws.specs.Hops.{IsOnly, lines_left, IsTaken, IsKept, IsAsking, hello_packet, after_step}
+use Rattle.mqtt_laws.specs.Hops.{IsOnly, lines_left, IsTaken, IsKept, IsAsking, Own, IsInOrder, hello_packet, after_step}
 use Rattle.mqtt_laws.proofs.Rows.{Face, face, face_at}
 use Rattle.mqtt_laws.proofs.Quiet.{AreQuiet, told_to, numbers, begun, session_on, calm, line_gone, line_on}
 use Rattle.mqtt_laws.proofs.Publishes.{told_append, numbers_append, begun_append, closed_row, closed_after, dropped, drop_is, settles_nothing, act_none}
 use Rattle.mqtt_laws.proofs.Names.{named_is, only_deeds, none_begun}
 use Rattle.mqtt_laws.proofs.Seeing.{done_sessions, done_lines, told_down, append_heard, linked_of, linked_is, named_face}
 use Rattle.mqtt_laws.proofs.OwnStep.{heard_of}
+use Rattle.mqtt_laws.proofs.Owned.{ArePatient, patient_append, patient_lines, found_alone, owned_after}
 
 -- ---- what a list of deeds leaves, with the lines that it closes
 
@@ -51,8 +52,9 @@ pub record Leaves (birth n : ℕ) (ds : List Deed) (b : Broker) (f : Face) (on :
   pub closings_is : filter_map closing ds ≡ closings
   pub numbers_is : numbers ds ≡ []
   pub begun_is : begun ds ≡ []
+  pub patient : ArePatient ds
 
-closings_append : (xs ys : List Deed) → filter_map closing (xs ++ ys) ≡ filter_map closing xs ++ filter_map closing ys
+pub closings_append : (xs ys : List Deed) → filter_map closing (xs ++ ys) ≡ filter_map closing xs ++ filter_map closing ys
 closings_append [] ys = refl
 closings_append (x ∷ xs) ys = first (closing x) (closings_append xs ys)
   where
@@ -61,7 +63,7 @@ closings_append (x ∷ xs) ys = first (closing x) (closings_append xs ys)
     first None h = h
     first (Some k) h = ap (λ (ks : List ℕ). k ∷ ks) h
 
-leaves_append : (birth n : ℕ) (xs ys : List Deed) (b : Broker) (f g : Face) (on then_on : Option (Option ℕ)) (ps qs : List ToPublisher) (cs ds : List ℕ)
+pub leaves_append : (birth n : ℕ) (xs ys : List Deed) (b : Broker) (f g : Face) (on then_on : Option (Option ℕ)) (ps qs : List ToPublisher) (cs ds : List ℕ)
     → Leaves birth n xs b f on ps cs → Leaves birth n ys (after_all xs b) g then_on qs ds → Leaves birth n (xs ++ ys) b g then_on (ps ++ qs) (cs ++ ds)
 leaves_append birth n xs ys b f g on then_on ps qs cs ds x y = record {
   face_is = ap (λ (z : Broker). face_at birth z.records) (after_append xs ys b) ∙ y.face_is;
@@ -70,6 +72,7 @@ leaves_append birth n xs ys b f g on then_on ps qs cs ds x y = record {
   closings_is = closings_append xs ys ∙ (ap (λ (zs : List ℕ). zs ++ filter_map closing ys) x.closings_is ∙ ap (λ (zs : List ℕ). cs ++ zs) y.closings_is);
   numbers_is = numbers_append xs ys ∙ (ap (λ (zs : List ℕ). zs ++ numbers ys) x.numbers_is ∙ y.numbers_is);
   begun_is = begun_append xs ys ∙ (ap (λ (zs : List ℕ). zs ++ begun ys) x.begun_is ∙ y.begun_is);
+  patient = patient_append xs ys x.patient y.patient;
 }
 
 -- ---- the session is taken over from the line that it is connected on, if it is
@@ -82,15 +85,15 @@ abbrev pub left_face : Option BrokerLine → ℕ → Face → Face
 left_face None now f = f
 left_face (Some l) now f = record f { closed = Some now }
 
-take_over_is : (o : Option BrokerLine) (env : Env) (s : Session) (n : ℕ) (b : Broker) → line_of s.birth b ≡ o → IsTaken o s.birth n → session_at s.birth b.records ≡ Some s → s.will ≡ None → s.expiry ≡ never
+pub take_over_is : (o : Option BrokerLine) (env : Env) (s : Session) (n : ℕ) (b : Broker) → line_of s.birth b ≡ o → IsTaken o s.birth n → session_at s.birth b.records ≡ Some s → s.will ≡ None → s.expiry ≡ never
     → take_over env s b ≡ left_by o s b.now
 take_over_is None env s n b e t at no_will no_end = ap (λ (x : Option BrokerLine). with_line x (drop_line env session_taken_over) b) e
 take_over_is (Some l) env s n b e t at no_will no_end =
     ap (λ (x : Option BrokerLine). with_line x (drop_line env session_taken_over) b) e ∙ drop_is env session_taken_over l s b at (t.connected l refl) no_will no_end
 
-left_leaves : (o : Option BrokerLine) (s : Session) (n : ℕ) (b : Broker) (on : Option (Option ℕ)) → IsTaken o s.birth n → session_at s.birth b.records ≡ Some s → session_on n b.lines ≡ on
+pub left_leaves : (o : Option BrokerLine) (s : Session) (n : ℕ) (b : Broker) (on : Option (Option ℕ)) → IsTaken o s.birth n → session_at s.birth b.records ≡ Some s → session_on n b.lines ≡ on
     → Leaves s.birth n (left_by o s b.now) b (left_face o b.now (face s)) on [] (lines_left o)
-left_leaves None s n b on t at is = record { face_is = ap (option_map face) at; line_is = is; told_is = refl; closings_is = refl; numbers_is = refl; begun_is = refl }
+left_leaves None s n b on t at is = record { face_is = ap (option_map face) at; line_is = is; told_is = refl; closings_is = refl; numbers_is = refl; begun_is = refl; patient = tt }
 left_leaves (Some l) s n b on t at is =
     let other : nat_eq l.number n ≡ false = t.another l refl in
     record {
@@ -100,6 +103,7 @@ left_leaves (Some l) s n b on t at is =
       closings_is = refl;
       numbers_is = refl;
       begun_is = refl;
+      patient = (tt, (tt, (tt, tt)));
     }
 
 -- ---- it is resumed
@@ -122,6 +126,10 @@ greeted_line now n k keep_alive window largest (l ∷ ls) h = elim (cases_Bool (
 repeats_quiet : {X : Type 0} (birth m now line : ℕ) (s : Session) (xs : List X) (id : X → ℕ) → AreQuiet birth m (all_turn_deeds now line s (map (λ x. turns.Repeat (id x)) xs))
 repeats_quiet birth m now line s [] id = tt
 repeats_quiet birth m now line s (x ∷ xs) id = (inr refl, repeats_quiet birth m now line s xs id)
+
+repeats_patient : {X : Type 0} (now line : ℕ) (s : Session) (xs : List X) (id : X → ℕ) → ArePatient (all_turn_deeds now line s (map (λ x. turns.Repeat (id x)) xs))
+repeats_patient now line s [] id = tt
+repeats_patient now line s (x ∷ xs) id = (tt, repeats_patient now line s xs id)
 
 repeats_close : {X : Type 0} (now line : ℕ) (s : Session) (xs : List X) (id : X → ℕ) → filter_map closing (all_turn_deeds now line s (map (λ x. turns.Repeat (id x)) xs)) ≡ []
 repeats_close now line s [] id = refl
@@ -154,6 +162,7 @@ resume_leaves now l client x b at on =
       closings_is = refl;
       numbers_is = refl;
       begun_is = refl;
+      patient = (tt, (refl, (tt, tt)));
     } in
     let c2 = after_all first b in
     let still = calm x.birth l.number reps c2 (repeats_quiet x.birth l.number now l.number x dues (λ d. d.identifier)) in
@@ -164,6 +173,7 @@ resume_leaves now l client x b at on =
       closings_is = repeats_close now l.number x dues (λ d. d.identifier);
       numbers_is = still.numbers_is;
       begun_is = still.begun_is;
+      patient = repeats_patient now l.number x dues (λ d. d.identifier);
     } in
     leaves_append x.birth l.number first reps b f f (Some (Some x.birth)) (Some (Some x.birth)) (CONNACK true ∷ []) [] [] [] head tail
 
@@ -174,50 +184,50 @@ abbrev pub taken_from : Option BrokerLine → ℕ → Session → Session
 taken_from None now s = s
 taken_from (Some l) now s = with_columns (closed_row now s) s
 
-taken_at : (o : Option BrokerLine) (s : Session) (b : Broker) → session_at s.birth b.records ≡ Some s
+pub taken_at : (o : Option BrokerLine) (s : Session) (b : Broker) → session_at s.birth b.records ≡ Some s
     → session_at s.birth (after_all (left_by o s b.now) b).records ≡ Some (taken_from o b.now s)
 taken_at None s b at = at
 taken_at (Some l) s b at = closed_after b.now s b at
 
-taken_birth : (o : Option BrokerLine) (now : ℕ) (s : Session) → (taken_from o now s).birth ≡ s.birth
+pub taken_birth : (o : Option BrokerLine) (now : ℕ) (s : Session) → (taken_from o now s).birth ≡ s.birth
 taken_birth None now s = refl
 taken_birth (Some l) now s = refl
 
-taken_client : (o : Option BrokerLine) (now : ℕ) (s : Session) → (taken_from o now s).client ≡ s.client
+pub taken_client : (o : Option BrokerLine) (now : ℕ) (s : Session) → (taken_from o now s).client ≡ s.client
 taken_client None now s = refl
 taken_client (Some l) now s = refl
 
-taken_inbound : (o : Option BrokerLine) (now : ℕ) (s : Session) → (taken_from o now s).inbound ≡ s.inbound
+pub taken_inbound : (o : Option BrokerLine) (now : ℕ) (s : Session) → (taken_from o now s).inbound ≡ s.inbound
 taken_inbound None now s = refl
 taken_inbound (Some l) now s = refl
 
-taken_will : (o : Option BrokerLine) (now : ℕ) (s : Session) → (taken_from o now s).will ≡ s.will
+pub taken_will : (o : Option BrokerLine) (now : ℕ) (s : Session) → (taken_from o now s).will ≡ s.will
 taken_will None now s = refl
 taken_will (Some l) now s = refl
 
-taken_expiry : (o : Option BrokerLine) (now : ℕ) (s : Session) → (taken_from o now s).expiry ≡ s.expiry
+pub taken_expiry : (o : Option BrokerLine) (now : ℕ) (s : Session) → (taken_from o now s).expiry ≡ s.expiry
 taken_expiry None now s = refl
 taken_expiry (Some l) now s = refl
 
-taken_begun : (o : Option BrokerLine) (s : Session) (now : ℕ) → begun (left_by o s now) ≡ []
+pub taken_begun : (o : Option BrokerLine) (s : Session) (now : ℕ) → begun (left_by o s now) ≡ []
 taken_begun None s now = refl
 taken_begun (Some l) s now = refl
 
 refused_not : (client : List ℕ) (r : Records) → nat_lt 64 (length client) ≡ false → starts_with nat_eq client auto ≡ false → refusal (hello client) r ≡ None
 refused_not client r short plain = rw (short, plain) refl
 
-named_taken : (o : Option BrokerLine) (client : List ℕ) (s : Session) (b : Broker) → IsKept client s b
+pub named_taken : (o : Option BrokerLine) (client : List ℕ) (s : Session) (b : Broker) → IsKept client s b
     → session_named client (after_all (left_by o s b.now) b).records ≡ Some (taken_from o b.now s)
 named_taken o client s b k =
     let ds = left_by o s b.now in
     named_is client s.birth (after_all ds b).records (taken_from o b.now s) (only_deeds client s.birth ds b (none_begun client s.birth ds (taken_begun o s b.now)) k.only) (taken_at o s b k.session) (taken_client o b.now s ∙ k.name)
 
-prepare_is : (o : Option BrokerLine) (env : Env) (client : List ℕ) (s : Session) (n : ℕ) (b : Broker) → line_of s.birth b ≡ o → IsTaken o s.birth n → IsKept client s b
-    → prepare env (hello client) b ≡ left_by o s b.now
-prepare_is o env client s n b e t k =
+pub prepare_front : (o : Option BrokerLine) (env : Env) (client : List ℕ) (s : Session) (n : ℕ) (b : Broker) (rest : List Act) → line_of s.birth b ≡ o → IsTaken o s.birth n → IsKept client s b
+    → series (of_client client (take_over env) ∷ of_client client (λ z. settle env z.birth) ∷ rest) b
+    ≡ left_by o s b.now ++ series rest (after_all (left_by o s b.now) b)
+prepare_front o env client s n b rest e t k =
     let first : Act = of_client client (take_over env) in
     let second : Act = of_client client (λ z. settle env z.birth) in
-    let third : Act = only_if false (of_client client (clear env)) in
     let ds = left_by o s b.now in
     let c = after_all ds b in
     let x = taken_from o b.now s in
@@ -227,8 +237,13 @@ prepare_is o env client s n b e t k =
     ap (λ (m : ℕ). settle env m c) (taken_birth o b.now s)
     ∙ settles_nothing env s.birth x c (taken_at o s b k.session) (taken_will o b.now s ∙ k.no_will) (taken_expiry o b.now s ∙ k.no_end) in
     let settled : second c ≡ [] = ap (λ (z : Option Session). with_session z (λ y. settle env y.birth) c) (named_taken o client s b k) ∙ nothing in
-    ap (λ (zs : List Deed). zs ++ series (second ∷ third ∷ []) (after_all zs b)) taken
-    ∙ (ap (λ (zs : List Deed). ds ++ zs) (act_none second (third ∷ []) c settled) ∙ append-nil ds)
+    ap (λ (zs : List Deed). zs ++ series (second ∷ rest) (after_all zs b)) taken
+    ∙ ap (λ (zs : List Deed). ds ++ zs) (act_none second rest c settled)
+
+prepare_is : (o : Option BrokerLine) (env : Env) (client : List ℕ) (s : Session) (n : ℕ) (b : Broker) → line_of s.birth b ≡ o → IsTaken o s.birth n → IsKept client s b
+    → prepare env (hello client) b ≡ left_by o s b.now
+prepare_is o env client s n b e t k =
+    prepare_front o env client s n b (only_if false (of_client client (clear env)) ∷ []) e t k ∙ append-nil (left_by o s b.now)
 
 connect_is : (o : Option BrokerLine) (env : Env) (l : BrokerLine) (client : List ℕ) (s : Session) (b : Broker) → line_of s.birth b ≡ o → IsTaken o s.birth l.number → IsKept client s b
     → on_connect env l (hello client) b ≡ left_by o s b.now ++ resume l (hello client) b.now (taken_from o b.now s)
@@ -262,7 +277,7 @@ connect_leaves o env l client s b e t k on =
 -- ---- the call
 
 -- hearing of the line changes neither the lines nor where the session is connected
-heard_line_of : (k m now : ℕ) (b : Broker) → (o : Option BrokerLine) → line_of k b ≡ o → IsTaken o k m → (x : Option BrokerLine) × (line_of k (heard_of now m b) ≡ x) × IsTaken x k m × (lines_left x ≡ lines_left o)
+pub heard_line_of : (k m now : ℕ) (b : Broker) → (o : Option BrokerLine) → line_of k b ≡ o → IsTaken o k m → (x : Option BrokerLine) × (line_of k (heard_of now m b) ≡ x) × IsTaken x k m × (lines_left x ≡ lines_left o)
 heard_line_of k m now b o e t = in_list b.lines o e t
   where
     in_list : (ls : List BrokerLine) (o : Option BrokerLine) → find (λ (l : BrokerLine). is_of l.session k) ls ≡ o → IsTaken o k m
@@ -296,7 +311,7 @@ connect_call limits choice now client l b line waits =
     ∙ ap (λ (o : Option ℕ). On l.number Hear ∷ (on_packet env l (Connect (hello client)) o (heard_of now l.number b) ++ [])) waits
 
 call_leaves : (limits : Limits) (choice : MemberChoice) (now : ℕ) (p : Publisher) (l : BrokerLine) (s : Session) (b : Broker) → IsAsking p l s b
-    → (f : Face) × Leaves s.birth l.number (deeds limits choice now (Input l.number (Connect (hello p.client))) b) (at_moment now b) f (Some (Some s.birth)) (CONNACK true ∷ []) (lines_left (line_of s.birth b)) × (f.client ≡ p.client) × (f.inbound ≡ s.inbound)
+    → (f : Face) × Leaves s.birth l.number (deeds limits choice now (Input l.number (Connect (hello p.client))) b) (at_moment now b) f (Some (Some s.birth)) (CONNACK true ∷ []) (lines_left (line_of s.birth b)) × (f.client ≡ p.client) × (f.inbound ≡ s.inbound) × (f.will ≡ None) × (f.expiry ≡ never)
 call_leaves limits choice now p l s b a =
     let n = l.number in
     let h = heard_of now n b in
@@ -314,14 +329,15 @@ call_leaves limits choice now p l s b a =
       closings_is = refl;
       numbers_is = refl;
       begun_is = refl;
+      patient = (tt, tt);
     } in
     let both = leaves_append s.birth n (On n Hear ∷ []) (on_connect env l (hello p.client) h) (at_moment now b) (face s) f (Some None) (Some (Some s.birth)) [] (CONNACK true ∷ []) [] (lines_left o) first own in
     let closed = subst (λ (zs : List ℕ). Leaves s.birth n (On n Hear ∷ on_connect env l (hello p.client) h) (at_moment now b) f (Some (Some s.birth)) (CONNACK true ∷ []) zs) heard_lines.3 both in
     let whole = subst (λ (zs : List Deed). Leaves s.birth n zs (at_moment now b) f (Some (Some s.birth)) (CONNACK true ∷ []) (lines_left (line_of s.birth b)))
     (ap (λ (zs : List Deed). On n Hear ∷ zs) (sym (append-nil (on_connect env l (hello p.client) h))) ∙ sym (connect_call limits choice now p.client l b a.line a.waits)) closed in
-    (f, whole, taken_client o h.now s ∙ a.kept.name, taken_inbound o h.now s)
+    (f, whole, taken_client o h.now s ∙ a.kept.name, taken_inbound o h.now s, refl, refl)
 
-not_left : (o : Option BrokerLine) (k n : ℕ) → IsTaken o k n → is_one_of (Some n) (lines_left o) ≡ false
+pub not_left : (o : Option BrokerLine) (k n : ℕ) → IsTaken o k n → is_one_of (Some n) (lines_left o) ≡ false
 not_left None k n t = refl
 not_left (Some l) k n t = rw (t.another l refl) refl
 
@@ -382,3 +398,16 @@ connect_is_hop limits choice now p rest l s b accepted up a =
     same
     ∙ (ap (λ (t : Bool). on_hop t false takes (filter_map shaken rest) w) (sym before.0)
     ∙ sym (ap (λ (xs : List FromPublisher). broker_reads takes xs w) (ap (filter_map shaken) up)))
+
+-- and the session and the line are its own after it
+pub connect_owns : (limits : Limits) (choice : MemberChoice) (now : ℕ) (p : Publisher) (l : BrokerLine) (s : Session) (b : Broker) → IsAsking p l s b → l.keep_alive ≡ 0 → IsInOrder b
+    → IsInOrder (stepped limits choice now (Input l.number (hello_packet p)) b) → Own p.client s.birth l.number (stepped limits choice now (Input l.number (hello_packet p)) b)
+connect_owns limits choice now p l s b a quiet order order_after =
+    let n = l.number in
+    let ds = deeds limits choice now (Input n (hello_packet p)) b in
+    let start = at_moment now b in
+    let given = call_leaves limits choice now p l s b a in
+    let g = given.1 in
+    let only : IsOnly p.client s.birth (after_all ds start).records = only_deeds p.client s.birth ds start (none_begun p.client s.birth ds g.begun_is) a.kept.only in
+    owned_after p.client s.birth n given.0 (rows_of_all ds start.records) (after_all ds start) order_after only g.face_is given.2 given.4 given.5 g.line_is
+    (patient_lines n ds start g.patient (found_alone l b.lines order.lines.ascending a.line quiet))

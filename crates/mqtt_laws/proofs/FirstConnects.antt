@@ -1,6 +1,6 @@
 -- The broker reads a publisher's CONNECT where no session of its client stands: a new one begins, or the table is full (MQTT
 -- 5.0, 3.1.2.4, 3.2.2.2). It is the step of the hop.
-use Rattle.std.proofs.Common.{◌≡◌, ℕ, suc, ◌<◌, Bool, true, false, cond, ◌||◌, List, [], ◌∷◌, ◌++◌, length, drop, Option, Some, None, nat_eq, nat_lt, bytes_eq, refl, sym, ap, ◌∙◌, append-nil, arith, inl, inr}
+use Rattle.std.proofs.Common.{◌≡◌, ℕ, suc, ◌<◌, Bool, true, false, cond, ◌||◌, List, [], ◌∷◌, ◌++◌, length, drop, Option, Some, None, nat_eq, nat_lt, bytes_eq, refl, sym, ap, subst, ◌∙◌, append-nil, arith, inl, inr}
 use Rattle.std.specs.Prelude.{option_map, find, filter_map, is_some}
 use Rattle.std.specs.List.{AllByRecursion, starts_with}
 use Rattle.std.proofs.lemmas.Bool.{cases_Bool, ltb-true, lt-ltb}
@@ -30,13 +30,14 @@ use Rattle.mqtt_rules.proofs.NumberBirths.{below_none}
 use Rattle.mqtt_laws.specs.Lines.{sent_to, is_one_of, unless_closed}
 use Rattle.mqtt_laws.specs.Ends.{Sent, shake, Publisher}
 use Rattle.mqtt_laws.specs.Seen.{qos_of_draft, shaken, heard_in, is_linked, open_in, seen}
-use Rattle.mqtt_laws.specs.Hops.{IsIts, IsOnly, IsFirst, connect_packet, after_step}
+use Rattle.mqtt_laws.specs.Hops.{IsIts, IsOnly, IsFirst, Own, IsInOrder, connect_packet, after_step}
 use Rattle.mqtt_laws.proofs.Rows.{face, face_at}
 use Rattle.mqtt_laws.proofs.Quiet.{told_to, session_on}
 use Rattle.mqtt_laws.proofs.Publishes.{act_none, line_none}
 use Rattle.mqtt_laws.proofs.Names.{only_deeds}
 use Rattle.mqtt_laws.proofs.Seeing.{done_sessions, done_lines, told_down, append_heard, linked_of, linked_is, named_face}
 use Rattle.mqtt_laws.proofs.OwnStep.{heard_of}
+use Rattle.mqtt_laws.proofs.Owned.{NoneKeptAlive, patient_lines, found_alone, owned_after}
 use Rattle.mqtt_laws.proofs.Connects.{hello, greeted_line, heard_on_line}
 
 abbrev pub hello_by : Bool → List ℕ → Greeting
@@ -44,7 +45,7 @@ hello_by clean client = record (hello client) { clean_start = clean }
 
 -- ---- the deeds of the call
 
-refused_not : (clean : Bool) (client : List ℕ) (r : Records) → nat_lt 64 (length client) ≡ false → starts_with nat_eq client auto ≡ false → refusal (hello_by clean client) r ≡ None
+pub refused_not : (clean : Bool) (client : List ℕ) (r : Records) → nat_lt 64 (length client) ≡ false → starts_with nat_eq client auto ≡ false → refusal (hello_by clean client) r ≡ None
 refused_not clean client r short plain = rw (short, plain) refl
 
 prepare_none : (env : Env) (clean : Bool) (client : List ℕ) (b : Broker) → session_named client b.records ≡ None → prepare env (hello_by clean client) b ≡ []
@@ -92,7 +93,7 @@ call_is limits choice now clean p l b a =
 
 -- ---- the new session
 
-only_none : (client : List ℕ) (birth : ℕ) (ss : List Session) → find (λ (x : Session). bytes_eq x.client client) ss ≡ None → AllByRecursion (IsIts client birth) ss
+pub only_none : (client : List ℕ) (birth : ℕ) (ss : List Session) → find (λ (x : Session). bytes_eq x.client client) ss ≡ None → AllByRecursion (IsIts client birth) ss
 only_none client birth [] e = tt
 only_none client birth (x ∷ xs) e = elim (cases_Bool (bytes_eq x.client client)) [
   | inl its ↦ let clash : Some x ≡ None = rw its at e in absurd cc
@@ -104,7 +105,7 @@ only_none client birth (x ∷ xs) e = elim (cases_Bool (bytes_eq x.client client
   )
 ]
 
-fresh_face : (row : Columns) (ss : List Session) → row_at birth_of row.birth ss ≡ None → length ss < SESSION_LIMIT → option_map face (row_at birth_of row.birth (put_session row ss)) ≡ Some (face (fresh row))
+pub fresh_face : (row : Columns) (ss : List Session) → row_at birth_of row.birth ss ≡ None → length ss < SESSION_LIMIT → option_map face (row_at birth_of row.birth (put_session row ss)) ≡ Some (face (fresh row))
 fresh_face row ss new less =
     let not_there : has_row birth_of row.birth ss ≡ false = ap is_some new in
     let room : (has_row birth_of row.birth ss || nat_lt (length ss) SESSION_LIMIT) ≡ true = either (has_row birth_of row.birth ss) (lt-ltb (length ss) SESSION_LIMIT less) in
@@ -256,3 +257,27 @@ first_is_hop limits choice now clean p l b accepted up a = elim (cases_Bool (nat
   | inl room ↦ (to_broker takes, begins_seen limits choice now clean p l b accepted up a room)
   | inr full ↦ (to_broker refuses, refused_seen limits choice now clean p l b accepted up a full)
 ]
+
+-- where one begins, it and the line are the publisher's own
+pub first_owns : (limits : Limits) (choice : MemberChoice) (now : ℕ) (clean : Bool) (p : Publisher) (l : BrokerLine) (b : Broker) → IsFirst limits p l b → nat_lt (length b.records.sessions) limits.sessions ≡ true
+    → l.keep_alive ≡ 0 → IsInOrder b → IsInOrder (stepped limits choice now (Input l.number (connect_packet clean p)) b)
+    → Own p.client (suc b.records.births) l.number (stepped limits choice now (Input l.number (connect_packet clean p)) b)
+first_owns limits choice now clean p l b a room quiet order order_after =
+    let c = hello_by clean p.client in
+    let n = l.number in
+    let birth = suc b.records.births in
+    let ds = deeds limits choice now (Input n (connect_packet clean p)) b in
+    let es : List Deed = On n Hear ∷ begin l c false p.client birth in
+    let is : ds ≡ es = call_is limits choice now clean p l b a ∙ ap (λ (t : Bool). On n Hear ∷ joins_by t l c b.records) room in
+    let start = at_moment now b in
+    let end : after_all ds start ≡ after_all es start = ap (λ (xs : List Deed). after_all xs start) is in
+    let less = ltb-true (length b.records.sessions) limits.sessions room in
+    let within = a.within in
+    let f = face (fresh (fresh_row birth p.client c)) in
+    let at : face_at birth (after_all es start).records ≡ Some f = fresh_face (fresh_row birth p.client c) b.records.sessions (below_none birth_of birth b.records.sessions a.births) (omega (arith, less, within)) in
+    let only : IsOnly p.client birth (after_all es start).records = only_deeds p.client birth es start (tt, ((λ same. refl), (tt, (tt, tt)))) (only_none p.client birth b.records.sessions a.none) in
+    let on : session_on n b.lines ≡ Some None = ap (option_map (λ (x : BrokerLine). x.session)) a.line ∙ ap Some a.waits in
+    let line_is : session_on n (after_all es start).lines ≡ Some (Some birth) = greeted_line start.now n birth 0 _ _ (heard_of now n b).lines (heard_on_line n start.now b.lines None on) in
+    owned_after p.client birth n f (rows_of_all ds start.records) (after_all ds start) order_after
+    (subst (λ (x : Broker). IsOnly p.client birth x.records) (sym end) only) (ap (λ (x : Broker). face_at birth x.records) end ∙ at) refl refl refl (ap (λ (x : Broker). session_on n x.lines) end ∙ line_is)
+    (subst (λ (x : Broker). NoneKeptAlive n x.lines) (sym end) (patient_lines n es start (tt, (tt, (refl, (tt, tt)))) (found_alone l b.lines order.lines.ascending a.line quiet)))

@@ -1,6 +1,6 @@
 -- A step on another line, or of the clock, or a pump: the publisher whose session is connected sees nothing of it, but that
 -- the line which it gave up may be closed.
-use Rattle.std.proofs.Common.{◌≡◌, ℕ, ◌≤◌, Bool, true, false, List, [], ◌∷◌, ◌++◌, Option, Some, nat_eq, bytes_eq, refl, sym, ap, subst, ◌∙◌, append-nil}
+use Rattle.std.proofs.Common.{◌≡◌, ℕ, ◌≤◌, Bool, true, false, List, [], ◌∷◌, ◌++◌, Option, Some, None, nat_eq, bytes_eq, refl, sym, ap, subst, ◌∙◌, append-nil}
 use Rattle.std.specs.Prelude.{option_map, find, filter_map, is_some}
 use Rattle.std.specs.List.{AllByRecursion, starts_with}
 use Rattle.mqtt_inbound.specs.Publisher.{ToPublisher}
@@ -17,7 +17,7 @@ use Rattle.mqtt_laws.specs.Lines.{sent_to, is_one_of, unless_closed}
 use Rattle.mqtt_laws.specs.Ends.{Sent, Publisher}
 use Rattle.mqtt_laws.specs.World.{publisher_told}
 use Rattle.mqtt_laws.specs.Seen.{qos_of_draft, shaken, heard_in, is_linked, open_in, seen}
-use Rattle.mqtt_laws.specs.Hops.{IsIts, IsOurs, IsOurLine, Own, IsFarCall, IsConnected}
+use Rattle.mqtt_laws.specs.Hops.{IsIts, IsOurs, IsOurLine, Own, IsFarCall, IsConnected, IsKept}
 use Rattle.mqtt_laws.proofs.Rows.{face}
 use Rattle.mqtt_laws.proofs.Quiet.{session_on}
 use Rattle.mqtt_laws.proofs.Seeing.{done_sessions, done_lines, among_closed, told_down, append_heard, linked_of, linked_is, named_face}
@@ -121,3 +121,47 @@ own_stays limits choice now call client birth n b own plain far =
       births = subst (λ (k : ℕ). birth ≤ k) (sym (kept_births rows last)) end.births;
       given = subst (λ (k : ℕ). n ≤ k) (sym (kept_given rows last)) end.given;
     }
+
+-- while the publisher has no line: its session stands, connected on the line that it gave up or nowhere
+pub away_frame : (limits : Limits) (choice : MemberChoice) (now : ℕ) (call : Call) (p : Publisher) (n : ℕ) (s : Session) (b : Broker) (accepted : List ℕ)
+    → p.line.number ≡ None → IsKept p.client s b → Own p.client s.birth n b → IsFarCall p.client n call
+    → (es : List HopEvent) × (seen accepted (publisher_told (stepped limits choice now call b) (told limits choice now call b) p) (stepped limits choice now call b) ≡ run es (seen accepted p b))
+away_frame limits choice now call p n s b accepted none k own far =
+    let start = at_moment now b in
+    let o : Own p.client s.birth n start = record { sessions = own.sessions; lines = own.lines; births = own.births; given = own.given } in
+    let ds = deeds limits choice now call b in
+    let q = far_call p.client s.birth n (env_of limits choice b) call start o k.plain far in
+    let a = apart_by p.client s.birth n ds start q in
+    let end = own_deeds p.client s.birth n ds start q o in
+    let new = stepped limits choice now call b in
+    let rows = rows_of_all ds start.records in
+    let outputs = filter_map output ds in
+    let t = is_one_of p.line.old_number (filter_map closing ds) in
+    let sessions : new.records.sessions ≡ (after_all ds start).records.sessions = done_sessions rows (after_all ds start) in
+    let linked : is_linked p.line.number new ≡ is_linked p.line.number b = ap (λ (x : Option ℕ). is_linked x new) none ∙ sym (ap (λ (x : Option ℕ). is_linked x b) none) in
+    let ups : filter_map shaken (unless_closed (is_one_of p.line.number (filter_map closing ds)) p.line.up) ≡ filter_map shaken p.line.up =
+    ap (λ (x : Option ℕ). filter_map shaken (unless_closed (is_one_of x (filter_map closing ds)) p.line.up)) none in
+    let downs : filter_map heard_in (p.line.down ++ sent_to p.line.number new outputs) ≡ filter_map heard_in p.line.down =
+    ap (λ (x : Option ℕ). filter_map heard_in (p.line.down ++ sent_to x new outputs)) none
+    ∙ ap (filter_map heard_in) (append-nil p.line.down) in
+    let at_first = named_face p.client s.birth b.records (face s) k.only (ap (option_map face) k.session) k.name in
+    let at_last = named_face p.client s.birth (after_all ds start).records (face s) (only_ours p.client s.birth (after_all ds start).records.sessions end.sessions) (a.face_is ∙ ap (option_map face) k.session) k.name in
+    let stands : is_some (session_named p.client new.records) ≡ is_some (session_named p.client b.records) =
+    ap (λ (ss : List Session). is_some (find (λ (x : Session). bytes_eq x.client p.client) ss)) sessions ∙ (at_last.0 ∙ sym at_first.0) in
+    let ids : open_in (session_named p.client new.records) ≡ open_in (session_named p.client b.records) =
+    ap (λ (ss : List Session). open_in (find (λ (x : Session). bytes_eq x.client p.client) ss)) sessions ∙ (at_last.1 ∙ sym at_first.1) in
+    let same : seen accepted (publisher_told new (told limits choice now call b) p) new ≡ record (seen accepted p b) { old = filter_map shaken (unless_closed t p.line.old) } =
+    λ i. record {
+      fates = p.fates;
+      unsent = filter_map qos_of_draft p.unsent;
+      link = p.line.link;
+      clean = p.line.clean;
+      linked = linked i;
+      up = ups i;
+      down = downs i;
+      old = filter_map shaken (unless_closed t p.line.old);
+      stands = stands i;
+      ids = ids i;
+      accepted = accepted;
+    } in
+    (old_events t, same ∙ old_closed t p.line.old (seen accepted p b) refl)

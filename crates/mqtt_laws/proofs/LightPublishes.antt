@@ -145,7 +145,7 @@ meant_does (Means name) env l s d c b light at on there no_will no_end =
       subst (λ (ds : List Deed). Does (chooses (choice_of (accepted_copies env m b) (is_wanted env m b.records))) d l s ds b) (sym same) g,
     )
 
-light_does : (env : Env) (l : BrokerLine) (s : Session) (d : Handing) (c : Content) (b : Broker)
+pub light_does : (env : Env) (l : BrokerLine) (s : Session) (d : Handing) (c : Content) (b : Broker)
     → opens s d ≡ [] → session_at s.birth b.records ≡ Some s → l.session ≡ Some s.birth → session_on l.number b.lines ≡ Some (Some s.birth) → s.will ≡ None → s.expiry ≡ never
     → (e : Effect) × Does e d l s (on_publish env l s (handed d c) b) b
 light_does env l s d c b light at on there no_will no_end = meant_does (meaning (handed d c) l.aliases) env l s d c b light at on there no_will no_end
@@ -158,7 +158,7 @@ told_1 refuse dup id = refl
 told_1 repeat dup id = refl
 told_1 shut dup id = refl
 
-light_client : (v : Verdict) (now : ℕ) (f : Face) → (light_face v now f).client ≡ f.client
+pub light_client : (v : Verdict) (now : ℕ) (f : Face) → (light_face v now f).client ≡ f.client
 light_client (accept code) now f = refl
 light_client refuse now f = refl
 light_client repeat now f = refl
@@ -218,7 +218,7 @@ nothing_new refuse p rest now f birth accepted told open_ = λ i. record (seen_w
 nothing_new repeat p rest now f birth accepted told open_ = λ i. record (seen_with accepted p (filter_map shaken rest) f.inbound) { down = append-nil (filter_map heard_in p.line.down) i }
 nothing_new shut p rest now f birth accepted told open_ = absurd cc
 
-untold : (pick : Choice) → (told_by delivery.AtMostOnce (verdict_on New pick) ≡ []) × (shuts (verdict_on New pick) ≡ false)
+pub untold : (pick : Choice) → (told_by delivery.AtMostOnce (verdict_on New pick) ≡ []) × (shuts (verdict_on New pick) ≡ false)
 untold takes = (refl, refl)
 untold takes_unheard = (refl, refl)
 untold refuses = (refl, refl)

@@ -78,7 +78,7 @@ seen_by accepted p rest f on ps t = record {
   accepted = accepted;
 }
 
-among_one : (n : ℕ) (old : Option ℕ) (ds : List Deed) → is_one_of old (n ∷ []) ≡ false → ((m : ℕ) → nat_eq n m ≡ false → closes m ds ≡ false)
+pub among_one : (n : ℕ) (old : Option ℕ) (ds : List Deed) → is_one_of old (n ∷ []) ≡ false → ((m : ℕ) → nat_eq n m ≡ false → closes m ds ≡ false)
     → is_one_of old (filter_map closing ds) ≡ false
 among_one n None ds h others = refl
 among_one n (Some m) ds h others = among_closed m ds ∙ others m (first (nat_eq n m) h)
@@ -179,7 +179,7 @@ seen_before p rest packet l s b accepted up c =
 -- ---- PUBLISH of QoS 2
 
 -- the session has the identifiers that the hop has
-ids_agree : (st : Published) (choice : Choice) (id now : ℕ) (f : Face) → answer_to id f.inbound ≡ st
+pub ids_agree : (st : Published) (choice : Choice) (id now : ℕ) (f : Face) → answer_to id f.inbound ≡ st
     → (face_by (verdict_on st choice) id now f).inbound ≡ ids_by (verdict_on st choice) id f.inbound
 ids_agree New takes id now f e = refl
 ids_agree New takes_unheard id now f e = refl
@@ -200,7 +200,7 @@ agrees shut id k m now accepted p rest up f birth e =
     ap (λ (ks : List ℕ). seen_by ks p rest f None (answer_2 shut id ∷ []) true) (append-nil accepted)
     ∙ ap (λ (ids : List ℕ). seen_by accepted p rest (record f { inbound = ids }) None (answer_2 shut id ∷ []) true) e
 
-face_client : (v : Verdict) (id now : ℕ) (f : Face) → (face_by v id now f).client ≡ f.client
+pub face_client : (v : Verdict) (id now : ℕ) (f : Face) → (face_by v id now f).client ≡ f.client
 face_client (accept code) id now f = refl
 face_client refuse id now f = refl
 face_client repeat id now f = refl

@@ -26,6 +26,7 @@ use Rattle.mqtt_laws.proofs.Publishes.{closed_row, closed_at, settles_nothing}
 use Rattle.mqtt_laws.proofs.Seeing.{done_sessions, some_face, named_face}
 use Rattle.mqtt_laws.proofs.Far.{AreFar, apart_by, own_deeds}
 use Rattle.mqtt_laws.proofs.FarActs.{IsFarDeed, others, far_law, far_of, far_append}
+use Rattle.mqtt_laws.proofs.Frame.{own_done}
 use Rattle.mqtt_laws.proofs.Mine.{mine_owns}
 
 -- the session stands with its open identifiers, and is the publisher's
@@ -103,6 +104,30 @@ module _ (env : Env) (client : List ℕ) (birth : ℕ) (ids : List ℕ) (plain :
       let c = after_all first b in
       subst (Stays client birth ids) (sym (after_append first (series (map (λ y. close_if (is_connected y) env y) xs) c) b)) (all_closed xs c (one_closed (is_connected x) x b s))
 
+-- what the opening leaves of the session
+stays_opened : (limits : Limits) (choice : MemberChoice) (now : ℕ) (client : List ℕ) (s : Session) (b : Broker) → IsKept client s b
+    → AllByRecursion (IsOurs client s.birth) b.records.sessions → s.birth ≤ b.records.births
+    → Stays client s.birth s.inbound (after_all (opening (env_of limits choice (unopened now b.records)) (unopened now b.records)) (unopened now b.records))
+stays_opened limits choice now client s b k ours births =
+    let start = unopened now b.records in
+    all_closed (env_of limits choice start) client s.birth s.inbound k.plain b.records.sessions start (record {
+      own = record { sessions = ours; lines = tt; births = births; given = omega arith };
+      shown = face s;
+      is = ap (option_map face) k.session;
+      client_is = k.name;
+      ids_is = refl;
+      no_will = k.no_will;
+      no_end = k.no_end;
+    })
+
+-- and it stays the publisher's own, on no line
+pub restart_owns : (limits : Limits) (choice : MemberChoice) (now : ℕ) (client : List ℕ) (s : Session) (b : Broker) → IsKept client s b
+    → AllByRecursion (IsOurs client s.birth) b.records.sessions → s.birth ≤ b.records.births → Own client s.birth 0 (opened limits choice now b.records)
+restart_owns limits choice now client s b k ours births =
+    let start = unopened now b.records in
+    let ds = opening (env_of limits choice start) start in
+    own_done client s.birth 0 (rows_of_all ds start.records) (after_all ds start) (stays_opened limits choice now client s b k ours births).own
+
 pub restart_is_hop : (limits : Limits) (choice : MemberChoice) (now : ℕ) (p : Publisher) (s : Session) (b : Broker) (accepted : List ℕ)
     → IsKept p.client s b → AllByRecursion (IsOurs p.client s.birth) b.records.sessions → s.birth ≤ b.records.births
     → seen accepted (publisher_restarted p) (opened limits choice now b.records) ≡ step (seen accepted p b) restart
@@ -111,16 +136,7 @@ restart_is_hop limits choice now p s b accepted k ours births =
     let env = env_of limits choice start in
     let ds = opening env start in
     let new = opened limits choice now b.records in
-    let first : Stays p.client s.birth s.inbound start = record {
-      own = record { sessions = ours; lines = tt; births = births; given = omega arith };
-      shown = face s;
-      is = ap (option_map face) k.session;
-      client_is = k.name;
-      ids_is = refl;
-      no_will = k.no_will;
-      no_end = k.no_end;
-    } in
-    let last = all_closed env p.client s.birth s.inbound k.plain b.records.sessions start first in
+    let last = stays_opened limits choice now p.client s b k ours births in
     let end = after_all ds start in
     let only : IsOnly p.client s.birth end.records = all_more (IsOurs p.client s.birth) (IsIts p.client s.birth) end.records.sessions (λ x h. h.named) last.own.sessions in
     let named = named_face p.client s.birth end.records last.shown only last.is last.client_is in

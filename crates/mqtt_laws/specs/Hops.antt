@@ -17,11 +17,12 @@ use Rattle.mqtt_rules.specs.Step.{Call, NewLine, Input, BadInput, Lost, Pump, Ti
 use Rattle.mqtt_base.specs.declared.limits.TheConstants.{CLIENT_LIMIT, SESSION_LIMIT}
 use Rattle.mqtt_topic.specs.Names.{is_empty}
 use Rattle.mqtt_rules.specs.Numbers.{HasGivenBirths}
-use Rattle.mqtt_rules.specs.Lines.{line_number}
-use Rattle.mqtt_rows.specs.Order.{IsBelow}
+use Rattle.mqtt_rules.specs.Lines.{line_number, HasUniqueLines}
+use Rattle.mqtt_rows.specs.Order.{IsAscending, IsBelow}
+use Rattle.mqtt_records.specs.Session.{birth_of}
 use Rattle.mqtt_laws.specs.Lines.{is_one_of, unless_closed, left, joined}
 use Rattle.mqtt_laws.specs.Ends.{Sent, shake, Publisher, wire}
-use Rattle.mqtt_laws.specs.World.{publisher_told, taken_up}
+use Rattle.mqtt_laws.specs.World.{publisher_told, taken_up, taken_old}
 use Rattle.mqtt_laws.specs.Run.{client_number}
 use Rattle.mqtt_laws.specs.Seen.{shaken, seen}
 
@@ -62,6 +63,12 @@ pub record Own (client : List ℕ) (birth n : ℕ) (b : Broker) : Type 0 where
   pub lines : AllByRecursion (IsOurLine birth n) b.lines
   pub births : birth ≤ b.records.births
   pub given : n ≤ b.given
+
+-- sessions and lines are in order, as they are after every step and opening (laws of mqtt_rules)
+pub record IsInOrder (b : Broker) : Type 0 where
+  pub sessions : IsAscending birth_of b.records.sessions
+  pub births : HasGivenBirths b.records
+  pub lines : HasUniqueLines b
 
 -- ---- the publisher's line is connected to its session
 
@@ -122,6 +129,35 @@ abbrev pub IsUnheard : Limits → MemberChoice → ℕ → Call → Publisher �
 IsUnheard limits choice now call p b accepted =
     (es : List HopEvent) × (seen accepted (after_step limits choice now call p b) (stepped limits choice now call b) ≡ run es (seen accepted p b))
 
+-- ---- the line that it gave up
+
+-- the publisher as if it had kept that line
+abbrev pub turned_back : Publisher → Publisher
+turned_back p =
+    record p { line = record p.line { number = p.line.old_number; up = p.line.old; old_number = p.line.number; old = p.line.up } }
+
+-- its session is connected there
+abbrev pub IsLingering : Publisher → BrokerLine → Session → Broker → Type 0
+IsLingering p l s b = IsConnected (turned_back p) l s b
+
+-- after a step in which the first packet of that line was read
+abbrev pub after_old_step : Limits → MemberChoice → ℕ → Call → Publisher → Broker → Publisher
+after_old_step limits choice now call p b =
+    let q = record p { line = taken_old p.line } in
+    publisher_told (stepped limits choice now call b) (told limits choice now call b) q
+
+abbrev pub BecomesOld : Limits → MemberChoice → ℕ → Call → ℕ → Publisher → Broker → List ℕ → HopEvent → Type 0
+BecomesOld limits choice now call k p b accepted e =
+    seen (accepted ++ counted k (numbers_of limits choice now call b)) (after_old_step limits choice now call p b)
+    (stepped limits choice now call b)
+    ≡ step (seen accepted p b) e
+
+abbrev pub IsUnheardOld : Limits → MemberChoice → ℕ → Call → Publisher → Broker → List ℕ → Type 0
+IsUnheardOld limits choice now call p b accepted =
+    (es : List HopEvent)
+    × (seen accepted (after_old_step limits choice now call p b) (stepped limits choice now call b)
+    ≡ run es (seen accepted p b))
+
 -- a PUBLISH or a PUBREL
 abbrev pub IsNoConnect : Sent → Type 0
 IsNoConnect (shake (CONNECT clean)) = ⊥
@@ -157,6 +193,13 @@ pub record IsAsking (p : Publisher) (l : BrokerLine) (s : Session) (b : Broker) 
   pub taken : IsTaken (line_of s.birth b) s.birth l.number
   -- what is under way on the line that was given up is a CONNECT, or the session is connected there, or there is nothing
   pub old : filter_map shaken (unless_closed (is_one_of p.line.old_number (lines_left (line_of s.birth b))) p.line.old) ≡ spared (filter_map shaken p.line.old)
+
+-- there is a place for a new session once its own has ended
+pub record MayBegin (limits : Limits) (client : List ℕ) (b : Broker) : Type 0 where
+  pub births : HasGivenBirths b.records
+  pub within : limits.sessions ≤ SESSION_LIMIT
+  pub room : length b.records.sessions ≤ limits.sessions
+  pub some : is_empty client ≡ false
 
 abbrev pub connect_packet : Bool → Publisher → Packet
 connect_packet clean p = wire p.client p.contents (shake (CONNECT clean))
