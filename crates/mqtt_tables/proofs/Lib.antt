@@ -4,3 +4,5 @@ pub mod Doing
 pub mod Inverse
 pub mod Backs
 pub mod LineDeeds
+pub mod LineWalk
+pub mod LeftCopies

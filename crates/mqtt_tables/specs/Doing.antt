@@ -1,6 +1,8 @@
 -- Deeds that depend on nothing but the tables, as acts.
-use Rattle.std.specs.Prelude.{suc, [], ◌∷◌}
-use Rattle.mqtt_rules.specs.Deeds.{Act, Accept, Name, Count, Message, Origin}
+use Rattle.std.specs.Prelude.{ℕ, suc, [], ◌∷◌}
+use Rattle.mqtt_base.specs.declared.session.Ending.{Ending}
+use Rattle.mqtt_rules.specs.Deeds.{Act, Accept, Name, Count, At, Leave, Link, Message, Origin, whose, always, of_session}
+use Rattle.mqtt_rules.specs.Outbound.{at_place}
 use Rattle.mqtt_rules.specs.Routing.{next_publication}
 
 -- a publication is accepted, and gets the next number
@@ -14,3 +16,11 @@ names b = Name (suc b.records.autos) ∷ []
 -- a filter is granted its number
 abbrev pub counts : Act
 counts b = Count (suc b.records.subscribes) ∷ []
+
+-- the copy at a place of a session's queue leaves it, if it stands there
+abbrev pub leaves : ℕ → ℕ → Ending → Act
+leaves birth place ending = of_session birth (λ s. always (at_place place s (λ e. At (whose s) (Leave e ending) ∷ [])))
+
+-- a line is linked, and gets the next number
+abbrev pub links : Act
+links b = Link (suc b.given) ∷ []

@@ -6,6 +6,7 @@ mod call;
 mod entering;
 mod fault;
 mod handshakes;
+mod leaving;
 mod line;
 mod lines;
 mod numbers;

@@ -1,10 +1,12 @@
 //! What is stored and the lines, changed in place, with a journal that takes the changes back.
-ghost use Rattle.std.specs.Prelude.{◌≡◌, [], Some, option_copied, IfOk, OnOk, OnErr};
+ghost use Rattle.std.specs.Prelude.{◌≡◌, ◌≤◌, [], Some, length, option_copied, IfOk, OnOk, OnErr};
 ghost use Rattle.mqtt_base.specs.declared.limits.TheConstants.{LINE_LIMIT as line_limit};
 ghost use Rattle.mqtt_rows.specs.Order.{IsAscending, row_at, remove_row};
 ghost use Rattle.mqtt_records.specs.Records.{changed, kept_place};
+ghost use Rattle.mqtt_records.specs.declared.session.Session.{Session as TheSession};
 ghost use Rattle.mqtt_records.specs.Session.{birth_of, copy_place};
 ghost use Rattle.mqtt_records.specs.declared.change.Change.TheVariants.{RemoveSession, RemoveCopy, RemoveRetained};
+ghost use Rattle.mqtt_rules.specs.Laws.{HasTables};
 ghost use Rattle.mqtt_rules.specs.State.{Line, session_at};
 ghost use Rattle.mqtt_tables.specs.Lines.{line_changed, line_number};
 ghost use Rattle.mqtt_tables.specs.Undoing.{become, settled, taken_back, undone, broker_of, with_change, with_lines, with_line_changed, with_moment_of, moment_of};
@@ -151,7 +153,9 @@ impl Tables {
 
     /// The lines, in the order in which they were linked.
     pub(crate) fn lines(&self) -> &[LineState]
-        ensures { result.now ≡ self.now.broker.lines }
+        ensures lines { result.now ≡ self.now.broker.lines }
+        ensures order { IsAscending line_number self.now.broker.lines }
+        ensures few { length self.now.broker.lines ≤ line_limit }
     {
         self.lines.as_slice()
     }
@@ -203,6 +207,24 @@ impl Tables {
         self.records.sessions.as_slice();
         match self.records.sessions.take(birth) {
             Some(session) => self.journal.push(Undo::PutSession { session }).unwrap(),
+            None => {}
+        }
+        Ok(())
+    }
+
+    /// Removes a copy from a session's queue, if it stands; the journal keeps it. Want of memory changes nothing.
+    pub(crate) fn take_copy(&mut self, birth: u64, place: u64) -> Result<(), AllocError>
+        requires { (s : TheSession) → session_at birth self.old.broker.records ≡ Some s → HasTables s }
+        ensures ok { OnOk result (self.new
+            ≡ become (with_change (RemoveCopy birth place) self.old.broker) self.old) }
+        ensures err { OnErr result (self.new ≡ self.old) }
+    {
+        self.journal.reserve(1)?;
+        match self.records.take_copy(birth, place) {
+            Some(row) => {
+                let change = Change::PutCopy { birth, row };
+                self.journal.push(Undo::Make { change }).unwrap();
+            }
             None => {}
         }
         Ok(())
