@@ -6,3 +6,4 @@ pub mod Backs
 pub mod LineDeeds
 pub mod LineWalk
 pub mod LeftCopies
+pub mod Links

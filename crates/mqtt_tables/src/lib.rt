@@ -9,6 +9,7 @@ mod handshakes;
 mod leaving;
 mod line;
 mod lines;
+mod linking;
 mod numbers;
 mod outputs;
 mod retained;

@@ -9,7 +9,7 @@ ghost use Rattle.mqtt_records.specs.declared.change.Change.TheVariants.{RemoveSe
 ghost use Rattle.mqtt_rules.specs.Laws.{HasTables};
 ghost use Rattle.mqtt_rules.specs.State.{Line, session_at};
 ghost use Rattle.mqtt_tables.specs.Lines.{line_changed, line_number};
-ghost use Rattle.mqtt_tables.specs.Undoing.{become, settled, taken_back, undone, broker_of, with_change, with_lines, with_line_changed, with_moment_of, moment_of};
+ghost use Rattle.mqtt_tables.specs.Undoing.{become, settled, taken_back, undone, broker_of, with_change, with_lines, with_line_changed, with_linked, with_moment_of, moment_of};
 
 use crate::line::{LineChange, LineState};
 use crate::undo::Undo;
@@ -246,6 +246,30 @@ impl Tables {
             None => {}
         }
         Ok(())
+    }
+
+    /// The number of the last line that was linked; 0 before the first.
+    pub(crate) fn given(&self) -> u64
+        ensures { result ≡ self.now.broker.given }
+    {
+        self.given
+    }
+
+    /// A line more stands; from here on nothing is taken back. Takes no memory.
+    pub(crate) fn add_line(&mut self, line: LineState)
+        ensures { self.new ≡ settled (with_linked line self.old.broker) }
+    {
+        self.journal.clear();
+        self.given = line.number();
+        self.lines.put(line);
+    }
+
+    /// The moment is this one; from here on nothing is taken back. Takes no memory.
+    pub(crate) fn rest_at(&mut self, moment: u64)
+        ensures { self.new ≡ settled (with_moment_of moment self.old.broker) }
+    {
+        self.journal.clear();
+        self.moment = moment;
     }
 
     /// Takes everything back. Takes no memory.
