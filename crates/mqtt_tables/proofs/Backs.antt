@@ -1,6 +1,6 @@
 -- What takes back a change of a session.
 use Rattle.std.proofs.Common.{◌≡◌, ℕ, Bool, true, false, cond, nat_eq, List, [], ◌∷◌, refl, ap, sym, ◌∙◌, inl, inr}
-use Rattle.std.specs.Prelude.{Option, Some, None, is_some}
+use Rattle.std.specs.Prelude.{Option, Some, None, is_some, option_and_then}
 use Rattle.std.proofs.lemmas.Bool.{cases_Bool, eqb-true}
 use Rattle.mqtt_base.specs.declared.session.Phase.{Phase}
 use Rattle.mqtt_base.specs.declared.limits.TheConstants.{OPEN_LIMIT, QUEUE_LIMIT}
@@ -10,12 +10,12 @@ use Rattle.mqtt_records.specs.declared.records.Records.{Records}
 use Rattle.mqtt_records.specs.declared.session.Session.{Session}
 use Rattle.mqtt_records.specs.declared.session.Columns.{Columns}
 use Rattle.mqtt_message.specs.declared.message.Will.{Will}
-use Rattle.mqtt_records.specs.Records.{in_session}
+use Rattle.mqtt_records.specs.Records.{in_session, copy_at}
 use Rattle.mqtt_records.specs.Session.{birth_of, number_of, copy_place, with_open, without_open, with_copy, without_copy, with_phase, in_phase, columns_of, with_columns, with_will}
 use Rattle.mqtt_rules.specs.State.{session_at}
 use Rattle.mqtt_rows.proofs.OrderLemmas.{remove-none, change-none}
 use Rattle.mqtt_rules.specs.Laws.{HasTables}
-use Rattle.mqtt_tables.proofs.Inverse.{change_back, put_back, put_same, removed_back}
+use Rattle.mqtt_tables.proofs.Inverse.{change_back, change_same, put_back, put_same, removed_back}
 
 -- a session changed, and changed back
 pub session_back : (f g : Session → Session) (s : Session) (r : Records) → ((x : Session) → birth_of (f x) ≡ birth_of x) → g (f s) ≡ s
@@ -93,3 +93,30 @@ pub will_set_back : (will : Option Will) (s : Session) (r : Records) → s.will 
     → in_session s.birth (with_will will) (in_session s.birth (with_will None) r) ≡ r
 will_set_back will s r is found =
     session_back (with_will None) (with_will will) s r (λ x. refl) (ap (λ (o : Option Will). record s { will = o }) (sym is)) found
+
+-- a copy that left is put back
+pub left_back : (birth place : ℕ) (row : CopyRow) (r : Records) → ((s : Session) → session_at birth r ≡ Some s → HasTables s) → copy_at birth place r ≡ Some row
+    → in_session birth (with_copy row) (in_session birth (without_copy place) r) ≡ r
+left_back birth place row r tables is = by (session_at birth r) refl
+  where
+    by : (o : Option Session) → session_at birth r ≡ o → in_session birth (with_copy row) (in_session birth (without_copy place) r) ≡ r
+    by None none =
+        let never : None ≡ Some row = ap (option_and_then (λ (s : Session). row_at copy_place place s.queue)) (sym none) ∙ is in
+        absurd cc
+    by (Some s) found =
+        let there : row_at copy_place place s.queue ≡ Some row = ap (option_and_then (λ (x : Session). row_at copy_place place x.queue)) (sym found) ∙ is in
+        let has : HasTables s = tables s found in
+        let back : with_copy row (without_copy place s) ≡ s =
+        ap (λ (q : List CopyRow). record s { queue = q }) (removed_back copy_place QUEUE_LIMIT place row s.queue has.queue.ascending there has.queue.within) in
+        ap (λ (ss : List Session). record r { sessions = ss }) (change_back birth_of birth (without_copy place) (with_copy row) s r.sessions (λ x. refl) found back)
+
+-- where no copy stands, none leaves
+pub left_none : (birth place : ℕ) (r : Records) → copy_at birth place r ≡ None → in_session birth (without_copy place) r ≡ r
+left_none birth place r none = by (session_at birth r) refl
+  where
+    by : (o : Option Session) → session_at birth r ≡ o → in_session birth (without_copy place) r ≡ r
+    by None nobody = ap (λ (ss : List Session). record r { sessions = ss }) (change-none birth_of birth (without_copy place) r.sessions nobody)
+    by (Some s) found =
+        let there : row_at copy_place place s.queue ≡ None = ap (option_and_then (λ (x : Session). row_at copy_place place x.queue)) (sym found) ∙ none in
+        let same : without_copy place s ≡ s = ap (λ (q : List CopyRow). record s { queue = q }) (remove-none copy_place place s.queue there) in
+        ap (λ (ss : List Session). record r { sessions = ss }) (change_same birth_of birth (without_copy place) s r.sessions found same)

@@ -39,6 +39,32 @@ module _ {X : Type 0} (key : X → ℕ) where
         rw (later, later) (ap (λ (zs : List X). y ∷ zs) (change_back k f g x ys keeps there back))
   ]
 
+  -- a row changed in one of two ways that are one for it
+  pub change_alike : (k : ℕ) (f g : X → X) (x : X) (xs : List X) → row_at key k xs ≡ Some x → f x ≡ g x → change_row key k f xs ≡ change_row key k g xs
+  change_alike k f g x [] found same = refl
+  change_alike k f g x (y ∷ ys) found same = elim (cases_Bool (nat_eq (key y) k)) [
+    | inl here ↦
+        let first : Some y ≡ Some x = ap (λ (b : Bool). cond b (Some y) (row_at key k ys)) (sym here) ∙ found in
+        let is : y ≡ x = cc in
+        rw here (ap (λ (z : X). z ∷ ys) (subst (λ (z : X). f z ≡ g z) (sym is) same))
+    | inr later ↦
+        let there : row_at key k ys ≡ Some x = ap (λ (b : Bool). cond b (Some y) (row_at key k ys)) (sym later) ∙ found in
+        rw later (ap (λ (zs : List X). y ∷ zs) (change_alike k f g x ys there same))
+  ]
+
+  -- a row changed into itself
+  pub change_same : (k : ℕ) (f : X → X) (x : X) (xs : List X) → row_at key k xs ≡ Some x → f x ≡ x → change_row key k f xs ≡ xs
+  change_same k f x [] found same = refl
+  change_same k f x (y ∷ ys) found same = elim (cases_Bool (nat_eq (key y) k)) [
+    | inl here ↦
+        let first : Some y ≡ Some x = ap (λ (b : Bool). cond b (Some y) (row_at key k ys)) (sym here) ∙ found in
+        let is : y ≡ x = cc in
+        rw here (ap (λ (z : X). z ∷ ys) (subst (λ (z : X). f z ≡ z) (sym is) same))
+    | inr later ↦
+        let there : row_at key k ys ≡ Some x = ap (λ (b : Bool). cond b (Some y) (row_at key k ys)) (sym later) ∙ found in
+        rw later (ap (λ (zs : List X). y ∷ zs) (change_same k f x ys there same))
+  ]
+
   -- a key above the greatest is none's
   pub none_above : (n : ℕ) (xs : List X) → greatest (map key xs) < n → row_at key n xs ≡ None
   none_above n [] low = refl

@@ -4,3 +4,6 @@ pub mod Doing
 pub mod Inverse
 pub mod Backs
 pub mod LineDeeds
+pub mod LineWalk
+pub mod LeftCopies
+pub mod Links

@@ -74,6 +74,12 @@ pub record IsLeftRow (row : Change) (fault : StepFault) (old new : Stepping) : T
   pub limits : new.limits ≡ old.limits
   pub spent : fault ≡ Spent → is_spent (row ∷ []) ≡ true
 
+-- want of memory leaves a step that can be taken back
+pub record IsKept (fault : StepFault) (old new : Stepping) : Type 0 where
+  pub start : new.start ≡ old.start
+  pub limits : new.limits ≡ old.limits
+  pub memory : fault ≡ Memory
+
 -- ---- one thing more
 
 -- a row for the store

@@ -31,6 +31,10 @@ with_moment_of moment b = record b { now = moment }
 abbrev pub with_change : Change → Broker → Broker
 with_change change b = with_records (changed change b.records) b
 
+-- a line more, whose number is the last one given
+abbrev pub with_linked : Line → Broker → Broker
+with_linked line b = record b { lines = put_row line_number LINE_LIMIT line b.lines; given = line.number }
+
 -- a change of a line
 abbrev pub with_line_changed : ℕ → LineChange → Broker → Broker
 with_line_changed number change b = with_lines (change_row line_number number (line_changed change) b.lines) b

@@ -1,5 +1,6 @@
 //! A line: one connection, with what holds on it alone (MQTT 5.0, 3.1.2, 3.3.2.3.4).
 ghost use Rattle.std.specs.Prelude.{◌≡◌};
+ghost use Rattle.mqtt_rules.specs.State.{is_of};
 ghost use Rattle.mqtt_rules.specs.Deeds.{fresh_line};
 
 use mqtt_base::ALIAS_LIMIT;
@@ -74,6 +75,16 @@ impl LineState {
         ensures { result ≡ self.now.session }
     {
         self.session
+    }
+
+    /// Whether the session with a birth is connected on it. Takes no memory.
+    pub fn is_of(&self, birth: u64) -> bool
+        ensures { result ≡ is_of self.now.session birth }
+    {
+        match self.session {
+            Some(connected) => connected == birth,
+            None => false,
+        }
     }
 
     /// Keep Alive, in seconds; 0 turns it off (3.1.2.10). Takes no memory.

@@ -1,6 +1,7 @@
 //! Deeds of lines (MQTT 5.0, 3.1, 3.1.2.10).
-ghost use Rattle.std.specs.Prelude.{◌≡◌, ◌∷◌, [], Some, option_copied, ◌++◌, IfOk, OnOk, OnErr, IfErr};
-ghost use Rattle.mqtt_rows.specs.Order.{row_at};
+ghost use Rattle.std.specs.Prelude.{◌≡◌, ◌∷◌, [], Some, option_copied, ◌++◌, ◌≤◌, length, IfOk, OnOk, OnErr, IfErr};
+ghost use Rattle.mqtt_base.specs.declared.limits.TheConstants.{LINE_LIMIT as line_limit};
+ghost use Rattle.mqtt_rows.specs.Order.{IsAscending, row_at};
 ghost use Rattle.mqtt_rules.specs.State.{Line};
 ghost use Rattle.mqtt_rules.specs.Deeds.{Gone, Hear, Greet, Went, On, always};
 ghost use Rattle.mqtt_tables.specs.Lines.{line_changed, line_number};
@@ -31,13 +32,15 @@ impl Step {
 
     /// The lines, in the order in which they were linked. Takes no memory.
     pub fn lines(&self) -> &[LineState]
-        ensures { result.now ≡ self.now.broker.lines }
+        ensures lines { result.now ≡ self.now.broker.lines }
+        ensures order { IsAscending line_number self.now.broker.lines }
+        ensures few { length self.now.broker.lines ≤ line_limit }
     {
         self.tables.lines()
     }
 
     /// Changes a part of a line. A refusal changes nothing.
-    fn edit_line(
+    pub(crate) fn edit_line(
         &mut self,
         number: u64,
         change: LineChange,

@@ -1,13 +1,15 @@
 //! What is stored and the lines, changed in place, with a journal that takes the changes back.
-ghost use Rattle.std.specs.Prelude.{◌≡◌, [], Some, option_copied, IfOk, OnOk, OnErr};
+ghost use Rattle.std.specs.Prelude.{◌≡◌, ◌≤◌, [], Some, length, option_copied, IfOk, OnOk, OnErr};
 ghost use Rattle.mqtt_base.specs.declared.limits.TheConstants.{LINE_LIMIT as line_limit};
 ghost use Rattle.mqtt_rows.specs.Order.{IsAscending, row_at, remove_row};
 ghost use Rattle.mqtt_records.specs.Records.{changed, kept_place};
+ghost use Rattle.mqtt_records.specs.declared.session.Session.{Session as TheSession};
 ghost use Rattle.mqtt_records.specs.Session.{birth_of, copy_place};
 ghost use Rattle.mqtt_records.specs.declared.change.Change.TheVariants.{RemoveSession, RemoveCopy, RemoveRetained};
+ghost use Rattle.mqtt_rules.specs.Laws.{HasTables};
 ghost use Rattle.mqtt_rules.specs.State.{Line, session_at};
 ghost use Rattle.mqtt_tables.specs.Lines.{line_changed, line_number};
-ghost use Rattle.mqtt_tables.specs.Undoing.{become, settled, taken_back, undone, broker_of, with_change, with_lines, with_line_changed, with_moment_of, moment_of};
+ghost use Rattle.mqtt_tables.specs.Undoing.{become, settled, taken_back, undone, broker_of, with_change, with_lines, with_line_changed, with_linked, with_moment_of, moment_of};
 
 use crate::line::{LineChange, LineState};
 use crate::undo::Undo;
@@ -151,7 +153,9 @@ impl Tables {
 
     /// The lines, in the order in which they were linked.
     pub(crate) fn lines(&self) -> &[LineState]
-        ensures { result.now ≡ self.now.broker.lines }
+        ensures lines { result.now ≡ self.now.broker.lines }
+        ensures order { IsAscending line_number self.now.broker.lines }
+        ensures few { length self.now.broker.lines ≤ line_limit }
     {
         self.lines.as_slice()
     }
@@ -208,6 +212,24 @@ impl Tables {
         Ok(())
     }
 
+    /// Removes a copy from a session's queue, if it stands; the journal keeps it. Want of memory changes nothing.
+    pub(crate) fn take_copy(&mut self, birth: u64, place: u64) -> Result<(), AllocError>
+        requires { (s : TheSession) → session_at birth self.old.broker.records ≡ Some s → HasTables s }
+        ensures ok { OnOk result (self.new
+            ≡ become (with_change (RemoveCopy birth place) self.old.broker) self.old) }
+        ensures err { OnErr result (self.new ≡ self.old) }
+    {
+        self.journal.reserve(1)?;
+        match self.records.take_copy(birth, place) {
+            Some(row) => {
+                let change = Change::PutCopy { birth, row };
+                self.journal.push(Undo::Make { change }).unwrap();
+            }
+            None => {}
+        }
+        Ok(())
+    }
+
     /// Removes a retained message, if it stands; the journal keeps it. Want of memory changes nothing.
     pub(crate) fn take_retained(&mut self, place: u64) -> Result<(), AllocError>
         ensures ok { OnOk result (self.new
@@ -224,6 +246,30 @@ impl Tables {
             None => {}
         }
         Ok(())
+    }
+
+    /// The number of the last line that was linked; 0 before the first.
+    pub(crate) fn given(&self) -> u64
+        ensures { result ≡ self.now.broker.given }
+    {
+        self.given
+    }
+
+    /// A line more stands; from here on nothing is taken back. Takes no memory.
+    pub(crate) fn add_line(&mut self, line: LineState)
+        ensures { self.new ≡ settled (with_linked line self.old.broker) }
+    {
+        self.journal.clear();
+        self.given = line.number();
+        self.lines.put(line);
+    }
+
+    /// The moment is this one; from here on nothing is taken back. Takes no memory.
+    pub(crate) fn rest_at(&mut self, moment: u64)
+        ensures { self.new ≡ settled (with_moment_of moment self.old.broker) }
+    {
+        self.journal.clear();
+        self.moment = moment;
     }
 
     /// Takes everything back. Takes no memory.
