@@ -67,3 +67,7 @@ pub mod FitRows
 pub mod RowsFit
 pub mod LawfulRecords
 pub mod OpenLists
+pub mod PassedContents
+pub mod ContentRows
+pub mod ContentPackets
+pub mod ContentLaw

@@ -13,3 +13,4 @@ pub mod Piece
 pub mod Laws
 pub mod Flight
 pub mod Numbers
+pub mod Contents

@@ -2,6 +2,7 @@
 //! those that the rules speak of and the code shares; `docs/RULES.md` tells the rules in words.
 #![tactic(auto)]
 
+mod content_laws;
 mod fit_laws;
 mod flight_laws;
 mod lawful_laws;
@@ -10,6 +11,7 @@ mod number_laws;
 mod routing_laws;
 mod topic_laws;
 
+pub use content_laws::contents_are_lawful;
 pub use fit_laws::rows_always_fit;
 pub use flight_laws::identifiers_in_flight_are_unique;
 pub use lawful_laws::{lawful_records_may_be_opened, open_identifiers_are_one_list};
