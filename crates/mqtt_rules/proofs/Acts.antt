@@ -119,6 +119,7 @@ pub record IsGranted (env : Env) (w : sub.Wish) (s : Session) (b : Broker) : Typ
   pub fits : (sub.has_filter w.filter s || nat_lt (length s.subscriptions) SUBSCRIPTION_LIMIT) ≡ true
   pub has_room : nat_le (length (filter is_queued (brought_to w s b))) (room env s) ≡ true
 
+<<<<<<< HEAD
 -- ---- how far a CONNECT has come
 
 -- its client's old line is closed
@@ -150,6 +151,11 @@ pub record IsPrepared (env : Env) (Keep : Broker → Type 0) (l : Line) (c : Gre
   pub kept : Keep before
   pub on : IsOn l.number l.session before.lines
   pub is : b ≡ after_all (prepare env c before) before
+=======
+-- the topic of a message among them
+abbrev pub IsSaid : About → List ℕ → Type 0
+IsSaid about topic = (m : Message) × about.message m × (m.topic ≡ topic)
+>>>>>>> records
 
 -- ---- what a law has to say: look-ups stay among those concerned, and each unit of deeds is good and keeps what is kept
 
@@ -196,7 +202,7 @@ pub record Law (env : Env) (about : About) (Keep : Broker → Type 0) (Good : De
   -- lines
   pub links : (b : Broker) → Keep b → can_link b ≡ true → Leads Keep Good (Link (suc b.given) ∷ []) b
   pub hears : (n : ℕ) (b : Broker) → Keep b → about.number n → Leads Keep Good (On n Hear ∷ []) b
-  pub sets : (n alias : ℕ) (topic : List ℕ) (b : Broker) → Keep b → about.number n → Leads Keep Good (On n (SetAlias alias topic) ∷ []) b
+  pub sets : (n alias : ℕ) (topic : List ℕ) (b : Broker) → Keep b → about.number n → IsSaid about topic → Leads Keep Good (On n (SetAlias alias topic) ∷ []) b
   pub sends : (n : ℕ) (packet : Packet) (b : Broker) → Keep b → about.number n → Leads Keep Good (Send n packet ∷ []) b
 
 -- ---- calls that concern only those
@@ -511,14 +517,14 @@ module _ (env : Env) (about : About) (Keep : Broker → Type 0) (Good : Deed →
   leads_publish_by New l s p m b k its on own said there is = leads_publish_new l s p m (accepted_copies env m b) b k its own said there is refl
 
   -- an alias that is set leaves what is stored, and what the line is connected to
-  set_alias : (t : Bool) (alias : Option ℕ) (l : Line) (topic : List ℕ) (b : Broker) → Keep b → about.line l → IsOn l.number l.session b.lines
+  set_alias : (t : Bool) (alias : Option ℕ) (l : Line) (topic : List ℕ) (b : Broker) → Keep b → about.line l → IsOn l.number l.session b.lines → IsSaid about topic
       → Led (sets_alias t alias l.number topic) b
       × ((after_all (sets_alias t alias l.number topic) b).records ≡ b.records)
       × IsOn l.number l.session (after_all (sets_alias t alias l.number topic) b).lines
-  set_alias true alias l topic b k its on = ((tt, k), refl, on)
-  set_alias false None l topic b k its on = ((tt, k), refl, on)
-  set_alias false (Some n) l topic b k its on =
-      (law.sets l.number n topic b k (law.finds.its_number l its), refl, stays_on b.now l.number (SetAlias n topic) l.number l.session b.lines refl on)
+  set_alias true alias l topic b k its on said = ((tt, k), refl, on)
+  set_alias false None l topic b k its on said = ((tt, k), refl, on)
+  set_alias false (Some n) l topic b k its on said =
+      (law.sets l.number n topic b k (law.finds.its_number l its) said, refl, stays_on b.now l.number (SetAlias n topic) l.number l.session b.lines refl on)
 
   pub leads_publish_meant : (x : Meaning) (l : Line) (s : Session) (p : Publication) (b : Broker)
       → Keep b → about.line l → IsOn l.number l.session b.lines → about.session s.birth → about.packet (packets.Publish p)
@@ -533,7 +539,7 @@ module _ (env : Env) (about : About) (Keep : Broker → Type 0) (Good : Deed →
       let said = law.finds.sent l s p topic b k its came is in
       let first = sets_alias t alias l.number topic in
       let c = after_all first b in
-      let done = set_alias t alias l topic b k its on in
+      let done = set_alias t alias l topic b k its on (m, said, refl) in
       leads_two Keep Good (always first) (publish_by x env l s p m) b done.0
       (λ h. leads_publish_by x l s p m c h its done.2 own said (ap (session_at s.birth) done.1 ∙ there) refl)
 

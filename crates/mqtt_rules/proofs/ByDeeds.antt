@@ -308,7 +308,7 @@ module _ (env : Env) (about : About) (Keeps : Broker → Type 0) (Good : Deed �
       stale = λ x b k among. tell (Forget x.place ∷ []) b (one (Forget x.place) b k (law.forget x.place b k));
       links = λ b k can. tell (Link (suc b.given) ∷ []) b (one (Link (suc b.given)) b k (law.link b k));
       hears = λ n b k its. tell (On n Hear ∷ []) b (one (On n Hear) b k (law.on_line n Hear b k));
-      sets = λ n alias topic b k its. tell (On n (SetAlias alias topic) ∷ []) b (one (On n (SetAlias alias topic)) b k (law.on_line n (SetAlias alias topic) b k));
+      sets = λ n alias topic b k its said. tell (On n (SetAlias alias topic) ∷ []) b (one (On n (SetAlias alias topic)) b k (law.on_line n (SetAlias alias topic) b k));
       sends = λ n packet b k its. tell (Send n packet ∷ []) b (one (Send n packet) b k (law.send n packet b k));
     }
 

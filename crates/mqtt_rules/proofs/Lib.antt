@@ -74,3 +74,7 @@ pub mod LineSteps
 pub mod CopySizes
 pub mod LawfulRecords
 pub mod OpenLists
+pub mod PassedContents
+pub mod ContentRows
+pub mod ContentPackets
+pub mod ContentLaw

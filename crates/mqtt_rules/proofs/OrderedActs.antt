@@ -235,7 +235,7 @@ module _ (env : Env) (P : Records → Type 0) (Good : Deed → Broker → Type 0
     stale = λ x b p among. led (Forget x.place ∷ []) b (tt, tt) p;
     links = λ b p can. led (Link (suc b.given) ∷ []) b (tt, tt) p;
     hears = λ n b p its. led (On n Hear ∷ []) b (tt, tt) p;
-    sets = λ n alias topic b p its. led (On n (SetAlias alias topic) ∷ []) b (tt, tt) p;
+    sets = λ n alias topic b p its said. led (On n (SetAlias alias topic) ∷ []) b (tt, tt) p;
     sends = λ n packet b p its. led (Send n packet ∷ []) b (tt, tt) p;
   }
 

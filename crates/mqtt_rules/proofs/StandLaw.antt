@@ -163,7 +163,7 @@ stand_law env = record {
   stale = λ k b h among. led (Forget k.place ∷ []) b h (tt, tt);
   links = λ b h can. led (Link (suc b.given) ∷ []) b h (tt, tt);
   hears = λ n b h its. led (On n Hear ∷ []) b h (tt, tt);
-  sets = λ n alias topic b h its. led (On n (SetAlias alias topic) ∷ []) b h (tt, tt);
+  sets = λ n alias topic b h its said. led (On n (SetAlias alias topic) ∷ []) b h (tt, tt);
   sends = λ n packet b h its. led (Send n packet ∷ []) b h (tt, tt);
 }
 

@@ -14,3 +14,4 @@ pub mod Laws
 pub mod Flight
 pub mod Lines
 pub mod Numbers
+pub mod Contents
