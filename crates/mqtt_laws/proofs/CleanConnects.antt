@@ -9,13 +9,13 @@ use Rattle.std.proofs.lemmas.Slice.Eq.{bytes_eq-Decides}
 use Rattle.mqtt_base.specs.declared.limits.TheConstants.{SESSION_LIMIT}
 use Rattle.mqtt_base.specs.declared.session.Ending.TheVariants.{SessionEnded}
 use Rattle.mqtt_base.specs.Codes.{quota_exceeded}
-use Rattle.mqtt_codec.specs.declared.connect.Connect.{Connect as Greeting}
+use Rattle.mqtt_connect.specs.declared.connect.Connect.{Connect as Greeting}
 use Rattle.mqtt_codec.specs.declared.packet.Packet.TheVariants.{Connect}
 use Rattle.mqtt_topic.specs.Names.{is_empty}
 use Rattle.mqtt_message.specs.Queue.{CopyRow}
 use Rattle.mqtt_message.specs.declared.message.Will.{Will}
-use Rattle.mqtt_flow.specs.Publisher.{FromPublisher, CONNECT, ToPublisher, CONNACK}
-use Rattle.mqtt_flow.specs.InboundWorld.{takes, to_broker, spared, on_connect as on_hop, broker_reads, step}
+use Rattle.mqtt_inbound.specs.Publisher.{FromPublisher, CONNECT, ToPublisher, CONNACK}
+use Rattle.mqtt_inbound.specs.InboundWorld.{takes, to_broker, spared, on_connect as on_hop, broker_reads, step}
 use Rattle.mqtt_records.specs.declared.session.Session.{Session}
 use Rattle.mqtt_records.specs.declared.records.Records.{Records}
 use Rattle.mqtt_rows.specs.Order.{row_at, remove_row}

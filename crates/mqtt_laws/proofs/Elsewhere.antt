@@ -8,12 +8,12 @@ use Rattle.mqtt_codec.specs.declared.packet.Packet.{Packet}
 use Rattle.mqtt_codec.specs.declared.packet.Packet.TheVariants.{Publish, Pubrel}
 use Rattle.mqtt_topic.specs.Names.{is_empty}
 use Rattle.mqtt_props.specs.declared.table.PropName.TheVariants.{TopicAlias}
-use Rattle.mqtt_flow.specs.declared.inflow.Published.{Published}
-use Rattle.mqtt_flow.specs.declared.inflow.Published.TheVariants.{New, Again, Over}
-use Rattle.mqtt_flow.specs.declared.inflow.ReleaseAnswer.{ReleaseAnswer}
-use Rattle.mqtt_flow.specs.declared.inflow.ReleaseAnswer.TheVariants.{Known, Unknown}
+use Rattle.mqtt_inbound.specs.declared.inflow.Published.{Published}
+use Rattle.mqtt_inbound.specs.declared.inflow.Published.TheVariants.{New, Again, Over}
+use Rattle.mqtt_inbound.specs.declared.inflow.ReleaseAnswer.{ReleaseAnswer}
+use Rattle.mqtt_inbound.specs.declared.inflow.ReleaseAnswer.TheVariants.{Known, Unknown}
 use Rattle.mqtt_base.specs.Codes.{quota_exceeded, receive_maximum_exceeded}
-use Rattle.mqtt_flow.specs.Inbound.{answer_to_release}
+use Rattle.mqtt_inbound.specs.Inbound.{answer_to_release}
 use Rattle.mqtt_records.specs.declared.session.Session.{Session}
 use Rattle.mqtt_rules.specs.Packets.{number_at}
 use Rattle.mqtt_rules.specs.State.{MemberChoice, Line, Broker, Env, session_at, line_at}

@@ -252,7 +252,7 @@ module _ (client : List ℕ) (birth n : ℕ) where
     stale = λ k b o among. led (Forget k.place ∷ []) b o (inl tt, tt);
     links = λ b o can. led (Link (suc b.given) ∷ []) b o (let le = o.given in inr (omega (arith, le)), tt);
     hears = λ m b o its. led (On m Hear ∷ []) b o (inl tt, tt);
-    sets = λ m alias topic b o its. led (On m (SetAlias alias topic) ∷ []) b o (inl tt, tt);
+    sets = λ m alias topic b o its said. led (On m (SetAlias alias topic) ∷ []) b o (inl tt, tt);
     sends = λ m packet b o its. led (Send m packet ∷ []) b o (inl (inl its), tt);
   }
 

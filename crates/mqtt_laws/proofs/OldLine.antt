@@ -6,11 +6,11 @@ use Rattle.std.proofs.lemmas.Cmp.{nat_eq_equiv}
 use Rattle.mqtt_codec.specs.declared.publish.Delivery.TheVariants as delivery
 use Rattle.mqtt_codec.specs.declared.packet.Packet.{Packet}
 use Rattle.mqtt_codec.specs.declared.packet.Packet.TheVariants.{Publish, Pubrel}
-use Rattle.mqtt_flow.specs.declared.inflow.Published.TheVariants.{New}
-use Rattle.mqtt_flow.specs.Identifiers.{ids_without}
-use Rattle.mqtt_flow.specs.Inbound.{answer_to, answer_to_release}
-use Rattle.mqtt_flow.specs.Publisher.{FromPublisher, PUBLISH_1, PUBLISH_2, PUBREL, ToPublisher, DISCONNECT}
-use Rattle.mqtt_flow.specs.InboundWorld.{World as Hop, Event as HopEvent, Verdict, accept, refuse, repeat, shut, verdict_on, ids_by, answer_2, answer_to_pubrel, takes, on_old_publish_1, on_old_publish_2, old_to_broker, close_old, step}
+use Rattle.mqtt_inbound.specs.declared.inflow.Published.TheVariants.{New}
+use Rattle.mqtt_inbound.specs.Identifiers.{ids_without}
+use Rattle.mqtt_inbound.specs.Inbound.{answer_to, answer_to_release}
+use Rattle.mqtt_inbound.specs.Publisher.{FromPublisher, PUBLISH_1, PUBLISH_2, PUBREL, ToPublisher, DISCONNECT}
+use Rattle.mqtt_inbound.specs.InboundWorld.{World as Hop, Event as HopEvent, Verdict, accept, refuse, repeat, shut, verdict_on, ids_by, answer_2, answer_to_pubrel, takes, on_old_publish_1, on_old_publish_2, old_to_broker, close_old, step}
 use Rattle.mqtt_records.specs.declared.session.Session.{Session}
 use Rattle.mqtt_rules.specs.declared.Limits.{Limits}
 use Rattle.mqtt_rules.specs.State.{MemberChoice, Line as BrokerLine, Broker, session_named}

@@ -1,8 +1,8 @@
 //! Laws of the world: what a publisher sees of a step of the broker is what its hop does (4.3, 4.4).
 ghost use Rattle.std.specs.Prelude.{◌≡◌, ℕ, ◌≤◌, [], ◌∷◌, Bool, List, Some, None, true, false, suc, length, nat_eq, nat_lt, slice_get, count_by};
 ghost use Rattle.std.specs.List.{AllByRecursion, starts_with};
-ghost use Rattle.mqtt_flow.specs.Publisher.{Qos, IsExactlyOnce, completed, refused, ended, ended_1, CONNECT, PUBLISH_1, PUBLISH_2, PUBREL};
-ghost use Rattle.mqtt_flow.specs.InboundWorld.{Event as HopEvent, takes, to_broker, old_to_broker, publish, give_up, break, connect, restart, step, run};
+ghost use Rattle.mqtt_inbound.specs.Publisher.{Qos, IsExactlyOnce, completed, refused, ended, ended_1, CONNECT, PUBLISH_1, PUBLISH_2, PUBREL};
+ghost use Rattle.mqtt_inbound.specs.InboundWorld.{Event as HopEvent, takes, to_broker, old_to_broker, publish, give_up, break, connect, restart, step, run};
 ghost use Rattle.mqtt_records.specs.declared.session.Session.{Session};
 ghost use Rattle.mqtt_rules.specs.declared.Limits.{Limits};
 ghost use Rattle.mqtt_rules.specs.State.{Line, Broker, MemberChoice, session_named};

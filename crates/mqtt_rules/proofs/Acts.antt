@@ -119,7 +119,6 @@ pub record IsGranted (env : Env) (w : sub.Wish) (s : Session) (b : Broker) : Typ
   pub fits : (sub.has_filter w.filter s || nat_lt (length s.subscriptions) SUBSCRIPTION_LIMIT) ≡ true
   pub has_room : nat_le (length (filter is_queued (brought_to w s b))) (room env s) ≡ true
 
-<<<<<<< HEAD
 -- ---- how far a CONNECT has come
 
 -- its client's old line is closed
@@ -151,11 +150,10 @@ pub record IsPrepared (env : Env) (Keep : Broker → Type 0) (l : Line) (c : Gre
   pub kept : Keep before
   pub on : IsOn l.number l.session before.lines
   pub is : b ≡ after_all (prepare env c before) before
-=======
+
 -- the topic of a message among them
 abbrev pub IsSaid : About → List ℕ → Type 0
 IsSaid about topic = (m : Message) × about.message m × (m.topic ≡ topic)
->>>>>>> records
 
 -- ---- what a law has to say: look-ups stay among those concerned, and each unit of deeds is good and keeps what is kept
 

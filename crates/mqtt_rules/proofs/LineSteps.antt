@@ -147,7 +147,7 @@ module _ (env : Env) (within : AreWithin env.limits) where
     stale = λ x b k among. quiet (Forget x.place ∷ []) b k (fit.stale x b k.0 among) (tt, tt);
     links = λ b k can. led (Link (suc b.given) ∷ []) b k (fit.links b k.0 can) (λ le u. unique_linked b u);
     hears = λ n b k its. quiet (On n Hear ∷ []) b k (fit.hears n b k.0 its) (tt, tt);
-    sets = λ n alias topic b k its. quiet (On n (SetAlias alias topic) ∷ []) b k (fit.sets n alias topic b k.0 its) (tt, tt);
+    sets = λ n alias topic b k its said. quiet (On n (SetAlias alias topic) ∷ []) b k (fit.sets n alias topic b k.0 its said) (tt, tt);
     sends = λ n packet b k its. quiet (Send n packet ∷ []) b k (fit.sends n packet b k.0 its) (tt, tt);
   }
 

@@ -1,6 +1,6 @@
 -- The table of lines, by their numbers.
 use Rattle.std.specs.Prelude.{◌≡◌, refl, ℕ, zero, suc, List, [], ◌∷◌}
-use Rattle.mqtt_flow.specs.Identifiers.{ids_without}
+use Rattle.mqtt_inbound.specs.Identifiers.{ids_without}
 use Rattle.mqtt_rules.specs.State.{Line}
 use Rattle.mqtt_tables.specs.declared.line.LineChange.{LineChange}
 use Rattle.mqtt_tables.specs.declared.line.LineChange.TheVariants.{Hear, Greet, SetWent}

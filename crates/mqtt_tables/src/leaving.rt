@@ -1,6 +1,6 @@
 //! A copy leaves a session's queue, and the places that went out on the session's line (MQTT 5.0, 4.3, 4.4).
 ghost use Rattle.std.specs.Prelude.{◌≡◌, Some, map, IfOk, IfErr, OnOk};
-ghost use Rattle.mqtt_flow.specs.Identifiers.{ids_without};
+ghost use Rattle.mqtt_inbound.specs.Identifiers.{ids_without};
 ghost use Rattle.mqtt_rows.specs.Order.{change_row};
 ghost use Rattle.mqtt_records.specs.declared.session.Session.{Session as TheSession};
 ghost use Rattle.mqtt_records.specs.declared.change.Change.TheVariants.{RemoveCopy};

@@ -1,6 +1,6 @@
 use Rattle.std.proofs.Common.{not, nat_eq, rules, ap, ◌∙◌}
 use Rattle.std.proofs.lemmas.Fn.{filter_same}
-use Rattle.mqtt_flow.specs.Identifiers.{ids_without}
+use Rattle.mqtt_inbound.specs.Identifiers.{ids_without}
 use Rattle.mqtt_tables.proofs.leaving.without.Goals as goal
 
 pub returns : goal.returns

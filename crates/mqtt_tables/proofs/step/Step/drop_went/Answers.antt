@@ -1,5 +1,5 @@
 use Rattle.std.proofs.Common.{◌≡◌, List, ap, sym, ◌∙◌}
-use Rattle.mqtt_flow.specs.Identifiers.{ids_without}
+use Rattle.mqtt_inbound.specs.Identifiers.{ids_without}
 use Rattle.mqtt_rows.proofs.OrderLemmas.{change-none}
 use Rattle.mqtt_rules.specs.State.{Line}
 use Rattle.mqtt_tables.specs.declared.line.LineChange.TheVariants.{SetWent}
