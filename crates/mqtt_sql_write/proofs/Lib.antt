@@ -5,3 +5,4 @@ pub mod Cascade
 pub mod RemoveSession
 pub mod RemovesSession
 pub mod RemoveSessionRuns
+pub mod SetCopy

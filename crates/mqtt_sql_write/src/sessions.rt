@@ -7,7 +7,7 @@ ghost use Rattle.mqtt_sql_write.specs.Content.{RemovesSession, IsReady, HasSessi
 use sqlite::{Alter, Error, Transaction, params};
 
 /// A number as SQL has it.
-fn whole(n: u64) -> i64
+pub(crate) fn whole(n: u64) -> i64
     requires { n < 2 ^ 63 }
     ensures { result ≡ pos n }
 {
