@@ -5,7 +5,7 @@ ghost use Rattle.mqtt_flow.specs.Publisher.{Qos, IsExactlyOnce, completed, refus
 ghost use Rattle.mqtt_flow.specs.InboundWorld.{Event as HopEvent, takes, to_broker, old_to_broker, publish, give_up, break, connect, restart, step, run};
 ghost use Rattle.mqtt_records.specs.declared.session.Session.{Session};
 ghost use Rattle.mqtt_rules.specs.declared.Limits.{Limits};
-ghost use Rattle.mqtt_rules.specs.State.{Line, Broker, MemberChoice, session_named};
+ghost use Rattle.mqtt_rules.specs.State.{Line, Broker, MemberChoice, session_at, session_named};
 ghost use Rattle.mqtt_rules.specs.Connect.{auto};
 ghost use Rattle.mqtt_rules.specs.Step.{Call, NewLine, Input, Lost, opened, stepped, told};
 ghost use Rattle.mqtt_laws.specs.Lines.{gives_up};
@@ -162,6 +162,16 @@ pub fn steps_of_others_are_unseen()
         → (es : List HopEvent)
         × (seen accepted (publisher_told (stepped limits choice now call b) (told limits choice now call b) p)
         (stepped limits choice now call b) ≡ run es (seen accepted p b)) }
+
+    // And while it has neither: the birth is one that no session has, and none has it after the call.
+    ensures unseen_without { (limits : Limits) (choice : MemberChoice) (now : ℕ) (call : Call) (p : Publisher)
+        → (birth n : ℕ) (b : Broker) (accepted : List ℕ)
+        → p.line.number ≡ None → session_at birth b.records ≡ None → Own p.client birth n b
+        → starts_with nat_eq p.client auto ≡ false → IsFarCall p.client n call
+        → (session_at birth (stepped limits choice now call b).records ≡ None)
+        × ((es : List HopEvent)
+        × (seen accepted (publisher_told (stepped limits choice now call b) (told limits choice now call b) p)
+        (stepped limits choice now call b) ≡ run es (seen accepted p b))) }
     ensures own { (limits : Limits) (choice : MemberChoice) (now : ℕ) (call : Call) (client : List ℕ) (birth n : ℕ)
         → (b : Broker) → Own client birth n b
         → starts_with nat_eq client auto ≡ false → IsFarCall client n call
