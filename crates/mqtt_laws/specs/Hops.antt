@@ -24,7 +24,7 @@ use Rattle.mqtt_laws.specs.Lines.{is_one_of, unless_closed, left, joined}
 use Rattle.mqtt_laws.specs.Ends.{Sent, shake, Publisher, wire}
 use Rattle.mqtt_laws.specs.World.{publisher_told, taken_up, taken_old}
 use Rattle.mqtt_laws.specs.Run.{client_number}
-use Rattle.mqtt_laws.specs.Seen.{shaken, seen}
+use Rattle.mqtt_laws.specs.Seen.{shaken, is_linked, seen}
 
 -- ---- its session's name
 
@@ -218,6 +218,16 @@ pub record IsFirst (limits : Limits) (p : Publisher) (l : BrokerLine) (b : Broke
   -- the line that it gave up is another one, and a CONNECT is under way there, or nothing
   pub apart : is_one_of p.line.old_number (l.number ∷ []) ≡ false
   pub old : filter_map shaken p.line.old ≡ spared (filter_map shaken p.line.old)
+
+-- its session stands, and the line that it gave up waits: the session is connected on the publisher's line, or that isn't linked
+pub record IsLate (p : Publisher) (l : BrokerLine) (s : Session) (b : Broker) : Type 0 where
+  pub number : p.line.old_number ≡ Some l.number
+  pub line : line_at l.number b ≡ Some l
+  pub waits : l.session ≡ None
+  pub kept : IsKept p.client s b
+  pub taken : IsTaken (line_of s.birth b) s.birth l.number
+  pub apart : is_one_of p.line.number (l.number ∷ []) ≡ false
+  pub linked : is_linked p.line.number b ≡ is_one_of p.line.number (lines_left (line_of s.birth b))
 
 abbrev pub hello_packet : Publisher → Packet
 hello_packet p = wire p.client p.contents (shake (CONNECT false))

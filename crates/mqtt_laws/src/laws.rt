@@ -14,7 +14,7 @@ ghost use Rattle.mqtt_laws.specs.World.{publisher_restarted, publisher_told};
 ghost use Rattle.mqtt_laws.specs.Seen.{qos_of_draft, is_linked, seen};
 ghost use Rattle.mqtt_laws.specs.Hops.{IsConnected, IsAsking, IsInOrder, Own, IsFarCall, IsRun};
 ghost use Rattle.mqtt_laws.specs.Hops.{IsKept, IsOurs, connect_packet, IsFirst, MayBegin, joined_by, MayJoin, IsNoConnect, IsUnheard, MayGiveUp, after_step, wire_1, wire_2, hello_packet, lost_by, Becomes};
-ghost use Rattle.mqtt_laws.specs.Hops.{IsLingering, BecomesOld, IsUnheardOld};
+ghost use Rattle.mqtt_laws.specs.Hops.{IsLingering, IsLate, after_old_step, BecomesOld, IsUnheardOld};
 
 /// The broker reads the first packet of a publisher's line. Whatever the limits, the routing, the queues
 /// and all other sessions and lines, what the publisher sees of it is one event of its hop (4.3.3, 4.4).
@@ -80,8 +80,8 @@ pub fn own_packets_are_steps_of_the_hop()
         ≡ step (seen accepted p b) break }
 {}
 
-/// The broker reads what a publisher left on the line that it gave up, where its session is connected still:
-/// what the publisher sees of it is that event of its hop, and no answer (4.3.2, 4.3.3, 4.4).
+/// The broker reads what a publisher left on the line that it gave up, where its session is connected still,
+/// or a late CONNECT: what the publisher sees of it is that event of its hop, and no answer (3.1.4, 4.3, 4.4).
 pub fn packets_of_the_line_given_up_are_steps_of_the_hop()
     ensures publish { (limits : Limits) (choice : MemberChoice) (now : ℕ) (p : Publisher) (rest : List Sent)
         → (id k : ℕ) (dup : Bool) (l : Line) (s : Session) (b : Broker) (accepted : List ℕ)
@@ -100,6 +100,14 @@ pub fn packets_of_the_line_given_up_are_steps_of_the_hop()
         → (content : Content) (l : Line) (s : Session) (b : Broker) (accepted : List ℕ)
         → p.line.old ≡ plain content ∷ rest → IsLingering p l s b
         → IsUnheardOld limits choice now (Input l.number (wire p.client p.contents (plain content))) p b accepted }
+
+    // A late CONNECT without Clean Start takes its session over, from its own line if it is connected there.
+    ensures connect { (limits : Limits) (choice : MemberChoice) (now : ℕ) (p : Publisher) (rest : List Sent)
+        → (l : Line) (s : Session) (b : Broker) (accepted : List ℕ)
+        → p.line.old ≡ shake (CONNECT false) ∷ rest → IsLate p l s b
+        → seen accepted (after_old_step limits choice now (Input l.number (hello_packet p)) p b)
+        (stepped limits choice now (Input l.number (hello_packet p)) b)
+        ≡ step (seen accepted p b) (old_to_broker takes) }
 {}
 
 /// After a publisher's CONNECT the session and its line are its own, and after the loss of its line the
