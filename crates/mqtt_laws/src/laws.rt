@@ -1,8 +1,11 @@
 //! Laws of the world: what a publisher sees of a step of the broker is what its hop does (4.3, 4.4).
-ghost use Rattle.std.specs.Prelude.{◌≡◌, ℕ, ◌≤◌, [], ◌∷◌, Bool, List, Some, None, true, false, suc, length, nat_eq, nat_lt, slice_get, count_by};
+ghost use Rattle.std.specs.Prelude.{◌≡◌, ℕ, ◌≤◌, [], ◌∷◌, Bool, List, Some, None, true, false, suc, length, nat_eq};
+ghost use Rattle.std.specs.Prelude.{nat_lt, slice_get, count_by};
 ghost use Rattle.std.specs.List.{AllByRecursion, starts_with};
-ghost use Rattle.mqtt_flow.specs.Publisher.{Qos, IsExactlyOnce, completed, refused, ended, ended_1, CONNECT, PUBLISH_1, PUBLISH_2, PUBREL};
-ghost use Rattle.mqtt_flow.specs.InboundWorld.{Event as HopEvent, takes, to_broker, old_to_broker, publish, give_up, break, connect, restart, step, run};
+ghost use Rattle.mqtt_flow.specs.Publisher.{Qos, IsExactlyOnce, completed, refused, ended, ended_1, CONNECT};
+ghost use Rattle.mqtt_flow.specs.Publisher.{PUBLISH_1, PUBLISH_2, PUBREL};
+ghost use Rattle.mqtt_flow.specs.InboundWorld.{Event as HopEvent, takes, to_broker, old_to_broker, publish, give_up};
+ghost use Rattle.mqtt_flow.specs.InboundWorld.{break, connect, restart, step, run};
 ghost use Rattle.mqtt_records.specs.declared.session.Session.{Session};
 ghost use Rattle.mqtt_rules.specs.declared.Limits.{Limits};
 ghost use Rattle.mqtt_rules.specs.State.{Line, Broker, MemberChoice, session_at, session_named};
@@ -13,7 +16,9 @@ ghost use Rattle.mqtt_laws.specs.Ends.{Content, Draft, Sent, shake, plain, Publi
 ghost use Rattle.mqtt_laws.specs.World.{publisher_restarted, publisher_told};
 ghost use Rattle.mqtt_laws.specs.Seen.{qos_of_draft, is_linked, seen};
 ghost use Rattle.mqtt_laws.specs.Hops.{IsConnected, IsAsking, IsInOrder, Own, IsFarCall, IsRun};
-ghost use Rattle.mqtt_laws.specs.Hops.{IsKept, IsOurs, connect_packet, IsFirst, MayBegin, joined_by, MayJoin, IsNoConnect, IsUnheard, MayGiveUp, after_step, wire_1, wire_2, hello_packet, lost_by, Becomes};
+ghost use Rattle.mqtt_laws.specs.Hops.{IsKept, IsOurs, connect_packet, IsFirst, MayBegin, joined_by, MayJoin};
+ghost use Rattle.mqtt_laws.specs.Hops.{IsNoConnect, IsUnheard, MayGiveUp, after_step, wire_1, wire_2, hello_packet};
+ghost use Rattle.mqtt_laws.specs.Hops.{lost_by, Becomes};
 ghost use Rattle.mqtt_laws.specs.Hops.{IsLingering, IsLate, after_old_step, BecomesOld, IsUnheardOld};
 
 /// The broker reads the first packet of a publisher's line. Whatever the limits, the routing, the queues
