@@ -123,7 +123,7 @@ greeted_line now n k keep_alive window largest (l ∷ ls) h = elim (cases_Bool (
   | inr further ↦ rw (further, further) (greeted_line now n k keep_alive window largest ls (rw further at h))
 ]
 
-repeats_quiet : {X : Type 0} (birth m now line : ℕ) (s : Session) (xs : List X) (id : X → ℕ) → AreQuiet birth m (all_turn_deeds now line s (map (λ x. turns.Repeat (id x)) xs))
+pub repeats_quiet : {X : Type 0} (birth m now line : ℕ) (s : Session) (xs : List X) (id : X → ℕ) → AreQuiet birth m (all_turn_deeds now line s (map (λ x. turns.Repeat (id x)) xs))
 repeats_quiet birth m now line s [] id = tt
 repeats_quiet birth m now line s (x ∷ xs) id = (inr refl, repeats_quiet birth m now line s xs id)
 
@@ -245,7 +245,7 @@ prepare_is : (o : Option BrokerLine) (env : Env) (client : List ℕ) (s : Sessio
 prepare_is o env client s n b e t k =
     prepare_front o env client s n b (only_if false (of_client client (clear env)) ∷ []) e t k ∙ append-nil (left_by o s b.now)
 
-connect_is : (o : Option BrokerLine) (env : Env) (l : BrokerLine) (client : List ℕ) (s : Session) (b : Broker) → line_of s.birth b ≡ o → IsTaken o s.birth l.number → IsKept client s b
+pub connect_is : (o : Option BrokerLine) (env : Env) (l : BrokerLine) (client : List ℕ) (s : Session) (b : Broker) → line_of s.birth b ≡ o → IsTaken o s.birth l.number → IsKept client s b
     → on_connect env l (hello client) b ≡ left_by o s b.now ++ resume l (hello client) b.now (taken_from o b.now s)
 connect_is o env l client s b e t k =
     let c = hello client in
@@ -302,7 +302,7 @@ pub heard_on_line : (m now : ℕ) (ls : List BrokerLine) (x : Option ℕ) → se
 heard_on_line m now ls x h = line_on now m m Hear ls (inr tt) ∙ h
 
 -- the deeds of the call
-connect_call : (limits : Limits) (choice : MemberChoice) (now : ℕ) (client : List ℕ) (l : BrokerLine) (b : Broker) → line_at l.number b ≡ Some l → l.session ≡ None
+pub connect_call : (limits : Limits) (choice : MemberChoice) (now : ℕ) (client : List ℕ) (l : BrokerLine) (b : Broker) → line_at l.number b ≡ Some l → l.session ≡ None
     → deeds limits choice now (Input l.number (Connect (hello client))) b
     ≡ On l.number Hear ∷ (on_connect (env_of limits choice b) l (hello client) (heard_of now l.number b) ++ [])
 connect_call limits choice now client l b line waits =
@@ -310,7 +310,7 @@ connect_call limits choice now client l b line waits =
     ap (λ (o : Option BrokerLine). with_line o (λ (x : BrokerLine). series (always (On l.number Hear ∷ []) ∷ on_packet env x (Connect (hello client)) x.session ∷ [])) (at_moment now b)) line
     ∙ ap (λ (o : Option ℕ). On l.number Hear ∷ (on_packet env l (Connect (hello client)) o (heard_of now l.number b) ++ [])) waits
 
-call_leaves : (limits : Limits) (choice : MemberChoice) (now : ℕ) (p : Publisher) (l : BrokerLine) (s : Session) (b : Broker) → IsAsking p l s b
+pub call_leaves : (limits : Limits) (choice : MemberChoice) (now : ℕ) (p : Publisher) (l : BrokerLine) (s : Session) (b : Broker) → IsAsking p l s b
     → (f : Face) × Leaves s.birth l.number (deeds limits choice now (Input l.number (Connect (hello p.client))) b) (at_moment now b) f (Some (Some s.birth)) (CONNACK true ∷ []) (lines_left (line_of s.birth b)) × (f.client ≡ p.client) × (f.inbound ≡ s.inbound) × (f.will ≡ None) × (f.expiry ≡ never)
 call_leaves limits choice now p l s b a =
     let n = l.number in

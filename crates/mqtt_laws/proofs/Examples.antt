@@ -1,5 +1,5 @@
 -- Worked runs of the world: a publisher whose line is given up in mid-handshake, read in both orders (MQTT 5.0, 4.3.3, 4.4).
-use Rattle.std.proofs.Common.{◌≡◌, ℕ, false, List, [], ◌∷◌, ◌++◌, length, Option, Some, None, refl}
+use Rattle.std.proofs.Common.{◌≡◌, ℕ, true, false, List, [], ◌∷◌, ◌++◌, length, Option, Some, None, refl}
 use Rattle.std.specs.Prelude.{codes, option_map, filter_map, map}
 use Rattle.mqtt_base.specs.Values.{varint}
 use Rattle.mqtt_base.specs.declared.session.Qos.TheVariants.{ExactlyOnce}
@@ -15,15 +15,15 @@ use Rattle.mqtt_codec.specs.Connect.{will_at, user_name_at, password_at, fields_
 use Rattle.mqtt_codec.specs.Publish.{delivery_at, publish_at}
 use Rattle.mqtt_codec.specs.Frames.{frame_at, body_at, versioned_at, lawful_at, packet_at}
 use Rattle.mqtt_packet.specs.Front.{size_at, first_of}
-use Rattle.mqtt_rules.specs.Packets.{pubrec}
-use Rattle.mqtt_inbound.specs.Publisher.{Fate, ended, completed}
+use Rattle.mqtt_rules.specs.Packets.{pubrec, disconnect}
+use Rattle.mqtt_flow.specs.Publisher.{Fate, ended, completed, forgotten}
 use Rattle.mqtt_rules.specs.declared.Report.{Report}
 use Rattle.mqtt_rules.specs.declared.Report.TheVariants.{Accepted, Entered, Released, Ended}
 use Rattle.mqtt_rules.specs.State.{MemberChoice}
 use Rattle.mqtt_rules.specs.Deeds.{report, output}
 use Rattle.mqtt_rules.proofs.Play.{usual, topic, hi, options, bytes, welcome}
 use Rattle.mqtt_laws.specs.Ends.{Publisher, Draft, Wish, Receiver, Entry}
-use Rattle.mqtt_laws.specs.World.{Event, publisher, receiver, connect_end, give_up, publish, subscribe, to_end, ask, break, stop_before, stop_after, to_broker, old_to_broker, pump, stranger, publisher_named, receiver_named}
+use Rattle.mqtt_laws.specs.World.{Event, publisher, receiver, connect_end, give_up, publish, subscribe, to_end, ask, break, restart, stop_before, stop_after, to_broker, old_to_broker, pump, stranger, publisher_named, receiver_named}
 use Rattle.mqtt_laws.specs.Run.{Turn, after, deeds_over, accepted_over}
 use Rattle.mqtt_laws.specs.World.{start}
 
@@ -171,3 +171,50 @@ pub a_lost_answer_hands_once : option_map (λ (r : Receiver). map (λ (e : Entry
     ≡ Some (Some (record { publication = 1; birth = 1; cause = Direct }) ∷ [])
 unfolding varint
 a_lost_answer_hands_once = refl
+
+-- ---- a restart in mid-handshake: accepted once, and completed (4.3.3, 4.4)
+
+pub a_restart_accepts_once : accepted_over p1 usual (turns (joined ++ ask (to_broker p1) ∷ restart ∷ resent)) start ≡ 0 ∷ []
+unfolding varint
+a_restart_accepts_once = refl
+
+pub a_restart_completes : fates_after (joined ++ ask (to_broker p1) ∷ restart ∷ resent) ≡ Some (ended completed ∷ [])
+unfolding varint
+a_restart_completes = refl
+
+-- ---- a Clean Start in mid-handshake: the session ends, and the message is forgotten (3.1.2.4)
+
+abbrev cleaned : List Event
+cleaned = joined ++ ask (to_broker p1) ∷ ask (break p1) ∷ connect_end p1 true ∷ ask (to_broker p1) ∷ to_end p1 ∷ []
+
+pub a_clean_start_forgets : fates_after cleaned ≡ Some (ended forgotten ∷ [])
+unfolding varint
+a_clean_start_forgets = refl
+
+pub a_clean_start_accepts_once : accepted_over p1 usual (turns cleaned) start ≡ 0 ∷ []
+unfolding varint
+a_clean_start_accepts_once = refl
+
+-- CONNACK with Session Present 0, PUBREC, CONNACK with Session Present 0
+pub a_clean_start_is_told : filter_map output (deeds_over usual (turns cleaned) start) ≡ (1, welcome false) ∷ (1, pubrec 1 0x10) ∷ (2, welcome false) ∷ []
+unfolding varint
+a_clean_start_is_told = refl
+
+-- ---- a late CONNECT on the line that was given up takes the session over (3.1.4)
+
+abbrev late : List Event
+late =
+    publisher p1 ∷ connect_end p1 false ∷ give_up p1 ∷ connect_end p1 false ∷ ask (to_broker p1) ∷ to_end p1 ∷ publish p1 draft ∷ ask (to_broker p1)
+    ∷ ask (old_to_broker p1) ∷ to_end p1 ∷ to_end p1 ∷ []
+
+pub a_late_connect_takes_over : filter_map output (deeds_over usual (turns late) start) ≡ (2, welcome false) ∷ (2, pubrec 1 0x10) ∷ (2, disconnect 0x8e) ∷ (1, welcome true) ∷ []
+unfolding varint
+a_late_connect_takes_over = refl
+
+pub a_late_connect_accepts_once : accepted_over p1 usual (turns (late ++ connect_end p1 false ∷ ask (to_broker p1) ∷ to_end p1 ∷ ask (to_broker p1) ∷ to_end p1 ∷ [])) start ≡ 0 ∷ []
+unfolding varint
+a_late_connect_accepts_once = refl
+
+pub a_late_connect_completes : fates_after (late ++ connect_end p1 false ∷ ask (to_broker p1) ∷ to_end p1 ∷ ask (to_broker p1) ∷ to_end p1 ∷ []) ≡ Some (ended completed ∷ [])
+unfolding varint
+a_late_connect_completes = refl

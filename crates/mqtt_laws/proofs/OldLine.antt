@@ -127,7 +127,7 @@ old_sees limits choice now call p rest packet l s b accepted f on ps t count old
         let ds = deeds limits choice now call b in
         told_down m (stepped limits choice now call b) ds ∙ (apart_by p.client (suc s.birth) m ds (at_moment now b) (far m (other m h))).told_is
 
-further : (n : ℕ) → nat_eq n (suc n) ≡ false
+pub further : (n : ℕ) → nat_eq n (suc n) ≡ false
 further n = nat_eq_equiv.symm n (suc n) ∙ less_differs n (suc n) (omega arith)
 
 abbrev IsOwn : Packet → Type 0

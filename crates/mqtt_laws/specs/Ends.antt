@@ -1,22 +1,29 @@
--- Conforming ends: a publisher and a receiver, what they send, and what they do with what they read (MQTT 5.0, 4.3, 4.4).
-use Rattle.std.specs.Prelude.{ℕ, Bool, true, false, cond, List, [], ◌∷◌, ◌++◌, length, map, nat_lt, slice_get, Option, Some, None, unwrap_or, if◌then◌else◌}
+-- Conforming ends: a publisher and a receiver, what they send, and what they do with what they read (MQTT 5.0, 4.3,
+-- 4.4).
+use Rattle.std.specs.Prelude.{ℕ, Bool, true, false, cond, List, [], ◌∷◌, ◌++◌, length, map, nat_lt, slice_get, Option}
+use Rattle.std.specs.Prelude.{Some, None, unwrap_or, if◌then◌else◌}
 use Rattle.mqtt_base.specs.declared.session.CopyId.{CopyId}
 use Rattle.mqtt_base.specs.declared.session.Qos.{Qos as Quality}
 use Rattle.mqtt_base.specs.declared.session.Qos.TheVariants.{AtMostOnce, AtLeastOnce, ExactlyOnce}
 use Rattle.mqtt_base.specs.declared.session.SubscriptionOptions.{SubscriptionOptions}
-use Rattle.mqtt_props.specs.declared.table.PropName.TheVariants.{SessionExpiryInterval, ReceiveMaximum, SubscriptionIdentifier}
+use Rattle.mqtt_props.specs.declared.table.PropName.TheVariants.{SessionExpiryInterval, ReceiveMaximum}
+use Rattle.mqtt_props.specs.declared.table.PropName.TheVariants.{SubscriptionIdentifier}
 use Rattle.mqtt_props.specs.Properties.{Prop, U16, U32, VarInt}
 use Rattle.mqtt_codec.specs.declared.publish.Delivery.{Delivery}
 use Rattle.mqtt_codec.specs.declared.publish.Delivery.TheVariants as delivery
 use Rattle.mqtt_codec.specs.declared.publish.Publish.{Publish as Publication}
 use Rattle.mqtt_codec.specs.declared.packet.Packet.{Packet}
-use Rattle.mqtt_codec.specs.declared.packet.Packet.TheVariants.{Connect, Connack, Publish, Puback, Pubrec, Pubrel, Pubcomp, Subscribe, Suback, Disconnect}
+use Rattle.mqtt_codec.specs.declared.packet.Packet.TheVariants.{Connect, Connack, Publish, Puback, Pubrec, Pubrel}
+use Rattle.mqtt_codec.specs.declared.packet.Packet.TheVariants.{Pubcomp, Subscribe, Suback, Disconnect}
 use Rattle.mqtt_codec.specs.Options.{options_byte}
 use Rattle.mqtt_base.specs.declared.limits.TheConstants.{OPEN_LIMIT}
-use Rattle.mqtt_inbound.specs.Identifiers.{is_among, ids_without, free_identifier}
-use Rattle.mqtt_inbound.specs.Line.{Link, away, asked, live, sent_on}
+use Rattle.mqtt_flow.specs.Identifiers.{is_among, ids_without, free_identifier}
+use Rattle.mqtt_flow.specs.Line.{Link, away, asked, live, sent_on}
 use Rattle.mqtt_base.specs.Codes.{success, identifier_not_found}
-use Rattle.mqtt_inbound.specs.Publisher.{Qos, qos_1, qos_2, Fate, FromPublisher, CONNECT, PUBLISH_1, PUBLISH_2, PUBREL, ToPublisher, CONNACK, CONNACK_REFUSED, PUBACK, PUBREC, PUBCOMP, DISCONNECT, in_flight, first_fate, first_packet, resent_from, on_new_session, on_puback, on_pubrec, on_pubcomp, pubrel_for}
+use Rattle.mqtt_flow.specs.Publisher.{Qos, qos_1, qos_2, Fate, FromPublisher, CONNECT, PUBLISH_1, PUBLISH_2, PUBREL}
+use Rattle.mqtt_flow.specs.Publisher.{ToPublisher, CONNACK, CONNACK_REFUSED, PUBACK, PUBREC, PUBCOMP, DISCONNECT}
+use Rattle.mqtt_flow.specs.Publisher.{in_flight, first_fate, first_packet, resent_from, on_new_session, on_puback}
+use Rattle.mqtt_flow.specs.Publisher.{on_pubrec, on_pubcomp, pubrel_for}
 use Rattle.mqtt_flow.specs.Receiver.{Body, Answer, connect, puback, pubrec, pubcomp, kept_after}
 use Rattle.mqtt_rules.specs.Packets.{property}
 use Rattle.mqtt_rules.specs.Packets as packets
@@ -35,8 +42,8 @@ pub record Draft : Type 0 where
   pub qos : Quality
   pub content : Content
 
--- what a publisher sends: CONNECT, PUBREL and a PUBLISH of QoS 1 or 2, which is tagged with the number of its message; or a
--- message of QoS 0
+-- what a publisher sends: CONNECT, PUBREL and a PUBLISH of QoS 1 or 2, which is tagged with the number of its message;
+-- or a message of QoS 0
 pub data Sent : Type 0 where
   shake : (packet : FromPublisher) → Sent
   plain : (content : Content) → Sent
@@ -61,7 +68,8 @@ abbrev pub content_at : ℕ → List Content → Content
 content_at n contents = unwrap_or (slice_get contents n) no_content
 
 abbrev pub publish_with : Delivery → Content → Packet
-publish_with d c = Publish (record { delivery = d; retain = c.retain; topic = c.topic; properties = []; payload = c.payload })
+publish_with d c =
+    Publish (record { delivery = d; retain = c.retain; topic = c.topic; properties = []; payload = c.payload })
 
 -- Keep Alive 0, and a session that doesn't expire
 abbrev pub connect_with : List ℕ → Bool → List Prop → Packet
@@ -171,7 +179,8 @@ reads_if stands (Some packet) p = reads stands packet p
 -- the first packet under way to it
 abbrev pub publisher_reads : Bool → List Down → Publisher → Publisher
 publisher_reads stands [] p = p
-publisher_reads stands (d ∷ rest) p = reads_if stands (heard d.packet) (record p { line = record p.line { down = rest } })
+publisher_reads stands (d ∷ rest) p =
+    reads_if stands (heard d.packet) (record p { line = record p.line { down = rest } })
 
 -- ---- a receiver (4.3.2, 4.3.3, 4.4)
 
@@ -201,14 +210,24 @@ pub record Receiver : Type 0 where
   pub line : Line Back
 
 abbrev pub new_receiver : List ℕ → ℕ → ℕ → Receiver
-new_receiver client window since = record { client = client; window = window; since = since; asking = false; kept = []; ledger = []; once = []; line = no_line }
+new_receiver client window since = record {
+  client = client;
+  window = window;
+  since = since;
+  asking = false;
+  kept = [];
+  ledger = [];
+  once = [];
+  line = no_line;
+}
 
 abbrev pub identified : Option ℕ → List Prop
 identified None = []
 identified (Some n) = property SubscriptionIdentifier (VarInt n) ∷ []
 
 abbrev pub wire_back : List ℕ → ℕ → Back → Packet
-wire_back client window (answers (connect clean)) = connect_with client clean (property ReceiveMaximum (U16 window) ∷ [])
+wire_back client window (answers (connect clean)) =
+    connect_with client clean (property ReceiveMaximum (U16 window) ∷ [])
 wire_back client window (answers (puback i code)) = packets.puback i code
 wire_back client window (answers (pubrec i code)) = packets.pubrec i code
 wire_back client window (answers (pubcomp i code)) = packets.pubcomp i code
@@ -252,7 +271,8 @@ abbrev pub hears : Bool → Option CopyId → Packet → Receiver → Receiver
 hears stands copy (Connack a) r = receiver_connack r.line.link a.session_present a.reason.0 r
 hears stands copy (Publish p) r = reads_publish stands copy p p.delivery r
 hears stands copy (Pubrel a) r =
-    answers_with stands (pubcomp a.identifier (if is_among a.identifier r.kept then success else identifier_not_found)) (record r { kept = ids_without a.identifier r.kept })
+    let code = if is_among a.identifier r.kept then success else identifier_not_found in
+    answers_with stands (pubcomp a.identifier code) (record r { kept = ids_without a.identifier r.kept })
 hears stands copy (Suback a) r = record r { asking = false }
 hears stands copy (Disconnect n) r = record r { line = left r.line }
 hears stands copy packet r = r

@@ -1,5 +1,7 @@
--- When a step of the broker is what one publisher's hop does: its line and its session, and the steps of others (MQTT 5.0, 4.3, 4.4).
-use Rattle.std.specs.Prelude.{◌≡◌, suc, ℕ, ◌≤◌, ⊤, Bool, true, false, List, [], ◌∷◌, ◌++◌, length, filter_map, map, nat_eq, nat_lt, Option, Some, None}
+-- When a step of the broker is what one publisher's hop does: its line and its session, and the steps of others (MQTT
+-- 5.0, 4.3, 4.4).
+use Rattle.std.specs.Prelude.{◌≡◌, suc, ℕ, ◌≤◌, ⊤, Bool, true, false, List, [], ◌∷◌, ◌++◌, length, filter_map, map}
+use Rattle.std.specs.Prelude.{nat_eq, nat_lt, Option, Some, None}
 use Rattle.std.specs.List.{AllByRecursion, starts_with}
 use Rattle.mqtt_codec.specs.declared.packet.Packet.{Packet}
 use Rattle.mqtt_codec.specs.declared.packet.Packet.TheVariants.{Connect}
@@ -10,7 +12,8 @@ use Rattle.mqtt_message.specs.declared.message.Will.{Will}
 use Rattle.mqtt_records.specs.declared.session.Session.{Session}
 use Rattle.mqtt_records.specs.declared.records.Records.{Records}
 use Rattle.mqtt_rules.specs.declared.Limits.{Limits}
-use Rattle.mqtt_rules.specs.State.{MemberChoice, Line as BrokerLine, Broker, session_at, session_named, line_at, line_of}
+use Rattle.mqtt_rules.specs.State.{MemberChoice, Line as BrokerLine, Broker, session_at, session_named, line_at}
+use Rattle.mqtt_rules.specs.State.{line_of}
 use Rattle.mqtt_rules.specs.Closing.{never}
 use Rattle.mqtt_rules.specs.Connect.{auto}
 use Rattle.mqtt_rules.specs.Step.{Call, NewLine, Input, BadInput, Lost, Pump, Tick, can_link, deeds, stepped, told}
@@ -24,7 +27,7 @@ use Rattle.mqtt_laws.specs.Lines.{is_one_of, unless_closed, left, joined}
 use Rattle.mqtt_laws.specs.Ends.{Sent, shake, Publisher, wire}
 use Rattle.mqtt_laws.specs.World.{publisher_told, taken_up, taken_old}
 use Rattle.mqtt_laws.specs.Run.{client_number}
-use Rattle.mqtt_laws.specs.Seen.{shaken, seen}
+use Rattle.mqtt_laws.specs.Seen.{shaken, is_linked, seen}
 
 -- ---- its session's name
 
@@ -37,8 +40,8 @@ IsOnly client birth r = AllByRecursion (IsIts client birth) r.sessions
 
 -- ---- whose the session and the line are
 
--- of a session's client identifier, birth, expiry and Will: one with this identifier has this birth, and one with this birth
--- has no Will and doesn't expire
+-- of a session's client identifier, birth, expiry and Will: one with this identifier has this birth, and one with this
+-- birth has no Will and doesn't expire
 pub record About (client : List ℕ) (birth : ℕ) (its : List ℕ) (b expiry : ℕ) (will : Option Will) : Type 0 where
   pub named : its ≡ client → b ≡ birth
   pub name : b ≡ birth → its ≡ client
@@ -48,8 +51,8 @@ pub record About (client : List ℕ) (birth : ℕ) (its : List ℕ) (b expiry : 
 abbrev pub IsOurs : List ℕ → ℕ → Session → Type 0
 IsOurs client birth s = About client birth s.client s.birth s.expiry s.will
 
--- of a line's number, session and Keep Alive: one with this number is the session's, without Keep Alive, and the session
--- is on no other
+-- of a line's number, session and Keep Alive: one with this number is the session's, without Keep Alive, and the
+-- session is on no other
 pub record AboutLine (birth n m : ℕ) (session : Option ℕ) (keep_alive : ℕ) : Type 0 where
   pub ours : m ≡ n → session ≡ Some birth
   pub quiet : m ≡ n → keep_alive ≡ 0
@@ -104,7 +107,8 @@ IsFarCall client n Tick = ⊤
 
 abbrev pub after_step : Limits → MemberChoice → ℕ → Call → Publisher → Broker → Publisher
 after_step limits choice now call p b =
-    publisher_told (stepped limits choice now call b) (told limits choice now call b) (record p { line = taken_up p.line })
+    let q = record p { line = taken_up p.line } in
+    publisher_told (stepped limits choice now call b) (told limits choice now call b) q
 
 abbrev pub counted : ℕ → List ℕ → List ℕ
 counted k numbers = map (λ number. k) numbers
@@ -121,20 +125,24 @@ numbers_of limits choice now call b = filter_map client_number (deeds limits cho
 -- what the publisher saw, with the messages that the step accepted from message k
 abbrev pub Becomes : Limits → MemberChoice → ℕ → Call → ℕ → Publisher → Broker → List ℕ → HopEvent → Type 0
 Becomes limits choice now call k p b accepted e =
-    seen (accepted ++ counted k (numbers_of limits choice now call b)) (after_step limits choice now call p b) (stepped limits choice now call b)
+    seen (accepted ++ counted k (numbers_of limits choice now call b)) (after_step limits choice now call p b)
+    (stepped limits choice now call b)
     ≡ step (seen accepted p b) e
 
 -- or what it saw is some events, with no message accepted
 abbrev pub IsUnheard : Limits → MemberChoice → ℕ → Call → Publisher → Broker → List ℕ → Type 0
 IsUnheard limits choice now call p b accepted =
-    (es : List HopEvent) × (seen accepted (after_step limits choice now call p b) (stepped limits choice now call b) ≡ run es (seen accepted p b))
+    (es : List HopEvent)
+    × (seen accepted (after_step limits choice now call p b) (stepped limits choice now call b)
+    ≡ run es (seen accepted p b))
 
 -- ---- the line that it gave up
 
 -- the publisher as if it had kept that line
 abbrev pub turned_back : Publisher → Publisher
 turned_back p =
-    record p { line = record p.line { number = p.line.old_number; up = p.line.old; old_number = p.line.number; old = p.line.up } }
+    let l = p.line in
+    record p { line = record l { number = l.old_number; up = l.old; old_number = l.number; old = l.up } }
 
 -- its session is connected there
 abbrev pub IsLingering : Publisher → BrokerLine → Session → Broker → Type 0
@@ -191,8 +199,9 @@ pub record IsAsking (p : Publisher) (l : BrokerLine) (s : Session) (b : Broker) 
   pub waits : l.session ≡ None
   pub kept : IsKept p.client s b
   pub taken : IsTaken (line_of s.birth b) s.birth l.number
-  -- what is under way on the line that was given up is a CONNECT, or the session is connected there, or there is nothing
-  pub old : filter_map shaken (unless_closed (is_one_of p.line.old_number (lines_left (line_of s.birth b))) p.line.old) ≡ spared (filter_map shaken p.line.old)
+  -- what is under way on the line that was given up is a CONNECT, or the session is connected there, or it is nothing
+  pub old : filter_map shaken (unless_closed (is_one_of p.line.old_number (lines_left (line_of s.birth b))) p.line.old)
+      ≡ spared (filter_map shaken p.line.old)
 
 -- there is a place for a new session once its own has ended
 pub record MayBegin (limits : Limits) (client : List ℕ) (b : Broker) : Type 0 where
@@ -218,6 +227,17 @@ pub record IsFirst (limits : Limits) (p : Publisher) (l : BrokerLine) (b : Broke
   -- the line that it gave up is another one, and a CONNECT is under way there, or nothing
   pub apart : is_one_of p.line.old_number (l.number ∷ []) ≡ false
   pub old : filter_map shaken p.line.old ≡ spared (filter_map shaken p.line.old)
+
+-- its session stands, and the line that it gave up waits: the session is connected on the publisher's line, or nobody
+-- is connected there
+pub record IsLate (p : Publisher) (l : BrokerLine) (s : Session) (b : Broker) : Type 0 where
+  pub number : p.line.old_number ≡ Some l.number
+  pub line : line_at l.number b ≡ Some l
+  pub waits : l.session ≡ None
+  pub kept : IsKept p.client s b
+  pub taken : IsTaken (line_of s.birth b) s.birth l.number
+  pub apart : is_one_of p.line.number (l.number ∷ []) ≡ false
+  pub linked : is_linked p.line.number b ≡ is_one_of p.line.number (lines_left (line_of s.birth b))
 
 abbrev pub hello_packet : Publisher → Packet
 hello_packet p = wire p.client p.contents (shake (CONNECT false))

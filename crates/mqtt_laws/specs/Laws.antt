@@ -1,6 +1,8 @@
--- What the laws say of every run of the world: messages accepted once, copies entered and ended once, copies handed over
--- once and in order (MQTT 5.0, 4.3.3, 4.4, 4.6, 4.9).
-use Rattle.std.specs.Prelude.{◌≡◌, ℕ, ◌+◌, ◌<◌, ◌≤◌, ⊤, Bool, true, false, cond, ◌&&◌, List, [], ◌∷◌, filter, filter_map, map, flat_map, nat_eq, Option, Some, None, count_by, slice_get, is_some, bytes_eq, All}
+-- What the laws say of every run of the world: messages accepted once, copies entered and ended once, copies handed
+-- over once and in order (MQTT 5.0, 4.3.3, 4.4, 4.6, 4.9).
+use Rattle.std.specs.Prelude.{◌≡◌, ℕ, ◌+◌, ◌<◌, ◌≤◌, ⊤, Bool, true, false, cond, ◌&&◌, List, [], ◌∷◌, filter}
+use Rattle.std.specs.Prelude.{filter_map, map, flat_map, nat_eq, Option, Some, None, count_by, slice_get, is_some}
+use Rattle.std.specs.Prelude.{bytes_eq, All}
 use Rattle.mqtt_base.specs.declared.session.Cause.{Cause}
 use Rattle.mqtt_base.specs.declared.session.Cause.TheVariants.{Direct, Share, Retained}
 use Rattle.mqtt_base.specs.declared.session.CopyId.{CopyId}
@@ -20,7 +22,8 @@ use Rattle.mqtt_rules.specs.Routing.{CopyTo, accepted_copies, is_queued}
 use Rattle.mqtt_rules.specs.Laws.{FewOpen}
 use Rattle.mqtt_laws.specs.Ends.{Content, Publisher, Receiver, Entry, content_at}
 use Rattle.mqtt_laws.specs.World.{World, start, publisher_named}
-use Rattle.mqtt_laws.specs.Run.{Turn, after, Acceptance, acceptances_over, From, from_over, accepted_count, End, entered_over, ended_over}
+use Rattle.mqtt_laws.specs.Run.{Turn, after, Acceptance, acceptances_over, From, from_over, accepted_count, End}
+use Rattle.mqtt_laws.specs.Run.{entered_over, ended_over}
 
 -- ---- messages
 
@@ -43,17 +46,27 @@ abbrev pub contents_by : Option Publisher → List Content
 contents_by None = []
 contents_by (Some p) = p.contents
 
--- Whatever happens, with any number of ends and strangers: a QoS 2 message of a publisher is accepted at most once, exactly
--- once if its handshake is completed, never if it was refused or has not gone out, and one of QoS 1 that was acknowledged
--- at least once; what was accepted carries what the message does; and no session has over 20 identifiers open
+abbrev pub CarriesFrom : List ℕ → List Content → From → Type 0
+CarriesFrom client contents x = Carries client (content_at x.message contents) x.publication
+
+-- Whatever happens, with any number of ends and strangers: a QoS 2 message of a publisher is accepted at most once,
+-- exactly once if its handshake is completed, never if it was refused or has not gone out, and one of QoS 1 that was
+-- acknowledged at least once; what was accepted carries what the message does; and no session has over 20 identifiers
+-- open
 pub record AcceptedOnce (limits : Limits) (ts : List Turn) : Type 0 where
-  pub once : (client : List ℕ) (n : ℕ) → IsExactlyOnce (fate_of client n (after limits ts)) → accepted_count client n limits ts ≤ 1
-  pub unsent : (client : List ℕ) (n : ℕ) → fate_of client n (after limits ts) ≡ None → accepted_count client n limits ts ≡ 0
-  pub complete : (client : List ℕ) (n : ℕ) → fate_of client n (after limits ts) ≡ Some (ended completed) → accepted_count client n limits ts ≡ 1
-  pub refusal : (client : List ℕ) (n : ℕ) → fate_of client n (after limits ts) ≡ Some (ended refused) → accepted_count client n limits ts ≡ 0
-  pub acknowledged : (client : List ℕ) (n : ℕ) → fate_of client n (after limits ts) ≡ Some (ended_1 completed) → 1 ≤ accepted_count client n limits ts
+  pub once : (client : List ℕ) (n : ℕ) → IsExactlyOnce (fate_of client n (after limits ts))
+      → accepted_count client n limits ts ≤ 1
+  pub unsent : (client : List ℕ) (n : ℕ) → fate_of client n (after limits ts) ≡ None
+      → accepted_count client n limits ts ≡ 0
+  pub complete : (client : List ℕ) (n : ℕ) → fate_of client n (after limits ts) ≡ Some (ended completed)
+      → accepted_count client n limits ts ≡ 1
+  pub refusal : (client : List ℕ) (n : ℕ) → fate_of client n (after limits ts) ≡ Some (ended refused)
+      → accepted_count client n limits ts ≡ 0
+  pub acknowledged : (client : List ℕ) (n : ℕ) → fate_of client n (after limits ts) ≡ Some (ended_1 completed)
+      → 1 ≤ accepted_count client n limits ts
   pub carried : (client : List ℕ)
-      → All (λ (x : From). Carries client (content_at x.message (contents_by (publisher_named client (after limits ts)))) x.publication) (from_over client limits ts start)
+      → All (CarriesFrom client (contents_by (publisher_named client (after limits ts))))
+      (from_over client limits ts start)
   pub within : FewOpen (after limits ts).broker.records
 
 -- ---- copies
@@ -104,8 +117,8 @@ is_own number c = nat_eq c.publication number && is_routed c.cause
 abbrev pub id_of : CopyTo → CopyId
 id_of d = d.copy.id
 
--- Each publication that was accepted, from whomever, was routed; its copies that entered are those of its routing with QoS 1
--- or 2, each once: one for each session with a direct copy, one for the member chosen of each group, and no other
+-- Each publication that was accepted, from whomever, was routed; its copies that entered are those of its routing with
+-- QoS 1 or 2, each once: one for each session with a direct copy, one for the member chosen of each group, and no other
 pub record EnteredOnce (limits : Limits) (ts : List Turn) (a : Acceptance) : Type 0 where
   pub copies : List CopyTo
   pub routed_is : accepted_copies a.env a.message a.broker ≡ Some copies
@@ -119,7 +132,8 @@ pub record CopiesOnce (limits : Limits) (ts : List Turn) : Type 0 where
   pub entered : All (EnteredOnce limits ts) (acceptances_over limits ts start)
   pub once : (c : CopyId) → count_of c (entered_over limits ts) ≤ 1
   pub waits_or_ended : (c : CopyId)
-      → count_of c (entered_over limits ts) ≡ count_of c (standing (after limits ts).broker) + count_of c (ended_copies limits ts)
+      → count_of c (entered_over limits ts)
+      ≡ count_of c (standing (after limits ts).broker) + count_of c (ended_copies limits ts)
 
 -- ---- copies handed over
 
@@ -162,20 +176,23 @@ IsTaken r e = e.client ≡ r.client → r.since < e.copy.birth → e.by ≡ Take
 -- what was read is that publication's
 abbrev pub CarriesOf : Acceptance → Option CopyId → Body → Type 0
 CarriesOf a None body = ⊤
-CarriesOf a (Some c) body = c.publication ≡ a.number → (body.topic ≡ a.message.topic) × (body.payload ≡ a.message.payload)
+CarriesOf a (Some c) body =
+    c.publication ≡ a.number → (body.topic ≡ a.message.topic) × (body.payload ≡ a.message.payload)
 
 abbrev pub CarriesOn : Acceptance → Entry → Type 0
 CarriesOn a e = CarriesOf a e.copy e.body
 
--- Each QoS 2 copy of a receiver is handed over at most once, in the order in which the copies entered, and exactly once from
--- when its PUBREC was taken; what is read carries what the publication does; one of QoS 1 that was taken was read
+-- Each QoS 2 copy of a receiver is handed over at most once, in the order in which the copies entered, and exactly once
+-- from when its PUBREC was taken; what is read carries what the publication does; one of QoS 1 that was taken was read
 pub record HandedOnce (limits : Limits) (ts : List Turn) (r : Receiver) : Type 0 where
   pub tagged : All (λ (e : Entry). is_some e.copy ≡ true) r.ledger
   pub once : (c : CopyId) → handed_count c r ≤ 1
   pub in_order : stand_among (copies_in r.ledger) (entered_over limits ts) ≡ true
-  pub released : All (λ (c : CopyId). handed_count c r ≡ 1) (released_in (session_named r.client (after limits ts).broker.records))
+  pub released : All (λ (c : CopyId). handed_count c r ≡ 1)
+      (released_in (session_named r.client (after limits ts).broker.records))
   pub taken : All (IsTaken r) (ended_over limits ts)
-  pub carried : All (λ (a : Acceptance). All (CarriesOn a) r.ledger × All (CarriesOn a) r.once) (acceptances_over limits ts start)
+  pub carried : All (λ (a : Acceptance). All (CarriesOn a) r.ledger × All (CarriesOn a) r.once)
+      (acceptances_over limits ts start)
 
 -- of every receiver
 abbrev pub AllHandedOnce : Limits → List Turn → Type 0

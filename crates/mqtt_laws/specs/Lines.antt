@@ -1,5 +1,7 @@
--- A line between an end and the broker as the end sees it, with the line that the end gave up last (MQTT 5.0, 4.2, 4.4).
-use Rattle.std.specs.Prelude.{ℕ, Bool, true, false, cond, List, [], ◌∷◌, ◌++◌, filter_map, nat_eq, Option, Some, None, is_some}
+-- A line between an end and the broker as the end sees it, with the line that the end gave up last (MQTT 5.0, 4.2,
+-- 4.4).
+use Rattle.std.specs.Prelude.{ℕ, Bool, true, false, cond, List, [], ◌∷◌, ◌++◌, filter_map, nat_eq, Option, Some, None}
+use Rattle.std.specs.Prelude.{is_some}
 use Rattle.std.specs.List.{list_any}
 use Rattle.mqtt_base.specs.declared.session.CopyId.{CopyId}
 use Rattle.mqtt_codec.specs.declared.publish.Delivery.{Delivery}

@@ -1,5 +1,6 @@
 -- Runs of the world, and what is counted over them: messages accepted, copies entered, ended and handed over.
-use Rattle.std.specs.Prelude.{◌≡◌, ℕ, zero, suc, Bool, true, false, not, ◌&&◌, ◌||◌, cond, List, [], ◌∷◌, ◌++◌, map, filter_map, nat_eq, bytes_eq, Option, Some, None, count_by}
+use Rattle.std.specs.Prelude.{◌≡◌, ℕ, zero, suc, Bool, true, false, not, ◌&&◌, ◌||◌, cond, List, [], ◌∷◌, ◌++◌, map}
+use Rattle.std.specs.Prelude.{filter_map, nat_eq, bytes_eq, Option, Some, None, count_by}
 use Rattle.std.specs.List.{cons_option}
 use Rattle.mqtt_base.specs.declared.session.CopyId.{CopyId}
 use Rattle.mqtt_base.specs.declared.session.Ending.{Ending}
@@ -10,7 +11,10 @@ use Rattle.mqtt_rules.specs.Deeds.{Message, FromClient, Enter, Leave, Deed, Acce
 use Rattle.mqtt_rules.specs.Step.{Call, NewLine, env_of, at_moment, deeds, opening, unopened}
 use Rattle.mqtt_inbound.specs.Line.{Link, away, asked, live}
 use Rattle.mqtt_laws.specs.Ends.{Sent, message_in, Publisher, Receiver}
-use Rattle.mqtt_laws.specs.World.{Setting, World, start, Event, ask, stop_before, stop_after, restart, connect_end, give_up, link_of, receiver_named, Asking, to_broker, old_to_broker, break, pump, tick, stranger, publisher_named, stranger_named, calls_if, comes, call_of, call_of_stranger, next_held, held_count, before, first_step, is_bad, step}
+use Rattle.mqtt_laws.specs.World.{Setting, World, start, Event, ask, stop_before, stop_after, restart, connect_end}
+use Rattle.mqtt_laws.specs.World.{give_up, link_of, receiver_named, Asking, to_broker, old_to_broker, break, pump}
+use Rattle.mqtt_laws.specs.World.{tick, stranger, publisher_named, stranger_named, calls_if, comes, call_of}
+use Rattle.mqtt_laws.specs.World.{call_of_stranger, next_held, held_count, before, first_step, is_bad, step}
 
 -- an event, with the broker's free choice of members in it
 pub record Turn : Type 0 where
@@ -184,7 +188,8 @@ acceptances_in set e w = []
 abbrev pub acceptances_over : Limits → List Turn → World → List Acceptance
 acceptances_over limits [] w = []
 acceptances_over limits (t ∷ ts) w =
-    cond (is_bad t.event w) [] (acceptances_in (setting limits t) t.event w) ++ acceptances_over limits ts (turned limits t w)
+    cond (is_bad t.event w) [] (acceptances_in (setting limits t) t.event w)
+    ++ acceptances_over limits ts (turned limits t w)
 
 -- what was accepted from the messages of a publisher: each with its message's number
 pub record From : Type 0 where
@@ -205,7 +210,8 @@ each_from (Some n) ds = map (from_message n) (filter_map client_message ds)
 abbrev pub from_over : List ℕ → Limits → List Turn → World → List From
 from_over client limits [] w = []
 from_over client limits (t ∷ ts) w =
-    each_from (message_read client t.event w) (deeds_at (setting limits t) t.event w) ++ from_over client limits ts (turned limits t w)
+    each_from (message_read client t.event w) (deeds_at (setting limits t) t.event w)
+    ++ from_over client limits ts (turned limits t w)
 
 -- ---- how often a copy entered and ended
 
@@ -221,7 +227,8 @@ pub record End : Type 0 where
   pub by : Ending
 
 abbrev pub ended_in : Deed → Option End
-ended_in (At who (Leave e ending)) = Some (record { client = who.client; copy = e.copy.id; qos = e.copy.qos; by = ending })
+ended_in (At who (Leave e ending)) =
+    Some (record { client = who.client; copy = e.copy.id; qos = e.copy.qos; by = ending })
 ended_in d = None
 
 abbrev pub entered_over : Limits → List Turn → List CopyId
@@ -255,7 +262,8 @@ carries_clean e w = true
 
 abbrev pub are_clean_starts_carried : Limits → List Turn → World → Bool
 are_clean_starts_carried limits [] w = true
-are_clean_starts_carried limits (t ∷ ts) w = carries_clean t.event w && are_clean_starts_carried limits ts (turned limits t w)
+are_clean_starts_carried limits (t ∷ ts) w =
+    carries_clean t.event w && are_clean_starts_carried limits ts (turned limits t w)
 
 abbrev pub CleanStartsCarried : Limits → List Turn → Type 0
 CleanStartsCarried limits ts = are_clean_starts_carried limits ts start ≡ true

@@ -1,5 +1,8 @@
--- The world: a broker, any number of conforming ends and strangers, and the lines between them; what can happen (MQTT 5.0, 4.2 to 4.4).
-use Rattle.std.specs.Prelude.{ℕ, zero, suc, ◌+◌, Bool, true, false, cond, not, ◌&&◌, ◌||◌, List, [], ◌∷◌, ◌++◌, length, drop, find, map, nat_eq, nat_lt, nat_le, bytes_eq, Option, Some, None, is_some, is_none, option_map, Ok, Err}
+-- The world: a broker, any number of conforming ends and strangers, and the lines between them; what can happen (MQTT
+-- 5.0, 4.2 to 4.4).
+use Rattle.std.specs.Prelude.{ℕ, zero, suc, ◌+◌, Bool, true, false, cond, not, ◌&&◌, ◌||◌, List, [], ◌∷◌, ◌++◌}
+use Rattle.std.specs.Prelude.{length, drop, find, map, nat_eq, nat_lt, nat_le, bytes_eq, Option, Some, None, is_some}
+use Rattle.std.specs.Prelude.{is_none, option_map, Ok, Err}
 use Rattle.std.specs.List.{starts_with}
 use Rattle.mqtt_base.specs.declared.limits.TheConstants.{CLIENT_LIMIT, PACKET_LIMIT}
 use Rattle.mqtt_base.specs.declared.session.Qos.{Qos as Quality}
@@ -19,9 +22,12 @@ use Rattle.mqtt_rules.specs.declared.Limits.{Limits}
 use Rattle.mqtt_rules.specs.State.{Broker, MemberChoice, session_named}
 use Rattle.mqtt_rules.specs.Connect.{auto}
 use Rattle.mqtt_rules.specs.Piece.{Front, first_call}
-use Rattle.mqtt_rules.specs.Step.{Call, NewLine, Input, Lost, Pump, Tick, can_link, stepped, Outcome, told, unopened, opened}
+use Rattle.mqtt_rules.specs.Step.{Call, NewLine, Input, Lost, Pump, Tick, can_link, stepped, Outcome, told, unopened}
+use Rattle.mqtt_rules.specs.Step.{opened}
 use Rattle.mqtt_laws.specs.Lines.{Line, stands, left, gives_up, joined, restarted, told_by}
-use Rattle.mqtt_laws.specs.Ends.{Draft, Sent, shake, Publisher, new_publisher, publish_with, wire, published, publisher_reads, Wish, Back, answers, asks_for, Receiver, new_receiver, wire_back, receiver_reads, goes}
+use Rattle.mqtt_laws.specs.Ends.{Draft, Sent, shake, Publisher, new_publisher, publish_with, wire, published}
+use Rattle.mqtt_laws.specs.Ends.{publisher_reads, Wish, Back, answers, asks_for, Receiver, new_receiver, wire_back}
+use Rattle.mqtt_laws.specs.Ends.{receiver_reads, goes}
 
 -- a stranger sends any bytes on its line; those that are not answered yet are held
 pub record Stranger : Type 0 where
@@ -67,7 +73,8 @@ with_stranger name f w = record w { strangers = map (λ s. cond (bytes_eq s.name
 -- its line changed, whichever end it is
 abbrev pub with_line : List ℕ → (Line Sent → Line Sent) → (Line Back → Line Back) → World → World
 with_line client f g w =
-    with_publisher client (λ p. record p { line = f p.line }) (with_receiver client (λ r. record r { line = g r.line }) w)
+    with_publisher client (λ p. record p { line = f p.line })
+    (with_receiver client (λ r. record r { line = g r.line }) w)
 
 -- ---- a step of the broker
 
@@ -197,7 +204,8 @@ abbrev pub linked_at : Setting → Bool → List ℕ → List ℕ → World → 
 linked_at set true name bytes w = with_stranger name (λ s. record s { held = s.held ++ bytes }) w
 linked_at set false name bytes w =
     let number = cond (can_link w.broker) (Some (suc w.broker.given)) None in
-    record (calls set NewLine w) { strangers = w.strangers ++ record { name = name; number = number; held = bytes } ∷ [] }
+    let s : Stranger = record { name = name; number = number; held = bytes } in
+    record (calls set NewLine w) { strangers = w.strangers ++ s ∷ [] }
 
 abbrev pub comes : Setting → List ℕ → List ℕ → World → World
 comes set name bytes w = linked_at set (is_some (stranger_named name w)) name bytes w
@@ -240,7 +248,8 @@ next_held name w = with_stranger name (λ s. record s { held = held_after s.held
 
 abbrev pub answers_rest : Setting → ℕ → List ℕ → World → World
 answers_rest set zero name w = w
-answers_rest set (suc more) name w = answers_rest set more name (calls_if set (call_of_stranger (stranger_named name w)) (next_held name w))
+answers_rest set (suc more) name w =
+    answers_rest set more name (calls_if set (call_of_stranger (stranger_named name w)) (next_held name w))
 
 abbrev pub held_count : Option Stranger → ℕ
 held_count None = 0
@@ -286,7 +295,8 @@ end_reads client w =
 
 abbrev pub happens : Setting → Event → World → World
 happens set (publisher client) w = record w { publishers = w.publishers ++ new_publisher client ∷ [] }
-happens set (receiver client window) w = record w { receivers = w.receivers ++ new_receiver client window w.broker.records.births ∷ [] }
+happens set (receiver client window) w =
+    record w { receivers = w.receivers ++ new_receiver client window w.broker.records.births ∷ [] }
 happens set (connect_end client clean) w = links set (next_line w.broker) client clean w
 happens set (give_up client) w = with_line client (λ l. gives_up l.link l) (λ l. gives_up l.link l) w
 happens set (publish client d) w = with_publisher client (λ p. published (is_open_line p.line w) d p) w
@@ -373,7 +383,8 @@ is_bad_asking (old_to_broker client) w = not (is_end client w)
 is_bad_asking (break client) w = not (has_line (link_of client w))
 is_bad_asking (pump client) w = not (is_end client w)
 is_bad_asking tick w = false
-is_bad_asking (stranger name bytes) w = let all = bytes_held (stranger_named name w) ++ bytes in bytes_name (length all) all w
+is_bad_asking (stranger name bytes) w =
+    let all = bytes_held (stranger_named name w) ++ bytes in bytes_name (length all) all w
 
 abbrev pub is_bad : Event → World → Bool
 is_bad (publisher client) w = is_bad_name client || is_taken client w

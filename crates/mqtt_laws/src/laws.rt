@@ -1,11 +1,14 @@
 //! Laws of the world: what a publisher sees of a step of the broker is what its hop does (4.3, 4.4).
-ghost use Rattle.std.specs.Prelude.{◌≡◌, ℕ, ◌≤◌, [], ◌∷◌, Bool, List, Some, None, true, false, suc, length, nat_eq, nat_lt, slice_get, count_by};
+ghost use Rattle.std.specs.Prelude.{◌≡◌, ℕ, ◌≤◌, [], ◌∷◌, Bool, List, Some, None, true, false, suc, length, nat_eq};
+ghost use Rattle.std.specs.Prelude.{nat_lt, slice_get, count_by};
 ghost use Rattle.std.specs.List.{AllByRecursion, starts_with};
-ghost use Rattle.mqtt_inbound.specs.Publisher.{Qos, IsExactlyOnce, completed, refused, ended, ended_1, CONNECT, PUBLISH_1, PUBLISH_2, PUBREL};
-ghost use Rattle.mqtt_inbound.specs.InboundWorld.{Event as HopEvent, takes, to_broker, old_to_broker, publish, give_up, break, connect, restart, step, run};
+ghost use Rattle.mqtt_flow.specs.Publisher.{Qos, IsExactlyOnce, completed, refused, ended, ended_1, CONNECT};
+ghost use Rattle.mqtt_flow.specs.Publisher.{PUBLISH_1, PUBLISH_2, PUBREL};
+ghost use Rattle.mqtt_flow.specs.InboundWorld.{Event as HopEvent, takes, to_broker, old_to_broker, publish, give_up};
+ghost use Rattle.mqtt_flow.specs.InboundWorld.{break, connect, restart, step, run};
 ghost use Rattle.mqtt_records.specs.declared.session.Session.{Session};
 ghost use Rattle.mqtt_rules.specs.declared.Limits.{Limits};
-ghost use Rattle.mqtt_rules.specs.State.{Line, Broker, MemberChoice, session_named};
+ghost use Rattle.mqtt_rules.specs.State.{Line, Broker, MemberChoice, session_at, session_named};
 ghost use Rattle.mqtt_rules.specs.Connect.{auto};
 ghost use Rattle.mqtt_rules.specs.Step.{Call, NewLine, Input, Lost, opened, stepped, told};
 ghost use Rattle.mqtt_laws.specs.Lines.{gives_up};
@@ -13,8 +16,10 @@ ghost use Rattle.mqtt_laws.specs.Ends.{Content, Draft, Sent, shake, plain, Publi
 ghost use Rattle.mqtt_laws.specs.World.{publisher_restarted, publisher_told};
 ghost use Rattle.mqtt_laws.specs.Seen.{qos_of_draft, is_linked, seen};
 ghost use Rattle.mqtt_laws.specs.Hops.{IsConnected, IsAsking, IsInOrder, Own, IsFarCall, IsRun};
-ghost use Rattle.mqtt_laws.specs.Hops.{IsKept, IsOurs, connect_packet, IsFirst, MayBegin, joined_by, MayJoin, IsNoConnect, IsUnheard, MayGiveUp, after_step, wire_1, wire_2, hello_packet, lost_by, Becomes};
-ghost use Rattle.mqtt_laws.specs.Hops.{IsLingering, BecomesOld, IsUnheardOld};
+ghost use Rattle.mqtt_laws.specs.Hops.{IsKept, IsOurs, connect_packet, IsFirst, MayBegin, joined_by, MayJoin};
+ghost use Rattle.mqtt_laws.specs.Hops.{IsNoConnect, IsUnheard, MayGiveUp, after_step, wire_1, wire_2, hello_packet};
+ghost use Rattle.mqtt_laws.specs.Hops.{lost_by, Becomes};
+ghost use Rattle.mqtt_laws.specs.Hops.{IsLingering, IsLate, after_old_step, BecomesOld, IsUnheardOld};
 
 /// The broker reads the first packet of a publisher's line. Whatever the limits, the routing, the queues
 /// and all other sessions and lines, what the publisher sees of it is one event of its hop (4.3.3, 4.4).
@@ -80,8 +85,8 @@ pub fn own_packets_are_steps_of_the_hop()
         ≡ step (seen accepted p b) break }
 {}
 
-/// The broker reads what a publisher left on the line that it gave up, where its session is connected still:
-/// what the publisher sees of it is that event of its hop, and no answer (4.3.2, 4.3.3, 4.4).
+/// The broker reads what a publisher left on the line that it gave up, where its session is connected still,
+/// or a late CONNECT: what the publisher sees of it is that event of its hop, and no answer (3.1.4, 4.3, 4.4).
 pub fn packets_of_the_line_given_up_are_steps_of_the_hop()
     ensures publish { (limits : Limits) (choice : MemberChoice) (now : ℕ) (p : Publisher) (rest : List Sent)
         → (id k : ℕ) (dup : Bool) (l : Line) (s : Session) (b : Broker) (accepted : List ℕ)
@@ -100,6 +105,14 @@ pub fn packets_of_the_line_given_up_are_steps_of_the_hop()
         → (content : Content) (l : Line) (s : Session) (b : Broker) (accepted : List ℕ)
         → p.line.old ≡ plain content ∷ rest → IsLingering p l s b
         → IsUnheardOld limits choice now (Input l.number (wire p.client p.contents (plain content))) p b accepted }
+
+    // A late CONNECT without Clean Start takes its session over, from its own line if it is connected there.
+    ensures connect { (limits : Limits) (choice : MemberChoice) (now : ℕ) (p : Publisher) (rest : List Sent)
+        → (l : Line) (s : Session) (b : Broker) (accepted : List ℕ)
+        → p.line.old ≡ shake (CONNECT false) ∷ rest → IsLate p l s b
+        → seen accepted (after_old_step limits choice now (Input l.number (hello_packet p)) p b)
+        (stepped limits choice now (Input l.number (hello_packet p)) b)
+        ≡ step (seen accepted p b) (old_to_broker takes) }
 {}
 
 /// After a publisher's CONNECT the session and its line are its own, and after the loss of its line the
@@ -162,6 +175,16 @@ pub fn steps_of_others_are_unseen()
         → (es : List HopEvent)
         × (seen accepted (publisher_told (stepped limits choice now call b) (told limits choice now call b) p)
         (stepped limits choice now call b) ≡ run es (seen accepted p b)) }
+
+    // And while it has neither: the birth is one that no session has, and none has it after the call.
+    ensures unseen_without { (limits : Limits) (choice : MemberChoice) (now : ℕ) (call : Call) (p : Publisher)
+        → (birth n : ℕ) (b : Broker) (accepted : List ℕ)
+        → p.line.number ≡ None → session_at birth b.records ≡ None → Own p.client birth n b
+        → starts_with nat_eq p.client auto ≡ false → IsFarCall p.client n call
+        → (session_at birth (stepped limits choice now call b).records ≡ None)
+        × ((es : List HopEvent)
+        × (seen accepted (publisher_told (stepped limits choice now call b) (told limits choice now call b) p)
+        (stepped limits choice now call b) ≡ run es (seen accepted p b))) }
     ensures own { (limits : Limits) (choice : MemberChoice) (now : ℕ) (call : Call) (client : List ℕ) (birth n : ℕ)
         → (b : Broker) → Own client birth n b
         → starts_with nat_eq client auto ≡ false → IsFarCall client n call
