@@ -7,3 +7,4 @@ pub mod LineDeeds
 pub mod LineWalk
 pub mod LeftCopies
 pub mod Links
+pub mod Resumed

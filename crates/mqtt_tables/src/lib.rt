@@ -12,6 +12,7 @@ mod lines;
 mod linking;
 mod numbers;
 mod outputs;
+mod resuming;
 mod retained;
 mod sessions;
 mod step;
