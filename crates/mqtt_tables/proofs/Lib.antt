@@ -8,3 +8,4 @@ pub mod LineWalk
 pub mod LeftCopies
 pub mod Links
 pub mod Resumed
+pub mod Begun

@@ -1,5 +1,5 @@
 -- What a session that is resumed makes of a step: two rows.
-use Rattle.std.proofs.Common.{◌≡◌, ℕ, true, List, [], ◌∷◌, ◌++◌, refl, ap, sym, ◌∙◌, append-nil, append_assoc}
+use Rattle.std.proofs.Common.{◌≡◌, ℕ, [], ◌∷◌, ◌++◌, refl, ap, sym, ◌∙◌, append-nil, append_assoc}
 use Rattle.std.specs.Prelude.{Option, Some, None}
 use Rattle.mqtt_message.specs.declared.message.Will.{Will}
 use Rattle.mqtt_records.specs.declared.session.Session.{Session}
@@ -9,7 +9,6 @@ use Rattle.mqtt_records.specs.Records.{changed_all}
 use Rattle.mqtt_records.specs.Session.{columns_of}
 use Rattle.mqtt_rules.specs.State.{session_at}
 use Rattle.mqtt_rules.specs.Deeds.{Act, At, Resume, whose, will_row, part_rows_of, with_session, always, rows_of_all}
-use Rattle.mqtt_rules.specs.Step.{is_spent}
 use Rattle.mqtt_tables.specs.declared.fault.StepFault.{StepFault}
 use Rattle.mqtt_tables.specs.declared.fault.StepFault.TheVariants.{Memory, Spent}
 use Rattle.mqtt_tables.specs.Undoing.{with_records}

@@ -38,7 +38,7 @@ impl Step {
     }
 
     /// A session has this Will, or none.
-    fn put_will(&mut self, birth: u64, will: Option<Will>) -> Result<(), StepFault>
+    pub(crate) fn put_will(&mut self, birth: u64, will: Option<Will>) -> Result<(), StepFault>
         ensures ok { OnOk result (self.new ≡ written (will_row birth will) self.old) }
         ensures left { IfErr result (λ fault. IsKept fault self.old self.new) }
     {
