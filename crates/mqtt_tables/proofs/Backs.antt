@@ -10,9 +10,10 @@ use Rattle.mqtt_records.specs.declared.records.Records.{Records}
 use Rattle.mqtt_records.specs.declared.session.Session.{Session}
 use Rattle.mqtt_records.specs.declared.session.Columns.{Columns}
 use Rattle.mqtt_message.specs.declared.message.Will.{Will}
-use Rattle.mqtt_records.specs.Records.{in_session, copy_at}
+use Rattle.mqtt_records.specs.Records.{changed, in_session, copy_at}
 use Rattle.mqtt_records.specs.Session.{birth_of, number_of, copy_place, with_open, without_open, with_copy, without_copy, with_phase, in_phase, columns_of, with_columns, with_will}
 use Rattle.mqtt_rules.specs.State.{session_at}
+use Rattle.mqtt_rules.specs.Deeds.{will_row}
 use Rattle.mqtt_rows.proofs.OrderLemmas.{remove-none, change-none}
 use Rattle.mqtt_rules.specs.Laws.{HasTables}
 use Rattle.mqtt_tables.proofs.Inverse.{change_back, change_same, put_back, put_same, removed_back}
@@ -88,11 +89,28 @@ columns_set_back row back s r birth is found =
     ∙ (ap (λ n. in_session s.birth (with_columns (columns_of s)) (in_session n (with_columns row) r)) birth
     ∙ session_back (with_columns row) (with_columns (columns_of s)) s r (λ x. refl) refl found)
 
--- a Will is dropped, and is there again
-pub will_set_back : (will : Option Will) (s : Session) (r : Records) → s.will ≡ will → session_at s.birth r ≡ Some s
-    → in_session s.birth (with_will will) (in_session s.birth (with_will None) r) ≡ r
-will_set_back will s r is found =
-    session_back (with_will None) (with_will will) s r (λ x. refl) (ap (λ (o : Option Will). record s { will = o }) (sym is)) found
+-- a session has another Will, or none, and the one that it had
+pub will_row_back : (other will : Option Will) (s : Session) (r : Records) → s.will ≡ will → session_at s.birth r ≡ Some s
+    → in_session s.birth (with_will will) (changed (will_row s.birth other) r) ≡ r
+will_row_back other will s r is found = by other
+  where
+    set_back : (o : Option Will) → in_session s.birth (with_will will) (in_session s.birth (with_will o) r) ≡ r
+    set_back o = session_back (with_will o) (with_will will) s r (λ x. refl) (ap (λ (w : Option Will). record s { will = w }) (sym is)) found
+
+    by : (o : Option Will) → in_session s.birth (with_will will) (changed (will_row s.birth o) r) ≡ r
+    by None = set_back None
+    by (Some w) = set_back (Some w)
+
+-- where no session stands, none has a Will
+pub no_will_back : (other : Option Will) (birth : ℕ) (r : Records) → session_at birth r ≡ None → in_session birth (with_will None) (changed (will_row birth other) r) ≡ r
+no_will_back other birth r none = by other
+  where
+    same : (o : Option Will) → in_session birth (with_will o) r ≡ r
+    same o = ap (λ (ss : List Session). record r { sessions = ss }) (change-none birth_of birth (with_will o) r.sessions none)
+
+    by : (o : Option Will) → in_session birth (with_will None) (changed (will_row birth o) r) ≡ r
+    by None = ap (in_session birth (with_will None)) (same None) ∙ same None
+    by (Some w) = ap (in_session birth (with_will None)) (same (Some w)) ∙ same None
 
 -- a copy that left is put back
 pub left_back : (birth place : ℕ) (row : CopyRow) (r : Records) → ((s : Session) → session_at birth r ≡ Some s → HasTables s) → copy_at birth place r ≡ Some row

@@ -7,3 +7,5 @@ pub mod LineDeeds
 pub mod LineWalk
 pub mod LeftCopies
 pub mod Links
+pub mod Resumed
+pub mod Begun

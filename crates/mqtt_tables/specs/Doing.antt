@@ -1,7 +1,9 @@
 -- Deeds that depend on nothing but the tables, as acts.
-use Rattle.std.specs.Prelude.{ℕ, suc, cond, [], ◌∷◌, Option, Some, None}
+use Rattle.std.specs.Prelude.{ℕ, suc, cond, List, [], ◌∷◌, Option, Some, None}
 use Rattle.mqtt_base.specs.declared.session.Ending.{Ending}
-use Rattle.mqtt_rules.specs.Deeds.{Act, Accept, Name, Count, At, Leave, Link, Message, Origin, whose, always, of_session, after_all}
+use Rattle.mqtt_message.specs.declared.message.Will.{Will}
+use Rattle.mqtt_records.specs.declared.session.Columns.{Columns}
+use Rattle.mqtt_rules.specs.Deeds.{Act, Accept, Name, Count, At, Leave, Link, Begin, Message, Origin, whose, always, of_session, after_all}
 use Rattle.mqtt_rules.specs.Outbound.{at_place}
 use Rattle.mqtt_rules.specs.Routing.{next_publication}
 use Rattle.mqtt_rules.specs.State.{Broker}
@@ -33,3 +35,11 @@ next_line b = cond (can_link b) (Some (suc b.given)) None
 
 abbrev pub after_act : Act → Broker → Broker
 after_act act b = after_all (act b) b
+
+-- the row of a session that begins
+abbrev pub new_columns : Broker → List ℕ → ℕ → Columns
+new_columns b client expiry = record { birth = suc b.records.births; client = client; expiry = expiry; closed = None }
+
+-- a session begins, with the next birth
+abbrev pub begins : List ℕ → ℕ → Option Will → Act
+begins client expiry will b = Begin (new_columns b client expiry) will ∷ []

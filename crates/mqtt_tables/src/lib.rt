@@ -2,6 +2,7 @@
 //! store, and taken back whole where the step isn't made (MQTT 5.0, 4.1).
 #![tactic(auto)]
 
+mod beginning;
 mod call;
 mod entering;
 mod fault;
@@ -12,6 +13,7 @@ mod lines;
 mod linking;
 mod numbers;
 mod outputs;
+mod resuming;
 mod retained;
 mod sessions;
 mod step;

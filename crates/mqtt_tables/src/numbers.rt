@@ -25,7 +25,7 @@ pub(crate) fn next(last: u64) -> Result<u64, StepFault>
 }
 
 /// The change of a number, and the change that takes it back.
-fn count(counter: Counter, value: u64) -> Change
+pub(crate) fn count(counter: Counter, value: u64) -> Change
     ensures { result ≡ Change.SetCounter counter value }
 {
     Change::SetCounter { counter, value }

@@ -1,9 +1,10 @@
 //! Deeds of sessions: one closes, another expiry is set, a Will is dropped, one ends (MQTT 5.0, 3.1.2.5, 3.1.2.11.2, 4.1).
-ghost use Rattle.std.specs.Prelude.{◌≡◌, ◌∷◌, [], Some, IfOk, IfErr, OnOk, OnErr};
+ghost use Rattle.std.specs.Prelude.{◌≡◌, ◌∷◌, [], Option, Some, IfOk, IfErr, OnOk, OnErr};
 ghost use Rattle.mqtt_records.specs.Session.{columns_of};
 ghost use Rattle.mqtt_records.specs.declared.session.Columns.{Columns as TheColumns};
 ghost use Rattle.mqtt_records.specs.declared.change.Change.TheVariants as change;
-ghost use Rattle.mqtt_rules.specs.Deeds.{Whose, Close, SetExpiry, DropWill, Finish, always};
+ghost use Rattle.mqtt_message.specs.declared.message.Will.{Will as TheWill};
+ghost use Rattle.mqtt_rules.specs.Deeds.{will_row, Whose, Close, SetExpiry, DropWill, Finish, always};
 ghost use Rattle.mqtt_tables.specs.Backs.{TakesBack};
 ghost use Rattle.mqtt_tables.specs.Stepping.{Did, IsLeft, written, to_session};
 
@@ -13,7 +14,11 @@ use mqtt_records::{Change, Columns, Session};
 use std::alloc::AllocError;
 
 /// What a session's own row says, with the moment of its close and its expiry as told.
-fn columns(session: &Session, expiry: u32, closed: Option<u64>) -> Result<Columns, AllocError>
+pub(crate) fn columns(
+    session: &Session,
+    expiry: u32,
+    closed: Option<u64>,
+) -> Result<Columns, AllocError>
     ensures { IfOk result (λ row. row
         ≡ record (columns_of session.now) { expiry = expiry; closed = closed }) }
 {
@@ -26,7 +31,7 @@ fn columns(session: &Session, expiry: u32, closed: Option<u64>) -> Result<Column
 }
 
 /// What takes back that a session's own row is set.
-fn columns_back(session: &Session) -> Result<Change, AllocError>
+pub(crate) fn columns_back(session: &Session) -> Result<Change, AllocError>
     ensures { IfOk result (λ undo. (row : TheColumns) → row.birth ≡ session.now.birth
         → TakesBack (change.SetSession row) undo session.now) }
 {
@@ -34,10 +39,10 @@ fn columns_back(session: &Session) -> Result<Change, AllocError>
     Ok(Change::SetSession { row })
 }
 
-/// What takes back that a session has no Will.
-fn will_back(session: &Session) -> Result<Change, AllocError>
-    ensures { IfOk result (λ undo.
-        TakesBack (change.RemoveWill session.now.birth) undo session.now) }
+/// What takes back that a session has another Will, or none.
+pub(crate) fn will_back(session: &Session) -> Result<Change, AllocError>
+    ensures { IfOk result (λ undo. (will : Option TheWill) →
+        TakesBack (will_row session.now.birth will) undo session.now) }
 {
     let birth = session.birth;
     match &session.will {

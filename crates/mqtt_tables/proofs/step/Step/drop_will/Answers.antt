@@ -1,4 +1,5 @@
 use Rattle.std.proofs.Common.{refl, sym}
+use Rattle.std.specs.Prelude.{None}
 use Rattle.mqtt_records.specs.declared.change.Change.TheVariants.{RemoveWill}
 use Rattle.mqtt_rules.specs.Deeds.{DropWill}
 use Rattle.mqtt_tables.proofs.Doing.{on_ok, stands, part_ok}
@@ -6,7 +7,7 @@ use Rattle.mqtt_tables.proofs.step.Step.drop_will.Goals as goal
 
 pub make-requires : goal.make-requires
 make-requires c =
-    c.in_ok-undo.ensures c.args.self.now.broker.records (stands c.args.birth c.args.self.now.broker.records c.in-Some.session.now (sym c.in-Some.ensures))
+    c.in_ok-undo.ensures None c.args.self.now.broker.records (stands c.args.birth c.args.self.now.broker.records c.in-Some.session.now (sym c.in-Some.ensures))
 
 pub returns-clause-ok : goal.returns-clause-ok
 returns-clause-ok c =
