@@ -70,4 +70,5 @@ pub mod OpenLists
 pub mod PassedContents
 pub mod ContentRows
 pub mod ContentPackets
+pub mod ContentCopies
 pub mod ContentLaw

@@ -59,7 +59,7 @@ has_other a b (p ∷ ps) rest apart none = elim (cases_Bool (is_named b p)) [
   | inr other ↦ rw other (has_other a b ps rest apart none)
 ]
 
-name_is : (name : PropName) (p : Prop) → is_named name p ≡ true → p.name ≡ name
+pub name_is : (name : PropName) (p : Prop) → is_named name p ≡ true → p.name ≡ name
 name_is name p named = id_is p.name name (eqb-true (property_row p.name).id (property_row name).id named)
 
 once : (place : Place) (name : PropName) (ps rest : List Prop) → may_repeat place name ≡ false → none_repeats place ps ≡ true → has name rest ≡ false → none_repeats Publish rest ≡ true
