@@ -72,3 +72,5 @@ pub mod ContentRows
 pub mod ContentPackets
 pub mod ContentCopies
 pub mod ContentLaw
+pub mod SentContents
+pub mod SpelledContents
