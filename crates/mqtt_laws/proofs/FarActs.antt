@@ -245,7 +245,7 @@ module _ (client : List ℕ) (birth n : ℕ) where
     ends = λ s b o its among may. led (end_session s) b o (far_end s its);
     resumes = λ l c s b o its none came taken own is prepared. led (At (whose s) (Resume (expiry_of c) (will_of c)) ∷ greet l c s.birth ∷ []) b o (inl (inl own), (far_greet l c s.birth its own, tt));
     begins = λ l c b o its none came taken name is room prepared. led (begin_named (is_empty c.client_identifier) l c b.records) b o (far_begin_named (is_empty c.client_identifier) l c b.records its came plain o.births);
-    grants = λ w s b o its granted. led (sub.granted_filter env (sub.next_number b.records) s w (brought_to w s b) b).deeds b o (far_grants env w s b);
+    grants = λ w s b o its asked granted. led (sub.granted_filter env (sub.next_number b.records) s w (brought_to w s b) b).deeds b o (far_grants env w s b);
     pumps = λ l s b o its is there. led (pump_deeds l b.now s) b o (far_turns b.now l.number s (pump_turns l b.now s));
     turns = λ a t l s b o its own there is e. led (turn_deeds b.now l.number s t) b o (far_turn b.now l.number s t);
     lapses = λ s b o among. led (lapse_deeds b.now s) b o (far_flat (leave_deeds s) (λ t. far_quiet (leave_deeds s t) (quiet_leave birth n s t)) (lapses b.now s));

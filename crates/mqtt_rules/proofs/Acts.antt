@@ -46,6 +46,8 @@ use Rattle.mqtt_rules.specs.Step.{Call, NewLine, Input, BadInput, Lost, Pump, Ti
 use Rattle.mqtt_rules.proofs.FlightRows.{found_key}
 use Rattle.mqtt_rules.proofs.StoredLaw.{now_stays}
 use Rattle.mqtt_rules.specs.Laws.{IsAmong}
+use Rattle.mqtt_base.specs.declared.session.SubscriptionOptions.{SubscriptionOptions}
+use Rattle.mqtt_codec.specs.Options.{options_of}
 use Rattle.mqtt_rules.proofs.Leads.{found_among, found_passes, row_among, Leads, Leading, leads_append, leads_series, leads_two, leads_flat, leads_map, leads_cond, leads_of_session, leads_of_client, leads_with_line}
 
 -- ---- whom a step concerns
@@ -155,6 +157,10 @@ pub record IsPrepared (env : Env) (Keep : Broker → Type 0) (l : Line) (c : Gre
 abbrev pub IsSaid : About → List ℕ → Type 0
 IsSaid about topic = (m : Message) × about.message m × (m.topic ≡ topic)
 
+-- a wish of a SUBSCRIBE among the packets, with its Subscription Identifier
+abbrev pub IsAsked : About → sub.Wish → Type 0
+IsAsked about w = (p : Asking) × about.packet (packets.Subscribe p) × (w.identifier ≡ number_at SubscriptionIdentifier p.properties)
+
 -- ---- what a law has to say: look-ups stay among those concerned, and each unit of deeds is good and keeps what is kept
 
 pub record Finds (about : About) (Keep : Broker → Type 0) : Type 0 where
@@ -188,7 +194,7 @@ pub record Law (env : Env) (about : About) (Keep : Broker → Type 0) (Good : De
       → Keep b → about.line l → l.session ≡ None → about.packet (packets.Connect c) → IsAdmitted c → about.client c.client_identifier b
       → session_named c.client_identifier b.records ≡ None → nat_lt (length b.records.sessions) env.limits.sessions ≡ true → IsPrepared env Keep l c b
       → Leads Keep Good (begin_named (is_empty c.client_identifier) l c b.records) b
-  pub grants : (w : sub.Wish) (s : Session) (b : Broker) → Keep b → about.session s.birth → IsGranted env w s b
+  pub grants : (w : sub.Wish) (s : Session) (b : Broker) → Keep b → about.session s.birth → IsAsked about w → IsGranted env w s b
       → Leads Keep Good (sub.granted_filter env (sub.next_number b.records) s w (brought_to w s b) b).deeds b
   -- queues
   pub pumps : (l : Line) (s : Session) (b : Broker) → Keep b → about.line l → l.session ≡ Some s.birth → session_at s.birth b.records ≡ Some s → Leads Keep Good (pump_deeds l b.now s) b
@@ -564,8 +570,14 @@ module _ (env : Env) (about : About) (Keep : Broker → Type 0) (Good : Deed →
   both_true true y h = (refl, h)
   both_true false y h = absurd cc
 
-  leads_granted : (w : sub.Wish) (s : Session) (b : Broker) → Keep b → about.session s.birth → session_at s.birth b.records ≡ Some s → Led (sub.filter_answer env w b s).deeds b
-  leads_granted w s b k own there = by (is_filter w.filter) (both (sub.has_filter w.filter s || nat_lt (length s.subscriptions) SUBSCRIPTION_LIMIT) (nat_le (length (filter is_queued (brought_to w s b))) (room env s))) refl refl
+  wished : (filter : List ℕ) (identifier : Option ℕ) (o : Option SubscriptionOptions) (w : sub.Wish) → sub.wish_by filter identifier o ≡ Some w → w.identifier ≡ identifier
+  wished filter identifier None w e = absurd cc
+  wished filter identifier (Some options) w e =
+      let same : record { filter = filter; options = options; identifier = identifier } ≡ w = cc in
+      ap (λ (x : sub.Wish). x.identifier) (sym same)
+
+  leads_granted : (w : sub.Wish) (s : Session) (b : Broker) → Keep b → about.session s.birth → IsAsked about w → session_at s.birth b.records ≡ Some s → Led (sub.filter_answer env w b s).deeds b
+  leads_granted w s b k own asked there = by (is_filter w.filter) (both (sub.has_filter w.filter s || nat_lt (length s.subscriptions) SUBSCRIPTION_LIMIT) (nat_le (length (filter is_queued (brought_to w s b))) (room env s))) refl refl
     where
       both : Bool → Bool → Bool
       both x y = x && y
@@ -578,30 +590,32 @@ module _ (env : Env) (about : About) (Keep : Broker → Type 0) (Good : Deed →
       by true false is fit = (tt, k)
       by true true is fit =
           let parts = both_true (sub.has_filter w.filter s || nat_lt (length s.subscriptions) SUBSCRIPTION_LIMIT) (nat_le (length (filter is_queued (brought_to w s b))) (room env s)) fit in
-          law.grants w s b k own (record { session = there; valid = is; fits = parts.0; has_room = parts.1 })
+          law.grants w s b k own asked (record { session = there; valid = is; fits = parts.0; has_room = parts.1 })
 
-  leads_granted_to : (birth : ℕ) (w : Option sub.Wish) (b : Broker) (o : Option Session) → Keep b → about.session birth → session_at birth b.records ≡ o → Led (sub.filter_answer_of env w b o).deeds b
-  leads_granted_to birth w b None k own is = (tt, k)
-  leads_granted_to birth None b (Some s) k own is = (tt, k)
-  leads_granted_to birth (Some w) b (Some s) k own is =
-      leads_granted w s b k (subst about.session (sym (found_key birth_of birth s b.records.sessions is)) own) (own_session birth s b is)
+  leads_granted_to : (birth : ℕ) (w : Option sub.Wish) (b : Broker) (o : Option Session) → Keep b → about.session birth → ((x : sub.Wish) → w ≡ Some x → IsAsked about x) → session_at birth b.records ≡ o → Led (sub.filter_answer_of env w b o).deeds b
+  leads_granted_to birth w b None k own asked is = (tt, k)
+  leads_granted_to birth None b (Some s) k own asked is = (tt, k)
+  leads_granted_to birth (Some w) b (Some s) k own asked is =
+      leads_granted w s b k (subst about.session (sym (found_key birth_of birth s b.records.sessions is)) own) (asked w refl) (own_session birth s b is)
 
-  leads_all_granted : (birth : ℕ) (identifier : Option ℕ) (asked : List Asked) (b : Broker) → Keep b → about.session birth → Led (sub.filter_answers env birth identifier asked b).deeds b
-  leads_all_granted birth identifier [] b k own = (tt, k)
-  leads_all_granted birth identifier (a ∷ rest) b k own =
+  leads_all_granted : (birth : ℕ) (identifier : Option ℕ) (asked : List Asked) (b : Broker) → Keep b → about.session birth
+      → ((p : Asking) × about.packet (packets.Subscribe p) × (identifier ≡ number_at SubscriptionIdentifier p.properties)) → Led (sub.filter_answers env birth identifier asked b).deeds b
+  leads_all_granted birth identifier [] b k own came = (tt, k)
+  leads_all_granted birth identifier (a ∷ rest) b k own came =
       let g = sub.filter_answer_of env (sub.wish_of identifier a) b (session_at birth b.records) in
       leads_append Keep Good g.deeds (sub.filter_answers env birth identifier rest (after_all g.deeds b)).deeds b
-      (leads_granted_to birth (sub.wish_of identifier a) b (session_at birth b.records) k own refl)
-      (λ h. leads_all_granted birth identifier rest (after_all g.deeds b) h own)
+      (leads_granted_to birth (sub.wish_of identifier a) b (session_at birth b.records) k own
+      (λ w e. (came.0, came.1, wished a.filter identifier (options_of a.options) w e ∙ came.2)) refl)
+      (λ h. leads_all_granted birth identifier rest (after_all g.deeds b) h own came)
 
-  pub leads_subscribe : (t : Bool) (line : ℕ) (s : Session) (p : Asking) (b : Broker) → Keep b → about.number line → about.session s.birth → Led (sub.subscribe_by t env line s p b) b
-  leads_subscribe true line s p b k its own = leads_offer line (suback p.identifier (map (λ a. identifier_in_use) p.subscriptions)) b b k its
-  leads_subscribe false line s p b k its own =
+  pub leads_subscribe : (t : Bool) (line : ℕ) (s : Session) (p : Asking) (b : Broker) → Keep b → about.number line → about.session s.birth → about.packet (packets.Subscribe p) → Led (sub.subscribe_by t env line s p b) b
+  leads_subscribe true line s p b k its own came = leads_offer line (suback p.identifier (map (λ a. identifier_in_use) p.subscriptions)) b b k its
+  leads_subscribe false line s p b k its own came =
       let a = sub.filter_answers env s.birth (number_at SubscriptionIdentifier p.properties) p.subscriptions b in
       let told = offer (line_at line b) (suback p.identifier a.codes) in
       leads_append Keep Good (a.deeds ++ told) (flat_map (λ d. sub.late_sends line b.now d b) a.late) b
       (leads_append Keep Good a.deeds told b
-      (leads_all_granted s.birth (number_at SubscriptionIdentifier p.properties) p.subscriptions b k own)
+      (leads_all_granted s.birth (number_at SubscriptionIdentifier p.properties) p.subscriptions b k own (p, came, refl))
       (λ h. leads_offer line (suback p.identifier a.codes) b (after_all a.deeds b) h its))
       (λ h. leads_flat Keep Good (λ d. sub.late_sends line b.now d b) (λ d c g. leads_offer line (publish_of b.now false 0 d.copy) b c g its) a.late _ h)
 
@@ -631,7 +645,7 @@ module _ (env : Env) (about : About) (Keep : Broker → Type 0) (Good : Deed →
   leads_next l (packets.Pubrec a) s b k its on came own there = leads_answered (rules.pubrec a.identifier a.reason.0 (queue_on l.went s)) l s b k its on own there (inr (inl (a.identifier, a.reason.0, refl)))
   leads_next l (packets.Pubrel a) s b k its on came own there = leads_release (answer_to_release a.identifier s.inbound) l s a.identifier b k its own
   leads_next l (packets.Pubcomp a) s b k its on came own there = leads_answered (rules.pubcomp a.identifier (queue_on l.went s)) l s b k its on own there (inr (inr (a.identifier, refl)))
-  leads_next l (packets.Subscribe p) s b k its on came own there = leads_subscribe (is_among p.identifier s.inbound) l.number s p b k (law.finds.its_number l its) own
+  leads_next l (packets.Subscribe p) s b k its on came own there = leads_subscribe (is_among p.identifier s.inbound) l.number s p b k (law.finds.its_number l its) own came
   leads_next l (packets.Unsubscribe p) s b k its on came own there = leads_unsubscribe (is_among p.identifier s.inbound) l.number s p b k (law.finds.its_number l its) own
   leads_next l packets.Pingreq s b k its on came own there = law.sends l.number packets.Pingresp b k (law.finds.its_number l its)
   leads_next l (packets.Disconnect m) s b k its on came own there =

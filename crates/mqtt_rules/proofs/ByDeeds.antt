@@ -301,7 +301,7 @@ module _ (env : Env) (about : About) (Keeps : Broker → Type 0) (Good : Deed �
           more (At (whose s) (Resume (expiry_of c) (will_of c))) (greet l c s.birth ∷ []) b k (law.resume (whose s) (expiry_of c) (will_of c) b k own)
           (λ h. one (greet l c s.birth) _ h (law.on_line l.number _ _ h)));
       begins = λ l c b k its none came taken name is room prepared. tell (begin_named (is_empty c.client_identifier) l c b.records) b (leads_begin (is_empty c.client_identifier) l c b k came taken name is room);
-      grants = λ w s b k its granted. tell (sub.granted_filter env (sub.next_number b.records) s w (brought_to w s b) b).deeds b (leads_grants w s b k its granted);
+      grants = λ w s b k its asked granted. tell (sub.granted_filter env (sub.next_number b.records) s w (brought_to w s b) b).deeds b (leads_grants w s b k its granted);
       pumps = turn.pumps;
       turns = turn.turns;
       lapses = λ s b k among. tell (lapse_deeds b.now s) b (leads_flat Keeps Good (leave_deeds s) (leads_leave s) (lapses b.now s) b k);

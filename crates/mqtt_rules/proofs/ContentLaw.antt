@@ -1,6 +1,7 @@
 -- Every step and opening keeps the contents of what is stored lawful.
-use Rattle.std.proofs.Common.{◌≡◌, ℕ, Bool, true, false, List, [], ◌∷◌, ◌++◌, filter, map, Option, Some, None, subst, inl, inr}
-use Rattle.std.specs.Prelude.{suc, flat_map, option_map, not, ◌&&◌}
+use Rattle.std.proofs.Common.{◌≡◌, refl, arith, sym, ℕ, Bool, true, false, List, [], ◌∷◌, ◌++◌, filter, map, Option, Some, None, subst, inl, inr}
+use Rattle.mqtt_rules.proofs.OrderedQueues.{length-mapped}
+use Rattle.std.specs.Prelude.{◌≤◌, length, suc, flat_map, option_map, not, ◌&&◌}
 use Rattle.std.specs.List.{AllByRecursion}
 use Rattle.mqtt_base.specs.declared.session.Cause.{Cause}
 use Rattle.mqtt_base.specs.declared.session.Cause.TheVariants.{Direct, Share}
@@ -16,7 +17,7 @@ use Rattle.mqtt_flow.specs.Outbound.{way_made}
 use Rattle.mqtt_routes.specs.declared.retained.Kept.{Kept}
 use Rattle.mqtt_routes.specs.Retained.{kept_for}
 use Rattle.mqtt_routes.specs.Intended.{Copy}
-use Rattle.mqtt_routes.specs.Acceptance.{Routed, copies_in}
+use Rattle.mqtt_routes.specs.Acceptance.{Served, Routed, copies_in}
 use Rattle.mqtt_message.specs.declared.message.MessageCopy.{MessageCopy}
 use Rattle.mqtt_message.specs.declared.message.RetainedMessage.{RetainedMessage}
 use Rattle.mqtt_message.specs.declared.message.Will.{Will}
@@ -32,7 +33,7 @@ use Rattle.mqtt_rules.specs.State.{Line, Broker, Env, session_at, line_of, queue
 use Rattle.mqtt_rules.specs.Deeds.{Whose, whose, Message, Origin, FromClient, Part, Resume, Close, Open, Enter, Leave, Hear, SetAlias, Deed, Accept, Begin, Count, At, Finish, Forget, RefuseWill, Link, On, Send, Gone, rows_of_all, after, after_all, series, always, offer}
 use Rattle.mqtt_rules.specs.Deeds as told
 use Rattle.mqtt_rules.specs.Outbound.{leave_deeds, turn_deeds, since, queue_limits, enter_deeds}
-use Rattle.mqtt_rules.specs.Routing.{CopyTo, copy_to, served_copies_to, copies_to, next_publication, routing_of, finds_place, accepted_if, accepted_copies, is_queued, deliver_by, deliver, retained_of, forgets, retain_by, publish}
+use Rattle.mqtt_rules.specs.Routing.{routed_subscription, subscriber_of, subscribers, publication_of, answers, CopyTo, copy_to, served_copies_to, copies_to, next_publication, routing_of, finds_place, accepted_if, accepted_copies, is_queued, deliver_by, deliver, retained_of, forgets, retain_by, publish}
 use Rattle.mqtt_rules.specs.Closing.{end_session}
 use Rattle.mqtt_rules.specs.Connect.{expiry_of, will_of, greet, begin_named}
 use Rattle.mqtt_rules.specs.Inbound.{pump_turns, pump_deeds}
@@ -40,13 +41,18 @@ use Rattle.mqtt_rules.specs.Subscribe as sub
 use Rattle.mqtt_rules.specs.Tick.{lapses, lapse_deeds}
 use Rattle.mqtt_rules.specs.Step.{Call, NewLine, Input, BadInput, Lost, Pump, Tick, deeds, at_moment, env_of, with_moment, stepped, opening, unopened, opened}
 use Rattle.mqtt_rules.specs.Laws.{IsAmong}
-use Rattle.mqtt_rules.specs.Contents.{IsTaken, TakesLawful, IsTopic, IsContent, IsPublished, IsWilled, HasContents, HasLawfulContents, HasTopics, AreContentsLawful}
+use Rattle.mqtt_lawful.specs.Lawful.{IsIdentifier}
+use Rattle.mqtt_records.specs.declared.subscription.Subscription.{Subscription}
+use Rattle.mqtt_routes.specs.declared.subscription.Subscription.{Subscription as RoutedSubscription}
+use Rattle.mqtt_base.specs.declared.limits.TheConstants.{SUBSCRIPTION_LIMIT}
+use Rattle.mqtt_rules.proofs.ContentCopies.{AreNumbered, IsIdentified, IsRoutedWell, routed_identified}
+use Rattle.mqtt_rules.specs.Contents.{IsCopied, IsAskedFor, AreIdentifiers, IsTaken, TakesLawful, IsTopic, IsContent, IsPublished, IsWilled, HasContents, HasLawfulContents, HasTopics, AreContentsLawful}
 use Rattle.mqtt_rules.proofs.Goods.{AreGood, good_append, good_cond, good_flat, good_of_entry, good_with_session}
 use Rattle.mqtt_rules.proofs.Leads.{found_among, Leads, leads_good}
 use Rattle.mqtt_rules.proofs.Acts.{About, anyone, closing_session, closing_on, closing, is_alone, brought_to, Finds, Law, IsCallOf, IsItsLine, leads_call, leads_opening}
-use Rattle.mqtt_rules.proofs.Copies.{each_filter, each_append, each_all, each_map, each_flat}
+use Rattle.mqtt_rules.proofs.Copies.{each_more, each_filter, each_append, each_map}
 use Rattle.mqtt_rules.proofs.ContentRows.{Brings, brought_kept}
-use Rattle.mqtt_rules.proofs.ContentPackets.{published, sent_content, asked_content}
+use Rattle.mqtt_rules.proofs.ContentPackets.{published, sent_content, asked_content, asked_identifier}
 
 -- ---- whom it concerns
 
@@ -100,10 +106,10 @@ turn_brings now line s (turns.Leave place ending) b = leave_brings s (turns.Leav
 
 -- ---- copies
 
-abbrev IsPublishedTo : CopyTo → Type 0
-IsPublishedTo d = IsPublished d.copy.content
+abbrev IsCopiedTo : CopyTo → Type 0
+IsCopiedTo d = IsCopied d.copy
 
-enter_brings : (env : Env) (copy : MessageCopy) (s : Session) (b : Broker) → IsPublished copy.content → Brought (enter_deeds env copy s) b
+enter_brings : (env : Env) (copy : MessageCopy) (s : Session) (b : Broker) → IsCopied copy → Brought (enter_deeds env copy s) b
 enter_brings env copy s b q =
     let ts = way_made (queue_limits env) (since env s) (queue_on [] s) in
     good_append Brings (flat_map (leave_deeds s) ts) (At (whose s) (Enter copy) ∷ []) b (leaves_bring s ts b) (q, tt)
@@ -112,12 +118,12 @@ offer_brings : (l : Option Line) (packet : Packet) (b : Broker) → Brought (off
 offer_brings None packet b = tt
 offer_brings (Some l) packet b = good_cond Brings _ (Send l.number packet ∷ []) [] b (tt, tt) tt
 
-deliver_brings : (t : Bool) (env : Env) (d : CopyTo) (b : Broker) → IsPublishedTo d → Brought (deliver_by t env d b) b
+deliver_brings : (t : Bool) (env : Env) (d : CopyTo) (b : Broker) → IsCopiedTo d → Brought (deliver_by t env d b) b
 deliver_brings true env d b q =
     good_with_session Brings (session_at d.birth b.records) (λ s. always (enter_deeds env d.copy s)) b (λ s e. enter_brings env d.copy s b q)
 deliver_brings false env d b q = offer_brings (line_of d.birth b) (publish_of b.now false 0 d.copy) b
 
-deliveries_bring : (env : Env) (ds : List CopyTo) (b : Broker) → AllByRecursion IsPublishedTo ds → Brought (series (map (deliver env) ds) b) b
+deliveries_bring : (env : Env) (ds : List CopyTo) (b : Broker) → AllByRecursion IsCopiedTo ds → Brought (series (map (deliver env) ds) b) b
 deliveries_bring env [] b h = tt
 deliveries_bring env (d ∷ ds) b h =
     let first = deliver env d b in
@@ -125,34 +131,60 @@ deliveries_bring env (d ∷ ds) b h =
     good_append Brings first (series (map (deliver env) ds) c) b (deliver_brings (is_queued d) env d b h.0) (deliveries_bring env ds c h.1)
 
 -- of a publication
-copies_published : (number now : ℕ) (m : Message) (r : Routed) → IsMessage m → AllByRecursion IsPublishedTo (copies_to number now m r)
-copies_published number now m r q =
-    each_append IsPublishedTo (map (copy_to number now m Direct) r.direct) (flat_map (served_copies_to number now m) r.served)
-    (all_to Direct r.direct)
-    (each_flat IsPublishedTo (served_copies_to number now m) (λ s. all_to (Share s.group) (copies_in s.copy)) r.served)
+copies_made : (number now : ℕ) (m : Message) (r : Routed) → IsMessage m → IsRoutedWell r → AllByRecursion IsCopiedTo (copies_to number now m r)
+copies_made number now m r q h =
+    each_append IsCopiedTo (map (copy_to number now m Direct) r.direct) (flat_map (served_copies_to number now m) r.served)
+    (all_to Direct r.direct h.direct) (all_served r.served h.served)
   where
-    all_to : (cause : Cause) (cs : List Copy) → AllByRecursion IsPublishedTo (map (copy_to number now m cause) cs)
-    all_to cause cs = each_map IsPublishedTo (copy_to number now m cause) cs (each_all (λ c. IsPublishedTo (copy_to number now m cause c)) (λ c. q) cs)
+    all_to : (cause : Cause) (cs : List Copy) → AllByRecursion IsIdentified cs → AllByRecursion IsCopiedTo (map (copy_to number now m cause) cs)
+    all_to cause [] h = tt
+    all_to cause (c ∷ cs) h = (record { content = q; identifiers = h.0 }, all_to cause cs h.1)
 
-published_if : (t : Bool) (number now : ℕ) (m : Message) (o : Option Routed) (ds : List CopyTo) → IsMessage m → accepted_if t (option_map (copies_to number now m) o) ≡ Some ds → AllByRecursion IsPublishedTo ds
-published_if false number now m o ds q e = absurd cc
-published_if true number now m None ds q e = absurd cc
-published_if true number now m (Some r) ds q e =
+    all_served : (ss : List Served) → AllByRecursion (λ s. AllByRecursion IsIdentified (copies_in s.copy)) ss → AllByRecursion IsCopiedTo (flat_map (served_copies_to number now m) ss)
+    all_served [] h = tt
+    all_served (s ∷ ss) h =
+        each_append IsCopiedTo (served_copies_to number now m s) (flat_map (served_copies_to number now m) ss) (all_to (Share s.group) (copies_in s.copy) h.0) (all_served ss h.1)
+
+made_if : (t : Bool) (number now : ℕ) (m : Message) (o : Option Routed) (ds : List CopyTo) → IsMessage m → ((r : Routed) → o ≡ Some r → IsRoutedWell r)
+    → accepted_if t (option_map (copies_to number now m) o) ≡ Some ds → AllByRecursion IsCopiedTo ds
+made_if false number now m o ds q h e = absurd cc
+made_if true number now m None ds q h e = absurd cc
+made_if true number now m (Some r) ds q h e =
     let same : copies_to number now m r ≡ ds = cc in
-    subst (λ (xs : List CopyTo). AllByRecursion IsPublishedTo xs) same (copies_published number now m r q)
+    subst (λ (xs : List CopyTo). AllByRecursion IsCopiedTo xs) same (copies_made number now m r q (h r refl))
+
+subscriber_numbered : (s : Session) → HasContents s → AreNumbered (subscriber_of s)
+subscriber_numbered s h = (numbers s.subscriptions h.subscriptions, few s.subscriptions h.table.within)
+  where
+    numbers : (xs : List Subscription) → AllByRecursion IsAskedFor xs → AllByRecursion (λ (x : RoutedSubscription). IsIdentifier x.identifier) (map routed_subscription xs)
+    numbers [] h = tt
+    numbers (x ∷ xs) h = (h.0.identifier, numbers xs h.1)
+
+    few : (xs : List Subscription) → length xs ≤ SUBSCRIPTION_LIMIT → length (map routed_subscription xs) ≤ SUBSCRIPTION_LIMIT
+    few xs le = let same = length-mapped routed_subscription xs in omega (arith, same, le)
+
+subscribers_numbered : (ss : List Session) → AllByRecursion HasContents ss → AllByRecursion AreNumbered (map subscriber_of ss)
+subscribers_numbered [] h = tt
+subscribers_numbered (s ∷ ss) h = (subscriber_numbered s h.0, subscribers_numbered ss h.1)
 
 -- of retained messages
 abbrev Retains : RetainedMessage → Type 0
 Retains k = IsPublished k.content
 
-brought_published : (t : Bool) (now number : ℕ) (s : Session) (w : sub.Wish) (ks : List RetainedMessage) → AllByRecursion Retains ks → AllByRecursion IsPublishedTo (sub.brought_if t now number s w ks)
-brought_published false now number s w ks h = tt
-brought_published true now number s w ks h =
+wish_identified : (o : Option ℕ) → IsIdentifier o → AreIdentifiers (sub.identifiers_of o)
+wish_identified None q = record { each = tt; few = omega arith }
+wish_identified (Some n) q = record { each = (q, tt); few = omega arith }
+
+brought_copied : (t : Bool) (now number : ℕ) (s : Session) (w : sub.Wish) (ks : List RetainedMessage) → IsIdentifier w.identifier → AllByRecursion Retains ks → AllByRecursion IsCopiedTo (sub.brought_if t now number s w ks)
+brought_copied false now number s w ks q h = tt
+brought_copied true now number s w ks q h =
     let tabled = each_map (λ (y : Kept RetainedMessage). Retains (sub.message_in y)) sub.kept_of ks h in
     let matched = each_filter (λ (y : Kept RetainedMessage). Retains (sub.message_in y)) _ (map sub.kept_of ks) tabled in
     let messages = each_map Retains sub.message_in (kept_for w.filter (map sub.kept_of ks)) matched in
+    let all = filter (sub.is_brought now s w) (map sub.message_in (kept_for w.filter (map sub.kept_of ks))) in
     let fit = each_filter Retains (sub.is_brought now s w) (map sub.message_in (kept_for w.filter (map sub.kept_of ks))) messages in
-    each_map IsPublishedTo (sub.retained_copy_to s.birth number w) (filter (sub.is_brought now s w) (map sub.message_in (kept_for w.filter (map sub.kept_of ks)))) fit
+    each_map IsCopiedTo (sub.retained_copy_to s.birth number w) all
+    (each_more Retains (λ k. IsCopiedTo (sub.retained_copy_to s.birth number w k)) (λ k p. record { content = p; identifiers = wish_identified w.identifier q }) all fit)
 
 -- ---- publications
 
@@ -165,15 +197,16 @@ retain_brings false empty number m b q = tt
 retain_brings true true number m b q = forgets_bring (retained_of m.topic b.records) b
 retain_brings true false number m b q = (q, tt)
 
-publish_brings : (env : Env) (origin : Origin) (m : Message) (ds : List CopyTo) (b : Broker) → IsMessage m → accepted_copies env m b ≡ Some ds → Brought (publish env origin m ds b) b
-publish_brings env origin m ds b q e =
+publish_brings : (env : Env) (origin : Origin) (m : Message) (ds : List CopyTo) (b : Broker) → AreContentsLawful b → IsMessage m → accepted_copies env m b ≡ Some ds → Brought (publish env origin m ds b) b
+publish_brings env origin m ds b k q e =
     let number = next_publication b.records in
     let c = after (Accept number origin m) b in
     let next = retain_by m.retain (is_empty m.payload) number m c in
     let d = after_all next c in (
       tt,
       good_append Brings next (series (map (deliver env) ds) d) c (retain_brings m.retain (is_empty m.payload) number m c q)
-          (deliveries_bring env ds d (published_if (finds_place env m b.records) number b.now m (routing_of env m b.records) ds q e)),
+          (deliveries_bring env ds d (made_if (finds_place env m b.records) number b.now m (routing_of env m b.records) ds q
+          (λ r is. routed_identified (answers env b.records) (publication_of m) (env.choice number m.sender) (subscribers b.records) r (subscribers_numbered b.records.sessions k.stored.sessions) is) e)),
     )
 
 -- ---- sessions
@@ -181,6 +214,7 @@ publish_brings env origin m ds b q e =
 alone_brings : (who : Whose) (part : Part) (b : Broker) → is_alone part ≡ true → Brings (At who part) b
 alone_brings who (Resume expiry will) b q = absurd cc
 alone_brings who (Enter copy) b q = absurd cc
+alone_brings who (told.Subscribe x) b q = absurd cc
 alone_brings who part b q = tt
 
 closed_brings : (keeps_will : Bool) (now : ℕ) (o : Option Session) (b : Broker) → Brought (closing_session keeps_will now o) b
@@ -209,7 +243,7 @@ content_law : (env : Env) → Law env topical AreContentsLawful Brings
 content_law env = record {
   finds = topical_finds;
   client_stays = λ client ds b k done its. tt;
-  publishes = λ origin m ds b k said e. led (publish env origin m ds b) b k (publish_brings env origin m ds b said e);
+  publishes = λ origin m ds b k said e. led (publish env origin m ds b) b k (publish_brings env origin m ds b k said e);
   open_id = λ s id m ds b k h its there new is. led (At (whose s) (Open id) ∷ []) (after_all (publish env FromClient m ds b) b) h (tt, tt);
   refuse_will = λ who b k its. led (RefuseWill who ∷ []) b k (tt, tt);
   alone = λ who part b k its is. led (At who part ∷ []) b k (alone_brings who part b is, tt);
@@ -217,12 +251,13 @@ content_law env = record {
   ends = λ s b k its among may. led (end_session s) b k (end_brings s s.queue b);
   resumes = λ l c s b k its none came taken own is prepared. led (At (whose s) (Resume (expiry_of c) (will_of c)) ∷ greet l c s.birth ∷ []) b k (asked_content c taken.0 came taken.1, (tt, tt));
   begins = λ l c b k its none came taken name is room prepared. led (begin_named (is_empty c.client_identifier) l c b.records) b k (begin_brings (is_empty c.client_identifier) l c b.records b (asked_content c taken.0 came taken.1));
-  grants = λ w s b k its granted.
+  grants = λ w s b k its asked granted.
       let number = sub.next_number b.records in
       let queued = filter is_queued (brought_to w s b) in
-      let copies = brought_published (not (begins_share w.filter) && sub.wants_retained w.options.retain_handling (sub.has_filter w.filter s)) b.now number s w b.records.retained k.stored.retained in
+      let identified = subst IsIdentifier (sym asked.2) (asked_identifier asked.0 asked.1) in
+      let copies = brought_copied (not (begins_share w.filter) && sub.wants_retained w.options.retain_handling (sub.has_filter w.filter s)) b.now number s w b.records.retained identified k.stored.retained in
       led (sub.granted_filter env number s w (brought_to w s b) b).deeds b k
-      (tt, (tt, deliveries_bring env queued (after_all (Count number ∷ At (whose s) (told.Subscribe (sub.subscription number s w)) ∷ []) b) (each_filter IsPublishedTo is_queued (brought_to w s b) copies)));
+      (tt, (record { filter = granted.valid; identifier = identified }, deliveries_bring env queued (after_all (Count number ∷ At (whose s) (told.Subscribe (sub.subscription number s w)) ∷ []) b) (each_filter IsCopiedTo is_queued (brought_to w s b) copies)));
   pumps = λ l s b k its is there. led (pump_deeds l b.now s) b k (good_flat Brings (turn_deeds b.now l.number s) (turn_brings b.now l.number s) (pump_turns l b.now s) b);
   turns = λ a t l s b k its own there is e. led (turn_deeds b.now l.number s t) b k (turn_brings b.now l.number s t b);
   lapses = λ s b k among. led (lapse_deeds b.now s) b k (leaves_bring s (lapses b.now s) b);

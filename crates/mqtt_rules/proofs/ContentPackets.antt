@@ -1,5 +1,5 @@
 -- What a packet that the broker takes holds: the message of a PUBLISH, and the Will of a CONNECT.
-use Rattle.std.proofs.Common.{◌≡◌, ◌≢◌, ℕ, ◌+◌, ◌≤◌, Bool, true, false, cond, not, ◌&&◌, List, [], ◌∷◌, ◌++◌, length, Option, Some, None, nat_eq, refl, sym, subst, arith, inl, inr}
+use Rattle.std.proofs.Common.{◌≡◌, ap, ◌∙◌, ◌≢◌, ℕ, ◌+◌, ◌≤◌, Bool, true, false, cond, not, ◌&&◌, List, [], ◌∷◌, ◌++◌, length, Option, Some, None, nat_eq, refl, sym, subst, arith, inl, inr}
 use Rattle.std.specs.Prelude.{option_map, nat_lt, is_none}
 use Rattle.std.specs.List.{AllByRecursion, starts_with}
 use Rattle.std.proofs.lemmas.Bool.{cases_Bool}
@@ -16,6 +16,16 @@ use Rattle.mqtt_connect.specs.declared.connect.Connect.{Connect as Greeting}
 use Rattle.mqtt_connect.specs.declared.connect.Will.{Will as WillAsked}
 use Rattle.mqtt_codec.specs.declared.publish.Publish.{Publish as Publication}
 use Rattle.mqtt_codec.specs.declared.packet.Packet.TheVariants as packets
+use Rattle.mqtt_codec.specs.declared.subscribe.Subscribe.{Subscribe as Asking}
+use Rattle.mqtt_props.specs.declared.table.PropName.{PropName}
+use Rattle.mqtt_props.specs.declared.value.ValueKind.TheVariants as kinds
+use Rattle.mqtt_props.specs.Table.{property_row}
+use Rattle.mqtt_props.specs.Properties.{Value, Byte, U16, U32, VarInt, Text, Binary, Pair, IsProp, FitsValue, kind_of}
+use Rattle.mqtt_props.specs.Laws.{is_named, is_lawful_value, none_repeats, values_are_lawful, has_method_for_data}
+use Rattle.mqtt_lawful.specs.Lawful.{IsIdentifier}
+use Rattle.std.specs.List.{list_all}
+use Rattle.std.proofs.lemmas.Bool.{ltb-true}
+use Rattle.mqtt_rules.specs.Packets.{number_in}
 use Rattle.mqtt_codec.specs.Fields.{optional, FitsOptional}
 use Rattle.mqtt_codec.specs.ConnectFlags.{flags_byte}
 use Rattle.mqtt_codec.specs.Connect.{FitsWill, will_field, connect_body, connect_fields, flags_of_connect, mqtt, lawful_will}
@@ -30,7 +40,7 @@ use Rattle.mqtt_rules.specs.Connect.{auto, refusal, largest_of, least_packet_siz
 use Rattle.mqtt_rules.specs.Inbound.{Means, meaning, resolved}
 use Rattle.mqtt_rules.specs.Contents.{IsTaken, IsTopic, IsContent, IsWilled}
 use Rattle.mqtt_rules.proofs.Meanings.{resolved_only, identified_only}
-use Rattle.mqtt_rules.proofs.PassedContents.{two, passed_may, passed_lawful, passed_fits, passed_short, block_within}
+use Rattle.mqtt_rules.proofs.PassedContents.{two, name_is, passed_may, passed_lawful, passed_fits, passed_short, block_within}
 
 -- ---- what is passed on
 
@@ -156,3 +166,32 @@ pub asked_content : (c : Greeting) (r : Records) → IsTaken (packets.Connect c)
 asked_content c r taken e =
     let lawful = two (keeps_laws places.Connect c.properties) (lawful_will c.will) taken.spelled.2 in
     will_content c.will (good_topic c r e) taken.spelled.0.3 lawful.1 (will_short c taken)
+
+-- ---- SUBSCRIBE
+
+-- the number of a Subscription Identifier that keeps its laws
+number_lawful : (v : Value) → kind_of v ≡ kinds.VarInt → FitsValue v → is_lawful_value SubscriptionIdentifier v ≡ true → IsIdentifier (Some (number_in v))
+number_lawful (VarInt n) kind fits lawful = (ltb-true 0 n lawful, fits)
+number_lawful (Byte n) kind fits lawful = absurd cc
+number_lawful (U16 n) kind fits lawful = absurd cc
+number_lawful (U32 n) kind fits lawful = absurd cc
+number_lawful (Text t) kind fits lawful = absurd cc
+number_lawful (Binary b) kind fits lawful = absurd cc
+number_lawful (Pair k t) kind fits lawful = absurd cc
+
+number_found : (ps : List Prop) → AllByRecursion IsProp ps → list_all (λ p. is_lawful_value p.name p.value) ps ≡ true → IsIdentifier (number_at SubscriptionIdentifier ps)
+number_found [] each values = tt
+number_found (p ∷ ps) each values =
+    let parts = two (is_lawful_value p.name p.value) (list_all (λ p. is_lawful_value p.name p.value) ps) values in
+    elim (cases_Bool (is_named SubscriptionIdentifier p)) [
+      | inl named ↦
+          let is = name_is SubscriptionIdentifier p named in
+          rw named (number_lawful p.value (each.0.kind ∙ ap (λ (n : PropName). (property_row n).kind) is) each.0.fits (ap (λ (n : PropName). is_lawful_value n p.value) (sym is) ∙ parts.0))
+      | inr other ↦ rw other (number_found ps each.1 parts.1)
+    ]
+
+pub asked_identifier : (p : Asking) → IsTaken (packets.Subscribe p) → IsIdentifier (number_at SubscriptionIdentifier p.properties)
+asked_identifier p taken =
+    let laws = two (none_repeats places.Subscribe p.properties) (values_are_lawful p.properties) (two (keeps_laws places.Subscribe p.properties) _ taken.spelled.2).0 in
+    let each = two (list_all (λ q. is_lawful_value q.name q.value) p.properties) (has_method_for_data p.properties) laws.1 in
+    number_found p.properties taken.spelled.0.1.0.each each.0

@@ -1,9 +1,9 @@
 -- Lawful contents stay lawful by each row and each deed that brings lawful ones.
-use Rattle.std.proofs.Common.{ℕ, Bool, true, false, cond, not, List, [], ◌∷◌, Option, Some, None, nat_eq, inl, inr}
-use Rattle.std.specs.Prelude.{⊤}
+use Rattle.std.proofs.Common.{ℕ, Bool, true, false, cond, not, List, [], ◌∷◌, Option, Some, None, nat_eq, arith, inl, inr}
+use Rattle.std.specs.Prelude.{⊤, bytes_eq}
 use Rattle.std.specs.List.{AllByRecursion}
 use Rattle.std.proofs.lemmas.Bool.{cases_Bool}
-use Rattle.mqtt_base.specs.declared.limits.TheConstants.{QUEUE_LIMIT, SESSION_LIMIT, RETAINED_LIMIT}
+use Rattle.mqtt_base.specs.declared.limits.TheConstants.{SUBSCRIPTION_LIMIT, QUEUE_LIMIT, SESSION_LIMIT, RETAINED_LIMIT}
 use Rattle.mqtt_topic.specs.Aliases.{AliasTable, with_topic, after_resolve}
 use Rattle.mqtt_message.specs.declared.message.RetainedMessage.{RetainedMessage}
 use Rattle.mqtt_message.specs.Queue.{CopyRow}
@@ -15,19 +15,22 @@ use Rattle.mqtt_records.specs.declared.change.Counter.TheVariants.{Births, Publi
 use Rattle.mqtt_records.specs.declared.change.Change.{Change}
 use Rattle.mqtt_records.specs.declared.change.Change.TheVariants.{SetCounter, PutSession, SetSession, RemoveSession, PutWill, RemoveWill, PutSubscription, RemoveSubscription, PutInbound, RemoveInbound, PutCopy, SetCopy, RemoveCopy, PutRetained, RemoveRetained}
 use Rattle.mqtt_rows.specs.Order.{has_row, put_row, change_row}
-use Rattle.mqtt_records.specs.Session.{birth_of, copy_place, fresh, with_columns, with_will, with_subscription, without_subscription, with_open, without_open, with_copy, with_phase, without_copy, in_phase}
+use Rattle.mqtt_records.specs.Session.{birth_of, place_of, without_filter, copy_place, fresh, with_columns, with_will, with_subscription, without_subscription, with_open, without_open, with_copy, with_phase, without_copy, in_phase}
 use Rattle.mqtt_records.specs.Records.{in_session, changed, changed_all, put_session, with_counter, kept_place}
 use Rattle.mqtt_rules.specs.State.{Line, Broker, session_at, is_of}
-use Rattle.mqtt_rules.specs.Deeds.{Whose, Part, Resume, Enter, Leave, LinePart, Hear, Greet, SetAlias, Went, Deed, Accept, Begin, Name, Count, At, Finish, Keep, Forget, Link, On, Gone, part_rows_of, rows_of, line_after, on_line, fresh_line, without_place, lines_at, lines_after, after}
-use Rattle.mqtt_rules.specs.Contents.{IsTopic, IsPublished, IsWilled, HasContents, HasLawfulContents, HasTopics, AreContentsLawful}
+use Rattle.mqtt_rules.specs.Deeds.{Whose, Part, Resume, Subscribe, Enter, Leave, LinePart, Hear, Greet, SetAlias, Went, Deed, Accept, Begin, Name, Count, At, Finish, Keep, Forget, Link, On, Gone, part_rows_of, rows_of, line_after, on_line, fresh_line, without_place, lines_at, lines_after, after}
+use Rattle.mqtt_rules.specs.Contents.{IsTopic, IsPublished, IsWilled, IsCopied, IsAskedFor, HasContents, HasLawfulContents, HasTopics, AreContentsLawful}
 use Rattle.mqtt_rules.proofs.Copies.{each_append, each_filter, each_more, each_map}
+use Rattle.mqtt_records.specs.declared.subscription.Subscription.{Subscription}
+use Rattle.mqtt_rules.proofs.Ordered.{put-table, filter-table}
 use Rattle.mqtt_rules.proofs.NumberCopies.{each_cond, each_put, each_change}
 
 -- ---- rows
 
 abbrev RowBrings : Change → Type 0
 RowBrings (PutWill birth will) = IsWilled (Some will)
-RowBrings (PutCopy birth e) = IsPublished e.copy.content
+RowBrings (PutCopy birth e) = IsCopied e.copy
+RowBrings (PutSubscription birth sub) = IsAskedFor sub
 RowBrings (PutRetained kept) = IsPublished kept.content
 RowBrings change = ⊤
 
@@ -35,8 +38,8 @@ abbrev RowsBring : List Change → Type 0
 RowsBring [] = ⊤
 RowsBring (change ∷ changes) = RowBrings change × RowsBring changes
 
-abbrev Published : CopyRow → Type 0
-Published e = IsPublished e.copy.content
+abbrev Copied : CopyRow → Type 0
+Copied e = IsCopied e.copy
 
 abbrev Retains : RetainedMessage → Type 0
 Retains k = IsPublished k.content
@@ -48,8 +51,27 @@ changed_in birth f r kept h = record { sessions = each_change birth_of HasConten
 session_put : (row : Columns) (ss : List Session) → AllByRecursion HasContents ss → AllByRecursion HasContents (put_session row ss)
 session_put row ss h =
     each_cond birth_of HasContents (has_row birth_of row.birth ss) (change_row birth_of row.birth (with_columns row) ss) (put_row birth_of SESSION_LIMIT (fresh row) ss)
-    (each_change birth_of HasContents row.birth (with_columns row) ss (λ s q. record { will = q.will; queue = q.queue }) h)
-    (each_put birth_of HasContents SESSION_LIMIT (fresh row) ss (record { will = tt; queue = tt }) h)
+    (each_change birth_of HasContents row.birth (with_columns row) ss (λ s q. record { will = q.will; subscriptions = q.subscriptions; table = q.table; queue = q.queue }) h)
+    (each_put birth_of HasContents SESSION_LIMIT (fresh row) ss (record { will = tt; subscriptions = tt; table = record { ascending = tt; within = omega arith }; queue = tt }) h)
+
+subscribed : (sub : Subscription) (s : Session) → IsAskedFor sub → HasContents s → HasContents (with_subscription sub s)
+subscribed sub s q c =
+    let others = without_filter sub.filter s.subscriptions in
+    record {
+      will = c.will;
+      subscriptions = each_put place_of IsAskedFor SUBSCRIPTION_LIMIT sub others q (each_filter IsAskedFor (λ x. not (bytes_eq x.filter sub.filter)) s.subscriptions c.subscriptions);
+      table = put-table place_of SUBSCRIPTION_LIMIT sub others (filter-table place_of SUBSCRIPTION_LIMIT (λ x. not (bytes_eq x.filter sub.filter)) s.subscriptions c.table);
+      queue = c.queue;
+    }
+
+unsubscribed : (text : List ℕ) (s : Session) → HasContents s → HasContents (without_subscription text s)
+unsubscribed text s c =
+    record {
+      will = c.will;
+      subscriptions = each_filter IsAskedFor (λ x. not (bytes_eq x.filter text)) s.subscriptions c.subscriptions;
+      table = filter-table place_of SUBSCRIPTION_LIMIT (λ x. not (bytes_eq x.filter text)) s.subscriptions c.table;
+      queue = c.queue;
+    }
 
 counted : (counter : Counter) (value : ℕ) (r : Records) → HasLawfulContents r → HasLawfulContents (with_counter counter value r)
 counted Births value r h = record { sessions = h.sessions; retained = h.retained }
@@ -61,21 +83,21 @@ counted Moment value r h = record { sessions = h.sessions; retained = h.retained
 contents_changed : (change : Change) (r : Records) → RowBrings change → HasLawfulContents r → HasLawfulContents (changed change r)
 contents_changed (SetCounter counter value) r q h = counted counter value r h
 contents_changed (PutSession row) r q h = record { sessions = session_put row r.sessions h.sessions; retained = h.retained }
-contents_changed (SetSession row) r q h = changed_in row.birth (with_columns row) r (λ s c. record { will = c.will; queue = c.queue }) h
+contents_changed (SetSession row) r q h = changed_in row.birth (with_columns row) r (λ s c. record { will = c.will; subscriptions = c.subscriptions; table = c.table; queue = c.queue }) h
 contents_changed (RemoveSession birth) r q h =
     record { sessions = each_filter HasContents (λ s. not (nat_eq (birth_of s) birth)) r.sessions h.sessions; retained = h.retained }
-contents_changed (PutWill birth will) r q h = changed_in birth (with_will (Some will)) r (λ s c. record { will = q; queue = c.queue }) h
-contents_changed (RemoveWill birth) r q h = changed_in birth (with_will None) r (λ s c. record { will = tt; queue = c.queue }) h
-contents_changed (PutSubscription birth sub) r q h = changed_in birth (with_subscription sub) r (λ s c. record { will = c.will; queue = c.queue }) h
-contents_changed (RemoveSubscription birth text) r q h = changed_in birth (without_subscription text) r (λ s c. record { will = c.will; queue = c.queue }) h
-contents_changed (PutInbound birth id) r q h = changed_in birth (with_open id) r (λ s c. record { will = c.will; queue = c.queue }) h
-contents_changed (RemoveInbound birth id) r q h = changed_in birth (without_open id) r (λ s c. record { will = c.will; queue = c.queue }) h
+contents_changed (PutWill birth will) r q h = changed_in birth (with_will (Some will)) r (λ s c. record { will = q; subscriptions = c.subscriptions; table = c.table; queue = c.queue }) h
+contents_changed (RemoveWill birth) r q h = changed_in birth (with_will None) r (λ s c. record { will = tt; subscriptions = c.subscriptions; table = c.table; queue = c.queue }) h
+contents_changed (PutSubscription birth sub) r q h = changed_in birth (with_subscription sub) r (λ s c. subscribed sub s q c) h
+contents_changed (RemoveSubscription birth text) r q h = changed_in birth (without_subscription text) r (λ s c. unsubscribed text s c) h
+contents_changed (PutInbound birth id) r q h = changed_in birth (with_open id) r (λ s c. record { will = c.will; subscriptions = c.subscriptions; table = c.table; queue = c.queue }) h
+contents_changed (RemoveInbound birth id) r q h = changed_in birth (without_open id) r (λ s c. record { will = c.will; subscriptions = c.subscriptions; table = c.table; queue = c.queue }) h
 contents_changed (PutCopy birth e) r q h =
-    changed_in birth (with_copy e) r (λ s c. record { will = c.will; queue = each_put copy_place Published QUEUE_LIMIT e s.queue q c.queue }) h
+    changed_in birth (with_copy e) r (λ s c. record { will = c.will; subscriptions = c.subscriptions; table = c.table; queue = each_put copy_place Copied QUEUE_LIMIT e s.queue q c.queue }) h
 contents_changed (SetCopy birth place phase) r q h =
-    changed_in birth (with_phase place phase) r (λ s c. record { will = c.will; queue = each_change copy_place Published place (in_phase phase) s.queue (λ e u. u) c.queue }) h
+    changed_in birth (with_phase place phase) r (λ s c. record { will = c.will; subscriptions = c.subscriptions; table = c.table; queue = each_change copy_place Copied place (in_phase phase) s.queue (λ e u. u) c.queue }) h
 contents_changed (RemoveCopy birth place) r q h =
-    changed_in birth (without_copy place) r (λ s c. record { will = c.will; queue = each_filter Published (λ e. not (nat_eq (copy_place e) place)) s.queue c.queue }) h
+    changed_in birth (without_copy place) r (λ s c. record { will = c.will; subscriptions = c.subscriptions; table = c.table; queue = each_filter Copied (λ e. not (nat_eq (copy_place e) place)) s.queue c.queue }) h
 contents_changed (PutRetained kept) r q h = record { sessions = h.sessions; retained = each_put kept_place Retains RETAINED_LIMIT kept r.retained q h.retained }
 contents_changed (RemoveRetained place) r q h =
     record { sessions = h.sessions; retained = each_filter Retains (λ k. not (nat_eq (kept_place k) place)) r.retained h.retained }
@@ -89,7 +111,8 @@ contents_all (change ∷ changes) r q h = contents_all changes (changed change r
 abbrev pub Brings : Deed → Broker → Type 0
 Brings (Begin row will) b = IsWilled will
 Brings (At who (Resume expiry will)) b = IsWilled will
-Brings (At who (Enter copy)) b = IsPublished copy.content
+Brings (At who (Enter copy)) b = IsCopied copy
+Brings (At who (Subscribe sub)) b = IsAskedFor sub
 Brings (Keep kept) b = IsPublished kept.content
 Brings (On line (SetAlias alias topic)) b = IsTopic topic
 Brings d b = ⊤
@@ -99,6 +122,7 @@ part_brings who part None b q = tt
 part_brings who (Resume expiry None) (Some s) b q = (tt, (tt, tt))
 part_brings who (Resume expiry (Some will)) (Some s) b q = (tt, (q, tt))
 part_brings who (Enter copy) (Some s) b q = (q, tt)
+part_brings who (Subscribe sub) (Some s) b q = (q, tt)
 part_brings who part (Some s) b q = (tt, tt)
 
 rows_bring : (d : Deed) (b : Broker) → Brings d b → RowsBring (rows_of d b.records)

@@ -77,4 +77,7 @@ pub mod OpenLists
 pub mod PassedContents
 pub mod ContentRows
 pub mod ContentPackets
+pub mod ContentCopies
 pub mod ContentLaw
+pub mod SentContents
+pub mod SpelledContents

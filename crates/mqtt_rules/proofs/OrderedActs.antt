@@ -228,7 +228,7 @@ module _ (env : Env) (P : Records → Type 0) (Good : Deed → Broker → Type 0
     ends = λ s b p its among may. led (end_session s) b (plain_end s) p;
     resumes = λ l c s b p its none came taken own is prepared. led (At (whose s) (Resume (expiry_of c) (will_of c)) ∷ greet l c s.birth ∷ []) b (tt, (tt, tt)) p;
     begins = λ l c b p its none came taken name is room prepared. begins_named (is_empty c.client_identifier) l c b p (ltb-true (length b.records.sessions) env.limits.sessions room);
-    grants = λ w s b p its granted. k.grants w s b granted.session granted.has_room p;
+    grants = λ w s b p its asked granted. k.grants w s b granted.session granted.has_room p;
     pumps = λ l s b p its is there. led (pump_deeds l b.now s) b (plain_turns b.now l.number s (pump_turns l b.now s)) p;
     turns = λ a t l s b p its own there is e. led (turn_deeds b.now l.number s t) b (plain_turn b.now l.number s t) p;
     lapses = λ s b p among. led (lapse_deeds b.now s) b (plain_flat (leave_deeds s) (plain_leave s) (lapses b.now s)) p;

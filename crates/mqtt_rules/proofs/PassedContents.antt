@@ -31,17 +31,17 @@ and_two true true p q = refl
 and_two true false p q = absurd cc
 and_two false b p q = absurd cc
 
-not_again : (may found rest : Bool) → ((may || not found) && rest) ≡ true → may ≡ false → found ≡ false
+pub not_again : (may found rest : Bool) → ((may || not found) && rest) ≡ true → may ≡ false → found ≡ false
 not_again true found rest h never = absurd cc
 not_again false true rest h never = absurd cc
 not_again false false rest h never = refl
 
-unless_found : (may found rest : Bool) → found ≡ false → rest ≡ true → ((may || not found) && rest) ≡ true
+pub unless_found : (may found rest : Bool) → found ≡ false → rest ≡ true → ((may || not found) && rest) ≡ true
 unless_found may true rest none r = absurd cc
 unless_found true false rest none r = r
 unless_found false false rest none r = r
 
-where_may : (may found rest : Bool) → may ≡ true → rest ≡ true → ((may || not found) && rest) ≡ true
+pub where_may : (may found rest : Bool) → may ≡ true → rest ≡ true → ((may || not found) && rest) ≡ true
 where_may true found rest m r = r
 where_may false found rest m r = absurd cc
 
@@ -59,7 +59,7 @@ has_other a b (p ∷ ps) rest apart none = elim (cases_Bool (is_named b p)) [
   | inr other ↦ rw other (has_other a b ps rest apart none)
 ]
 
-name_is : (name : PropName) (p : Prop) → is_named name p ≡ true → p.name ≡ name
+pub name_is : (name : PropName) (p : Prop) → is_named name p ≡ true → p.name ≡ name
 name_is name p named = id_is p.name name (eqb-true (property_row p.name).id (property_row name).id named)
 
 once : (place : Place) (name : PropName) (ps rest : List Prop) → may_repeat place name ≡ false → none_repeats place ps ≡ true → has name rest ≡ false → none_repeats Publish rest ≡ true
@@ -189,7 +189,7 @@ chain_may ps =
     (all_may CorrelationData ps (users_of ps) refl
     (all_may UserProperty ps [] refl refl)))))
 
-no_data : (found other : Bool) → found ≡ false → (not found || other) ≡ true
+pub no_data : (found other : Bool) → found ≡ false → (not found || other) ≡ true
 no_data true other e = absurd cc
 no_data false other e = refl
 
@@ -218,7 +218,7 @@ props_append (p ∷ ps) qs =
     let front = length-append (prop p) (props ps) in
     omega (arith, rest, whole, front)
 
-parted : (name : PropName) (ps : List Prop) → length (props (only name ps)) + length (props (without name ps)) ≡ length (props ps)
+pub parted : (name : PropName) (ps : List Prop) → length (props (only name ps)) + length (props (without name ps)) ≡ length (props ps)
 parted name [] = refl
 parted name (p ∷ ps) =
     let rest = parted name ps in

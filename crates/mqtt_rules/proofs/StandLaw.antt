@@ -153,7 +153,7 @@ stand_law env = record {
   ends = λ s b h its among may. led (end_session s) b h (stands_end s b h (here s b h among));
   resumes = λ l c s b h its none came taken mine is prepared. led (At (whose s) (Resume (expiry_of c) (will_of c)) ∷ greet l c s.birth ∷ []) b h (tt, (tt, tt));
   begins = λ l c b h its none came taken name is room prepared. led (begin_named (is_empty c.client_identifier) l c b.records) b h (stands_begin (is_empty c.client_identifier) l c b);
-  grants = λ w s b h its granted. led (sub.granted_filter env (sub.next_number b.records) s w (brought_to w s b) b).deeds b h (stands_grants env w s b h);
+  grants = λ w s b h its asked granted. led (sub.granted_filter env (sub.next_number b.records) s w (brought_to w s b) b).deeds b h (stands_grants env w s b h);
   pumps = λ l s b h its is there. led (pump_deeds l b.now s) b h
       (stands_turns b.now l.number s (pump_turns l b.now s) 0 b (still_now s b there) (pumps_rise (way_of l b.now) l.went s (rising s b h there)));
   turns = λ a t l s b h its mine there is e. led (turn_deeds b.now l.number s t) b h

@@ -2,7 +2,7 @@
 use Rattle.std.specs.Prelude.{ℕ, ◌+◌, ◌≤◌, List, length, Option, Some, None, IsTrue}
 use Rattle.std.specs.List.{AllByRecursion}
 use Rattle.mqtt_base.specs.Values.{FitsText}
-use Rattle.mqtt_base.specs.declared.limits.TheConstants.{PACKET_LIMIT}
+use Rattle.mqtt_base.specs.declared.limits.TheConstants.{PACKET_LIMIT, SUBSCRIPTION_LIMIT}
 use Rattle.mqtt_props.specs.declared.place.Place.{Place}
 use Rattle.mqtt_props.specs.declared.place.Place.TheVariants as places
 use Rattle.mqtt_props.specs.Properties.{Prop, FitsBlock, block}
@@ -10,12 +10,18 @@ use Rattle.mqtt_props.specs.Laws.{all_may_stand, is_lawful}
 use Rattle.mqtt_codec.specs.declared.packet.Packet.{Packet}
 use Rattle.mqtt_codec.specs.Packets.{HasSpelling}
 use Rattle.mqtt_topic.specs.Names.{IsTopicName}
+use Rattle.mqtt_topic.specs.Filters.{is_filter}
+use Rattle.mqtt_lawful.specs.Lawful.{IsIdentifier}
+use Rattle.mqtt_message.specs.declared.message.MessageCopy.{MessageCopy}
+use Rattle.mqtt_records.specs.declared.subscription.Subscription.{Subscription}
 use Rattle.mqtt_message.specs.Queue.{CopyRow}
 use Rattle.mqtt_message.specs.declared.message.Content.{Content}
 use Rattle.mqtt_message.specs.declared.message.Will.{Will}
 use Rattle.mqtt_message.specs.declared.message.RetainedMessage.{RetainedMessage}
 use Rattle.mqtt_records.specs.declared.session.Session.{Session}
 use Rattle.mqtt_records.specs.declared.records.Records.{Records}
+use Rattle.mqtt_records.specs.Session.{place_of}
+use Rattle.mqtt_rules.specs.Laws.{IsTable}
 use Rattle.mqtt_rules.specs.Packets.{size_of}
 use Rattle.mqtt_rules.specs.State.{Line, Broker}
 use Rattle.mqtt_rules.specs.Step.{Call, Input}
@@ -57,10 +63,27 @@ abbrev pub IsWilled : Option Will → Type 0
 IsWilled None = Unit {0}
 IsWilled (Some will) = IsContent places.Will will.topic will.properties will.payload
 
--- a session's Will and its copies
+-- Subscription Identifiers, one for each subscription of a session at most
+pub record AreIdentifiers (identifiers : List ℕ) : Type 0 where
+  pub each : AllByRecursion (λ n. IsIdentifier (Some n)) identifiers
+  pub few : length identifiers ≤ SUBSCRIPTION_LIMIT
+
+-- what is sent of a copy
+pub record IsCopied (copy : MessageCopy) : Type 0 where
+  pub content : IsPublished copy.content
+  pub identifiers : AreIdentifiers copy.identifiers
+
+-- a filter, and a Subscription Identifier if there is one
+pub record IsAskedFor (x : Subscription) : Type 0 where
+  pub filter : IsTrue (is_filter x.filter)
+  pub identifier : IsIdentifier x.identifier
+
+-- a session's Will, its subscriptions and its copies
 pub record HasContents (s : Session) : Type 0 where
   pub will : IsWilled s.will
-  pub queue : AllByRecursion (λ (e : CopyRow). IsPublished e.copy.content) s.queue
+  pub subscriptions : AllByRecursion IsAskedFor s.subscriptions
+  pub table : IsTable place_of SUBSCRIPTION_LIMIT s.subscriptions
+  pub queue : AllByRecursion (λ (e : CopyRow). IsCopied e.copy) s.queue
 
 -- those of all sessions, and the retained messages
 pub record HasLawfulContents (r : Records) : Type 0 where

@@ -14,7 +14,7 @@ mod routing_laws;
 mod topic_laws;
 
 pub use copy_laws::copies_keep_their_size;
-pub use content_laws::contents_are_lawful;
+pub use content_laws::{contents_are_lawful, stored_copies_have_a_spelling};
 pub use fit_laws::rows_always_fit;
 pub use flight_laws::identifiers_in_flight_are_unique;
 pub use lawful_laws::{lawful_records_may_be_opened, open_identifiers_are_one_list};

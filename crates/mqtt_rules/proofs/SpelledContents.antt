@@ -1,0 +1,65 @@
+-- The PUBLISH of each stored copy has a spelling, whenever it is sent.
+use Rattle.std.proofs.Common.{ℕ, ◌+◌, ◌*◌, ◌≤◌, ◌<◌, ◌^◌, List, length, arith}
+use Rattle.std.proofs.lemmas.List.{length-append}
+use Rattle.mqtt_base.specs.Values.{varint}
+use Rattle.mqtt_base.proofs.Varints.{varint_sizes}
+use Rattle.mqtt_base.specs.declared.limits.TheConstants.{PACKET_LIMIT, SUBSCRIPTION_LIMIT}
+use Rattle.mqtt_base.specs.declared.session.Qos.{Qos}
+use Rattle.mqtt_base.specs.declared.session.Qos.TheVariants.{AtMostOnce, AtLeastOnce, ExactlyOnce}
+use Rattle.mqtt_props.specs.declared.place.Place.TheVariants as places
+use Rattle.mqtt_props.specs.Properties.{Prop, props, block}
+use Rattle.mqtt_message.specs.Queue.{first_sent, identifier_len, IsSpelled}
+use Rattle.mqtt_message.specs.declared.message.MessageCopy.{MessageCopy}
+use Rattle.mqtt_lawful.specs.Lawful.{IsMessage}
+use Rattle.mqtt_rules.specs.Contents.{IsCopied}
+use Rattle.mqtt_rules.proofs.SentContents.{longest, sent_size, sent_fits, sent_may, sent_lawful}
+
+-- bytes of a block, and of its length
+props_short : (ps : List Prop) (more : ℕ) → length (block ps) + more ≤ PACKET_LIMIT → length (props ps) + more ≤ PACKET_LIMIT
+props_short ps more le =
+    let parts = length-append (varint (length (props ps))) (props ps) in
+    omega (arith, le, parts)
+
+block_short : (ps : List Prop) → length (props ps) < 2 ^ 28 → length (block ps) ≤ 4 + length (props ps)
+block_short ps short =
+    let parts = length-append (varint (length (props ps))) (props ps) in
+    let four = varint_sizes (length (props ps)) 268435455 (omega (arith, short)) in
+    let top = longest in
+    omega (arith, parts, four, top)
+
+identifier_short : (q : Qos) → identifier_len q ≤ 2
+identifier_short AtMostOnce = omega arith
+identifier_short AtLeastOnce = omega arith
+identifier_short ExactlyOnce = omega arith
+
+block_size : (copy : MessageCopy) → IsCopied copy → length (block (first_sent copy)) + length copy.content.payload ≤ 4 + PACKET_LIMIT + 5 * SUBSCRIPTION_LIMIT
+block_size copy h =
+    let ps = copy.content.properties in
+    let short = props_short ps (length copy.content.payload) h.content.short in
+    let size = sent_size 0 copy.identifiers ps h.identifiers h.content.fits in
+    let block = block_short (first_sent copy) (omega (arith, short, size)) in
+    omega (arith, short, size, block)
+
+pub copy_spelled : (copy : MessageCopy) → IsCopied copy → IsSpelled copy
+copy_spelled copy h =
+    let ps = copy.content.properties in
+    let short = props_short ps (length copy.content.payload) h.content.short in
+    let size = block_size copy h in
+    let topic = h.content.named.fits.0 in
+    let identifier = identifier_short copy.qos in
+    record {
+      properties = sent_fits 0 copy.identifiers ps h.identifiers h.content.fits (omega (arith, short));
+      short = omega (arith, size, topic, identifier);
+    }
+
+pub copy_message : (copy : MessageCopy) → IsCopied copy → IsMessage places.Publish copy.content.topic (first_sent copy) copy.content.payload
+copy_message copy h =
+    let ps = copy.content.properties in
+    let size = block_size copy h in
+    let topic = h.content.named.fits.0 in
+    record {
+      may = sent_may 0 copy.identifiers ps h.identifiers h.content.may;
+      lawful = sent_lawful 0 copy.identifiers ps h.identifiers h.content.may h.content.lawful;
+      short = omega (arith, size, topic);
+      topic = h.content.named.name;
+    }
