@@ -1,2 +1,7 @@
 pub mod Then
 pub mod Opens
+pub mod Below
+pub mod Leading
+pub mod Delivered
+pub mod Offered
+pub mod Published
