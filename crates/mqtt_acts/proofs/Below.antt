@@ -1,5 +1,5 @@
 -- A copy enters a queue that is below its limit.
-use Rattle.std.proofs.Common.{◌≡◌, ℕ, zero, suc, ◌+◌, ◌-◌, ◌<◌, List, [], ◌∷◌, ◌++◌, length, refl, ap, sym, ◌∙◌, arith}
+use Rattle.std.proofs.Common.{◌≡◌, ℕ, suc, ◌+◌, ◌-◌, ◌<◌, List, [], ◌∷◌, ◌++◌, length, refl, ap, sym, ◌∙◌, arith}
 use Rattle.std.specs.Prelude.{Option, Some, None, flat_map, map}
 use Rattle.mqtt_flow.specs.declared.entry.Entry.{Entry}
 use Rattle.mqtt_flow.specs.Outbound.{dropped}
@@ -7,7 +7,7 @@ use Rattle.mqtt_message.specs.declared.message.MessageCopy.{MessageCopy}
 use Rattle.mqtt_message.specs.Queue.{CopyRow}
 use Rattle.mqtt_records.specs.declared.session.Session.{Session}
 use Rattle.mqtt_rules.specs.State.{Broker, Env, session_at, entry_on, queue_on}
-use Rattle.mqtt_rules.specs.Deeds.{Enter, Deed, At, whose, with_session, of_session, always}
+use Rattle.mqtt_rules.specs.Deeds.{Enter, At, whose, with_session, of_session, always}
 use Rattle.mqtt_rules.specs.Outbound.{leave_deeds, since, enter_deeds}
 use Rattle.mqtt_tables.specs.declared.fault.StepFault.{StepFault}
 use Rattle.mqtt_tables.specs.Stepping.{Stepping, Did, Does, IsLeft, Leaves, env_in, to_session}

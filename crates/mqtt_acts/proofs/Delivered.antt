@@ -1,13 +1,12 @@
 -- Copies are handed over, one after the other: the room for those that are left.
-use Rattle.std.proofs.Common.{◌≡◌, ℕ, suc, ◌+◌, ◌-◌, ◌<◌, ◌≤◌, Bool, true, false, cond, ◌&&◌, ◌||◌, List, [], ◌∷◌, ◌++◌, length, map, filter, nat_eq, nat_lt, nat_le, refl, ap, sym, subst, ◌∙◌, arith, inl, inr}
-use Rattle.std.specs.Prelude.{Option, Some, None, option_map, is_some}
+use Rattle.std.proofs.Common.{◌≡◌, ℕ, suc, ◌-◌, ◌<◌, ◌≤◌, Bool, true, false, cond, ◌&&◌, ◌||◌, List, [], ◌∷◌, length, map, filter, nat_eq, nat_lt, nat_le, refl, ap, sym, subst, ◌∙◌, arith, inl, inr}
+use Rattle.std.specs.Prelude.{Option, Some, None, option_map}
 use Rattle.std.specs.List.{AllByRecursion}
 use Rattle.std.proofs.lemmas.Bool.{eqb-true, cases_Bool}
 use Rattle.std.proofs.lemmas.Cmp.{nat_eq_equiv}
 use Rattle.mqtt_base.specs.declared.limits.TheConstants.{QUEUE_LIMIT}
 use Rattle.mqtt_codec.specs.declared.packet.Packet.{Packet}
 use Rattle.mqtt_flow.specs.declared.entry.Full.TheVariants.{Refuse}
-use Rattle.mqtt_flow.specs.declared.entry.Full.{Full}
 use Rattle.mqtt_flow.specs.Outbound.{staying}
 use Rattle.mqtt_message.specs.declared.message.MessageCopy.{MessageCopy}
 use Rattle.mqtt_message.specs.Queue.{CopyRow, IsSpelled}
@@ -17,7 +16,7 @@ use Rattle.mqtt_rows.specs.Order.{row_at, has_row, insert_row, put_row, change_r
 use Rattle.mqtt_records.specs.Session.{birth_of, copy_place, with_copy}
 use Rattle.mqtt_records.specs.Records.{in_session}
 use Rattle.mqtt_rules.specs.State.{Line, Broker, Env, MemberChoice, session_at, line_of, queue_on}
-use Rattle.mqtt_rules.specs.Deeds.{Deed, Act, At, Enter, Whose, whose, after_all, series, offer, of_session, with_session, always, new_entry}
+use Rattle.mqtt_rules.specs.Deeds.{At, Enter, Whose, whose, offer, of_session, with_session, always, new_entry}
 use Rattle.mqtt_rules.specs.Laws.{is_entering}
 use Rattle.mqtt_rules.specs.Outbound.{since, room, room_at, enter_deeds}
 use Rattle.mqtt_rules.specs.Routing.{CopyTo, is_queued, deliver, deliver_by}

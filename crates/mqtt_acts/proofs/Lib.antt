@@ -5,3 +5,4 @@ pub mod Leading
 pub mod Delivered
 pub mod Offered
 pub mod Published
+pub mod Taken

@@ -1,23 +1,21 @@
 -- A publication is accepted, retained, and handed over.
-use Rattle.std.proofs.Common.{◌≡◌, ℕ, ◌≤◌, Bool, true, false, List, [], ◌∷◌, length, map, filter, refl, ap, sym, subst, ◌∙◌}
+use Rattle.std.proofs.Common.{◌≡◌, ℕ, ◌≤◌, Bool, true, false, List, length, filter, refl, ap, sym, subst, ◌∙◌}
 use Rattle.std.specs.Prelude.{Option, Some, None, option_map}
 use Rattle.mqtt_topic.specs.Names.{is_empty}
-use Rattle.mqtt_flow.specs.declared.entry.Full.TheVariants.{Refuse}
 use Rattle.mqtt_message.specs.declared.message.RetainedMessage.{RetainedMessage}
 use Rattle.mqtt_records.specs.declared.session.Session.{Session}
-use Rattle.mqtt_records.specs.declared.records.Records.{Records}
 use Rattle.mqtt_rows.specs.Order.{row_at}
 use Rattle.mqtt_records.specs.Session.{birth_of}
 use Rattle.mqtt_records.specs.Records.{kept_place}
-use Rattle.mqtt_rules.specs.State.{Broker, Env, MemberChoice, next_of, session_at}
-use Rattle.mqtt_rules.specs.Deeds.{Act, Message, Origin, then, series, whose}
+use Rattle.mqtt_rules.specs.State.{Broker, Env, next_of, session_at}
+use Rattle.mqtt_rules.specs.Deeds.{Act, Message, Origin, then, whose}
 use Rattle.mqtt_rules.specs.Laws.{is_entering}
 use Rattle.mqtt_rules.specs.Outbound.{room_at}
-use Rattle.mqtt_rules.specs.Routing.{CopyTo, deliver, forgets, next_publication, publish, retain_by, retained_of}
+use Rattle.mqtt_rules.specs.Routing.{CopyTo, forgets, next_publication, publish, retain_by, retained_of}
 use Rattle.mqtt_tables.specs.Doing.{accepts}
 use Rattle.mqtt_tables.specs.declared.fault.StepFault.{StepFault}
 use Rattle.mqtt_tables.specs.Stepping.{Stepping, did, Did, Does, IsLeft, Leaves, env_in}
-use Rattle.mqtt_acts.specs.Delivering.{delivers_all, HasRoom, HasRoomIn, SameSessions}
+use Rattle.mqtt_acts.specs.Delivering.{delivers_all, HasRoomIn, SameSessions}
 use Rattle.mqtt_acts.proofs.Then.{same_act, same_left, did_then, left_first, left_then}
 use Rattle.mqtt_acts.proofs.Leading.{same_env}
 

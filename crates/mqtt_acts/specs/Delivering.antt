@@ -1,5 +1,5 @@
 -- Copies that are handed over, one after the other, and the room for them (MQTT 5.0, 3.3.4, 4.3, 4.8).
-use Rattle.std.specs.Prelude.{◌≡◌, ℕ, ◌≤◌, ◌<◌, Bool, true, false, List, length, filter, map, Option, Some, option_map}
+use Rattle.std.specs.Prelude.{◌≡◌, ℕ, ◌≤◌, ◌<◌, false, List, length, filter, map, Option, Some, option_map}
 use Rattle.mqtt_message.specs.declared.message.MessageCopy.{MessageCopy}
 use Rattle.mqtt_records.specs.declared.session.Session.{Session}
 use Rattle.mqtt_records.specs.declared.records.Records.{Records}
@@ -8,7 +8,7 @@ use Rattle.mqtt_rules.specs.State.{Env, MemberChoice, session_at, line_of}
 use Rattle.mqtt_rules.specs.Deeds.{Act, Whose, whose, offer, series}
 use Rattle.mqtt_rules.specs.Laws.{is_entering}
 use Rattle.mqtt_rules.specs.Outbound.{room_at}
-use Rattle.mqtt_rules.specs.Routing.{CopyTo, is_queued, deliver}
+use Rattle.mqtt_rules.specs.Routing.{CopyTo, deliver}
 use Rattle.mqtt_tables.specs.Stepping.{Stepping, env_in}
 
 -- a copy goes to the session that its own name has

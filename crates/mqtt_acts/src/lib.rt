@@ -9,6 +9,7 @@ mod ping;
 mod publishing;
 mod releasing;
 mod retaining;
+mod taking;
 
 pub use answering::{answer, open_by, publish_again};
 pub use delivering::{deliver, deliver_all};
@@ -18,3 +19,4 @@ pub use ping::pingreq;
 pub use publishing::publish;
 pub use releasing::pubrel;
 pub use retaining::retain;
+pub use taking::{publish_refused, publish_taken};
