@@ -1,2 +1,8 @@
 pub mod Then
 pub mod Opens
+pub mod Below
+pub mod Leading
+pub mod Delivered
+pub mod Offered
+pub mod Published
+pub mod Taken
