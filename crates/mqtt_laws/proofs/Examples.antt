@@ -16,7 +16,7 @@ use Rattle.mqtt_codec.specs.Publish.{delivery_at, publish_at}
 use Rattle.mqtt_codec.specs.Frames.{frame_at, body_at, versioned_at, lawful_at, packet_at}
 use Rattle.mqtt_packet.specs.Front.{size_at, first_of}
 use Rattle.mqtt_rules.specs.Packets.{pubrec, disconnect}
-use Rattle.mqtt_flow.specs.Publisher.{Fate, ended, completed, forgotten}
+use Rattle.mqtt_inbound.specs.Publisher.{Fate, ended, completed, forgotten}
 use Rattle.mqtt_rules.specs.declared.Report.{Report}
 use Rattle.mqtt_rules.specs.declared.Report.TheVariants.{Accepted, Entered, Released, Ended}
 use Rattle.mqtt_rules.specs.State.{MemberChoice}

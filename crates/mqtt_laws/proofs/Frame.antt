@@ -5,8 +5,8 @@ use Rattle.std.specs.Prelude.{option_map, find, filter_map, is_some}
 use Rattle.std.specs.List.{AllByRecursion, starts_with}
 use Rattle.std.proofs.lemmas.Bool.{cases_Bool}
 use Rattle.std.proofs.lemmas.Slice.Eq.{bytes_eq-Decides}
-use Rattle.mqtt_flow.specs.Publisher.{ToPublisher}
-use Rattle.mqtt_flow.specs.InboundWorld.{World as Hop, Event as HopEvent, close_old, run}
+use Rattle.mqtt_inbound.specs.Publisher.{ToPublisher}
+use Rattle.mqtt_inbound.specs.InboundWorld.{World as Hop, Event as HopEvent, close_old, run}
 use Rattle.mqtt_records.specs.declared.session.Session.{Session}
 use Rattle.mqtt_records.specs.declared.change.Change.{Change}
 use Rattle.mqtt_rows.specs.Order.{row_at}

@@ -6,8 +6,8 @@ use Rattle.std.proofs.lemmas.Bool.{eqb-true, cases_Bool}
 use Rattle.mqtt_base.specs.Codes.{session_taken_over}
 use Rattle.mqtt_codec.specs.declared.packet.Packet.TheVariants.{Connect}
 use Rattle.mqtt_flow.specs.Outbound.{due_from}
-use Rattle.mqtt_flow.specs.Publisher.{FromPublisher, CONNECT, ToPublisher, DISCONNECT}
-use Rattle.mqtt_flow.specs.InboundWorld.{World as Hop, takes, old_to_broker, taken_over, step}
+use Rattle.mqtt_inbound.specs.Publisher.{FromPublisher, CONNECT, ToPublisher, DISCONNECT}
+use Rattle.mqtt_inbound.specs.InboundWorld.{World as Hop, takes, old_to_broker, taken_over, step}
 use Rattle.mqtt_records.specs.declared.session.Session.{Session}
 use Rattle.mqtt_rules.specs.declared.Limits.{Limits}
 use Rattle.mqtt_rules.specs.State.{MemberChoice, Line as BrokerLine, Broker, session_named, line_at, line_of, queue_on}

@@ -17,13 +17,13 @@ use Rattle.mqtt_codec.specs.declared.packet.Packet.TheVariants.{Connect, Connack
 use Rattle.mqtt_codec.specs.declared.packet.Packet.TheVariants.{Pubcomp, Subscribe, Suback, Disconnect}
 use Rattle.mqtt_codec.specs.Options.{options_byte}
 use Rattle.mqtt_base.specs.declared.limits.TheConstants.{OPEN_LIMIT}
-use Rattle.mqtt_flow.specs.Identifiers.{is_among, ids_without, free_identifier}
-use Rattle.mqtt_flow.specs.Line.{Link, away, asked, live, sent_on}
+use Rattle.mqtt_inbound.specs.Identifiers.{is_among, ids_without, free_identifier}
+use Rattle.mqtt_inbound.specs.Line.{Link, away, asked, live, sent_on}
 use Rattle.mqtt_base.specs.Codes.{success, identifier_not_found}
-use Rattle.mqtt_flow.specs.Publisher.{Qos, qos_1, qos_2, Fate, FromPublisher, CONNECT, PUBLISH_1, PUBLISH_2, PUBREL}
-use Rattle.mqtt_flow.specs.Publisher.{ToPublisher, CONNACK, CONNACK_REFUSED, PUBACK, PUBREC, PUBCOMP, DISCONNECT}
-use Rattle.mqtt_flow.specs.Publisher.{in_flight, first_fate, first_packet, resent_from, on_new_session, on_puback}
-use Rattle.mqtt_flow.specs.Publisher.{on_pubrec, on_pubcomp, pubrel_for}
+use Rattle.mqtt_inbound.specs.Publisher.{Qos, qos_1, qos_2, Fate, FromPublisher, CONNECT, PUBLISH_1, PUBLISH_2, PUBREL}
+use Rattle.mqtt_inbound.specs.Publisher.{ToPublisher, CONNACK, CONNACK_REFUSED, PUBACK, PUBREC, PUBCOMP, DISCONNECT}
+use Rattle.mqtt_inbound.specs.Publisher.{in_flight, first_fate, first_packet, resent_from, on_new_session, on_puback}
+use Rattle.mqtt_inbound.specs.Publisher.{on_pubrec, on_pubcomp, pubrel_for}
 use Rattle.mqtt_flow.specs.Receiver.{Body, Answer, connect, puback, pubrec, pubcomp, kept_after}
 use Rattle.mqtt_rules.specs.Packets.{property}
 use Rattle.mqtt_rules.specs.Packets as packets

@@ -2,10 +2,10 @@
 ghost use Rattle.std.specs.Prelude.{◌≡◌, ℕ, ◌≤◌, [], ◌∷◌, Bool, List, Some, None, true, false, suc, length, nat_eq};
 ghost use Rattle.std.specs.Prelude.{nat_lt, slice_get, count_by};
 ghost use Rattle.std.specs.List.{AllByRecursion, starts_with};
-ghost use Rattle.mqtt_flow.specs.Publisher.{Qos, IsExactlyOnce, completed, refused, ended, ended_1, CONNECT};
-ghost use Rattle.mqtt_flow.specs.Publisher.{PUBLISH_1, PUBLISH_2, PUBREL};
-ghost use Rattle.mqtt_flow.specs.InboundWorld.{Event as HopEvent, takes, to_broker, old_to_broker, publish, give_up};
-ghost use Rattle.mqtt_flow.specs.InboundWorld.{break, connect, restart, step, run};
+ghost use Rattle.mqtt_inbound.specs.Publisher.{Qos, IsExactlyOnce, completed, refused, ended, ended_1, CONNECT};
+ghost use Rattle.mqtt_inbound.specs.Publisher.{PUBLISH_1, PUBLISH_2, PUBREL};
+ghost use Rattle.mqtt_inbound.specs.InboundWorld.{Event as HopEvent, takes, to_broker, old_to_broker, publish, give_up};
+ghost use Rattle.mqtt_inbound.specs.InboundWorld.{break, connect, restart, step, run};
 ghost use Rattle.mqtt_records.specs.declared.session.Session.{Session};
 ghost use Rattle.mqtt_rules.specs.declared.Limits.{Limits};
 ghost use Rattle.mqtt_rules.specs.State.{Line, Broker, MemberChoice, session_at, session_named};
