@@ -15,23 +15,32 @@ fn clone_of<T: Clone + Drop>(value: T) -> Result<T, AllocError> {
 fn a_clone_of_a_text_outlives_its_source(rt: HostRuntime) -> Result<(), Fail> {
     assert!(rt; Text::may_hold("caf\u{e9}"));
     let copy = clone_of(Text::new(rt.alloc(), "caf\u{e9}")?)?;
-    assert!(rt; copy.as_str() == "caf\u{e9}");
+    let is_same = copy.as_str() == "caf\u{e9}";
+    drop(copy);
+    assert!(rt; is_same);
     Ok(())
 }
 
 #[test]
 fn a_clone_of_binary_data_has_its_bytes(rt: HostRuntime) -> Result<(), Fail> {
     let blob = Blob::new(rt.alloc(), &[0, 0xff])?;
-    assert!(rt; blob.as_slice() == [0, 0xff].as_slice());
+    let is_made = blob.as_slice() == [0, 0xff].as_slice();
     let copy = clone_of(blob)?;
-    assert!(rt; copy.as_slice() == [0, 0xff].as_slice());
+    let is_same = copy.as_slice() == [0, 0xff].as_slice();
+    drop(copy);
+    assert!(rt; is_made && is_same);
     Ok(())
 }
 
 #[test]
 fn shared_binary_data_has_its_bytes(rt: HostRuntime) -> Result<(), Fail> {
     let blob = Blob::new(rt.alloc(), &[0, 0xff])?;
-    assert!(rt; blob.share()?.as_slice() == [0, 0xff].as_slice());
+    let shared = blob.share();
+    drop(blob);
+    let shared = shared?;
+    let is_same = shared.as_slice() == [0, 0xff].as_slice();
+    drop(shared);
+    assert!(rt; is_same);
     Ok(())
 }
 
@@ -39,34 +48,39 @@ fn shared_binary_data_has_its_bytes(rt: HostRuntime) -> Result<(), Fail> {
 fn a_clone_of_a_pair_has_its_texts(rt: HostRuntime) -> Result<(), Fail> {
     assert!(rt; Text::may_hold("caf\u{e9}") && Text::may_hold("drink"));
     let copy = clone_of(Pair::new(rt.alloc(), "drink", "caf\u{e9}")?)?;
-    assert!(rt; copy.name.as_str() == "drink");
-    assert!(rt; copy.value.as_str() == "caf\u{e9}");
+    let is_same = copy.name.as_str() == "drink" && copy.value.as_str() == "caf\u{e9}";
+    drop(copy);
+    assert!(rt; is_same);
     Ok(())
 }
 
-/// The name of a copy that a session got for this cause.
-fn copy_for(cause: Cause) -> CopyId {
-    CopyId {
+/// Whether the name of a copy that a session got for this cause is cloned.
+fn is_cloned(cause: Cause) -> Result<bool, AllocError> {
+    let id = CopyId {
         publication: 1,
         birth: 2,
         cause,
-    }
+    };
+    let copy: Result<CopyId, AllocError> = id.clone();
+    let is_same = match copy {
+        Ok(copy) => {
+            let is_same = copy == id;
+            drop(copy);
+            Ok(is_same)
+        }
+        Err(error) => Err(error),
+    };
+    drop(id);
+    is_same
 }
 
 #[test]
 fn a_clone_names_the_same_copy(rt: HostRuntime) -> Result<(), Fail> {
     let group = "name/a/b";
     assert!(rt; Text::may_hold(group));
-    let causes = [
-        Cause::Direct,
-        Cause::Share {
-            group: Text::new(rt.alloc(), group)?,
-        },
-        Cause::Retained { subscribe: 3 },
-    ];
-    for cause in causes {
-        let id = copy_for(cause);
-        assert!(rt; id.clone()? == id);
-    }
+    let group = Text::new(rt.alloc(), group)?;
+    assert!(rt; is_cloned(Cause::Share { group })?);
+    assert!(rt; is_cloned(Cause::Direct)?);
+    assert!(rt; is_cloned(Cause::Retained { subscribe: 3 })?);
     Ok(())
 }

@@ -1,7 +1,16 @@
 //! The numbers of faults, packet types, services and reason codes (2.1.2, 2.4, 3.8.3.1, 4.3).
 
 use mqtt_base::{Kind, Qos, ReadFault, Reason, RetainHandling};
+use std::alloc::Global;
 use std::test::Fail;
+
+/// Whether a fault has this text.
+fn is_shown(alloc: Global, fault: ReadFault, text: &str) -> Result<bool, Fail> {
+    let shown = format!(in alloc; "{fault}")?;
+    let is = shown.as_str() == text;
+    drop(shown);
+    Ok(is)
+}
 
 #[test]
 fn faults_say_what_they_mean(rt: HostRuntime) -> Result<(), Fail> {
@@ -20,9 +29,7 @@ fn faults_say_what_they_mean(rt: HostRuntime) -> Result<(), Fail> {
     ];
     for (fault, number, text) in texts {
         assert!(rt; fault as u8 == number, "{fault:?}");
-        let mut shown = String::new(rt.alloc());
-        write!(shown, "{fault}")?;
-        assert!(rt; shown.as_str() == text, "{fault:?}");
+        assert!(rt; is_shown(rt.alloc(), fault, text)?, "{fault:?}");
     }
     Ok(())
 }

@@ -2,9 +2,9 @@
 
 use mqtt_base::{ReadFault, Text, blob_read, text_read, u8_read, u32_read};
 
-#[test]
-fn texts_are_utf8_without_null(rt: HostRuntime) {
-    let rows: [(&[u8], &str); 8] = [
+/// Bytes, and the text that they are.
+fn texts() -> &'static [(&'static [u8], &'static str)] {
+    &[
         (&[0, 0], ""),
         // The example of 1.5.4: U+0041, then U+2A6D4.
         (&[0, 5, 0x41, 0xf0, 0xaa, 0x9b, 0x94], "A\u{2a6d4}"),
@@ -16,15 +16,20 @@ fn texts_are_utf8_without_null(rt: HostRuntime) {
         (&[0, 3, 0x7f, 0xc2, 0x9f], "\u{7f}\u{9f}"),
         (&[0, 3, 0xef, 0xbf, 0xbf], "\u{ffff}"),
         (&[0, 4, 0xf4, 0x8f, 0xbf, 0xbf], "\u{10ffff}"),
-    ];
-    for (bytes, text) in rows {
-        assert!(rt; text_read(bytes) == Ok((text, bytes.len())), "at {bytes:?}");
-    }
+    ]
 }
 
 #[test]
-fn bad_texts_are_refused_once_all_bytes_are_there(rt: HostRuntime) {
-    let rows: [(&[u8], ReadFault); 13] = [
+fn texts_are_utf8_without_null(rt: HostRuntime) {
+    for (bytes, text) in texts() {
+        let found = text_read(bytes);
+        assert!(rt; found == Ok((*text, bytes.len())), "at {bytes:?}");
+    }
+}
+
+/// Bytes, and why they are no text.
+fn bad_texts() -> &'static [(&'static [u8], ReadFault)] {
+    &[
         (&[], ReadFault::Short),
         (&[0], ReadFault::Short),
         (&[0, 1], ReadFault::Short),
@@ -43,9 +48,14 @@ fn bad_texts_are_refused_once_all_bytes_are_there(rt: HostRuntime) {
         // Above U+10FFFF, and a character that the text cuts off.
         (&[0, 4, 0xf4, 0x90, 0x80, 0x80], ReadFault::BadText),
         (&[0, 2, 0xe2, 0x82, 0xac], ReadFault::BadText),
-    ];
-    for (bytes, fault) in rows {
-        assert!(rt; text_read(bytes) == Err(fault), "at {bytes:?}");
+    ]
+}
+
+#[test]
+fn bad_texts_are_refused_once_all_bytes_are_there(rt: HostRuntime) {
+    for (bytes, fault) in bad_texts() {
+        let found = text_read(bytes);
+        assert!(rt; found == Err(*fault), "at {bytes:?}");
     }
 }
 

@@ -4,7 +4,7 @@ use Rattle.std.proofs.lemmas.Fmt.{decimal_digit}
 use Rattle.hex.specs.Hex.{encode_with}
 use Rattle.clap.proofs.OnLiterals.{clap_on_literals}
 use Rattle.clap.specs.Words.{Text}
-use Rattle.mqtt_codec.specs.declared.fault.Fault.TheVariants.{TooLarge}
+use Rattle.mqtt_fields.specs.declared.fault.Fault.TheVariants.{TooLarge}
 use Rattle.mqtt_codec.specs.declared.packet.Packet.TheVariants.{Publish, Pingreq}
 use Rattle.mqtt_codec.specs.declared.publish.Delivery.TheVariants.{AtMostOnce}
 use Rattle.mqtt_packet.specs.Stream.{Item, short_at, fault_at}

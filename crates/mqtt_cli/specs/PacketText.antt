@@ -6,14 +6,14 @@ use Rattle.hex.specs.Hex.{encode_lower}
 use Rattle.mqtt_props.specs.Properties.{Prop}
 use Rattle.mqtt_codec.specs.declared.ack.Ack.{Ack}
 use Rattle.mqtt_codec.specs.declared.connack.Connack.{Connack}
-use Rattle.mqtt_codec.specs.declared.connect.Connect.{Connect}
+use Rattle.mqtt_connect.specs.declared.connect.Connect.{Connect}
 use Rattle.mqtt_codec.specs.declared.notice.Notice.{Notice}
 use Rattle.mqtt_codec.specs.declared.publish.Delivery.{Delivery}
 use Rattle.mqtt_codec.specs.declared.publish.Delivery.TheVariants.{AtMostOnce, AtLeastOnce, ExactlyOnce}
 use Rattle.mqtt_codec.specs.declared.publish.Publish.{Publish}
 use Rattle.mqtt_codec.specs.declared.suback.Suback.{Suback}
-use Rattle.mqtt_codec.specs.declared.subscribe.Subscribe.{Subscribe}
-use Rattle.mqtt_codec.specs.declared.unsubscribe.Unsubscribe.{Unsubscribe}
+use Rattle.mqtt_subscribe.specs.declared.subscribe.Subscribe.{Subscribe}
+use Rattle.mqtt_subscribe.specs.declared.unsubscribe.Unsubscribe.{Unsubscribe}
 use Rattle.mqtt_codec.specs.declared.packet.Packet.{Packet}
 use Rattle.mqtt_codec.specs.declared.packet.Packet.TheVariants as packets
 use Rattle.mqtt_codec.specs.Heads.{bit}

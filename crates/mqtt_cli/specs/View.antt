@@ -2,8 +2,8 @@
 use Rattle.std.specs.Prelude.{ℕ, ◌==◌, Bool, if◌then◌else◌, List, [], ◌∷◌, ◌++◌, length, codes}
 use Rattle.std.specs.List.{flat_map}
 use Rattle.std.specs.Fmt.{decimal}
-use Rattle.mqtt_codec.specs.declared.fault.Fault.{Fault}
-use Rattle.mqtt_codec.specs.declared.fault.Fault.TheVariants.{Malformed, Protocol, TooLarge, Version, Memory}
+use Rattle.mqtt_fields.specs.declared.fault.Fault.{Fault}
+use Rattle.mqtt_fields.specs.declared.fault.Fault.TheVariants.{Malformed, Protocol, TooLarge, Version, Memory}
 use Rattle.mqtt_packet.specs.Stream.{Item, Ending, short_at, fault_at}
 use Rattle.mqtt_cli.specs.PacketText.{packet_text}
 

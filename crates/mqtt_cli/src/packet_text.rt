@@ -262,17 +262,13 @@ fn own_count(packet: &Packet) -> usize
         Packet::Connect(connect) => connect.properties.lend().len(),
         Packet::Connack(connack) => connack.properties.lend().len(),
         Packet::Publish(publish) => publish.properties.lend().len(),
-        Packet::Puback(ack) => ack.properties.lend().len(),
-        Packet::Pubrec(ack) => ack.properties.lend().len(),
-        Packet::Pubrel(ack) => ack.properties.lend().len(),
-        Packet::Pubcomp(ack) => ack.properties.lend().len(),
+        Packet::Puback(ack) | Packet::Pubrec(ack) | Packet::Pubrel(ack) | Packet::Pubcomp(ack) =>
+            ack.properties.lend().len(),
         Packet::Subscribe(subscribe) => subscribe.properties.lend().len(),
-        Packet::Suback(suback) => suback.properties.lend().len(),
         Packet::Unsubscribe(unsubscribe) => unsubscribe.properties.lend().len(),
-        Packet::Unsuback(suback) => suback.properties.lend().len(),
+        Packet::Suback(suback) | Packet::Unsuback(suback) => suback.properties.lend().len(),
         Packet::Pingreq | Packet::Pingresp => 0,
-        Packet::Disconnect(notice) => notice.properties.lend().len(),
-        Packet::Auth(notice) => notice.properties.lend().len(),
+        Packet::Disconnect(notice) | Packet::Auth(notice) => notice.properties.lend().len(),
     }
 }
 

@@ -1,12 +1,13 @@
 //! Whether this program finds of each vector what is known of it (ours).
 
-ghost use Rattle.std.specs.Prelude.{◌≡◌, ◌≢◌, IfOk, IfErr, length};
-ghost use Rattle.std.specs.Io.KnownBytes.{Keeps};
-ghost use Rattle.mqtt_cli.specs.Vectors.{Reports};
+ghost use Rattle.std.specs.Prelude.{◌≡◌, ◌≢◌, ◌<◌, IfOk, IfErr, OnOk, length};
+ghost use Rattle.std.specs.String.{string_bytes};
+ghost use Rattle.std.specs.Io.KnownBytes.{Appends, Keeps};
+ghost use Rattle.mqtt_cli.specs.Vectors.{Reports, report};
 
 use crate::packet_text::push_packet_text;
 use crate::vectors_report::{push_report, status_of};
-use crate::vectors_table::{Gives, VECTORS, Vector};
+use crate::vectors_table::{Gives, Vector, table};
 use crate::viewer::Status;
 use mqtt_packet::{Fault, Framer, Packet, decode, encode, lawful};
 use std::alloc::{AllocError, Global};
@@ -41,11 +42,38 @@ pub fn vectors<W: Write>(alloc: Global, writer: &mut W) -> Result<Status, Vector
     ensures memory { IfErr result (λ fault. fault ≢ VectorsFault.Write
         → Keeps (W.contents writer.old) (W.contents writer.new)) }
 {
-    let rights = checked(alloc, &VECTORS)?;
+    let rights = checked(alloc, table())?;
+    let status = status_of(rights.as_slice());
+    let text = report_text(alloc, rights.as_slice());
+    drop(rights);
+    write_report(writer, text?)?;
+    Ok(status)
+}
+
+/// The text of the report on vectors of which these are right.
+fn report_text(alloc: Global, rights: &[bool]) -> Result<String, AllocError>
+    requires { length rights.now < 1000 }
+    ensures { IfOk result (λ text. string_bytes text ≡ report rights.now) }
+{
     let mut text = String::new(alloc);
-    push_report(&mut text, rights.as_slice())?;
-    match writer.write_all(text.as_str().as_bytes()) {
-        Ok(()) => Ok(status_of(rights.as_slice())),
+    match push_report(&mut text, rights) {
+        Ok(()) => Ok(text),
+        Err(error) => {
+            drop(text);
+            Err(error)
+        }
+    }
+}
+
+/// Writes the text of a report, which is needed no longer.
+fn write_report<W: Write>(writer: &mut W, text: String) -> Result<(), VectorsFault>
+    ensures ok { OnOk result (Appends (W.contents writer.old) (W.contents writer.new) (string_bytes text)) }
+    ensures fault { IfErr result (λ fault. fault ≡ VectorsFault.Write) }
+{
+    let written = writer.write_all(text.as_str().as_bytes());
+    drop(text);
+    match written {
+        Ok(()) => Ok(()),
         Err(_) => Err(VectorsFault::Write),
     }
 }

@@ -1,5 +1,7 @@
 //! Frames of which it is known what they give (2.1, 3).
 
+ghost use Rattle.std.specs.Prelude.{◌≡◌, length};
+
 use mqtt_packet::Fault;
 
 /// What a frame is known to give.
@@ -26,7 +28,13 @@ pub struct Vector {
 }
 
 /// The vectors, the first of which is number 1.
-pub const VECTORS: [Vector; 22] = [
+pub fn table() -> &'static [Vector]
+    ensures { length result.now ≡ 22 }
+{
+    &VECTORS
+}
+
+static VECTORS: [Vector; 22] = [
     Vector {
         frame: b"\xc0\x00",
         gives: Gives::Packet {

@@ -4,6 +4,7 @@ ghost use Rattle.std.specs.Prelude.{◌≡◌, ◌≢◌, ◌==◌, if◌then◌
 ghost use Rattle.std.specs.String.{string_bytes};
 ghost use Rattle.std.specs.Io.KnownBytes.{Appends, Keeps};
 ghost use Rattle.mqtt_packet.specs.Front.{first_of};
+ghost use Rattle.mqtt_packet.specs.Stream.{empty};
 ghost use Rattle.mqtt_cli.specs.View.{line, fault_line, rest_line};
 ghost use Rattle.mqtt_cli.specs.Viewing.{IsDrained, AddsLines, WritesLines, Views, WritesFront};
 
@@ -67,25 +68,29 @@ pub fn view<R: Read, W: Write>(
         WritesFront payload input (W.contents writer.old) (W.contents writer.new))) }
 {
     let mut chunk = [0u8; CHUNK_SIZE];
-    view_by(alloc, reader, writer, payload, &mut chunk)
+    let mut framer = Framer::new(alloc);
+    let status = view_by(alloc, reader, writer, payload, &mut chunk, &mut framer);
+    drop(framer);
+    status
 }
 
-/// The same, by reads of at most a chunk.
+/// The same, by reads of at most a chunk, over a framer that holds nothing.
 fn view_by<R: Read, W: Write>(
     alloc: Global,
     reader: &mut R,
     writer: &mut W,
     payload: bool,
     chunk: &mut [u8],
+    framer: &mut Framer,
 ) -> Result<Status, ViewFault>
-    requires { 0 < length chunk.old }
+    requires room { 0 < length chunk.old }
+    requires start { framer.old ≡ empty }
     ensures ok { IfOk result (λ status. IfSome (R.remaining reader.old) (λ input.
         Views payload input (W.contents writer.old) (W.contents writer.new) status)) }
     ensures err { IfErr result (λ fault. fault ≢ ViewFault.Write
         → IfSome (R.remaining reader.old) (λ input.
         WritesFront payload input (W.contents writer.old) (W.contents writer.new))) }
 {
-    let mut framer = Framer::new(alloc);
     for _ in 0..u64::MAX {
         let room = chunk.len().min(PACKET_LIMIT - framer.held());
         let count = match reader.read(&mut chunk[..room]) {
@@ -94,17 +99,29 @@ fn view_by<R: Read, W: Write>(
             Err(_) => return Err(ViewFault::Read),
         };
         if count == 0 {
-            let left = framer.held();
-            write_rest(alloc, writer, framer.place(), left)?;
-            return Ok(status_of(left));
+            return end_view(alloc, writer, framer);
         }
         let piece = &chunk[..count];
-        if let Some((fault, place)) = write_packets(alloc, &mut framer, piece, writer, payload)? {
+        if let Some((fault, place)) = write_packets(alloc, framer, piece, writer, payload)? {
             write_fault(alloc, writer, place, fault)?;
             return Ok(Status::Faulty);
         }
     }
     Err(ViewFault::Read)
+}
+
+/// Writes the line of what is left at the end of the input, and tells how the stream ended.
+fn end_view<W: Write>(alloc: Global, writer: &mut W, framer: &Framer) -> Result<Status, ViewFault>
+    ensures ok { OnOk result (Appends (W.contents writer.old) (W.contents writer.new)
+        (rest_line framer.now.place (length framer.now.held))) }
+    ensures status { IfOk result (λ status. status
+        ≡ (if length framer.now.held == 0 then Status.Whole else Status.Faulty)) }
+    ensures memory { IfErr result (λ e. e ≢ ViewFault.Write
+        → Keeps (W.contents writer.old) (W.contents writer.new)) }
+{
+    let left = framer.held();
+    write_rest(alloc, writer, framer.place(), left)?;
+    Ok(status_of(left))
 }
 
 /// Takes the next bytes of the stream, and writes a line for each packet that is whole then. The

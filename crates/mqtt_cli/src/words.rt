@@ -1,9 +1,9 @@
 //! The words of a command line, as `clap` reads them (ours).
 
 ghost use Rattle.std.specs.Prelude.{◌≡◌, ◌≢◌, None, Some, IfErr, IfOk, false, map};
-ghost use Rattle.clap.specs.Words.{app_of, kind_of, subcommand_rows_of};
+ghost use Rattle.clap.specs.Words.{app_of, kind_of, rule_of, subcommand_rows_of};
 ghost use Rattle.clap.specs.declared.builder.command.Command.TheViews.{out-Command as fields_of};
-ghost use Rattle.mqtt_cli.specs.Line.{AskFor, command_of, program_app, vectors_app, view_app};
+ghost use Rattle.mqtt_cli.specs.Line.{AskFor, command_of, file_rule, payload_rule, program_app, vectors_app, view_app};
 
 use crate::line::{Action, LineFault};
 use clap::error::ErrorKind;
@@ -20,13 +20,31 @@ pub fn action<'a, S: AsStr>(alloc: Global, words: &'a [S]) -> Result<Action<'a>,
         → AskFor (command_of (map S.text words.entry.now)) None) }
 {
     let program = program(alloc)?;
-    let matches = match program.try_get_matches_from(words) {
-        Ok(matches) => matches,
-        Err(error) => return Err(line_fault(alloc, error)),
-    };
-    match action_in(&matches) {
+    match program.try_get_matches_from(words) {
+        Ok(matches) => asked(alloc, matches),
+        Err(error) => Err(line_fault(alloc, error)),
+    }
+}
+
+/// What the matches of a command line ask for, which are needed no longer.
+fn asked<'a>(alloc: Global, matches: ArgMatches<'a>) -> Result<Action<'a>, LineFault>
+    ensures ok { IfOk result (λ action. AskFor (subcommand_rows_of matches.entry) (Some action)) }
+    ensures usage { IfErr result (λ fault. fault ≢ LineFault.Memory
+        → AskFor (subcommand_rows_of matches.entry) None) }
+{
+    let asked = action_in(&matches);
+    drop(matches);
+    match asked {
         Some(action) => Ok(action),
-        None => Err(LineFault::Usage(String::from_str(alloc, "mqtt5: no FILE\n")?)),
+        None => Err(no_file(alloc)),
+    }
+}
+
+/// The fault of a command line without FILE.
+fn no_file(alloc: Global) -> LineFault {
+    match String::from_str(alloc, "mqtt5: no FILE\n") {
+        Ok(text) => LineFault::Usage(text),
+        Err(_) => LineFault::Memory,
     }
 }
 
@@ -50,11 +68,12 @@ fn action_in<'a>(matches: &ArgMatches<'a>) -> Option<Action<'a>>
 fn program<'a>(alloc: Global) -> Result<Command<'a>, AllocError>
     ensures { IfOk result (λ command. app_of command ≡ program_app) }
 {
+    let view = view_command(alloc)?;
     Command::new(alloc, "mqtt5")
         .about("Shows MQTT 5.0 packets as text")
         .subcommand_required(true)
-        .subcommand(view_command(alloc)?)?
-        .subcommand(vectors_command(alloc)?)
+        .subcommand(view)?
+        .subcommand(vectors_command(alloc))
 }
 
 /// `view [--payload] FILE`
@@ -62,26 +81,40 @@ fn view_command<'a>(alloc: Global) -> Result<Command<'a>, AllocError>
     ensures app { IfOk result (λ command. app_of command ≡ view_app) }
     ensures local { IfOk result (λ command. (fields_of command).has_globals ≡ false) }
 {
-    let payload = Arg::new(alloc, "payload")
-        .long("payload")
-        .help("Show the first 16 payload bytes of each PUBLISH")
-        .action(ArgAction::SetTrue);
-    let file = Arg::new(alloc, "file")
-        .value_name("FILE")
-        .help("The bytes to view; - is standard input")
-        .required(true);
     Command::new(alloc, "view")
         .about("Writes a line for each packet of FILE")
-        .arg(payload)?
-        .arg(file)
+        .arg(payload_arg(alloc))?
+        .arg(file_arg(alloc))
+}
+
+/// `--payload`
+fn payload_arg<'a>(alloc: Global) -> Arg<'a>
+    ensures rule { rule_of result ≡ payload_rule }
+    ensures local { result.global ≡ false }
+{
+    Arg::new(alloc, "payload")
+        .long("payload")
+        .help("Show the first 16 payload bytes of each PUBLISH")
+        .action(ArgAction::SetTrue)
+}
+
+/// FILE
+fn file_arg<'a>(alloc: Global) -> Arg<'a>
+    ensures rule { rule_of result ≡ file_rule }
+    ensures local { result.global ≡ false }
+{
+    Arg::new(alloc, "file")
+        .value_name("FILE")
+        .help("The bytes to view; - is standard input")
+        .required(true)
 }
 
 /// `vectors`
-fn vectors_command<'a>(alloc: Global) -> Result<Command<'a>, AllocError>
-    ensures app { IfOk result (λ command. app_of command ≡ vectors_app) }
-    ensures local { IfOk result (λ command. (fields_of command).has_globals ≡ false) }
+fn vectors_command<'a>(alloc: Global) -> Command<'a>
+    ensures app { app_of result ≡ vectors_app }
+    ensures local { (fields_of result).has_globals ≡ false }
 {
-    Ok(Command::new(alloc, "vectors").about("Checks frames whose meaning is known"))
+    Command::new(alloc, "vectors").about("Checks frames whose meaning is known")
 }
 
 /// The fault of a command line, with the text that `clap` gives it.

@@ -3,6 +3,7 @@
 use crate::streams::Drip;
 use mqtt_cli::{Status, ViewFault, view};
 use std::alloc::Global;
+use std::process::Abort;
 use std::test::Fail;
 
 /// Why there is no view. Where an allocation is refused, nothing but want of memory may be told.
@@ -14,18 +15,53 @@ fn why(fault: ViewFault) -> &'static str {
     }
 }
 
-/// The view of an input that comes whole, which has to be that of the input a byte a read.
-fn shown(alloc: Global, input: &[u8], payload: bool) -> Result<(String, Status), Fail> {
-    let mut whole: Vec<u8> = Vec::new(alloc);
+/// Whether an input that comes whole has this view and this status.
+fn is_shown_whole(
+    alloc: Global,
+    input: &[u8],
+    payload: bool,
+    text: &str,
+    status: Status,
+) -> Result<bool, ViewFault> {
+    let mut written: Vec<u8> = Vec::new(alloc);
     let mut reader = input;
-    let status = view(alloc, &mut reader, &mut whole, payload).map_err(why)?;
-    let mut drips: Vec<u8> = Vec::new(alloc);
+    let found = view(alloc, &mut reader, &mut written, payload);
+    let is_text = written.as_slice() == text.as_bytes();
+    drop(written);
+    Ok(found? == status && is_text)
+}
+
+/// Whether an input that comes a byte a read has this view and this status.
+fn is_shown_by_bytes(
+    alloc: Global,
+    input: &[u8],
+    payload: bool,
+    text: &str,
+    status: Status,
+) -> Result<bool, ViewFault> {
+    let mut written: Vec<u8> = Vec::new(alloc);
     let mut reader = Drip::new(input, usize::MAX);
-    let again = view(alloc, &mut reader, &mut drips, payload).map_err(why)?;
-    if again != status || whole.as_slice() != drips.as_slice() {
-        return Err(Fail::from("the view depends on the reads"));
-    }
-    Ok((String::from_utf8(whole).map_err(|_| "no text")?, status))
+    let found = view(alloc, &mut reader, &mut written, payload);
+    drop(reader);
+    let is_text = written.as_slice() == text.as_bytes();
+    drop(written);
+    Ok(found? == status && is_text)
+}
+
+/// An input has this view and this status, whether it comes whole or a byte a read.
+fn assert_shown(
+    rt: &impl Abort,
+    alloc: Global,
+    input: &[u8],
+    payload: bool,
+    text: &str,
+    status: Status,
+) -> Result<(), Fail> {
+    let is_shown = is_shown_whole(alloc, input, payload, text, status).map_err(why)?;
+    assert!(rt; is_shown, "{text}");
+    let is_shown = is_shown_by_bytes(alloc, input, payload, text, status).map_err(why)?;
+    assert!(rt; is_shown, "{text} by reads of a byte");
+    Ok(())
 }
 
 /// Inputs, each with its view and its status.
@@ -80,9 +116,7 @@ fn views() -> &'static [(&'static [u8], &'static str, Status)] {
 #[test]
 fn each_input_has_its_view_however_it_is_cut(rt: HostRuntime) -> Result<(), Fail> {
     for (input, text, status) in views() {
-        let found = shown(rt.alloc(), input, false)?;
-        assert!(rt; found.0.as_str() == *text);
-        assert!(rt; found.1 == *status, "the status of {input:?}");
+        assert_shown(&rt, rt.alloc(), input, false, text, *status)?;
     }
     Ok(())
 }
@@ -121,9 +155,7 @@ fn packets() -> &'static [(&'static [u8], &'static str)] {
 #[test]
 fn each_packet_has_its_line(rt: HostRuntime) -> Result<(), Fail> {
     for (frame, line) in packets() {
-        let found = shown(rt.alloc(), frame, false)?;
-        assert!(rt; found.0.as_str() == *line);
-        assert!(rt; found.1 == Status::Whole, "the status of {frame:?}");
+        assert_shown(&rt, rt.alloc(), frame, false, line, Status::Whole)?;
     }
     Ok(())
 }
@@ -167,9 +199,7 @@ fn refused() -> &'static [(&'static [u8], &'static str)] {
 #[test]
 fn each_refused_frame_has_its_fault(rt: HostRuntime) -> Result<(), Fail> {
     for (frame, line) in refused() {
-        let found = shown(rt.alloc(), frame, false)?;
-        assert!(rt; found.0.as_str() == *line);
-        assert!(rt; found.1 == Status::Faulty, "the status of {frame:?}");
+        assert_shown(&rt, rt.alloc(), frame, false, line, Status::Faulty)?;
     }
     Ok(())
 }
@@ -202,9 +232,7 @@ fn forms() -> &'static [(&'static [u8], &'static str)] {
 #[test]
 fn each_form_of_a_packet_has_its_line(rt: HostRuntime) -> Result<(), Fail> {
     for (frame, line) in forms() {
-        let found = shown(rt.alloc(), frame, false)?;
-        assert!(rt; found.0.as_str() == *line);
-        assert!(rt; found.1 == Status::Whole, "the status of {frame:?}");
+        assert_shown(&rt, rt.alloc(), frame, false, line, Status::Whole)?;
     }
     Ok(())
 }
@@ -248,26 +276,32 @@ fn kinds() -> &'static [(&'static [u8], &'static str)] {
 #[test]
 fn each_kind_has_its_fields(rt: HostRuntime) -> Result<(), Fail> {
     for (frame, line) in kinds() {
-        let found = shown(rt.alloc(), frame, false)?;
-        assert!(rt; found.0.as_str() == *line);
-        assert!(rt; found.1 == Status::Whole, "the status of {frame:?}");
+        assert_shown(&rt, rt.alloc(), frame, false, line, Status::Whole)?;
     }
     Ok(())
 }
 
+/// The beginning of a PUBLISH of 65,536 bytes, to the topic `a`, of this length.
+fn greatest(alloc: Global, len: usize) -> Result<Vec<u8>, Fail> {
+    let mut input: Vec<u8> = Vec::from_slice(alloc, b"\x30\xfc\xff\x03\x00\x01a\x00")?;
+    input.resize(len, b'x')?;
+    Ok(input)
+}
+
 #[test]
 fn a_packet_of_the_greatest_size_is_read(rt: HostRuntime) -> Result<(), Fail> {
-    let mut input: Vec<u8> = Vec::from_slice(rt.alloc(), b"\x30\xfc\xff\x03\x00\x01a\x00")?;
-    input.resize(65_536, b'x')?;
-    let found = shown(rt.alloc(), input.as_slice(), true)?;
-    assert!(rt;
-        found.0.as_str()
-            == "0 PUBLISH 65536 qos=0 topic=a payload=65528 head=78787878787878787878787878787878\n"
-    );
-    assert!(rt; found.1 == Status::Whole);
-    input.truncate(65_535);
-    let found = shown(rt.alloc(), input.as_slice(), false)?;
-    assert!(rt; found.0.as_str() == "0 short\n");
+    for (len, payload, text, status) in [
+        (
+            65_536,
+            true,
+            "0 PUBLISH 65536 qos=0 topic=a payload=65528 head=78787878787878787878787878787878\n",
+            Status::Whole,
+        ),
+        (65_535, false, "0 short\n", Status::Faulty),
+    ] {
+        let input = greatest(rt.alloc(), len)?;
+        assert_shown(&rt, rt.alloc(), input.as_slice(), payload, text, status)?;
+    }
     Ok(())
 }
 
@@ -293,8 +327,7 @@ fn heads() -> &'static [(&'static [u8], &'static str)] {
 #[test]
 fn with_payload_shows_the_first_sixteen_bytes(rt: HostRuntime) -> Result<(), Fail> {
     for (input, text) in heads() {
-        let found = shown(rt.alloc(), input, true)?;
-        assert!(rt; found.0.as_str() == *text);
+        assert_shown(&rt, rt.alloc(), input, true, text, Status::Whole)?;
     }
     Ok(())
 }

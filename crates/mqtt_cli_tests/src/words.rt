@@ -25,11 +25,13 @@ fn assert_asks(
     wanted: Action<'_>,
 ) -> Result<(), Fail> {
     match action(alloc, words) {
-        Ok(found) => assert!(rt; found == wanted, "{wanted:?}"),
-        Err(LineFault::Memory) => return Err(Fail::from("want of memory")),
-        Err(LineFault::Usage(_)) => return Err(Fail::from("not taken")),
+        Ok(found) => {
+            assert!(rt; found == wanted, "{wanted:?}");
+            Ok(())
+        }
+        Err(LineFault::Memory) => Err(Fail::from("want of memory")),
+        Err(LineFault::Usage(_)) => Err(Fail::from("not taken")),
     }
-    Ok(())
 }
 
 #[test]
@@ -68,39 +70,51 @@ fn other_words() -> &'static [(&'static [&'static str], &'static str)] {
     ]
 }
 
+/// Whether a command line asks for nothing, with lines that say what is wrong.
+fn is_usage(alloc: Global, words: &[&str]) -> Result<bool, Fail> {
+    match action(alloc, words) {
+        Err(LineFault::Usage(text)) => {
+            let is_lines = text.as_str().ends_with("\n");
+            drop(text);
+            Ok(is_lines)
+        }
+        Err(LineFault::Memory) => Err(Fail::from("want of memory")),
+        Ok(_) => Ok(false),
+    }
+}
+
 #[test]
 fn any_other_command_line_is_usage(rt: HostRuntime) -> Result<(), Fail> {
     for (words, wrong) in other_words() {
-        match action(rt.alloc(), words) {
-            Err(LineFault::Usage(text)) => {
-                assert!(rt; text.as_str().ends_with("\n"), "{wrong}");
-            }
-            Err(LineFault::Memory) => return Err(Fail::from("want of memory")),
-            Ok(_) => return Err(Fail::from(*wrong)),
-        }
+        assert!(rt; is_usage(rt.alloc(), words)?, "{wrong}");
     }
     Ok(())
+}
+
+/// Whether the program ends so.
+fn ends_with(outcome: Outcome, status: u8, text: &str) -> bool {
+    let found = ending(&outcome);
+    let ends = found.0 == status && found.1 == text;
+    drop(outcome);
+    ends
 }
 
 #[test]
 fn each_outcome_has_its_status_and_text(rt: HostRuntime) -> Result<(), Fail> {
     let usage = LineFault::Usage(String::from_str(rt.alloc(), "wrong\n")?);
-    let rows = [
-        (Outcome::Done(Status::Whole), 0, ""),
-        (Outcome::Done(Status::Faulty), 1, ""),
-        (Outcome::Line(usage), 2, "wrong\n"),
-        (Outcome::Line(LineFault::Memory), 3, "mqtt5: memory\n"),
-        (Outcome::NoFile, 3, "mqtt5: file\n"),
-        (Outcome::View(ViewFault::Read), 3, "mqtt5: file\n"),
-        (Outcome::View(ViewFault::Write), 3, "mqtt5: file\n"),
-        (Outcome::View(ViewFault::Memory), 3, "mqtt5: memory\n"),
-        (Outcome::Vectors(VectorsFault::Write), 3, "mqtt5: file\n"),
-        (Outcome::Vectors(VectorsFault::Memory), 3, "mqtt5: memory\n"),
-    ];
-    for (outcome, status, text) in &rows {
-        let found = ending(outcome);
-        assert!(rt; found.0 == *status, "{text}");
-        assert!(rt; found.1 == *text);
+    assert!(rt; ends_with(Outcome::Line(usage), 2, "wrong\n"));
+    assert!(rt; ends_with(Outcome::Done(Status::Whole), 0, ""));
+    assert!(rt; ends_with(Outcome::Done(Status::Faulty), 1, ""));
+    assert!(rt; ends_with(Outcome::NoFile, 3, "mqtt5: file\n"));
+    for (outcome, text) in [
+        (Outcome::Line(LineFault::Memory), "mqtt5: memory\n"),
+        (Outcome::View(ViewFault::Read), "mqtt5: file\n"),
+        (Outcome::View(ViewFault::Write), "mqtt5: file\n"),
+        (Outcome::View(ViewFault::Memory), "mqtt5: memory\n"),
+        (Outcome::Vectors(VectorsFault::Write), "mqtt5: file\n"),
+        (Outcome::Vectors(VectorsFault::Memory), "mqtt5: memory\n"),
+    ] {
+        assert!(rt; ends_with(outcome, 3, text));
     }
     Ok(())
 }

@@ -7,24 +7,24 @@ use Rattle.mqtt_base.specs.Reading.{◌>>=◌, varint_at, text_at, u8_at}
 use Rattle.mqtt_base.proofs.Steps.{IsBytes, IsBytes-rest, bind_ok, when_ok, chosen, ok_is}
 use Rattle.mqtt_base.proofs.Fields.{text_takes, text_again, byte_takes}
 use Rattle.mqtt_base.proofs.Varints.{varint_reads, varint_rereads}
-use Rattle.mqtt_codec.specs.declared.fault.Fault.{Fault}
-use Rattle.mqtt_codec.specs.declared.fault.Fault.TheVariants.{Malformed, Protocol, Version}
+use Rattle.mqtt_fields.specs.declared.fault.Fault.{Fault}
+use Rattle.mqtt_fields.specs.declared.fault.Fault.TheVariants.{Malformed, Protocol, Version}
 use Rattle.mqtt_codec.specs.declared.head.Head.{Head}
 use Rattle.mqtt_codec.specs.declared.head.Head.TheVariants as heads
 use Rattle.mqtt_codec.specs.declared.packet.Packet.{Packet}
 use Rattle.mqtt_codec.specs.Heads.{first, head_of}
-use Rattle.mqtt_codec.specs.Reading.{Gives, malformed, known}
+use Rattle.mqtt_fields.specs.Reading.{Gives, malformed, known}
 use Rattle.mqtt_codec.specs.declared.packet.Packet.TheVariants.{Connect, Connack, Publish, Puback, Pubrec, Pubrel, Pubcomp, Subscribe, Suback, Unsubscribe, Unsuback, Pingreq, Pingresp, Disconnect, Auth}
 use Rattle.mqtt_codec.specs.declared.publish.Delivery.{Delivery}
 use Rattle.mqtt_codec.specs.declared.publish.Delivery.TheVariants.{AtMostOnce, AtLeastOnce, ExactlyOnce}
-use Rattle.mqtt_codec.specs.ConnectFlags.{flags_byte}
-use Rattle.mqtt_codec.specs.Connect.{is_version_5, mqtt, flags_of_connect, connect_fields}
+use Rattle.mqtt_connect.specs.ConnectFlags.{flags_byte}
+use Rattle.mqtt_connect.specs.Connect.{is_version_5, mqtt, flags_of_connect, connect_fields}
 use Rattle.mqtt_codec.specs.Publish.{delivery_head}
 use Rattle.mqtt_codec.specs.Packets.{head, Fits, IsBody, framed, HasLayout, is_lawful, Spells, IsOtherVersion, Refusal}
-use Rattle.mqtt_codec.specs.Frames.{frame_at, body_at, versioned_at, version_by, version_at, lawful_at, packet_at}
-use Rattle.mqtt_codec.proofs.Parts.{malformed_ok, known_ok}
+use Rattle.mqtt_codec.specs.Frames.{sized_at, frame_at, body_at, versioned_at, version_by, version_at, lawful_at, packet_at}
+use Rattle.mqtt_fields.proofs.Parts.{malformed_ok, known_ok}
 use Rattle.mqtt_codec.proofs.HeadLemmas.{head_is, IsHead, is_head}
-use Rattle.mqtt_codec.proofs.ConnectLemmas.{mqtt_is_text}
+use Rattle.mqtt_connect.proofs.ConnectLemmas.{mqtt_is_text}
 use Rattle.mqtt_codec.proofs.BodyLemmas.{body_takes, body_again}
 
 -- ---- frames
@@ -39,15 +39,17 @@ frame_takes : (bytes : List ℕ) (x : Head × List ℕ) → IsBytes bytes → fr
 unfolding frame_at
 frame_takes [] x fits e = absurd cc
 frame_takes (b ∷ bytes) x fits e =
-    let a = bind_ok (known (head_of b)) (λ h. malformed (varint_at bytes) >>= λ n. cond (eqb (length n.1) n.0) (Ok (h, n.1)) (Err Malformed)) x e in
-    let c = bind_ok (malformed (varint_at bytes)) (λ n. cond (eqb (length n.1) n.0) (Ok (a.0, n.1)) (Err Malformed)) x a.2 in
+    let a = bind_ok (known (head_of b)) (λ h. sized_at bytes >>= λ body. Ok (h, body)) x e in
+    let d = bind_ok (sized_at bytes) (λ body. Ok (a.0, body)) x a.2 in
+    let c = bind_ok (malformed (varint_at bytes)) (λ n. cond (eqb (length n.1) n.0) (Ok n.1) (Err Malformed)) d.0 d.1 in
     let n = c.0 in
-    let g = when_ok (eqb (length n.1) n.0) Malformed (Ok (a.0, n.1)) x c.2 in
+    let g = when_ok (eqb (length n.1) n.0) Malformed (Ok n.1) d.0 c.2 in
+    let made : (a.0, n.1) ≡ x = ap (λ (w : List ℕ). (a.0, w)) (ok_is n.1 d.0 g.1) ∙ ok_is (a.0, d.0) x d.2 in
     let is : first a.0 ≡ b = head_is b a.0 (known_ok (head_of b) a.0 a.1) in
     let len : length n.1 ≡ n.0 = eqb-true _ _ g.0 in
     let t = varint_reads bytes n (IsBytes-rest b bytes fits) (malformed_ok (varint_at bytes) n c.1) in
     let parts : (b ∷ bytes) ≡ framed a.0 n.1 = ap (λ (w : List ℕ). b ∷ w) t.0.parts ∙ ap (λ (i : ℕ). i ∷ (varint n.0 ++ n.1)) (sym is) ∙ ap (λ (k : ℕ). first a.0 ∷ (varint k ++ n.1)) (sym len) in
-    subst (λ (y : Head × List ℕ). Frames (b ∷ bytes) y.0 y.1) (ok_is (a.0, n.1) x g.1)
+    subst (λ (y : Head × List ℕ). Frames (b ∷ bytes) y.0 y.1) made
     (record { is = parts; small = omega (arith, len, t.1); head = ap head_of is ∙ known_ok (head_of b) a.0 a.1; fits = t.0.rest_fits })
 
 same_length : (n : ℕ) → eqb n n ≡ true

@@ -1,11 +1,11 @@
 -- The packet that a frame spells, or why it spells none (MQTT 5.0, 2.1, 4.13).
-use Rattle.std.specs.Prelude.{ℕ, Bool, true, false, List, [], ◌∷◌, length, Result, Ok, Err, ◌==◌, if◌then◌else◌}
+use Rattle.std.specs.Prelude.{◌≡◌, ◌⊎◌, ℕ, Bool, true, false, List, [], ◌∷◌, length, Result, Ok, Err, ◌==◌, if◌then◌else◌}
 use Rattle.mqtt_base.specs.declared.fault.ReadFault.{ReadFault}
 use Rattle.mqtt_base.specs.declared.kind.Kind.TheVariants as kinds
 use Rattle.mqtt_base.specs.Reading.{◌>>=◌, varint_at, text_at, u8_at}
 use Rattle.mqtt_props.specs.declared.place.Place.TheVariants as places
-use Rattle.mqtt_codec.specs.declared.fault.Fault.{Fault}
-use Rattle.mqtt_codec.specs.declared.fault.Fault.TheVariants.{Malformed, Protocol, Version}
+use Rattle.mqtt_fields.specs.declared.fault.Fault.{Fault}
+use Rattle.mqtt_fields.specs.declared.fault.Fault.TheVariants.{Malformed, Protocol, Version}
 use Rattle.mqtt_codec.specs.declared.head.Head.{Head}
 use Rattle.mqtt_codec.specs.declared.head.Head.TheVariants as heads
 use Rattle.mqtt_codec.specs.declared.packet.Packet.{Packet}
@@ -13,24 +13,30 @@ use Rattle.mqtt_codec.specs.declared.packet.Packet.TheVariants.{Connect, Connack
 use Rattle.mqtt_codec.specs.declared.packet.PacketRef.{PacketRef}
 use Rattle.mqtt_codec.specs.declared.packet.PacketRef.TheVariants as refs
 use Rattle.mqtt_codec.specs.Heads.{head_of}
-use Rattle.mqtt_codec.specs.Reading.{malformed, known}
-use Rattle.mqtt_codec.specs.Connect.{connect_at, connect_of, is_version_5}
-use Rattle.mqtt_codec.specs.Connack.{connack_at, connack_of}
-use Rattle.mqtt_codec.specs.Publish.{publish_at, publish_of}
-use Rattle.mqtt_codec.specs.Ack.{ack_at, ack_of}
-use Rattle.mqtt_codec.specs.Subscribe.{subscribe_at, subscribe_of}
-use Rattle.mqtt_codec.specs.Suback.{suback_at, suback_of}
-use Rattle.mqtt_codec.specs.Unsubscribe.{unsubscribe_at, unsubscribe_of}
-use Rattle.mqtt_codec.specs.Notice.{disconnect_at, auth_at, notice_of}
+use Rattle.mqtt_fields.specs.Reading.{malformed, known}
+use Rattle.mqtt_connect.specs.Connect.{connect_at, connect_of, is_version_5, lawful_connect}
+use Rattle.mqtt_codec.specs.Connack.{connack_at, connack_of, lawful_connack}
+use Rattle.mqtt_codec.specs.Publish.{publish_at, publish_of, lawful_publish}
+use Rattle.mqtt_codec.specs.Ack.{ack_at, ack_of, lawful_ack}
+use Rattle.mqtt_subscribe.specs.Subscribe.{subscribe_at, subscribe_of, lawful_subscribe}
+use Rattle.mqtt_codec.specs.Suback.{suback_at, suback_of, lawful_suback}
+use Rattle.mqtt_subscribe.specs.Unsubscribe.{unsubscribe_at, unsubscribe_of, lawful_unsubscribe}
+use Rattle.mqtt_codec.specs.Notice.{disconnect_at, auth_at, notice_of, lawful_disconnect, lawful_auth}
 use Rattle.mqtt_codec.specs.Packets.{is_lawful}
+
+-- how many bytes follow, and these
+abbrev pub sized_at : List ℕ → Result (List ℕ) Fault
+sized_at bytes = do
+  n ← malformed (varint_at bytes)
+  if length n.1 == n.0 then Ok n.1 else Err Malformed
 
 -- the head and the body
 unfoldable pub frame_at : List ℕ → Result (Head × List ℕ) Fault
 frame_at [] = Err Malformed
 frame_at (b ∷ bytes) = do
   h ← known (head_of b)
-  n ← malformed (varint_at bytes)
-  if length n.1 == n.0 then Ok (h, n.1) else Err Malformed
+  body ← sized_at bytes
+  Ok (h, body)
 
 unfoldable pub empty_at : List ℕ → Result (Unit {0}) Fault
 empty_at [] = Ok tt
@@ -73,12 +79,42 @@ abbrev pub version_at : Head → List ℕ → Result (Unit {0}) Fault
 version_at heads.Connect body = version_by (versioned_at body)
 version_at h body = Ok tt
 
+-- what was read, if it keeps its laws (1.2)
+abbrev pub judged : {A : Type 0} → (A → Bool) → Result A Fault → Result A Fault
+judged law read = do
+  x ← malformed read
+  if law x then Ok x else Err Protocol
+
+-- the first bytes of the acks; of the packets that ask for subscriptions, or answer that
+abbrev pub IsAck : Head → Type 0
+IsAck h = (h ≡ heads.Puback) ⊎ ((h ≡ heads.Pubrec) ⊎ ((h ≡ heads.Pubrel) ⊎ (h ≡ heads.Pubcomp)))
+
+abbrev pub IsOfSubscriptions : Head → Type 0
+IsOfSubscriptions h = (h ≡ heads.Subscribe) ⊎ ((h ≡ heads.Suback) ⊎ ((h ≡ heads.Unsubscribe) ⊎ (h ≡ heads.Unsuback)))
+
+-- the packet of a head and a body, each kind judged by its own laws
+unfoldable pub judged_at : Head → List ℕ → Result Packet Fault
+judged_at heads.Connect body = made_by Connect (judged lawful_connect (connect_at body))
+judged_at heads.Connack body = made_by Connack (judged lawful_connack (connack_at body))
+judged_at (heads.Publish dup q retain) body = made_by Publish (judged lawful_publish (publish_at dup q retain body))
+judged_at heads.Puback body = made_by Puback (judged (lawful_ack places.Puback) (ack_at kinds.Puback places.Puback body))
+judged_at heads.Pubrec body = made_by Pubrec (judged (lawful_ack places.Pubrec) (ack_at kinds.Pubrec places.Pubrec body))
+judged_at heads.Pubrel body = made_by Pubrel (judged (lawful_ack places.Pubrel) (ack_at kinds.Pubrel places.Pubrel body))
+judged_at heads.Pubcomp body = made_by Pubcomp (judged (lawful_ack places.Pubcomp) (ack_at kinds.Pubcomp places.Pubcomp body))
+judged_at heads.Subscribe body = made_by Subscribe (judged lawful_subscribe (subscribe_at body))
+judged_at heads.Suback body = made_by Suback (judged (lawful_suback places.Suback) (suback_at kinds.Suback places.Suback body))
+judged_at heads.Unsubscribe body = made_by Unsubscribe (judged lawful_unsubscribe (unsubscribe_at body))
+judged_at heads.Unsuback body = made_by Unsuback (judged (lawful_suback places.Unsuback) (suback_at kinds.Unsuback places.Unsuback body))
+judged_at heads.Pingreq body = made_by (λ u. Pingreq) (malformed (empty_at body))
+judged_at heads.Pingresp body = made_by (λ u. Pingresp) (malformed (empty_at body))
+judged_at heads.Disconnect body = made_by Disconnect (judged lawful_disconnect (disconnect_at body))
+judged_at heads.Auth body = made_by Auth (judged lawful_auth (auth_at body))
+
 -- the packet of a head and a body, with its laws
 unfoldable pub lawful_at : Head → List ℕ → Result Packet Fault
 lawful_at h body = do
   u ← version_at h body
-  p ← malformed (body_at h body)
-  if is_lawful p then Ok p else Err Protocol
+  judged is_lawful (body_at h body)
 
 unfoldable pub packet_at : List ℕ → Result Packet Fault
 packet_at bytes = do

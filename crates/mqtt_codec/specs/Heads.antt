@@ -1,18 +1,10 @@
 -- First bytes: the type in the high four bits, the flags in the low four (MQTT 5.0, 2.1.2, 2.1.3, 3.3.1).
-use Rattle.std.specs.Prelude.{ℕ, ◌+◌, ◌*◌, Bool, true, false, List, [], ◌∷◌, Option, Some, None, ◌==◌, if◌then◌else◌}
-use Rattle.mqtt_base.specs.declared.session.Qos.{Qos}
+use Rattle.std.specs.Prelude.{ℕ, ◌+◌, ◌*◌, true, false, List, [], ◌∷◌, Option, Some, None, ◌==◌, if◌then◌else◌}
 use Rattle.mqtt_base.specs.declared.session.Qos.TheVariants as qos
+pub use Rattle.mqtt_base.specs.Service.{qos_number}
+pub use Rattle.mqtt_fields.specs.Bits.{bit}
 use Rattle.mqtt_codec.specs.declared.head.Head.{Head}
 use Rattle.mqtt_codec.specs.declared.head.Head.TheVariants as heads
-
-abbrev pub bit : Bool → ℕ
-bit true = 1
-bit false = 0
-
-abbrev pub qos_number : Qos → ℕ
-qos_number qos.AtMostOnce = 0
-qos_number qos.AtLeastOnce = 1
-qos_number qos.ExactlyOnce = 2
 
 -- PUBLISH has DUP in bit 3, QoS in bits 2 and 1, RETAIN in bit 0
 abbrev pub first : Head → ℕ

@@ -12,10 +12,10 @@ use Rattle.mqtt_props.specs.Properties.{Prop, block}
 use Rattle.mqtt_props.specs.Laws.{layout_at, has}
 use Rattle.mqtt_codec.specs.declared.notice.Notice.{Notice}
 use Rattle.mqtt_codec.specs.declared.notice.NoticeRef.{NoticeRef}
-use Rattle.mqtt_codec.specs.declared.fault.Fault.{Fault}
-use Rattle.mqtt_codec.specs.declared.fault.Fault.TheVariants.{Malformed}
-use Rattle.mqtt_codec.specs.Reading.{malformed}
-use Rattle.mqtt_codec.specs.Blocks.{Stands, keeps_laws}
+use Rattle.mqtt_fields.specs.declared.fault.Fault.{Fault}
+use Rattle.mqtt_fields.specs.declared.fault.Fault.TheVariants.{Malformed}
+use Rattle.mqtt_fields.specs.Reading.{malformed}
+use Rattle.mqtt_fields.specs.Blocks.{Stands, keeps_laws}
 use Rattle.mqtt_codec.specs.Tails.{tail, tail_at}
 
 -- its parts have a spelling, with the codes and the properties of its packet
@@ -44,6 +44,10 @@ auth_body_of code (p ∷ ps) = code ∷ block (p ∷ ps)
 
 abbrev pub auth_body : Notice → List ℕ
 auth_body n = auth_body_of n.reason.0 n.properties
+
+-- the laws of DISCONNECT: those of its block
+abbrev pub lawful_disconnect : Notice → Bool
+lawful_disconnect n = keeps_laws places.Disconnect n.properties
 
 -- an AUTH with another code or with a property has an Authentication Method (ours)
 abbrev pub lawful_auth : Notice → Bool

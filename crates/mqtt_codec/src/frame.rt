@@ -2,30 +2,40 @@
 
 ghost use Rattle.std.specs.Prelude.{◌≡◌, ◌<◌, ◌+◌, ◌^◌, ◌⊎◌, ◌↔◌, ◌++◌, ◌∷◌, ℕ, List, length, true, IfOk, IfErr, IsTrue, OnOk, OnErr, Ok};
 ghost use Rattle.mqtt_base.specs.Values.{varint};
-ghost use Rattle.mqtt_codec.specs.declared.fault.Fault.TheVariants as faults;
+ghost use Rattle.mqtt_fields.specs.declared.fault.Fault.TheVariants as faults;
 ghost use Rattle.mqtt_codec.specs.declared.packet.Packet.{Packet};
 ghost use Rattle.mqtt_codec.specs.Heads.{first};
-ghost use Rattle.mqtt_codec.specs.Reading.{Gives};
-ghost use Rattle.mqtt_codec.specs.Writing.{KeepsFront};
+ghost use Rattle.mqtt_fields.specs.Reading.{Gives};
+ghost use Rattle.mqtt_fields.specs.Writing.{KeepsFront};
 ghost use Rattle.mqtt_codec.specs.Packets.{head, Fits, Spells, Refusal, is_lawful, shortest_body, shortest_of, HasSpelling, IsShortest};
-ghost use Rattle.mqtt_codec.specs.Frames.{frame_at, empty_at, versioned_at, version_at, lawful_at, packet_at, packet_of};
+ghost use Rattle.mqtt_codec.specs.Frames.{sized_at, frame_at, empty_at, versioned_at, version_at, IsAck, IsOfSubscriptions, judged_at, lawful_at, packet_at, packet_of};
 
-use crate::ack::ack_read;
-use crate::connack::connack_read;
-use crate::connect::{connect_read, is_version_5};
-use crate::fault::Fault;
 use crate::head::{Head, head_read};
-use crate::notice::{auth_read, disconnect_read};
+use crate::judged::{
+    ack_judged, auth_judged, connack_judged, connect_judged, disconnect_judged, publish_judged,
+    suback_judged, subscribe_judged, unsubscribe_judged,
+};
 use crate::packet::{Packet, PacketRef};
-use crate::publish::publish_read;
-use crate::suback::suback_read;
-use crate::subscribe::subscribe_read;
-use crate::unsubscribe::unsubscribe_read;
 use mqtt_base::{
     Kind, ReadFault, VARINT_LIMIT, text_read, u8_read, varint_len, varint_push, varint_read,
 };
+use mqtt_connect::is_version_5;
+use mqtt_fields::Fault;
 use mqtt_props::Place;
 use std::alloc::{AllocError, Global};
+
+/// The bytes that follow, as many as the Remaining Length says (2.1.4).
+#[inline(always)]
+fn sized_read(bytes: &[u8]) -> Result<&[u8], Fault>
+    ensures { Gives (λ body. body.now) result (sized_at bytes.now) }
+{
+    let (len, taken) = varint_read(bytes)?;
+    let (_, body) = bytes.split_at(taken);
+    if body.len() != len as usize {
+        return Err(Fault::Malformed);
+    }
+    Ok(body)
+}
 
 #[inline(always)]
 #[tactic(auto, unfolding(crate::specs::Frames::frame_at))]
@@ -38,11 +48,7 @@ fn frame_read(frame: &[u8]) -> Result<(Head, &[u8]), Fault>
     let Some(head) = head_read(*first) else {
         return Err(Fault::Malformed);
     };
-    let (len, taken) = varint_read(rest)?;
-    let (_, body) = rest.split_at(taken);
-    if body.len() != len as usize {
-        return Err(Fault::Malformed);
-    }
+    let body = sized_read(rest)?;
     Ok((head, body))
 }
 
@@ -82,58 +88,71 @@ fn version_read(head: Head, body: &[u8]) -> Result<(), Fault>
     }
 }
 
-/// Gives the packet of a part that is read and keeps its laws. Each kind ends here by itself, so that
-/// no packet is moved.
-macro_rules! lawful_part {
-    ($packet:ident, $body:ident) => {{
-        let Ok(()) = empty_read($body) else {
-            return Err(Fault::Malformed);
-        };
-        Ok(PacketRef::$packet)
-    }};
-    ($packet:ident, $read:ident at its place, $body:ident) => {
-        lawful_part!(
-            $packet,
-            $read(Kind::$packet, Place::$packet, $body),
-            is_lawful(Place::$packet)
-        )
-    };
-    ($packet:ident, $read:expr, $test:ident($($place:expr)?)) => {{
-        let Ok(part) = $read else {
-            return Err(Fault::Malformed);
-        };
-        if !part.$test($($place)?) {
-            drop(part);
-            return Err(Fault::Protocol);
-        }
-        Ok(PacketRef::$packet(part))
-    }};
-}
-
 #[inline(always)]
-#[tactic(auto, unfolding(crate::specs::Frames::lawful_at, crate::specs::Frames::body_at))]
+#[tactic(auto, unfolding(crate::specs::Frames::lawful_at))]
 fn lawful_read(head: Head, body: &[u8]) -> Result<PacketRef<'_>, Fault>
     ensures { Gives packet_of result (lawful_at head body.now) }
 {
     version_read(head, body)?;
+    judged_read(head, body)
+}
+
+/// Each kind is read, judged and made by itself, so that no packet is moved.
+#[inline(always)]
+#[tactic(auto, unfolding(crate::specs::Frames::judged_at))]
+fn judged_read(head: Head, body: &[u8]) -> Result<PacketRef<'_>, Fault>
+    ensures { Gives packet_of result (judged_at head body.now) }
+{
     match head {
-        Head::Connect => lawful_part!(Connect, connect_read(body), is_lawful()),
-        Head::Connack => lawful_part!(Connack, connack_read(body), is_lawful()),
+        Head::Connect => connect_judged(body).map(PacketRef::Connect),
+        Head::Connack => connack_judged(body).map(PacketRef::Connack),
         Head::Publish { dup, qos, retain } => {
-            lawful_part!(Publish, publish_read(dup, qos, retain, body), is_lawful())
+            publish_judged(dup, qos, retain, body).map(PacketRef::Publish)
         }
-        Head::Puback => lawful_part!(Puback, ack_read at its place, body),
-        Head::Pubrec => lawful_part!(Pubrec, ack_read at its place, body),
-        Head::Pubrel => lawful_part!(Pubrel, ack_read at its place, body),
-        Head::Pubcomp => lawful_part!(Pubcomp, ack_read at its place, body),
-        Head::Subscribe => lawful_part!(Subscribe, subscribe_read(body), is_lawful()),
-        Head::Suback => lawful_part!(Suback, suback_read at its place, body),
-        Head::Unsubscribe => lawful_part!(Unsubscribe, unsubscribe_read(body), is_lawful()),
-        Head::Unsuback => lawful_part!(Unsuback, suback_read at its place, body),
-        Head::Pingreq => lawful_part!(Pingreq, body),
-        Head::Pingresp => lawful_part!(Pingresp, body),
-        Head::Disconnect => lawful_part!(Disconnect, disconnect_read(body), is_lawful_disconnect()),
-        Head::Auth => lawful_part!(Auth, auth_read(body), is_lawful_auth()),
+        Head::Puback | Head::Pubrec | Head::Pubrel | Head::Pubcomp => acks_read(head, body),
+        Head::Subscribe | Head::Suback | Head::Unsubscribe | Head::Unsuback => {
+            subscriptions_read(head, body)
+        }
+        Head::Pingreq => match empty_read(body) {
+            Ok(()) => Ok(PacketRef::Pingreq),
+            Err(_) => Err(Fault::Malformed),
+        },
+        Head::Pingresp => match empty_read(body) {
+            Ok(()) => Ok(PacketRef::Pingresp),
+            Err(_) => Err(Fault::Malformed),
+        },
+        Head::Disconnect => disconnect_judged(body).map(PacketRef::Disconnect),
+        Head::Auth => auth_judged(body).map(PacketRef::Auth),
+    }
+}
+
+/// Each of the four acks.
+#[inline(always)]
+#[tactic(auto, unfolding(crate::specs::Frames::judged_at))]
+fn acks_read(head: Head, body: &[u8]) -> Result<PacketRef<'_>, Fault>
+    requires { IsAck head }
+    ensures { Gives packet_of result (judged_at head body.now) }
+{
+    match head {
+        Head::Puback => ack_judged(Kind::Puback, Place::Puback, body).map(PacketRef::Puback),
+        Head::Pubrec => ack_judged(Kind::Pubrec, Place::Pubrec, body).map(PacketRef::Pubrec),
+        Head::Pubrel => ack_judged(Kind::Pubrel, Place::Pubrel, body).map(PacketRef::Pubrel),
+        _ => ack_judged(Kind::Pubcomp, Place::Pubcomp, body).map(PacketRef::Pubcomp),
+    }
+}
+
+/// Each of the four packets that ask for subscriptions or answer that.
+#[inline(always)]
+#[tactic(auto, unfolding(crate::specs::Frames::judged_at))]
+fn subscriptions_read(head: Head, body: &[u8]) -> Result<PacketRef<'_>, Fault>
+    requires { IsOfSubscriptions head }
+    ensures { Gives packet_of result (judged_at head body.now) }
+{
+    match head {
+        Head::Subscribe => subscribe_judged(body).map(PacketRef::Subscribe),
+        Head::Suback => suback_judged(Kind::Suback, Place::Suback, body).map(PacketRef::Suback),
+        Head::Unsubscribe => unsubscribe_judged(body).map(PacketRef::Unsubscribe),
+        _ => suback_judged(Kind::Unsuback, Place::Unsuback, body).map(PacketRef::Unsuback),
     }
 }
 
@@ -330,7 +349,7 @@ fn encode_lent(alloc: Global, packet: &PacketRef<'_>) -> Result<Vec<u8>, AllocEr
 
 /// Writes the shortest spelling at the end, whose body takes so many bytes.
 #[inline(always)]
-#[tactic(auto, using(std::proofs::lemmas::List::append_assoc, crate::proofs::Fronts::begins_same, crate::proofs::Fronts::begins_less))]
+#[tactic(auto, using(std::proofs::lemmas::List::append_assoc, mqtt_fields::proofs::Fronts::begins_same, mqtt_fields::proofs::Fronts::begins_less))]
 fn frame_push(packet: &PacketRef<'_>, len: usize, out: &mut Vec<u8>) -> Result<(), AllocError>
     requires spelling { HasSpelling (packet_of packet.now) }
     requires len { len ≡ length (shortest_body (packet_of packet.now)) }

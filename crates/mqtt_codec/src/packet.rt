@@ -1,19 +1,18 @@
 //! Control packets, owned and lent out of a frame (2.1.2).
 
 ghost use Rattle.std.specs.Prelude.{◌≡◌, ◌↔◌, IfOk, IsTrue};
-ghost use Rattle.mqtt_codec.specs.Packets.{Fits, is_lawful, kind_of, properties_of};
+ghost use Rattle.mqtt_codec.specs.Packets.{Fits, is_lawful, kind_of, IsAckKind, properties_of};
 ghost use Rattle.mqtt_codec.specs.Frames.{packet_of};
 
 use crate::ack::{Ack, AckRef};
 use crate::connack::{Connack, ConnackRef};
-use crate::connect::{Connect, ConnectRef};
 use crate::notice::{Notice, NoticeRef};
 use crate::publish::{Publish, PublishRef};
 use crate::suback::{Suback, SubackRef};
-use crate::subscribe::{Subscribe, SubscribeRef};
-use crate::unsubscribe::{Unsubscribe, UnsubscribeRef};
 use mqtt_base::Kind;
+use mqtt_connect::{Connect, ConnectRef};
 use mqtt_props::{Place, PropsRef};
+use mqtt_subscribe::{Subscribe, SubscribeRef, Unsubscribe, UnsubscribeRef};
 use std::alloc::{AllocError, Global};
 
 /// A control packet (2.1.2).
@@ -165,10 +164,10 @@ impl PacketRef<'_> {
             PacketRef::Connect(connect) => connect.to_connect(alloc).map(Packet::Connect),
             PacketRef::Connack(connack) => connack.to_connack(alloc).map(Packet::Connack),
             PacketRef::Publish(publish) => publish.to_publish(alloc).map(Packet::Publish),
-            PacketRef::Puback(ack) => ack.to_ack(alloc).map(Packet::Puback),
-            PacketRef::Pubrec(ack) => ack.to_ack(alloc).map(Packet::Pubrec),
-            PacketRef::Pubrel(ack) => ack.to_ack(alloc).map(Packet::Pubrel),
-            PacketRef::Pubcomp(ack) => ack.to_ack(alloc).map(Packet::Pubcomp),
+            PacketRef::Puback(_)
+            | PacketRef::Pubrec(_)
+            | PacketRef::Pubrel(_)
+            | PacketRef::Pubcomp(_) => self.ack_to_packet(alloc),
             PacketRef::Subscribe(subscribe) => subscribe.to_subscribe(alloc).map(Packet::Subscribe),
             PacketRef::Suback(suback) => suback.to_suback(alloc).map(Packet::Suback),
             PacketRef::Unsubscribe(unsubscribe) => unsubscribe
@@ -179,6 +178,21 @@ impl PacketRef<'_> {
             PacketRef::Pingresp => Ok(Packet::Pingresp),
             PacketRef::Disconnect(notice) => notice.to_notice(alloc).map(Packet::Disconnect),
             PacketRef::Auth(notice) => notice.to_notice(alloc).map(Packet::Auth),
+        }
+    }
+
+    /// An owned copy of an ack.
+    #[inline(always)]
+    fn ack_to_packet(&self, alloc: Global) -> Result<Packet, AllocError>
+        requires { IsAckKind (kind_of (packet_of self.now)) }
+        ensures { IfOk result (λ p. p ≡ packet_of self.now) }
+    {
+        match self {
+            PacketRef::Puback(ack) => ack.to_ack(alloc).map(Packet::Puback),
+            PacketRef::Pubrec(ack) => ack.to_ack(alloc).map(Packet::Pubrec),
+            PacketRef::Pubrel(ack) => ack.to_ack(alloc).map(Packet::Pubrel),
+            PacketRef::Pubcomp(ack) => ack.to_ack(alloc).map(Packet::Pubcomp),
+            _ => unreachable!(),
         }
     }
 }

@@ -12,6 +12,7 @@ pub mod QueueWalks
 pub mod Queues
 pub mod ReceiverReads
 pub mod Room
+pub mod Rows
 pub mod Sends
 pub mod SessionAnswers
 pub mod SessionLives

@@ -4,10 +4,10 @@ ghost use Rattle.std.specs.Prelude.{◌≡◌, ◌≤◌};
 ghost use Rattle.mqtt_flow.specs.Outbound.{after_answer, ending_by, is_refusal, order_asked, puback, puback_by, pubcomp, pubcomp_by, pubrec, pubrec_by};
 
 use crate::entry::Turn;
-use crate::fault::FlowFault;
 use crate::look::{look_puback, look_pubcomp, look_pubrec};
 use crate::outflow::Outflow;
 use mqtt_base::{Ending, LAST_NUMBER, Phase, Qos, Reason};
+use mqtt_inbound::FlowFault;
 
 /// The end that a reason code gives.
 fn ending_of(code: Reason) -> Ending

@@ -5,11 +5,11 @@ ghost use Rattle.mqtt_flow.specs.Outbound.{pump};
 ghost use Rattle.mqtt_flow.specs.Stillness.{Foreknown, front_still, stirs};
 
 use crate::entry::{Turn, Way};
-use crate::fault::FlowFault;
 use crate::plan::{greatest_order, in_window};
 use crate::pump::{first_pace, push_pumped};
 use crate::row::QueueRow;
 use mqtt_base::{LAST_NUMBER, Phase, QUEUE_LIMIT};
+use mqtt_inbound::FlowFault;
 use std::alloc::Global;
 
 /// What is known of a queue without a look at it.

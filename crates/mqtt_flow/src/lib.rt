@@ -4,13 +4,9 @@
 mod answers;
 mod change;
 mod entry;
-mod fault;
 mod in_use;
-mod inflow;
 mod known;
-mod laws;
 mod look;
-mod open_list;
 mod outbound_laws;
 mod outflow;
 mod plan;
@@ -19,14 +15,14 @@ mod queueing;
 mod row;
 
 pub use entry::{Entry, Full, QueueLimits, QueuedCopy, Turn, Way};
-pub use fault::FlowFault;
-pub use inflow::{Inflow, Published, ReleaseAnswer};
 pub use known::{Known, know, pump_known};
-pub use laws::{inbound_once, own_identifier_alone};
 pub use look::{
     holder, look_enter, look_expire, look_puback, look_pubcomp, look_pubrec, look_pump, look_resume,
 };
-pub use open_list::{would_publish, would_release};
+pub use mqtt_inbound::{
+    FlowFault, Inflow, Published, ReleaseAnswer, inbound_once, own_identifier_alone, would_publish,
+    would_release,
+};
 pub use outbound_laws::{numbers_go_on, outbound_once, pump_in_order};
 pub use outflow::Outflow;
 pub use plan::has_room;

@@ -6,7 +6,6 @@ ghost use Rattle.mqtt_flow.specs.Outbound.{KeptOut, expired, has_room, puback, p
 
 use crate::answers::{puback_by, pubcomp_by, pubrec_by};
 use crate::entry::{QueueLimits, Turn, Way};
-use crate::fault::FlowFault;
 use crate::plan::{
     greatest_order, has_room, holds, in_window, insert_due, push_dropped, push_expired,
     push_repeats,
@@ -14,6 +13,7 @@ use crate::plan::{
 use crate::pump::{first_pace, push_pumped};
 use crate::row::QueueRow;
 use mqtt_base::{LAST_NUMBER, QUEUE_LIMIT, Reason};
+use mqtt_inbound::FlowFault;
 use std::alloc::Global;
 
 /// The turns by which a full queue makes way for a copy; `since` is the first place that the broker gives in this step

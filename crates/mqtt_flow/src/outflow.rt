@@ -7,10 +7,10 @@ ghost use Rattle.mqtt_flow.specs.Outbound.{anew, pushed};
 
 use crate::change::{apply, forget};
 use crate::entry::{Entry, QueuedCopy, Turn};
-use crate::fault::FlowFault;
 use crate::look::holder;
 use crate::plan::{greatest_order, greatest_place};
 use mqtt_base::{LAST_NUMBER, Phase, QUEUE_LIMIT};
+use mqtt_inbound::FlowFault;
 use std::alloc::Global;
 use std::marker::Model;
 

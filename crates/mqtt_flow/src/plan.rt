@@ -1,14 +1,14 @@
 //! What a session sees in its queue before it does anything (4.3, 4.4, 4.6, 4.9).
 
-ghost use Rattle.std.specs.Prelude.{◌≡◌, ◌+◌, ◌≤◌, ◌<◌, ◌++◌, [], length, map, IfOk, IfErr, OnOk, insert};
+ghost use Rattle.std.specs.Prelude.{◌≡◌, ◌+◌, ◌≤◌, ◌<◌, ◌&&◌, ◌++◌, [], ◌∷◌, length, map, IfOk, IfErr, OnOk, insert};
 ghost use Rattle.mqtt_flow.specs.declared.entry.Turn.TheVariants.{Repeat};
 ghost use Rattle.mqtt_flow.specs.Queue.{is_holder, order_of, greatest_place, greatest_order, in_window};
-ghost use Rattle.mqtt_flow.specs.Outbound.{is_waiting, gives_way, staying, has_room, dropped, is_late, is_large, expired, due_from, by_order};
+ghost use Rattle.mqtt_flow.specs.Outbound.{is_waiting, gives_way, staying, has_room, dropped, is_late, is_large, expired, due_from, due_of, by_order};
 
 use crate::entry::{Due, Entry, Full, QueueLimits, Turn, Way};
-use crate::fault::FlowFault;
 use crate::row::QueueRow;
 use mqtt_base::{Ending, Phase};
+use mqtt_inbound::FlowFault;
 
 /// Whether a phase has an identifier.
 pub(crate) fn holds(phase: Phase, identifier: u16) -> bool
@@ -134,6 +134,14 @@ pub fn has_room<R: QueueRow>(limits: QueueLimits, since: u64, rows: &[R]) -> boo
     staying(limits.full, since, rows) < limits.queue
 }
 
+/// Adds a turn.
+fn add(turns: &mut Vec<Turn>, turn: Turn) -> Result<(), FlowFault>
+    ensures turns { OnOk result (turns.new.items ≡ turns.old.items ++ turn ∷ []) }
+    ensures fault { IfErr result (λ fault. fault ≡ FlowFault.Memory) }
+{
+    turns.push(turn).map_err(|_| FlowFault::Memory)
+}
+
 /// Adds the turns by which so many copies give way, the oldest first (ours).
 pub(crate) fn push_dropped<R: QueueRow>(
     turns: &mut Vec<Turn>,
@@ -150,15 +158,19 @@ pub(crate) fn push_dropped<R: QueueRow>(
             return Ok(());
         }
         if gives_way(since, row) {
-            let turn = Turn::Leave {
-                place: row.place(),
-                ending: Ending::Dropped,
-            };
-            turns.push(turn).map_err(|_| FlowFault::Memory)?;
+            let (place, ending) = (row.place(), Ending::Dropped);
+            add(turns, Turn::Leave { place, ending })?;
             left -= 1;
         }
     }
     Ok(())
+}
+
+/// Whether a copy's time is up: it waits and is late (3.3.2.3.3).
+fn is_up<R: QueueRow>(now: u64, row: &R) -> bool
+    ensures { (went : R.Went) → result ≡ (is_waiting (R.entry went row.now).phase && is_late now (R.entry went row.now).copy) }
+{
+    is_waiting(row.phase()) && is_late(now, row)
 }
 
 /// Adds the turns by which late copies that wait leave (3.3.2.3.3).
@@ -171,12 +183,9 @@ pub(crate) fn push_expired<R: QueueRow>(
     ensures fault { IfErr result (λ fault. fault ≡ FlowFault.Memory) }
 {
     for row in rows {
-        if is_waiting(row.phase()) && is_late(now, row) {
-            let turn = Turn::Leave {
-                place: row.place(),
-                ending: Ending::Expired,
-            };
-            turns.push(turn).map_err(|_| FlowFault::Memory)?;
+        if is_up(now, row) {
+            let (place, ending) = (row.place(), Ending::Expired);
+            add(turns, Turn::Leave { place, ending })?;
         }
     }
     Ok(())
@@ -204,18 +213,25 @@ fn insert(dues: &mut Vec<Due>, due: Due) -> Result<(), FlowFault>
     dues.insert(index, due).map_err(|_| FlowFault::Memory)
 }
 
+/// Puts a copy in its order, if it is released.
+fn insert_phase(dues: &mut Vec<Due>, phase: Phase) -> Result<(), FlowFault>
+    ensures ok { OnOk result (dues.new.items ≡ due_of phase dues.old.items) }
+    ensures fault { IfErr result (λ fault. fault ≡ FlowFault.Memory) }
+{
+    match phase {
+        Phase::Waiting | Phase::Sent { .. } => Ok(()),
+        Phase::Released { identifier, order } => insert(dues, Due { order, identifier }),
+        Phase::Oversize { identifier, order } => insert(dues, Due { order, identifier }),
+    }
+}
+
 /// Puts the released copies in their order (4.6).
 pub(crate) fn insert_due<R: QueueRow>(dues: &mut Vec<Due>, rows: &[R]) -> Result<(), FlowFault>
     ensures exact { (went : R.Went) → OnOk result (dues.new.items ≡ due_from dues.old.items (map (R.entry went) rows.now)) }
     ensures fault { IfErr result (λ fault. fault ≡ FlowFault.Memory) }
 {
     for row in rows {
-        match row.phase() {
-            Phase::Waiting | Phase::Sent { .. } => {}
-            Phase::Released { identifier, order } | Phase::Oversize { identifier, order } => {
-                insert(dues, Due { order, identifier })?;
-            }
-        }
+        insert_phase(dues, row.phase())?;
     }
     Ok(())
 }
@@ -226,10 +242,8 @@ pub(crate) fn push_repeats(turns: &mut Vec<Turn>, dues: &[Due]) -> Result<(), Fl
     ensures fault { IfErr result (λ fault. fault ≡ FlowFault.Memory) }
 {
     for due in dues {
-        let turn = Turn::Repeat {
-            identifier: due.identifier,
-        };
-        turns.push(turn).map_err(|_| FlowFault::Memory)?;
+        let identifier = due.identifier;
+        add(turns, Turn::Repeat { identifier })?;
     }
     Ok(())
 }

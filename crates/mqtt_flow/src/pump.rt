@@ -4,11 +4,11 @@ ghost use Rattle.std.specs.Prelude.{◌≡◌, ◌+◌, ◌≤◌, ◌<◌, ◌^
 ghost use Rattle.mqtt_flow.specs.Outbound.{first_step, in_room, later_step, pace_known, paced, pump_from, pump_step};
 
 use crate::entry::{Turn, Way};
-use crate::fault::FlowFault;
-use crate::in_use::{free, lowest_free, push_identifiers};
+use crate::in_use::{free, push_identifiers};
 use crate::plan::{is_large, is_late};
 use crate::row::QueueRow;
 use mqtt_base::{Ending, PUMP_LIMIT, Phase, Qos};
+use mqtt_inbound::{FlowFault, lowest_free};
 use std::alloc::Global;
 use std::marker::Model;
 
@@ -34,6 +34,7 @@ impl Model for Pace {
 }
 
 /// What a pump does at an entry.
+#[derive(Clone, Copy)]
 enum Step {
     /// It goes no further.
     Stop,

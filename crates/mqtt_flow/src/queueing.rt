@@ -6,10 +6,10 @@ ghost use Rattle.mqtt_flow.specs.Queue.{greatest_given, next_place};
 ghost use Rattle.mqtt_flow.specs.Outbound.{KeptOut, anew, entered, expired, has_room, lapsed, pump, pumped, resumed_with, way_made, way_open};
 
 use crate::entry::{QueueLimits, QueuedCopy, Turn, Way};
-use crate::fault::FlowFault;
 use crate::look::{look_enter, look_expire, look_pump, look_resume};
 use crate::outflow::Outflow;
 use mqtt_base::{LAST_NUMBER, QUEUE_LIMIT};
+use mqtt_inbound::FlowFault;
 use std::alloc::Global;
 
 impl Outflow {

@@ -173,14 +173,16 @@ fn resume_with_one_released(
         identifier: 1,
         order: 1,
     };
-    assert_eq!(rt; pubrec(rt, flow, 1, 0x00)?, Some(released), "PUBREC");
+    assert_eq!(rt; pubrec(rt, flow, 1, 0x00), Ok(Some(released)), "PUBREC");
     resumes(rt, flow, alloc, &[Turn::Repeat { identifier: 1 }])?;
     pumps(rt, flow, alloc, way(1, 0), &[send(2, 2)])?;
-    assert_eq!(rt;
-        flow.pubcomp(1)?,
-        Some(leave(1, Ending::Taken)),
-        "PUBCOMP of the first"
-    );
+    go_on_behind_one(rt, flow, alloc)
+}
+
+/// The released one ends, and the two that waited go out one after the other.
+fn go_on_behind_one(rt: &impl Abort, flow: &mut Outflow, alloc: Global) -> Result<(), FlowFault> {
+    let taken = Some(leave(1, Ending::Taken));
+    assert_eq!(rt; flow.pubcomp(1), Ok(taken), "PUBCOMP of the first");
     pumps(rt, flow, alloc, way(1, 0), &[])?;
     pubrec(rt, flow, 2, 0x00)?;
     flow.pubcomp(2)?;

@@ -1,10 +1,10 @@
 -- What the calls of a framer come to, and the moments at which a fault stands.
-use Rattle.std.proofs.Common.{◌≡◌, ℕ, ◌+◌, ◌-◌, ◌<◌, true, false, List, [], ◌∷◌, ◌++◌, length, None, Some, Ok, Err, refl, sym, ap, subst, append_assoc, append-nil, arith}
+use Rattle.std.proofs.Common.{◌≡◌, ℕ, ◌+◌, ◌-◌, ◌<◌, List, [], ◌∷◌, ◌++◌, length, None, Some, Ok, Err, refl, sym, ap, subst, append_assoc, append-nil, arith}
 use Rattle.std.proofs.lemmas.Bool.{lt-ltb}
 use Rattle.mqtt_base.specs.declared.fault.ReadFault.TheVariants.{Overlong}
 use Rattle.mqtt_base.specs.Reading.{varint_at}
-use Rattle.mqtt_codec.specs.declared.fault.Fault.{Fault}
-use Rattle.mqtt_codec.specs.declared.fault.Fault.TheVariants.{Malformed, TooLarge}
+use Rattle.mqtt_fields.specs.declared.fault.Fault.{Fault}
+use Rattle.mqtt_fields.specs.declared.fault.Fault.TheVariants.{Malformed, TooLarge}
 use Rattle.mqtt_base.specs.declared.limits.TheConstants.{PACKET_LIMIT}
 use Rattle.mqtt_codec.specs.declared.head.Head.{Head}
 use Rattle.mqtt_codec.specs.Heads.{head_of}

@@ -1,7 +1,7 @@
 //! The cut of a stream of bytes into packets, however it comes (2.1).
 
 ghost use Rattle.std.specs.Prelude.{◌≡◌, ◌≢◌, ◌-◌, ◌<◌, ◌≤◌, ◌++◌, length, take, drop, min, IfOk, IfErr, IfNone, IfSome, OnErr, OnOk, OnSome, IsOk};
-ghost use Rattle.mqtt_codec.specs.declared.fault.Fault.{Fault};
+ghost use Rattle.mqtt_fields.specs.declared.fault.Fault.{Fault};
 ghost use Rattle.mqtt_base.specs.declared.limits.TheConstants.{PACKET_LIMIT};
 ghost use Rattle.mqtt_packet.specs.Front.{first_of};
 ghost use Rattle.mqtt_packet.specs.Stream.{Framing, empty, after, without_last, Stands, Refuses, Finds, FindsSized, Gives};

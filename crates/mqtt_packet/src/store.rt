@@ -99,10 +99,24 @@ impl Store {
             return Ok(Bytes::new());
         }
         if self.shared.is_empty() {
-            self.shared = self.growing.freeze_to(self.growing.len())?;
+            let all = self.growing.freeze_to(self.growing.len())?;
+            let part = part_of(&all, from, to);
+            self.shared = all;
+            part
+        } else {
+            part_of(&self.shared, from, to)
         }
-        let mut part = self.shared.slice(0..to)?;
-        part.advance(from);
-        Ok(part)
     }
+}
+
+/// Another owner of a part of the bytes, which is not empty.
+#[inline(always)]
+fn part_of(bytes: &Bytes, from: usize, to: usize) -> Result<Bytes, AllocError>
+    requires order { from ≤ to }
+    requires within { to ≤ length bytes.now }
+    ensures { IfOk result (λ part. part ≡ drop from (take to bytes.now)) }
+{
+    let mut part = bytes.slice(0..to)?;
+    part.advance(from);
+    Ok(part)
 }

@@ -14,32 +14,88 @@ fn cut_text(alloc: Global, stream: &[u8], step: usize) -> Result<String, Fail>
     requires { 0 < step }
 {
     let mut text = String::new(alloc);
+    match write_cut(&mut text, alloc, stream, step) {
+        Ok(()) => Ok(text),
+        Err(fail) => {
+            drop(text);
+            Err(fail)
+        }
+    }
+}
+
+fn write_cut(text: &mut String, alloc: Global, stream: &[u8], step: usize) -> Result<(), Fail>
+    requires { 0 < step }
+{
     let mut framer = Framer::new(alloc);
+    let is_written = write_pieces(text, &mut framer, alloc, stream, step);
+    drop(framer);
+    is_written
+}
+
+fn write_pieces(
+    text: &mut String,
+    framer: &mut Framer,
+    alloc: Global,
+    stream: &[u8],
+    step: usize,
+) -> Result<(), Fail>
+    requires { 0 < step }
+{
     for piece in stream.chunks(step) {
         if let Err((fault, place)) = framer.feed(piece) {
-            write!(text, "{place} {fault:?} while it is fed")?;
-            return Ok(text);
+            return Ok(write!(text, "{place} {fault:?} while it is fed")?);
         }
         for _ in 0..=stream.len() {
-            match framer.next() {
-                Ok(Some((packet, place))) => {
-                    let frame = frame_of(alloc, packet);
-                    write!(text, "{place} ")?;
-                    write_frame(&mut text, frame)?;
-                    write!(text, ", ")?;
-                }
-                Ok(None) => break,
-                Err((fault, place)) => {
-                    write!(text, "{place} {fault:?}")?;
-                    return Ok(text);
-                }
+            match write_next(text, framer, alloc)? {
+                Next::Given => {}
+                Next::Awaited => break,
+                Next::Refused => return Ok(()),
             }
         }
     }
     let place = framer.place();
     let held = framer.held();
-    write!(text, "{place} left {held}")?;
-    Ok(text)
+    Ok(write!(text, "{place} left {held}")?)
+}
+
+/// What a framer answers: a packet, that more bytes are awaited, or a fault.
+enum Next {
+    Given,
+    Awaited,
+    Refused,
+}
+
+/// The packet that a framer gives, encoded, or its fault.
+fn write_next(text: &mut String, framer: &mut Framer, alloc: Global) -> Result<Next, Fail> {
+    match framer.next() {
+        Ok(Some((packet, place))) => {
+            let frame = frame_of(alloc, packet);
+            write_placed(text, place, frame)?;
+            Ok(Next::Given)
+        }
+        Ok(None) => Ok(Next::Awaited),
+        Err((fault, place)) => {
+            write!(text, "{place} {fault:?}")?;
+            Ok(Next::Refused)
+        }
+    }
+}
+
+fn write_placed(text: &mut String, place: u64, frame: Result<Vec<u8>, Fault>) -> Result<(), Fail> {
+    match frame {
+        Ok(frame) => {
+            let is_written = write_bytes_at(text, place, frame.as_slice());
+            drop(frame);
+            is_written
+        }
+        Err(fault) => Ok(write!(text, "{place} {fault:?}, ")?),
+    }
+}
+
+fn write_bytes_at(text: &mut String, place: u64, bytes: &[u8]) -> Result<(), Fail> {
+    write!(text, "{place} ")?;
+    write_hex(text, bytes)?;
+    Ok(write!(text, ", ")?)
 }
 
 /// What a packet that was given is encoded to.
@@ -51,14 +107,6 @@ fn frame_of(alloc: Global, packet: Packet) -> Result<Vec<u8>, Fault> {
     };
     drop(packet);
     frame
-}
-
-fn write_frame(text: &mut String, frame: Result<Vec<u8>, Fault>) -> Result<(), Fail> {
-    match frame {
-        Ok(frame) => write_hex(text, frame.as_slice())?,
-        Err(fault) => write!(text, "{fault:?}")?,
-    }
-    Ok(())
 }
 
 fn write_hex(text: &mut String, bytes: &[u8]) -> Result<(), Fail> {
@@ -175,19 +223,24 @@ fn assert_cut(rt: &impl Abort, alloc: Global, stream: &[u8], want: &str) -> Resu
     Ok(())
 }
 
+/// A frame is cut into its packet alone, which is encoded so.
+fn assert_given(rt: &impl Abort, alloc: Global, frame: &[u8], encoded: &[u8]) -> Result<(), Fail> {
+    let mut want = String::new(alloc);
+    write_bytes_at(&mut want, 0, encoded)?;
+    write!(want, "{} left 0", frame.len())?;
+    assert_cut(rt, alloc, frame, want.as_str())
+}
+
 #[test]
 fn each_vector_gives_its_packet_or_its_fault(rt: HostRuntime) -> Result<(), Fail> {
     for (frame, encoded) in packets() {
-        let mut want = String::new(rt.alloc());
-        write!(want, "0 ")?;
-        write_hex(&mut want, encoded)?;
-        write!(want, ", {} left 0", frame.len())?;
-        assert_cut(&rt, rt.alloc(), frame, want.as_str())?;
+        assert_given(&rt, rt.alloc(), frame, encoded)?;
     }
     for (frame, fault) in refused() {
-        let mut want = String::new(rt.alloc());
-        write!(want, "0 {fault:?}")?;
-        assert_cut(&rt, rt.alloc(), frame, want.as_str())?;
+        let want = format!(in rt.alloc(); "0 {fault:?}")?;
+        let is_cut = assert_cut(&rt, rt.alloc(), frame, want.as_str());
+        drop(want);
+        is_cut?;
     }
     Ok(())
 }

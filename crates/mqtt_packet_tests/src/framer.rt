@@ -1,10 +1,18 @@
 //! What a framer holds, gives, keeps and refuses (2.1).
 
+ghost use Rattle.std.specs.Prelude.{◌<◌};
+
 use bytes::Bytes;
 use mqtt_base::PACKET_LIMIT;
 use mqtt_packet::{Fault, Framer, Packet, PacketRef, Publish};
 use std::alloc::Global;
+use std::process::Abort;
 use std::test::Fail;
+
+/// Whether a framer holds so many bytes, the first of them at this place.
+fn stands(framer: &Framer, held: usize, place: u64) -> bool {
+    framer.held() == held && framer.place() == place
+}
 
 /// Whether a framer says that no packet is whole.
 fn waits(framer: &mut Framer) -> bool {
@@ -29,14 +37,18 @@ fn publish_of(packet: Packet) -> Option<Publish> {
     }
 }
 
-/// The PUBLISH that a framer gives, with its place.
-fn next_publish(framer: &mut Framer) -> Option<(Publish, u64)> {
+/// Whether a framer gives a PUBLISH at this place, to this topic and with a payload of so many bytes.
+fn is_next(framer: &mut Framer, place: u64, topic: &str, len: usize) -> bool {
     match framer.next() {
-        Ok(Some((packet, place))) => match publish_of(packet) {
-            Some(publish) => Some((publish, place)),
-            None => None,
+        Ok(Some((packet, found))) => match publish_of(packet) {
+            Some(publish) => {
+                let is = publish.topic.as_str() == topic && publish.payload.len() == len;
+                drop(publish);
+                is && found == place
+            }
+            None => false,
         },
-        _ => None,
+        _ => false,
     }
 }
 
@@ -72,28 +84,31 @@ fn greatest(alloc: Global) -> Result<Vec<u8>, Fail> {
     Ok(bytes)
 }
 
+/// Before each piece no packet is whole, and each is taken to its end.
+fn assert_fed(rt: &impl Abort, framer: &mut Framer, bytes: &[u8], step: usize)
+    requires { 0 < step }
+{
+    for piece in bytes.chunks(step) {
+        assert!(rt; waits(framer), "no packet is whole, in pieces of {step}");
+        assert!(rt;
+            framer.feed(piece) == Ok(piece.len()),
+            "in pieces of {step}"
+        );
+    }
+}
+
 #[test]
 fn the_greatest_packet_is_read(rt: HostRuntime) -> Result<(), Fail> {
     let bytes = greatest(rt.alloc())?;
     assert!(rt; bytes.len() == PACKET_LIMIT);
     for step in [1, 4096, 65_536] {
         let mut framer = Framer::new(rt.alloc());
-        for piece in bytes.as_slice().chunks(step) {
-            assert!(rt;
-                waits(&mut framer),
-                "no packet is whole, in pieces of {step}"
-            );
-            assert!(rt;
-                framer.feed(piece) == Ok(piece.len()),
-                "in pieces of {step}"
-            );
-        }
-        let (publish, place) = next_publish(&mut framer).expect(&rt, "a PUBLISH is given");
-        assert!(rt; place == 0);
-        assert!(rt; publish.topic.as_str() == "a");
-        assert!(rt; publish.payload.len() == 65_528);
-        assert!(rt; (framer.held(), framer.place()) == (0, 65_536));
+        assert_fed(&rt, &mut framer, bytes.as_slice(), step);
+        assert!(rt; is_next(&mut framer, 0, "a", 65_528));
+        assert!(rt; stands(&framer, 0, 65_536));
+        drop(framer);
     }
+    drop(bytes);
     Ok(())
 }
 
@@ -107,27 +122,28 @@ fn a_full_framer_takes_no_more(rt: HostRuntime) -> Result<(), Fail> {
     Ok(())
 }
 
+/// A fault stands behind the packet before it, however often it is asked for.
+fn assert_fault_stands(rt: &impl Abort, framer: &mut Framer, fault: (Fault, u64)) {
+    assert!(rt; pingreq_first(framer) == Ok(Some(0)));
+    assert!(rt; next_pingreq(framer) == Some(0));
+    assert!(rt; pingreq_first(framer) == Err(fault));
+    assert!(rt; framer.feed(&[0]) == Err(fault), "the fault stands first");
+    assert!(rt; framer.held() == 3, "three bytes are held");
+}
+
 #[test]
 fn a_fault_stands_until_it_is_given_back(rt: HostRuntime) {
-    let malformed = (Fault::Malformed, 2);
     let mut framer = Framer::new(rt.alloc());
+    // A PINGREQ, and one that has a body.
     assert!(rt; framer.feed(&[0xc0, 0, 0xc0, 1, 0]) == Ok(5));
-    assert!(rt; pingreq_first(&framer) == Ok(Some(0)));
-    assert!(rt; next_pingreq(&mut framer) == Some(0));
-    assert!(rt;
-        pingreq_first(&framer) == Err(malformed),
-        "a PINGREQ has no body"
-    );
-    assert!(rt;
-        framer.feed(&[0]) == Err(malformed),
-        "the fault stands first"
-    );
-    assert!(rt; framer.held() == 3, "three bytes are held");
+    assert_fault_stands(&rt, &mut framer, (Fault::Malformed, 2));
+    assert!(rt; framer.held() == 3);
     framer.give_back(2);
-    assert!(rt; (framer.held(), framer.place()) == (1, 2));
+    assert!(rt; stands(&framer, 1, 2));
     assert!(rt; waits(&mut framer), "one byte waits");
     assert!(rt; framer.feed(&[0]) == Ok(1), "no fault stands");
     assert!(rt; next_pingreq(&mut framer) == Some(2));
+    drop(framer);
 }
 
 /// Whether a packet that was given is the PUBLISH of `!` to `a/b`.
@@ -142,41 +158,54 @@ fn is_worked_publish(packet: Packet) -> bool {
     found
 }
 
-/// The same with the Nth growth refused: after want of memory the framer is as it was.
-#[test]
-fn after_want_of_memory_the_framer_is_as_it_was(rt: HostRuntime) -> Result<(), Fail> {
-    let mut framer = Framer::new(rt.alloc());
+/// The stream is taken, at once or after a growth that was refused, by which nothing is held.
+fn assert_taken(rt: &impl Abort, framer: &mut Framer) {
     for _ in 0..2 {
         match framer.feed(&STREAM) {
             Ok(taken) => {
                 assert!(rt; taken == 11);
-                break;
+                return;
             }
-            Err((fault, place)) => {
-                assert!(rt; (fault, place) == (Fault::Memory, 0));
+            Err(refused) => {
+                assert!(rt; refused == (Fault::Memory, 0));
                 assert!(rt; framer.held() == 0);
             }
         }
     }
-    let mut is_given = false;
-    for _ in 0..4 {
-        let (held, place) = (framer.held(), framer.place());
-        match framer.next() {
-            Ok(Some((packet, place))) => {
-                let is_publish = is_worked_publish(packet);
-                assert!(rt; place == if is_publish { 2 } else { 0 });
-                is_given = is_publish;
-            }
-            Ok(None) => break,
-            Err(fault) => {
-                assert!(rt; fault == (Fault::Memory, place));
-                assert!(rt; framer.held() == held);
-                assert!(rt; framer.place() == place);
-            }
+}
+
+/// Whether a framer gives the worked PUBLISH, at 2; a PINGREQ may come at 0, and after a growth that
+/// was refused the framer is as it was.
+fn is_publish_given(rt: &impl Abort, framer: &mut Framer) -> bool {
+    let (held, at) = (framer.held(), framer.place());
+    match framer.next() {
+        Ok(Some((packet, place))) => {
+            let is_publish = is_worked_publish(packet);
+            assert!(rt; place == if is_publish { 2 } else { 0 });
+            is_publish
+        }
+        Ok(None) => false,
+        Err(refused) => {
+            assert!(rt; refused == (Fault::Memory, at));
+            assert!(rt; stands(framer, held, at));
+            false
         }
     }
+}
+
+/// The same with the Nth growth refused: after want of memory the framer is as it was.
+#[test]
+fn after_want_of_memory_the_framer_is_as_it_was(rt: HostRuntime) {
+    let mut framer = Framer::new(rt.alloc());
+    assert_taken(&rt, &mut framer);
+    let mut is_given = false;
+    for _ in 0..4 {
+        if is_publish_given(&rt, &mut framer) {
+            is_given = true;
+        }
+    }
+    drop(framer);
     assert!(rt; is_given);
-    Ok(())
 }
 
 /// A PINGREQ, and the PUBLISH of `!` to `a/b`.
@@ -206,32 +235,41 @@ fn first_of(framer: &mut Framer) -> Result<Option<(u64, usize)>, (Fault, u64)> {
     }
 }
 
+/// The packet that a framer has first stands at this place and has this size, lent and in memory of
+/// its own, however often it is asked for.
+fn assert_first(rt: &impl Abort, framer: &mut Framer, first: Option<(u64, usize)>) {
+    let want = Ok(first);
+    assert!(rt; looked(framer) == want);
+    assert!(rt; first_of(framer) == want);
+    assert!(rt; first_of(framer) == want, "again");
+    assert!(rt; looked(framer) == want, "again");
+}
+
 #[test]
 fn what_is_given_first_stays_until_it_is_skipped(rt: HostRuntime) {
     let mut framer = Framer::new(rt.alloc());
     assert!(rt; framer.feed(&STREAM) == Ok(11));
     for (place, size, left) in [(0, 2, 11), (2, 9, 9)] {
-        assert!(rt; looked(&framer) == Ok(Some((place, size))));
-        assert!(rt; first_of(&mut framer) == Ok(Some((place, size))));
-        assert!(rt; first_of(&mut framer) == Ok(Some((place, size))), "again");
-        assert!(rt; looked(&framer) == Ok(Some((place, size))), "again");
-        assert!(rt; (framer.held(), framer.place()) == (left, place));
+        assert_first(&rt, &mut framer, Some((place, size)));
+        assert!(rt; stands(&framer, left, place));
         framer.skip(size);
     }
-    assert!(rt; looked(&framer) == Ok(None) && first_of(&mut framer) == Ok(None));
-    assert!(rt; (framer.held(), framer.place()) == (0, 11));
+    assert_first(&rt, &mut framer, None);
+    assert!(rt; stands(&framer, 0, 11));
+    drop(framer);
 }
 
 #[test]
 fn no_more_is_skipped_than_is_held(rt: HostRuntime) {
     let mut framer = Framer::new(rt.alloc());
     framer.skip(1);
-    assert!(rt; (framer.held(), framer.place()) == (0, 0));
+    assert!(rt; stands(&framer, 0, 0));
     assert!(rt; framer.feed(&STREAM) == Ok(11));
     framer.skip(3);
-    assert!(rt; (framer.held(), framer.place()) == (8, 3));
+    assert!(rt; stands(&framer, 8, 3));
     framer.skip(usize::MAX);
-    assert!(rt; (framer.held(), framer.place()) == (0, 11));
+    assert!(rt; stands(&framer, 0, 11));
+    drop(framer);
 }
 
 /// The payload of the PUBLISH that a framer has first.
@@ -248,21 +286,28 @@ fn payload_of(framer: &mut Framer) -> Option<Bytes> {
     }
 }
 
+/// What follows the worked PUBLISH is held beside it, and is given whole.
+fn assert_next_is_whole(rt: &impl Abort, framer: &mut Framer) {
+    assert!(rt; framer.feed(&[0x31]) == Ok(1));
+    assert!(rt; looked(framer) == Ok(Some((2, 9))));
+    framer.skip(9);
+    assert!(rt; framer.feed(&[5, 0, 2, 0x61, 0x62, 0]) == Ok(6));
+    assert!(rt; looked(framer) == Ok(Some((11, 7))));
+    assert!(rt; is_next(framer, 11, "ab", 0));
+    assert!(rt; framer.held() == 0);
+}
+
 #[test]
 fn a_shared_payload_stays_as_it_is(rt: HostRuntime) {
     let mut framer = Framer::new(rt.alloc());
     assert!(rt; framer.feed(&STREAM) == Ok(11));
     framer.skip(2);
     let payload = payload_of(&mut framer).expect(&rt, "a PUBLISH is given");
-    // What follows is held beside what stands, and is given whole.
-    assert!(rt; framer.feed(&[0x31]) == Ok(1));
-    assert!(rt; looked(&framer) == Ok(Some((2, 9))));
-    framer.skip(9);
-    assert!(rt; framer.feed(&[5, 0, 2, 0x61, 0x62, 0]) == Ok(6));
-    assert!(rt; looked(&framer) == Ok(Some((11, 7))));
-    let (publish, place) = next_publish(&mut framer).expect(&rt, "a PUBLISH is given");
-    assert!(rt; place == 11 && publish.topic.as_str() == "ab");
-    assert!(rt; framer.held() == 0 && payload.as_slice() == b"!".as_slice());
+    assert_next_is_whole(&rt, &mut framer);
+    let is_same = payload.as_slice() == b"!".as_slice();
+    drop(payload);
+    drop(framer);
+    assert!(rt; is_same);
 }
 
 #[test]
@@ -277,6 +322,13 @@ fn a_fault_stands_before_each_call(rt: HostRuntime) {
     assert!(rt; looked(&framer) == Ok(None));
 }
 
+/// The PUBLISH at 2 is found, or memory is wanting, and it is held after both.
+fn assert_first_or_refused(rt: &impl Abort, framer: &mut Framer) {
+    let found = first_of(framer);
+    assert!(rt; found == Ok(Some((2, 9))) || found == Err((Fault::Memory, 2)));
+    assert!(rt; stands(framer, 9, 2));
+}
+
 /// The same with the Nth growth refused: what was found and then refused is held as before.
 #[test]
 fn after_want_of_memory_the_first_packet_is_held(rt: HostRuntime) {
@@ -288,10 +340,8 @@ fn after_want_of_memory_the_first_packet_is_held(rt: HostRuntime) {
     }
     framer.skip(2);
     for _ in 0..4 {
-        let found = first_of(&mut framer);
-        assert!(rt; found == Ok(Some((2, 9))) || found == Err((Fault::Memory, 2)));
-        assert!(rt; (framer.held(), framer.place()) == (9, 2));
+        assert_first_or_refused(&rt, &mut framer);
     }
-    assert!(rt; first_of(&mut framer) == Ok(Some((2, 9))));
-    assert!(rt; looked(&framer) == Ok(Some((2, 9))));
+    assert_first(&rt, &mut framer, Some((2, 9)));
+    drop(framer);
 }

@@ -45,12 +45,19 @@ fn value_read(kind: ValueKind, bytes: &[u8]) -> Result<(ValueRef<'_>, usize), Re
             let (blob, taken) = blob_read(bytes)?;
             Ok((ValueRef::Binary(blob), taken))
         }
-        ValueKind::Pair => {
-            let (key, first) = text_read(bytes)?;
-            let (text, second) = text_read(&bytes[first..])?;
-            Ok((ValueRef::Pair(key, text), first + second))
-        }
+        ValueKind::Pair => pair_read(bytes),
     }
+}
+
+/// Reads the pair of texts at the front, and how many bytes it takes.
+#[inline(always)]
+#[tactic(auto, unfolding(crate::specs::Reading::value_at))]
+fn pair_read(bytes: &[u8]) -> Result<(ValueRef<'_>, usize), ReadFault>
+    ensures { Reads value_of result bytes.now (value_at ValueKind.Pair bytes.now) }
+{
+    let (key, first) = text_read(bytes)?;
+    let (text, second) = text_read(&bytes[first..])?;
+    Ok((ValueRef::Pair(key, text), first + second))
 }
 
 /// Reads the property at the front, and how many bytes it takes.

@@ -11,11 +11,14 @@ fn publish_list(rt: &impl Abort, alloc: Global) -> PropList {
     list
 }
 
-/// The block of a list.
-fn block_of(alloc: Global, list: PropList) -> Result<Vec<u8>, PropFault> {
+/// Whether a list has this block.
+fn has_block(alloc: Global, list: PropList, want: &[u8]) -> bool {
     let mut out = Vec::new(alloc);
-    list.lend().push_block(&mut out)?;
-    Ok(out)
+    let written = list.lend().push_block(&mut out);
+    drop(list);
+    let is = out.as_slice() == want;
+    drop(out);
+    is && written.is_ok()
 }
 
 #[test]
@@ -24,10 +27,10 @@ fn a_list_is_made_without_a_property(rt: HostRuntime) {
     let list = props
         .without(rt.alloc(), PropName::TopicAlias)
         .expect(&rt, "there is memory");
-    assert!(rt; list.lend().len() == 3);
-    let block = block_of(rt.alloc(), list).expect(&rt, "there is memory");
+    let len = list.lend().len();
     let want = [11, 1, 1, 0x26, 0, 1, b'k', 0, 1, b'v', 0x0b, 7];
-    assert!(rt; &block[..] == &want[..]);
+    assert!(rt; has_block(rt.alloc(), list, &want));
+    assert!(rt; len == 3);
 }
 
 #[test]
@@ -36,8 +39,8 @@ fn a_list_is_made_of_one_property_alone(rt: HostRuntime) {
     let list = props
         .only(rt.alloc(), PropName::UserProperty)
         .expect(&rt, "there is memory");
-    let block = block_of(rt.alloc(), list).expect(&rt, "there is memory");
-    assert!(rt; &block[..] == &[7, 0x26, 0, 1, b'k', 0, 1, b'v'][..]);
+    let want = [7, 0x26, 0, 1, b'k', 0, 1, b'v'];
+    assert!(rt; has_block(rt.alloc(), list, &want));
 }
 
 #[test]
@@ -47,12 +50,12 @@ fn a_property_is_added_behind_the_others(rt: HostRuntime) {
         name: PropName::SubscriptionIdentifier,
         value: ValueRef::VarInt(300),
     };
-    assert!(rt; list.push(rt.alloc(), identifier) == Ok(()));
-    let block = block_of(rt.alloc(), list).expect(&rt, "there is memory");
+    let pushed = list.push(rt.alloc(), identifier);
     let want = [
         17, 1, 1, 0x23, 0, 5, 0x26, 0, 1, b'k', 0, 1, b'v', 0x0b, 7, 0x0b, 0xac, 2,
     ];
-    assert!(rt; &block[..] == &want[..]);
+    assert!(rt; has_block(rt.alloc(), list, &want));
+    assert!(rt; pushed.is_ok());
 }
 
 #[test]
@@ -60,14 +63,14 @@ fn a_list_is_added_behind_another(rt: HostRuntime) {
     let mut list = PropList::new();
     assert!(rt; list.lend().is_empty());
     let (props, _) = look_at(&PUBLISH, Place::Publish).expect(&rt, "it is read");
-    assert!(rt; list.append(rt.alloc(), &props) == Ok(()));
-    assert!(rt; list.append(rt.alloc(), &props) == Ok(()));
-    let block = block_of(rt.alloc(), list).expect(&rt, "there is memory");
+    let first = list.append(rt.alloc(), &props);
+    let second = list.append(rt.alloc(), &props);
     let want = [
         28, 1, 1, 0x23, 0, 5, 0x26, 0, 1, b'k', 0, 1, b'v', 0x0b, 7, 1, 1, 0x23, 0, 5, 0x26, 0, 1,
         b'k', 0, 1, b'v', 0x0b, 7,
     ];
-    assert!(rt; &block[..] == &want[..]);
+    assert!(rt; has_block(rt.alloc(), list, &want));
+    assert!(rt; first.is_ok() && second.is_ok());
 }
 
 #[test]
@@ -78,14 +81,26 @@ fn a_clone_stays_as_it_is(rt: HostRuntime) {
         name: PropName::ReasonString,
         value: ValueRef::Text("why"),
     };
-    assert!(rt; list.push(rt.alloc(), why) == Ok(()));
-    assert!(rt; list.lend().len() == 5);
-    assert!(rt; before.lend().len() == 4);
+    let pushed = list.push(rt.alloc(), why);
+    let (now, then) = (list.lend().len(), before.lend().len());
+    drop(list);
+    drop(before);
+    assert!(rt; pushed.is_ok());
+    assert!(rt; now == 5 && then == 4);
+}
+
+/// Whether a property has no spelling, and is not added to an empty list.
+fn is_refused(alloc: Global, prop: PropRef<'_>) -> bool {
+    let mut list = PropList::new();
+    let pushed = list.push(alloc, prop);
+    let is_empty = list.lend().is_empty();
+    drop(list);
+    !prop.fits() && is_empty && pushed == Err(PropFault::Malformed)
 }
 
 #[test]
 fn a_property_without_spelling_is_not_added(rt: HostRuntime) {
-    let rows = [
+    for (text, name, value) in [
         ("another kind", PropName::TopicAlias, ValueRef::U32(5)),
         (
             "too great",
@@ -98,25 +113,28 @@ fn a_property_without_spelling_is_not_added(rt: HostRuntime) {
             PropName::UserProperty,
             ValueRef::Pair("a", "\0"),
         ),
-    ];
-    let mut list = PropList::new();
-    for (text, name, value) in rows {
-        let prop = PropRef { name, value };
-        assert!(rt; !prop.fits(), "{text}");
-        assert!(rt;
-            list.push(rt.alloc(), prop) == Err(PropFault::Malformed),
-            "{text}"
-        );
-        assert!(rt; list.lend().is_empty(), "{text}");
+    ] {
+        assert!(rt; is_refused(rt.alloc(), PropRef { name, value }), "{text}");
     }
+}
+
+/// Whether the property fits, is owned and lent again as it is, and so is added to the list.
+fn is_pushed_owned(alloc: Global, list: &mut PropList, prop: PropRef<'_>) -> bool {
+    if !prop.fits() {
+        return false;
+    }
+    let Ok(own) = prop.to_prop(alloc) else {
+        return false;
+    };
+    let is_same = own.lend() == prop;
+    let pushed = list.push(alloc, own.lend());
+    drop(own);
+    is_same && pushed.is_ok()
 }
 
 /// The property is owned and lent again, and is found in a list that it is added to.
 fn assert_added(rt: &impl Abort, alloc: Global, list: &mut PropList, prop: PropRef<'_>) {
-    assert!(rt; prop.fits(), "{prop:?}");
-    let own = prop.to_prop(alloc).expect(rt, "there is memory");
-    assert!(rt; own.lend() == prop);
-    assert!(rt; list.push(alloc, own.lend()) == Ok(()), "{prop:?}");
+    assert!(rt; is_pushed_owned(alloc, list, prop), "{prop:?}");
     assert!(rt; list.lend().get(prop.name) == Some(prop));
 }
 
@@ -138,5 +156,7 @@ fn a_property_of_each_kind_of_value_is_added(rt: HostRuntime) {
     for (name, value) in values {
         assert_added(&rt, rt.alloc(), &mut list, PropRef { name, value });
     }
-    assert!(rt; list.lend().len() == 7);
+    let len = list.lend().len();
+    drop(list);
+    assert!(rt; len == 7);
 }

@@ -3,7 +3,7 @@
 
 use crate::rows::PUBLISH;
 use mqtt_props::{Place, PropFault, PropList, PropName, PropRef, ValueRef, look_at, read, write};
-use std::alloc::Global;
+use std::alloc::{AllocError, Global};
 use std::process::Abort;
 
 /// A call that changes a list, and the length that it leaves after Ok.
@@ -42,7 +42,10 @@ fn want_of_memory_writes_nothing(rt: HostRuntime) {
     let list = list_or_none(&rt, rt.alloc());
     let mut out = Vec::new(rt.alloc());
     let found = write(&list, &mut out);
-    assert_memory_changes_nothing(&rt, found, out.len(), 0, list.lend().block_len());
+    let (len, whole) = (out.len(), list.lend().block_len());
+    drop(out);
+    drop(list);
+    assert_memory_changes_nothing(&rt, found, len, 0, whole);
 }
 
 #[test]
@@ -54,8 +57,10 @@ fn want_of_memory_adds_no_property(rt: HostRuntime) {
         value: ValueRef::Text("why"),
     };
     let found = list.push(rt.alloc(), prop);
+    let len = list.lend().len();
+    drop(list);
     let after = before.saturating_add(1);
-    assert_memory_changes_nothing(&rt, found, list.lend().len(), before, after);
+    assert_memory_changes_nothing(&rt, found, len, before, after);
 }
 
 #[test]
@@ -64,20 +69,32 @@ fn want_of_memory_adds_no_list(rt: HostRuntime) {
     let before = list.lend().len();
     let (props, _) = look_at(&PUBLISH, Place::Publish).expect(&rt, "it is read");
     let found = list.append(rt.alloc(), &props);
+    let len = list.lend().len();
+    drop(list);
     let after = before.saturating_add(props.len());
-    assert_memory_changes_nothing(&rt, found, list.lend().len(), before, after);
+    assert_memory_changes_nothing(&rt, found, len, before, after);
+}
+
+/// Whether a list has so many properties, with a Topic Alias or without, or memory is wanting.
+fn is_made(made: Result<PropList, AllocError>, len: usize, has_alias: bool) -> bool {
+    match made {
+        Ok(list) => {
+            let is_long = list.lend().len() == len;
+            let is_made = is_long && list.lend().has(PropName::TopicAlias) == has_alias;
+            drop(list);
+            is_made
+        }
+        Err(AllocError) => true,
+    }
 }
 
 #[test]
 fn what_is_made_from_a_list_is_right_or_want_of_memory(rt: HostRuntime) {
     let (props, _) = look_at(&PUBLISH, Place::Publish).expect(&rt, "it is read");
-    if let Ok(more) = props.only(rt.alloc(), PropName::UserProperty) {
-        assert!(rt; more.lend().len() == 1);
-    }
-    if let Ok(less) = props.without(rt.alloc(), PropName::TopicAlias) {
-        assert!(rt; !less.lend().has(PropName::TopicAlias));
-    }
-    if let Ok(copy) = props.to_list(rt.alloc()) {
-        assert!(rt; copy.lend().len() == props.len());
-    }
+    let only = props.only(rt.alloc(), PropName::UserProperty);
+    assert!(rt; is_made(only, 1, false));
+    let without = props.without(rt.alloc(), PropName::TopicAlias);
+    assert!(rt; is_made(without, 3, false));
+    let list = props.to_list(rt.alloc());
+    assert!(rt; is_made(list, props.len(), true));
 }

@@ -17,20 +17,12 @@ fn fault_of(block: &[u8], place: Place) -> Option<PropFault> {
 
 /// A property of this block may stand in this place, or not; a block that is cut never may.
 fn assert_stands(rt: &impl Abort, stands: bool, place: Place, block: &[u8], cut: &[u8]) {
-    let want = if stands {
-        None
-    } else {
-        Some(PropFault::Malformed)
-    };
+    let malformed = Some(PropFault::Malformed);
+    let want = if stands { None } else { malformed };
+    let has_layout = layout_read(block, place).is_ok();
     assert!(rt; fault_of(block, place) == want, "{block:?} in {place:?}");
-    assert!(rt;
-        layout_read(block, place).is_ok() == stands,
-        "{block:?} in {place:?}"
-    );
-    assert!(rt;
-        fault_of(cut, place) == Some(PropFault::Malformed),
-        "{cut:?} in {place:?}"
-    );
+    assert!(rt; has_layout == stands);
+    assert!(rt; fault_of(cut, place) == malformed);
 }
 
 #[test]

@@ -1,12 +1,13 @@
 -- Lemmas on a set of retained messages, of which no two are of one topic (MQTT 5.0, 3.3.1.3).
-use Rattle.std.proofs.Common.{◌≡◌, ℕ, ◌+◌, ◌<◌, ◌≤◌, ◌&&◌, not, nat_lt, arith, Bool, true, false, cond, ◌||◌, if◌then◌else◌, List, [], ◌∷◌, ◌++◌, refl, sym, ap, ◌∙◌, Some, is_some}
+use Rattle.std.proofs.Common.{◌≡◌, ℕ, suc, length, drop, get_or, append_assoc, drop-cons, ◌+◌, ◌<◌, ◌≤◌, ◌&&◌, not, nat_lt, arith, Bool, true, false, cond, ◌||◌, if◌then◌else◌, List, [], ◌∷◌, ◌++◌, refl, sym, ap, ◌∙◌, Some, is_some}
 use Rattle.std.proofs.lemmas.Bool.Decides.{nat_tests}
 use Rattle.std.specs.Prelude.{find}
 use Rattle.std.specs.Cmp.Lexicographic.{bytes_decides}
 use Rattle.std.specs.Set.{remove_key, swap_key}
 use Rattle.indexmap.specs.IndexSet.{replace_key}
+use Rattle.mqtt_topic.specs.Matching.{is_match}
 use Rattle.mqtt_routes.specs.declared.retained.Kept.{Kept}
-use Rattle.mqtt_routes.specs.Retained.{is_of, has_topic, keep, forget}
+use Rattle.mqtt_routes.specs.Retained.{is_of, has_topic, keep, kept_for, forget}
 use Rattle.mqtt_routes.specs.Keys.{same_topic}
 
 below_by : (b : Bool) (n limit : ℕ) → nat_lt n limit ≡ b → (not b && not false) ≡ false → n < limit
@@ -63,3 +64,26 @@ module _ {M : Type 0} where
   pub find-has : (text : List ℕ) (ks : List (Kept M)) → is_some (find (is_of text) ks) ≡ has_topic text ks
   find-has text [] = refl
   find-has text (k ∷ ks) = has_by (is_of text k) text k ks (find-has text ks)
+
+  -- a message is looked at after the other
+  drops : (i : ℕ) (ks : List (Kept M)) (k : Kept M) → i < length ks → k ≡ get_or ks i k → drop i ks ≡ k ∷ drop (i + 1) ks
+  drops i ks k within is =
+      let next : i + 1 ≡ suc i = omega arith in
+      drop-cons ks i k within ∙ ap (λ (x : Kept M). x ∷ drop (suc i) ks) (sym is) ∙ ap (λ (n : ℕ). k ∷ drop n ks) (sym next)
+
+  kept_by : (b : Bool) (text : List ℕ) (k : Kept M) (ks : List (Kept M)) → is_match text k.topic ≡ b → kept_for text (k ∷ ks) ≡ cond b (k ∷ kept_for text ks) (kept_for text ks)
+  kept_by true text k ks is = rw is refl
+  kept_by false text k ks is = rw is refl
+
+  pub one_found : (text : List ℕ) (ks found : List (Kept M)) (i : ℕ) (k : Kept M) → i < length ks → k ≡ get_or ks i k → is_match text k.topic ≡ true →
+      (found ++ k ∷ []) ++ kept_for text (drop (i + 1) ks) ≡ found ++ kept_for text (drop i ks)
+  one_found text ks found i k within is matches =
+      append_assoc found (k ∷ []) (kept_for text (drop (i + 1) ks))
+      ∙ ap (λ (xs : List (Kept M)). found ++ xs) (sym (kept_by true text k (drop (i + 1) ks) matches))
+      ∙ ap (λ (xs : List (Kept M)). found ++ kept_for text xs) (sym (drops i ks k within is))
+
+  pub one_passed : (text : List ℕ) (ks found : List (Kept M)) (i : ℕ) (k : Kept M) → i < length ks → k ≡ get_or ks i k → is_match text k.topic ≡ false →
+      found ++ kept_for text (drop (i + 1) ks) ≡ found ++ kept_for text (drop i ks)
+  one_passed text ks found i k within is apart =
+      ap (λ (xs : List (Kept M)). found ++ xs) (sym (kept_by false text k (drop (i + 1) ks) apart))
+      ∙ ap (λ (xs : List (Kept M)). found ++ kept_for text xs) (sym (drops i ks k within is))

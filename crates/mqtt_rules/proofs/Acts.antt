@@ -4,12 +4,12 @@ use Rattle.std.specs.Prelude.{⊤, suc, nat_lt, nat_le, flat_map, find, option_m
 use Rattle.std.proofs.lemmas.Bool.{cases_Bool, eqb-true}
 use Rattle.std.proofs.lemmas.Slice.Eq.{bytes_eq-Decides}
 use Rattle.mqtt_props.specs.declared.table.PropName.TheVariants.{SessionExpiryInterval, SubscriptionIdentifier, TopicAlias}
-use Rattle.mqtt_codec.specs.declared.connect.Connect.{Connect as Greeting}
+use Rattle.mqtt_connect.specs.declared.connect.Connect.{Connect as Greeting}
 use Rattle.mqtt_codec.specs.declared.publish.Delivery.{Delivery as Quality}
 use Rattle.mqtt_codec.specs.declared.publish.Delivery.TheVariants as delivery
 use Rattle.mqtt_codec.specs.declared.publish.Publish.{Publish as Publication}
-use Rattle.mqtt_codec.specs.declared.subscribe.Subscribe.{Subscribe as Asking}
-use Rattle.mqtt_codec.specs.declared.unsubscribe.Unsubscribe.{Unsubscribe as GivingUp}
+use Rattle.mqtt_subscribe.specs.declared.subscribe.Subscribe.{Subscribe as Asking}
+use Rattle.mqtt_subscribe.specs.declared.unsubscribe.Unsubscribe.{Unsubscribe as GivingUp}
 use Rattle.mqtt_codec.specs.declared.packet.Packet.{Packet}
 use Rattle.mqtt_codec.specs.declared.packet.Packet.TheVariants as packets
 use Rattle.mqtt_codec.specs.Subscriptions.{Subscription as Asked}
@@ -17,14 +17,14 @@ use Rattle.mqtt_topic.specs.Names.{is_empty}
 use Rattle.mqtt_topic.specs.Filters.{is_filter}
 use Rattle.mqtt_flow.specs.declared.entry.Turn.{Turn}
 use Rattle.mqtt_flow.specs.declared.entry.Turn.TheVariants as turns
-use Rattle.mqtt_flow.specs.declared.inflow.Published.{Published}
-use Rattle.mqtt_flow.specs.declared.inflow.Published.TheVariants.{New, Again, Over}
-use Rattle.mqtt_flow.specs.declared.inflow.ReleaseAnswer.{ReleaseAnswer}
-use Rattle.mqtt_flow.specs.declared.inflow.ReleaseAnswer.TheVariants.{Known, Unknown}
+use Rattle.mqtt_inbound.specs.declared.inflow.Published.{Published}
+use Rattle.mqtt_inbound.specs.declared.inflow.Published.TheVariants.{New, Again, Over}
+use Rattle.mqtt_inbound.specs.declared.inflow.ReleaseAnswer.{ReleaseAnswer}
+use Rattle.mqtt_inbound.specs.declared.inflow.ReleaseAnswer.TheVariants.{Known, Unknown}
 use Rattle.mqtt_base.specs.Codes.{success, identifier_in_use, identifier_not_found, quota_exceeded, receive_maximum_exceeded, session_taken_over}
 use Rattle.mqtt_base.specs.declared.limits.TheConstants.{SUBSCRIPTION_LIMIT}
-use Rattle.mqtt_flow.specs.Identifiers.{is_among}
-use Rattle.mqtt_flow.specs.Inbound.{answer_to, answer_to_release}
+use Rattle.mqtt_inbound.specs.Identifiers.{is_among}
+use Rattle.mqtt_inbound.specs.Inbound.{answer_to, answer_to_release}
 use Rattle.mqtt_flow.specs.Outbound.{Answer, due_from}
 use Rattle.mqtt_flow.specs.Outbound as rules
 use Rattle.mqtt_message.specs.declared.message.RetainedMessage.{RetainedMessage}
@@ -44,6 +44,7 @@ use Rattle.mqtt_rules.specs.Subscribe as sub
 use Rattle.mqtt_rules.specs.Tick.{is_silent, silence, has_lapsed, lapse_deeds, is_stale, first_due, due, on_tick}
 use Rattle.mqtt_rules.specs.Step.{Call, NewLine, Input, BadInput, Lost, Pump, Tick, first_packet, next_packet, on_packet, on_fault, late_code, on_pump, can_link, deeds_of, close_if, opening}
 use Rattle.mqtt_rules.proofs.FlightRows.{found_key}
+use Rattle.mqtt_rules.proofs.StoredLaw.{now_stays}
 use Rattle.mqtt_rules.specs.Laws.{IsAmong}
 use Rattle.mqtt_base.specs.declared.session.SubscriptionOptions.{SubscriptionOptions}
 use Rattle.mqtt_codec.specs.Options.{options_of}
@@ -120,6 +121,38 @@ pub record IsGranted (env : Env) (w : sub.Wish) (s : Session) (b : Broker) : Typ
   pub fits : (sub.has_filter w.filter s || nat_lt (length s.subscriptions) SUBSCRIPTION_LIMIT) ≡ true
   pub has_room : nat_le (length (filter is_queued (brought_to w s b))) (room env s) ≡ true
 
+-- ---- how far a CONNECT has come
+
+-- its client's old line is closed
+abbrev pub taken_over : Env → List ℕ → Broker → Broker
+taken_over env client b = after_all (of_client client (take_over env) b) b
+
+-- and what is due of its session is done
+abbrev pub settled : Env → List ℕ → Broker → Broker
+settled env client b = let x = taken_over env client b in after_all (of_client client (λ s. settle env s.birth) x) x
+
+-- and its session's Will is published: what the session then has to end for is Clean Start
+pub record IsCleared (env : Env) (Keep : Broker → Type 0) (s : Session) (b : Broker) : Type 0 where
+  pub client : List ℕ
+  pub before : Broker
+  pub kept : Keep before
+  pub other : Session
+  pub found : session_named client (settled env client before).records ≡ Some other
+  pub its : other.client ≡ client
+  pub is : b ≡ after_all (publish_will env other (settled env client before)) (settled env client before)
+  pub named : session_named other.client b.records ≡ Some s
+
+-- a session ends where its end is due, or by Clean Start
+abbrev pub MayEnd : Env → (Broker → Type 0) → Session → Broker → Type 0
+MayEnd env Keep s b = (has_due_end b.now s ≡ true) ⊎ IsCleared env Keep s b
+
+-- all that comes before a new connection on the line is done
+pub record IsPrepared (env : Env) (Keep : Broker → Type 0) (l : Line) (c : Greeting) (b : Broker) : Type 0 where
+  pub before : Broker
+  pub kept : Keep before
+  pub on : IsOn l.number l.session before.lines
+  pub is : b ≡ after_all (prepare env c before) before
+
 -- the topic of a message among them
 abbrev pub IsSaid : About → List ℕ → Type 0
 IsSaid about topic = (m : Message) × about.message m × (m.topic ≡ topic)
@@ -153,13 +186,13 @@ pub record Law (env : Env) (about : About) (Keep : Broker → Type 0) (Good : De
   -- sessions
   pub alone : (who : Whose) (part : Part) (b : Broker) → Keep b → about.session who.birth → is_alone part ≡ true → Leads Keep Good (At who part ∷ []) b
   pub closes : (keeps_will : Bool) (l : Line) (b : Broker) → Keep b → about.line l → IsOn l.number l.session b.lines → Leads Keep Good (closing keeps_will l b) b
-  pub ends : (s : Session) (b : Broker) → Keep b → about.session s.birth → IsAmong s b.records.sessions → Leads Keep Good (end_session s) b
+  pub ends : (s : Session) (b : Broker) → Keep b → about.session s.birth → IsAmong s b.records.sessions → MayEnd env Keep s b → Leads Keep Good (end_session s) b
   pub resumes : (l : Line) (c : Greeting) (s : Session) (b : Broker)
-      → Keep b → about.line l → l.session ≡ None → about.packet (packets.Connect c) → IsAdmitted c → about.session s.birth → session_named c.client_identifier b.records ≡ Some s
+      → Keep b → about.line l → l.session ≡ None → about.packet (packets.Connect c) → IsAdmitted c → about.session s.birth → session_named c.client_identifier b.records ≡ Some s → IsPrepared env Keep l c b
       → Leads Keep Good (At (whose s) (Resume (expiry_of c) (will_of c)) ∷ greet l c s.birth ∷ []) b
   pub begins : (l : Line) (c : Greeting) (b : Broker)
       → Keep b → about.line l → l.session ≡ None → about.packet (packets.Connect c) → IsAdmitted c → about.client c.client_identifier b
-      → session_named c.client_identifier b.records ≡ None → nat_lt (length b.records.sessions) env.limits.sessions ≡ true
+      → session_named c.client_identifier b.records ≡ None → nat_lt (length b.records.sessions) env.limits.sessions ≡ true → IsPrepared env Keep l c b
       → Leads Keep Good (begin_named (is_empty c.client_identifier) l c b.records) b
   pub grants : (w : sub.Wish) (s : Session) (b : Broker) → Keep b → about.session s.birth → IsAsked about w → IsGranted env w s b
       → Leads Keep Good (sub.granted_filter env (sub.next_number b.records) s w (brought_to w s b) b).deeds b
@@ -302,25 +335,26 @@ module _ (env : Env) (about : About) (Keep : Broker → Type 0) (Good : Deed →
   pub leads_publish_will : (s : Session) (b : Broker) → Keep b → about.session s.birth → IsAmong s b.records.sessions → Led (publish_will env s b) b
   leads_publish_will s b k its among = leads_will s s.will b k its among refl
 
-  if_here : (t : Bool) (act : Act) (b : Broker) → Keep b → Led (act b) b → Led (only_if t act b) b
-  if_here true act b k h = h
+  if_here : (t : Bool) (act : Act) (b : Broker) → Keep b → (t ≡ true → Led (act b) b) → Led (only_if t act b) b
+  if_here true act b k h = h refl
   if_here false act b k h = (tt, k)
 
   pub leads_settle : (birth : ℕ) (b : Broker) → Keep b → about.session birth → Led (settle env birth b) b
   leads_settle birth b k its =
       leads_two Keep Good (of_session birth (λ s. only_if (has_due_will b.now s) (publish_will env s))) (of_session birth (λ s. only_if (has_due_end b.now s) (always (end_session s)))) b
       (of_its birth (λ s. only_if (has_due_will b.now s) (publish_will env s)) b k its
-      (λ s e own. if_here (has_due_will b.now s) (publish_will env s) b k (leads_publish_will s b k own (row_among birth_of birth s b.records.sessions e))))
+      (λ s e own. if_here (has_due_will b.now s) (publish_will env s) b k (λ t. leads_publish_will s b k own (row_among birth_of birth s b.records.sessions e))))
       (λ h. let c = after_all (of_session birth (λ s. only_if (has_due_will b.now s) (publish_will env s)) b) b in
       of_its birth (λ s. only_if (has_due_end b.now s) (always (end_session s))) c h its
-      (λ s e own. if_here (has_due_end b.now s) (always (end_session s)) c h (law.ends s c h own (row_among birth_of birth s c.records.sessions e))))
+      (λ s e own. if_here (has_due_end b.now s) (always (end_session s)) c h (λ t. law.ends s c h own (row_among birth_of birth s c.records.sessions e)
+      (inl (subst (λ (now : ℕ). has_due_end now s ≡ true) (sym (now_stays (of_session birth (λ s. only_if (has_due_will b.now s) (publish_will env s)) b) b)) t)))))
 
   leads_settled : (birth : ℕ) (b : Broker) → Keep b → about.session birth → Led ((settle env birth b ++ []) ++ []) b
   leads_settled birth b k its =
       leads_append Keep Good (settle env birth b ++ []) [] b
       (leads_append Keep Good (settle env birth b) [] b (leads_settle birth b k its) (λ h. (tt, h))) (λ h. (tt, h))
 
-  leads_closing : (keeps_will : Bool) (l : Line) (session : Option ℕ) (b : Broker) → about.line l → l.session ≡ session
+  pub leads_closing : (keeps_will : Bool) (l : Line) (session : Option ℕ) (b : Broker) → about.line l → l.session ≡ session
       → Led (Gone l.number ∷ closing_on keeps_will b.now session b.records) b → Led (series (always (Gone l.number ∷ []) ∷ close_connected env keeps_will session ∷ []) b) b
   leads_closing keeps_will l None b its e h = h
   leads_closing keeps_will l (Some birth) b its e h = found keeps_will (session_at birth b.records) refl h
@@ -365,33 +399,42 @@ module _ (env : Env) (about : About) (Keep : Broker → Type 0) (Good : Deed →
       leads_with_line Keep Good (line_of s.birth b) (drop_line env session_taken_over) b k
       (λ l e. leads_drop session_taken_over l b k (law.finds.its_line s.birth l b k its e) (found_on l b.lines (found_among _ l b.lines e)))
 
-  pub leads_clear : (client : List ℕ) (s : Session) (b : Broker) → Keep b → about.client client b → session_named client b.records ≡ Some s → Led (clear env s b) b
-  leads_clear client s b k its e =
+  pub leads_clear : (client : List ℕ) (s : Session) (before : Broker) → Keep before → Keep (settled env client before) → about.client client (settled env client before)
+      → session_named client (settled env client before).records ≡ Some s → Led (clear env s (settled env client before)) (settled env client before)
+  leads_clear client s before kept k its e =
+      let b = settled env client before in
       let is : s.client ≡ client = (bytes_eq-Decides s.client client).0 (found_passes (λ x. bytes_eq x.client client) s b.records.sessions e) in
       let name : about.client s.client b = subst (λ (text : List ℕ). about.client text b) (sym is) its in
       let first = leads_publish_will s b k (law.finds.named client s b k its e) (found_among _ s b.records.sessions e) in
       leads_two Keep Good (publish_will env s) (of_client s.client (λ t. always (end_session t))) b first
       (λ h. let c = after_all (publish_will env s b) b in
       of_named s.client (λ t. always (end_session t)) c h (law.client_stays s.client (publish_will env s b) b k first name)
-      (λ t there own. law.ends t c h own (found_among _ t c.records.sessions there)))
+      (λ t there own. law.ends t c h own (found_among _ t c.records.sessions there)
+      (inr (record { client = client; before = before; kept = kept; other = s; found = e; its = is; is = refl; named = there }))))
+
+  -- behind the takeover
+  pub leads_behind : (c : Greeting) (b : Broker) → Keep b → Led (of_client c.client_identifier (take_over env) b) b → about.client c.client_identifier (taken_over env c.client_identifier b)
+      → Led (prepare env c b) b
+  leads_behind c b k one name_x =
+      let name = c.client_identifier in
+      let first = of_client name (take_over env) b in
+      let x = taken_over env name b in
+      let second = of_client name (λ s. settle env s.birth) x in
+      let y = settled env name b in
+      let third = only_if c.clean_start (of_client name (clear env)) in
+      leads_append Keep Good first (series ((λ z. of_client name (λ s. settle env s.birth) z) ∷ third ∷ []) x) b one
+      (λ h. let two : Led second x = of_named name (λ s. settle env s.birth) x h name_x (λ s e own. leads_settle s.birth x h own) in
+      leads_append Keep Good second (series (third ∷ []) y) x two
+      (λ g. let name_y = law.client_stays name second x h two name_x in
+      leads_append Keep Good (third y) [] y
+      (if_here c.clean_start (of_client name (clear env)) y g (λ t. of_named name (clear env) y g name_y (λ s e own. leads_clear name s b k g name_y e)))
+      (λ f. (tt, f))))
 
   pub leads_prepare : (c : Greeting) (b : Broker) → Keep b → about.client c.client_identifier b → Led (prepare env c b) b
   leads_prepare c b k its =
       let name = c.client_identifier in
-      let first = of_client name (take_over env) b in
-      let x = after_all first b in
-      let second = of_client name (λ s. settle env s.birth) x in
-      let y = after_all second x in
-      let third = only_if c.clean_start (of_client name (clear env)) in
-      let one : Led first b = of_named name (take_over env) b k its (λ s e own. leads_take_over s b k own) in
-      leads_append Keep Good first (series ((λ z. of_client name (λ s. settle env s.birth) z) ∷ third ∷ []) x) b one
-      (λ h. let name_x = law.client_stays name first b k one its in
-      let two : Led second x = of_named name (λ s. settle env s.birth) x h name_x (λ s e own. leads_settle s.birth x h own) in
-      leads_append Keep Good second (series (third ∷ []) y) x two
-      (λ g. let name_y = law.client_stays name second x h two name_x in
-      leads_append Keep Good (third y) [] y
-      (if_here c.clean_start (of_client name (clear env)) y g (of_named name (clear env) y g name_y (λ s e own. leads_clear name s y g name_y e)))
-      (λ f. (tt, f))))
+      let one : Led (of_client name (take_over env) b) b = of_named name (take_over env) b k its (λ s e own. leads_take_over s b k own) in
+      leads_behind c b k one (law.client_stays name (of_client name (take_over env) b) b k one its)
 
   leads_repeats : {X : Type 0} (now line : ℕ) (s : Session) (xs : List X) (id : X → ℕ) (b : Broker) → Keep b → about.number line → Led (all_turn_deeds now line s (map (λ x. turns.Repeat (id x)) xs)) b
   leads_repeats now line s [] id b k its = (tt, k)
@@ -400,32 +443,35 @@ module _ (env : Env) (about : About) (Keep : Broker → Type 0) (Good : Deed →
       leads_append Keep Good (d ∷ []) (all_turn_deeds now line s (map (λ y. turns.Repeat (id y)) xs)) b (law.sends line (pubrel (id x) success) b k its) (λ h. leads_repeats now line s xs id (after d b) h its)
 
   pub leads_resume : (l : Line) (c : Greeting) (now : ℕ) (s : Session) (b : Broker)
-      → Keep b → about.line l → l.session ≡ None → about.packet (packets.Connect c) → IsAdmitted c → about.session s.birth → session_named c.client_identifier b.records ≡ Some s
+      → Keep b → about.line l → l.session ≡ None → about.packet (packets.Connect c) → IsAdmitted c → about.session s.birth → session_named c.client_identifier b.records ≡ Some s → IsPrepared env Keep l c b
       → Led (resume l c now s) b
-  leads_resume l c now s b k its none came taken own e =
+  leads_resume l c now s b k its none came taken own e prepared =
       let first : List Deed = At (whose s) (Resume (expiry_of c) (will_of c)) ∷ greet l c s.birth ∷ [] in
       let told : List Deed = Send l.number (connack true success (connack_properties false [])) ∷ [] in
       let number = law.finds.its_number l its in
-      leads_append Keep Good first (told ++ all_turn_deeds now l.number s (rules.resumed_with (queue_on [] s))) b (law.resumes l c s b k its none came taken own e)
+      leads_append Keep Good first (told ++ all_turn_deeds now l.number s (rules.resumed_with (queue_on [] s))) b (law.resumes l c s b k its none came taken own e prepared)
       (λ h. leads_append Keep Good told (all_turn_deeds now l.number s (rules.resumed_with (queue_on [] s))) (after_all first b)
       (law.sends l.number (connack true success (connack_properties false [])) (after_all first b) h number)
       (λ g. leads_repeats now l.number s (due_from [] (queue_on [] s)) (λ d. d.identifier) (after_all (first ++ told) b) g number))
 
   -- after the preparation, on the state that it left
   pub leads_joins : (l : Line) (c : Greeting) (now : ℕ) (ds : List Deed) (b : Broker)
-      → Keep b → about.line l → l.session ≡ None → IsOn l.number l.session b.lines → about.packet (packets.Connect c) → IsAdmitted c → about.client c.client_identifier (after_all ds b) → Led ds b
+      → ds ≡ prepare env c b → Keep b → about.line l → l.session ≡ None → IsOn l.number l.session b.lines → about.packet (packets.Connect c) → IsAdmitted c → about.client c.client_identifier (after_all ds b) → Led ds b
       → Led (joins_after env l c now ds (after_all ds b).records) b
-  leads_joins l c now ds b k its none on came taken name led = found (session_named c.client_identifier r) refl
+  leads_joins l c now ds b same k its none on came taken name led = found (session_named c.client_identifier r) refl
     where
+      prepared : IsPrepared env Keep l c (after_all ds b)
+      prepared = record { before = b; kept = k; on = on; is = ap (λ (xs : List Deed). after_all xs b) same }
+
       r : Records
       r = (after_all ds b).records
 
       found : (o : Option Session) → session_named c.client_identifier (after_all ds b).records ≡ o → Led (joins env l c now ds (after_all ds b).records o) b
-      found (Some s) e = leads_append Keep Good ds (resume l c now s) b led (λ h. leads_resume l c now s (after_all ds b) h its none came taken (law.finds.named c.client_identifier s (after_all ds b) h name e) e)
+      found (Some s) e = leads_append Keep Good ds (resume l c now s) b led (λ h. leads_resume l c now s (after_all ds b) h its none came taken (law.finds.named c.client_identifier s (after_all ds b) h name e) e prepared)
       found None e =
           leads_cond Keep Good (nat_lt (length (after_all ds b).records.sessions) env.limits.sessions) (ds ++ begin_named (is_empty c.client_identifier) l c (after_all ds b).records) (refused l c quota_exceeded) b
           (λ room. leads_append Keep Good ds (begin_named (is_empty c.client_identifier) l c (after_all ds b).records) b led
-          (λ h. law.begins l c (after_all ds b) h its none came taken name e room))
+          (λ h. law.begins l c (after_all ds b) h its none came taken name e room prepared))
           (λ full. leads_refused l c quota_exceeded b k its none on)
 
   pub leads_connect : (l : Line) (c : Greeting) (b : Broker) → Keep b → about.line l → l.session ≡ None → IsOn l.number l.session b.lines → about.packet (packets.Connect c) → Led (on_connect env l c b) b
@@ -435,7 +481,7 @@ module _ (env : Env) (about : About) (Keep : Broker → Type 0) (Good : Deed →
       by (Some code) e = leads_refused l c code b k its none on
       by None e =
           let name = law.finds.admitted c b k came e in
-          leads_joins l c b.now (prepare env c b) b k its none on came (b.records, e) (law.client_stays c.client_identifier (prepare env c b) b k (leads_prepare c b k name) name) (leads_prepare c b k name)
+          leads_joins l c b.now (prepare env c b) b refl k its none on came (b.records, e) (law.client_stays c.client_identifier (prepare env c b) b k (leads_prepare c b k name) name) (leads_prepare c b k name)
 
   -- PUBLISH
 
@@ -672,7 +718,7 @@ module _ (env : Env) (about : About) (Keep : Broker → Type 0) (Good : Deed →
               (λ s e. leads_publish_will s b k (its.wills s e) (found_among _ s b.records.sessions e)),
           (
             leads_some (λ s. always (end_session s)) (find (has_due_end b.now) b.records.sessions) b
-                (λ s e. law.ends s b k (its.ends s e) (found_among _ s b.records.sessions e)),
+                (λ s e. law.ends s b k (its.ends s e) (found_among _ s b.records.sessions e) (inl (found_passes (has_due_end b.now) s b.records.sessions e))),
             (
               leads_some (λ x. always (Forget x.place ∷ [])) (find (is_stale b.now) b.records.retained) b
                   (λ x e. law.stale x b k (found_among _ x b.records.retained e)),

@@ -6,14 +6,14 @@ use Rattle.mqtt_base.specs.declared.session.Ending.TheVariants.{SessionEnded}
 use Rattle.mqtt_base.specs.declared.session.Phase.{Phase}
 use Rattle.mqtt_base.specs.declared.session.Phase.TheVariants.{Sent, Released as ReleasedPhase, Oversize}
 use Rattle.mqtt_base.specs.Codes.{success, identifier_not_found}
-use Rattle.mqtt_codec.specs.declared.connect.Connect.{Connect as Greeting}
+use Rattle.mqtt_connect.specs.declared.connect.Connect.{Connect as Greeting}
 use Rattle.mqtt_codec.specs.declared.packet.Packet.{Packet}
 use Rattle.mqtt_codec.specs.declared.packet.Packet.TheVariants as packets
 use Rattle.mqtt_topic.specs.Names.{is_empty}
 use Rattle.mqtt_flow.specs.declared.entry.Turn.{Turn}
 use Rattle.mqtt_flow.specs.declared.entry.Turn.TheVariants as turns
-use Rattle.mqtt_flow.specs.declared.inflow.Published.TheVariants.{New}
-use Rattle.mqtt_flow.specs.Inbound.{answer_to}
+use Rattle.mqtt_inbound.specs.declared.inflow.Published.TheVariants.{New}
+use Rattle.mqtt_inbound.specs.Inbound.{answer_to}
 use Rattle.mqtt_flow.specs.Outbound.{Answer, way_made}
 use Rattle.mqtt_message.specs.declared.message.MessageCopy.{MessageCopy}
 use Rattle.mqtt_message.specs.declared.message.RetainedMessage.{RetainedMessage}
@@ -296,11 +296,11 @@ module _ (env : Env) (about : About) (Keeps : Broker → Type 0) (Good : Deed �
       refuse_will = λ who b k its. tell (RefuseWill who ∷ []) b (one (RefuseWill who) b k (law.refuse_will who b k its));
       alone = λ who part b k its is. tell (At who part ∷ []) b (one (At who part) b k (law.alone who part b k its is));
       closes = λ keeps_will l b k its on. tell (closing keeps_will l b) b (leads_closing keeps_will l l.session b k its refl);
-      ends = λ s b k its among. tell (end_session s) b (leads_ended s b k its);
-      resumes = λ l c s b k its none came taken own is. tell (At (whose s) (Resume (expiry_of c) (will_of c)) ∷ greet l c s.birth ∷ []) b (
+      ends = λ s b k its among may. tell (end_session s) b (leads_ended s b k its);
+      resumes = λ l c s b k its none came taken own is prepared. tell (At (whose s) (Resume (expiry_of c) (will_of c)) ∷ greet l c s.birth ∷ []) b (
           more (At (whose s) (Resume (expiry_of c) (will_of c))) (greet l c s.birth ∷ []) b k (law.resume (whose s) (expiry_of c) (will_of c) b k own)
           (λ h. one (greet l c s.birth) _ h (law.on_line l.number _ _ h)));
-      begins = λ l c b k its none came taken name is room. tell (begin_named (is_empty c.client_identifier) l c b.records) b (leads_begin (is_empty c.client_identifier) l c b k came taken name is room);
+      begins = λ l c b k its none came taken name is room prepared. tell (begin_named (is_empty c.client_identifier) l c b.records) b (leads_begin (is_empty c.client_identifier) l c b k came taken name is room);
       grants = λ w s b k its asked granted. tell (sub.granted_filter env (sub.next_number b.records) s w (brought_to w s b) b).deeds b (leads_grants w s b k its granted);
       pumps = turn.pumps;
       turns = turn.turns;

@@ -1,24 +1,21 @@
 -- Deeds that fit leave records coherent: what each deed has to bring, and what it keeps.
-use Rattle.std.proofs.Common.{◌≡◌, ℕ, suc, ◌≤◌, ◌<◌, ◌⊎◌, Bool, true, false, cond, not, ◌||◌, List, [], ◌∷◌, ◌++◌, length, filter, Option, Some, None, nat_eq, nat_lt, bytes_eq, refl, sym, ap, subst, ◌∙◌, arith, inl, inr}
+use Rattle.std.proofs.Common.{◌≡◌, ℕ, suc, ◌≤◌, Bool, true, false, cond, not, ◌||◌, List, [], ◌∷◌, length, Option, Some, None, nat_eq, nat_lt, bytes_eq, refl, sym, ap, subst, ◌∙◌, arith}
 use Rattle.std.specs.Prelude.{⊤, option_map}
 use Rattle.std.specs.List.{AllByRecursion}
-use Rattle.std.proofs.lemmas.Bool.{cases_Bool, eqb-true}
-use Rattle.std.proofs.lemmas.Cmp.{nat_eq_equiv}
 use Rattle.mqtt_message.specs.declared.message.MessageCopy.{MessageCopy}
 use Rattle.mqtt_message.specs.declared.message.RetainedMessage.{RetainedMessage}
 use Rattle.mqtt_message.specs.declared.message.Will.{Will}
 use Rattle.mqtt_records.specs.declared.session.Columns.{Columns}
 use Rattle.mqtt_records.specs.declared.session.Session.{Session}
-use Rattle.mqtt_records.specs.declared.subscription.Subscription.{Subscription}
 use Rattle.mqtt_records.specs.declared.records.Records.{Records}
 use Rattle.mqtt_records.specs.declared.change.Change.TheVariants.{SetSession}
 use Rattle.mqtt_base.specs.declared.limits.TheConstants.{LAST_NUMBER, OPEN_LIMIT, SUBSCRIPTION_LIMIT, SESSION_LIMIT, RETAINED_LIMIT}
-use Rattle.mqtt_rows.specs.Order.{HasRoomFor, row_at, has_row, put_row, remove_row, change_row}
+use Rattle.mqtt_rows.specs.Order.{HasRoomFor, row_at, has_row, put_row, change_row}
 use Rattle.mqtt_rows.proofs.LookUps.{row_at-put_row, row_at-remove_row}
 use Rattle.mqtt_records.specs.Session.{birth_of, place_of, number_of, fresh, with_columns, with_will, without_filter, with_subscription, without_subscription, with_open, without_open, with_copy, with_phase, without_copy}
 use Rattle.mqtt_records.specs.Records.{kept_place, put_session, in_session, changed, changed_all, IsNumber, IsMoment, TakesSubscription, subscribe_in}
 use Rattle.mqtt_rules.specs.State.{Broker, session_at}
-use Rattle.mqtt_rules.specs.Deeds.{Whose, Part, Resume, Close, SetExpiry, DropWill, Subscribe, Unsubscribe, Open, Release, Enter, Mark, Leave, Deed, Accept, Begin, Name, Count, At, Finish, Keep, Forget, RefuseWill, Link, On, Send, Gone, will_row, new_entry, part_rows, part_rows_of, rows_of, stored_after, after}
+use Rattle.mqtt_rules.specs.Deeds.{Part, Resume, Close, SetExpiry, DropWill, Subscribe, Unsubscribe, Open, Release, Enter, Mark, Leave, Deed, Accept, Begin, Name, Count, At, Finish, Keep, Forget, RefuseWill, Link, On, Send, Gone, will_row, new_entry, part_rows, part_rows_of, rows_of, after}
 use Rattle.mqtt_rules.specs.Numbers.{HasGivenBirths}
 use Rattle.mqtt_rules.specs.Laws.{IsOrdered, IsUnique, client_at, topic_at, IsAssignedUpTo, IsCoherentSession, IsCoherentMessage}
 use Rattle.mqtt_rules.proofs.Copies.{each_more, each_filter}
@@ -184,10 +181,10 @@ sessions_deed (Gone n) b fit h = h.sessions
 
 -- ---- client identifiers
 
-no_session : (r : Records) (birth : ℕ) → birth ≡ suc r.births → HasGivenBirths r → session_at birth r ≡ None
+pub no_session : (r : Records) (birth : ℕ) → birth ≡ suc r.births → HasGivenBirths r → session_at birth r ≡ None
 no_session r birth is low = subst (λ (n : ℕ). session_at n r ≡ None) (sym is) (below_none birth_of (suc r.births) r.sessions low)
 
-or_right : (x y : Bool) → y ≡ true → (x || y) ≡ true
+pub or_right : (x y : Bool) → y ≡ true → (x || y) ≡ true
 or_right true y is = refl
 or_right false y is = is
 

@@ -7,7 +7,7 @@ use Rattle.mqtt_base.specs.declared.session.Cause.{Cause}
 use Rattle.mqtt_base.specs.declared.session.Cause.TheVariants.{Direct, Share}
 use Rattle.mqtt_base.specs.declared.session.Ending.TheVariants.{SessionEnded}
 use Rattle.mqtt_props.specs.declared.place.Place.TheVariants as places
-use Rattle.mqtt_codec.specs.declared.connect.Connect.{Connect as Greeting}
+use Rattle.mqtt_connect.specs.declared.connect.Connect.{Connect as Greeting}
 use Rattle.mqtt_codec.specs.declared.packet.Packet.{Packet}
 use Rattle.mqtt_topic.specs.Names.{is_empty}
 use Rattle.mqtt_topic.specs.Filters.{begins_share}
@@ -248,9 +248,9 @@ content_law env = record {
   refuse_will = λ who b k its. led (RefuseWill who ∷ []) b k (tt, tt);
   alone = λ who part b k its is. led (At who part ∷ []) b k (alone_brings who part b is, tt);
   closes = λ keeps_will l b k its on. led (closing keeps_will l b) b k (tt, closing_brings keeps_will b.now l.session b.records (after (Gone l.number) b));
-  ends = λ s b k its among. led (end_session s) b k (end_brings s s.queue b);
-  resumes = λ l c s b k its none came taken own is. led (At (whose s) (Resume (expiry_of c) (will_of c)) ∷ greet l c s.birth ∷ []) b k (asked_content c taken.0 came taken.1, (tt, tt));
-  begins = λ l c b k its none came taken name is room. led (begin_named (is_empty c.client_identifier) l c b.records) b k (begin_brings (is_empty c.client_identifier) l c b.records b (asked_content c taken.0 came taken.1));
+  ends = λ s b k its among may. led (end_session s) b k (end_brings s s.queue b);
+  resumes = λ l c s b k its none came taken own is prepared. led (At (whose s) (Resume (expiry_of c) (will_of c)) ∷ greet l c s.birth ∷ []) b k (asked_content c taken.0 came taken.1, (tt, tt));
+  begins = λ l c b k its none came taken name is room prepared. led (begin_named (is_empty c.client_identifier) l c b.records) b k (begin_brings (is_empty c.client_identifier) l c b.records b (asked_content c taken.0 came taken.1));
   grants = λ w s b k its asked granted.
       let number = sub.next_number b.records in
       let queued = filter is_queued (brought_to w s b) in

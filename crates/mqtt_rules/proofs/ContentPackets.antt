@@ -12,11 +12,11 @@ use Rattle.mqtt_props.specs.declared.place.Place.TheVariants as places
 use Rattle.mqtt_props.specs.declared.table.PropName.TheVariants.{AuthenticationMethod, SubscriptionIdentifier, TopicAlias}
 use Rattle.mqtt_props.specs.Properties.{Prop, block}
 use Rattle.mqtt_props.specs.Laws.{has}
-use Rattle.mqtt_codec.specs.declared.connect.Connect.{Connect as Greeting}
-use Rattle.mqtt_codec.specs.declared.connect.Will.{Will as WillAsked}
+use Rattle.mqtt_connect.specs.declared.connect.Connect.{Connect as Greeting}
+use Rattle.mqtt_connect.specs.declared.connect.Will.{Will as WillAsked}
 use Rattle.mqtt_codec.specs.declared.publish.Publish.{Publish as Publication}
 use Rattle.mqtt_codec.specs.declared.packet.Packet.TheVariants as packets
-use Rattle.mqtt_codec.specs.declared.subscribe.Subscribe.{Subscribe as Asking}
+use Rattle.mqtt_subscribe.specs.declared.subscribe.Subscribe.{Subscribe as Asking}
 use Rattle.mqtt_props.specs.declared.table.PropName.{PropName}
 use Rattle.mqtt_props.specs.declared.value.ValueKind.TheVariants as kinds
 use Rattle.mqtt_props.specs.Table.{property_row}

@@ -12,7 +12,7 @@ use Rattle.mqtt_props.specs.declared.table.PropName.TheVariants.{AssignedClientI
 use Rattle.mqtt_props.specs.Properties.{Prop, Text, U16, U32, VarInt}
 use Rattle.mqtt_props.specs.Reading.{value_at, prop_at, block_at}
 use Rattle.mqtt_props.specs.Laws.{layout_at}
-use Rattle.mqtt_codec.specs.declared.fault.Fault.TheVariants.{Version}
+use Rattle.mqtt_fields.specs.declared.fault.Fault.TheVariants.{Version}
 use Rattle.mqtt_codec.specs.declared.publish.Delivery.TheVariants as delivery
 use Rattle.mqtt_codec.specs.declared.packet.Packet.{Packet}
 use Rattle.mqtt_codec.specs.declared.packet.Packet.TheVariants.{Connect, Publish}

@@ -8,7 +8,7 @@ use Rattle.mqtt_base.specs.declared.session.Cause.TheVariants.{Retained}
 use Rattle.mqtt_base.specs.declared.session.Ending.TheVariants.{SessionEnded}
 use Rattle.mqtt_props.specs.declared.table.PropName.TheVariants.{SessionExpiryInterval}
 use Rattle.mqtt_props.specs.Properties.{U32}
-use Rattle.mqtt_codec.specs.declared.connect.Will.{Will}
+use Rattle.mqtt_connect.specs.declared.connect.Will.{Will}
 use Rattle.mqtt_codec.specs.declared.publish.Delivery.TheVariants as delivery
 use Rattle.mqtt_codec.specs.declared.packet.Packet.{Packet}
 use Rattle.mqtt_codec.specs.declared.packet.Packet.TheVariants.{Publish}

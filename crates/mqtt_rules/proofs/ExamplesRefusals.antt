@@ -6,8 +6,8 @@ use Rattle.mqtt_base.specs.Values.{varint}
 use Rattle.mqtt_base.specs.declared.session.Qos.TheVariants.{ExactlyOnce}
 use Rattle.mqtt_props.specs.declared.table.PropName.TheVariants.{AuthenticationMethod, MaximumPacketSize}
 use Rattle.mqtt_props.specs.Properties.{Prop, Text, U32}
-use Rattle.mqtt_codec.specs.declared.connect.Connect.{Connect}
-use Rattle.mqtt_codec.specs.declared.connect.Will.{Will}
+use Rattle.mqtt_connect.specs.declared.connect.Connect.{Connect}
+use Rattle.mqtt_connect.specs.declared.connect.Will.{Will}
 use Rattle.mqtt_records.specs.Records.{nothing}
 use Rattle.mqtt_rules.specs.Packets.{property, connack, size_of}
 use Rattle.mqtt_rules.specs.Connect.{refusal}

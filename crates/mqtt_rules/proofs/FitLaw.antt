@@ -1,17 +1,15 @@
 -- Each deed of a step brings what fits, on coherent records.
-use Rattle.std.proofs.Common.{◌≡◌, ℕ, suc, ◌≤◌, ◌<◌, ◌^◌, ◌⊎◌, Bool, true, false, cond, not, ◌&&◌, ◌||◌, List, [], ◌∷◌, ◌++◌, length, filter, map, Option, Some, None, nat_eq, nat_lt, bytes_eq, refl, sym, ap, subst, ◌∙◌, arith, inl, inr}
-use Rattle.std.specs.Prelude.{⊤, option_map, is_some, is_none, find, decimal}
+use Rattle.std.proofs.Common.{◌≡◌, ℕ, suc, ◌≤◌, ◌<◌, Bool, true, false, cond, not, ◌&&◌, ◌||◌, List, [], ◌∷◌, ◌++◌, length, filter, map, Option, Some, None, nat_eq, nat_lt, bytes_eq, refl, sym, ap, subst, ◌∙◌, arith, inl, inr}
+use Rattle.std.specs.Prelude.{option_map, is_some, is_none, find, decimal}
 use Rattle.std.specs.List.{AllByRecursion, starts_with, list_any}
-use Rattle.std.proofs.lemmas.Bool.{cases_Bool, eqb-true, ltb-true, lt-ltb}
-use Rattle.std.proofs.lemmas.Cmp.{nat_eq_equiv}
+use Rattle.std.proofs.lemmas.Bool.{cases_Bool, ltb-true, lt-ltb}
 use Rattle.std.proofs.lemmas.Slice.Eq.{bytes_eq-Decides}
 use Rattle.mqtt_base.specs.declared.limits.TheConstants.{LAST_NUMBER, CLIENT_LIMIT, OPEN_LIMIT, SUBSCRIPTION_LIMIT, SESSION_LIMIT, RETAINED_LIMIT}
-use Rattle.mqtt_codec.specs.declared.connect.Connect.{Connect as Greeting}
+use Rattle.mqtt_connect.specs.declared.connect.Connect.{Connect as Greeting}
 use Rattle.mqtt_topic.specs.Names.{is_empty}
-use Rattle.mqtt_flow.specs.declared.inflow.Published.{Published}
-use Rattle.mqtt_flow.specs.declared.inflow.Published.TheVariants.{New, Again, Over}
-use Rattle.mqtt_flow.specs.Identifiers.{is_among}
-use Rattle.mqtt_flow.specs.Inbound.{answer_to}
+use Rattle.mqtt_inbound.specs.declared.inflow.Published.TheVariants.{New, Again, Over}
+use Rattle.mqtt_inbound.specs.Identifiers.{is_among}
+use Rattle.mqtt_inbound.specs.Inbound.{answer_to}
 use Rattle.mqtt_message.specs.declared.message.MessageCopy.{MessageCopy}
 use Rattle.mqtt_message.specs.declared.message.RetainedMessage.{RetainedMessage}
 use Rattle.mqtt_message.specs.declared.message.Will.{Will}
@@ -27,7 +25,7 @@ use Rattle.mqtt_records.specs.Records.{kept_place, changed, changed_all, IsNumbe
 use Rattle.mqtt_rules.specs.State.{Broker, Env, session_at, session_named}
 use Rattle.mqtt_rules.specs.Deeds.{Whose, whose, Message, FromClient, Part, Resume, Close, SetExpiry, DropWill, Subscribe, Unsubscribe, Open, Release, Enter, Mark, Leave, Deed, Name, Count, At, will_row, new_entry, part_rows, part_rows_of, after, after_all, series}
 use Rattle.mqtt_rules.specs.Deeds as deeds
-use Rattle.mqtt_rules.specs.Routing.{CopyTo, is_topic, retained_of, finds_place, place_of_kept, kept_message, forgets, retain_by, deliver, publish, accepted_copies, next_publication}
+use Rattle.mqtt_rules.specs.Routing.{CopyTo, is_topic, retained_of, finds_place, place_of_kept, kept_message, forgets, retain_by, deliver, publish, next_publication}
 use Rattle.mqtt_props.specs.Laws.{has}
 use Rattle.mqtt_props.specs.declared.table.PropName.TheVariants.{AuthenticationMethod}
 use Rattle.mqtt_base.specs.Codes.{bad_authentication_method, packet_too_large, client_identifier_not_valid, topic_name_invalid}
@@ -36,16 +34,16 @@ use Rattle.mqtt_rules.specs.Subscribe as sub
 use Rattle.mqtt_rules.specs.Laws.{IsAmong, IsUnique, client_at, topic_at, IsAssignedUpTo, IsCoherentSession, IsCoherentMessage, AreWithin}
 use Rattle.mqtt_rules.proofs.Goods.{AreGood, good_series, good_acts, after_append}
 use Rattle.mqtt_rules.proofs.Leads.{found_among, found_passes}
-use Rattle.mqtt_rules.proofs.Acts.{About, anyone, is_alone, IsGranted, Finds}
+use Rattle.mqtt_rules.proofs.Acts.{About, anyone, is_alone, IsGranted}
 use Rattle.mqtt_rules.proofs.ByDeeds.{DeedLaw, MarkLaw}
 use Rattle.mqtt_rules.proofs.Copies.{IsOf, IsMade, IsBeside, beside_deliver}
-use Rattle.mqtt_rules.proofs.FlightRows.{found_key, all_found, all_at}
+use Rattle.mqtt_rules.proofs.FlightRows.{all_found, all_at}
 use Rattle.mqtt_rules.proofs.NumberBirths.{below_none, below_filter}
 use Rattle.mqtt_rules.proofs.NumberFacts.{Counts, counts, counts_after, counts_deed}
 use Rattle.mqtt_rules.proofs.Ordered.{length-filter_le}
 use Rattle.mqtt_rules.proofs.OrderedRoom.{place_is_fit, found_place}
 use Rattle.mqtt_rules.proofs.LookedUp.{field_at, field_kept}
-use Rattle.mqtt_rules.proofs.Coherent.{IsFitRow, IsFitMessage, IsFitCopy, IsFitPart, IsFit, Coheres, coheres_deed, assigned_more}
+use Rattle.mqtt_rules.proofs.Coherent.{IsFitMessage, IsFitCopy, IsFitPart, IsFit, Coheres, coheres_deed, assigned_more}
 use Rattle.mqtt_rules.proofs.Names.{assigned_differ, assigned_starts}
 
 -- ---- what is kept, and whom CONNECT names
@@ -58,7 +56,7 @@ naming = record anyone { client = λ client b. IsAssignedUpTo b.records.autos cl
 
 -- ---- searches
 
-all_among : {X : Type 0} (P : X → Type 0) (x : X) (xs : List X) → AllByRecursion P xs → IsAmong x xs → P x
+pub all_among : {X : Type 0} (P : X → Type 0) (x : X) (xs : List X) → AllByRecursion P xs → IsAmong x xs → P x
 all_among P x [] h among = absurd among
 all_among P x (y ∷ ys) h among = elim among [ inl it ↦ subst P it h.0 | inr more ↦ all_among P x ys h.1 more ]
 
@@ -69,7 +67,7 @@ none_passes test x (y ∷ ys) e among = elim (cases_Bool (test y)) [
   | inr other ↦ elim among [ inl it ↦ ap test (sym it) ∙ other | inr more ↦ none_passes test x ys (rw other at e) more ]
 ]
 
-row_is_among : {X : Type 0} (key : X → ℕ) (k : ℕ) (x : X) (xs : List X) → row_at key k xs ≡ Some x → IsAmong x xs
+pub row_is_among : {X : Type 0} (key : X → ℕ) (k : ℕ) (x : X) (xs : List X) → row_at key k xs ≡ Some x → IsAmong x xs
 row_is_among key k x [] e = absurd cc
 row_is_among key k x (y ∷ ys) e = elim (cases_Bool (nat_eq (key y) k)) [
   | inl here ↦ let first : Some y ≡ Some x = rw here at e in let it : y ≡ x = cc in inl it
@@ -77,11 +75,11 @@ row_is_among key k x (y ∷ ys) e = elim (cases_Bool (nat_eq (key y) k)) [
 ]
 
 -- what an option that was mapped holds
-mapped_some : {X Y : Type 0} (f : X → Y) (o : Option X) (y : Y) → option_map f o ≡ Some y → (x : X) × (o ≡ Some x) × (f x ≡ y)
+pub mapped_some : {X Y : Type 0} (f : X → Y) (o : Option X) (y : Y) → option_map f o ≡ Some y → (x : X) × (o ≡ Some x) × (f x ≡ y)
 mapped_some f None y e = absurd cc
 mapped_some f (Some x) y e = let it : f x ≡ y = cc in (x, refl, it)
 
-same_text : (a b : List ℕ) → a ≡ b → bytes_eq a b ≡ true
+pub same_text : (a b : List ℕ) → a ≡ b → bytes_eq a b ≡ true
 same_text a b is = (bytes_eq-Decides a b).1 is
 
 -- ---- client identifiers
@@ -92,7 +90,7 @@ client_found birth client r e =
     let x = mapped_some (λ (s : Session). s.client) (session_at birth r) client e in
     (x.0, row_is_among birth_of birth x.0 r.sessions x.1, x.2)
 
-name_is_new : (client : List ℕ) (r : Records) → session_named client r ≡ None → (birth : ℕ) → client_at birth r ≡ Some client → ⊥
+pub name_is_new : (client : List ℕ) (r : Records) → session_named client r ≡ None → (birth : ℕ) → client_at birth r ≡ Some client → ⊥
 name_is_new client r none birth there =
     let x = client_found birth client r there in
     let yes : bytes_eq x.0.client client ≡ true = same_text x.0.client client x.2 in
@@ -137,7 +135,7 @@ admitted_name c b k e starts =
         let given = its (ap (λ (text : List ℕ). starts_with nat_eq text auto) same ∙ starts) in
         (given.0, given.1, sym same ∙ given.2)
 
-autos_grow : (d : Deed) (b : Broker) → IsFit d b → b.records.autos ≤ (counts_after d (counts b.records)).autos
+pub autos_grow : (d : Deed) (b : Broker) → IsFit d b → b.records.autos ≤ (counts_after d (counts b.records)).autos
 autos_grow (Name n) b fit = omega (arith, fit)
 autos_grow (deeds.Accept number origin m) b fit = omega arith
 autos_grow (deeds.Begin row will) b fit = omega arith

@@ -1,12 +1,12 @@
 -- The rows of deeds that fit, where room is, and what leaves or is marked stands, and no number is spent.
-use Rattle.std.proofs.Common.{◌≡◌, ℕ, zero, suc, ◌≤◌, ◌<◌, Bool, true, false, ◌||◌, List, [], ◌∷◌, ◌++◌, length, Option, Some, None, nat_eq, nat_lt, refl, sym, ap, subst, ◌∙◌, arith, inl, inr}
-use Rattle.std.specs.Prelude.{⊤, slice_index_or, is_some, option_map}
-use Rattle.std.specs.List.{AllByRecursion, All, list_any}
-use Rattle.std.proofs.lemmas.Bool.{cases_Bool, lt-ltb, ltb-false}
+use Rattle.std.proofs.Common.{◌≡◌, ℕ, zero, suc, ◌<◌, Bool, true, false, ◌||◌, List, [], ◌∷◌, ◌++◌, length, Option, Some, None, nat_lt, refl, sym, ap, subst, ◌∙◌, arith, inl, inr}
+use Rattle.std.specs.Prelude.{slice_index_or, is_some, option_map}
+use Rattle.std.specs.List.{AllByRecursion, All}
+use Rattle.std.proofs.lemmas.Bool.{lt-ltb, ltb-false}
 use Rattle.std.proofs.lemmas.Cmp.{nat_eq_equiv}
 use Rattle.mqtt_base.specs.declared.session.Phase.{Phase}
 use Rattle.mqtt_base.specs.declared.session.Phase.TheVariants.{Waiting, Sent, Released as ReleasedPhase, Oversize}
-use Rattle.mqtt_base.specs.declared.limits.TheConstants.{LAST_NUMBER, OPEN_LIMIT, QUEUE_LIMIT, SUBSCRIPTION_LIMIT, SESSION_LIMIT, RETAINED_LIMIT}
+use Rattle.mqtt_base.specs.declared.limits.TheConstants.{LAST_NUMBER, OPEN_LIMIT, QUEUE_LIMIT, SESSION_LIMIT}
 use Rattle.mqtt_flow.specs.Queue as flow
 use Rattle.mqtt_message.specs.declared.message.RetainedMessage.{RetainedMessage}
 use Rattle.mqtt_message.specs.declared.message.Will.{Will}
@@ -16,14 +16,14 @@ use Rattle.mqtt_records.specs.declared.records.Records.{Records}
 use Rattle.mqtt_records.specs.declared.change.Change.{Change}
 use Rattle.mqtt_records.specs.declared.change.Counter.TheVariants.{Births, Publications, Subscribes, Autos}
 use Rattle.mqtt_records.specs.declared.change.Change.TheVariants.{SetCounter, PutSession, SetSession, PutWill, PutSubscription, PutCopy, SetCopy, PutRetained}
-use Rattle.mqtt_rows.specs.Order.{HasRoomFor, row_at, has_row, put_row, change_row}
+use Rattle.mqtt_rows.specs.Order.{HasRoomFor, row_at, has_row, put_row}
 use Rattle.mqtt_rows.proofs.LookUps.{row_at-put_row}
 use Rattle.mqtt_records.specs.Session.{birth_of, copy_place, number_of, fresh, with_columns, without_filter}
-use Rattle.mqtt_records.specs.Records.{kept_place, put_session, changed, changed_all, HasSome, HasSession, TakesSubscription, Fits, FitAll, IsNumber, IsMoment, order_of}
+use Rattle.mqtt_records.specs.Records.{kept_place, put_session, changed, changed_all, HasSome, TakesSubscription, Fits, FitAll, IsNumber, IsMoment, order_of}
 use Rattle.mqtt_rules.specs.State.{Broker, session_at}
-use Rattle.mqtt_rules.specs.Deeds.{Whose, Part, Resume, Close, SetExpiry, DropWill, Subscribe, Unsubscribe, Open, Release, Enter, Mark, Leave, Deed, Accept, Begin, Name, Count, At, Finish, Keep, Forget, RefuseWill, Link, On, Send, Gone, will_row, begin_rows, new_entry, part_rows, part_rows_of, rows_of, rows_of_all, stored_after, after, after_all}
+use Rattle.mqtt_rules.specs.Deeds.{Whose, Part, Resume, Close, SetExpiry, DropWill, Subscribe, Unsubscribe, Open, Release, Enter, Mark, Leave, Deed, Accept, Begin, Name, Count, At, Finish, Keep, Forget, RefuseWill, Link, On, Send, Gone, will_row, new_entry, part_rows, part_rows_of, rows_of, rows_of_all, stored_after, after, after_all}
 use Rattle.mqtt_rules.specs.Step.{number_given, is_spent}
-use Rattle.mqtt_rules.specs.Laws.{IsAmong, client_at, IsCoherentSession}
+use Rattle.mqtt_rules.specs.Laws.{IsAmong, IsCoherentSession}
 use Rattle.mqtt_rules.proofs.Goods.{AreGood}
 use Rattle.mqtt_rules.proofs.FlightRows.{found_key, all_found, all_at, change_row-here}
 use Rattle.mqtt_rules.proofs.NumberBirths.{below_none}

@@ -7,7 +7,7 @@ use Rattle.mqtt_base.specs.declared.session.Qos.TheVariants.{AtMostOnce, AtLeast
 use Rattle.mqtt_base.specs.declared.session.Cause.TheVariants.{Share}
 use Rattle.mqtt_base.specs.declared.session.CopyId.{CopyId}
 use Rattle.mqtt_props.specs.Properties.{Prop}
-use Rattle.mqtt_codec.specs.declared.connect.Will.{Will}
+use Rattle.mqtt_connect.specs.declared.connect.Will.{Will}
 use Rattle.mqtt_codec.specs.declared.publish.Delivery.TheVariants as delivery
 use Rattle.mqtt_codec.specs.declared.packet.Packet.{Packet}
 use Rattle.mqtt_codec.specs.declared.packet.Packet.TheVariants.{Publish}

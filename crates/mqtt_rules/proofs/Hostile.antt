@@ -5,7 +5,7 @@ use Rattle.mqtt_base.specs.Values.{varint}
 use Rattle.mqtt_base.specs.declared.session.Qos.TheVariants.{ExactlyOnce}
 use Rattle.mqtt_props.specs.declared.table.PropName.TheVariants.{MaximumPacketSize, AuthenticationMethod}
 use Rattle.mqtt_props.specs.Properties.{U32, Text}
-use Rattle.mqtt_codec.specs.declared.connect.Will.{Will}
+use Rattle.mqtt_connect.specs.declared.connect.Will.{Will}
 use Rattle.mqtt_codec.specs.declared.packet.Packet.{Packet}
 use Rattle.mqtt_codec.specs.declared.packet.Packet.TheVariants.{Pingreq, Pingresp, Auth}
 use Rattle.mqtt_records.specs.Records.{nothing}

@@ -65,6 +65,13 @@ pub mod TurnLists
 pub mod StandLaw
 pub mod FitRows
 pub mod RowsFit
+pub mod LineRows
+pub mod LineActs
+pub mod LineUnits
+pub mod LineLaw
+pub mod LinePrepared
+pub mod LineSteps
+pub mod CopySizes
 pub mod LawfulRecords
 pub mod OpenLists
 pub mod PassedContents

@@ -1,5 +1,5 @@
 -- What is found by its birth after a change: a field of a session, and its client identifier.
-use Rattle.std.proofs.Common.{◌≡◌, ℕ, suc, Bool, true, false, cond, List, [], ◌∷◌, Option, Some, None, nat_eq, refl, sym, ap, subst, ◌∙◌, inl, inr}
+use Rattle.std.proofs.Common.{◌≡◌, ℕ, Bool, true, false, cond, List, [], ◌∷◌, Option, Some, None, nat_eq, refl, sym, ap, subst, ◌∙◌, inl, inr}
 use Rattle.std.specs.Prelude.{option_map, is_some}
 use Rattle.std.proofs.lemmas.Bool.{eqb-true, cases_Bool}
 use Rattle.std.proofs.lemmas.Cmp.{nat_eq_equiv}
@@ -9,12 +9,12 @@ use Rattle.mqtt_records.specs.declared.session.Columns.{Columns}
 use Rattle.mqtt_records.specs.declared.records.Records.{Records}
 use Rattle.mqtt_records.specs.declared.change.Change.TheVariants.{PutSession, SetSession}
 use Rattle.mqtt_base.specs.declared.limits.TheConstants.{SESSION_LIMIT}
-use Rattle.mqtt_rows.specs.Order.{HasRoomFor, row_at, has_row, put_row, remove_row, change_row}
+use Rattle.mqtt_rows.specs.Order.{HasRoomFor, row_at, has_row, put_row, change_row}
 use Rattle.mqtt_rows.proofs.LookUps.{row_at-put_row, row_at-remove_row}
 use Rattle.mqtt_records.specs.Session.{birth_of, fresh, with_columns, with_will, with_subscription, without_subscription, with_open, without_open, with_copy, with_phase, without_copy}
 use Rattle.mqtt_records.specs.Records.{put_session, in_session, changed, changed_all}
 use Rattle.mqtt_rules.specs.State.{session_at}
-use Rattle.mqtt_rules.specs.Deeds.{Whose, Part, Resume, Close, SetExpiry, DropWill, Subscribe, Unsubscribe, Open, Release, Enter, Mark, Leave, Deed, Begin, At, Finish, will_row, new_entry, part_rows, part_rows_of, begin_rows, stored_after}
+use Rattle.mqtt_rules.specs.Deeds.{Whose, Part, Resume, Close, SetExpiry, DropWill, Subscribe, Unsubscribe, Open, Release, Enter, Mark, Leave, Begin, At, Finish, will_row, new_entry, part_rows, part_rows_of, stored_after}
 use Rattle.mqtt_rules.specs.Laws.{client_at}
 use Rattle.mqtt_rules.proofs.FlightRows.{found_key}
 

@@ -12,7 +12,7 @@ use Rattle.mqtt_props.specs.declared.table.PropName.TheVariants.{MessageExpiryIn
 use Rattle.mqtt_props.specs.Properties.{Prop, U32}
 use Rattle.mqtt_props.specs.Reading.{value_at, prop_at, block_at}
 use Rattle.mqtt_props.specs.Laws.{layout_at}
-use Rattle.mqtt_codec.specs.declared.connect.Will.{Will}
+use Rattle.mqtt_connect.specs.declared.connect.Will.{Will}
 use Rattle.mqtt_codec.specs.declared.packet.Packet.{Packet}
 use Rattle.mqtt_codec.specs.declared.packet.Packet.TheVariants.{Publish, Disconnect}
 use Rattle.mqtt_codec.specs.Publish.{delivery_at, publish_at}

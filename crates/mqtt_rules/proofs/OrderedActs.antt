@@ -1,9 +1,9 @@
 -- What each deed keeps, but for publications and grants, which are said whole: so every step and every opening keeps it.
 use Rattle.std.proofs.Common.{◌≡◌, ℕ, suc, ◌<◌, Bool, true, false, cond, List, [], ◌∷◌, ◌++◌, length, filter, map, Option, Some, None, nat_eq, ap, sym, subst, ◌∙◌, inl, inr}
-use Rattle.std.specs.Prelude.{⊤, nat_le, flat_map, decimal}
+use Rattle.std.specs.Prelude.{nat_le, flat_map, decimal}
 use Rattle.std.proofs.lemmas.Bool.{cases_Bool, ltb-true, eqb-true}
 use Rattle.mqtt_base.specs.declared.session.Ending.TheVariants.{SessionEnded}
-use Rattle.mqtt_codec.specs.declared.connect.Connect.{Connect as Greeting}
+use Rattle.mqtt_connect.specs.declared.connect.Connect.{Connect as Greeting}
 use Rattle.mqtt_codec.specs.declared.packet.Packet.{Packet}
 use Rattle.mqtt_topic.specs.Names.{is_empty}
 use Rattle.mqtt_flow.specs.declared.entry.Turn.{Turn}
@@ -27,7 +27,7 @@ use Rattle.mqtt_rules.specs.Connect.{of_client, greet, expiry_of, will_of, conna
 use Rattle.mqtt_rules.specs.Inbound.{pump_turns, pump_deeds}
 use Rattle.mqtt_rules.specs.Subscribe as sub
 use Rattle.mqtt_rules.proofs.Goods.{after_append, AreGood}
-use Rattle.mqtt_rules.proofs.Leads.{Leads, leads_end}
+use Rattle.mqtt_rules.proofs.Leads.{Leads}
 use Rattle.mqtt_rules.proofs.Acts.{anyone, call_of_anyone, finds_anyone, is_alone, closing_session, closing_on, closing, brought_to, Law, leads_call, leads_opening}
 use Rattle.mqtt_rules.specs.Tick.{lapses, lapse_deeds}
 use Rattle.mqtt_rules.specs.Step.{Call, deeds_of, with_moment, done, opening}
@@ -225,9 +225,9 @@ module _ (env : Env) (P : Records → Type 0) (Good : Deed → Broker → Type 0
     refuse_will = λ who b p its. led (RefuseWill who ∷ []) b (tt, tt) p;
     alone = λ who part b p its is. led (At who part ∷ []) b (plain_alone part is, tt) p;
     closes = λ keeps_will l b p its on. led (closing keeps_will l b) b (tt, plain_closing keeps_will b.now l.session b.records) p;
-    ends = λ s b p its among. led (end_session s) b (plain_end s) p;
-    resumes = λ l c s b p its none came taken own is. led (At (whose s) (Resume (expiry_of c) (will_of c)) ∷ greet l c s.birth ∷ []) b (tt, (tt, tt)) p;
-    begins = λ l c b p its none came taken name is room. begins_named (is_empty c.client_identifier) l c b p (ltb-true (length b.records.sessions) env.limits.sessions room);
+    ends = λ s b p its among may. led (end_session s) b (plain_end s) p;
+    resumes = λ l c s b p its none came taken own is prepared. led (At (whose s) (Resume (expiry_of c) (will_of c)) ∷ greet l c s.birth ∷ []) b (tt, (tt, tt)) p;
+    begins = λ l c b p its none came taken name is room prepared. begins_named (is_empty c.client_identifier) l c b p (ltb-true (length b.records.sessions) env.limits.sessions room);
     grants = λ w s b p its asked granted. k.grants w s b granted.session granted.has_room p;
     pumps = λ l s b p its is there. led (pump_deeds l b.now s) b (plain_turns b.now l.number s (pump_turns l b.now s)) p;
     turns = λ a t l s b p its own there is e. led (turn_deeds b.now l.number s t) b (plain_turn b.now l.number s t) p;

@@ -1,6 +1,5 @@
 -- The rows of every step and every opening fit, and leave records coherent.
-use Rattle.std.proofs.Common.{◌≡◌, ℕ, ◌≤◌, Bool, true, false, List, [], ◌∷◌, ◌++◌, refl, sym, ap, subst, ◌∙◌, arith}
-use Rattle.std.specs.Prelude.{⊤, min}
+use Rattle.std.proofs.Common.{◌≡◌, ℕ, ◌≤◌, false, List, [], ◌∷◌, refl, sym, ap, subst, ◌∙◌, arith}
 use Rattle.std.specs.List.{AllByRecursion}
 use Rattle.mqtt_records.specs.declared.session.Session.{Session}
 use Rattle.std.proofs.Math.Nat.{max-le, le-min, min-le_right, le-max_left}
@@ -15,7 +14,7 @@ use Rattle.mqtt_rules.specs.State.{Broker, Env, stored, MemberChoice, capped}
 use Rattle.mqtt_rules.specs.Deeds.{Deed, rows_of_all, after_all}
 use Rattle.mqtt_rules.specs.Step.{Call, NewLine, Input, BadInput, Lost, Pump, Tick, deeds, deeds_of, at_moment, env_of, stamped, rows_written, with_moment, done, stepped, is_spent, is_step_spent, opening, opening_deeds, unopened, opened, is_opening_spent}
 use Rattle.mqtt_rules.specs.Numbers.{IsTimed}
-use Rattle.mqtt_rules.specs.Laws.{HasTables, HasKeptCounters, IsCoherent, AreWithin}
+use Rattle.mqtt_rules.specs.Laws.{HasTables, IsCoherent, AreWithin}
 use Rattle.mqtt_rules.proofs.Goods.{AreGood}
 use Rattle.mqtt_rules.proofs.Acts.{Law, IsCallOf, leads_call, leads_opening}
 use Rattle.mqtt_rules.proofs.ByDeeds.{by_deeds, turn_law, by_deeds_shuts}
@@ -33,7 +32,7 @@ use Rattle.mqtt_rules.proofs.FitRows.{AreNumbers, fits_all, fit_append, unspent_
 
 -- ---- what is asked, and what the deeds keep
 
-made_of : (r : Records) → IsCoherent r → Coheres r
+pub made_of : (r : Records) → IsCoherent r → Coheres r
 made_of r h = record { ordered = h.ordered; clients = λ le. h.clients; topics = h.topics; births = h.births; sessions = h.sessions; retained = h.retained }
 
 numbers_of : (r : Records) → IsCoherent r → AreNumbers (counts r)
@@ -96,7 +95,7 @@ done_fits ds b ready e =
 
 -- ---- steps
 
-naming_call : (call : Call) (b : Broker) → IsCallOf naming call b
+pub naming_call : (call : Call) (b : Broker) → IsCallOf naming call b
 naming_call NewLine b = tt
 naming_call (Input n packet) b = ((λ l e. tt), tt)
 naming_call (BadInput n is_connect code) b = λ l e. tt
@@ -138,7 +137,7 @@ module _ (env : Env) (within : AreWithin env.limits) (b : Broker) (h : IsCoheren
     stands = stands_opening env b h.ordered;
   }
 
-moment_last : (b : Broker) (now : ℕ) → IsNumber b.now → IsNumber (at_moment now b).now
+pub moment_last : (b : Broker) (now : ℕ) → IsNumber b.now → IsNumber (at_moment now b).now
 moment_last b now last = max-le last (min-le_right now LAST_NUMBER)
 
 moment_timed : (b : Broker) (now : ℕ) → IsTimed b → IsTimed (at_moment now b)

@@ -6,7 +6,7 @@ use Rattle.mqtt_base.specs.declared.session.Qos.TheVariants.{ExactlyOnce}
 use Rattle.mqtt_base.specs.declared.session.Ending.TheVariants.{Expired, SessionEnded}
 use Rattle.mqtt_props.specs.declared.table.PropName.TheVariants.{SessionExpiryInterval}
 use Rattle.mqtt_props.specs.Properties.{Prop, U32}
-use Rattle.mqtt_codec.specs.declared.connect.Will.{Will}
+use Rattle.mqtt_connect.specs.declared.connect.Will.{Will}
 use Rattle.mqtt_codec.specs.declared.packet.Packet.{Packet}
 use Rattle.mqtt_codec.specs.declared.packet.Packet.TheVariants.{Connect, Pingreq, Pingresp, Disconnect}
 use Rattle.mqtt_flow.specs.declared.entry.Full.TheVariants.{Refuse}

@@ -1,9 +1,9 @@
 -- In every step a copy that leaves stands in its queue, and so does one whose phase is set.
-use Rattle.std.proofs.Common.{◌≡◌, ℕ, suc, ◌≤◌, Bool, true, false, cond, List, [], ◌∷◌, ◌++◌, filter, map, Option, Some, None, refl, sym, ap, subst, ◌∙◌, arith, inl, inr}
-use Rattle.std.specs.Prelude.{⊤, flat_map, nat_le}
+use Rattle.std.proofs.Common.{◌≡◌, ℕ, suc, ◌≤◌, Bool, true, false, List, [], ◌∷◌, filter, map, Option, Some, None, ap, subst, ◌∙◌, arith, inl, inr}
+use Rattle.std.specs.Prelude.{flat_map, nat_le}
 use Rattle.std.specs.List.{AllByRecursion}
 use Rattle.mqtt_base.specs.declared.session.Ending.TheVariants.{SessionEnded}
-use Rattle.mqtt_codec.specs.declared.connect.Connect.{Connect as Greeting}
+use Rattle.mqtt_connect.specs.declared.connect.Connect.{Connect as Greeting}
 use Rattle.mqtt_codec.specs.declared.packet.Packet.{Packet}
 use Rattle.mqtt_topic.specs.Names.{is_empty}
 use Rattle.mqtt_flow.specs.Outbound.{way_made}
@@ -26,13 +26,13 @@ use Rattle.mqtt_rules.specs.Inbound.{pump_turns, pump_deeds}
 use Rattle.mqtt_rules.specs.Subscribe as sub
 use Rattle.mqtt_rules.specs.Tick.{lapses, lapse_deeds}
 use Rattle.mqtt_rules.specs.Step.{Call, deeds_of, opening}
-use Rattle.mqtt_rules.specs.Laws.{IsAmong, IsTable, HasTables, IsOrdered}
+use Rattle.mqtt_rules.specs.Laws.{IsAmong, HasTables, IsOrdered}
 use Rattle.mqtt_rules.proofs.Goods.{AreGood, good_append, good_cond, good_with_session}
 use Rattle.mqtt_rules.proofs.Leads.{Leads}
 use Rattle.mqtt_rules.proofs.Acts.{anyone, call_of_anyone, finds_anyone, is_alone, closing_session, closing_on, closing, brought_to, Law, leads_call, leads_opening}
 use Rattle.mqtt_rules.proofs.FlightRows.{found_key, all_at, all_found}
 use Rattle.mqtt_rules.proofs.Ordered.{changed_all-ordered}
-use Rattle.mqtt_rules.proofs.Turns.{Stands, Rises, still_now, stands_turn, stands_turns, stands_leaves, stands_ended}
+use Rattle.mqtt_rules.proofs.Turns.{Stands, still_now, stands_turn, stands_turns, stands_leaves, stands_ended}
 use Rattle.mqtt_rules.proofs.TurnLists.{answers_rise, pumps_rise, lapses_rise, drops_rise}
 
 abbrev pub Orders : Broker → Type 0
@@ -150,9 +150,9 @@ stand_law env = record {
   refuse_will = λ who b h its. led (RefuseWill who ∷ []) b h (tt, tt);
   alone = λ who part b h its is. led (At who part ∷ []) b h (stands_alone who part b is, tt);
   closes = λ keeps_will l b h its on. led (closing keeps_will l b) b h (tt, stands_closing keeps_will b.now l.session b.records (after (Gone l.number) b));
-  ends = λ s b h its among. led (end_session s) b h (stands_end s b h (here s b h among));
-  resumes = λ l c s b h its none came taken mine is. led (At (whose s) (Resume (expiry_of c) (will_of c)) ∷ greet l c s.birth ∷ []) b h (tt, (tt, tt));
-  begins = λ l c b h its none came taken name is room. led (begin_named (is_empty c.client_identifier) l c b.records) b h (stands_begin (is_empty c.client_identifier) l c b);
+  ends = λ s b h its among may. led (end_session s) b h (stands_end s b h (here s b h among));
+  resumes = λ l c s b h its none came taken mine is prepared. led (At (whose s) (Resume (expiry_of c) (will_of c)) ∷ greet l c s.birth ∷ []) b h (tt, (tt, tt));
+  begins = λ l c b h its none came taken name is room prepared. led (begin_named (is_empty c.client_identifier) l c b.records) b h (stands_begin (is_empty c.client_identifier) l c b);
   grants = λ w s b h its asked granted. led (sub.granted_filter env (sub.next_number b.records) s w (brought_to w s b) b).deeds b h (stands_grants env w s b h);
   pumps = λ l s b h its is there. led (pump_deeds l b.now s) b h
       (stands_turns b.now l.number s (pump_turns l b.now s) 0 b (still_now s b there) (pumps_rise (way_of l b.now) l.went s (rising s b h there)));

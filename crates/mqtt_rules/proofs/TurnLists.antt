@@ -1,9 +1,8 @@
 -- The turns of a pump, of an answer, of a full queue and of a lapse rise in the order of the queue.
-use Rattle.std.proofs.Common.{◌≡◌, ℕ, zero, suc, ◌≤◌, Bool, true, false, cond, ◌&&◌, ◌+◌, ◌-◌, List, [], ◌∷◌, length, map, Option, Some, None, refl, sym, ap, subst, ◌∙◌, arith, inl, inr}
+use Rattle.std.proofs.Common.{◌≡◌, ℕ, zero, suc, ◌≤◌, Bool, true, false, ◌&&◌, List, [], ◌∷◌, map, Option, Some, None, refl, sym, ap, subst, arith, inl, inr}
 use Rattle.std.specs.Prelude.{⊤, is_some, find, Ok, Err}
 use Rattle.std.specs.List.{AllByRecursion}
 use Rattle.std.proofs.lemmas.Bool.{cases_Bool}
-use Rattle.mqtt_base.specs.declared.session.Ending.{Ending}
 use Rattle.mqtt_base.specs.declared.session.Phase.{Phase}
 use Rattle.mqtt_base.specs.declared.session.Phase.TheVariants.{Waiting, Sent, Released, Oversize}
 use Rattle.mqtt_base.specs.declared.session.Qos.{Qos}
@@ -12,19 +11,17 @@ use Rattle.mqtt_flow.specs.declared.entry.Entry.{Entry as FlowEntry}
 use Rattle.mqtt_flow.specs.declared.entry.Turn.{Turn}
 use Rattle.mqtt_flow.specs.declared.entry.Turn.TheVariants as turns
 use Rattle.mqtt_flow.specs.declared.entry.Way.{Way}
-use Rattle.mqtt_flow.specs.Identifiers.{free_identifier}
+use Rattle.mqtt_inbound.specs.Identifiers.{free_identifier}
 use Rattle.mqtt_flow.specs.Pacing.{Pacing}
 use Rattle.mqtt_flow.specs.Queue.{is_holder, holder, next_order}
-use Rattle.mqtt_flow.specs.Outbound.{Answer, gives_way, dropped_at, dropped, way_made, expired_at, expired, is_waiting, is_late, Verdict, pass, end, outgrow, send, resend, verdict, in_room, step_on, step_by, paced, then_on, pump_from, pace, pump, acknowledged, puback_by, puback_at, released_by, received, pubrec_by, pubrec_at, pubcomp_by, pubcomp_at, is_refusal}
-use Rattle.mqtt_flow.specs.Outbound as rules
+use Rattle.mqtt_flow.specs.Outbound.{Answer, gives_way, dropped_at, dropped, expired_at, expired, is_waiting, is_late, Verdict, pass, end, outgrow, send, resend, verdict, in_room, step_on, step_by, paced, then_on, pump_from, pace, pump, acknowledged, puback_by, puback_at, released_by, received, pubrec_by, pubrec_at, pubcomp_by, pubcomp_at, is_refusal}
 use Rattle.mqtt_message.specs.Queue.{CopyRow}
 use Rattle.mqtt_rows.specs.Order.{IsAbove, IsAscending, row_at, has_row}
-use Rattle.mqtt_rows.proofs.LookUps.{row_at-here}
 use Rattle.mqtt_records.specs.declared.session.Session.{Session}
 use Rattle.mqtt_records.specs.Session.{copy_place}
 use Rattle.mqtt_rules.specs.State.{Line, entry_on, queue_on}
 use Rattle.mqtt_rules.proofs.Acts.{IsAnswer}
-use Rattle.mqtt_rules.proofs.FlightRows.{all_found, all_more, found_behind}
+use Rattle.mqtt_rules.proofs.FlightRows.{all_found, all_more}
 use Rattle.mqtt_rules.proofs.Turns.{Rises}
 
 -- ---- the places of a queue, from n on

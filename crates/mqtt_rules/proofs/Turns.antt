@@ -1,42 +1,27 @@
 -- A copy that leaves stands in its queue, and so does one whose phase is set: for all turns of a queue.
-use Rattle.std.proofs.Common.{◌≡◌, ℕ, zero, suc, ◌≤◌, ◌<◌, Bool, true, false, cond, ◌&&◌, List, [], ◌∷◌, ◌++◌, map, Option, Some, None, nat_eq, refl, sym, ap, subst, ◌∙◌, arith, inl, inr}
-use Rattle.std.specs.Prelude.{⊤, is_some, find, flat_map, Ok}
+use Rattle.std.proofs.Common.{◌≡◌, ℕ, suc, ◌≤◌, Bool, true, false, cond, List, [], ◌∷◌, map, Option, Some, None, refl, sym, ap, ◌∙◌, arith}
+use Rattle.std.specs.Prelude.{⊤, is_some, flat_map}
 use Rattle.std.specs.List.{AllByRecursion}
-use Rattle.std.proofs.lemmas.Bool.{cases_Bool, eqb-true}
-use Rattle.std.proofs.lemmas.Cmp.{nat_eq_equiv}
 use Rattle.mqtt_base.specs.declared.session.Ending.{Ending}
 use Rattle.mqtt_base.specs.declared.session.Ending.TheVariants.{SessionEnded}
 use Rattle.mqtt_base.specs.declared.session.Phase.{Phase}
-use Rattle.mqtt_base.specs.declared.session.Phase.TheVariants.{Waiting, Sent, Released as ReleasedPhase, Oversize}
-use Rattle.mqtt_base.specs.declared.session.Qos.{Qos}
-use Rattle.mqtt_base.specs.declared.session.Qos.TheVariants.{AtMostOnce, AtLeastOnce, ExactlyOnce}
-use Rattle.mqtt_flow.specs.declared.entry.Entry.{Entry as FlowEntry}
+use Rattle.mqtt_base.specs.declared.session.Phase.TheVariants.{Sent, Released as ReleasedPhase, Oversize}
 use Rattle.mqtt_flow.specs.declared.entry.Turn.{Turn}
 use Rattle.mqtt_flow.specs.declared.entry.Turn.TheVariants as turns
-use Rattle.mqtt_flow.specs.declared.entry.Way.{Way}
-use Rattle.mqtt_flow.specs.Pacing.{Pacing}
-use Rattle.mqtt_flow.specs.Queue.{is_holder, holder, next_order}
-use Rattle.mqtt_flow.specs.Outbound.{Answer, gives_way, dropped_at, dropped, way_made, expired_at, expired, is_waiting, is_late, Verdict, pass, end, outgrow, send, resend, verdict, in_room, step_on, step_by, paced, then_on, pump_from, pace, pump, acknowledged, puback_by, puback_at, released_by, received, pubrec_by, pubrec_at, pubcomp_by, pubcomp_at, is_refusal}
-use Rattle.mqtt_flow.specs.Outbound as rules
-use Rattle.mqtt_message.specs.declared.message.MessageCopy.{MessageCopy}
 use Rattle.mqtt_message.specs.Queue.{CopyRow}
 use Rattle.mqtt_records.specs.declared.session.Session.{Session}
 use Rattle.mqtt_records.specs.declared.records.Records.{Records}
-use Rattle.mqtt_base.specs.declared.limits.TheConstants.{QUEUE_LIMIT}
-use Rattle.mqtt_rows.specs.Order.{IsAbove, IsAscending, row_at, has_row, remove_row, change_row}
-use Rattle.mqtt_rows.proofs.OrderLemmas.{apart, above_less}
-use Rattle.mqtt_rows.proofs.LookUps.{row_at-remove_row, row_at-here}
+use Rattle.mqtt_rows.specs.Order.{IsAbove, IsAscending, row_at, has_row, change_row}
+use Rattle.mqtt_rows.proofs.OrderLemmas.{apart}
+use Rattle.mqtt_rows.proofs.LookUps.{row_at-remove_row}
 use Rattle.mqtt_records.specs.Session.{birth_of, copy_place, in_phase, with_phase, without_copy}
 use Rattle.mqtt_records.specs.Records.{changed_all}
-use Rattle.mqtt_rules.specs.State.{Line, Broker, session_at, entry_on, queue_on}
-use Rattle.mqtt_rules.specs.Deeds.{Whose, whose, Part, Mark, Leave, Went, Deed, At, On, Send, Finish, part_rows_of, after, after_all}
-use Rattle.mqtt_rules.specs.Packets.{publish_of, pubrel}
-use Rattle.mqtt_rules.specs.Outbound.{of_entry, leave_deeds, turn_deeds, all_turn_deeds, way_of}
-use Rattle.mqtt_rules.specs.Inbound.{pump_deeds, pump_turns}
-use Rattle.mqtt_rules.specs.Closing.{end_session}
-use Rattle.mqtt_rules.specs.Laws.{IsAmong}
-use Rattle.mqtt_rules.proofs.Goods.{AreGood, good_append, good_of_entry, after_append}
-use Rattle.mqtt_rules.proofs.FlightRows.{found_key, found_behind, change_row-other, change_row-here}
+use Rattle.mqtt_rules.specs.State.{Broker, session_at}
+use Rattle.mqtt_rules.specs.Deeds.{whose, Part, Mark, Leave, Went, Deed, At, On, Send, part_rows_of, after, after_all}
+use Rattle.mqtt_rules.specs.Packets.{publish_of}
+use Rattle.mqtt_rules.specs.Outbound.{of_entry, leave_deeds, turn_deeds, all_turn_deeds}
+use Rattle.mqtt_rules.proofs.Goods.{AreGood, good_append}
+use Rattle.mqtt_rules.proofs.FlightRows.{found_key, change_row-other, change_row-here}
 
 -- ---- what stands where a copy leaves or is marked
 

@@ -1,6 +1,6 @@
 -- What stands at most once, by what is found.
-use Rattle.std.proofs.Common.{◌≡◌, ℕ, Bool, true, false, cond, Option, Some, None, nat_eq, refl, sym, ap, ◌∙◌, inl, inr}
-use Rattle.std.proofs.lemmas.Bool.{eqb-true, cases_Bool}
+use Rattle.std.proofs.Common.{◌≡◌, ℕ, Bool, true, false, cond, Option, Some, None, nat_eq, refl, sym, ap, ◌∙◌}
+use Rattle.std.proofs.lemmas.Bool.{eqb-true}
 use Rattle.mqtt_rules.specs.Laws.{IsUnique}
 
 pub unique_same : {X : Type 0} (f g : ℕ → Option X) → ((k : ℕ) → g k ≡ f k) → IsUnique f → IsUnique g

@@ -5,8 +5,8 @@ use Rattle.std.specs.Prelude.{nat_eq}
 use Rattle.mqtt_props.specs.declared.table.PropName.TheVariants.{SessionExpiryInterval, AssignedClientIdentifier, AuthenticationMethod, WillDelayInterval, ReceiveMaximum, TopicAliasMaximum, MaximumPacketSize}
 use Rattle.mqtt_props.specs.Properties.{Prop, U16, U32, Text}
 use Rattle.mqtt_props.specs.Laws.{has}
-use Rattle.mqtt_codec.specs.declared.connect.Connect.{Connect}
-use Rattle.mqtt_codec.specs.declared.connect.Will.{Will as WillAsked}
+use Rattle.mqtt_connect.specs.declared.connect.Connect.{Connect}
+use Rattle.mqtt_connect.specs.declared.connect.Will.{Will as WillAsked}
 use Rattle.mqtt_topic.specs.Names.{is_topic_name, is_empty}
 use Rattle.mqtt_base.specs.Codes.{success, client_identifier_not_valid, bad_authentication_method, session_taken_over, topic_name_invalid, packet_too_large, quota_exceeded}
 use Rattle.mqtt_base.specs.declared.limits.TheConstants.{OPEN_LIMIT, ALIAS_LIMIT, PACKET_LIMIT, CLIENT_LIMIT}

@@ -12,5 +12,6 @@ pub mod Step
 pub mod Piece
 pub mod Laws
 pub mod Flight
+pub mod Lines
 pub mod Numbers
 pub mod Contents

@@ -10,7 +10,7 @@ use Rattle.mqtt_codec.specs.declared.publish.Delivery.{Delivery}
 use Rattle.mqtt_codec.specs.declared.publish.Delivery.TheVariants as delivery
 use Rattle.mqtt_codec.specs.declared.packet.Packet.{Packet}
 use Rattle.mqtt_codec.specs.declared.packet.Packet.TheVariants.{Connack, Publish, Puback, Pubrec, Pubrel, Pubcomp, Suback, Unsuback, Disconnect}
-use Rattle.mqtt_codec.specs.ConnectFlags.{qos_of}
+use Rattle.mqtt_codec.specs.Bits.{qos_of}
 use Rattle.mqtt_codec.specs.Packets.{shortest_of}
 use Rattle.mqtt_flow.specs.Outbound.{is_past}
 pub use Rattle.mqtt_message.specs.PassedOn.{number_in, number_at, property, passed_on, aged, identified}

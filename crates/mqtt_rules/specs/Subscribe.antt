@@ -6,8 +6,8 @@ use Rattle.mqtt_base.specs.declared.session.RetainHandling.{RetainHandling}
 use Rattle.mqtt_base.specs.declared.session.RetainHandling.TheVariants.{SendAlways, SendIfNew, DoNotSend}
 use Rattle.mqtt_base.specs.declared.session.SubscriptionOptions.{SubscriptionOptions}
 use Rattle.mqtt_props.specs.declared.table.PropName.TheVariants.{SubscriptionIdentifier}
-use Rattle.mqtt_codec.specs.declared.subscribe.Subscribe.{Subscribe}
-use Rattle.mqtt_codec.specs.declared.unsubscribe.Unsubscribe.{Unsubscribe}
+use Rattle.mqtt_subscribe.specs.declared.subscribe.Subscribe.{Subscribe}
+use Rattle.mqtt_subscribe.specs.declared.unsubscribe.Unsubscribe.{Unsubscribe}
 use Rattle.mqtt_codec.specs.Subscriptions.{Subscription as Asked}
 use Rattle.mqtt_codec.specs.Options.{options_of}
 use Rattle.mqtt_codec.specs.Heads.{qos_number}
@@ -15,7 +15,7 @@ use Rattle.mqtt_topic.specs.Filters.{is_filter, begins_share}
 use Rattle.mqtt_routes.specs.declared.retained.Kept.{Kept}
 use Rattle.mqtt_routes.specs.Retained.{kept_for}
 use Rattle.mqtt_base.specs.Codes.{success, no_subscription_existed, topic_filter_invalid, identifier_in_use, quota_exceeded}
-use Rattle.mqtt_flow.specs.Identifiers.{is_among}
+use Rattle.mqtt_inbound.specs.Identifiers.{is_among}
 use Rattle.mqtt_message.specs.declared.message.MessageCopy.{MessageCopy}
 use Rattle.mqtt_message.specs.declared.message.RetainedMessage.{RetainedMessage}
 use Rattle.mqtt_records.specs.declared.subscription.Subscription.{Subscription}

@@ -1,7 +1,7 @@
 //! Laws of the records that a store may be opened with.
 ghost use Rattle.std.specs.Prelude.{◌↔◌, ℕ, List};
 ghost use Rattle.mqtt_base.specs.declared.limits.TheConstants.{OPEN_LIMIT};
-ghost use Rattle.mqtt_flow.specs.Inbound.{IsOpenList};
+ghost use Rattle.mqtt_inbound.specs.Inbound.{IsOpenList};
 ghost use Rattle.mqtt_lawful.specs.Lawful.{IsLawful};
 ghost use Rattle.mqtt_rows.specs.Order.{IsTable};
 ghost use Rattle.mqtt_records.specs.Session.{number_of};

@@ -2,20 +2,24 @@
 //! those that the rules speak of and the code shares; `docs/RULES.md` tells the rules in words.
 #![tactic(auto)]
 
+mod copy_laws;
 mod content_laws;
 mod fit_laws;
 mod flight_laws;
 mod lawful_laws;
 mod laws;
+mod line_laws;
 mod number_laws;
 mod routing_laws;
 mod topic_laws;
 
 pub use content_laws::{contents_are_lawful, stored_copies_have_a_spelling};
+pub use copy_laws::copies_keep_their_size;
 pub use fit_laws::rows_always_fit;
 pub use flight_laws::identifiers_in_flight_are_unique;
 pub use lawful_laws::{lawful_records_may_be_opened, open_identifiers_are_one_list};
 pub use laws::{at_most_twenty_open, limits_are_kept, stored_part_follows, tables_are_ordered};
+pub use line_laws::lines_are_unique;
 use mqtt_base::{CopyId, Ending, Text};
 use mqtt_flow::Full;
 pub use number_laws::{

@@ -1,5 +1,6 @@
 //! Topic aliases of a connection (MQTT 5.0, 3.3.2.3.4).
 ghost use Rattle.std.specs.Prelude.{◌≡◌, ◌<◌, [], Some, IfErr, IfOk, IsSome, OnErr, OnOk, option_copied};
+ghost use Rattle.mqtt_topic.specs.Names.{IsTopicName, RefusesName};
 ghost use Rattle.mqtt_topic.specs.Aliases.{Resolves, RefusesAlias, RefusesTopic, IsInRange, topic_of, with_topic, with_topics, restored, after_resolve, no_aliases};
 
 use crate::fault::TopicFault;
@@ -83,6 +84,39 @@ impl Aliases {
         name_of(topic)
     }
 
+    /// Makes an alias stand for a copy of a name.
+    fn keep_copy(&mut self, alias: u16, name: &TopicName) -> Result<(), TopicFault>
+        ensures ok { OnOk result (self.new.table
+            ≡ with_topics self.old.table (with_topic alias name.now self.old.table.topics)) }
+        ensures fault { IfErr result (λ fault. fault ≡ TopicFault.Memory) }
+        ensures err { OnErr result (self.new.table ≡ self.old.table) }
+    {
+        let kept = name.try_clone()?;
+        match self.topics.insert(alias, kept) {
+            Ok(before) => {
+                drop(before);
+                Ok(())
+            }
+            Err(_) => Err(TopicFault::Memory),
+        }
+    }
+
+    /// Reads a topic name, and makes an alias stand for it.
+    fn read_and_keep(&mut self, alias: u16, topic: &str) -> Result<TopicName, TopicFault>
+        ensures read { IfOk result (λ name. name ≡ topic.now) }
+        ensures lawful { OnOk result (IsTopicName topic.now) }
+        ensures ok { OnOk result (self.new.table
+            ≡ with_topics self.old.table (with_topic alias topic.now self.old.table.topics)) }
+        ensures refused { IfErr result (RefusesName topic.now) }
+        ensures err { OnErr result (self.new.table ≡ self.old.table) }
+    {
+        let name = TopicName::parse(self.alloc, topic)?;
+        match self.keep_copy(alias, &name) {
+            Ok(()) => Ok(name),
+            Err(fault) => Err(fault),
+        }
+    }
+
     /// The topic that a PUBLISH with this text and alias means, where a text with an alias makes
     /// the alias stand for it.
     pub fn resolve(&mut self, topic: &str, alias: Option<u16>) -> Result<TopicName, TopicFault>
@@ -98,12 +132,7 @@ impl Aliases {
         if topic.is_empty() {
             return self.known(alias);
         }
-        let name = TopicName::parse(self.alloc, topic)?;
-        let kept = name.try_clone()?;
-        self.topics
-            .insert(alias, kept)
-            .map_err(|_| TopicFault::Memory)?;
-        Ok(name)
+        self.read_and_keep(alias, topic)
     }
 
     /// Makes room for one alias, so that the next `set` takes no memory.

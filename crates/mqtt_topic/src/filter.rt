@@ -121,6 +121,13 @@ impl Filter {
         Ok(Filter { text })
     }
 
+    /// Its levels, from the first (4.7.1.1). Takes no memory.
+    pub fn levels(&self) -> Levels<'_>
+        ensures { result ≡ levels self.now }
+    {
+        Levels::of(self.text.as_str())
+    }
+
     /// Its text, as packets and records have it. Takes no memory.
     pub fn text(&self) -> &Text
         ensures value { result.now ≡ self.now }

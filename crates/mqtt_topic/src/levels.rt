@@ -4,9 +4,9 @@ ghost use Rattle.mqtt_topic.specs.Levels.{levels, is_none_left};
 
 use std::marker::Model;
 
-/// The levels of a text that are left.
+/// The levels of a topic name or filter that are left, lent: no text is copied.
 #[derive(Drop)]
-pub(crate) struct Levels<'a> {
+pub struct Levels<'a> {
     rest: Option<&'a str>,
 }
 
@@ -27,8 +27,8 @@ impl<'a> Levels<'a> {
         Levels { rest: Some(text) }
     }
 
-    /// Takes the next level off.
-    pub(crate) fn next(&mut self) -> Option<&'a str>
+    /// Takes the next level off; none where no level is left. Takes no memory.
+    pub fn next(&mut self) -> Option<&'a str>
         ensures none { IfNone result (self.old ≡ []) }
         ensures after { IfNone result (self.new ≡ []) }
         ensures some { IfSome result (λ level. self.old ≡ level.now ∷ self.new) }
@@ -46,8 +46,8 @@ impl<'a> Levels<'a> {
         }
     }
 
-    /// Whether no level is left.
-    pub(crate) fn is_at_end(&self) -> bool
+    /// Whether no level is left. Takes no memory.
+    pub fn is_at_end(&self) -> bool
         ensures { result ≡ is_none_left self.now }
     {
         self.rest.is_none()

@@ -16,6 +16,7 @@ pub use aliases::Aliases;
 pub use fault::TopicFault;
 pub use filter::Filter;
 pub use laws::{filter_by_words, what_was_set_is_taken_back};
+pub use levels::Levels;
 pub use matching::matches;
 pub use name::TopicName;
 pub use shared::Shared;

@@ -1,9 +1,11 @@
 //! Topic names (MQTT 5.0, 4.7.1, 4.7.3).
 ghost use Rattle.std.specs.Prelude.{◌≡◌, IfErr, IfOk, IsOk, OnOk};
 ghost use Rattle.mqtt_base.specs.Values.{FitsText};
+ghost use Rattle.mqtt_topic.specs.Levels.{levels};
 ghost use Rattle.mqtt_topic.specs.Names.{IsTopicName, RefusesName, has_wildcard};
 
 use crate::fault::TopicFault;
+use crate::levels::Levels;
 use crate::text::text_of;
 use mqtt_base::Text;
 use std::alloc::Global;
@@ -89,6 +91,13 @@ impl TopicName {
         ensures fits { FitsText self.now }
     {
         self.text.as_str()
+    }
+
+    /// Its levels, from the first (4.7.1.1). Takes no memory.
+    pub fn levels(&self) -> Levels<'_>
+        ensures { result ≡ levels self.now }
+    {
+        Levels::of(self.text.as_str())
     }
 
     /// Its text, as packets and records have it. Takes no memory.

@@ -1,10 +1,12 @@
 //! Filters of subscriptions, plain or shared (MQTT 5.0, 4.7.1, 4.7.3, 4.8.2).
 ghost use Rattle.std.specs.Prelude.{◌≡◌, ◌↔◌, false, true, IfErr, IfNone, IfOk, IfSome, IsOk, IsTrue, OnOk, OnSome};
+ghost use Rattle.mqtt_topic.specs.Levels.{levels};
 ghost use Rattle.mqtt_topic.specs.Matching.{is_match, Matches};
 ghost use Rattle.mqtt_topic.specs.Filters.{begins_share, is_filter, group_of, matching_part_of, RefusesFilter};
 
 use crate::fault::TopicFault;
 use crate::filter::{check, group_of};
+use crate::levels::Levels;
 use crate::matching::is_match;
 use crate::name::TopicName;
 use crate::shared::share_parts;
@@ -103,6 +105,13 @@ impl SubFilter {
             Some((_, filter)) => filter,
             None => text,
         }
+    }
+
+    /// The levels of the filter that is matched, from the first (4.7.1.1, 4.8.2). Takes no memory.
+    pub fn levels(&self) -> Levels<'_>
+        ensures { result ≡ levels (matching_part_of self.now) }
+    {
+        Levels::of(self.filter())
     }
 
     /// Whether it matches a topic name, a shared one by its FILTER (4.7, 4.8.2). Takes no memory.

@@ -40,8 +40,7 @@ fn is_answered(aliases: &mut Aliases, call: &Call) -> bool {
 fn an_alias_stands_for_its_last_topic(rt: HostRuntime) {
     let mut aliases = Aliases::new(rt.alloc(), 10);
     for call in calls() {
-        let is = is_answered(&mut aliases, call);
-        assert!(rt; is, "{}", call.0);
+        assert!(rt; is_answered(&mut aliases, call), "{}", call.0);
     }
     drop(aliases);
 }
@@ -59,7 +58,7 @@ fn set_and_restore(rt: &impl Abort, alloc: Global) -> Result<(bool, bool, bool),
     let topic = TopicName::parse(alloc, "new")?;
     let mut aliases = Aliases::new(alloc, 10);
     let made = aliases.make_room();
-    assert_eq!(rt; made, Ok(()));
+    assert!(rt; made.is_ok());
     let before = aliases.set(3, topic);
     let was_new = before.is_none();
     let is_set = shown(&aliases, 3) == "new";
@@ -71,8 +70,8 @@ fn set_and_restore(rt: &impl Abort, alloc: Global) -> Result<(bool, bool, bool),
 
 #[test]
 fn what_was_set_is_taken_back(rt: HostRuntime) -> Result<(), Fail> {
-    let found = set_and_restore(&rt, rt.alloc())?;
-    assert_eq!(rt; found, (true, true, true));
+    let (was_new, is_set, is_gone) = set_and_restore(&rt, rt.alloc())?;
+    assert!(rt; was_new && is_set && is_gone);
     Ok(())
 }
 
@@ -96,13 +95,10 @@ fn is_meant(
 
 /// A topic beside an alias, and an alias that stands for a topic.
 fn ask_both(rt: &impl Abort, alloc: Global, aliases: &mut Aliases) -> Result<(), Fail> {
-    let is = is_meant(rt, alloc, aliases, "x", "x")?;
-    assert!(rt; is);
-    assert_eq!(rt; shown(aliases, 3), "");
-    let is = is_answered(aliases, &("a/b", Some(3), "a/b", None));
-    assert!(rt; is);
-    let is = is_meant(rt, alloc, aliases, "", "a/b")?;
-    assert!(rt; is);
+    assert!(rt; is_meant(rt, alloc, aliases, "x", "x")?);
+    assert!(rt; shown(aliases, 3).is_empty());
+    assert!(rt; is_answered(aliases, &("a/b", Some(3), "a/b", None)));
+    assert!(rt; is_meant(rt, alloc, aliases, "", "a/b")?);
     Ok(())
 }
 

@@ -1,5 +1,6 @@
 //! Which texts are filters, shared ones too, and what stands in them (MQTT 5.0, 4.7.1, 4.7.3, 4.8.2).
-use mqtt_topic::{Filter, Shared, SubFilter, TopicFault, TopicName};
+use crate::texts::faults_of;
+use mqtt_topic::{Shared, SubFilter, TopicFault, TopicName};
 use std::alloc::Global;
 use std::test::Fail;
 
@@ -41,10 +42,8 @@ fn texts() -> &'static [(&'static str, Option<TopicFault>)] {
 #[test]
 fn a_filter_has_its_wildcards_in_their_places(rt: HostRuntime) {
     for (text, fault) in texts() {
-        let found = Filter::parse(rt.alloc(), text).err();
-        assert_eq!(rt; found, *fault, "{text}");
-        let found = SubFilter::parse(rt.alloc(), text).err();
-        assert_eq!(rt; found, *fault, "{text}");
+        let [_, filter, _, sub] = faults_of(rt.alloc(), text);
+        assert!(rt; filter == *fault && sub == *fault, "{text}");
     }
 }
 
@@ -57,8 +56,8 @@ fn has_parts(alloc: Global, text: &str, name: &str, filter: &str) -> Result<bool
 }
 
 /// Texts that are no shared filters.
-fn unshared() -> [&'static str; 7] {
-    [
+fn unshared() -> &'static [&'static str] {
+    &[
         "",
         "a/b",
         "#/a",
@@ -69,57 +68,71 @@ fn unshared() -> [&'static str; 7] {
     ]
 }
 
-#[test]
-fn a_shared_filter_has_a_name_and_a_filter(rt: HostRuntime) -> Result<(), Fail> {
-    for text in unshared() {
-        let found = Shared::parse(rt.alloc(), text).err();
-        assert_eq!(rt; found, Some(TopicFault::Share), "{text}");
-    }
-    for (text, name, filter) in [
+/// Shared filters, each with its name and its filter.
+fn shared() -> &'static [(&'static str, &'static str, &'static str)] {
+    &[
         ("$share/g/a/b", "g", "a/b"),
         ("$share/ü/+/#", "ü", "+/#"),
         ("$share/g//", "g", "/"),
-    ] {
-        let has = has_parts(rt.alloc(), text, name, filter)?;
-        assert!(rt; has, "{text}");
+    ]
+}
+
+#[test]
+fn a_shared_filter_has_a_name_and_a_filter(rt: HostRuntime) -> Result<(), Fail> {
+    for text in unshared() {
+        let [_, _, shared, _] = faults_of(rt.alloc(), text);
+        assert!(rt; shared == Some(TopicFault::Share), "{text}");
+    }
+    for (text, name, filter) in shared() {
+        assert!(rt; has_parts(rt.alloc(), text, name, filter)?, "{text}");
     }
     Ok(())
 }
 
-/// Whether a subscription has these parts, and whether it matches a name.
-fn is_subscribed(
-    alloc: Global,
-    (text, group, filter): (&str, &str, &str),
-    name: &str,
-) -> Result<(bool, bool), TopicFault> {
-    let sub = SubFilter::parse(alloc, text)?;
-    let name = TopicName::parse(alloc, name)?;
+/// The texts of a subscription, of its group and of its filter, a name, and whether they match.
+type Row = (&'static str, &'static str, &'static str, &'static str, bool);
+
+/// Subscriptions and names, and whether they match.
+fn subscriptions() -> &'static [Row] {
+    &[
+        ("a/+", "", "a/+", "a/b", true),
+        ("$share/g/a/+", "g/a/+", "a/+", "a/b", true),
+        ("$share/g/a/+", "g/a/+", "a/+", "$share/g/a/b", false),
+        ("$share/g/#", "g/#", "#", "$SYS/x", false),
+        (
+            "$share/g/$share/h/a",
+            "g/$share/h/a",
+            "$share/h/a",
+            "$share/h/a",
+            true,
+        ),
+    ]
+}
+
+/// Whether a subscription has these texts.
+fn has_texts(sub: &SubFilter, text: &str, group: &str, filter: &str) -> bool {
     let is_group = match sub.group() {
-        Some(text) => sub.is_shared() && text == group,
+        Some(found) => sub.is_shared() && found == group,
         None => !sub.is_shared() && group.is_empty(),
     };
-    let has_parts = is_group && sub.as_str() == text && sub.filter() == filter;
-    let is = sub.matches(&name);
+    is_group && sub.as_str() == text && sub.filter() == filter
+}
+
+/// Whether a subscription has the texts of a row, and matches its name or not.
+fn is_subscribed(alloc: Global, row: &Row) -> Result<bool, TopicFault> {
+    let (text, group, filter, name, expected) = row;
+    let sub = SubFilter::parse(alloc, text)?;
+    let name = TopicName::parse(alloc, name)?;
+    let is = has_texts(&sub, text, group, filter) && sub.matches(&name) == *expected;
     drop(sub);
     drop(name);
-    Ok((has_parts, is))
+    Ok(is)
 }
 
 #[test]
 fn a_subscription_matches_by_its_filter(rt: HostRuntime) -> Result<(), Fail> {
-    for (parts, name, expected) in [
-        (("a/+", "", "a/+"), "a/b", true),
-        (("$share/g/a/+", "g/a/+", "a/+"), "a/b", true),
-        (("$share/g/a/+", "g/a/+", "a/+"), "$share/g/a/b", false),
-        (("$share/g/#", "g/#", "#"), "$SYS/x", false),
-        (
-            ("$share/g/$share/h/a", "g/$share/h/a", "$share/h/a"),
-            "$share/h/a",
-            true,
-        ),
-    ] {
-        let found = is_subscribed(rt.alloc(), parts, name)?;
-        assert_eq!(rt; found, (true, expected), "{name}");
+    for row in subscriptions() {
+        assert!(rt; is_subscribed(rt.alloc(), row)?, "{}", row.0);
     }
     Ok(())
 }

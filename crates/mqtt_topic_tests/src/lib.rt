@@ -8,6 +8,8 @@ mod faults;
 #[cfg(test)]
 mod filters;
 #[cfg(test)]
+mod levels;
+#[cfg(test)]
 mod matching;
 #[cfg(test)]
 mod names;

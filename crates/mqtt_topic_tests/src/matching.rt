@@ -109,7 +109,7 @@ fn is_matched(alloc: Global, filter: &str, name: &str) -> Result<bool, TopicFaul
 fn filters_match_as_the_standard_says(rt: HostRuntime) -> Result<(), Fail> {
     for (filter, name, expected) in pairs() {
         let is = is_matched(rt.alloc(), filter, name)?;
-        assert_eq!(rt; is, *expected, "{filter} and {name}");
+        assert!(rt; is == *expected, "{filter} and {name}");
     }
     Ok(())
 }

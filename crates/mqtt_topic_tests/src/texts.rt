@@ -5,6 +5,16 @@ use std::alloc::Global;
 use std::process::Abort;
 use std::test::Fail;
 
+/// Why a text is no topic name, no filter, no shared filter and no subscription.
+pub(super) fn faults_of(alloc: Global, text: &str) -> [Option<TopicFault>; 4] {
+    [
+        TopicName::parse(alloc, text).err(),
+        Filter::parse(alloc, text).err(),
+        Shared::parse(alloc, text).err(),
+        SubFilter::parse(alloc, text).err(),
+    ]
+}
+
 /// A packet's text.
 fn text(rt: &impl Abort, alloc: Global, text: &str) -> Result<Text, Fail> {
     assert!(rt; Text::may_hold(text));
@@ -23,29 +33,32 @@ fn is_given_back(rt: &impl Abort, alloc: Global) -> Result<bool, Fail> {
 
 #[test]
 fn a_name_gives_its_text_back(rt: HostRuntime) -> Result<(), Fail> {
-    let is = is_given_back(&rt, rt.alloc())?;
-    assert!(rt; is);
+    assert!(rt; is_given_back(&rt, rt.alloc())?);
     Ok(())
 }
 
 #[test]
 fn a_text_of_a_packet_is_read_as_any(rt: HostRuntime) -> Result<(), Fail> {
     let name = TopicName::from_text(text(&rt, rt.alloc(), "a/+")?).err();
-    assert_eq!(rt; name, Some(TopicFault::WildcardInName));
+    assert!(rt; name == Some(TopicFault::WildcardInName));
     let filter = Filter::from_text(text(&rt, rt.alloc(), "a/+")?).err();
-    assert_eq!(rt; filter, None);
+    assert!(rt; filter == None);
     let shared = Shared::from_text(text(&rt, rt.alloc(), "a/+")?).err();
-    assert_eq!(rt; shared, Some(TopicFault::Share));
+    assert!(rt; shared == Some(TopicFault::Share));
     let sub = SubFilter::from_text(text(&rt, rt.alloc(), "a#")?).err();
-    assert_eq!(rt; sub, Some(TopicFault::WildcardPlace));
+    assert!(rt; sub == Some(TopicFault::WildcardPlace));
     Ok(())
 }
 
 #[test]
 fn what_no_packet_carries_is_no_text(rt: HostRuntime) {
     let fault = Some(TopicFault::NotText);
-    assert_eq!(rt; TopicName::parse(rt.alloc(), "a\0b").err(), fault);
-    assert_eq!(rt; Filter::parse(rt.alloc(), "a/\0").err(), fault);
-    assert_eq!(rt; Shared::parse(rt.alloc(), "$share/g/\0").err(), fault);
-    assert_eq!(rt; SubFilter::parse(rt.alloc(), "\0").err(), fault);
+    let [name, _, _, _] = faults_of(rt.alloc(), "a\0b");
+    assert!(rt; name == fault);
+    let [_, filter, _, _] = faults_of(rt.alloc(), "a/\0");
+    assert!(rt; filter == fault);
+    let [_, _, shared, _] = faults_of(rt.alloc(), "$share/g/\0");
+    assert!(rt; shared == fault);
+    let [_, _, _, sub] = faults_of(rt.alloc(), "\0");
+    assert!(rt; sub == fault);
 }

@@ -1,10 +1,19 @@
-use Rattle.std.proofs.Common.{Some}
+use Rattle.std.proofs.lemmas.Result.{IfErr-weaker, IfOk-weaker}
+use Rattle.std.proofs.Common.{None, Some}
 use Rattle.mqtt_cli.proofs.Commands.{refused_ask, words_ask}
 use Rattle.mqtt_cli.proofs.words.action.Goals as goal
 
-pub returns-in-Some-clause-ok : goal.returns-in-Some-clause-ok
-returns-in-Some-clause-ok g c =
-    words_ask _ _ c.in-Ok.matches (Some c.in-Some.action) c.in_ok-program.ensures c.in-Ok.ensures.kinds c.in-Ok.ensures.matches c.in-Some.ensures
+pub returns-in-Ok-clause-ok : goal.returns-in-Ok-clause-ok
+returns-in-Ok-clause-ok g c =
+    IfOk-weaker c.asked.result _ _
+    (λ action asks. words_ask _ _ c.in-Ok.matches (Some action) c.in_ok-program.ensures c.in-Ok.ensures.kinds c.in-Ok.ensures.matches asks)
+    c.asked.ensures.ok
+
+pub returns-in-Ok-clause-usage : goal.returns-in-Ok-clause-usage
+returns-in-Ok-clause-usage g c =
+    IfErr-weaker c.asked.result _ _
+    (λ fault asks is_usage. words_ask _ _ c.in-Ok.matches None c.in_ok-program.ensures c.in-Ok.ensures.kinds c.in-Ok.ensures.matches (asks is_usage))
+    c.asked.ensures.usage
 
 pub returns-in-Err-clause-usage : goal.returns-in-Err-clause-usage
 returns-in-Err-clause-usage g c = λ is_usage.

@@ -1,5 +1,5 @@
 -- Rows that stand still are passed over.
-use Rattle.std.proofs.Common.{◌≡◌, ◌-◌, ◌≤◌, ◌++◌, ◌∙◌, List, map, take, drop, length, ap, arith}
+use Rattle.std.proofs.Common.{◌-◌, ◌≤◌, ◌++◌, ◌∙◌, List, map, take, drop, length, ap, arith}
 use Rattle.std.proofs.lemmas.List.{length-map}
 use Rattle.mqtt_flow.specs.declared.entry.Turn.{Turn}
 use Rattle.mqtt_flow.specs.Pacing.{Pacing}

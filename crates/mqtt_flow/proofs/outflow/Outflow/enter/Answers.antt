@@ -1,7 +1,7 @@
 use Rattle.std.proofs.Common.{◌∙◌, ap, arith, length}
 use Rattle.mqtt_flow.specs.Queue.{greatest_given, after_all, greatest_place}
 use Rattle.mqtt_flow.specs.Outbound.{way_made}
-use Rattle.mqtt_flow.proofs.outbound.Room.{way_made-orders, places-after_all}
+use Rattle.mqtt_flow.proofs.outbound.Room.{way_made-orders}
 use Rattle.mqtt_flow.proofs.outflow.Outflow.enter.Goals as goal
 
 pub take_all-requires : goal.take_all-requires

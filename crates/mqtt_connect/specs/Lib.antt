@@ -1,0 +1,2 @@
+pub mod ConnectFlags
+pub mod Connect

@@ -1,0 +1,19 @@
+-- One row after the other.
+use Rattle.std.proofs.Common.{◌+◌, List, map, drop, sym, ap, ◌∙◌}
+use Rattle.mqtt_base.specs.declared.Phase.{Phase}
+use Rattle.mqtt_flow.specs.declared.entry.Due.{Due}
+use Rattle.mqtt_flow.specs.declared.entry.Entry.{Entry}
+use Rattle.mqtt_flow.specs.Outbound.{due_from, due_of}
+use Rattle.mqtt_flow.proofs.outbound.Rows.{rows_at}
+use Rattle.mqtt_flow.proofs.plan.insert_due.Goals as goal
+
+pub loop-row-preserved : goal.loop-row-preserved
+loop-row-preserved g c = λ went.
+    let entry = g.R.QueueRow.entry went in
+    let l = c.loop-row in
+    let rest = map entry (drop (l.row-index + 1) c.args.rows.now) in
+    let at = rows_at entry c.args.rows.now l.row-index c.row-item.result c.loop-row-test.true c.row-item.is in
+    ap (λ (ds : List Due). due_from ds rest) c.in_ok-insert_phase.ensures.ok
+    ∙ ap (λ (p : Phase). due_from (due_of p l.dues.items) rest) (c.phase.ensures went)
+    ∙ ap (λ (es : List Entry). due_from l.dues.items es) (sym at)
+    ∙ l.invariant went

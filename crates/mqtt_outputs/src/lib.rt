@@ -1,0 +1,18 @@
+//! The packets that a broker sends, as bytes: each the shortest spelling of the packet that the rules
+//! name (MQTT 5.0, 3.2 to 3.14). Want of memory is the only refusal.
+#![tactic(auto)]
+
+mod answer;
+mod connack;
+mod copies;
+mod frame;
+mod laws;
+mod property;
+mod sent;
+
+pub use answer::{
+    disconnect, pingresp, puback, pubcomp, pubrec, pubrel, suback, suback_len, unsuback,
+};
+pub use connack::{connack_assigned, connack_granted, connack_refused};
+pub use copies::{has_spelling, publish, publish_len, publish_row, row_len};
+pub use laws::sizes_stay;

@@ -1,0 +1,4 @@
+pub mod Lists
+pub mod Gives
+pub mod Ends
+pub mod Tables

@@ -1,0 +1,4 @@
+pub mod Values
+pub mod Blocks
+pub mod Rows
+pub mod Ones

@@ -1,0 +1,5 @@
+pub mod Creates
+pub mod Kept
+pub mod Fills
+pub mod One
+pub mod Said

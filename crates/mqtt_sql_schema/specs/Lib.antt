@@ -1,0 +1,6 @@
+pub mod Tables
+pub mod Forms
+pub mod Named
+pub mod Creation
+pub mod Asking
+pub mod Finding

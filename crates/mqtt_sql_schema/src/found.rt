@@ -1,0 +1,41 @@
+//! What a database is to the store.
+ghost use Rattle.std.specs.Prelude.{[], IfOk};
+ghost use Rattle.sqlite.specs.Held.{state};
+ghost use Rattle.sqlite.specs.State.{HasCleanDisk, Survives, CommitsShowing};
+ghost use Rattle.mqtt_sql_schema.specs.Asking.{ask_text};
+ghost use Rattle.mqtt_sql_schema.specs.Finding.{IsFound};
+
+use crate::asking::{is_empty, says_one};
+use crate::schema::is_schema;
+use sqlite::{Alter, Connection, Error};
+
+/// What a database is to the store.
+#[derive(Clone, Copy, Debug, PartialEq, Eq)]
+pub enum Found {
+    /// It has the store's tables.
+    Ours,
+    /// It has no tables, indexes or views.
+    Empty,
+    /// It says that its schema is 1, and has not the store's tables: Corrupt.
+    Broken,
+    /// It doesn't say that its schema is 1: Schema.
+    Other,
+}
+
+/// What a database is to the store. Writes nothing.
+pub fn found_in<S: Alter>(conn: &mut Connection<S>) -> Result<Found, Error>
+    ensures found { HasCleanDisk (state S.Store conn.new) → IfOk result (λ it. IsFound it (state S.Store conn.old) (state S.Store conn.new)) }
+    ensures survives { Survives (state S.Store conn.old) (state S.Store conn.new) (CommitsShowing ask_text [] (state S.Store conn.old)) }
+{
+    if is_schema(conn.schema()) {
+        return Ok(Found::Ours);
+    }
+    if is_empty(conn.schema()) {
+        return Ok(Found::Empty);
+    }
+    if says_one(conn)? {
+        Ok(Found::Broken)
+    } else {
+        Ok(Found::Other)
+    }
+}

@@ -1,0 +1,5 @@
+pub mod Lines
+pub mod Undoing
+pub mod Stepping
+pub mod Doing
+pub mod Backs

@@ -1,0 +1,25 @@
+//! The broker's tables, and a step under way on them: deeds of the rules done in place, noted for the
+//! store, and taken back whole where the step isn't made (MQTT 5.0, 4.1).
+#![tactic(auto)]
+
+mod call;
+mod entering;
+mod fault;
+mod handshakes;
+mod leaving;
+mod line;
+mod lines;
+mod linking;
+mod numbers;
+mod outputs;
+mod retained;
+mod sessions;
+mod step;
+mod tables;
+mod undo;
+
+pub use call::{EngineError, Outcome, commit};
+pub use fault::StepFault;
+pub use line::{LineChange, LineState};
+pub use step::Step;
+pub use undo::Undo;
