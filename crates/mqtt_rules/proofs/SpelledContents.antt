@@ -10,8 +10,12 @@ use Rattle.mqtt_props.specs.declared.place.Place.TheVariants as places
 use Rattle.mqtt_props.specs.Properties.{Prop, props, block}
 use Rattle.mqtt_message.specs.Queue.{first_sent, identifier_len, IsSpelled}
 use Rattle.mqtt_message.specs.declared.message.MessageCopy.{MessageCopy}
-use Rattle.mqtt_lawful.specs.Lawful.{IsMessage}
-use Rattle.mqtt_rules.specs.Contents.{IsCopied}
+use Rattle.std.specs.Prelude.{Option, Some, None}
+use Rattle.mqtt_props.specs.declared.place.Place.{Place}
+use Rattle.mqtt_message.specs.declared.message.Content.{Content}
+use Rattle.mqtt_message.specs.declared.message.Will.{Will}
+use Rattle.mqtt_lawful.specs.Lawful.{IsMessage, HasLawfulWill}
+use Rattle.mqtt_rules.specs.Contents.{IsContent, IsPublished, IsWilled, IsCopied}
 use Rattle.mqtt_rules.proofs.SentContents.{longest, sent_size, sent_fits, sent_may, sent_lawful}
 
 -- bytes of a block, and of its length
@@ -63,3 +67,17 @@ copy_message copy h =
       short = omega (arith, size, topic);
       topic = h.content.named.name;
     }
+
+-- contents are what lawful records ask of a message
+content_message : (place : Place) (topic : List ℕ) (ps : List Prop) (payload : List ℕ) → IsContent place topic ps payload → IsMessage place topic ps payload
+content_message place topic ps payload h =
+    let short = h.short in
+    let long = h.named.fits.0 in
+    record { may = h.may; lawful = h.lawful; short = omega (arith, short, long); topic = h.named.name }
+
+pub retained_message : (content : Content) → IsPublished content → IsMessage places.Publish content.topic content.properties content.payload
+retained_message content h = content_message places.Publish content.topic content.properties content.payload h
+
+pub will_message : (will : Option Will) → IsWilled will → HasLawfulWill will
+will_message None h = tt
+will_message (Some will) h = content_message places.Will will.topic will.properties will.payload h
