@@ -1,6 +1,5 @@
 -- What CREATE TABLE makes of a database.
-use Rattle.std.proofs.Common.{◌≡◌, ◌⊎◌, ℕ, ◌+◌, List, [], ◌∷◌, ◌++◌, codes, Bool, true, false, Ok, Err, Result, OnOk, None, inl, inr, refl, sym, ap, subst, ◌∙◌, IsTrue}
-use Rattle.std.specs.List.{AllByRecursion}
+use Rattle.std.proofs.Common.{◌≡◌, ◌⊎◌, ℕ, ◌+◌, List, [], ◌∷◌, ◌++◌, false, Ok, Err, Result, OnOk, None, inl, inr, refl, sym, ap, subst, ◌∙◌}
 use Rattle.sqlite_schema.specs.declared.schema.Schema.{Schema}
 use Rattle.sqlite_schema.specs.declared.schema.Table.{Table}
 use Rattle.sqlite_trees.specs.Tree.{Trees}

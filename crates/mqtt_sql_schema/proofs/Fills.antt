@@ -1,5 +1,5 @@
 -- What the INSERT of a new store's numbers makes of a database.
-use Rattle.std.proofs.Common.{arith, ◌≡◌, ◌≢◌, ◌⊎◌, ℕ, pos, List, [], ◌∷◌, map, drop, codes, Bool, Ok, Err, Result, OnOk, None, inl, inr, refl, sym, ap, subst, ◌∙◌, IsTrue}
+use Rattle.std.proofs.Common.{arith, ◌≡◌, ℕ, pos, List, [], ◌∷◌, map, drop, codes, Ok, Err, Result, OnOk, None, refl, ap, subst, ◌∙◌, IsTrue}
 use Rattle.sqlite_value.specs.declared.value.Value.TheVariants.{Null, Int, Text}
 use Rattle.sqlite_value.specs.Order.{Row, value_cmp}
 use Rattle.sqlite_value.specs.Keys.{joined}
@@ -8,7 +8,7 @@ use Rattle.sqlite_schema.specs.declared.schema.Keys.TheVariants.{Enforced}
 use Rattle.sqlite_sql.specs.Ops.{unary}
 use Rattle.sqlite_trees.specs.Tree.{Trees}
 use Rattle.sqlite_rules.specs.declared.error.Rowids.TheVariants.{Chosen}
-use Rattle.sqlite_rules.specs.Edit.{Edit, edit_of, edited, numbered, put_all, taken_by}
+use Rattle.sqlite_rules.specs.Edit.{Edit, edit_of, numbered, put_all, taken_by}
 use Rattle.sqlite_rules.specs.Cast.{cast_row}
 use Rattle.sqlite_rules.specs.Action.{works, Writes as WritesEdit}
 use Rattle.sqlite.specs.Source.TheVariants.{Values}

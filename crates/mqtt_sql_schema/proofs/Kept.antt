@@ -1,5 +1,5 @@
 -- A statement inside a transaction commits nothing.
-use Rattle.std.proofs.Common.{◌≡◌, ℕ, List, Ok, Err, Result, OnErr, IfErr, ap, sym, ◌∙◌, true≢false, refl, inl, inr, IsTrue, Bool, true, false}
+use Rattle.std.proofs.Common.{◌≡◌, ℕ, List, Ok, Err, Result, OnErr, IfErr, sym, ◌∙◌, true≢false, refl, inl, inr, IsTrue, true, false}
 use Rattle.std.proofs.lemmas.Bool.{cases_Bool}
 use Rattle.sqlite_value.specs.Order.{Row}
 use Rattle.sqlite.specs.declared.error.Error.{Error}

@@ -6,3 +6,4 @@ pub mod RemoveSession
 pub mod RemovesSession
 pub mod RemoveSessionRuns
 pub mod SetCopy
+pub mod Removal

@@ -1,46 +1,27 @@
 -- DELETE FROM session, with its cascade.
 use Rattle.std.proofs.Common.{◌≡◌, ◌≢◌, ◌⊎◌, ℕ, zero, suc, ℤ, pos, ◌+◌, Bool, true, false, not, ◌&&◌, ◌||◌, cond, List, [], ◌∷◌, ◌++◌, filter, map, length, Option, Some, None, Ok, Err, Result, refl, sym, ap, ◌∙◌, subst, inl, inr, IsTrue, append-nil, append_assoc, length-append, arith, codes}
-use Rattle.std.specs.List.{AllByRecursion, list_any}
+use Rattle.std.specs.List.{list_any}
 use Rattle.std.specs.Ordering.{is_eq}
-use Rattle.std.specs.List.Sorted.{IsPermutation}
 use Rattle.sqlite_value.specs.declared.value.Value.{Value}
 use Rattle.sqlite_value.specs.declared.value.Value.TheVariants.{Null, Int, Real, Text, Blob}
 use Rattle.sqlite_value.specs.declared.keys.Collation.TheVariants.{Binary}
 use Rattle.sqlite_value.specs.Keys.{plain, first_key, joined}
 use Rattle.sqlite_value.specs.Order.{Row, column, value_cmp}
-use Rattle.sqlite_trees.specs.Tree.{Trees, IsTable, rowid}
+use Rattle.sqlite_trees.specs.Tree.{IsTable, rowid}
 use Rattle.sqlite_trees.specs.View.{is_int}
 use Rattle.sqlite_sql.specs.Ops.{is_true, from_truth, binary}
 use Rattle.sqlite_schema.specs.Names.{same_name}
 use Rattle.sqlite_schema.specs.Rules.{equal}
 use Rattle.sqlite_schema.specs.declared.schema.Table.{Table}
 use Rattle.sqlite_schema.specs.declared.schema.Keys.TheVariants.{Enforced}
-use Rattle.sqlite_rules.specs.declared.action.Deed.TheVariants.{Delete}
 use Rattle.sqlite_rules.specs.Lists.{Has}
-use Rattle.sqlite_rules.specs.Edit.{Edit, IsNoIndex, taken_by, without_all, id_in}
-use Rattle.sqlite_rules.specs.Action.{Work, works, is_child_of, loses, Leads}
-use Rattle.mqtt_sql_schema.specs.Tables.{keep_schema, to_session, will, sub, inbound, copy, session}
-use Rattle.mqtt_sql_write.specs.Content.{is_of, without, RemovesSession}
-use Rattle.mqtt_sql_write.proofs.Rows.{without_those, filter_alike, equal_is}
-use Rattle.std.specs.Cmp.{IsTotalOrder}
-use Rattle.std.proofs.lemmas.Cmp.{tied_itself, alike_right}
+use Rattle.sqlite_rules.specs.Action.{works, is_child_of, loses}
+use Rattle.mqtt_sql_schema.specs.Tables.{keep_schema, will, sub, inbound, copy}
+use Rattle.mqtt_sql_write.specs.Content.{is_of}
 use Rattle.sqlite_value.proofs.OrderLemmas.{value_cmp_total}
 use Rattle.sqlite_trees.proofs.ListLemmas.{filter_none}
-use Rattle.sqlite_rules.specs.Action.{Writes}
 use Rattle.sqlite_rules.proofs.ListLemmas.{all_has, all_from}
-use Rattle.sqlite_rules.proofs.TableLemmas.{int_is}
-use Rattle.sqlite_rules.proofs.PlaceLemmas.{tied_same, row_at_is}
-use Rattle.sqlite.specs.Command.TheVariants as command
-use Rattle.sqlite.specs.declared.error.Error.{Error}
-use Rattle.sqlite.specs.Term.{col}
-use Rattle.sqlite.specs.Listing.{understood}
-use Rattle.sqlite.specs.Effect.{Database}
-use Rattle.sqlite.specs.State.{State, Writes as WritesState, Executes, mode_of}
-use Rattle.sqlite_tied.specs.Compute.{everything}
-use Rattle.sqlite.proofs.Callers.{IsPlain, statement_of, runs_as, one_permutation}
-use Rattle.mqtt_sql_write.proofs.Commands.{over, program, equals, remove_session_is}
-use Rattle.mqtt_sql_write.proofs.Parts.{passes, shows, answers_over, Deleted, deleted}
-use Rattle.mqtt_sql_write.proofs.Cascade.{work, Stepped, stepped, will_childless, sub_childless, inbound_childless, copy_childless}
+use Rattle.mqtt_sql_write.proofs.Cascade.{work}
 
 truth_of : (b : Bool) → is_true (from_truth (Some b)) ≡ b
 truth_of true = refl

@@ -1,22 +1,19 @@
 -- DELETE FROM session, from its text on.
-use Rattle.std.proofs.Common.{◌≡◌, ◌≢◌, ◌⊎◌, ℕ, zero, suc, ℤ, pos, ◌+◌, Bool, true, false, not, ◌&&◌, cond, List, [], ◌∷◌, ◌++◌, filter, map, Option, Some, None, Ok, Err, Result, OnOk, refl, sym, ap, ◌∙◌, subst, inl, inr, IsTrue, arith}
+use Rattle.std.proofs.Common.{◌≡◌, ℕ, ℤ, Bool, not, List, [], ◌∷◌, filter, map, None, Ok, Err, Result, OnOk, refl, sym, ap, ◌∙◌, subst, inl, inr}
 use Rattle.std.specs.Ordering.{is_eq}
 use Rattle.std.specs.List.Sorted.{IsPermutation}
 use Rattle.std.proofs.lemmas.Cmp.{tied_itself}
-use Rattle.sqlite_value.specs.declared.value.Value.{Value}
 use Rattle.sqlite_value.specs.declared.value.Value.TheVariants.{Null, Int}
-use Rattle.sqlite_value.specs.Order.{Row, column, value_cmp}
+use Rattle.sqlite_value.specs.Order.{Row}
 use Rattle.sqlite_value.proofs.OrderLemmas.{value_cmp_total}
-use Rattle.sqlite_trees.specs.Tree.{Trees, rowid, has_rowid}
-use Rattle.sqlite_trees.specs.View.{is_int}
-use Rattle.sqlite_schema.specs.Rules.{equal, Obeys}
+use Rattle.sqlite_trees.specs.Tree.{Trees, rowid}
+use Rattle.sqlite_schema.specs.Rules.{Obeys}
 use Rattle.sqlite_schema.specs.declared.schema.Keys.TheVariants.{Enforced}
 use Rattle.sqlite_rules.specs.Lists.{Has}
-use Rattle.sqlite_rules.specs.Edit.{IsNoIndex, row_at, taken_by, id_in, edit_of, without_all, Applies}
+use Rattle.sqlite_rules.specs.Edit.{row_at, edit_of, without_all}
 use Rattle.sqlite_rules.specs.Calls.{ids_of}
-use Rattle.sqlite_rules.specs.Action.{Work, works, Settles, Writes}
+use Rattle.sqlite_rules.specs.Action.{works, Settles, Writes}
 use Rattle.sqlite_rules.proofs.ListLemmas.{all_has}
-use Rattle.sqlite_rules.proofs.TableLemmas.{int_is}
 use Rattle.sqlite_rules.proofs.PlaceLemmas.{row_at_is}
 use Rattle.sqlite_rules.specs.declared.error.Rowids.TheVariants.{Given}
 use Rattle.sqlite.specs.Command.TheVariants.{Delete}
@@ -25,17 +22,15 @@ use Rattle.sqlite.specs.Query.{IsAnswer}
 use Rattle.sqlite_sql.specs.Program.{overlay}
 use Rattle.sqlite.specs.declared.error.Error.{Error}
 use Rattle.sqlite.specs.Listing.{understood}
-use Rattle.sqlite.specs.Effect.{Database}
 use Rattle.sqlite.specs.State.{State, Executes, ExecutesInside}
 use Rattle.sqlite_trees.specs.declared.store.Shape.TheVariants.{Table}
 use Rattle.sqlite_trees.proofs.TreeLemmas.{IsShaped-filter}
-use Rattle.sqlite_tied.specs.Compute.{everything}
-use Rattle.sqlite.proofs.Callers.{IsPlain, statement_of, runs_as, one_permutation}
+use Rattle.sqlite.proofs.Callers.{statement_of, runs_as, one_permutation}
 use Rattle.mqtt_sql_schema.specs.Tables.{keep_schema, will, sub, inbound, copy, session}
 use Rattle.mqtt_sql_write.specs.Content.{is_of, without, RemovesSession, AreShaped, IsShapedAt, IsReady, HasSession}
 use Rattle.mqtt_sql_write.proofs.Rows.{without_those}
 use Rattle.mqtt_sql_write.proofs.Commands.{over, program, equals, remove_session_is}
-use Rattle.mqtt_sql_write.proofs.Parts.{passes, shows, answers_over, Deleted, deleted}
+use Rattle.mqtt_sql_write.proofs.Parts.{passes, shows, answers_over, deleted}
 use Rattle.mqtt_sql_write.proofs.Cascade.{work}
 use Rattle.mqtt_sql_write.proofs.RemoveSession.{works_are, only_row}
 use Rattle.mqtt_sql_write.proofs.RemovesSession.{and_true, tied_ids, is_own, lost, cascades, remove_session_text, remove_session_plain}

@@ -1,41 +1,29 @@
 -- DELETE FROM session, put together.
-use Rattle.std.proofs.Common.{◌≡◌, ◌≢◌, ◌⊎◌, ℕ, zero, suc, ℤ, pos, ◌+◌, Bool, true, false, not, ◌&&◌, ◌||◌, cond, List, [], ◌∷◌, ◌++◌, filter, map, length, Option, Some, None, Ok, Err, Result, OnOk, refl, sym, ap, ◌∙◌, subst, inl, inr, IsTrue, append-nil, append_assoc, length-append, arith, codes, Equal}
-use Rattle.std.specs.List.{AllByRecursion, list_any, list_all}
+use Rattle.std.proofs.Common.{◌≡◌, ◌≢◌, ℕ, zero, suc, ℤ, Bool, true, false, not, ◌&&◌, List, [], ◌∷◌, filter, length, Ok, refl, sym, ap, ◌∙◌, length-append, arith, codes, Equal}
+use Rattle.std.specs.List.{list_any}
 use Rattle.std.specs.Ordering.{is_eq}
-use Rattle.std.specs.List.Sorted.{IsPermutation}
 use Rattle.std.proofs.lemmas.Cmp.{tied_itself, alike_right}
 use Rattle.sqlite_value.specs.declared.value.Value.{Value}
-use Rattle.sqlite_value.specs.declared.value.Value.TheVariants.{Null, Int}
+use Rattle.sqlite_value.specs.declared.value.Value.TheVariants.{Int}
 use Rattle.sqlite_value.specs.Keys.{plain, first_key}
-use Rattle.sqlite_value.specs.Order.{Row, column, value_cmp}
+use Rattle.sqlite_value.specs.Order.{Row, value_cmp}
 use Rattle.sqlite_value.proofs.OrderLemmas.{value_cmp_total}
-use Rattle.sqlite_trees.specs.Tree.{Trees, IsTable, rowid, has_rowid}
+use Rattle.sqlite_trees.specs.Tree.{Trees, rowid}
 use Rattle.sqlite_trees.specs.View.{is_int}
 use Rattle.sqlite_sql.specs.Ops.{binary}
 use Rattle.sqlite_schema.specs.Rules.{equal}
 use Rattle.sqlite_schema.specs.declared.schema.Keys.TheVariants.{Enforced}
 use Rattle.sqlite_rules.specs.Lists.{Has}
-use Rattle.sqlite_rules.specs.Edit.{IsNoIndex, row_at, taken_by, id_in, edit_of, Applies}
-use Rattle.sqlite_rules.specs.Calls.{ids_of}
-use Rattle.sqlite_rules.specs.Action.{Work, works, is_child_of, loses, Leads, Settles, Writes}
-use Rattle.sqlite_rules.proofs.ListLemmas.{all_has}
-use Rattle.sqlite_rules.proofs.TableLemmas.{int_is}
-use Rattle.sqlite_rules.proofs.PlaceLemmas.{row_at_is}
-use Rattle.sqlite_rules.specs.declared.error.Rowids.TheVariants.{Given}
-use Rattle.sqlite.specs.Command.TheVariants as command
-use Rattle.sqlite.specs.declared.error.Error.{Error}
+use Rattle.sqlite_rules.specs.Edit.{IsNoIndex}
+use Rattle.sqlite_rules.specs.Action.{is_child_of, loses, Leads, Settles}
 use Rattle.sqlite.specs.Listing.{understood}
-use Rattle.sqlite.specs.Effect.{Database}
-use Rattle.sqlite.specs.State.{State, Executes}
 use Rattle.sqlite_tied.specs.Compute.{everything}
-use Rattle.sqlite.proofs.Callers.{IsPlain, runs_as, one_permutation}
+use Rattle.sqlite.proofs.Callers.{IsPlain}
 use Rattle.mqtt_sql_schema.specs.Tables.{keep_schema, will, sub, inbound, copy, session}
 use Rattle.mqtt_sql_write.specs.Content.{is_of, without, RemovesSession, AreShaped}
-use Rattle.mqtt_sql_write.proofs.Rows.{without_those, filter_alike, equal_is}
-use Rattle.mqtt_sql_write.proofs.Commands.{over, program, equals, remove_session_is}
-use Rattle.mqtt_sql_write.proofs.Parts.{passes, shows, answers_over, Deleted, deleted}
-use Rattle.mqtt_sql_write.proofs.Cascade.{work, Stepped, stepped, will_childless, sub_childless, inbound_childless, copy_childless}
-use Rattle.mqtt_sql_write.proofs.RemoveSession.{equal_ids, children_are, works_are, only_row}
+use Rattle.mqtt_sql_write.proofs.Rows.{filter_alike, equal_is}
+use Rattle.mqtt_sql_write.proofs.Cascade.{work, stepped, will_childless, sub_childless, inbound_childless, copy_childless}
+use Rattle.mqtt_sql_write.proofs.RemoveSession.{equal_ids, children_are}
 
 pub and_true : (b : Bool) → (b && true) ≡ b
 and_true true = refl

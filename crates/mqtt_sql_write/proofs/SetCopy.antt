@@ -1,17 +1,16 @@
 -- UPDATE copy, from its text on.
-use Rattle.std.proofs.Common.{◌≡◌, ◌≢◌, ◌⊎◌, ℕ, zero, suc, ℤ, pos, ◌+◌, ◌==◌, Bool, true, false, not, ◌&&◌, cond, List, [], ◌∷◌, ◌++◌, filter, find, drop, map, option_map, Option, Some, None, IsSome, Ok, Err, Result, OnOk, refl, sym, ap, ◌∙◌, subst, inl, inr, IsTrue, arith, codes, true≢false, Equal}
+use Rattle.std.proofs.Common.{◌≡◌, ◌≢◌, ℕ, ℤ, pos, Bool, true, false, not, ◌&&◌, cond, List, [], ◌∷◌, filter, map, option_map, Option, Some, None, Ok, Err, Result, OnOk, refl, sym, ap, ◌∙◌, subst, inl, inr, arith, codes, true≢false, Equal}
 use Rattle.std.specs.Ordering.{is_eq}
 use Rattle.std.specs.List.Sorted.{IsPermutation}
 use Rattle.std.proofs.lemmas.Cmp.{tied_itself}
-use Rattle.std.proofs.lemmas.Bool.{eqb-true, eqb-false, eq-eqb, cases_Bool, false_from_ne_true, and_parts, and_from}
+use Rattle.std.proofs.lemmas.Bool.{false_from_ne_true, and_parts, and_from}
 use Rattle.sqlite_value.specs.declared.value.Value.{Value}
 use Rattle.sqlite_value.specs.declared.value.Value.TheVariants.{Null, Int}
 use Rattle.sqlite_value.specs.declared.keys.Collation.TheVariants.{Binary}
 use Rattle.sqlite_value.specs.Keys.{joined}
-use Rattle.sqlite_value.specs.Order.{Row, column, value_cmp}
+use Rattle.sqlite_value.specs.Order.{Row, value_cmp}
 use Rattle.sqlite_value.proofs.OrderLemmas.{value_cmp_total}
-use Rattle.sqlite_trees.specs.Tree.{Trees, rowid, has_rowid, put_row, without_rowid}
-use Rattle.sqlite_trees.specs.View.{is_int}
+use Rattle.sqlite_trees.specs.Tree.{Trees, rowid, has_rowid, without_rowid}
 use Rattle.sqlite_trees.specs.declared.store.Shape.TheVariants.{Table}
 use Rattle.sqlite_trees.proofs.TreeLemmas.{IsShaped-filter, IsShaped-put_row}
 use Rattle.sqlite_schema.specs.Names.{same_name}
@@ -19,10 +18,10 @@ use Rattle.sqlite_schema.specs.Rules.{equal, Obeys}
 use Rattle.sqlite_schema.specs.declared.schema.Keys.TheVariants.{Enforced}
 use Rattle.sqlite_rules.specs.Lists.{Has}
 use Rattle.sqlite_rules.specs.Cast.{cast_row}
-use Rattle.sqlite_rules.specs.Edit.{Edit, IsNoIndex, edit_of, edited, Applies, taken_by, without_all}
+use Rattle.sqlite_rules.specs.Edit.{Edit, IsNoIndex, edit_of, taken_by, without_all}
 use Rattle.sqlite_rules.specs.Calls.{ids_of}
 use Rattle.sqlite_rules.specs.Action.{works, Writes}
-use Rattle.sqlite_rules.proofs.ListLemmas.{all_has, has_found, has_filtered}
+use Rattle.sqlite_rules.proofs.ListLemmas.{all_has}
 use Rattle.sqlite_rules.proofs.TableLemmas.{int_is}
 use Rattle.sqlite_rules.proofs.PlaceLemmas.{given, tied_same}
 use Rattle.sqlite_rules.specs.declared.error.Rowids.TheVariants.{Given}
@@ -31,7 +30,7 @@ use Rattle.sqlite.specs.Term.{Term, col}
 use Rattle.sqlite.specs.Query.{IsAnswer}
 use Rattle.sqlite_sql.specs.Program.{overlay}
 use Rattle.sqlite.specs.Listing.{understood}
-use Rattle.sqlite.specs.State.{State, Executes, mode_of}
+use Rattle.sqlite.specs.State.{State, mode_of}
 use Rattle.sqlite.specs.Does.{Does}
 use Rattle.sqlite_tied.specs.Compute.{everything}
 use Rattle.sqlite.proofs.Callers.{IsPlain, statement_of, runs_as, one_permutation, one_step}
@@ -45,17 +44,16 @@ use Rattle.sqlite_rules.specs.Cast.{cast}
 use Rattle.sqlite_rules.proofs.ListLemmas.{some_from}
 use Rattle.sqlite_rules.proofs.RuleLemmas.{keeps_at}
 use Rattle.sqlite_rules.proofs.KeyLemmas.{agree_back, agree_chain}
-use Rattle.std.proofs.Common.{Less, Greater, Ordering, ◌||◌}
+use Rattle.std.proofs.Common.{Less, Greater, Ordering}
 use Rattle.sqlite.specs.declared.error.Error.{Error}
 use Rattle.sqlite.specs.State.{ExecutesInside}
 use Rattle.sqlite.specs.Values.{bound_value, or_null}
-use Rattle.sqlite.specs.Command.{Command}
 use Rattle.sqlite.proofs.Callers.{command_of}
 use Rattle.mqtt_sql_schema.specs.Tables.{keep_schema, copy}
-use Rattle.mqtt_sql_write.specs.Content.{is_of, IsShapedAt, AreShaped, IsReady}
+use Rattle.mqtt_sql_write.specs.Content.{IsShapedAt, IsReady}
 use Rattle.mqtt_sql_write.specs.Copy.{CopyColumns, set_copy, number_or_null, copy_row, is_copy, SetsCopy}
 use Rattle.mqtt_sql_write.proofs.Commands.{over, program, equals}
-use Rattle.mqtt_sql_write.proofs.Parts.{passes, shows, answers_over, Updated, updated}
+use Rattle.mqtt_sql_write.proofs.Parts.{passes, shows, answers_over, updated}
 use Rattle.mqtt_sql_write.proofs.RemoveSession.{equal_ids, only_row}
 use Rattle.mqtt_sql_write.proofs.RemovesSession.{not_tree}
 

@@ -4,7 +4,6 @@ use Rattle.sqlite_value.specs.declared.value.Value.{Value}
 use Rattle.sqlite_value.specs.declared.value.Value.TheVariants.{Null, Int, Text, Blob}
 use Rattle.sqlite_value.specs.Order.{Row}
 use Rattle.sqlite_trees.specs.Tree.{Trees, put_row, without_rowid}
-use Rattle.sqlite_rules.specs.Lists.{Has}
 use Rattle.sqlite_rules.specs.Edit.{IsNoIndex}
 use Rattle.mqtt_sql_schema.specs.Tables.{keep_schema}
 use Rattle.mqtt_sql_write.specs.Content.{is_of}

@@ -6,6 +6,7 @@ ghost use Rattle.sqlite.specs.Held.{state};
 ghost use Rattle.sqlite.specs.State.{HasCleanDisk, Survives, KeepsCommit};
 ghost use Rattle.mqtt_sql_write.specs.Content.{IsReady};
 ghost use Rattle.mqtt_sql_write.specs.Copy.{CopyColumns, copy_row, SetsCopy};
+ghost use Rattle.mqtt_sql_write.specs.Removal.{is_keyed, RemovesFrom};
 
 use crate::sessions::whole;
 use sqlite::{Alter, Error, Transaction, params};
@@ -49,5 +50,51 @@ pub fn set_copy<S: Alter>(
     tx.execute(
         "UPDATE copy SET pid = ?3, phase = ?4, rel = ?5 WHERE birth = ?1 AND place = ?2",
         params![birth, place, pid, u32::from(phase), rel],
+    )
+}
+
+/// Removes a copy.
+pub fn remove_copy<S: Alter>(
+    tx: &mut Transaction<'_, S>,
+    birth: u64,
+    place: u64,
+) -> Result<usize, Error>
+    requires birth { birth < 2 ^ 63 }
+    requires place { place < 2 ^ 63 }
+    ensures same_reference { tx.new.conn.ghost_name ≡ tx.old.conn.ghost_name }
+    ensures removed { HasCleanDisk (state S.Store tx.new.conn.now) → IsReady (state S.Store tx.old.conn.now)
+        → OnOk result (RemovesFrom 9 (is_keyed (pos birth) (pos place)) (state S.Store tx.old.conn.now).now.trees (state S.Store tx.new.conn.now).now.trees)
+        × OnOk result (IsReady (state S.Store tx.new.conn.now)) }
+    ensures kept { HasCleanDisk (state S.Store tx.new.conn.now) → KeepsCommit (state S.Store tx.old.conn.now) (state S.Store tx.new.conn.now) }
+    ensures survives { Survives (state S.Store tx.old.conn.now) (state S.Store tx.new.conn.now) (λ _. ⊥) }
+{
+    let birth = whole(birth);
+    let place = whole(place);
+    tx.execute(
+        "DELETE FROM copy WHERE birth = ?1 AND place = ?2",
+        params![birth, place],
+    )
+}
+
+/// Removes an open identifier.
+pub fn remove_open<S: Alter>(
+    tx: &mut Transaction<'_, S>,
+    birth: u64,
+    identifier: u64,
+) -> Result<usize, Error>
+    requires birth { birth < 2 ^ 63 }
+    requires identifier { identifier < 2 ^ 63 }
+    ensures same_reference { tx.new.conn.ghost_name ≡ tx.old.conn.ghost_name }
+    ensures removed { HasCleanDisk (state S.Store tx.new.conn.now) → IsReady (state S.Store tx.old.conn.now)
+        → OnOk result (RemovesFrom 7 (is_keyed (pos birth) (pos identifier)) (state S.Store tx.old.conn.now).now.trees (state S.Store tx.new.conn.now).now.trees)
+        × OnOk result (IsReady (state S.Store tx.new.conn.now)) }
+    ensures kept { HasCleanDisk (state S.Store tx.new.conn.now) → KeepsCommit (state S.Store tx.old.conn.now) (state S.Store tx.new.conn.now) }
+    ensures survives { Survives (state S.Store tx.old.conn.now) (state S.Store tx.new.conn.now) (λ _. ⊥) }
+{
+    let birth = whole(birth);
+    let identifier = whole(identifier);
+    tx.execute(
+        "DELETE FROM inbound WHERE birth = ?1 AND ident = ?2",
+        params![birth, identifier],
     )
 }

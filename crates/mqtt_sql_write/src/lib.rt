@@ -4,5 +4,5 @@
 mod copies;
 mod sessions;
 
-pub use copies::set_copy;
+pub use copies::{remove_copy, remove_open, set_copy};
 pub use sessions::remove_session;

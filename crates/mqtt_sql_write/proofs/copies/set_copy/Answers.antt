@@ -1,5 +1,5 @@
 use Rattle.std.proofs.Common.{arith, w64, pos}
-use Rattle.std.proofs.lemmas.Int.{to_z-of_z, ints}
+use Rattle.std.proofs.lemmas.Int.{to_z-of_z}
 use Rattle.sqlite_value.specs.declared.value.Value.TheVariants.{Int}
 use Rattle.sqlite.specs.Held.{state}
 use Rattle.mqtt_sql_schema.proofs.Kept.{keeps_either}

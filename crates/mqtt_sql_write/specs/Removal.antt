@@ -1,0 +1,16 @@
+-- What a DELETE by key leaves.
+use Rattle.std.specs.Prelude.{◌≡◌, ◌≢◌, ℕ, ℤ, Bool, not, ◌&&◌, filter}
+use Rattle.sqlite_value.specs.Order.{Row}
+use Rattle.sqlite_trees.specs.Tree.{Trees}
+use Rattle.sqlite_rules.specs.Edit.{IsNoIndex}
+use Rattle.mqtt_sql_schema.specs.Tables.{keep_schema}
+use Rattle.mqtt_sql_write.specs.Content.{is_of}
+
+-- the session's row of that number, in a table whose key is both
+abbrev pub is_keyed : ℤ → ℤ → Row → Bool
+is_keyed birth n r = is_of 1 birth r && is_of 2 n r
+
+-- these rows are out of the table, and all other rows are as they were
+pub record RemovesFrom (tree : ℕ) (gone : Row → Bool) (old new : Trees) : Type 0 where
+  pub rows : new tree ≡ filter (λ r. not (gone r)) (old tree)
+  pub others : (t : ℕ) → t ≢ tree → IsNoIndex keep_schema t → new t ≡ old t
