@@ -1,8 +1,8 @@
 -- A copy leaves: its place leaves the lines of its session.
-use Rattle.std.proofs.Common.{◌≡◌, ℕ, ◌<◌, ◌≤◌, Bool, true, false, cond, zero, suc, List, [], ◌∷◌, length, map, nat_eq, refl, ap, sym, ◌∙◌, arith, inl, inr}
+use Rattle.std.proofs.Common.{◌≡◌, ℕ, ◌<◌, ◌≤◌, Bool, true, false, cond, zero, suc, List, [], ◌∷◌, length, map, nat_eq, refl, ap, sym, ◌∙◌, arith}
 use Rattle.std.specs.Prelude.{Some, None, slice_get}
-use Rattle.std.proofs.lemmas.Bool.{cases_Bool, eq-eqb}
-use Rattle.mqtt_rows.specs.Order.{IsAbove, IsAscending, row_at, change_row}
+use Rattle.std.proofs.lemmas.Bool.{eq-eqb}
+use Rattle.mqtt_rows.specs.Order.{IsAbove, IsAscending, change_row}
 use Rattle.mqtt_rows.proofs.OrderLemmas.{apart}
 use Rattle.mqtt_rules.specs.State.{Line, is_of}
 use Rattle.mqtt_rules.specs.Deeds.{without_place}

@@ -1,6 +1,6 @@
 -- A line that is linked stands behind the others.
-use Rattle.std.proofs.Common.{◌≡◌, ℕ, ◌<◌, Bool, true, false, cond, ◌&&◌, suc, List, [], ◌∷◌, ◌++◌, length, nat_lt, refl, ap, sym, ◌∙◌}
-use Rattle.std.specs.Prelude.{Option, Some, None}
+use Rattle.std.proofs.Common.{◌≡◌, ℕ, ◌<◌, Bool, true, false, cond, ◌&&◌, suc, List, [], ◌∷◌, length, nat_lt, refl, ap, sym, ◌∙◌}
+use Rattle.std.specs.Prelude.{Some, None}
 use Rattle.std.proofs.lemmas.Bool.{ltb-true}
 use Rattle.mqtt_base.specs.declared.limits.TheConstants.{LINE_LIMIT, LAST_NUMBER}
 use Rattle.mqtt_rows.specs.Order.{IsBelow}

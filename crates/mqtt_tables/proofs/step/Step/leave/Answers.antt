@@ -1,4 +1,4 @@
-use Rattle.std.proofs.Common.{◌≡◌, ap, sym, ◌∙◌}
+use Rattle.std.proofs.Common.{ap, sym, ◌∙◌}
 use Rattle.mqtt_message.specs.Queue.{CopyRow}
 use Rattle.mqtt_rules.specs.declared.Report.TheVariants.{Ended}
 use Rattle.mqtt_tables.proofs.Doing.{on_ok}

@@ -1,4 +1,4 @@
-use Rattle.std.proofs.Common.{◌≡◌, suc, ap, sym, subst, ◌∙◌}
+use Rattle.std.proofs.Common.{suc, ap, sym, subst, ◌∙◌}
 use Rattle.mqtt_rows.specs.Order.{IsBelow}
 use Rattle.mqtt_rules.specs.State.{Line}
 use Rattle.mqtt_rules.specs.Deeds.{fresh_line}
