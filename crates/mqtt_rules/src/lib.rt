@@ -2,8 +2,8 @@
 //! those that the rules speak of and the code shares; `docs/RULES.md` tells the rules in words.
 #![tactic(auto)]
 
-mod copy_laws;
 mod content_laws;
+mod copy_laws;
 mod fit_laws;
 mod flight_laws;
 mod lawful_laws;
@@ -13,8 +13,8 @@ mod number_laws;
 mod routing_laws;
 mod topic_laws;
 
-pub use copy_laws::copies_keep_their_size;
 pub use content_laws::{contents_are_lawful, stored_copies_have_a_spelling};
+pub use copy_laws::copies_keep_their_size;
 pub use fit_laws::rows_always_fit;
 pub use flight_laws::identifiers_in_flight_are_unique;
 pub use lawful_laws::{lawful_records_may_be_opened, open_identifiers_are_one_list};
