@@ -1,2 +1,3 @@
 pub mod Delivering
 pub mod Retaining
+pub mod Choosing

@@ -9,6 +9,7 @@ mod ping;
 mod publishing;
 mod releasing;
 mod retaining;
+mod router;
 mod taking;
 
 pub use answering::{answer, open_by, publish_again};
@@ -19,4 +20,5 @@ pub use ping::pingreq;
 pub use publishing::publish;
 pub use releasing::pubrel;
 pub use retaining::retain;
+pub use router::{Router, Routing};
 pub use taking::{publish_refused, publish_taken};
