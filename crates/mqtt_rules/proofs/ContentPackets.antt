@@ -38,14 +38,14 @@ use Rattle.mqtt_rules.specs.Packets.{number_at, passed_on}
 use Rattle.mqtt_rules.specs.State.{session_named}
 use Rattle.mqtt_rules.specs.Connect.{auto, refusal, largest_of, least_packet_size, has_bad_topic, will_kept, will_of}
 use Rattle.mqtt_rules.specs.Inbound.{Means, meaning, resolved}
-use Rattle.mqtt_rules.specs.Contents.{IsTaken, IsTopic, IsContent, IsWilled}
+use Rattle.mqtt_rules.specs.Contents.{IsTaken, IsTopic, IsContentOf, IsWilledOf, Sizes, AreSizes}
 use Rattle.mqtt_rules.proofs.Meanings.{resolved_only, identified_only}
 use Rattle.mqtt_rules.proofs.PassedContents.{two, name_is, passed_may, passed_lawful, passed_fits, passed_short, block_within}
 
 -- ---- what is passed on
 
-pub published : (place : Place) (topic : List ℕ) (ps : List Prop) (payload : List ℕ) → IsContent place topic ps payload → IsContent places.Publish topic (passed_on ps) payload
-published place topic ps payload h =
+pub published : (sizes : Sizes) (place : Place) (topic : List ℕ) (ps : List Prop) (payload : List ℕ) → IsContentOf sizes place topic ps payload → IsContentOf sizes places.Publish topic (passed_on ps) payload
+published sizes place topic ps payload h =
     let less = block_within (passed_on ps) ps (passed_short ps) in
     let short = h.short in
     record {
@@ -103,19 +103,21 @@ publish_short p taken =
     let third = length-append (block p.properties) p.payload in
     omega (arith, short, framing, first, second, third)
 
-pub sent_content : (p : Publication) (table : AliasTable) (topic : List ℕ) → IsTaken (packets.Publish p) → AllByRecursion (λ e. IsTopic e.1) table.topics → meaning p table ≡ Means topic
-    → IsContent places.Publish topic (passed_on p.properties) p.payload
-sent_content p table topic taken h is =
+pub sent_content : (sizes : Sizes) → AreSizes sizes → (p : Publication) (table : AliasTable) (topic : List ℕ) → IsTaken (packets.Publish p) → AllByRecursion (λ e. IsTopic e.1) table.topics → meaning p table ≡ Means topic
+    → IsContentOf sizes places.Publish topic (passed_on p.properties) p.payload
+sent_content sizes are p table topic taken h is =
     let fits = taken.spelled.0 in
     let lawful = two (keeps_laws places.Publish p.properties) _ taken.spelled.2 in
     let alias = number_at TopicAlias p.properties in
     let found = resolved_only table p.topic alias topic (identified_only (has SubscriptionIdentifier p.properties) (resolved table p.topic alias) topic is) in
-    published places.Publish topic p.properties p.payload (record {
+    let size = publish_short p taken in
+    let most = are.bytes.0 in
+    published sizes places.Publish topic p.properties p.payload (record {
       named = resolved_topic table p.topic alias topic fits.1 h found;
       fits = fits.2.0;
       may = fits.2.1;
       lawful = lawful.0;
-      short = publish_short p taken;
+      short = omega (arith, size, most);
     })
 
 -- ---- CONNECT
@@ -148,9 +150,10 @@ will_short c taken =
     let fifth = length-append will last in
     omega (arith, short, framing, first, second, third, fourth, fifth)
 
-will_content : (w : Option WillAsked) → has_bad_topic w ≡ false → FitsOptional FitsWill w → lawful_will w ≡ true → length (optional will_field w) ≤ PACKET_LIMIT → IsWilled (option_map will_kept w)
-will_content None good fits lawful short = tt
-will_content (Some w) good fits lawful short =
+will_content : (sizes : Sizes) → AreSizes sizes → (w : Option WillAsked) → has_bad_topic w ≡ false → FitsOptional FitsWill w → lawful_will w ≡ true → length (optional will_field w) ≤ PACKET_LIMIT → IsWilledOf sizes (option_map will_kept w)
+will_content sizes are None good fits lawful short = tt
+will_content sizes are (Some w) good fits lawful short =
+    let most = are.bytes.0 in
     let first = length-append (block w.properties) (blob w.topic ++ blob w.payload) in
     let second = length-append (blob w.topic) (blob w.payload) in
     let third = length-append (two_bytes (length w.payload)) w.payload in
@@ -159,13 +162,13 @@ will_content (Some w) good fits lawful short =
       fits = fits.0.0;
       may = fits.0.1;
       lawful = lawful;
-      short = omega (arith, short, first, second, third);
+      short = omega (arith, short, first, second, third, most);
     }
 
-pub asked_content : (c : Greeting) (r : Records) → IsTaken (packets.Connect c) → refusal c r ≡ None → IsWilled (will_of c)
-asked_content c r taken e =
+pub asked_content : (sizes : Sizes) → AreSizes sizes → (c : Greeting) (r : Records) → IsTaken (packets.Connect c) → refusal c r ≡ None → IsWilledOf sizes (will_of c)
+asked_content sizes are c r taken e =
     let lawful = two (keeps_laws places.Connect c.properties) (lawful_will c.will) taken.spelled.2 in
-    will_content c.will (good_topic c r e) taken.spelled.0.3 lawful.1 (will_short c taken)
+    will_content sizes are c.will (good_topic c r e) taken.spelled.0.3 lawful.1 (will_short c taken)
 
 -- ---- SUBSCRIBE
 

@@ -6,7 +6,6 @@ use Rattle.std.proofs.lemmas.Bool.{cases_Bool, lt-ltb}
 use Rattle.std.proofs.lemmas.List.{length-append}
 use Rattle.mqtt_base.specs.Values.{varint}
 use Rattle.mqtt_base.proofs.Varints.{varint_sizes}
-use Rattle.mqtt_base.specs.declared.limits.TheConstants.{PACKET_LIMIT, SUBSCRIPTION_LIMIT}
 use Rattle.mqtt_props.specs.declared.place.Place.TheVariants.{Publish}
 use Rattle.mqtt_props.specs.declared.table.PropName.{PropName}
 use Rattle.mqtt_props.specs.declared.table.PropName.TheVariants.{MessageExpiryInterval, UserProperty, AuthenticationMethod, AuthenticationData}
@@ -18,7 +17,7 @@ use Rattle.mqtt_props.specs.Edits.{only, without}
 use Rattle.mqtt_props.proofs.EditLemmas.{FitsBlock-filter}
 use Rattle.mqtt_message.specs.PassedOn.{number_in, aged, identified, sent_after}
 use Rattle.mqtt_lawful.specs.Lawful.{IsIdentifier}
-use Rattle.mqtt_rules.specs.Contents.{AreIdentifiers}
+use Rattle.mqtt_rules.specs.Contents.{AreIdentifiersOf, Sizes}
 use Rattle.mqtt_rules.proofs.Copies.{each_append}
 use Rattle.mqtt_rules.proofs.PassedContents.{two, and_two, not_again, where_may, unless_found, name_is, parted, props_append, no_data}
 
@@ -215,8 +214,8 @@ identified_sizes (n ∷ ns) h =
     let whole = length-append (prop (identified n)) (props (map identified ns)) in
     omega (arith, rest, four, top, whole)
 
-pub sent_size : (waited : ℕ) (ids : List ℕ) (ps : List Prop) → AreIdentifiers ids → FitsBlock ps → length (props (sent_after waited ids ps)) ≤ length (props ps) + 5 * SUBSCRIPTION_LIMIT
-sent_size waited ids ps h fits =
+pub sent_size : (sizes : Sizes) (waited : ℕ) (ids : List ℕ) (ps : List Prop) → AreIdentifiersOf sizes ids → FitsBlock ps → length (props (sent_after waited ids ps)) ≤ length (props ps) + 5 * sizes.identifiers
+sent_size sizes waited ids ps h fits =
     let others = without UserProperty ps in
     let first = props_append (map (aged waited) others ++ map identified ids) (only UserProperty ps) in
     let second = props_append (map (aged waited) others) (map identified ids) in
@@ -228,10 +227,10 @@ sent_size waited ids ps h fits =
 
 -- ---- what is sent
 
-pub sent_fits : (waited : ℕ) (ids : List ℕ) (ps : List Prop) → AreIdentifiers ids → FitsBlock ps → length (props ps) ≤ PACKET_LIMIT → FitsBlock (sent_after waited ids ps)
-sent_fits waited ids ps h fits short =
+pub sent_fits : (sizes : Sizes) (waited : ℕ) (ids : List ℕ) (ps : List Prop) → AreIdentifiersOf sizes ids → FitsBlock ps → length (props ps) + 5 * sizes.identifiers < 2 ^ 28 → FitsBlock (sent_after waited ids ps)
+sent_fits sizes waited ids ps h fits short =
     let others = without UserProperty ps in
-    let size = sent_size waited ids ps h fits in
+    let size = sent_size sizes waited ids ps h fits in
     record {
       each = each_append IsProp (map (aged waited) others ++ map identified ids) (only UserProperty ps)
           (each_append IsProp (map (aged waited) others) (map identified ids) (each_aged waited others (FitsBlock-filter (λ p. not (is_named UserProperty p)) ps fits).each) (each_identified ids h.each))
@@ -239,20 +238,20 @@ sent_fits waited ids ps h fits short =
       short = omega (arith, size, short);
     }
 
-all_sent : (test : Prop → Bool) (waited : ℕ) (ids : List ℕ) (ps : List Prop) → ((p : Prop) → test p ≡ true → test (aged waited p) ≡ true) → ((n : ℕ) → IsIdentifier (Some n) → test (identified n) ≡ true)
-    → AreIdentifiers ids → list_all test ps ≡ true → list_all test (sent_after waited ids ps) ≡ true
-all_sent test waited ids ps kept is h all =
+all_sent : (sizes : Sizes) (test : Prop → Bool) (waited : ℕ) (ids : List ℕ) (ps : List Prop) → ((p : Prop) → test p ≡ true → test (aged waited p) ≡ true) → ((n : ℕ) → IsIdentifier (Some n) → test (identified n) ≡ true)
+    → AreIdentifiersOf sizes ids → list_all test ps ≡ true → list_all test (sent_after waited ids ps) ≡ true
+all_sent sizes test waited ids ps kept is h all =
     let others = without UserProperty ps in
     all_append test (map (aged waited) others ++ map identified ids) (only UserProperty ps)
     (all_append test (map (aged waited) others) (map identified ids) (all_aged test waited others kept (all_filter test (λ p. not (is_named UserProperty p)) ps all)) (all_identified test ids is h.each))
     (all_filter test (is_named UserProperty) ps all)
 
-pub sent_may : (waited : ℕ) (ids : List ℕ) (ps : List Prop) → AreIdentifiers ids → all_may_stand Publish ps ≡ true → all_may_stand Publish (sent_after waited ids ps) ≡ true
-sent_may waited ids ps h may =
-    all_sent (λ p. may_stand p.name Publish) waited ids ps (λ p q. ap (λ (n : PropName). may_stand n Publish) (aged_name waited p) ∙ q) (λ n q. refl) h may
+pub sent_may : (sizes : Sizes) (waited : ℕ) (ids : List ℕ) (ps : List Prop) → AreIdentifiersOf sizes ids → all_may_stand Publish ps ≡ true → all_may_stand Publish (sent_after waited ids ps) ≡ true
+sent_may sizes waited ids ps h may =
+    all_sent sizes (λ p. may_stand p.name Publish) waited ids ps (λ p q. ap (λ (n : PropName). may_stand n Publish) (aged_name waited p) ∙ q) (λ n q. refl) h may
 
-pub sent_lawful : (waited : ℕ) (ids : List ℕ) (ps : List Prop) → AreIdentifiers ids → all_may_stand Publish ps ≡ true → is_lawful Publish ps ≡ true → is_lawful Publish (sent_after waited ids ps) ≡ true
-sent_lawful waited ids ps h may lawful =
+pub sent_lawful : (sizes : Sizes) (waited : ℕ) (ids : List ℕ) (ps : List Prop) → AreIdentifiersOf sizes ids → all_may_stand Publish ps ≡ true → is_lawful Publish ps ≡ true → is_lawful Publish (sent_after waited ids ps) ≡ true
+sent_lawful sizes waited ids ps h may lawful =
     let sent = sent_after waited ids ps in
     let laws = two (none_repeats Publish ps) (values_are_lawful ps) lawful in
     let each = two (list_all (λ p. is_lawful_value p.name p.value) ps) (has_method_for_data ps) laws.1 in
@@ -262,5 +261,5 @@ sent_lawful waited ids ps h may lawful =
     let once : none_repeats Publish (others ++ more) ≡ true = once_sent waited (λ p. not (is_named UserProperty p)) ps more laws.0 repeating in
     and_two (none_repeats Publish sent) (values_are_lawful sent) (subst (λ (xs : List Prop). none_repeats Publish xs ≡ true) (sym (append_assoc others (map identified ids) (only UserProperty ps))) once)
     (and_two (list_all (λ p. is_lawful_value p.name p.value) sent) (has_method_for_data sent)
-    (all_sent (λ p. is_lawful_value p.name p.value) waited ids ps (aged_value waited) (λ n q. lt-ltb 0 n q.0) h each.0)
-    (no_data (has AuthenticationData sent) (has AuthenticationMethod sent) (no_authentication sent (sent_may waited ids ps h may))))
+    (all_sent sizes (λ p. is_lawful_value p.name p.value) waited ids ps (aged_value waited) (λ n q. lt-ltb 0 n q.0) h each.0)
+    (no_data (has AuthenticationData sent) (has AuthenticationMethod sent) (no_authentication sent (sent_may sizes waited ids ps h may))))

@@ -1,15 +1,18 @@
 use Rattle.mqtt_rules.proofs.ContentLaw.{step_contents, opening_contents}
-use Rattle.mqtt_rules.proofs.SpelledContents.{retained_message, will_message}
+use Rattle.mqtt_rules.proofs.SpelledContents.{packets_are, rows_are, retained_message, will_message}
 use Rattle.mqtt_rules.proofs.content_laws.contents_are_lawful.Goals as goal
 
 pub returns-clause-step : goal.returns-clause-step
-returns-clause-step c = step_contents
+returns-clause-step c = λ sizes limits choice now call b are. step_contents sizes are limits choice now call b
 
 pub returns-clause-opening : goal.returns-clause-opening
-returns-clause-opening c = opening_contents
+returns-clause-opening c = λ sizes limits choice now r are. opening_contents sizes are limits choice now r
 
 pub returns-clause-nothing : goal.returns-clause-nothing
-returns-clause-nothing c = record { sessions = tt; retained = tt }
+returns-clause-nothing c = λ sizes. record { sessions = tt; retained = tt }
+
+pub returns-clause-sizes : goal.returns-clause-sizes
+returns-clause-sizes c = (packets_are, rows_are)
 
 pub returns-clause-retained : goal.returns-clause-retained
 returns-clause-retained c = retained_message
