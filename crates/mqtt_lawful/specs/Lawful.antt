@@ -11,7 +11,7 @@ use Rattle.mqtt_base.specs.declared.session.Qos.{Qos}
 use Rattle.mqtt_base.specs.declared.session.Qos.TheVariants.{AtMostOnce, AtLeastOnce, ExactlyOnce}
 use Rattle.mqtt_props.specs.declared.place.Place.{Place}
 use Rattle.mqtt_props.specs.declared.place.Place.TheVariants as places
-use Rattle.mqtt_props.specs.Properties.{Prop, block}
+use Rattle.mqtt_props.specs.Properties.{Prop, FitsBlock, block}
 use Rattle.mqtt_props.specs.Laws.{all_may_stand, is_lawful}
 use Rattle.mqtt_topic.specs.Levels.{slash}
 use Rattle.mqtt_topic.specs.Names.{IsTopicName}
@@ -83,12 +83,22 @@ pub record IsClient (autos : ℕ) (client : List ℕ) : Type 0 where
 abbrev pub row_len : List ℕ → List Prop → List ℕ → ℕ
 row_len topic properties payload = length topic + length (block properties) + length payload
 
--- a topic name, and properties that may stand in this packet and keep their laws, in no more bytes than a row has
+-- a topic name, and properties that have a spelling, may stand in this packet and keep their laws, in no more bytes than
+-- a row has
 pub record IsMessage (place : Place) (name : List ℕ) (properties : List Prop) (payload : List ℕ) : Type 0 where
+  pub text : FitsText name
+  pub spelled : FitsBlock properties
   pub may : IsTrue (all_may_stand place properties)
   pub lawful : IsTrue (is_lawful place properties)
   pub short : row_len name properties payload ≤ ROW_LIMIT
   pub topic : IsTopicName name
+
+-- properties that have a spelling, no longer than a row, may stand in this packet and keep their laws
+pub record AreProperties (place : Place) (properties : List Prop) : Type 0 where
+  pub spelled : FitsBlock properties
+  pub short : length (block properties) ≤ ROW_LIMIT
+  pub may : IsTrue (all_may_stand place properties)
+  pub lawful : IsTrue (is_lawful place properties)
 
 -- a Will, if there is one (3.1.2.5)
 abbrev pub HasLawfulWill : Option Will → Type 0
@@ -160,12 +170,13 @@ pub record IsCopyFor (last : Last) (birth : ℕ) (row : CopyRow) : Type 0 where
   pub publication : IsUpTo last.publications row.copy.id.publication
   pub arrived : row.copy.content.arrived ≤ last.moment
 
--- a copy in the queue of the session with this birth
+-- a copy in the queue of the session with this birth; what is sent of it, and what was passed on to it
 pub record IsLawfulCopy (last : Last) (birth : ℕ) (row : CopyRow) : Type 0 where
   pub due : IsCopyFor last birth row
   pub phase : IsPhase row.copy.qos row.phase
   pub cause : IsCause last.subscribes row.copy.id.cause
   pub message : IsMessage places.Publish row.copy.content.topic (first_sent row.copy) row.copy.content.payload
+  pub passed : AreProperties places.Publish row.copy.content.properties
 
 -- no two copies have the same packet identifier, order of release or identity
 pub record IsLawfulQueue (last : Last) (birth : ℕ) (queue : List CopyRow) : Type 0 where

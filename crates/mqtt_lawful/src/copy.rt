@@ -4,7 +4,7 @@ ghost use Rattle.mqtt_props.specs.declared.place.Place.TheVariants.{Publish};
 ghost use Rattle.mqtt_message.specs.Queue.{first_sent};
 ghost use Rattle.mqtt_lawful.specs.Lawful.{IsCause, IsCopyFor, IsGroup, IsMessage, IsPhase};
 
-use crate::message::is_message;
+use crate::message::{are_properties, is_message};
 use crate::rows::{Last, Lawful, is_up_to};
 use mqtt_base::{Cause, LAST_NUMBER, Phase, Qos, Text};
 use mqtt_message::{CopyRow, MessageCopy};
@@ -111,6 +111,7 @@ impl Lawful for CopyRow {
             is_copy_for(self, last, birth)
                 && is_phase(copy.qos, self.phase())
                 && is_cause(alloc, &copy.id.cause, last.subscribes)?
+                && are_properties(Place::Publish, &copy.content.properties.lend())
                 && is_sent(alloc, copy)?,
         )
     }

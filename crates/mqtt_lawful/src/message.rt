@@ -1,7 +1,9 @@
 //! Topics, properties and payloads that a row may have (3.1.3, 3.3).
 ghost use Rattle.std.specs.Prelude.{◌↔◌, ◌≤◌, IfOk, IsTrue};
+ghost use Rattle.mqtt_base.specs.Values.{FitsText};
+ghost use Rattle.mqtt_props.specs.Properties.{FitsBlock};
 ghost use Rattle.mqtt_topic.specs.Names.{IsTopicName};
-ghost use Rattle.mqtt_lawful.specs.Lawful.{HasLawfulWill, IsMessage, row_len};
+ghost use Rattle.mqtt_lawful.specs.Lawful.{AreProperties, HasLawfulWill, IsMessage, row_len};
 
 use bytes::Bytes;
 use mqtt_base::Text;
@@ -15,7 +17,9 @@ pub const ROW_LIMIT: usize = 200_000;
 
 /// Whether topic, properties and payload have no more bytes than a row has.
 fn is_short(topic: &Text, properties: &PropsRef<'_>, payload: &Bytes) -> bool
-    ensures { IsTrue result ↔ (row_len topic.now properties.now payload.now ≤ ROW_LIMIT) }
+    ensures exact { IsTrue result ↔ (row_len topic.now properties.now payload.now ≤ ROW_LIMIT) }
+    ensures text { FitsText topic.now }
+    ensures spelled { FitsBlock properties.now }
 {
     let payload = payload.len();
     let others = topic.as_str().len() + properties.block_len();
@@ -48,6 +52,15 @@ pub(crate) fn is_message(
 {
     let is_block = properties.may_stand_in(place) && properties.is_lawful(place);
     Ok(is_block && is_short(topic, properties, payload) && is_topic(topic)?)
+}
+
+/// Whether properties of a row may stand in a packet of this kind, and keep its laws.
+pub(crate) fn are_properties(place: Place, properties: &PropsRef<'_>) -> bool
+    ensures { IsTrue result ↔ AreProperties place properties.now }
+{
+    properties.block_len() <= ROW_LIMIT
+        && properties.may_stand_in(place)
+        && properties.is_lawful(place)
 }
 
 /// Whether a Will keeps its rules, if there is one.

@@ -73,6 +73,7 @@ pub mod LinePrepared
 pub mod LineSteps
 pub mod CopySizes
 pub mod LawfulRecords
+pub mod LawfulContents
 pub mod OpenLists
 pub mod PassedContents
 pub mod ContentRows

@@ -225,6 +225,16 @@ sent_size sizes waited ids ps h fits =
     let whole = parted UserProperty ps in
     omega (arith, first, second, same, numbers, few, whole)
 
+-- what is sent is no shorter than what was passed on
+pub sent_more : (waited : ℕ) (ids : List ℕ) (ps : List Prop) → FitsBlock ps → length (props ps) ≤ length (props (sent_after waited ids ps))
+sent_more waited ids ps fits =
+    let others = without UserProperty ps in
+    let first = props_append (map (aged waited) others ++ map identified ids) (only UserProperty ps) in
+    let second = props_append (map (aged waited) others) (map identified ids) in
+    let same = aged_sizes waited others (FitsBlock-filter (λ p. not (is_named UserProperty p)) ps fits).each in
+    let whole = parted UserProperty ps in
+    omega (arith, first, second, same, whole)
+
 -- ---- what is sent
 
 pub sent_fits : (sizes : Sizes) (waited : ℕ) (ids : List ℕ) (ps : List Prop) → AreIdentifiersOf sizes ids → FitsBlock ps → length (props ps) + 5 * sizes.identifiers < 2 ^ 28 → FitsBlock (sent_after waited ids ps)

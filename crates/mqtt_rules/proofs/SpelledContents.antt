@@ -3,8 +3,6 @@ use Rattle.std.proofs.Common.{ℕ, ◌+◌, ◌*◌, ◌≤◌, ◌<◌, ◌^◌
 use Rattle.std.proofs.lemmas.List.{length-append}
 use Rattle.mqtt_base.specs.Values.{varint}
 use Rattle.mqtt_base.proofs.Varints.{varint_sizes}
-use Rattle.mqtt_base.specs.declared.limits.TheConstants.{PACKET_LIMIT, SUBSCRIPTION_LIMIT}
-use Rattle.mqtt_lawful.specs.declared.message.TheConstants.{ROW_LIMIT}
 use Rattle.mqtt_base.specs.declared.session.Qos.{Qos}
 use Rattle.mqtt_base.specs.declared.session.Qos.TheVariants.{AtMostOnce, AtLeastOnce, ExactlyOnce}
 use Rattle.mqtt_props.specs.declared.place.Place.TheVariants as places
@@ -73,7 +71,10 @@ copy_message copy h =
     let ps = copy.content.properties in
     let size = block_size of_packets packets_are copy h in
     let topic = h.content.named.fits.0 in
+    let short = props_short of_packets.bytes ps (length copy.content.payload) h.content.short in
     record {
+      text = h.content.named.fits;
+      spelled = sent_fits of_packets 0 copy.identifiers ps h.identifiers h.content.fits (omega (arith, short));
       may = sent_may of_packets 0 copy.identifiers ps h.identifiers h.content.may;
       lawful = sent_lawful of_packets 0 copy.identifiers ps h.identifiers h.content.may h.content.lawful;
       short = omega (arith, size, topic);
@@ -85,7 +86,7 @@ content_message : (place : Place) (topic : List ℕ) (ps : List Prop) (payload :
 content_message place topic ps payload h =
     let short = h.short in
     let long = h.named.fits.0 in
-    record { may = h.may; lawful = h.lawful; short = omega (arith, short, long); topic = h.named.name }
+    record { text = h.named.fits; spelled = h.fits; may = h.may; lawful = h.lawful; short = omega (arith, short, long); topic = h.named.name }
 
 pub retained_message : (content : Content) → IsPublishedOf of_packets content → IsMessage places.Publish content.topic content.properties content.payload
 retained_message content h = content_message places.Publish content.topic content.properties content.payload h

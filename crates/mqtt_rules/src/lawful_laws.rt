@@ -6,14 +6,17 @@ ghost use Rattle.mqtt_lawful.specs.Lawful.{IsLawful};
 ghost use Rattle.mqtt_rows.specs.Order.{IsTable};
 ghost use Rattle.mqtt_records.specs.Session.{number_of};
 ghost use Rattle.mqtt_records.specs.declared.records.Records.{Records};
+ghost use Rattle.mqtt_rules.specs.Contents.{HasLawfulContents};
 ghost use Rattle.mqtt_rules.specs.Laws.{IsCoherent};
 ghost use Rattle.mqtt_rules.specs.Numbers.{HasAcceptedNumbers};
 
 /// Lawful records have what the laws of steps and openings ask of those that a broker begins with: they
-/// are coherent, and each copy and retained message is of a publication that was accepted (4.1).
+/// are coherent, each copy and retained message is of a publication that was accepted, and what messages
+/// hold is lawful (4.1).
 pub fn lawful_records_may_be_opened()
     ensures coherent { (r : Records) → IsLawful r → IsCoherent r }
     ensures accepted { (r : Records) → IsLawful r → HasAcceptedNumbers r }
+    ensures contents { (r : Records) → IsLawful r → HasLawfulContents r }
 {}
 
 /// The open identifiers that are stored of a session are such as its handshakes keep: both are the

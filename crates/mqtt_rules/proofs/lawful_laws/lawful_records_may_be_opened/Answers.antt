@@ -1,3 +1,4 @@
+use Rattle.mqtt_rules.proofs.LawfulContents.{lawful_contents}
 use Rattle.mqtt_rules.proofs.LawfulRecords.{lawful_coherent, lawful_accepted}
 use Rattle.mqtt_rules.proofs.lawful_laws.lawful_records_may_be_opened.Goals as goal
 
@@ -6,3 +7,6 @@ returns-clause-coherent c = lawful_coherent
 
 pub returns-clause-accepted : goal.returns-clause-accepted
 returns-clause-accepted c = lawful_accepted
+
+pub returns-clause-contents : goal.returns-clause-contents
+returns-clause-contents c = lawful_contents
