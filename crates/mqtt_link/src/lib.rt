@@ -1,0 +1,10 @@
+//! The edge of the broker: connections whose calls never wait, and the bytes that wait to go out (MQTT 5.0, 4.2).
+#![tactic(auto)]
+
+mod link;
+mod sockets;
+mod waiting;
+
+pub use link::{Got, Link};
+pub use sockets::NetLink;
+pub use waiting::{WAITING_LIMIT, Waiting, WaitingFault};

@@ -1,0 +1,44 @@
+//! Connections whose calls never wait (MQTT 5.0, 4.2).
+ghost use Rattle.std.specs.Prelude.{◌≡◌, ℕ, List, Option, None, length};
+ghost use Rattle.mqtt_link.specs.Links.{GivesAtMost, handed, and_then};
+
+/// What a call on a link gives.
+#[derive(Clone, Copy, Debug, PartialEq, Eq)]
+pub enum Got<T> {
+    /// What was asked for.
+    Given(T),
+    /// Nothing now; the call would have to wait.
+    Nothing,
+    /// The other side closed, and nothing comes any more.
+    End,
+    /// The connection, or the listener, failed.
+    Failure,
+}
+
+/// A listener and its connections, none of whose calls waits. A link that tells its bytes has `was_read` and
+/// `written`; of another they say nothing.
+pub trait Link {
+    /// A connection.
+    type Peer: Drop;
+
+    /// The bytes that reads from a connection have given, if they are told.
+    ghost was_read: { Self.Peer → Option (List ℕ) } = { λ _. None };
+
+    /// The bytes that writes to a connection have taken, if they are told.
+    ghost written: { Self.Peer → Option (List ℕ) } = { λ _. None };
+
+    /// The next connection that was opened.
+    fn accept(&mut self) -> Got<Self::Peer>;
+
+    /// Reads at most as many bytes as the buffer has, and puts them at its front.
+    fn read(&mut self, peer: &mut Self::Peer, buffer: &mut [u8]) -> Got<usize>
+        ensures bound { GivesAtMost result (length buffer.new) }
+        ensures bytes { was_read peer.new ≡ and_then (was_read peer.old) (handed result buffer.new) }
+        ensures kept { written peer.new ≡ written peer.old };
+
+    /// Writes a beginning of the bytes.
+    fn write(&mut self, peer: &mut Self::Peer, bytes: &[u8]) -> Got<usize>
+        ensures bound { GivesAtMost result (length bytes.now) }
+        ensures bytes { written peer.new ≡ and_then (written peer.old) (handed result bytes.now) }
+        ensures kept { was_read peer.new ≡ was_read peer.old };
+}
