@@ -9,3 +9,6 @@ pub mod LeftCopies
 pub mod Links
 pub mod Resumed
 pub mod Begun
+pub mod Filters
+pub mod FiltersKept
+pub mod FilterBacks

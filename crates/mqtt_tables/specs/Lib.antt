@@ -3,3 +3,4 @@ pub mod Undoing
 pub mod Stepping
 pub mod Doing
 pub mod Backs
+pub mod Subscribing

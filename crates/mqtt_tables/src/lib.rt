@@ -17,6 +17,7 @@ mod resuming;
 mod retained;
 mod sessions;
 mod step;
+mod subscribing;
 mod tables;
 mod undo;
 
@@ -24,4 +25,5 @@ pub use call::{EngineError, Outcome, commit};
 pub use fault::StepFault;
 pub use line::{LineChange, LineState};
 pub use step::Step;
+pub use subscribing::{filters_stay_apart, subscription_to};
 pub use undo::Undo;
