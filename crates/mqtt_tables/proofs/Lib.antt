@@ -9,3 +9,5 @@ pub mod LeftCopies
 pub mod Links
 pub mod Resumed
 pub mod Begun
+pub mod AliasDeeds
+pub mod NumbersBefore
