@@ -12,3 +12,5 @@ pub mod Begun
 pub mod Filters
 pub mod FiltersKept
 pub mod FilterBacks
+pub mod AliasDeeds
+pub mod NumbersBefore

@@ -54,3 +54,15 @@ on_ok_line n part change l s new found is changed = record {
 
 pub on_no_line : (n : ℕ) (part : LinePart) (s : Stepping) → row_at line_number n s.broker.lines ≡ None → Did (always (On n part ∷ [])) s s
 on_no_line n part s none = record { is = did_lines n part s.broker.lines s (sym (on_line_none s.broker.now n part s.broker.lines none)) }
+
+-- a line changed as its deed has it
+on_line_is : (moment n : ℕ) (part : LinePart) (ls : List Line) → change_row line_number n (line_after moment part) ls ≡ on_line moment n part ls
+on_line_is moment n part [] = refl
+on_line_is moment n part (x ∷ xs) = ap (λ (ys : List Line). cond (nat_eq x.number n) (line_after moment part x ∷ xs) (x ∷ ys)) (on_line_is moment n part xs)
+
+pub on_line_ok : (n : ℕ) (part : LinePart) (s new : Stepping)
+    → new ≡ with_broker (with_lines (change_row line_number n (line_after s.broker.now part) s.broker.lines) s.broker) s
+    → Did (always (On n part ∷ [])) s new
+on_line_ok n part s new changed = record {
+  is = changed ∙ did_lines n part (change_row line_number n (line_after s.broker.now part) s.broker.lines) s (on_line_is s.broker.now n part s.broker.lines);
+}

@@ -1,9 +1,11 @@
 -- The tables under way: what they were when the step began, and what its changes made of them.
-use Rattle.std.specs.Prelude.{ℕ, List, [], ◌∷◌}
+use Rattle.std.specs.Prelude.{ℕ, List, [], ◌∷◌, Option, Some, None}
 use Rattle.mqtt_base.specs.declared.limits.TheConstants.{LINE_LIMIT, SESSION_LIMIT}
 use Rattle.mqtt_rows.specs.Order.{put_row, remove_row, change_row}
 use Rattle.mqtt_records.specs.declared.records.Records.{Records}
 use Rattle.mqtt_records.specs.declared.change.Change.{Change}
+use Rattle.mqtt_records.specs.declared.change.Change.TheVariants.{SetCounter}
+use Rattle.mqtt_records.specs.declared.change.Counter.TheVariants.{Publications, Subscribes}
 use Rattle.mqtt_records.specs.Records.{changed}
 use Rattle.mqtt_records.specs.Session.{birth_of}
 use Rattle.mqtt_rules.specs.State.{Line, Broker}
@@ -70,3 +72,27 @@ become b c = record c { broker = b }
 -- nothing is to be taken back
 abbrev pub settled : Broker → Changing
 settled b = record { start = b; broker = b }
+
+-- ---- numbers before the step
+
+-- what a change makes the number of the last publication, and of the last granted filter, if it sets it
+abbrev pub publications_set : Undo → Option ℕ
+publications_set (Make (SetCounter Publications value)) = Some value
+publications_set u = None
+
+abbrev pub subscribes_set : Undo → Option ℕ
+subscribes_set (Make (SetCounter Subscribes value)) = Some value
+subscribes_set u = None
+
+-- the change that is taken back last decides
+abbrev pub set_or : Option ℕ → ℕ → ℕ
+set_or None n = n
+set_or (Some value) n = value
+
+abbrev pub publications_before : List Undo → ℕ → ℕ
+publications_before [] last = last
+publications_before (u ∷ us) last = set_or (publications_set u) (publications_before us last)
+
+abbrev pub subscribes_before : List Undo → ℕ → ℕ
+subscribes_before [] last = last
+subscribes_before (u ∷ us) last = set_or (subscribes_set u) (subscribes_before us last)

@@ -2,6 +2,7 @@
 //! store, and taken back whole where the step isn't made (MQTT 5.0, 4.1).
 #![tactic(auto)]
 
+mod aliasing;
 mod beginning;
 mod call;
 mod entering;
@@ -15,7 +16,9 @@ mod numbers;
 mod outputs;
 mod resuming;
 mod retained;
+mod retained_looks;
 mod sessions;
+mod started;
 mod step;
 mod subscribing;
 mod tables;

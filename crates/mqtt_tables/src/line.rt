@@ -1,12 +1,15 @@
 //! A line: one connection, with what holds on it alone (MQTT 5.0, 3.1.2, 3.3.2.3.4).
-ghost use Rattle.std.specs.Prelude.{◌≡◌};
+ghost use Rattle.std.specs.Prelude.{◌≡◌, Some, IfOk, OnOk, OnErr};
+ghost use Rattle.mqtt_topic.specs.Aliases.{IsInRange, after_resolve, topic_of};
+ghost use Rattle.mqtt_topic.specs.Names.{IsTopicName};
 ghost use Rattle.mqtt_rules.specs.State.{is_of};
 ghost use Rattle.mqtt_rules.specs.Deeds.{fresh_line};
+ghost use Rattle.mqtt_tables.specs.Lines.{alias_restored, with_alias};
 
 use mqtt_base::ALIAS_LIMIT;
 use mqtt_records::{Editable, Row};
-use mqtt_topic::Aliases;
-use std::alloc::Global;
+use mqtt_topic::{Aliases, TopicName};
+use std::alloc::{AllocError, Global};
 use std::marker::Model;
 
 /// A line.
@@ -37,6 +40,37 @@ impl Model for LineState {
       aliases = a.aliases.table;
       went = a.went.items;
     } };
+}
+
+/// Makes an alias stand for a topic, and gives the one that it stood for.
+fn set_in(
+    aliases: &mut Aliases,
+    alias: u16,
+    topic: &TopicName,
+) -> Result<Option<TopicName>, AllocError>
+    requires { IsInRange aliases.old.table.max alias }
+    ensures before { IfOk result (λ before. before ≡ topic_of alias aliases.old.table.topics) }
+    ensures ok { OnOk result (aliases.new.table
+        ≡ after_resolve aliases.old.table topic.now (Some alias)) }
+    ensures named { OnOk result (IsTopicName topic.now) }
+    ensures err { OnErr result (aliases.new.table ≡ aliases.old.table) }
+{
+    if aliases.make_room().is_err() {
+        return Err(AllocError);
+    }
+    match topic.try_clone() {
+        Ok(topic) => Ok(aliases.set(alias, topic)),
+        Err(_) => Err(AllocError),
+    }
+}
+
+/// Makes an alias that stands for a topic stand for what it stood for before.
+fn restore_in(aliases: &mut Aliases, alias: u16, before: Option<TopicName>)
+    ensures { aliases.new.table ≡ alias_restored alias before aliases.old.table }
+{
+    if aliases.look(alias).is_some() {
+        aliases.restore(alias, before);
+    }
 }
 
 impl LineState {
@@ -115,6 +149,21 @@ impl LineState {
         &self.aliases
     }
 
+    /// Makes an alias stand for a topic, and gives the one that it stood for. Want of memory changes nothing.
+    pub(crate) fn set_alias(
+        &mut self,
+        alias: u16,
+        topic: &TopicName,
+    ) -> Result<Option<TopicName>, AllocError>
+        requires { IsInRange self.old.aliases.max alias }
+        ensures before { IfOk result (λ before. before ≡ topic_of alias self.old.aliases.topics) }
+        ensures ok { OnOk result (self.new ≡ with_alias alias topic.now self.old) }
+        ensures named { OnOk result (IsTopicName topic.now) }
+        ensures err { OnErr result (self.new ≡ self.old) }
+    {
+        set_in(&mut self.aliases, alias, topic)
+    }
+
     /// The places of the copies whose PUBLISH went out on it. Takes no memory.
     pub fn went(&self) -> &[u64]
         ensures { result.now ≡ self.now.went }
@@ -149,6 +198,11 @@ pub enum LineChange {
     SetWent {
         went: Vec<u64>,
     },
+    /// An alias that stands for a topic stands for what it stood for before.
+    RestoreAlias {
+        alias: u16,
+        before: Option<TopicName>,
+    },
 }
 
 impl Editable for LineState {
@@ -173,6 +227,9 @@ impl Editable for LineState {
                 self.largest = largest;
             }
             LineChange::SetWent { went } => self.went = went,
+            LineChange::RestoreAlias { alias, before } => {
+                restore_in(&mut self.aliases, alias, before);
+            }
         }
     }
 

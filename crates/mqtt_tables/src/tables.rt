@@ -1,20 +1,24 @@
 //! What is stored and the lines, changed in place, with a journal that takes the changes back.
 ghost use Rattle.std.specs.Prelude.{◌≡◌, ◌≤◌, [], Some, length, option_copied, IfOk, OnOk, OnErr};
 ghost use Rattle.mqtt_base.specs.declared.limits.TheConstants.{LINE_LIMIT as line_limit};
-ghost use Rattle.mqtt_rows.specs.Order.{IsAscending, row_at, remove_row};
+ghost use Rattle.mqtt_rows.specs.Order.{IsAscending, row_at, change_row, remove_row};
 ghost use Rattle.mqtt_records.specs.Records.{changed, kept_place};
 ghost use Rattle.mqtt_records.specs.declared.session.Session.{Session as TheSession};
 ghost use Rattle.mqtt_records.specs.Session.{birth_of, copy_place};
 ghost use Rattle.mqtt_records.specs.declared.change.Change.TheVariants.{RemoveSession, RemoveCopy, RemoveRetained};
+ghost use Rattle.mqtt_topic.specs.Aliases.{IsInRange};
 ghost use Rattle.mqtt_rules.specs.Laws.{HasTables};
 ghost use Rattle.mqtt_rules.specs.State.{Line, session_at};
-ghost use Rattle.mqtt_tables.specs.Lines.{line_changed, line_number};
+ghost use Rattle.mqtt_tables.specs.Lines.{line_changed, line_number, with_alias};
+ghost use Rattle.mqtt_tables.specs.Backs.{TakesLineBack};
 ghost use Rattle.mqtt_tables.specs.Undoing.{become, settled, taken_back, undone, broker_of, with_change, with_lines, with_line_changed, with_linked, with_moment_of, moment_of};
 
 use crate::line::{LineChange, LineState};
+use crate::started::{publications_before, subscribes_before};
 use crate::undo::Undo;
 use mqtt_base::LINE_LIMIT;
 use mqtt_records::{Change, Records, Rows, Session};
+use mqtt_topic::TopicName;
 use std::alloc::{AllocError, Global};
 use std::marker::Model;
 
@@ -80,6 +84,32 @@ fn undo_all(
     }
 }
 
+/// Makes an alias of a line stand for a topic, if the line stands, and gives what takes that back.
+fn set_alias_of(
+    lines: &mut Rows<LineState, LINE_LIMIT>,
+    number: u64,
+    alias: u16,
+    topic: &TopicName,
+) -> Result<Option<LineChange>, AllocError>
+    requires { (l : Line) → row_at line_number number lines.old ≡ Some l
+        → IsInRange l.aliases.max alias }
+    ensures ok { OnOk result (lines.new
+        ≡ change_row line_number number (with_alias alias topic.now) lines.old) }
+    ensures back { IfOk result (TakesLineBack number lines.old lines.new) }
+    ensures err { OnErr result (lines.new ≡ lines.old) }
+{
+    lines.as_slice();
+    let Some(mut line) = lines.take(number) else {
+        return Ok(None);
+    };
+    let set = line.set_alias(alias, topic);
+    lines.put(line);
+    match set {
+        Ok(before) => Ok(Some(LineChange::RestoreAlias { alias, before })),
+        Err(fault) => Err(fault),
+    }
+}
+
 impl Tables {
     /// Tables without lines, on which no step is under way.
     pub(crate) fn new(alloc: Global, records: Records, moment: u64) -> Result<Tables, AllocError>
@@ -109,6 +139,20 @@ impl Tables {
         ensures { result.now ≡ self.now.broker.records }
     {
         &self.records
+    }
+
+    /// The number of the last publication before the step.
+    pub(crate) fn publications_before(&self) -> u64
+        ensures { result ≡ self.now.start.records.publications }
+    {
+        publications_before(&self.journal, self.records.publications)
+    }
+
+    /// The number of the last granted filter before the step.
+    pub(crate) fn subscribes_before(&self) -> u64
+        ensures { result ≡ self.now.start.records.subscribes }
+    {
+        subscribes_before(&self.journal, self.records.subscribes)
     }
 
     /// The moment.
@@ -178,6 +222,32 @@ impl Tables {
             change: undo,
         })?;
         self.lines.edit(number, change);
+        Ok(())
+    }
+
+    /// Makes an alias of a line stand for a topic, if the line stands. Want of memory changes nothing.
+    pub(crate) fn set_alias(
+        &mut self,
+        number: u64,
+        alias: u16,
+        topic: &TopicName,
+    ) -> Result<(), AllocError>
+        requires { (l : Line) → row_at line_number number self.old.broker.lines ≡ Some l
+            → IsInRange l.aliases.max alias }
+        ensures ok { OnOk result (self.new ≡ become
+            (with_lines (change_row line_number number (with_alias alias topic.now)
+            self.old.broker.lines) self.old.broker) self.old) }
+        ensures err { OnErr result (self.new ≡ self.old) }
+    {
+        self.journal.reserve(1)?;
+        match set_alias_of(&mut self.lines, number, alias, topic)? {
+            Some(change) => {
+                self.journal
+                    .push(Undo::EditLine { number, change })
+                    .unwrap();
+            }
+            None => {}
+        }
         Ok(())
     }
 
