@@ -1,8 +1,8 @@
 //! A step begins at a moment, and ends: the store is told, and it is done or taken back (MQTT 5.0, 4.1).
-ghost use Rattle.std.specs.Prelude.{◌≡◌, ◌≢◌, ◌⊎◌, IfOk, IfErr, OnOk, OnErr, IsErrOf};
+ghost use Rattle.std.specs.Prelude.{◌≡◌, ◌≢◌, ◌⊎◌, false, IfOk, IfErr, OnOk, OnErr, IsErrOf};
 ghost use Rattle.mqtt_records.specs.declared.records.Records.{Records};
 ghost use Rattle.mqtt_records.specs.Records.{changed_all, FitAll};
-ghost use Rattle.mqtt_rules.specs.Step.{at_moment};
+ghost use Rattle.mqtt_rules.specs.Step.{at_moment, is_spent};
 ghost use Rattle.mqtt_tables.specs.Undoing.{moment_of};
 ghost use Rattle.mqtt_tables.specs.Stepping.{at_rest, with_broker, with_stamp};
 
@@ -85,6 +85,7 @@ impl Step {
         ensures rows { result.now ≡ self.now.rows }
         ensures made { changed_all self.now.rows self.now.start.records
             ≡ self.now.broker.records }
+        ensures unspent { is_spent self.now.rows ≡ false }
     {
         &self.rows
     }
@@ -111,7 +112,11 @@ impl Step {
 pub fn commit<K: Keep>(keep: &mut K, step: &mut Step) -> Result<Outcome, EngineError>
     requires loaded { K.is_loaded keep.old }
     requires holds { K.holds keep.old step.old.start.records }
-    requires fit { FitAll step.old.rows step.old.start.records }
+    requires fit { is_spent step.old.rows ≡ false
+        → FitAll step.old.rows step.old.start.records }
+
+    // None of the rows gives a number above the last.
+    ensures unspent { is_spent step.old.rows ≡ false }
     ensures outputs { IfOk result (λ out. out.outputs.items ≡ step.old.outputs) }
     ensures closed { IfOk result (λ out. out.closed.items ≡ step.old.closed) }
     ensures reports { IfOk result (λ out. out.reports.items ≡ step.old.reports) }

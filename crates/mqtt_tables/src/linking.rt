@@ -24,8 +24,8 @@ impl Step {
         }
     }
 
-    /// The moment is the greatest handed in.
-    fn rest_at(&mut self, moment: u64)
+    /// The moment is the greatest handed in, while no step is under way. Takes no memory.
+    pub fn rest_at(&mut self, moment: u64)
         requires { self.old ≡ at_rest self.old.limits self.old.broker }
         ensures { self.new ≡ at_rest self.old.limits (at_moment moment self.old.broker) }
     {

@@ -1,0 +1,5 @@
+pub mod Flights
+pub mod SoundLaw
+pub mod Called
+pub mod CallActs
+pub mod Linked

@@ -1,0 +1,15 @@
+//! The engine of the broker: each call is a step of the rules over any store, and the store holds what the
+//! step leaves (MQTT 5.0, 4.1). Private: not all packets are answered yet.
+#![tactic(auto)]
+
+mod answering;
+mod engine;
+mod finishing;
+mod laws;
+mod outcome;
+
+pub use answering::ping_at;
+pub use engine::Engine;
+pub use finishing::finish;
+pub use laws::{limits_stay_kept, sound_brokers_stay_sound};
+pub use outcome::Outcome;
