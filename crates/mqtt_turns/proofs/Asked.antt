@@ -1,0 +1,112 @@
+-- What an answer asks for has nothing to do with the copies that went out on the line, and what a session does at it.
+use Rattle.std.proofs.Common.{◌≡◌, ℕ, ◌+◌, Bool, true, false, List, [], ◌∷◌, map, max, refl, ap, sym, ◌∙◌, inl, inr}
+use Rattle.std.specs.Prelude.{Option, Some, None, is_some, find, Result, Ok, Err}
+use Rattle.std.proofs.lemmas.Bool.{cases_Bool}
+use Rattle.mqtt_base.specs.Codes.{protocol_error}
+use Rattle.mqtt_flow.specs.declared.entry.Entry.{Entry as FlowEntry}
+use Rattle.mqtt_flow.specs.declared.entry.Turn.{Turn}
+use Rattle.mqtt_flow.specs.Queue.{is_holder, holder, greatest_order, next_order, order_of}
+use Rattle.mqtt_flow.specs.Outbound.{Answer, puback, pubrec, pubcomp, puback_at, pubrec_at, pubcomp_at}
+use Rattle.mqtt_inbound.specs.declared.fault.FlowFault.{FlowFault}
+use Rattle.mqtt_message.specs.Queue.{CopyRow}
+use Rattle.mqtt_records.specs.declared.session.Session.{Session}
+use Rattle.mqtt_rules.specs.Closing.{drop_line}
+use Rattle.mqtt_rules.specs.Deeds.{Act, of_session, with_session, always}
+use Rattle.mqtt_rules.specs.Inbound.{on_answer, turned}
+use Rattle.mqtt_rules.specs.Outbound.{turn_deeds}
+use Rattle.mqtt_rules.specs.State.{Line, Broker, Env, session_at, entry_on, queue_on}
+use Rattle.mqtt_tables.specs.declared.fault.StepFault.{StepFault}
+use Rattle.mqtt_tables.specs.Stepping.{Stepping, Did, IsLeft}
+use Rattle.mqtt_turns.specs.declared.answering.Answered.{Answered}
+use Rattle.mqtt_turns.specs.declared.answering.Answered.TheVariants.{Taken, Wrong}
+use Rattle.mqtt_turns.specs.Turning.{takes_turn}
+use Rattle.mqtt_turns.specs.Answering.{asks, Came}
+use Rattle.mqtt_turns.proofs.Then.{same_act, same_left}
+use Rattle.mqtt_turns.proofs.Turned.{did_nothing}
+
+-- ---- who holds an identifier is the same copy, whatever went out
+
+held_alike : {R : Type 0} (id : ℕ) (went : List ℕ) (f : Option FlowEntry → R) (es : List CopyRow)
+    → ((e : CopyRow) → f (Some (entry_on went e)) ≡ f (Some (entry_on [] e)))
+    → f (find (λ e. is_holder id e.phase) (map (entry_on went) es)) ≡ f (find (λ e. is_holder id e.phase) (map (entry_on []) es))
+held_alike id went f [] same = refl
+held_alike id went f (e ∷ es) same = elim (cases_Bool (is_holder id e.phase)) [
+  | inl here ↦ rw here (same e)
+  | inr later ↦ rw later (held_alike id went f es same)
+]
+
+orders_alike : (went : List ℕ) (es : List CopyRow) → greatest_order (map (entry_on went) es) ≡ greatest_order (map (entry_on []) es)
+orders_alike went [] = refl
+orders_alike went (e ∷ es) = ap (λ n. max (order_of e.phase) n) (orders_alike went es)
+
+pub puback_alike : (id code : ℕ) (went : List ℕ) (s : Session) → puback id code (queue_on went s) ≡ puback id code (queue_on [] s)
+puback_alike id code went s = held_alike id went (puback_at code) s.queue (λ e. refl)
+
+pub pubcomp_alike : (id : ℕ) (went : List ℕ) (s : Session) → pubcomp id (queue_on went s) ≡ pubcomp id (queue_on [] s)
+pubcomp_alike id went s = held_alike id went pubcomp_at s.queue (λ e. refl)
+
+pub pubrec_alike : (id code : ℕ) (went : List ℕ) (s : Session) → pubrec id code (queue_on went s) ≡ pubrec id code (queue_on [] s)
+pubrec_alike id code went s =
+    ap (λ n. pubrec_at id code (n + 1) (holder id (queue_on went s))) (orders_alike went s.queue)
+    ∙ held_alike id went (pubrec_at id code (next_order (queue_on [] s))) s.queue (λ e. refl)
+
+-- ---- what is done
+
+turn_asked : (line birth : ℕ) (t : Turn) (env : Env) (l : Line) (b : Broker) → l.number ≡ line → takes_turn line birth t b ≡ asks birth (Ok (Some t)) env l b
+turn_asked line birth t env l b is = ap (λ n. takes_turn n birth t b) (sym is)
+
+pub took_turn : (line birth : ℕ) (t : Turn) (s new : Stepping) → Did (takes_turn line birth t) s new → Came (asks birth (Ok (Some t))) line Taken s new
+took_turn line birth t s new is = λ env l number.
+    same_act (takes_turn line birth t) (asks birth (Ok (Some t)) env l) s new (turn_asked line birth t env l s.broker number) is
+
+pub turn_left : (line birth : ℕ) (t : Turn) (fault : StepFault) (env : Env) (l : Line) (s new : Stepping) → l.number ≡ line → IsLeft (takes_turn line birth t) fault s new
+    → IsLeft (asks birth (Ok (Some t)) env l) fault s new
+turn_left line birth t fault env l s new number is =
+    same_left (takes_turn line birth t) (asks birth (Ok (Some t)) env l) fault s new (turn_asked line birth t env l s.broker number) is
+
+nothing_asked : (o : Option Session) (env : Env) (l : Line) (b : Broker) → with_session o (on_answer (Ok None) env l) b ≡ []
+nothing_asked None env l b = refl
+nothing_asked (Some x) env l b = refl
+
+pub passed_over : (line birth : ℕ) (s : Stepping) → Came (asks birth (Ok None)) line Taken s s
+passed_over line birth s = λ env l number.
+    did_nothing (asks birth (Ok None) env l) s (nothing_asked (session_at birth s.broker.records) env l s.broker)
+
+dropped_by : (o : Option Session) (fault : FlowFault) (env : Env) (l : Line) (b : Broker) → is_some o ≡ true
+    → with_session o (on_answer (Err fault) env l) b ≡ drop_line env protocol_error l b
+dropped_by None fault env l b there = absurd cc
+dropped_by (Some x) fault env l b there = refl
+
+pub came_wrong : (line birth : ℕ) (fault : FlowFault) (s : Stepping) → is_some (session_at birth s.broker.records) ≡ true → Came (asks birth (Err fault)) line Wrong s s
+came_wrong line birth fault s there =
+    (refl, λ env l number. dropped_by (session_at birth s.broker.records) fault env l s.broker there)
+
+-- ---- as the rules look
+
+-- an act that does what an answer asks for
+abbrev pub IsAskedBy : (Env → Line → Act) → ℕ → Answer → Broker → Type 0
+IsAskedBy act birth asked b = (env : Env) (l : Line) → asks birth asked env l b ≡ act env l b
+
+pub looked : (birth : ℕ) (look : List ℕ → Session → Answer) (asked : Answer) (x : Session) (b : Broker) → session_at birth b.records ≡ Some x
+    → ((went : List ℕ) → asked ≡ look went x) → (env : Env) (l : Line) → asks birth asked env l b ≡ of_session birth (λ s. on_answer (look l.went s) env l s) b
+looked birth look asked x b found is env l =
+    ap (λ (o : Option Session). with_session o (on_answer asked env l) b) found
+    ∙ (ap (λ a. on_answer a env l x b) (is l.went)
+    ∙ sym (ap (λ (o : Option Session). with_session o (λ s. on_answer (look l.went s) env l s) b) found))
+
+pub came_so : (act : Env → Line → Act) (line birth : ℕ) (asked : Answer) (answered : Answered) (s new : Stepping) → IsAskedBy act birth asked s.broker
+    → Came (asks birth asked) line answered s new → Came act line answered s new
+came_so act line birth asked Taken s new same is = λ env l number.
+    same_act (asks birth asked env l) (act env l) s new (same env l) (is env l number)
+came_so act line birth asked Wrong s new same is = (is.0, λ env l number. sym (same env l) ∙ is.1 env l number)
+
+pub left_so : (act : Env → Line → Act) (birth : ℕ) (asked : Answer) (env : Env) (l : Line) (fault : StepFault) (s new : Stepping) → IsAskedBy act birth asked s.broker
+    → IsLeft (asks birth asked env l) fault s new → IsLeft (act env l) fault s new
+left_so act birth asked env l fault s new same is = same_left (asks birth asked env l) (act env l) fault s new (same env l) is
+
+-- ---- where nobody is
+
+pub came_none : (line birth : ℕ) (f : Env → Line → Session → Act) (s : Stepping) → session_at birth s.broker.records ≡ None
+    → Came (λ env l. of_session birth (f env l)) line Taken s s
+came_none line birth f s none = λ env l number.
+    did_nothing (of_session birth (f env l)) s (ap (λ (o : Option Session). with_session o (f env l) s.broker) none)

@@ -1,0 +1,5 @@
+pub mod Then
+pub mod Turned
+pub mod Taking
+pub mod Asked
+pub mod Seen
