@@ -35,7 +35,7 @@ held_alike id went f (e ∷ es) same = elim (cases_Bool (is_holder id e.phase)) 
   | inr later ↦ rw later (held_alike id went f es same)
 ]
 
-orders_alike : (went : List ℕ) (es : List CopyRow) → greatest_order (map (entry_on went) es) ≡ greatest_order (map (entry_on []) es)
+pub orders_alike : (went : List ℕ) (es : List CopyRow) → greatest_order (map (entry_on went) es) ≡ greatest_order (map (entry_on []) es)
 orders_alike went [] = refl
 orders_alike went (e ∷ es) = ap (λ n. max (order_of e.phase) n) (orders_alike went es)
 

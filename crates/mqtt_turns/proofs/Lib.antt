@@ -3,3 +3,4 @@ pub mod Turned
 pub mod Taking
 pub mod Asked
 pub mod Seen
+pub mod Pumped

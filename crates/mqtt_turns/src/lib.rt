@@ -3,10 +3,14 @@
 #![tactic(auto)]
 
 mod answering;
+mod lapsing;
+mod pumping;
 mod queue;
 mod turning;
 mod turns;
 
 pub use answering::{Answered, puback, pubcomp, pubrec};
+pub use lapsing::{expire, repeat_released};
+pub use pumping::pump;
 pub use turning::turn;
 pub use turns::take_turns;

@@ -1,0 +1,15 @@
+use Rattle.std.proofs.Common.{◌≡◌, ◌≤◌, [], map, ap, sym, subst, ◌∙◌}
+use Rattle.mqtt_base.specs.declared.limits.TheConstants.{LAST_NUMBER}
+use Rattle.mqtt_flow.specs.Outbound.{pump}
+use Rattle.mqtt_flow.specs.Queue.{greatest_order}
+use Rattle.mqtt_rules.specs.State.{queue_on}
+use Rattle.mqtt_turns.specs.Queues.{entry_of}
+use Rattle.mqtt_turns.proofs.Asked.{orders_alike}
+use Rattle.mqtt_turns.proofs.pumping.pump_turns.Goals as goal
+
+pub look_pump-turns-requires-clause-orders : goal.look_pump-turns-requires-clause-orders
+look_pump-turns-requires-clause-orders c =
+    let same : greatest_order (map entry_of c.deref.result.now) ≡ greatest_order (queue_on [] c.args.session.now) =
+    ap (λ rows. greatest_order (map entry_of rows)) c.deref.ensures.value
+    ∙ (ap greatest_order c.in_ok-rows.ensures.rows ∙ orders_alike c.args.went.now c.args.session.now.queue) in
+    subst (λ n. n ≤ LAST_NUMBER) (sym same) c.requires
