@@ -22,7 +22,6 @@ use Rattle.mqtt_turns.specs.declared.answering.Answered.TheVariants.{Taken, Wron
 use Rattle.mqtt_turns.specs.Turning.{takes_turn}
 use Rattle.mqtt_turns.specs.Answering.{asks, Came}
 use Rattle.mqtt_turns.proofs.Then.{same_act, same_left}
-use Rattle.mqtt_turns.proofs.Turned.{did_nothing}
 
 -- ---- who holds an identifier is the same copy, whatever went out
 
@@ -50,37 +49,6 @@ pubrec_alike id code went s =
     ap (λ n. pubrec_at id code (n + 1) (holder id (queue_on went s))) (orders_alike went s.queue)
     ∙ held_alike id went (pubrec_at id code (next_order (queue_on [] s))) s.queue (λ e. refl)
 
--- ---- what is done
-
-turn_asked : (line birth : ℕ) (t : Turn) (env : Env) (l : Line) (b : Broker) → l.number ≡ line → takes_turn line birth t b ≡ asks birth (Ok (Some t)) env l b
-turn_asked line birth t env l b is = ap (λ n. takes_turn n birth t b) (sym is)
-
-pub took_turn : (line birth : ℕ) (t : Turn) (s new : Stepping) → Did (takes_turn line birth t) s new → Came (asks birth (Ok (Some t))) line Taken s new
-took_turn line birth t s new is = λ env l number.
-    same_act (takes_turn line birth t) (asks birth (Ok (Some t)) env l) s new (turn_asked line birth t env l s.broker number) is
-
-pub turn_left : (line birth : ℕ) (t : Turn) (fault : StepFault) (env : Env) (l : Line) (s new : Stepping) → l.number ≡ line → IsLeft (takes_turn line birth t) fault s new
-    → IsLeft (asks birth (Ok (Some t)) env l) fault s new
-turn_left line birth t fault env l s new number is =
-    same_left (takes_turn line birth t) (asks birth (Ok (Some t)) env l) fault s new (turn_asked line birth t env l s.broker number) is
-
-nothing_asked : (o : Option Session) (env : Env) (l : Line) (b : Broker) → with_session o (on_answer (Ok None) env l) b ≡ []
-nothing_asked None env l b = refl
-nothing_asked (Some x) env l b = refl
-
-pub passed_over : (line birth : ℕ) (s : Stepping) → Came (asks birth (Ok None)) line Taken s s
-passed_over line birth s = λ env l number.
-    did_nothing (asks birth (Ok None) env l) s (nothing_asked (session_at birth s.broker.records) env l s.broker)
-
-dropped_by : (o : Option Session) (fault : FlowFault) (env : Env) (l : Line) (b : Broker) → is_some o ≡ true
-    → with_session o (on_answer (Err fault) env l) b ≡ drop_line env protocol_error l b
-dropped_by None fault env l b there = absurd cc
-dropped_by (Some x) fault env l b there = refl
-
-pub came_wrong : (line birth : ℕ) (fault : FlowFault) (s : Stepping) → is_some (session_at birth s.broker.records) ≡ true → Came (asks birth (Err fault)) line Wrong s s
-came_wrong line birth fault s there =
-    (refl, λ env l number. dropped_by (session_at birth s.broker.records) fault env l s.broker there)
-
 -- ---- as the rules look
 
 -- an act that does what an answer asks for
@@ -103,10 +71,3 @@ came_so act line birth asked Wrong s new same is = (is.0, λ env l number. sym (
 pub left_so : (act : Env → Line → Act) (birth : ℕ) (asked : Answer) (env : Env) (l : Line) (fault : StepFault) (s new : Stepping) → IsAskedBy act birth asked s.broker
     → IsLeft (asks birth asked env l) fault s new → IsLeft (act env l) fault s new
 left_so act birth asked env l fault s new same is = same_left (asks birth asked env l) (act env l) fault s new (same env l) is
-
--- ---- where nobody is
-
-pub came_none : (line birth : ℕ) (f : Env → Line → Session → Act) (s : Stepping) → session_at birth s.broker.records ≡ None
-    → Came (λ env l. of_session birth (f env l)) line Taken s s
-came_none line birth f s none = λ env l number.
-    did_nothing (of_session birth (f env l)) s (ap (λ (o : Option Session). with_session o (f env l) s.broker) none)

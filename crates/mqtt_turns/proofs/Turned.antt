@@ -21,30 +21,8 @@ use Rattle.mqtt_tables.proofs.Doing.{did_none}
 use Rattle.mqtt_turns.specs.Turning.{takes_turn}
 use Rattle.mqtt_turns.proofs.Then.{same_act, same_left, did_then, left_first, left_then}
 
--- ---- nothing is done
-
-pub did_nothing : (act : Act) (s : Stepping) → act s.broker ≡ [] → Did act s s
-did_nothing act s is = record { is = sym (did_none s) ∙ ap (λ ds. did ds s) (sym is) }
-
--- want of memory before anything was done
-pub left_unchanged : (act : Act) (fault : StepFault) (s : Stepping) → fault ≡ Memory → IsLeft act fault s s
-left_unchanged act fault s is = record { start = refl; limits = refl; spent = λ e. absurd cc }
-
--- ---- at a place where no copy stands
-
 abbrev found_in : ℕ → Option Session → Option CopyRow
 found_in place o = option_and_then (λ s. row_at copy_place place s.queue) o
-
-none_there : (o : Option Session) (place : ℕ) (f : Session → CopyRow → List Deed) (b : Broker) → found_in place o ≡ None
-    → with_session o (λ s. always (at_place place s (f s))) b ≡ []
-none_there None place f b none = refl
-none_there (Some x) place f b none = ap (λ (r : Option CopyRow). of_entry r (f x)) none
-
-pub none_at : (birth place : ℕ) (f : Session → CopyRow → List Deed) (s : Stepping) → copy_at birth place s.broker.records ≡ None
-    → Did (of_session birth (λ x. always (at_place place x (f x)))) s s
-none_at birth place f s none =
-    did_nothing (of_session birth (λ x. always (at_place place x (f x)))) s
-    (none_there (session_at birth s.broker.records) place f s.broker none)
 
 -- ---- a copy is sent
 
@@ -73,13 +51,6 @@ sent_done line birth place id e s s1 s2 found marked sent =
     let packet = publish_of s.broker.now false id e.copy in
     same_act (sending line birth place id packet) (takes_turn line birth (turns.Send place id)) s s2 (sent_is line birth place id e s found)
     (did_then (marks_sent line birth place id) (always (Send line packet ∷ [])) s s1 s2 marked sent)
-
-pub mark_left : (line birth place id : ℕ) (e : CopyRow) (fault : StepFault) (s new : Stepping) → copy_at birth place s.broker.records ≡ Some e
-    → IsLeft (marks_sent line birth place id) fault s new → IsLeft (takes_turn line birth (turns.Send place id)) fault s new
-mark_left line birth place id e fault s new found left =
-    let packet = publish_of s.broker.now false id e.copy in
-    same_left (sending line birth place id packet) (takes_turn line birth (turns.Send place id)) fault s new (sent_is line birth place id e s found)
-    (left_first (marks_sent line birth place id) (always (Send line packet ∷ [])) fault s new left)
 
 pub sent_left : (line birth place id : ℕ) (e : CopyRow) (fault : StepFault) (s s1 s2 : Stepping) → copy_at birth place s.broker.records ≡ Some e
     → Did (marks_sent line birth place id) s s1 → IsLeft (always (Send line (publish_of s.broker.now false id e.copy) ∷ [])) fault s1 s2
@@ -113,13 +84,6 @@ resent_done line birth place id e s s1 s2 found went sent =
     same_act (resending line place packet) (takes_turn line birth (turns.Resend place id)) s s2 (resent_is line birth place id e s found)
     (did_then (always (On line (Went place) ∷ [])) (always (Send line packet ∷ [])) s s1 s2 went sent)
 
-pub went_left : (line birth place id : ℕ) (e : CopyRow) (fault : StepFault) (s new : Stepping) → copy_at birth place s.broker.records ≡ Some e
-    → IsLeft (always (On line (Went place) ∷ [])) fault s new → IsLeft (takes_turn line birth (turns.Resend place id)) fault s new
-went_left line birth place id e fault s new found left =
-    let packet = publish_of s.broker.now true id e.copy in
-    same_left (resending line place packet) (takes_turn line birth (turns.Resend place id)) fault s new (resent_is line birth place id e s found)
-    (left_first (always (On line (Went place) ∷ [])) (always (Send line packet ∷ [])) fault s new left)
-
 pub resent_left : (line birth place id : ℕ) (e : CopyRow) (fault : StepFault) (s s1 s2 : Stepping) → copy_at birth place s.broker.records ≡ Some e
     → Did (always (On line (Went place) ∷ [])) s s1 → IsLeft (always (Send line (publish_of s.broker.now true id e.copy) ∷ [])) fault s1 s2
     → IsLeft (takes_turn line birth (turns.Resend place id)) fault s s2
@@ -127,63 +91,3 @@ resent_left line birth place id e fault s s1 s2 found went left =
     let packet = publish_of s.broker.now true id e.copy in
     same_left (resending line place packet) (takes_turn line birth (turns.Resend place id)) fault s s2 (resent_is line birth place id e s found)
     (left_then (always (On line (Went place) ∷ [])) (always (Send line packet ∷ [])) fault s s1 s2 went left)
-
--- ---- PUBREL goes out
-
-abbrev pub releases : ℕ → ℕ → Phase → ℕ → Packet → Act
-releases birth place phase line packet = of_session birth (λ s. always (At (whose s) (Mark place phase) ∷ Send line packet ∷ []))
-
-abbrev pub repeats : ℕ → ℕ → Packet → Act
-repeats birth line packet = of_session birth (λ s. always (Send line packet ∷ []))
-
-pub nobody : (birth : ℕ) (f : Session → Act) (s : Stepping) → is_some (session_at birth s.broker.records) ≡ false → Did (of_session birth f) s s
-nobody birth f s none = did_nothing (of_session birth f) s (by (session_at birth s.broker.records) none)
-  where
-    by : (o : Option Session) → is_some o ≡ false → with_session o f s.broker ≡ []
-    by None is = refl
-    by (Some x) is = absurd cc
-
-released_by : (o : Option Session) (place line : ℕ) (phase : Phase) (packet : Packet) (b : Broker) → is_some o ≡ true
-    → with_session o (λ y. always (At (whose y) (Mark place phase) ∷ [])) b ++ Send line packet ∷ []
-    ≡ with_session o (λ y. always (At (whose y) (Mark place phase) ∷ Send line packet ∷ [])) b
-released_by None place line phase packet b there = absurd cc
-released_by (Some x) place line phase packet b there = refl
-
-repeated_by : (o : Option Session) (line : ℕ) (packet : Packet) (b : Broker) → is_some o ≡ true
-    → Send line packet ∷ [] ≡ with_session o (λ y. always (Send line packet ∷ [])) b
-repeated_by None line packet b there = absurd cc
-repeated_by (Some x) line packet b there = refl
-
-abbrev releasing : ℕ → ℕ → Phase → ℕ → Packet → Act
-releasing birth place phase line packet b = then (to_session birth (Mark place phase) b) (always (Send line packet ∷ [])) b
-
-pub released_done : (birth place line : ℕ) (phase : Phase) (packet : Packet) (s s1 s2 : Stepping) → is_some (session_at birth s.broker.records) ≡ true
-    → Did (to_session birth (Mark place phase)) s s1 → Did (always (Send line packet ∷ [])) s1 s2 → Did (releases birth place phase line packet) s s2
-released_done birth place line phase packet s s1 s2 there marked sent =
-    same_act (releasing birth place phase line packet) (releases birth place phase line packet) s s2
-    (released_by (session_at birth s.broker.records) place line phase packet s.broker there)
-    (did_then (to_session birth (Mark place phase)) (always (Send line packet ∷ [])) s s1 s2 marked sent)
-
-pub release_left : (birth place line : ℕ) (phase : Phase) (packet : Packet) (fault : StepFault) (s new : Stepping) → is_some (session_at birth s.broker.records) ≡ true
-    → IsLeft (to_session birth (Mark place phase)) fault s new → IsLeft (releases birth place phase line packet) fault s new
-release_left birth place line phase packet fault s new there left =
-    same_left (releasing birth place phase line packet) (releases birth place phase line packet) fault s new
-    (released_by (session_at birth s.broker.records) place line phase packet s.broker there)
-    (left_first (to_session birth (Mark place phase)) (always (Send line packet ∷ [])) fault s new left)
-
-pub released_left : (birth place line : ℕ) (phase : Phase) (packet : Packet) (fault : StepFault) (s s1 s2 : Stepping) → is_some (session_at birth s.broker.records) ≡ true
-    → Did (to_session birth (Mark place phase)) s s1 → IsLeft (always (Send line packet ∷ [])) fault s1 s2 → IsLeft (releases birth place phase line packet) fault s s2
-released_left birth place line phase packet fault s s1 s2 there marked left =
-    same_left (releasing birth place phase line packet) (releases birth place phase line packet) fault s s2
-    (released_by (session_at birth s.broker.records) place line phase packet s.broker there)
-    (left_then (to_session birth (Mark place phase)) (always (Send line packet ∷ [])) fault s s1 s2 marked left)
-
-pub repeated_done : (birth line : ℕ) (packet : Packet) (s new : Stepping) → is_some (session_at birth s.broker.records) ≡ true
-    → Did (always (Send line packet ∷ [])) s new → Did (repeats birth line packet) s new
-repeated_done birth line packet s new there sent =
-    same_act (always (Send line packet ∷ [])) (repeats birth line packet) s new (repeated_by (session_at birth s.broker.records) line packet s.broker there) sent
-
-pub repeated_left : (birth line : ℕ) (packet : Packet) (fault : StepFault) (s new : Stepping) → is_some (session_at birth s.broker.records) ≡ true
-    → IsLeft (always (Send line packet ∷ [])) fault s new → IsLeft (repeats birth line packet) fault s new
-repeated_left birth line packet fault s new there left =
-    same_left (always (Send line packet ∷ [])) (repeats birth line packet) fault s new (repeated_by (session_at birth s.broker.records) line packet s.broker there) left

@@ -1,6 +1,7 @@
 //! Copies that expire, and what a resumption begins with (MQTT 5.0, 3.3.2.3.3, 4.4).
 ghost use Rattle.std.specs.Prelude.{◌≡◌, [], IfOk, OnOk, IfErr};
 ghost use Rattle.mqtt_flow.specs.Outbound.{expired, resumed_with};
+ghost use Rattle.mqtt_rules.proofs.Turns.{Rises};
 ghost use Rattle.mqtt_rules.specs.State.{queue_on};
 ghost use Rattle.mqtt_tables.specs.Stepping.{Did, IsLeft};
 ghost use Rattle.mqtt_turns.specs.Turning.{lapses_of, resumes_on};
@@ -18,6 +19,7 @@ const NO_LINE: u64 = 0;
 /// The turns by which copies of a session that wait and are late at a moment leave.
 fn lapse_turns(alloc: Global, session: &Session, now: u64) -> Result<Vec<Turn>, StepFault>
     ensures turns { IfOk result (λ turns. turns.items ≡ expired now (queue_on [] session.now)) }
+    ensures rise { IfOk result (λ turns. Rises session.now.queue 0 turns.items) }
     ensures fault { IfErr result (λ fault. fault ≡ StepFault.Memory) }
 {
     let rows = rows_of(alloc, session, &[])?;
@@ -32,6 +34,7 @@ fn lapse_turns(alloc: Global, session: &Session, now: u64) -> Result<Vec<Turn>, 
 /// The turns with which a resumption of a session begins.
 fn resume_turns(alloc: Global, session: &Session) -> Result<Vec<Turn>, StepFault>
     ensures turns { IfOk result (λ turns. turns.items ≡ resumed_with (queue_on [] session.now)) }
+    ensures rise { IfOk result (λ turns. Rises session.now.queue 0 turns.items) }
     ensures fault { IfErr result (λ fault. fault ≡ StepFault.Memory) }
 {
     let rows = rows_of(alloc, session, &[])?;

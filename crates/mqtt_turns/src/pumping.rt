@@ -2,6 +2,7 @@
 ghost use Rattle.std.specs.Prelude.{◌≡◌, ◌≤◌, ℕ, [], IfOk, OnOk, IfErr};
 ghost use Rattle.mqtt_flow.specs.Outbound.{pump};
 ghost use Rattle.mqtt_flow.specs.Queue.{greatest_order};
+ghost use Rattle.mqtt_rules.proofs.Turns.{Rises};
 ghost use Rattle.mqtt_rules.specs.State.{queue_on};
 ghost use Rattle.mqtt_tables.specs.Stepping.{Did, IsLeft};
 ghost use Rattle.mqtt_turns.specs.Queues.{HasKeptOrders};
@@ -24,6 +25,7 @@ fn pump_turns(
 ) -> Result<Vec<Turn>, StepFault>
     requires { greatest_order (queue_on [] session.now) ≤ LAST_NUMBER }
     ensures turns { IfOk result (λ turns. turns.items ≡ pump way (queue_on went.now session.now)) }
+    ensures rise { IfOk result (λ turns. Rises session.now.queue 0 turns.items) }
     ensures fault { IfErr result (λ fault. fault ≡ StepFault.Memory) }
 {
     let rows = rows_of(alloc, session, went)?;

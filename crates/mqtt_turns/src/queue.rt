@@ -1,6 +1,8 @@
 //! A session's queue as a look sees it: rows, with what a line knows of them (MQTT 5.0, 4.4, 4.6).
 ghost use Rattle.std.specs.Prelude.{◌≡◌, ◌≤◌, ◌++◌, length, map, IfOk, IfErr, OnOk};
 ghost use Rattle.mqtt_inbound.specs.Identifiers.{is_among};
+ghost use Rattle.mqtt_records.specs.Session.{copy_place};
+ghost use Rattle.mqtt_rows.specs.Order.{IsAscending};
 ghost use Rattle.mqtt_rules.specs.State.{queue_on};
 ghost use Rattle.mqtt_turns.specs.Queues.{entry_of, seen_on};
 
@@ -97,6 +99,7 @@ pub(crate) fn rows_of<'a>(
 ) -> Result<Vec<Queued<'a>>, StepFault>
     ensures rows { IfOk result (λ seen. map entry_of seen.items ≡ queue_on went.now session.now) }
     ensures few { IfOk result (λ seen. length seen.items ≤ QUEUE_LIMIT) }
+    ensures order { OnOk result (IsAscending copy_place session.now.queue) }
     ensures fault { IfErr result (λ fault. fault ≡ StepFault.Memory) }
 {
     let mut seen = Vec::new(alloc);
