@@ -4,3 +4,4 @@ pub mod Taking
 pub mod Asked
 pub mod Seen
 pub mod Pumped
+pub mod Entered

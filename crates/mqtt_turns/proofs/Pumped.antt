@@ -41,7 +41,7 @@ resumed_rises s = repeats_rise s.queue (due_from [] (queue_on [] s)) (λ d. d.id
 
 -- ---- copies that leave send nothing
 
-dropped_leave : (moment line k since : ℕ) (s : Session) (es : List FlowEntry) → flat_map (turn_deeds moment line s) (dropped k since es) ≡ flat_map (leave_deeds s) (dropped k since es)
+pub dropped_leave : (moment line k since : ℕ) (s : Session) (es : List FlowEntry) → flat_map (turn_deeds moment line s) (dropped k since es) ≡ flat_map (leave_deeds s) (dropped k since es)
 dropped_leave moment line k since s [] = refl
 dropped_leave moment line zero since s (e ∷ es) = refl
 dropped_leave moment line (suc k) since s (e ∷ es) = by (gives_way since e) (dropped_leave moment line k since s es) (dropped_leave moment line (suc k) since s es)

@@ -56,7 +56,7 @@ two mk p q = cc
 abbrev whose_of : ℕ → List ℕ → Whose
 whose_of birth client = record { birth = birth; client = client }
 
-same_whose : (x y : Session) → y.birth ≡ x.birth → y.client ≡ x.client → whose y ≡ whose x
+pub same_whose : (x y : Session) → y.birth ≡ x.birth → y.client ≡ x.client → whose y ≡ whose x
 same_whose x y birth client = two whose_of birth client
 
 -- ---- one turn is the same

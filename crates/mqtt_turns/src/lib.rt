@@ -3,6 +3,7 @@
 #![tactic(auto)]
 
 mod answering;
+mod entering;
 mod lapsing;
 mod pumping;
 mod queue;
@@ -10,6 +11,7 @@ mod turning;
 mod turns;
 
 pub use answering::{Answered, puback, pubcomp, pubrec};
+pub use entering::{Beginning, enter};
 pub use lapsing::{expire, repeat_released};
 pub use pumping::pump;
 pub use turning::turn;
