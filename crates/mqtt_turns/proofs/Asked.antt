@@ -1,25 +1,19 @@
 -- What an answer asks for has nothing to do with the copies that went out on the line, and what a session does at it.
-use Rattle.std.proofs.Common.{◌≡◌, ℕ, ◌+◌, Bool, true, false, List, [], ◌∷◌, map, max, refl, ap, sym, ◌∙◌, inl, inr}
-use Rattle.std.specs.Prelude.{Option, Some, None, is_some, find, Result, Ok, Err}
+use Rattle.std.proofs.Common.{◌≡◌, ℕ, ◌+◌, List, [], ◌∷◌, map, max, refl, ap, sym, ◌∙◌, inl, inr}
+use Rattle.std.specs.Prelude.{Option, Some, find}
 use Rattle.std.proofs.lemmas.Bool.{cases_Bool}
-use Rattle.mqtt_base.specs.Codes.{protocol_error}
 use Rattle.mqtt_flow.specs.declared.entry.Entry.{Entry as FlowEntry}
-use Rattle.mqtt_flow.specs.declared.entry.Turn.{Turn}
 use Rattle.mqtt_flow.specs.Queue.{is_holder, holder, greatest_order, next_order, order_of}
 use Rattle.mqtt_flow.specs.Outbound.{Answer, puback, pubrec, pubcomp, puback_at, pubrec_at, pubcomp_at}
-use Rattle.mqtt_inbound.specs.declared.fault.FlowFault.{FlowFault}
 use Rattle.mqtt_message.specs.Queue.{CopyRow}
 use Rattle.mqtt_records.specs.declared.session.Session.{Session}
-use Rattle.mqtt_rules.specs.Closing.{drop_line}
-use Rattle.mqtt_rules.specs.Deeds.{Act, of_session, with_session, always}
-use Rattle.mqtt_rules.specs.Inbound.{on_answer, turned}
-use Rattle.mqtt_rules.specs.Outbound.{turn_deeds}
+use Rattle.mqtt_rules.specs.Deeds.{Act, of_session, with_session}
+use Rattle.mqtt_rules.specs.Inbound.{on_answer}
 use Rattle.mqtt_rules.specs.State.{Line, Broker, Env, session_at, entry_on, queue_on}
 use Rattle.mqtt_tables.specs.declared.fault.StepFault.{StepFault}
-use Rattle.mqtt_tables.specs.Stepping.{Stepping, Did, IsLeft}
+use Rattle.mqtt_tables.specs.Stepping.{Stepping, IsLeft}
 use Rattle.mqtt_turns.specs.declared.answering.Answered.{Answered}
 use Rattle.mqtt_turns.specs.declared.answering.Answered.TheVariants.{Taken, Wrong}
-use Rattle.mqtt_turns.specs.Turning.{takes_turn}
 use Rattle.mqtt_turns.specs.Answering.{asks, Came}
 use Rattle.mqtt_turns.proofs.Then.{same_act, same_left}
 

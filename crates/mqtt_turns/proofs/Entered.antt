@@ -1,5 +1,5 @@
 -- A copy enters when those that make way have left.
-use Rattle.std.proofs.Common.{◌≡◌, ℕ, suc, ◌+◌, ◌-◌, List, [], ◌∷◌, ◌++◌, length, map, refl, ap, sym, subst, ◌∙◌}
+use Rattle.std.proofs.Common.{◌≡◌, ℕ, suc, ◌+◌, ◌-◌, List, [], ◌∷◌, ◌++◌, length, map, refl, ap, sym, ◌∙◌}
 use Rattle.std.specs.Prelude.{Option, Some, None, IfSome, flat_map, option_map}
 use Rattle.mqtt_flow.specs.declared.entry.Turn.{Turn}
 use Rattle.mqtt_flow.specs.declared.entry.Turn.TheVariants as turns
@@ -8,12 +8,11 @@ use Rattle.mqtt_message.specs.declared.message.MessageCopy.{MessageCopy}
 use Rattle.mqtt_message.specs.Queue.{CopyRow}
 use Rattle.mqtt_rows.specs.Order.{row_at}
 use Rattle.mqtt_records.specs.declared.session.Session.{Session}
-use Rattle.mqtt_records.specs.declared.records.Records.{Records}
 use Rattle.mqtt_records.specs.Session.{copy_place}
 use Rattle.mqtt_routes.specs.Intended.{greatest}
 use Rattle.mqtt_rules.specs.Laws.{client_at}
-use Rattle.mqtt_rules.specs.State.{Broker, Env, MemberChoice, session_at, queue_on}
-use Rattle.mqtt_rules.specs.Deeds.{Act, Deed, Whose, At, Enter, Leave, whose, then, always, of_session, with_session, after_all}
+use Rattle.mqtt_rules.specs.State.{Broker, Env, session_at, queue_on}
+use Rattle.mqtt_rules.specs.Deeds.{Act, Deed, At, Enter, Leave, whose, then, always, of_session, with_session, after_all}
 use Rattle.mqtt_rules.specs.Outbound.{of_entry, leave_deeds, all_turn_deeds, enter_deeds, first_given, queue_limits, since}
 use Rattle.mqtt_rules.proofs.Goods.{after_append}
 use Rattle.mqtt_rules.proofs.LookedUp.{client_at_part}

@@ -1,6 +1,6 @@
 -- Turns that were looked up for a session are the ones that the rules have.
-use Rattle.std.proofs.Common.{◌≡◌, ℕ, zero, suc, ◌≤◌, Bool, true, false, ◌&&◌, List, [], ◌∷◌, ◌++◌, map, nat_eq, refl, ap, sym, subst, ◌∙◌, inl, inr}
-use Rattle.std.specs.Prelude.{Option, Some, None, find, flat_map}
+use Rattle.std.proofs.Common.{◌≡◌, ℕ, zero, suc, Bool, true, false, ◌&&◌, List, [], ◌∷◌, ◌++◌, map, nat_eq, refl, ap, sym, subst, ◌∙◌, inl, inr}
+use Rattle.std.specs.Prelude.{Option, Some, find, flat_map}
 use Rattle.std.proofs.lemmas.Bool.{cases_Bool}
 use Rattle.mqtt_base.specs.declared.session.Ending.TheVariants.{Dropped, Expired}
 use Rattle.mqtt_flow.specs.declared.entry.Entry.{Entry as FlowEntry}
@@ -13,7 +13,7 @@ use Rattle.mqtt_rows.specs.Order.{row_at}
 use Rattle.mqtt_records.specs.declared.session.Session.{Session}
 use Rattle.mqtt_rules.specs.Deeds.{always, with_session, with_line}
 use Rattle.mqtt_rules.specs.Outbound.{turn_deeds, all_turn_deeds, leave_deeds, way_of}
-use Rattle.mqtt_rules.specs.Inbound.{pump_turns, pump_deeds}
+use Rattle.mqtt_rules.specs.Inbound.{pump_deeds}
 use Rattle.mqtt_rules.specs.State.{Line, Broker, session_at, line_at, queue_on}
 use Rattle.mqtt_rules.specs.Step.{on_pump}
 use Rattle.mqtt_rules.specs.Tick.{lapse_deeds}

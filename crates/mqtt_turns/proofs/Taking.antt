@@ -1,5 +1,5 @@
 -- Turns that were made for a session as it stood before the first are the same for it as the ones before them leave it.
-use Rattle.std.proofs.Common.{◌≡◌, ℕ, suc, ◌≤◌, true, false, List, [], ◌∷◌, ◌++◌, length, refl, ap, sym, subst, ◌∙◌}
+use Rattle.std.proofs.Common.{◌≡◌, ℕ, ◌≤◌, true, false, List, [], ◌∷◌, ◌++◌, length, refl, ap, sym, subst, ◌∙◌}
 use Rattle.std.specs.Prelude.{Option, Some, None, option_map}
 use Rattle.mqtt_base.specs.declared.session.Phase.TheVariants.{Sent, Released as ReleasedPhase, Oversize}
 use Rattle.mqtt_flow.specs.declared.entry.Turn.{Turn}
@@ -11,7 +11,7 @@ use Rattle.mqtt_records.specs.declared.session.Session.{Session}
 use Rattle.mqtt_records.specs.Session.{copy_place}
 use Rattle.mqtt_rules.specs.Laws.{client_at}
 use Rattle.mqtt_rules.specs.State.{Broker, session_at}
-use Rattle.mqtt_rules.specs.Deeds.{Act, Deed, Whose, At, Mark, Leave, On, Went, Send, whose, always, with_session, after, after_all}
+use Rattle.mqtt_rules.specs.Deeds.{Deed, Whose, At, Mark, Leave, On, Went, Send, whose, always, with_session, after, after_all}
 use Rattle.mqtt_rules.specs.Outbound.{of_entry, turn_deeds, all_turn_deeds}
 use Rattle.mqtt_rules.specs.Packets.{publish_of, pubrel}
 use Rattle.mqtt_rules.proofs.LookedUp.{client_at_part}

@@ -1,7 +1,6 @@
 -- What one turn makes of a step.
-use Rattle.std.proofs.Common.{◌≡◌, ℕ, Bool, true, false, List, [], ◌∷◌, ◌++◌, refl, ap, sym, ◌∙◌}
-use Rattle.std.specs.Prelude.{Option, Some, None, is_some, option_and_then}
-use Rattle.mqtt_base.specs.declared.session.Phase.{Phase}
+use Rattle.std.proofs.Common.{◌≡◌, ℕ, true, false, [], ◌∷◌, ◌++◌, ap, sym}
+use Rattle.std.specs.Prelude.{Option, Some, None, option_and_then}
 use Rattle.mqtt_base.specs.declared.session.Phase.TheVariants.{Sent}
 use Rattle.mqtt_codec.specs.declared.packet.Packet.{Packet}
 use Rattle.mqtt_flow.specs.declared.entry.Turn.TheVariants as turns
@@ -11,15 +10,13 @@ use Rattle.mqtt_records.specs.declared.session.Session.{Session}
 use Rattle.mqtt_records.specs.Records.{copy_at}
 use Rattle.mqtt_records.specs.Session.{copy_place}
 use Rattle.mqtt_rules.specs.State.{Broker, session_at}
-use Rattle.mqtt_rules.specs.Deeds.{Act, Deed, At, Mark, On, Went, Send, whose, then, always, of_session, with_session}
+use Rattle.mqtt_rules.specs.Deeds.{Act, At, Mark, On, Went, Send, whose, then, always, with_session}
 use Rattle.mqtt_rules.specs.Outbound.{at_place, of_entry}
 use Rattle.mqtt_rules.specs.Packets.{publish_of}
 use Rattle.mqtt_tables.specs.declared.fault.StepFault.{StepFault}
-use Rattle.mqtt_tables.specs.declared.fault.StepFault.TheVariants.{Memory}
-use Rattle.mqtt_tables.specs.Stepping.{Stepping, did, Did, IsLeft, to_session}
-use Rattle.mqtt_tables.proofs.Doing.{did_none}
+use Rattle.mqtt_tables.specs.Stepping.{Stepping, Did, IsLeft, to_session}
 use Rattle.mqtt_turns.specs.Turning.{takes_turn}
-use Rattle.mqtt_turns.proofs.Then.{same_act, same_left, did_then, left_first, left_then}
+use Rattle.mqtt_turns.proofs.Then.{same_act, same_left, did_then, left_then}
 
 abbrev found_in : ℕ → Option Session → Option CopyRow
 found_in place o = option_and_then (λ s. row_at copy_place place s.queue) o

@@ -110,12 +110,7 @@ fn way_turns(alloc: Global, began: Beginning, session: &Session) -> Result<Vec<T
 }
 
 /// The oldest copies that wait make way in a session's full queue.
-fn make_way(
-    alloc: Global,
-    step: &mut Step,
-    began: Beginning,
-    birth: u64,
-) -> Result<(), StepFault>
+fn make_way(alloc: Global, step: &mut Step, began: Beginning, birth: u64) -> Result<(), StepFault>
     requires { IsBeginning began step.old }
     ensures ok { OnOk result (Does (λ env. makes_way env birth) step.old step.new) }
     ensures left { IfErr result (λ fault. Leaves (λ env. makes_way env birth) fault

@@ -1,4 +1,4 @@
-use Rattle.std.proofs.Common.{ap, sym}
+use Rattle.std.proofs.Common.{sym}
 use Rattle.mqtt_flow.specs.Outbound.{pubcomp}
 use Rattle.mqtt_rules.specs.State.{queue_on}
 use Rattle.mqtt_tables.proofs.Doing.{if_ok, if_err}

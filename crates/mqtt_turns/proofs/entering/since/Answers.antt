@@ -16,6 +16,6 @@ returns-in-None c = λ env begun.
     let queue = c.args.session.now.queue in
     if_some c.next_place.result
     (λ place next. given_next (find (λ e. is_new env.start e.copy) queue) queue place
-        (c.in-None.ensures env.start begun ∙ ap (λ rows. option_map copy_place (find (λ e. is_new env.start e.copy) rows)) c.as_slice.ensures.rows)
-        next)
+    (c.in-None.ensures env.start begun ∙ ap (λ rows. option_map copy_place (find (λ e. is_new env.start e.copy) rows)) c.as_slice.ensures.rows)
+    next)
     c.next_place.ensures

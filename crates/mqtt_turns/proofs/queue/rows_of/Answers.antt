@@ -1,4 +1,4 @@
-use Rattle.std.proofs.Common.{◌≡◌, ◌++◌, map, ap, ◌∙◌}
+use Rattle.std.proofs.Common.{◌++◌, map, ap, ◌∙◌}
 use Rattle.mqtt_turns.specs.Queues.{entry_of, seen_on}
 use Rattle.mqtt_turns.proofs.Seen.{entries_seen}
 use Rattle.mqtt_turns.proofs.queue.rows_of.Goals as goal
