@@ -1,6 +1,5 @@
 pub mod Then
 pub mod Opens
-pub mod Below
 pub mod Leading
 pub mod Delivered
 pub mod Offered

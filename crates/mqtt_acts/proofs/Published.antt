@@ -1,5 +1,5 @@
 -- A publication is accepted, retained, and handed over.
-use Rattle.std.proofs.Common.{◌≡◌, ℕ, ◌≤◌, Bool, true, false, List, length, filter, refl, ap, sym, subst, ◌∙◌}
+use Rattle.std.proofs.Common.{◌≡◌, ℕ, Bool, true, false, List, refl, ap, sym, subst, ◌∙◌}
 use Rattle.std.specs.Prelude.{Option, Some, None, option_map}
 use Rattle.mqtt_topic.specs.Names.{is_empty}
 use Rattle.mqtt_message.specs.declared.message.RetainedMessage.{RetainedMessage}
@@ -7,15 +7,13 @@ use Rattle.mqtt_records.specs.declared.session.Session.{Session}
 use Rattle.mqtt_rows.specs.Order.{row_at}
 use Rattle.mqtt_records.specs.Session.{birth_of}
 use Rattle.mqtt_records.specs.Records.{kept_place}
-use Rattle.mqtt_rules.specs.State.{Broker, Env, next_of, session_at}
+use Rattle.mqtt_rules.specs.State.{Broker, Env, next_of}
 use Rattle.mqtt_rules.specs.Deeds.{Act, Message, Origin, then, whose}
-use Rattle.mqtt_rules.specs.Laws.{is_entering}
-use Rattle.mqtt_rules.specs.Outbound.{room_at}
 use Rattle.mqtt_rules.specs.Routing.{CopyTo, forgets, next_publication, publish, retain_by, retained_of}
 use Rattle.mqtt_tables.specs.Doing.{accepts}
 use Rattle.mqtt_tables.specs.declared.fault.StepFault.{StepFault}
 use Rattle.mqtt_tables.specs.Stepping.{Stepping, did, Did, Does, IsLeft, Leaves, env_in}
-use Rattle.mqtt_acts.specs.Delivering.{delivers_all, HasRoomIn, SameSessions}
+use Rattle.mqtt_acts.specs.Delivering.{delivers_all, SameSessions}
 use Rattle.mqtt_acts.proofs.Then.{same_act, same_left, did_then, left_first, left_then}
 use Rattle.mqtt_acts.proofs.Leading.{same_env}
 
@@ -46,20 +44,11 @@ pub next_stays : (origin : Origin) (m : Message) (next : ℕ) (s s1 : Stepping) 
     → next ≡ next_of kept_place s.broker.records.retained → next ≡ next_of kept_place s1.broker.records.retained
 next_stays origin m next s s1 accepted is = is ∙ ap (λ (t : Stepping). next_of kept_place t.broker.records.retained) (sym accepted.is)
 
-start_stays : (origin : Origin) (number : ℕ) (m : Message) (s s1 s2 : Stepping) → Did (accepts origin m) s s1 → Did (retain_by m.retain (is_empty m.payload) number m) s1 s2 → s2.start ≡ s.start
+pub start_stays : (origin : Origin) (number : ℕ) (m : Message) (s s1 s2 : Stepping) → Did (accepts origin m) s s1 → Did (retain_by m.retain (is_empty m.payload) number m) s1 s2 → s2.start ≡ s.start
 start_stays origin number m s s1 s2 accepted kept = ap (λ (t : Stepping). t.start) kept.is ∙ ap (λ (t : Stepping). t.start) accepted.is
 
 pub limits_stay : (origin : Origin) (number : ℕ) (m : Message) (s s1 s2 : Stepping) → Did (accepts origin m) s s1 → Did (retain_by m.retain (is_empty m.payload) number m) s1 s2 → s2.limits ≡ s.limits
 limits_stay origin number m s s1 s2 accepted kept = ap (λ (t : Stepping). t.limits) kept.is ∙ ap (λ (t : Stepping). t.limits) accepted.is
-
-pub room_stays : (origin : Origin) (number : ℕ) (m : Message) (ds : List CopyTo) (s s1 s2 : Stepping) → Did (accepts origin m) s s1 → Did (retain_by m.retain (is_empty m.payload) number m) s1 s2
-    → HasRoomIn s ds → HasRoomIn s2 ds
-room_stays origin number m ds s s1 s2 accepted kept room = λ choice birth.
-    let env : env_in choice s2 ≡ env_in choice s =
-    same_env choice s s2 (start_stays origin number m s s1 s2 accepted kept) (limits_stay origin number m s s1 s2 accepted kept) in
-    subst (λ (e : Env). length (filter (is_entering birth) ds) ≤ room_at e (session_at birth s2.broker.records)) (sym env)
-    (subst (λ (xs : List Session). length (filter (is_entering birth) ds) ≤ room_at (env_in choice s) (row_at birth_of birth xs))
-    (sym (sessions_stay origin number m s s1 s2 accepted kept)) (room choice birth))
 
 pub whose_stay : (origin : Origin) (number : ℕ) (m : Message) (s s1 s2 s3 : Stepping) → Did (accepts origin m) s s1 → Did (retain_by m.retain (is_empty m.payload) number m) s1 s2
     → SameSessions s2.broker.records s3.broker.records → SameSessions s.broker.records s3.broker.records

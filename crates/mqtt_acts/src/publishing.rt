@@ -2,28 +2,30 @@
 //! 3.3.1.3, 3.3.4).
 ghost use Rattle.std.specs.Prelude.{◌≡◌, option_map, OnOk, IfErr};
 ghost use Rattle.std.specs.List.{AllByRecursion};
-ghost use Rattle.mqtt_flow.specs.declared.entry.Full.TheVariants.{Refuse};
 ghost use Rattle.mqtt_message.specs.Queue.{IsSpelled};
 ghost use Rattle.mqtt_records.specs.Records.{kept_place};
 ghost use Rattle.mqtt_rules.specs.State.{next_of};
 ghost use Rattle.mqtt_rules.specs.Deeds.{Origin};
 ghost use Rattle.mqtt_rules.specs.Routing.{publish, retained_of};
 ghost use Rattle.mqtt_tables.specs.Stepping.{Does, Leaves};
-ghost use Rattle.mqtt_acts.specs.Delivering.{addressed_all, HasRoomIn, SameSessions};
+ghost use Rattle.mqtt_acts.specs.Delivering.{addressed_all, SameSessions};
+ghost use Rattle.mqtt_turns.specs.Entering.{IsBeginning};
 
 use crate::delivering::deliver_all;
 use crate::retaining::retain;
 use mqtt_records::MessageCopy;
 use mqtt_tables::{Step, StepFault};
+use mqtt_turns::Beginning;
 use mqtt_verdicts::Message;
 use std::alloc::Global;
 
 /// A publication is accepted, retained where it is to be, and handed over in these copies, whose PUBLISH
-/// have spellings (3.3.1.3, 3.3.4). Each queue has room for those that are to enter it, and a full one
-/// refuses. `found` is the place of the message that is retained for the topic, `next` the next place.
+/// have spellings (3.3.1.3, 3.3.4). `found` is the place of the message that is retained for the topic,
+/// `next` the next place.
 pub fn publish(
     alloc: Global,
     step: &mut Step,
+    began: Beginning,
     message: &Message,
     found: Option<u64>,
     next: u64,
@@ -33,8 +35,7 @@ pub fn publish(
         ≡ option_map kept_place (retained_of message.now.topic step.old.broker.records) }
     requires next { next ≡ next_of kept_place step.old.broker.records.retained }
     requires spelled { AllByRecursion IsSpelled copies.items }
-    requires full { step.old.limits.full ≡ Refuse }
-    requires room { HasRoomIn step.old (addressed_all copies.items) }
+    requires began { IsBeginning began step.old }
     ensures ok { (origin : Origin) → OnOk result (Does
         (λ env. publish env origin message.now (addressed_all copies.items)) step.old step.new) }
     ensures sessions { OnOk result (SameSessions step.old.broker.records
@@ -45,5 +46,5 @@ pub fn publish(
 {
     let number = step.accept()?;
     retain(alloc, step, number, message, found, next)?;
-    deliver_all(alloc, step, copies)
+    deliver_all(alloc, step, began, copies)
 }

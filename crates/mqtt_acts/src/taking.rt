@@ -2,7 +2,6 @@
 ghost use Rattle.std.specs.Prelude.{◌≡◌, Some, None, option_map, OnOk, IfErr};
 ghost use Rattle.std.specs.List.{AllByRecursion};
 ghost use Rattle.mqtt_codec.specs.declared.publish.Publish.{Publish};
-ghost use Rattle.mqtt_flow.specs.declared.entry.Full.TheVariants.{Refuse};
 ghost use Rattle.mqtt_message.specs.Queue.{IsSpelled};
 ghost use Rattle.mqtt_records.specs.declared.session.Session.{Session};
 ghost use Rattle.mqtt_records.specs.Records.{kept_place};
@@ -11,7 +10,8 @@ ghost use Rattle.mqtt_rules.specs.Deeds.{Message};
 ghost use Rattle.mqtt_rules.specs.Inbound.{publish_new};
 ghost use Rattle.mqtt_rules.specs.Routing.{is_wanted, retained_of};
 ghost use Rattle.mqtt_tables.specs.Stepping.{Did, Does, env_in, IsLeft, Leaves};
-ghost use Rattle.mqtt_acts.specs.Delivering.{addressed_all, HasRoomIn};
+ghost use Rattle.mqtt_acts.specs.Delivering.{addressed_all};
+ghost use Rattle.mqtt_turns.specs.Entering.{IsBeginning};
 
 use crate::answering::{answer, open_by};
 use crate::publishing::publish;
@@ -19,6 +19,7 @@ use mqtt_base::Reason;
 use mqtt_codec::Delivery;
 use mqtt_records::MessageCopy;
 use mqtt_tables::{Step, StepFault};
+use mqtt_turns::Beginning;
 use mqtt_verdicts::{Message, accepted_code};
 use std::alloc::Global;
 
@@ -41,12 +42,12 @@ pub fn publish_refused(
 }
 
 /// A PUBLISH that is accepted: it is published in these copies, whose PUBLISH have spellings, at QoS 2 its
-/// identifier is opened, and it is answered by whether somebody is there for it (3.3.4, 4.3). Each queue
-/// has room for the copies that are to enter it, and a full one refuses. `found` is the place of the
-/// message that is retained for the topic, `next` the next place.
+/// identifier is opened, and it is answered by whether somebody is there for it (3.3.4, 4.3). `found` is the
+/// place of the message that is retained for the topic, `next` the next place.
 pub fn publish_taken(
     alloc: Global,
     step: &mut Step,
+    began: Beginning,
     line: u64,
     birth: u64,
     delivery: Delivery,
@@ -60,8 +61,7 @@ pub fn publish_taken(
         ≡ option_map kept_place (retained_of message.now.topic step.old.broker.records) }
     requires next { next ≡ next_of kept_place step.old.broker.records.retained }
     requires spelled { AllByRecursion IsSpelled copies.items }
-    requires full { step.old.limits.full ≡ Refuse }
-    requires room { HasRoomIn step.old (addressed_all copies.items) }
+    requires began { IsBeginning began step.old }
     ensures ok { (choice : MemberChoice) (l : Line) (s : Session) (p : Publish)
         → l.number ≡ line → session_at birth step.old.broker.records ≡ Some s
         → p.delivery ≡ delivery
@@ -75,7 +75,7 @@ pub fn publish_taken(
         → IfErr result (λ fault. IsLeft (publish_new (env_in choice step.old) l s p message.now
         (Some (addressed_all copies.items))) fault step.old step.new) }
 {
-    publish(alloc, step, message, found, next, copies)?;
+    publish(alloc, step, began, message, found, next, copies)?;
     open_by(step, birth, delivery)?;
     answer(alloc, step, line, delivery, accepted_code(wanted))
 }

@@ -8,12 +8,12 @@ use Rattle.mqtt_acts.proofs.delivering.deliver.Goals as goal
 pub returns-then-is_queued-clause-ok : goal.returns-then-is_queued-clause-ok
 returns-then-is_queued-clause-ok c =
     let queued : is_queued (addressed c.args.copy) ≡ true = sym c.is_queued.ensures ∙ c.if-is_queued.true in
-    on_ok c.enter_below.result (queued_is c.args.copy c.args.step.now c.enter_below.new.step queued) c.enter_below.ensures.ok
+    on_ok c.enter.result (queued_is c.args.copy c.args.step.now c.enter.new.step queued) c.enter.ensures.ok
 
 pub returns-then-is_queued-clause-left : goal.returns-then-is_queued-clause-left
 returns-then-is_queued-clause-left c =
     let queued : is_queued (addressed c.args.copy) ≡ true = sym c.is_queued.ensures ∙ c.if-is_queued.true in
-    if_err c.enter_below.result (λ fault. queued_left c.args.copy fault c.args.step.now c.enter_below.new.step queued) c.enter_below.ensures.left
+    if_err c.enter.result (λ fault. queued_left c.args.copy fault c.args.step.now c.enter.new.step queued) c.enter.ensures.left
 
 pub returns-else-is_queued-clause-ok : goal.returns-else-is_queued-clause-ok
 returns-else-is_queued-clause-ok c =

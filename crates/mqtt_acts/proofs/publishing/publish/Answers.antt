@@ -6,7 +6,8 @@ use Rattle.mqtt_rules.specs.Routing.{publish}
 use Rattle.mqtt_tables.specs.Stepping.{Leaves}
 use Rattle.mqtt_tables.proofs.Doing.{on_ok, if_err}
 use Rattle.mqtt_acts.specs.Delivering.{addressed_all}
-use Rattle.mqtt_acts.proofs.Published.{found_stays, next_stays, limits_stay, room_stays, whose_stay, published_is, accept_left, retain_left, deliver_left}
+use Rattle.mqtt_acts.proofs.Delivered.{begun_later}
+use Rattle.mqtt_acts.proofs.Published.{found_stays, next_stays, start_stays, limits_stay, whose_stay, published_is, accept_left, retain_left, deliver_left}
 use Rattle.mqtt_acts.proofs.publishing.publish.Goals as goal
 
 pub retain-requires-clause-found : goal.retain-requires-clause-found
@@ -17,15 +18,13 @@ pub retain-requires-clause-next : goal.retain-requires-clause-next
 retain-requires-clause-next c =
     next_stays FromClient c.args.message.now c.args.next c.args.step.now c.accept.new.self (c.in_ok-number.ensures.ok FromClient c.args.message.now) c.requires.next
 
-pub deliver_all-requires-clause-full : goal.deliver_all-requires-clause-full
-deliver_all-requires-clause-full c =
-    ap (λ l. l.full) (limits_stay FromClient c.in_ok-number.number c.args.message.now c.args.step.now c.accept.new.self c.retain.new.step
-    (c.in_ok-number.ensures.ok FromClient c.args.message.now) c.in_ok-retain.ensures.ok) ∙ c.requires.full
-
-pub deliver_all-requires-clause-room : goal.deliver_all-requires-clause-room
-deliver_all-requires-clause-room c =
-    room_stays FromClient c.in_ok-number.number c.args.message.now (addressed_all c.args.copies.items) c.args.step.now c.accept.new.self c.retain.new.step
-    (c.in_ok-number.ensures.ok FromClient c.args.message.now) c.in_ok-retain.ensures.ok c.requires.room
+pub deliver_all-requires-clause-began : goal.deliver_all-requires-clause-began
+deliver_all-requires-clause-began c =
+    let accepted = c.in_ok-number.ensures.ok FromClient c.args.message.now in
+    begun_later c.args.began c.args.step.now c.retain.new.step
+    (start_stays FromClient c.in_ok-number.number c.args.message.now c.args.step.now c.accept.new.self c.retain.new.step accepted c.in_ok-retain.ensures.ok)
+    (limits_stay FromClient c.in_ok-number.number c.args.message.now c.args.step.now c.accept.new.self c.retain.new.step accepted c.in_ok-retain.ensures.ok)
+    c.requires.began
 
 pub returns-clause-ok : goal.returns-clause-ok
 returns-clause-ok c = λ origin.
