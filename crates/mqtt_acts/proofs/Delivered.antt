@@ -22,7 +22,7 @@ use Rattle.mqtt_turns.specs.declared.entering.Beginning.{Beginning}
 use Rattle.mqtt_turns.specs.Entering.{IsBegun, IsBeginning}
 use Rattle.mqtt_turns.proofs.Entered.{client_enter}
 use Rattle.mqtt_acts.proofs.Then.{same_act, same_left}
-use Rattle.mqtt_acts.proofs.Leading.{LeadsOn, leads_first, leads_next, leads_left, leads_last, same_env}
+use Rattle.mqtt_acts.proofs.Leading.{LeadsOn, leads_first, leads_next, leads_left, leads_last}
 
 -- ---- one copy
 

@@ -1,5 +1,5 @@
 -- Copies that are handed over, one after the other, and the room for them (MQTT 5.0, 3.3.4, 4.3, 4.8).
-use Rattle.std.specs.Prelude.{◌≡◌, ℕ, ◌≤◌, false, List, length, filter, map, Option, Some, option_map}
+use Rattle.std.specs.Prelude.{◌≡◌, ℕ, ◌≤◌, false, List, length, filter, map, Option, option_map}
 use Rattle.mqtt_message.specs.declared.message.MessageCopy.{MessageCopy}
 use Rattle.mqtt_records.specs.declared.records.Records.{Records}
 use Rattle.mqtt_rules.specs.Packets.{publish_of}
