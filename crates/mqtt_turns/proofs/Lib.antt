@@ -1,0 +1,7 @@
+pub mod Then
+pub mod Turned
+pub mod Taking
+pub mod Asked
+pub mod Seen
+pub mod Pumped
+pub mod Entered
