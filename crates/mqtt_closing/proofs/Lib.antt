@@ -1,0 +1,5 @@
+pub mod Ended
+pub mod Willed
+pub mod Settled
+pub mod Closed
+pub mod LineClosed
