@@ -3,3 +3,4 @@ pub mod Willed
 pub mod Settled
 pub mod Closed
 pub mod LineClosed
+pub mod Ticked

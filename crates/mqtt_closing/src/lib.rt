@@ -6,10 +6,12 @@ mod closing;
 mod ending;
 mod leaving;
 mod settling;
+mod ticking;
 mod wills;
 
 pub use closing::{close, drop_line};
 pub use ending::end_session;
 pub use leaving::{disconnect, lost};
 pub use settling::settle;
+pub use ticking::{close_silent, silent_line};
 pub use wills::publish_will;
