@@ -2,17 +2,21 @@
 use Rattle.std.proofs.Common.{◌≡◌, ℕ, Bool, true, false, cond, not, List, [], ◌∷◌, ◌++◌, map, nat_eq, refl, ap, sym, subst, ◌∙◌, inl, inr}
 use Rattle.std.specs.Prelude.{Option, Some, None, option_map}
 use Rattle.std.proofs.lemmas.Bool.{cases_Bool}
+use Rattle.std.proofs.lemmas.Cmp.{nat_eq_equiv}
+use Rattle.mqtt_base.specs.declared.session.Ending.TheVariants.{SessionEnded}
 use Rattle.mqtt_flow.specs.declared.entry.Full.TheVariants.{Refuse}
 use Rattle.mqtt_message.specs.declared.message.Will.{Will}
+use Rattle.mqtt_message.specs.Queue.{CopyRow}
 use Rattle.mqtt_records.specs.declared.session.Session.{Session}
 use Rattle.mqtt_records.specs.declared.session.Columns.{Columns}
 use Rattle.mqtt_records.specs.declared.records.Records.{Records}
-use Rattle.mqtt_records.specs.Session.{birth_of, columns_of, with_columns, with_will}
+use Rattle.mqtt_records.specs.Session.{birth_of, columns_of, with_columns, with_will, without_copy}
 use Rattle.mqtt_records.specs.Records.{changed_all, in_session}
-use Rattle.mqtt_rows.specs.Order.{change_row}
+use Rattle.mqtt_rows.specs.Order.{change_row, remove_row, row_at}
+use Rattle.mqtt_rows.proofs.LookUps.{row_at-remove_row}
 use Rattle.mqtt_rules.specs.Closing.{close_session, end_session, has_due_will, has_due_end, publish_will, settle}
 use Rattle.mqtt_rules.specs.Contents.{IsWilled}
-use Rattle.mqtt_rules.specs.Deeds.{Act, At, Close, Deed, DropWill, Part, SetExpiry, whose, after_all, always, only_if, part_rows, part_rows_of, series, then, with_session}
+use Rattle.mqtt_rules.specs.Deeds.{Act, At, Close, Deed, DropWill, Finish, Leave, Part, SetExpiry, whose, after, after_all, always, only_if, part_rows, part_rows_of, series, then, with_session}
 use Rattle.mqtt_rules.specs.Routing.{subscriber_of, subscribers}
 use Rattle.mqtt_rules.specs.State.{Broker, Env, session_at}
 use Rattle.mqtt_rules.proofs.LookedUp.{row_at-change_row, field_kept}
@@ -25,8 +29,8 @@ use Rattle.mqtt_acts.specs.Delivering.{whose_at}
 use Rattle.mqtt_acts.proofs.Then.{same_act, same_left}
 use Rattle.mqtt_acts.proofs.Some.{both, does_then, leaves_first, leaves_then, then_some, then_some_left, same_does, same_leaves, same_some, same_some_left, leaves_some, alone}
 use Rattle.mqtt_closing.specs.Settling.{settles_will, settles_end, drops_will, closes}
-use Rattle.mqtt_closing.specs.Wills.{will_of, will_at}
-use Rattle.mqtt_closing.proofs.Settled.{did_nothing}
+use Rattle.mqtt_closing.specs.Wills.{ChoosesOnce, publishes_will, will_of, will_at}
+use Rattle.mqtt_closing.proofs.Settled.{did_nothing, settled_quiet, will_quiet}
 use Rattle.mqtt_closing.proofs.Willed.{part_at}
 
 -- ---- what is left alone
@@ -280,6 +284,78 @@ settle_quiet_refused keeps birth moment fault s s1 s2 new is drop close left =
     same_leaves (all_parts keeps moment birth) (closes keeps birth) fault s new (λ choice. parts_are keeps birth moment (env_in choice s) s.broker is)
     (leaves_then (drop_part keeps birth) (tail_parts moment birth) fault s s1 new (λ choice. drop)
     (leaves_then (close_part moment birth) (settle_part birth) fault s1 s2 new (λ choice. close) left))
+
+-- ---- a Will that is gone stays gone
+
+will_gone_by : (birth : ℕ) (s : Stepping) (o : Option Session) → session_at birth s.broker.records ≡ o
+    → will_at birth (did (with_session o (λ x. always (At (whose x) DropWill ∷ [])) s.broker) s).broker.records ≡ None
+will_gone_by birth s None found = ap will_of found
+will_gone_by birth s (Some x) found =
+    let r = s.broker.records in
+    let there : session_at x.birth r ≡ Some x = stands birth r x found in
+    ap (λ o. will_at birth (changed_all (part_rows_of DropWill o) r)) there
+    ∙ (will_changed birth x.birth (with_will None) (λ w. None) r (λ y. refl) (λ y. refl) refl
+    ∙ (ap (λ n. cond (nat_eq n birth) None (will_at birth r)) (found_birth birth r.sessions x found)
+    ∙ ap (λ t. cond t None (will_at birth r)) (nat_eq_equiv.refl birth)))
+
+pub will_gone : (birth : ℕ) (s s1 : Stepping) → Did (to_session birth DropWill) s s1 → will_at birth s1.broker.records ≡ None
+will_gone birth s s1 is =
+    ap (λ (t : Stepping). will_at birth t.broker.records) is.is ∙ will_gone_by birth s (session_at birth s.broker.records) refl
+
+either_none : (t : Bool) (w : Option Will) → w ≡ None → cond t w w ≡ None
+either_none true w none = none
+either_none false w none = none
+
+leave_none_by : (birth : ℕ) (e : CopyRow) (r : Records) (o : Option Session) → will_at birth r ≡ None → will_at birth (changed_all (part_rows_of (Leave e SessionEnded) o) r) ≡ None
+leave_none_by birth e r None none = none
+leave_none_by birth e r (Some y) none =
+    will_changed birth y.birth (without_copy e.place) (λ w. w) r (λ z. refl) (λ z. refl) refl ∙ either_none (nat_eq y.birth birth) (will_at birth r) none
+
+finish_none : (birth k : ℕ) (r : Records) → will_at birth r ≡ None → will_of (row_at birth_of birth (remove_row birth_of k r.sessions)) ≡ None
+finish_none birth k r none = ap will_of (row_at-remove_row birth_of birth k r.sessions) ∙ by_test (nat_eq k birth)
+  where
+    by_test : (t : Bool) → will_of (cond t None (session_at birth r)) ≡ None
+    by_test true = refl
+    by_test false = none
+
+ends_none : (birth : ℕ) (x : Session) (es : List CopyRow) (b : Broker) → will_at birth b.records ≡ None
+    → will_at birth (after_all (map (λ e. At (whose x) (Leave e SessionEnded)) es ++ Finish (whose x) ∷ []) b).records ≡ None
+ends_none birth x [] b none = finish_none birth x.birth b.records none
+ends_none birth x (e ∷ es) b none =
+    ends_none birth x es (after (At (whose x) (Leave e SessionEnded)) b) (leave_none_by birth e b.records (session_at x.birth b.records) none)
+
+end_none_by : (birth : ℕ) (x : Session) (due : Bool) (s : Stepping) → will_at birth s.broker.records ≡ None → will_at birth (did (only_if due (always (end_session x)) s.broker) s).broker.records ≡ None
+end_none_by birth x false s none = none
+end_none_by birth x true s none = ends_none birth x x.queue s.broker none
+
+end_none : (moment birth : ℕ) (s : Stepping) (o : Option Session) → will_at birth s.broker.records ≡ None
+    → will_at birth (did (with_session o (λ x. only_if (has_due_end moment x) (always (end_session x))) s.broker) s).broker.records ≡ None
+end_none moment birth s None none = none
+end_none moment birth s (Some x) none = end_none_by birth x (has_due_end moment x) s none
+
+pub end_keeps : (moment birth : ℕ) (s s1 : Stepping) → Did (settles_end moment birth) s s1 → will_at birth s.broker.records ≡ None → will_at birth s1.broker.records ≡ None
+end_keeps moment birth s s1 is none =
+    ap (λ (t : Stepping). will_at birth t.broker.records) is.is ∙ end_none moment birth s (session_at birth s.broker.records) none
+
+-- ---- chosen once
+
+pub will_once : (moment birth : ℕ) (x : Session) (s new : Stepping) → session_at birth s.broker.records ≡ Some x → has_due_will moment x ≡ true
+    → ChoosesOnce birth (publishes_will birth) s new → ChoosesOnce birth (settles_will moment birth) s new
+will_once moment birth x s new found due once = elim once [ inl gone ↦ inl gone | inr does ↦ inr (will_quiet moment birth x s new found due does) ]
+
+pub settled_once : (moment birth : ℕ) (s s1 s2 : Stepping) → moment ≡ moment_of s.broker → ChoosesOnce birth (settles_will moment birth) s s1 → Did (settles_end moment birth) s1 s2
+    → ChoosesOnce birth (λ env. settle env birth) s s2
+settled_once moment birth s s1 s2 is once end = elim once [
+  | inl gone ↦ inl (end_keeps moment birth s1 s2 end gone)
+  | inr does ↦ inr (settled_quiet moment birth s s1 s2 is does end)
+]
+
+pub closed_once : (keeps : Bool) (birth moment : ℕ) (s s1 s2 s3 : Stepping) → moment ≡ moment_of s.broker → Did (drops_will keeps birth) s s1 → Did (to_session birth (Close moment)) s1 s2
+    → ChoosesOnce birth (λ env. settle env birth) s2 s3 → ChoosesOnce birth (closes keeps birth) s s3
+closed_once keeps birth moment s s1 s2 s3 is drop close once = elim once [
+  | inl gone ↦ inl gone
+  | inr does ↦ inr (closed_quiet keeps birth moment s s1 s2 s3 is drop close does)
+]
 
 -- the limits stay
 pub limits_after : (f : Act) (s s1 : Stepping) → Did f s s1 → s.limits.full ≡ Refuse → s1.limits.full ≡ Refuse

@@ -19,9 +19,9 @@ use Rattle.mqtt_tables.specs.Stepping.{Stepping, did, Did, IsLeft, env_in, to_se
 use Rattle.mqtt_tables.proofs.Doing.{did_none}
 use Rattle.mqtt_acts.specs.Choosing.{DoesSome, LeavesSome}
 use Rattle.mqtt_acts.proofs.Then.{same_act}
-use Rattle.mqtt_acts.proofs.Some.{both, does_then, does_some, leaves_first, leaves_some, then_some, then_some_left, same_some, same_some_left, alone}
+use Rattle.mqtt_acts.proofs.Some.{both, does_then, does_some, leaves_first, leaves_some, then_some, then_some_left, same_does, same_some, same_some_left, alone}
 use Rattle.mqtt_closing.specs.Settling.{closes, disconnects, leaves_by, sets_expiry}
-use Rattle.mqtt_closing.specs.Wills.{will_at}
+use Rattle.mqtt_closing.specs.Wills.{ChoosesOnce, will_at}
 use Rattle.mqtt_closing.proofs.Closed.{Keeps, keeps_same, expiry_keeps}
 use Rattle.mqtt_closing.proofs.Settled.{did_nothing, does_nothing}
 
@@ -73,6 +73,21 @@ closed_left keeps line birth l fault s s1 new number on gone left =
     (λ choice. close_act keeps line (Some birth) l (env_in choice s) s.broker number on)
     (then_some_left (gone_part line) (connected_part keeps (Some birth)) fault s s1 new (λ choice. gone) left)
 
+one_is : (m n : ℕ) → Some m ≡ Some n → m ≡ n
+one_is m n e = cc
+
+pub one_session : (m n : ℕ) (session : Option ℕ) → session ≡ Some m → session ≡ Some n → m ≡ n
+one_session m n session first second = one_is m n (sym first ∙ second)
+
+pub close_once : (keeps : Bool) (line birth : ℕ) (l : Line) (s s1 s2 : Stepping) → l.number ≡ line → l.session ≡ Some birth → Did (always (Gone line ∷ [])) s s1
+    → ChoosesOnce birth (closes keeps birth) s1 s2 → ChoosesOnce birth (λ env. close env keeps l) s s2
+close_once keeps line birth l s s1 s2 number on gone once = elim once [
+  | inl none ↦ inl none
+  | inr does ↦ inr (same_does (both (gone_part line) (connected_part keeps (Some birth))) (λ env. close env keeps l) s s2
+      (λ choice. close_act keeps line (Some birth) l (env_in choice s) s.broker number on)
+      (does_then (gone_part line) (connected_part keeps (Some birth)) s s1 s2 (λ choice. gone) does))
+]
+
 -- ---- with DISCONNECT
 
 abbrev told_part : ℕ → ℕ → Env → Act
@@ -95,6 +110,14 @@ pub line_dropped : (line code : ℕ) (l : Line) (s s1 s2 : Stepping) → l.numbe
 line_dropped line code l s s1 s2 number sent rest =
     same_some (both (told_part line code) (closed_part l)) (λ env. drop_line env code l) s s2 (λ choice. drop_act line code l (env_in choice s) s.broker number)
     (then_some (told_part line code) (closed_part l) s s1 s2 (λ choice. sent) rest)
+
+pub drop_once : (line code birth : ℕ) (l : Line) (s s1 s2 : Stepping) → l.number ≡ line → Did (always (Send line (disconnect code) ∷ [])) s s1
+    → ChoosesOnce birth (λ env. close env true l) s1 s2 → ChoosesOnce birth (λ env. drop_line env code l) s s2
+drop_once line code birth l s s1 s2 number sent once = elim once [
+  | inl none ↦ inl none
+  | inr does ↦ inr (same_does (both (told_part line code) (closed_part l)) (λ env. drop_line env code l) s s2 (λ choice. drop_act line code l (env_in choice s) s.broker number)
+      (does_then (told_part line code) (closed_part l) s s1 s2 (λ choice. sent) does))
+]
 
 pub told_refused : (line code : ℕ) (l : Line) (fault : StepFault) (s new : Stepping) → l.number ≡ line → IsLeft (always (Send line (disconnect code) ∷ [])) fault s new → LeavesSome (λ env. drop_line env code l) fault s new
 told_refused line code l fault s new number left =

@@ -11,7 +11,7 @@ ghost use Rattle.mqtt_rules.specs.State.{Line};
 ghost use Rattle.mqtt_tables.specs.Stepping.{Did, Does, IsLeft, Leaves};
 ghost use Rattle.mqtt_acts.specs.Choosing.{DoesSome, LeavesSome};
 ghost use Rattle.mqtt_closing.specs.Settling.{drops_will, closes};
-ghost use Rattle.mqtt_closing.specs.Wills.{will_at};
+ghost use Rattle.mqtt_closing.specs.Wills.{ChoosesOnce, will_at};
 
 use crate::settling::settle;
 use mqtt_acts::Router;
@@ -49,6 +49,7 @@ fn close_session<R: Router>(
         → OnOk result (Does (closes keeps_will birth) step.old step.new) }
     ensures quiet_left { will_at birth step.old.broker.records ≡ None
         → IfErr result (λ fault. Leaves (closes keeps_will birth) fault step.old step.new) }
+    ensures once { OnOk result (ChoosesOnce birth (closes keeps_will birth) step.old step.new) }
     ensures serves { (sessions : List Subscriber) → R.serves router.old sessions
         → R.serves router.new sessions }
 {
@@ -77,6 +78,10 @@ pub fn close<R: Router>(
     ensures left { (l : Line) → l.number ≡ line → l.session ≡ session
         → IfErr result (λ fault. LeavesSome (λ env. close env keeps_will l) fault
         step.old step.new) }
+
+    // At most one act of several chooses.
+    ensures once { (birth : ℕ) (l : Line) → session ≡ Some birth → l.number ≡ line → l.session ≡ session
+        → OnOk result (ChoosesOnce birth (λ env. close env keeps_will l) step.old step.new) }
     ensures serves { (sessions : List Subscriber) → R.serves router.old sessions
         → R.serves router.new sessions }
 {
@@ -114,6 +119,8 @@ pub fn drop_line<R: Router>(
     ensures left { (l : Line) → l.number ≡ line → l.session ≡ session
         → IfErr result (λ fault. LeavesSome (λ env. drop_line env reason.0 l) fault
         step.old step.new) }
+    ensures once { (birth : ℕ) (l : Line) → session ≡ Some birth → l.number ≡ line → l.session ≡ session
+        → OnOk result (ChoosesOnce birth (λ env. drop_line env reason.0 l) step.old step.new) }
     ensures serves { (sessions : List Subscriber) → R.serves router.old sessions
         → R.serves router.new sessions }
 {

@@ -9,7 +9,7 @@ ghost use Rattle.mqtt_rules.specs.Routing.{subscribers};
 ghost use Rattle.mqtt_tables.specs.Stepping.{Did, Does, IsLeft, Leaves};
 ghost use Rattle.mqtt_acts.specs.Choosing.{DoesSome, LeavesSome};
 ghost use Rattle.mqtt_closing.specs.Settling.{settles_will, settles_end};
-ghost use Rattle.mqtt_closing.specs.Wills.{will_at};
+ghost use Rattle.mqtt_closing.specs.Wills.{ChoosesOnce, will_at};
 
 use crate::ending::end_session;
 use crate::wills::publish_will;
@@ -36,6 +36,7 @@ fn settle_will<R: Router>(
         → OnOk result (Does (settles_will moment birth) step.old step.new) }
     ensures quiet_left { will_at birth step.old.broker.records ≡ None
         → IfErr result (λ fault. Leaves (settles_will moment birth) fault step.old step.new) }
+    ensures once { OnOk result (ChoosesOnce birth (settles_will moment birth) step.old step.new) }
     ensures serves { (sessions : List Subscriber) → R.serves router.old sessions
         → R.serves router.new sessions }
 {
@@ -82,6 +83,7 @@ pub fn settle<R: Router>(
         → OnOk result (Does (λ env. settle env birth) step.old step.new) }
     ensures quiet_left { will_at birth step.old.broker.records ≡ None
         → IfErr result (λ fault. Leaves (λ env. settle env birth) fault step.old step.new) }
+    ensures once { OnOk result (ChoosesOnce birth (λ env. settle env birth) step.old step.new) }
     ensures serves { (sessions : List Subscriber) → R.serves router.old sessions
         → R.serves router.new sessions }
 {

@@ -32,7 +32,9 @@ pub fn silent_line(step: &Step) -> Option<&LineState>
     ensures { option_copied result ≡ silent_in (moment_of step.now.broker) step.now.broker.lines }
 {
     let moment = step.moment();
-    step.lines().iter().find(|line| is_line_silent(moment, line))
+    step.lines()
+        .iter()
+        .find(|line| is_line_silent(moment, line))
 }
 
 /// A line that is silent for too long closes, with DISCONNECT where a session is connected on it (3.1.2.10). `session`
@@ -57,7 +59,14 @@ pub fn close_silent<R: Router>(
         → R.serves router.new sessions }
 {
     match session {
-        Some(_) => drop_line(alloc, router, step, line, session, Reason::KEEP_ALIVE_TIMEOUT),
+        Some(_) => drop_line(
+            alloc,
+            router,
+            step,
+            line,
+            session,
+            Reason::KEEP_ALIVE_TIMEOUT,
+        ),
         None => close(alloc, router, step, line, session, true),
     }
 }

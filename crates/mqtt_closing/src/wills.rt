@@ -8,7 +8,7 @@ ghost use Rattle.mqtt_rules.specs.Routing.{subscribers};
 ghost use Rattle.mqtt_tables.specs.Stepping.{Did, Does, IsLeft, Leaves};
 ghost use Rattle.mqtt_acts.specs.Choosing.{DoesSome, LeavesSome, IsLawfulMessage, IsRouted};
 ghost use Rattle.mqtt_acts.specs.Delivering.{SameSessions};
-ghost use Rattle.mqtt_closing.specs.Wills.{message_at, will_at, publishes, publishes_will};
+ghost use Rattle.mqtt_closing.specs.Wills.{message_at, will_at, publishes, publishes_will, ChoosesOnce};
 
 use mqtt_acts::{Router, Routing, publish};
 use mqtt_tables::{Step, StepFault};
@@ -100,6 +100,7 @@ fn publish_and_drop<R: Router>(
     requires lawful { IsLawfulMessage message.now }
     requires full { step.old.limits.full ≡ Refuse }
     ensures ok { OnOk result (DoesSome (publishes_will birth) step.old step.new) }
+    ensures gone { OnOk result (will_at birth step.new.broker.records ≡ None) }
     ensures left { IfErr result (λ fault.
         LeavesSome (publishes_will birth) fault step.old step.new) }
     ensures serves { (sessions : List Subscriber) → R.serves router.old sessions
@@ -129,6 +130,7 @@ pub fn publish_will<R: Router>(
         → OnOk result (Does (publishes_will birth) step.old step.new) }
     ensures quiet_left { will_at birth step.old.broker.records ≡ None
         → IfErr result (λ fault. Leaves (publishes_will birth) fault step.old step.new) }
+    ensures once { OnOk result (ChoosesOnce birth (publishes_will birth) step.old step.new) }
     ensures serves { (sessions : List Subscriber) → R.serves router.old sessions
         → R.serves router.new sessions }
 {

@@ -1,13 +1,14 @@
 use Rattle.std.proofs.Common.{◌≡◌, List, [], ◌∷◌, rules, sym, subst, ◌∙◌}
-use Rattle.std.specs.Prelude.{⊤, Result, Err, IfErr}
+use Rattle.std.specs.Prelude.{⊤, Result, Err, IfErr, OnOk}
 use Rattle.mqtt_routes.specs.Subscriptions.{Subscriber}
 use Rattle.mqtt_rules.specs.Closing.{close}
 use Rattle.mqtt_rules.specs.Deeds.{Gone, always}
 use Rattle.mqtt_tables.specs.declared.fault.StepFault.{StepFault}
 use Rattle.mqtt_tables.proofs.Doing.{on_ok, if_err}
 use Rattle.mqtt_acts.specs.Choosing.{LeavesSome}
+use Rattle.mqtt_closing.specs.Wills.{ChoosesOnce}
 use Rattle.mqtt_closing.proofs.Closed.{Keeps, limits_after}
-use Rattle.mqtt_closing.proofs.LineClosed.{gone_keeps, closed_with, closed_without, gone_refused, closed_left}
+use Rattle.mqtt_closing.proofs.LineClosed.{gone_keeps, close_once, one_session, closed_with, closed_without, gone_refused, closed_left}
 use Rattle.mqtt_closing.proofs.closing.close.Goals as goal
 
 pub close_session-requires-clause-serves : goal.close_session-requires-clause-serves
@@ -49,3 +50,11 @@ returns-in_err-gone-clause-left g c = λ l number on.
     gone_refused c.args.keeps_will c.args.line c.args.session l fault c.args.step.now c.gone.new.self number on c.in_err-gone.ensures.left in
     let is : c.from_residual.result ≡ Err fault = search rules in
     subst (λ (r : Result ⊤ StepFault). IfErr r (λ x. LeavesSome (λ env. close env c.args.keeps_will l) x c.args.step.now c.gone.new.self)) (sym is) left
+
+pub returns-in-Some-clause-once : goal.returns-in-Some-clause-once
+returns-in-Some-clause-once g c = λ birth l is number on.
+    let same : c.in-Some.birth ≡ birth = one_session c.in-Some.birth birth c.args.session c.in-Some.is is in
+    subst (λ n. OnOk c.close_session.result (ChoosesOnce n (λ env. close env c.args.keeps_will l) c.args.step.now c.close_session.new.step)) same
+    (on_ok c.close_session.result
+    (close_once c.args.keeps_will c.args.line c.in-Some.birth l c.args.step.now c.gone.new.self c.close_session.new.step number (on ∙ c.in-Some.is) c.in_ok-gone.ensures.ok)
+    c.close_session.ensures.once)

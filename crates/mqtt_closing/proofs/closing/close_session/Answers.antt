@@ -8,7 +8,7 @@ use Rattle.mqtt_tables.proofs.Doing.{on_ok, if_err}
 use Rattle.mqtt_acts.specs.Choosing.{LeavesSome}
 use Rattle.mqtt_acts.proofs.Some.{leaves_some}
 use Rattle.mqtt_closing.specs.Settling.{closes, drops_will}
-use Rattle.mqtt_closing.proofs.Closed.{Keeps, keeps_then, drops_keeps, close_keeps, limits_after, closed_is, closed_quiet, drop_refused, close_refused, settle_refused, settle_quiet_refused}
+use Rattle.mqtt_closing.proofs.Closed.{Keeps, keeps_then, drops_keeps, close_keeps, limits_after, closed_is, closed_once, closed_quiet, drop_refused, close_refused, settle_refused, settle_quiet_refused}
 use Rattle.mqtt_closing.proofs.closing.close_session.Goals as goal
 
 pub settle-requires-clause-serves : goal.settle-requires-clause-serves
@@ -105,3 +105,10 @@ returns-in_err-close-clause-quiet_left g c = λ none.
     close_refused c.args.keeps_will c.args.birth c.moment-moment.result fault c.args.step.now c.drop_will.new.step c.close.new.self c.moment-moment.ensures c.in_ok-drop_will.ensures.ok c.in_err-close.ensures.left in
     let is : c.from_residual-in_err-close.result ≡ Err fault = search rules in
     subst (λ (r : Result ⊤ StepFault). IfErr r (λ x. Leaves (closes c.args.keeps_will c.args.birth) x c.args.step.now c.close.new.self)) (sym is) left
+
+pub returns-clause-once : goal.returns-clause-once
+returns-clause-once g c =
+    on_ok c.settle.result
+    (closed_once c.args.keeps_will c.args.birth c.moment-moment.result c.args.step.now c.drop_will.new.step c.close.new.self c.settle.new.step
+    c.moment-moment.ensures c.in_ok-drop_will.ensures.ok c.in_ok-close.ensures.ok)
+    c.settle.ensures.once

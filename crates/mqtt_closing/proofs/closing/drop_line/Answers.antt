@@ -8,7 +8,7 @@ use Rattle.mqtt_tables.specs.declared.fault.StepFault.{StepFault}
 use Rattle.mqtt_tables.proofs.Doing.{on_ok, if_err}
 use Rattle.mqtt_acts.specs.Choosing.{LeavesSome}
 use Rattle.mqtt_closing.proofs.Closed.{Keeps, limits_after}
-use Rattle.mqtt_closing.proofs.LineClosed.{sent_keeps, line_dropped, told_refused, dropped_left}
+use Rattle.mqtt_closing.proofs.LineClosed.{sent_keeps, drop_once, line_dropped, told_refused, dropped_left}
 use Rattle.mqtt_closing.proofs.closing.drop_line.Goals as goal
 
 pub close-requires-clause-serves : goal.close-requires-clause-serves
@@ -44,3 +44,9 @@ returns-in_err-tell-clause-left g c = λ l number on.
     told_refused c.args.line c.args.reason.0 l fault c.args.step.now c.tell.new.step number c.in_err-tell.ensures.left in
     let is : c.from_residual.result ≡ Err fault = search rules in
     subst (λ (r : Result ⊤ StepFault). IfErr r (λ x. LeavesSome (λ env. drop_line env c.args.reason.0 l) x c.args.step.now c.tell.new.step)) (sym is) left
+
+pub returns-clause-once : goal.returns-clause-once
+returns-clause-once g c = λ birth l is number on.
+    on_ok c.close.result
+    (drop_once c.args.line c.args.reason.0 birth l c.args.step.now c.tell.new.step c.close.new.step number c.in_ok-tell.ensures.ok)
+    (c.close.ensures.once birth l is number on)

@@ -5,6 +5,7 @@ use Rattle.mqtt_tables.specs.declared.fault.StepFault.{StepFault}
 use Rattle.mqtt_tables.specs.Stepping.{Leaves}
 use Rattle.mqtt_tables.proofs.Doing.{on_ok, if_err}
 use Rattle.mqtt_acts.specs.Choosing.{LeavesSome}
+use Rattle.mqtt_closing.proofs.Closed.{settled_once}
 use Rattle.mqtt_closing.proofs.Settled.{settled, settled_quiet, settle_left_first, settle_quiet_first, settle_left_then, settle_quiet_then}
 use Rattle.mqtt_closing.proofs.settling.settle.Goals as goal
 
@@ -47,3 +48,9 @@ returns-in_err-settle_will-clause-quiet_left g c = λ none.
     settle_quiet_first c.moment-moment.result c.args.birth fault c.args.step.now c.settle_will.new.step c.moment-moment.ensures (c.in_err-settle_will.ensures.quiet_left none) in
     let is : c.from_residual.result ≡ Err fault = search rules in
     subst (λ (r : Result ⊤ StepFault). IfErr r (λ x. Leaves (λ env. settle env c.args.birth) x c.args.step.now c.settle_will.new.step)) (sym is) left
+
+pub returns-clause-once : goal.returns-clause-once
+returns-clause-once g c =
+    on_ok c.settle_end.result
+    (settled_once c.moment-moment.result c.args.birth c.args.step.now c.settle_will.new.step c.settle_end.new.step c.moment-moment.ensures c.in_ok-settle_will.ensures.once)
+    c.settle_end.ensures.ok

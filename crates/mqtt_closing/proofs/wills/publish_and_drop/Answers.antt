@@ -5,6 +5,7 @@ use Rattle.mqtt_tables.specs.declared.fault.StepFault.{StepFault}
 use Rattle.mqtt_tables.proofs.Doing.{on_ok, if_err}
 use Rattle.mqtt_acts.specs.Choosing.{LeavesSome}
 use Rattle.mqtt_closing.specs.Wills.{publishes_will}
+use Rattle.mqtt_closing.proofs.Closed.{will_gone}
 use Rattle.mqtt_closing.proofs.Willed.{Wills, wills, birth_is, client_is, will_done, will_first_left, will_then_left}
 use Rattle.mqtt_closing.proofs.wills.publish_and_drop.Goals as goal
 
@@ -37,3 +38,7 @@ returns-in_err-publish_message-clause-left g c =
     will_first_left c.args.birth m c.in_err-publish_message.field-0.0 s c.publish_message.new.step w (c.in_err-publish_message.ensures.left (whose w.session)) in
     let is : c.from_residual.result ≡ Err c.in_err-publish_message.field-0.0 = search rules in
     subst (λ (r : Result ⊤ StepFault). IfErr r (λ fault. LeavesSome (publishes_will c.args.birth) fault s c.publish_message.new.step)) (sym is) left
+
+pub returns-clause-gone : goal.returns-clause-gone
+returns-clause-gone g c =
+    on_ok c.drop_will.result (will_gone c.args.birth c.publish_message.new.step c.drop_will.new.self) c.drop_will.ensures.ok

@@ -1,7 +1,8 @@
-use Rattle.std.proofs.Common.{◌≡◌, rules, sym, subst}
+use Rattle.std.proofs.Common.{◌≡◌, rules, sym, subst, inl, inr}
 use Rattle.std.specs.Prelude.{⊤, Result, Err, IfErr, Some, None}
 use Rattle.mqtt_tables.specs.declared.fault.StepFault.{StepFault}
 use Rattle.mqtt_tables.specs.Stepping.{env_in}
+use Rattle.mqtt_tables.proofs.Doing.{on_ok}
 use Rattle.mqtt_acts.specs.Choosing.{LeavesSome}
 use Rattle.mqtt_acts.proofs.Some.{does_some, leaves_some}
 use Rattle.mqtt_closing.specs.Wills.{message_at, publishes_will}
@@ -40,3 +41,13 @@ returns-in-None-clause-ok g c =
     let s = c.args.step.now in
     let is : message_at c.args.birth s.broker.records ≡ None = search rules in
     does_some (publishes_will c.args.birth) s s (no_will_did c.args.birth s (unwilled c.args.birth s.broker.records is))
+
+pub returns-in-Some-clause-once : goal.returns-in-Some-clause-once
+returns-in-Some-clause-once g c =
+    on_ok c.publish_and_drop-published.result (λ gone. inl gone) c.publish_and_drop-published.ensures.gone
+
+pub returns-in-None-clause-once : goal.returns-in-None-clause-once
+returns-in-None-clause-once g c =
+    let s = c.args.step.now in
+    let is : message_at c.args.birth s.broker.records ≡ None = search rules in
+    inr (no_will_did c.args.birth s (unwilled c.args.birth s.broker.records is))
