@@ -9,3 +9,4 @@ pub mod LeftCopies
 pub mod Links
 pub mod Resumed
 pub mod Begun
+pub mod Named

@@ -1,0 +1,17 @@
+//! CONNECT, as the rules have it, over the tables of a step (MQTT 5.0, 3.1, 3.2).
+#![tactic(auto)]
+
+mod beginning;
+mod connecting;
+mod greeting;
+mod joining;
+mod queue;
+mod refusing;
+mod repeating;
+mod resuming;
+
+pub use beginning::begin_named;
+pub use connecting::connect_new;
+pub use joining::{Joined, join};
+pub use refusing::refuse;
+pub use resuming::resume;
