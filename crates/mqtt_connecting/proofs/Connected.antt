@@ -1,6 +1,6 @@
 -- A CONNECT that is refused, and one after whose preparation a session is resumed or begins.
-use Rattle.std.proofs.Common.{◌≡◌, ℕ, Bool, true, false, ◌||◌, cond, nat_lt, List, [], ◌∷◌, ◌++◌, length, append-nil, refl, ap, sym, subst, ◌∙◌}
-use Rattle.std.specs.Prelude.{Option, Some, None, option_map, is_some}
+use Rattle.std.proofs.Common.{◌≡◌, ℕ, Bool, true, false, ◌||◌, cond, nat_lt, List, [], ◌∷◌, ◌++◌, length, refl, ap, sym, ◌∙◌}
+use Rattle.std.specs.Prelude.{Option, Some, None, is_some}
 use Rattle.mqtt_base.specs.Codes.{quota_exceeded}
 use Rattle.mqtt_connect.specs.declared.connect.Connect.{Connect}
 use Rattle.mqtt_records.specs.declared.session.Session.{Session}
@@ -9,12 +9,10 @@ use Rattle.mqtt_topic.specs.Names.{is_empty}
 use Rattle.mqtt_rules.specs.State.{Line, Broker, Env, MemberChoice, session_named}
 use Rattle.mqtt_rules.specs.Deeds.{Act, Deed, after_all, always, only_if, series, then, with_session}
 use Rattle.mqtt_rules.specs.Closing.{settle}
-use Rattle.mqtt_rules.specs.Connect.{begin_named, clear, connect_by, joins, joins_after, of_client, on_connect, prepare, refusal, refused, resume, take_over}
-use Rattle.mqtt_tables.specs.declared.fault.StepFault.{StepFault}
-use Rattle.mqtt_tables.specs.Stepping.{Stepping, Did, Does, IsLeft, Leaves, env_in}
-use Rattle.mqtt_acts.proofs.Then.{same_act, same_left}
+use Rattle.mqtt_rules.specs.Connect.{begin_named, clear, connect_by, joins, joins_after, of_client, on_connect, prepare, refusal, refused, take_over}
+use Rattle.mqtt_tables.specs.Stepping.{Stepping, env_in}
 use Rattle.mqtt_rules.proofs.NumberFacts.{now_stays}
-use Rattle.mqtt_connecting.specs.Joining.{joins_now}
+use Rattle.mqtt_connecting.specs.Joining.{has_place, joins_now}
 use Rattle.mqtt_connecting.proofs.Wholes.{begins_named}
 
 -- nothing comes before the first connection of a client
@@ -41,7 +39,7 @@ joins_new env l c b none =
     ap (λ ds. joins_after env l c b.now ds (after_all ds b).records) (prepares_none env c b none)
     ∙ ap (λ o. joins env l c b.now [] b.records o) none
 
-placed : (t : Bool) (xs ys : List Deed) → t ≡ true → cond t xs ys ≡ xs
+pub placed : (t : Bool) (xs ys : List Deed) → t ≡ true → cond t xs ys ≡ xs
 placed true xs ys e = refl
 placed false xs ys e = absurd cc
 
@@ -80,7 +78,7 @@ joins_behind env l c now ds r None room =
     ap (λ es. ds ++ es) (placed t begins (refused l c quota_exceeded) room) ∙ sym (placed t (ds ++ begins) (refused l c quota_exceeded) room)
 
 pub connects_in_parts : (env : Env) (l : Line) (c : Connect) (b : Broker)
-    → (is_some (session_named c.client_identifier (after_all (prepare env c b) b).records) || nat_lt (length (after_all (prepare env c b) b).records.sessions) env.limits.sessions) ≡ true
+    → has_place env c (after_all (prepare env c b) b).records ≡ true
     → then (prepare env c b) (joins_now l c env) b ≡ connect_by None env l c b
 connects_in_parts env l c b room =
     let ds = prepare env c b in

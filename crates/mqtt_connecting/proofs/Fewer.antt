@@ -1,5 +1,5 @@
 -- What comes before a new connection ends sessions, and begins none: the clients stay the same, or there are fewer.
-use Rattle.std.proofs.Common.{◌≡◌, ℕ, ◌<◌, ◌≤◌, Bool, true, false, ◌||◌, not, cond, nat_eq, nat_lt, List, [], ◌∷◌, length, refl, ap, sym, subst, ◌∙◌, arith, inl, inr}
+use Rattle.std.proofs.Common.{◌≡◌, ℕ, suc, ◌<◌, ◌≤◌, Bool, true, false, ◌||◌, cond, nat_eq, nat_lt, List, [], ◌∷◌, length, refl, ap, sym, subst, ◌∙◌, arith, inl, inr}
 use Rattle.std.specs.Prelude.{◌⊎◌, ⊤, Option, Some, None, bytes_eq, filter, find, is_some, map}
 use Rattle.std.specs.List.{list_any}
 use Rattle.std.proofs.lemmas.Bool.{cases_Bool, lt-ltb}
@@ -7,7 +7,7 @@ use Rattle.mqtt_connect.specs.declared.connect.Connect.{Connect}
 use Rattle.mqtt_rows.specs.Order.{row_at, change_row, remove_row}
 use Rattle.mqtt_records.specs.declared.session.Session.{Session}
 use Rattle.mqtt_records.specs.declared.records.Records.{Records}
-use Rattle.mqtt_records.specs.Records.{changed, changed_all}
+use Rattle.mqtt_records.specs.Records.{changed_all}
 use Rattle.mqtt_records.specs.Session.{birth_of, columns_of, with_columns, with_will, with_subscription, without_subscription, with_open, without_open, with_copy, with_phase, without_copy}
 use Rattle.mqtt_base.specs.Codes.{session_taken_over}
 use Rattle.mqtt_rules.specs.Packets.{disconnect}
@@ -16,10 +16,11 @@ use Rattle.mqtt_rules.specs.Deeds.{Part, Deed, after, after_all, stored_after, p
 use Rattle.mqtt_rules.specs.Deeds as deeds
 use Rattle.mqtt_rules.specs.Closing.{settle, close, close_session, close_connected, drop_line}
 use Rattle.mqtt_rules.specs.Connect.{of_client, take_over, clear, prepare}
-use Rattle.mqtt_rules.proofs.Goods.{AreGood, GoodAct, good_append, good_series, good_of_session, good_of_client, good_with_line, good_if}
+use Rattle.mqtt_rules.proofs.Goods.{AreGood, GoodAct, good_series, good_of_session, good_of_client, good_with_line, good_if}
 use Rattle.mqtt_rules.proofs.LineRows.{IsStill, IsStillPart}
 use Rattle.mqtt_rules.proofs.LineActs.{still_settle, still_clear}
 use Rattle.mqtt_tables.proofs.Doing.{stands}
+use Rattle.mqtt_connecting.specs.Joining.{has_place}
 
 abbrev pub clients : List Session → List (List ℕ)
 clients ss = map (λ s. s.client) ss
@@ -54,26 +55,26 @@ same_length old new same = sym (length_clients new) ∙ (ap length same ∙ leng
 less_then : (a b c : List Session) → Less a b → Less b c → Less a c
 less_then a b c first second = elim first [
   | inl same ↦ elim second [
-      | inl also ↦ inl (also ∙ same)
-      | inr fewer ↦ let few = same_length a b same in inr (omega (arith, few, fewer))
-    ]
+    | inl also ↦ inl (also ∙ same)
+    | inr fewer ↦ let few = same_length a b same in inr (omega (arith, few, fewer))
+  ]
   | inr fewer ↦ elim second [
-      | inl also ↦ let few = same_length b c also in inr (omega (arith, few, fewer))
-      | inr again ↦ inr (omega (arith, fewer, again))
-    ]
+    | inl also ↦ let few = same_length b c also in inr (omega (arith, few, fewer))
+    | inr again ↦ inr (omega (arith, fewer, again))
+  ]
 ]
 
 less_removed : (k : ℕ) (ss : List Session) → Less ss (remove_row birth_of k ss)
 less_removed k [] = inl refl
 less_removed k (s ∷ ss) = elim (cases_Bool (nat_eq s.birth k)) [
   | inl here ↦ elim (less_removed k ss) [
-      | inl same ↦ let few = same_length ss (remove_row birth_of k ss) same in rw here (inr (omega (arith, few)))
-      | inr fewer ↦ rw here (inr (omega (arith, fewer)))
-    ]
+    | inl same ↦ let few = same_length ss (remove_row birth_of k ss) same in rw here (inr (omega (arith, few)))
+    | inr fewer ↦ rw here (inr (omega (arith, fewer)))
+  ]
   | inr later ↦ elim (less_removed k ss) [
-      | inl same ↦ rw later (inl (ap (λ (ns : List (List ℕ)). s.client ∷ ns) same))
-      | inr fewer ↦ rw later (inr (omega (arith, fewer)))
-    ]
+    | inl same ↦ rw later (inl (ap (λ (ns : List (List ℕ)). s.client ∷ ns) same))
+    | inr fewer ↦ rw later (inr (omega (arith, fewer)))
+  ]
 ]
 
 -- ---- one deed
@@ -158,9 +159,14 @@ mild_close_connected env (Some birth) b = good_of_session IsMild birth (close_se
 
 mild_drop : (env : Env) (code : ℕ) (l : Line) → GoodAct IsMild (drop_line env code l)
 mild_drop env code l b =
-    good_series IsMild (always (deeds.Send l.number (disconnect code) ∷ []) ∷ close env true l ∷ [])
-    ((λ x. (tt, tt)), ((λ x. good_series IsMild (always (deeds.Gone l.number ∷ []) ∷ close_connected env true l.session ∷ [])
-    ((λ y. (tt, tt)), (mild_close_connected env l.session, tt)) x), tt)) b
+    good_series IsMild (always (deeds.Send l.number (disconnect code) ∷ []) ∷ close env true l ∷ []) (
+      (λ x. (tt, tt)),
+      (
+        (λ x. good_series IsMild (always (deeds.Gone l.number ∷ []) ∷ close_connected env true l.session ∷ [])
+            ((λ y. (tt, tt)), (mild_close_connected env l.session, tt)) x),
+        tt,
+      ),
+    ) b
 
 mild_take_over : (env : Env) (s : Session) → GoodAct IsMild (take_over env s)
 mild_take_over env s b = good_with_line IsMild (line_of s.birth b) (drop_line env session_taken_over) b (λ l e. mild_drop env session_taken_over l b)
@@ -168,14 +174,17 @@ mild_take_over env s b = good_with_line IsMild (line_of s.birth b) (drop_line en
 mild_prepare : (env : Env) (c : Connect) → GoodAct IsMild (prepare env c)
 mild_prepare env c b =
     let name = c.client_identifier in
-    good_series IsMild (of_client name (take_over env) ∷ of_client name (λ s. settle env s.birth) ∷ only_if c.clean_start (of_client name (clear env)) ∷ [])
-    (good_of_client IsMild name (take_over env) (mild_take_over env),
-    (good_of_client IsMild name (λ s. settle env s.birth) (λ s. mild_settle env s.birth),
-    (good_if IsMild c.clean_start (of_client name (clear env)) (good_of_client IsMild name (clear env) (λ s x. mild (clear env s x) x (still_clear env s x))), tt))) b
+    good_series IsMild (of_client name (take_over env) ∷ of_client name (λ s. settle env s.birth) ∷ only_if c.clean_start (of_client name (clear env)) ∷ []) (
+      good_of_client IsMild name (take_over env) (mild_take_over env),
+      (
+        good_of_client IsMild name (λ s. settle env s.birth) (λ s. mild_settle env s.birth),
+        (good_if IsMild c.clean_start (of_client name (clear env)) (good_of_client IsMild name (clear env) (λ s x. mild (clear env s x) x (still_clear env s x))), tt),
+      ),
+    ) b
 
 -- ---- the place that a client's session leaves
 
-is_client : List ℕ → List (List ℕ) → Bool
+abbrev is_client : List ℕ → List (List ℕ) → Bool
 is_client client texts = list_any (λ text. bytes_eq text client) texts
 
 named_is_client : (client : List ℕ) (ss : List Session) → is_some (find (λ s. bytes_eq s.client client) ss) ≡ is_client client (clients ss)
@@ -191,8 +200,7 @@ or_true false = refl
 
 -- a client whose session stood finds a place after what comes before its connection, where sessions are within the limit
 pub place_is_left : (env : Env) (c : Connect) (b : Broker) → is_some (session_named c.client_identifier b.records) ≡ true → length b.records.sessions ≤ env.limits.sessions
-    → (is_some (session_named c.client_identifier (after_all (prepare env c b) b).records)
-    || nat_lt (length (after_all (prepare env c b) b).records.sessions) env.limits.sessions) ≡ true
+    → has_place env c (after_all (prepare env c b) b).records ≡ true
 place_is_left env c b known within =
     let name = c.client_identifier in
     let old = b.records.sessions in

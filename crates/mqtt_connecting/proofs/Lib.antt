@@ -3,3 +3,4 @@ pub mod Wholes
 pub mod GoingOn
 pub mod Connected
 pub mod AfterPreparing
+pub mod Fewer

@@ -1,21 +1,19 @@
 -- What parts of a CONNECT's deeds make together.
-use Rattle.std.proofs.Common.{◌≡◌, ℕ, suc, Bool, true, false, List, [], ◌∷◌, ◌++◌, append_assoc, refl, ap, sym, subst, ◌∙◌}
-use Rattle.std.specs.Prelude.{Option, Some, None, decimal, flat_map, map}
-use Rattle.mqtt_base.specs.Codes.{success}
+use Rattle.std.proofs.Common.{◌≡◌, ℕ, suc, Bool, true, List, [], ◌∷◌, ◌++◌, refl, ap, sym, subst, ◌∙◌}
+use Rattle.std.specs.Prelude.{Some, decimal, map}
 use Rattle.mqtt_connect.specs.declared.connect.Connect.{Connect}
 use Rattle.mqtt_flow.specs.declared.entry.Turn.{Turn}
 use Rattle.mqtt_flow.specs.declared.entry.Turn.TheVariants.{Repeat}
 use Rattle.mqtt_flow.specs.Outbound.{resumed_with, due_from}
 use Rattle.mqtt_records.specs.declared.session.Session.{Session}
-use Rattle.mqtt_rules.specs.Packets.{connack}
 use Rattle.mqtt_rules.specs.Numbers.{HasGivenBirths}
-use Rattle.mqtt_rules.specs.State.{Line, Broker, session_at, queue_on}
-use Rattle.mqtt_rules.specs.Deeds.{Act, Deed, Begin, Name, Resume, At, Gone, Send, always, then, whose}
-use Rattle.mqtt_rules.specs.Connect.{auto, begin, begin_named, connack_properties, expiry_of, fresh_row, greet, refused, resume, will_of}
+use Rattle.mqtt_rules.specs.State.{Line, session_at, queue_on}
+use Rattle.mqtt_rules.specs.Deeds.{Act, Begin, Name, Resume, At, Gone, always, whose, with_session}
+use Rattle.mqtt_rules.specs.Connect.{auto, begin, begin_named, expiry_of, fresh_row, greet, refused, resume, will_of}
 use Rattle.mqtt_rules.specs.Outbound.{all_turn_deeds}
 use Rattle.mqtt_tables.specs.Doing.{begins, names}
 use Rattle.mqtt_tables.specs.Stepping.{Stepping, Did, to_session}
-use Rattle.mqtt_tables.proofs.Doing.{found_birth, part_of}
+use Rattle.mqtt_tables.proofs.Doing.{found_birth}
 use Rattle.mqtt_connecting.specs.Connecting.{begins_greeted, begun_told, resumption_told, refusal_told, repeats, resumed_greeted, resumed_told}
 use Rattle.mqtt_connecting.proofs.Parts.{AreWhole}
 
@@ -48,10 +46,15 @@ named_whole l n c s number =
 pub births_stay : (s s1 : Stepping) → Did names s s1 → HasGivenBirths s.broker.records → HasGivenBirths s1.broker.records
 births_stay s s1 is given = subst (λ (x : Stepping). HasGivenBirths x.broker.records) (sym is.is) given
 
+resumes_it : (birth : ℕ) (c : Connect) (x : Session) (s : Stepping) → session_at birth s.broker.records ≡ Some x
+    → to_session birth (Resume (expiry_of c) (will_of c)) s.broker ≡ At (whose x) (Resume (expiry_of c) (will_of c)) ∷ []
+resumes_it birth c x s found =
+    ap (λ o. with_session o (λ y. always (At (whose y) (Resume (expiry_of c) (will_of c)) ∷ [])) s.broker) found
+
 pub regreeted_whole : (l : Line) (birth : ℕ) (c : Connect) (x : Session) (s : Stepping) → session_at birth s.broker.records ≡ Some x
     → AreWhole (to_session birth (Resume (expiry_of c) (will_of c))) (always (greet l c birth ∷ [])) (always (resumed_greeted l c x)) s
 regreeted_whole l birth c x s found =
-    ap (λ ds. ds ++ greet l c birth ∷ []) (part_of birth (Resume (expiry_of c) (will_of c)) s.broker x found)
+    ap (λ ds. ds ++ greet l c birth ∷ []) (resumes_it birth c x s found)
     ∙ ap (λ n. At (whose x) (Resume (expiry_of c) (will_of c)) ∷ greet l c n ∷ []) (sym (found_birth birth s.broker.records.sessions x found))
 
 pub retold_whole : (l : Line) (line : ℕ) (c : Connect) (x : Session) (s : Stepping) → l.number ≡ line

@@ -1,5 +1,5 @@
 -- What comes after the preparation for a new connection (MQTT 5.0, 3.1.2.4, 3.2.2.2).
-use Rattle.std.specs.Prelude.{◌≡◌, ℕ, false, nat_lt, List, [], length, Some, None}
+use Rattle.std.specs.Prelude.{◌≡◌, ℕ, Bool, false, ◌||◌, nat_lt, List, [], length, Some, None, is_some}
 use Rattle.mqtt_connect.specs.declared.connect.Connect.{Connect}
 use Rattle.mqtt_records.specs.declared.session.Session.{Session}
 use Rattle.mqtt_records.specs.declared.records.Records.{Records}
@@ -19,6 +19,10 @@ pub record IsNamedAt (client : List ℕ) (birth : ℕ) (r : Records) : Type 0 wh
 -- on what the preparation left, the session is resumed, or a new one begins where there is a place for it
 abbrev pub joins_now : Line → Connect → Env → Act
 joins_now l c env b = joins_after env l c b.now [] b.records
+
+-- the client's session stands, or there is a place for one more
+abbrev pub has_place : Env → Connect → Records → Bool
+has_place env c r = is_some (session_named c.client_identifier r) || nat_lt (length r.sessions) env.limits.sessions
 
 -- it is new, and has no place
 pub record HasNoPlace (c : Connect) (s : Stepping) : Type 0 where

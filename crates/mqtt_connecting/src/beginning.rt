@@ -146,6 +146,13 @@ fn begin_assigned(
     begin_numbered(alloc, step, line, connect, number)
 }
 
+/// Whether a client is to be given its client identifier (3.1.3.1).
+fn is_unnamed(connect: &Connect) -> bool
+    ensures { result ≡ is_empty connect.now.client_identifier }
+{
+    connect.client_identifier.as_str().is_empty()
+}
+
 /// A new session begins on a line, with what a CONNECT says of it, and CONNACK tells what is granted: where
 /// it has no client identifier, the one that it is given too (3.1.2.4, 3.1.3.1, 3.2.2.3).
 pub fn begin_named(
@@ -162,9 +169,16 @@ pub fn begin_named(
         (λ b. begin_named (is_empty connect.now.client_identifier) l connect.now b.records) fault
         step.old step.new) }
 {
-    if connect.client_identifier.as_str().is_empty() {
+    if is_unnamed(connect) {
         begin_assigned(alloc, step, line, connect)
     } else {
-        begin(alloc, step, line, connect, false, &connect.client_identifier)
+        begin(
+            alloc,
+            step,
+            line,
+            connect,
+            false,
+            &connect.client_identifier,
+        )
     }
 }

@@ -67,10 +67,7 @@ impl<'a> QueueRow for Stored<'a> {
 }
 
 /// Adds rows of a queue.
-fn push_rows<'a>(
-    stored: &mut Vec<Stored<'a>>,
-    rows: &'a [Boxed<CopyRow>],
-) -> Result<(), AllocError>
+fn push_rows<'a>(stored: &mut Vec<Stored<'a>>, rows: &'a [Boxed<CopyRow>]) -> Result<(), AllocError>
     ensures { OnOk result (stored.new.items ≡ stored.old.items ++ rows.now) }
 {
     for row in rows {
@@ -80,10 +77,7 @@ fn push_rows<'a>(
 }
 
 /// The rows of a queue.
-fn rows_of<'a>(
-    alloc: Global,
-    rows: &'a [Boxed<CopyRow>],
-) -> Result<Vec<Stored<'a>>, AllocError>
+fn rows_of<'a>(alloc: Global, rows: &'a [Boxed<CopyRow>]) -> Result<Vec<Stored<'a>>, AllocError>
     ensures { IfOk result (λ stored. stored.items ≡ rows.now) }
 {
     let mut stored = Vec::new(alloc);

@@ -34,14 +34,14 @@ pub(crate) fn repeat_all(
     alloc: Global,
     step: &mut Step,
     line: u64,
-    turns: &[Turn],
+    turns: Vec<Turn>,
 ) -> Result<(), StepFault>
-    ensures ok { OnOk result (Did (always (repeats line turns.now)) step.old step.new) }
+    ensures ok { OnOk result (Did (always (repeats line turns.items)) step.old step.new) }
     ensures left { IfErr result (λ fault.
-        IsLeft (always (repeats line turns.now)) fault step.old step.new) }
+        IsLeft (always (repeats line turns.items)) fault step.old step.new) }
 {
     for turn in turns {
-        repeat(alloc, step, line, *turn)?;
+        repeat(alloc, step, line, turn)?;
     }
     Ok(())
 }

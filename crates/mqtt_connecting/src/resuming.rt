@@ -84,18 +84,23 @@ fn resume_with(
     line: u64,
     birth: u64,
     connect: &Connect,
-    turns: &[Turn],
+    turns: Vec<Turn>,
 ) -> Result<(), StepFault>
     ensures ok { (l : Line) (s : Session) → l.number ≡ line
         → session_at birth step.old.broker.records ≡ Some s → OnOk result (Did
-        (always (resumed_told l connect.now s ++ repeats line turns.now)) step.old step.new) }
+        (always (resumed_told l connect.now s ++ repeats line turns.items)) step.old step.new) }
     ensures left { (l : Line) (s : Session) → l.number ≡ line
         → session_at birth step.old.broker.records ≡ Some s → IfErr result (λ fault. IsLeft
-        (always (resumed_told l connect.now s ++ repeats line turns.now)) fault
+        (always (resumed_told l connect.now s ++ repeats line turns.items)) fault
         step.old step.new) }
 {
-    resume_told(alloc, step, line, birth, connect)?;
-    repeat_all(alloc, step, line, turns)
+    match resume_told(alloc, step, line, birth, connect) {
+        Ok(()) => repeat_all(alloc, step, line, turns),
+        Err(fault) => {
+            drop(turns);
+            Err(fault)
+        }
+    }
 }
 
 /// A session that stands is resumed on a line, with what a CONNECT says of it, and CONNACK tells so; then
@@ -115,7 +120,5 @@ pub fn resume(
         IsLeft (λ b. resume l connect.now b.now s) fault step.old step.new) }
 {
     let turns = repeats_of(alloc, step, birth)?;
-    let resumed = resume_with(alloc, step, line, birth, connect, &turns);
-    drop(turns);
-    resumed
+    resume_with(alloc, step, line, birth, connect, turns)
 }

@@ -14,7 +14,7 @@ pub returns-clause-ok : goal.returns-clause-ok
 returns-clause-ok c = λ l number.
     let told : Act = always (refusal_told c.args.line c.args.connect.now c.args.code.0) in
     on_ok c.gone.result
-    (both_done told (always (Gone c.args.line ∷ [])) (always (refused l c.args.connect.now c.args.code.0)) c.args.step.now c.tell_refusal.new.step c.gone.new.step
+    (both_done told (always (Gone c.args.line ∷ [])) (always (refused l c.args.connect.now c.args.code.0)) c.args.step.now c.tell_refusal.new.step c.gone.new.self
     (refused_whole l c.args.line c.args.code.0 c.args.connect.now c.args.step.now number) c.in_ok-tell_refusal.ensures.ok)
     c.gone.ensures.ok
 
@@ -22,7 +22,7 @@ pub returns-clause-left : goal.returns-clause-left
 returns-clause-left c = λ l number.
     let told : Act = always (refusal_told c.args.line c.args.connect.now c.args.code.0) in
     if_err c.gone.result
-    (λ fault. second_left told (always (Gone c.args.line ∷ [])) (always (refused l c.args.connect.now c.args.code.0)) fault c.args.step.now c.tell_refusal.new.step c.gone.new.step
+    (λ fault. second_left told (always (Gone c.args.line ∷ [])) (always (refused l c.args.connect.now c.args.code.0)) fault c.args.step.now c.tell_refusal.new.step c.gone.new.self
     (refused_whole l c.args.line c.args.code.0 c.args.connect.now c.args.step.now number) c.in_ok-tell_refusal.ensures.ok)
     c.gone.ensures.left
 
