@@ -19,6 +19,11 @@ use Rattle.mqtt_rules.specs.Connect.{of_client, take_over, clear, prepare}
 use Rattle.mqtt_rules.proofs.Goods.{AreGood, GoodAct, good_series, good_of_session, good_of_client, good_with_line, good_if}
 use Rattle.mqtt_rules.proofs.LineRows.{IsStill, IsStillPart}
 use Rattle.mqtt_rules.proofs.LineActs.{still_settle, still_clear}
+use Rattle.mqtt_rules.specs.Numbers.{HasGivenBirths}
+use Rattle.mqtt_rules.proofs.Acts.{anyone, leads_prepare}
+use Rattle.mqtt_rules.proofs.ByDeeds.{by_deeds, turn_law}
+use Rattle.mqtt_rules.proofs.NumberBirths.{given_all}
+use Rattle.mqtt_rules.proofs.NumberFacts.{GivesNext, next_law, next_mark}
 use Rattle.mqtt_tables.proofs.Doing.{stands}
 use Rattle.mqtt_connecting.specs.Joining.{has_place}
 
@@ -214,3 +219,12 @@ place_is_left env c b known within =
           let room : nat_lt (length new) env.limits.sessions ≡ true = lt-ltb (length new) env.limits.sessions (omega (arith, fewer, within)) in
           ap (λ t. has new || t) room ∙ or_true (has new)
     ]
+
+-- ---- births
+
+-- births that were given stay below the next
+pub births_stay_given : (env : Env) (c : Connect) (b : Broker) → HasGivenBirths b.records → HasGivenBirths (after_all (prepare env c b) b).records
+births_stay_given env c b given =
+    let any : Broker → Type 0 = λ x. ⊤ in
+    let law = by_deeds env anyone any GivesNext (next_law env) (turn_law env anyone any GivesNext (next_law env) next_mark) in
+    given_all (prepare env c b) b (leads_prepare env anyone any GivesNext law c b tt tt).0 given

@@ -12,8 +12,8 @@ mod repeating;
 mod resuming;
 
 pub use beginning::begin_named;
-pub use connecting::connect_new;
+pub use connecting::{connect_new, connect_refused, refusal_of};
 pub use joining::{Joined, join};
-pub use laws::known_clients_find_a_place;
+pub use laws::{known_clients_find_a_place, preparing_gives_no_birth};
 pub use refusing::refuse;
 pub use resuming::resume;
