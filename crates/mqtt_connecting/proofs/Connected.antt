@@ -78,7 +78,7 @@ joins_behind env l c now ds r None room =
     ap (λ es. ds ++ es) (placed t begins (refused l c quota_exceeded) room) ∙ sym (placed t (ds ++ begins) (refused l c quota_exceeded) room)
 
 pub connects_in_parts : (env : Env) (l : Line) (c : Connect) (b : Broker)
-    → has_place env c (after_all (prepare env c b) b).records ≡ true
+    → has_place env.limits.sessions c (after_all (prepare env c b) b).records ≡ true
     → then (prepare env c b) (joins_now l c env) b ≡ connect_by None env l c b
 connects_in_parts env l c b room =
     let ds = prepare env c b in

@@ -1,10 +1,11 @@
 //! A CONNECT that isn't refused: its session is resumed, or begins where there is a place for it (MQTT 5.0,
 //! 3.1.2.4, 3.2.2.2).
-ghost use Rattle.std.specs.Prelude.{◌≡◌, None, IfSome, IfNone, IfOk, IfErr};
+ghost use Rattle.std.specs.Prelude.{◌≡◌, None, IfSome, IfNone, IfOk, IfErr, OnErr};
+ghost use Rattle.mqtt_rules.specs.Connect.{on_connect};
 ghost use Rattle.mqtt_rules.specs.Numbers.{HasGivenBirths};
-ghost use Rattle.mqtt_rules.specs.State.{Line, session_named};
-ghost use Rattle.mqtt_tables.specs.Stepping.{Leaves};
-ghost use Rattle.mqtt_connecting.specs.Joining.{IsNamedAt, JoinedBy, joins_now};
+ghost use Rattle.mqtt_rules.specs.State.{Line, MemberChoice, session_named};
+ghost use Rattle.mqtt_tables.specs.Stepping.{env_in, IsLeft, Leaves, Stepping};
+ghost use Rattle.mqtt_connecting.specs.Joining.{ConnectedBy, IsNamedAt, IsPlaced, IsPrepared, JoinedBy, joins_now};
 
 use crate::beginning::begin_named;
 use crate::resuming::resume;
@@ -46,6 +47,7 @@ fn begin_placed(
         JoinedBy l connect.now joined step.old step.new) }
     ensures left { (l : Line) → l.number ≡ line → IfErr result (λ fault.
         Leaves (joins_now l connect.now) fault step.old step.new) }
+    ensures place { OnErr result (IsPlaced connect.now step.old) }
 {
     if step.sessions_len() >= step.session_limit() {
         return Ok(Joined::NoPlace);
@@ -67,6 +69,7 @@ fn resume_named(
         JoinedBy l connect.now joined step.old step.new) }
     ensures left { (l : Line) → l.number ≡ line → IfErr result (λ fault.
         Leaves (joins_now l connect.now) fault step.old step.new) }
+    ensures place { OnErr result (IsPlaced connect.now step.old) }
 {
     resume(alloc, step, line, birth, connect)?;
     Ok(Joined::Done)
@@ -86,6 +89,17 @@ pub fn join(
         JoinedBy l connect.now joined step.old step.new) }
     ensures left { (l : Line) → l.number ≡ line → IfErr result (λ fault.
         Leaves (joins_now l connect.now) fault step.old step.new) }
+    ensures place { OnErr result (IsPlaced connect.now step.old) }
+
+    // With what came before it the CONNECT is done.
+    ensures whole { (l : Line) (first : Stepping) (choice : MemberChoice) → l.number ≡ line
+        → IsPrepared (env_in choice first) connect.now first step.old
+        → IfOk result (λ joined. ConnectedBy
+        (env_in choice first) l connect.now joined first step.new) }
+    ensures whole_left { (l : Line) (first : Stepping) (choice : MemberChoice) → l.number ≡ line
+        → IsPrepared (env_in choice first) connect.now first step.old
+        → IfErr result (λ fault. IsLeft
+        (on_connect (env_in choice first) l connect.now) fault first step.new) }
 {
     match birth_named(step, connect.client_identifier.as_str()) {
         Some(birth) => resume_named(alloc, step, line, birth, connect),

@@ -13,7 +13,7 @@ pub fn known_clients_find_a_place()
     ensures { (env : Env) (c : Connect) (b : Broker)
         → is_some (session_named c.client_identifier b.records) ≡ true
         → length b.records.sessions ≤ env.limits.sessions
-        → has_place env c (after_all (prepare env c b) b).records ≡ true }
+        → has_place env.limits.sessions c (after_all (prepare env c b) b).records ≡ true }
 {}
 
 /// What comes before a new connection gives no birth: those of the sessions that stand stay below the next.
