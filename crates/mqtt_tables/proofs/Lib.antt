@@ -1,5 +1,6 @@
 pub mod Journal
 pub mod Rows
+pub mod Named
 pub mod Doing
 pub mod Inverse
 pub mod Backs
@@ -9,4 +10,3 @@ pub mod LeftCopies
 pub mod Links
 pub mod Resumed
 pub mod Begun
-pub mod Named
