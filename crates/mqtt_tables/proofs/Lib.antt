@@ -1,5 +1,6 @@
 pub mod Journal
 pub mod Rows
+pub mod Named
 pub mod Doing
 pub mod Inverse
 pub mod Backs

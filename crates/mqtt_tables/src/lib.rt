@@ -12,6 +12,7 @@ mod leaving;
 mod line;
 mod lines;
 mod linking;
+mod naming;
 mod numbers;
 mod outputs;
 mod resuming;
