@@ -1,6 +1,6 @@
 -- What a publication becomes by an index of the subscriptions.
 use Rattle.std.proofs.Common.{◌≡◌, ℕ, Bool, true, false, List, [], ◌∷◌, ◌++◌, map, refl, ap, sym, subst, ◌∙◌}
-use Rattle.std.specs.Prelude.{Option, Some, None, option_map, is_some, flat_map}
+use Rattle.std.specs.Prelude.{Option, Some, None, option_map, flat_map}
 use Rattle.std.specs.List.{AllByRecursion}
 use Rattle.mqtt_base.specs.declared.session.Cause.{Cause}
 use Rattle.mqtt_base.specs.declared.session.Cause.TheVariants.{Direct, Share}
@@ -17,7 +17,7 @@ use Rattle.mqtt_routes.proofs.TakerLemmas.{routed_wanted}
 use Rattle.mqtt_rows.specs.Order.{IsAscending}
 use Rattle.mqtt_rules.specs.State.{MemberChoice}
 use Rattle.mqtt_rules.specs.Deeds.{Message}
-use Rattle.mqtt_rules.specs.Routing.{CopyTo, accepted_copies, accepted_if, answers, copies_to, copy_to, finds_place, next_publication, publication_of, routing_of, served_copies_to, subscribers}
+use Rattle.mqtt_rules.specs.Routing.{CopyTo, accepted_copies, accepted_if, copies_to, copy_to, finds_place, next_publication, publication_of, routing_of, served_copies_to, subscribers}
 use Rattle.mqtt_rules.proofs.OrderedAccepted.{accepted_within}
 use Rattle.mqtt_tables.specs.Stepping.{Stepping, env_in}
 use Rattle.mqtt_acts.specs.Choosing.{IsAccepted, IsLawfulMessage, IsRefused, IsRouted}

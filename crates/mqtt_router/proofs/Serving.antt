@@ -1,10 +1,8 @@
 -- Changes of the index, and what it serves after them.
-use Rattle.std.proofs.Common.{◌≡◌, ℕ, ◌<◌, ◌≤◌, Bool, true, false, cond, ◌||◌, not, List, [], ◌∷◌, length, nat_lt, nat_eq, refl, ap, sym, subst, ◌∙◌, arith}
-use Rattle.std.specs.Prelude.{bytes_eq}
+use Rattle.std.proofs.Common.{ℕ, Bool, true, false, cond, List, [], ◌∷◌, nat_lt, nat_eq, ap, sym, ◌∙◌, arith}
 use Rattle.std.specs.List.{AllByRecursion}
-use Rattle.mqtt_base.specs.declared.limits.TheConstants.{SUBSCRIPTION_LIMIT}
 use Rattle.mqtt_routes.specs.declared.subscription.Subscription.{Subscription}
-use Rattle.mqtt_routes.specs.Subscriptions.{Subscriber, subscriber, AreInOrder, subs_of, with_subs, without_session, with_some, standing}
+use Rattle.mqtt_routes.specs.Subscriptions.{Subscriber, subscriber, AreInOrder, subs_of, with_subs, without_session, standing}
 use Rattle.mqtt_routes.proofs.SomeLemmas.{some_dropped, some_standing}
 use Rattle.mqtt_router.specs.Indexing.{IsLawful, Serves}
 

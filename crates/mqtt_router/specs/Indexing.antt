@@ -1,11 +1,9 @@
 -- An index of subscriptions, and what a publication becomes by it (MQTT 5.0, 3.3.4, 3.8, 4.8).
-use Rattle.std.specs.Prelude.{◌≡◌, ℕ, ◌≤◌, Bool, ◌&&◌, not, nat_lt, List, [], ◌++◌, length, map, flat_map, find, Option, Some, None, option_map}
-use Rattle.std.specs.List.{AllByRecursion, count_by}
+use Rattle.std.specs.Prelude.{◌≡◌, ℕ, ◌≤◌, Bool, ◌&&◌, nat_lt, List, [], ◌++◌, length, map, flat_map, Option, Some, None}
+use Rattle.std.specs.List.{AllByRecursion}
 use Rattle.mqtt_base.specs.declared.limits.TheConstants.{SUBSCRIPTION_LIMIT}
 use Rattle.mqtt_base.specs.declared.session.Cause.{Cause}
 use Rattle.mqtt_base.specs.declared.session.Cause.TheVariants.{Direct, Share}
-use Rattle.mqtt_flow.specs.declared.entry.Full.{Full}
-use Rattle.mqtt_flow.specs.declared.entry.Full.TheVariants.{Refuse, Drop}
 use Rattle.mqtt_flow.specs.Outbound.{is_waiting, staying}
 use Rattle.mqtt_lawful.specs.Lawful.{IsIdentifier}
 use Rattle.mqtt_message.specs.declared.message.MessageCopy.{MessageCopy}

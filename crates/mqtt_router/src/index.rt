@@ -4,7 +4,7 @@ ghost use Rattle.mqtt_codec.specs.Heads.{qos_number};
 ghost use Rattle.mqtt_topic.specs.Names.{IsTopicName};
 ghost use Rattle.mqtt_records.specs.Session.{birth_of};
 ghost use Rattle.mqtt_rows.specs.Order.{IsAscending};
-ghost use Rattle.mqtt_routes.specs.Subscriptions.{Subscriber, filters_of, have_room, with_some};
+ghost use Rattle.mqtt_routes.specs.Subscriptions.{Subscriber, AreInOrder, filters_of, have_room, with_some, without_session};
 ghost use Rattle.mqtt_rules.specs.State.{MemberChoice};
 ghost use Rattle.mqtt_rules.specs.Routing.{finds_place, next_publication};
 ghost use Rattle.mqtt_tables.specs.Stepping.{env_in};
@@ -101,9 +101,18 @@ impl Index {
         ensures fault { IfErr result (λ fault. fault ≡ StepFault.Memory) }
     {
         match self.routes.make_room(birth, new) {
-            Ok(()) => return Ok(()),
-            Err(_) => return Err(StepFault::Memory),
+            Ok(()) => Ok(()),
+            Err(_) => Err(StepFault::Memory),
         }
+    }
+
+    /// A session that ended has no subscriptions (3.1.2.11.2). Takes no memory.
+    pub fn drop_session(&mut self, birth: u64)
+        ensures serves { (sessions : List Subscriber) → AreInOrder sessions
+            → Serves self.old.sessions sessions
+            → Serves self.new.sessions (without_session birth sessions) }
+    {
+        self.routes.drop_session(birth);
     }
 
     /// Where a publication goes; nowhere where a queue that it needs has no room.

@@ -1,7 +1,7 @@
-use Rattle.std.proofs.Common.{◌≡◌, List, ap, subst, ◌∙◌}
+use Rattle.std.proofs.Common.{ap, subst, ◌∙◌}
 use Rattle.std.specs.Prelude.{Some, None}
 use Rattle.mqtt_codec.specs.Heads.{qos_number}
-use Rattle.mqtt_routes.specs.Subscriptions.{Subscriber, HeldSessions}
+use Rattle.mqtt_routes.specs.Subscriptions.{HeldSessions}
 use Rattle.mqtt_router.specs.Indexing.{IsFound}
 use Rattle.mqtt_router.proofs.Routed.{asked_of}
 use Rattle.mqtt_router.proofs.index.Index.find.Goals as goal
