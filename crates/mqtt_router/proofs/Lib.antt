@@ -1,0 +1,4 @@
+pub mod Rooms
+pub mod Spelled
+pub mod Routed
+pub mod Serving

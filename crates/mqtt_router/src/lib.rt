@@ -1,0 +1,10 @@
+//! An index of the subscriptions of all sessions, by which publications are routed over the tables of a
+//! step (MQTT 5.0, 3.3.4, 3.8, 4.8).
+#![tactic(auto)]
+
+mod copies;
+mod index;
+mod look;
+mod room;
+
+pub use index::Index;
