@@ -7,3 +7,6 @@ pub mod RemovesSession
 pub mod RemoveSessionRuns
 pub mod SetCopy
 pub mod Removal
+pub mod Whole
+pub mod Deletes
+pub mod Replace

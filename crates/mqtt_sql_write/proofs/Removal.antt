@@ -83,7 +83,7 @@ gone_are tree tests params db rows shaped a =
     let shown = has_permuted (map (shows params numbers) found) rows (shows params numbers r) p (map_has (shows params numbers) found r (filter_has (passes params tests) (db tree) r h same)) in
     subst (Has (ids_of rows)) (ap id_in there) (map_has (λ (z : Row). id_in (rowid z)) rows (shows params numbers r) shown))
 
-shaped_left : (a b : Trees) (t : ℕ) (gone : Row → Bool) → b t ≡ filter (λ r. not (gone r)) (a t) → IsShapedAt a t → IsShapedAt b t
+pub shaped_left : (a b : Trees) (t : ℕ) (gone : Row → Bool) → b t ≡ filter (λ r. not (gone r)) (a t) → IsShapedAt a t → IsShapedAt b t
 shaped_left a b t gone same h =
     let both = IsShaped-filter TableShape (λ r. not (gone r)) (a t) (h.up, h.ints) in
     record { up = rw same both.0; ints = rw same both.1 }

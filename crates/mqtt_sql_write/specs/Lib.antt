@@ -1,3 +1,4 @@
 pub mod Content
 pub mod Copy
 pub mod Removal
+pub mod Put
