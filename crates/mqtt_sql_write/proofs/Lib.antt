@@ -10,3 +10,5 @@ pub mod Removal
 pub mod Whole
 pub mod Deletes
 pub mod Replace
+pub mod Fresh
+pub mod PutOpen

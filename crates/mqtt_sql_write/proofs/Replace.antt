@@ -1,5 +1,6 @@
 -- INSERT OR REPLACE into a table, from its text on.
-use Rattle.std.proofs.Common.{◌≡◌, ◌≢◌, ◌⊎◌, ℕ, zero, suc, ℤ, ◌/◌, Bool, true, false, not, ◌&&◌, ◌||◌, if◌then◌else◌, List, [], ◌∷◌, ◌++◌, filter, map, length, slice_get, Option, Some, None, Ok, Err, Result, OnOk, refl, sym, ap, ◌∙◌, subst, inl, inr, IsTrue, arith}
+use Rattle.std.proofs.Common.{◌≡◌, ◌≢◌, ◌⊎◌, ℕ, zero, suc, ℤ, ◌/◌, Bool, true, false, not, ◌&&◌, ◌||◌, if◌then◌else◌, List, [], ◌∷◌, ◌++◌, filter, map, length, slice_get, Option, Some, None, Ok, Err, Result, OnOk, refl, sym, ap, ◌∙◌, subst, inl, inr, IsTrue, MatchBool, true≢false}
+use Rattle.std.specs.Ordering.{is_lt, int_cmp}
 use Rattle.sqlite_value.specs.declared.value.Value.{Value}
 use Rattle.sqlite_value.specs.declared.value.Value.TheVariants.{Null, Int}
 use Rattle.sqlite_value.specs.Order.{Row}
@@ -28,7 +29,7 @@ use Rattle.sqlite.specs.Term.{Term}
 use Rattle.sqlite.specs.declared.error.Error.{Error}
 use Rattle.sqlite.specs.Listing.{understood}
 use Rattle.sqlite.specs.Effect.{Database, value_rows, edit_error}
-use Rattle.sqlite.specs.Rows.{Task, Written, Upserts, Clears, Puts, Tries, TriesEach, Judged, rowids_for, mended, stamped, nothing, count_of}
+use Rattle.sqlite.specs.Rows.{Task, Written, Upserts, Clears, Puts, Tries, TriesEach, Judged, rowids_for, mended, stamped, nothing, count_of, CountsIn, sequence, Gives}
 use Rattle.sqlite.specs.Does.{Does, Tally}
 use Rattle.sqlite.specs.State.{State, mode_of, ExecutesInside}
 use Rattle.sqlite.proofs.Callers.{IsPlain, command_of, statement_of, runs_as, one_step}
@@ -39,6 +40,10 @@ use Rattle.mqtt_sql_write.proofs.Parts.{went, same_value, plain_mode}
 use Rattle.mqtt_sql_write.proofs.Rows.{without_those}
 use Rattle.mqtt_sql_write.proofs.Removal.{has_map, map_has}
 use Rattle.mqtt_sql_write.proofs.Whole.{whole_after}
+
+uncounted_gives : (b x : Bool) (P Q : Type 0) → b ≡ false → MatchBool (if b then x else false) P Q → Q
+uncounted_gives true x P Q e h = absurd (true≢false e)
+uncounted_gives false x P Q e h = h
 
 -- what is known of a table that counts no rows, where a row is put
 pub record IsPutOf (table : Table) (put : Row) : Type 0 where
@@ -108,7 +113,8 @@ module _ (table : Table) (put : Row) (known : IsPutOf table put) (db : Trees) (g
         let cnt = went src.2 in
         let each = went cnt.2 in
         let cts = went each.2 in
-        let counted : cts.0 ≡ each.0.0.trees = same_value (rw known.uncounted at cts.1) in
+        let counted : cts.0 ≡ each.0.0.trees = same_value
+        (uncounted_gives table.is_counted (is_lt (int_cmp (count_of cnt.0) each.0.1)) (CountsIn (task limit params) each.0.0.trees cnt.0 each.0.1 (sequence keep_schema) (Ok cts.0)) (Gives each.0.0.trees (Ok cts.0)) known.uncounted cts.1) in
         let first = subst (λ (l : List Row). TriesEach (task limit params) Replace [] l (count_of cnt.0) (nothing db) (Ok each.0)) rows each.1 in
         let one = went first in
         let went_in = tries limit params one.0 (subst (λ (r : Row). Tries (task limit params) Replace [] r db (Ok one.0)) (numbered (count_of cnt.0)) one.1) in

@@ -4,9 +4,10 @@ ghost use Rattle.sqlite_value.specs.declared.value.Value.TheVariants.{Int};
 ghost use Rattle.sqlite_rules.specs.Lists.{Has};
 ghost use Rattle.sqlite.specs.Held.{state};
 ghost use Rattle.sqlite.specs.State.{HasCleanDisk, Survives, KeepsCommit};
-ghost use Rattle.mqtt_sql_write.specs.Content.{IsReady};
+ghost use Rattle.mqtt_sql_write.specs.Content.{IsReady, IsWhole};
 ghost use Rattle.mqtt_sql_write.specs.Copy.{CopyColumns, copy_row, SetsCopy};
 ghost use Rattle.mqtt_sql_write.specs.Removal.{is_keyed, RemovesFrom};
+ghost use Rattle.mqtt_sql_write.specs.Put.{PutsInto, numbered, open_row};
 
 use crate::sessions::whole;
 use sqlite::{Alter, Error, Transaction, params};
@@ -95,6 +96,29 @@ pub fn remove_open<S: Alter>(
     let identifier = whole(identifier);
     tx.execute(
         "DELETE FROM inbound WHERE birth = ?1 AND ident = ?2",
+        params![birth, identifier],
+    )
+}
+
+/// Puts an open identifier, in place of itself where it stands.
+pub fn put_open<S: Alter>(
+    tx: &mut Transaction<'_, S>,
+    birth: u64,
+    identifier: u64,
+) -> Result<usize, Error>
+    requires birth { birth < 2 ^ 63 }
+    requires identifier { identifier < 2 ^ 63 }
+    ensures same_reference { tx.new.conn.ghost_name ≡ tx.old.conn.ghost_name }
+    ensures put { HasCleanDisk (state S.Store tx.new.conn.now) → IsWhole (state S.Store tx.old.conn.now)
+        → OnOk result (PutsInto 7 (numbered 7 (open_row birth identifier) (state S.Store tx.old.conn.now).now.trees) (is_keyed (pos birth) (pos identifier)) (state S.Store tx.old.conn.now).now.trees (state S.Store tx.new.conn.now).now.trees)
+        × OnOk result (IsWhole (state S.Store tx.new.conn.now)) }
+    ensures kept { HasCleanDisk (state S.Store tx.new.conn.now) → KeepsCommit (state S.Store tx.old.conn.now) (state S.Store tx.new.conn.now) }
+    ensures survives { Survives (state S.Store tx.old.conn.now) (state S.Store tx.new.conn.now) (λ _. ⊥) }
+{
+    let birth = whole(birth);
+    let identifier = whole(identifier);
+    tx.execute(
+        "INSERT OR REPLACE INTO inbound VALUES (?1, ?2)",
         params![birth, identifier],
     )
 }

@@ -7,7 +7,7 @@ mod sessions;
 mod subscriptions;
 mod wills;
 
-pub use copies::{remove_copy, remove_open, set_copy};
+pub use copies::{put_open, remove_copy, remove_open, set_copy};
 pub use retained::remove_retained;
 pub use sessions::remove_session;
 pub use subscriptions::remove_subscription;
