@@ -1,5 +1,5 @@
 -- The number that a table gives a row is no other row's.
-use Rattle.std.proofs.Common.{◌≡◌, ℕ, ℤ, Bool, true, false, ◌&&◌, ◌||◌, List, [], ◌∷◌, refl, sym, ap, ◌∙◌, IsTrue, true≢false}
+use Rattle.std.proofs.Common.{◌≡◌, ℕ, ℤ, pos, cond, Bool, true, false, ◌&&◌, ◌||◌, List, [], ◌∷◌, refl, sym, ap, ◌∙◌, IsTrue, true≢false}
 use Rattle.std.specs.List.{AllByRecursion}
 use Rattle.std.specs.Ordering.{is_eq}
 use Rattle.std.proofs.lemmas.Bool.{false_from_ne_true}
@@ -15,6 +15,7 @@ use Rattle.sqlite_rules.specs.declared.error.Rowids.TheVariants.{Chosen}
 use Rattle.sqlite_rules.proofs.ListLemmas.{all_has, some_from}
 use Rattle.sqlite_rules.proofs.PlaceLemmas.{next_is_free}
 use Rattle.mqtt_sql_write.specs.Content.{IsShapedAt}
+use Rattle.mqtt_sql_write.specs.Columns.{flag}
 use Rattle.mqtt_sql_write.proofs.RemoveSession.{equal_ids}
 
 pub apart : (db : Trees) (tree : ℕ) (r : Row) → IsShapedAt db tree → Has (db tree) r → equal Binary (rowid r) (Int (next_rowid (db tree))) ≡ false
@@ -30,3 +31,8 @@ and_true false = refl
 pub or_false : (b : Bool) → (b || false) ≡ b
 or_false true = refl
 or_false false = refl
+
+-- a bool as it is bound
+pub flag_is : (b : Bool) → Int (cond b (pos 1) (pos 0)) ≡ flag b
+flag_is true = refl
+flag_is false = refl

@@ -12,3 +12,7 @@ pub mod Deletes
 pub mod Replace
 pub mod Fresh
 pub mod PutOpen
+pub mod PutWill
+pub mod PutRetained
+pub mod PutSubscription
+pub mod PutCopy

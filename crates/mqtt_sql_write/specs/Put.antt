@@ -18,3 +18,7 @@ numbered tree row db = Int (next_rowid (db tree)) ∷ row
 
 abbrev pub open_row : ℕ → ℕ → Row
 open_row birth identifier = Int (pos birth) ∷ Int (pos identifier) ∷ []
+
+-- the retained messages at that place, and to that topic
+abbrev pub is_retained : ℕ → List ℕ → Row → Bool
+is_retained place topic r = is_of 0 (pos place) r || is_text 2 topic r

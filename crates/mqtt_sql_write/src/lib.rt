@@ -7,8 +7,8 @@ mod sessions;
 mod subscriptions;
 mod wills;
 
-pub use copies::{put_open, remove_copy, remove_open, set_copy};
-pub use retained::remove_retained;
+pub use copies::{CopyColumns, put_copy, put_open, remove_copy, remove_open, set_copy};
+pub use retained::{RetainedColumns, put_retained, remove_retained};
 pub use sessions::remove_session;
-pub use subscriptions::remove_subscription;
-pub use wills::remove_will;
+pub use subscriptions::{SubscriptionColumns, put_subscription, remove_subscription};
+pub use wills::{WillColumns, put_will, remove_will};
