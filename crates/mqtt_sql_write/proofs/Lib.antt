@@ -16,3 +16,4 @@ pub mod PutWill
 pub mod PutRetained
 pub mod PutSubscription
 pub mod PutCopy
+pub mod SetNumber

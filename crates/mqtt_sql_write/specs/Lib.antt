@@ -2,4 +2,5 @@ pub mod Content
 pub mod Copy
 pub mod Removal
 pub mod Columns
+pub mod Numbers
 pub mod Put

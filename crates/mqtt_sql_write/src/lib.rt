@@ -2,12 +2,14 @@
 #![tactic(auto)]
 
 mod copies;
+mod numbers;
 mod retained;
 mod sessions;
 mod subscriptions;
 mod wills;
 
 pub use copies::{CopyColumns, put_copy, put_open, remove_copy, remove_open, set_copy};
+pub use numbers::set_number;
 pub use retained::{RetainedColumns, put_retained, remove_retained};
 pub use sessions::remove_session;
 pub use subscriptions::{SubscriptionColumns, put_subscription, remove_subscription};
