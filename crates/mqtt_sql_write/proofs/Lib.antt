@@ -17,3 +17,4 @@ pub mod PutRetained
 pub mod PutSubscription
 pub mod PutCopy
 pub mod SetNumber
+pub mod PutSession

@@ -71,7 +71,8 @@ puts birth place m old new r whole h =
     let row = copy_row birth place m in
     let put = numbered 9 row db in
     replaces put_text 5 copy terms 16 row (Null ∷ row) (is_keyed (pos birth) (pos place)) put_is put_plain refl refl put old new r whole whole.ready.shaped.copy
-    (record { uncounted = refl; kept = cast_put birth place m (Int next) (cast_int next); int = refl; childless = λ olds. no_works olds put; childless_out = no_works_out })
+    (record { uncounted = refl; kept = cast_put birth place m (Int next) (cast_int next); int = refl; childless = λ olds. no_works olds put})
+    no_works_out
     (λ r h. conflict_is next birth place m r (apart db 9 r whole.ready.shaped.copy h))
     (λ top. ap (with_rowid Chosen (db 9)) (cast_put birth place m Null cast_null))
     h

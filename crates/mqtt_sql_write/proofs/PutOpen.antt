@@ -68,7 +68,8 @@ puts_open birth identifier old new r whole h =
     let next = next_rowid (db 7) in
     let put = numbered 7 (open_row birth identifier) db in
     replaces put_open_text 4 inbound terms 3 (open_row birth identifier) (Null ∷ open_row birth identifier) (is_keyed (pos birth) (pos identifier)) put_is put_plain refl refl put old new r whole whole.ready.shaped.inbound
-    (record { uncounted = refl; kept = cast_put birth identifier (Int next) (cast_int next); int = refl; childless = λ olds. no_works olds put; childless_out = no_works_out })
+    (record { uncounted = refl; kept = cast_put birth identifier (Int next) (cast_int next); int = refl; childless = λ olds. no_works olds put})
+    no_works_out
     (λ r h. conflict_is next (pos birth) (pos identifier) r (apart db 7 r whole.ready.shaped.inbound h))
     (λ top. ap (with_rowid Chosen (db 7)) (cast_put birth identifier Null cast_null))
     h

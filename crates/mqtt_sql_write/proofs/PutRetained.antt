@@ -69,7 +69,8 @@ puts place m old new r whole h =
     let db = old.now.trees in
     let put = retained_row place m in
     replaces put_text 6 retained terms 9 (Int (pos place) ∷ Text m.topic ∷ Text m.sender ∷ Int (pos m.publication) ∷ Int (pos m.qos) ∷ Blob m.props ∷ Blob m.payload ∷ Int (pos m.arrived) ∷ []) put (is_retained place m.topic) put_is put_plain refl refl put old new r whole whole.retained
-    (record { uncounted = refl; kept = cast_put place m; int = refl; childless = λ olds. no_works olds put; childless_out = no_works_out })
+    (record { uncounted = refl; kept = cast_put place m; int = refl; childless = λ olds. no_works olds put})
+    no_works_out
     (λ r h. conflict_is place m r)
     (λ top. ap (with_rowid Chosen (db 11)) (cast_put place m))
     h

@@ -72,7 +72,8 @@ puts birth text m old new r whole h =
     let row = subscription_row birth text m in
     let put = numbered 5 row db in
     replaces put_text 3 sub terms 9 row (Null ∷ row) (is_subscription (pos birth) text) put_is put_plain refl refl put old new r whole whole.ready.shaped.sub
-    (record { uncounted = refl; kept = cast_put birth text m (Int next) (cast_int next); int = refl; childless = λ olds. no_works olds put; childless_out = no_works_out })
+    (record { uncounted = refl; kept = cast_put birth text m (Int next) (cast_int next); int = refl; childless = λ olds. no_works olds put})
+    no_works_out
     (λ r h. conflict_is next birth text m r (apart db 5 r whole.ready.shaped.sub h))
     (λ top. ap (with_rowid Chosen (db 5)) (cast_put birth text m Null cast_null))
     h

@@ -69,7 +69,8 @@ puts birth m old new r whole h =
     let db = old.now.trees in
     let put = will_row birth m in
     replaces put_text 2 will terms 8 (Int (pos birth) ∷ Int (pos m.delay) ∷ Text m.topic ∷ Int (pos m.qos) ∷ flag m.retain ∷ Blob m.props ∷ Blob m.payload ∷ []) put (is_of 0 (pos birth)) put_is put_plain refl refl put old new r whole whole.ready.shaped.will
-    (record { uncounted = refl; kept = cast_put birth m; int = refl; childless = λ olds. no_works olds put; childless_out = no_works_out })
+    (record { uncounted = refl; kept = cast_put birth m; int = refl; childless = λ olds. no_works olds put})
+    no_works_out
     (λ r h. conflict_is birth m r)
     (λ top. ap (with_rowid Chosen (db 4)) (cast_put birth m))
     h

@@ -48,7 +48,7 @@ module _ (birth : ℤ) (db after : Trees) (one : Row) (shaped : AreShaped db) (h
       let p : IsPermutation ((rowid one ∷ []) ∷ []) rows = subst (λ l. IsPermutation (map (shows (Int birth ∷ []) (col 1 0 ∷ [])) l) rows) alone (answers_over 2 (equals 0 0 ∷ []) (col 1 0 ∷ []) db (Int birth ∷ []) rows a) in
       one_permutation (rowid one ∷ []) rows p ∙ ap (λ v. (v ∷ []) ∷ []) is
 
-  went_out : without_all (db 2) (birth ∷ []) ≡ without 0 birth (db 2)
+  pub went_out : without_all (db 2) (birth ∷ []) ≡ without 0 birth (db 2)
   went_out = without_those (is_of 0 birth) (db 2) (birth ∷ []) shaped.session.up shaped.session.ints
       (λ id h. elim h [ inl same ↦ (one, has, is_own one birth is, is ∙ ap Int (sym same)) | inr none ↦ absurd none ])
       (λ r id h p there.

@@ -1,9 +1,20 @@
 -- What the rows have behind their keys, and the rows.
-use Rattle.std.specs.Prelude.{ℕ, pos, Bool, cond, List, [], ◌∷◌}
+use Rattle.std.specs.Prelude.{ℕ, pos, Bool, cond, List, [], ◌∷◌, Option}
 use Rattle.sqlite_value.specs.declared.value.Value.{Value}
 use Rattle.sqlite_value.specs.declared.value.Value.TheVariants.{Null, Int, Text, Blob}
 use Rattle.sqlite_value.specs.Order.{Row}
+use Rattle.mqtt_sql_write.specs.Copy.{number_or_null}
 use Rattle.mqtt_sql_write.specs.declared.subscriptions.SubscriptionColumns.{SubscriptionColumns}
+
+pub record SessionColumns : Type 0 where
+  pub client : List ℕ
+  pub expiry : ℕ
+  -- null while connected
+  pub closed : Option ℕ
+
+-- the birth is its number in the table, and NULL stands in its column
+abbrev pub session_row : ℕ → SessionColumns → Row
+session_row birth s = Int (pos birth) ∷ Null ∷ Text s.client ∷ Int (pos s.expiry) ∷ number_or_null s.closed ∷ []
 
 -- 1 for true
 abbrev pub flag : Bool → Value

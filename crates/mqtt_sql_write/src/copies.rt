@@ -68,7 +68,7 @@ impl<'a> Model for CopyColumns<'a> {
 }
 
 /// A number that may be missing, as SQL has it.
-fn whole_or_none(n: Option<u64>) -> Option<i64>
+pub(crate) fn whole_or_none(n: Option<u64>) -> Option<i64>
     requires { IfSome n (λ n. n < 2 ^ 63) }
     ensures { result ≡ option_map pos n }
 {

@@ -11,6 +11,6 @@ mod wills;
 pub use copies::{CopyColumns, put_copy, put_open, remove_copy, remove_open, set_copy};
 pub use numbers::set_number;
 pub use retained::{RetainedColumns, put_retained, remove_retained};
-pub use sessions::remove_session;
+pub use sessions::{SessionColumns, put_session, remove_session};
 pub use subscriptions::{SubscriptionColumns, put_subscription, remove_subscription};
 pub use wills::{WillColumns, put_will, remove_will};
