@@ -18,3 +18,4 @@ pub mod PutSubscription
 pub mod PutCopy
 pub mod SetNumber
 pub mod PutSession
+pub mod RemoveNone

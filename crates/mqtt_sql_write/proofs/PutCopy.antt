@@ -1,11 +1,11 @@
 -- INSERT OR REPLACE INTO copy, from its text on.
-use Rattle.std.proofs.Common.{◌≡◌, ℕ, ℤ, pos, Bool, true, false, ◌&&◌, ◌||◌, List, [], ◌∷◌, codes, None, Ok, Err, Result, OnOk, refl, sym, ap, ◌∙◌}
+use Rattle.std.proofs.Common.{◌≡◌, ℕ, ℤ, pos, false, List, [], ◌∷◌, codes, None, Result, OnOk, refl, ap}
 use Rattle.sqlite_value.specs.declared.value.Value.{Value}
-use Rattle.sqlite_value.specs.declared.value.Value.TheVariants.{Null, Int, Text, Blob}
+use Rattle.sqlite_value.specs.declared.value.Value.TheVariants.{Null, Int}
 use Rattle.sqlite_value.specs.declared.keys.Collation.TheVariants.{Binary}
 use Rattle.sqlite_value.specs.Keys.{first_key, joined}
-use Rattle.sqlite_value.specs.Order.{Row, column}
-use Rattle.sqlite_trees.specs.Tree.{Trees, rowid}
+use Rattle.sqlite_value.specs.Order.{Row}
+use Rattle.sqlite_trees.specs.Tree.{rowid}
 use Rattle.sqlite_schema.specs.Names.{same_name}
 use Rattle.sqlite_schema.specs.Rules.{equal}
 use Rattle.sqlite_schema.specs.declared.schema.Keys.TheVariants.{Enforced}
@@ -25,14 +25,13 @@ use Rattle.sqlite.specs.State.{State, ExecutesInside}
 use Rattle.sqlite_tied.specs.Compute.{everything}
 use Rattle.sqlite.proofs.Callers.{IsPlain, command_of}
 use Rattle.mqtt_sql_schema.specs.Tables.{keep_schema, copy}
-use Rattle.mqtt_sql_write.specs.Content.{is_of, is_text, IsShapedAt, IsWhole}
-use Rattle.mqtt_sql_write.specs.Removal.{is_keyed, is_subscription}
-use Rattle.mqtt_sql_write.specs.Columns.{flag, WillColumns, will_row, RetainedColumns, retained_row}
-use Rattle.mqtt_sql_write.specs.Copy.{CopyColumns, copy_row, number_or_null}
-use Rattle.mqtt_sql_write.specs.Put.{PutsInto, numbered, is_retained}
+use Rattle.mqtt_sql_write.specs.Content.{is_of, IsWhole}
+use Rattle.mqtt_sql_write.specs.Removal.{is_keyed}
+use Rattle.mqtt_sql_write.specs.Copy.{CopyColumns, copy_row}
+use Rattle.mqtt_sql_write.specs.Put.{PutsInto, numbered}
 use Rattle.mqtt_sql_write.proofs.SetCopy.{cast_int, cast_null, cast_number}
 use Rattle.mqtt_sql_write.proofs.Fresh.{apart, and_true, or_false}
-use Rattle.mqtt_sql_write.proofs.Replace.{IsPutOf, replaces}
+use Rattle.mqtt_sql_write.proofs.Replace.{replaces}
 
 abbrev pub put_text : List ℕ
 put_text = codes "INSERT OR REPLACE INTO copy VALUES (?1, ?2, ?3, ?4, ?5, ?6, ?7, ?8, ?9, ?10, ?11, ?12, ?13, ?14, ?15)"
@@ -71,7 +70,7 @@ puts birth place m old new r whole h =
     let row = copy_row birth place m in
     let put = numbered 9 row db in
     replaces put_text 5 copy terms 16 row (Null ∷ row) (is_keyed (pos birth) (pos place)) put_is put_plain refl refl put old new r whole whole.ready.shaped.copy
-    (record { uncounted = refl; kept = cast_put birth place m (Int next) (cast_int next); int = refl; childless = λ olds. no_works olds put})
+    (record { uncounted = refl; kept = cast_put birth place m (Int next) (cast_int next); int = refl; childless = λ olds. no_works olds put })
     no_works_out
     (λ r h. conflict_is next birth place m r (apart db 9 r whole.ready.shaped.copy h))
     (λ top. ap (with_rowid Chosen (db 9)) (cast_put birth place m Null cast_null))

@@ -1,11 +1,11 @@
 -- INSERT OR REPLACE INTO inbound, from its text on.
-use Rattle.std.proofs.Common.{◌≡◌, ℕ, ℤ, pos, Bool, true, false, ◌&&◌, List, [], ◌∷◌, codes, None, Ok, Err, Result, OnOk, refl, sym, ap, ◌∙◌}
+use Rattle.std.proofs.Common.{◌≡◌, ℕ, ℤ, pos, false, List, [], ◌∷◌, codes, None, Result, OnOk, refl, ap}
 use Rattle.sqlite_value.specs.declared.value.Value.{Value}
 use Rattle.sqlite_value.specs.declared.value.Value.TheVariants.{Null, Int}
 use Rattle.sqlite_value.specs.declared.keys.Collation.TheVariants.{Binary}
 use Rattle.sqlite_value.specs.Keys.{first_key, joined}
 use Rattle.sqlite_value.specs.Order.{Row, column}
-use Rattle.sqlite_trees.specs.Tree.{Trees, rowid}
+use Rattle.sqlite_trees.specs.Tree.{rowid}
 use Rattle.sqlite_schema.specs.Names.{same_name}
 use Rattle.sqlite_schema.specs.Rules.{equal}
 use Rattle.sqlite_schema.specs.declared.schema.Keys.TheVariants.{Enforced}
@@ -25,12 +25,12 @@ use Rattle.sqlite.specs.State.{State, ExecutesInside}
 use Rattle.sqlite_tied.specs.Compute.{everything}
 use Rattle.sqlite.proofs.Callers.{IsPlain, command_of}
 use Rattle.mqtt_sql_schema.specs.Tables.{keep_schema, inbound}
-use Rattle.mqtt_sql_write.specs.Content.{is_of, IsShapedAt, IsWhole}
+use Rattle.mqtt_sql_write.specs.Content.{IsWhole}
 use Rattle.mqtt_sql_write.specs.Removal.{is_keyed}
 use Rattle.mqtt_sql_write.specs.Put.{PutsInto, numbered, open_row}
 use Rattle.mqtt_sql_write.proofs.SetCopy.{cast_int, cast_null}
 use Rattle.mqtt_sql_write.proofs.Fresh.{apart, and_true, or_false}
-use Rattle.mqtt_sql_write.proofs.Replace.{IsPutOf, replaces}
+use Rattle.mqtt_sql_write.proofs.Replace.{replaces}
 
 abbrev pub put_open_text : List ℕ
 put_open_text = codes "INSERT OR REPLACE INTO inbound VALUES (?1, ?2)"
@@ -68,7 +68,7 @@ puts_open birth identifier old new r whole h =
     let next = next_rowid (db 7) in
     let put = numbered 7 (open_row birth identifier) db in
     replaces put_open_text 4 inbound terms 3 (open_row birth identifier) (Null ∷ open_row birth identifier) (is_keyed (pos birth) (pos identifier)) put_is put_plain refl refl put old new r whole whole.ready.shaped.inbound
-    (record { uncounted = refl; kept = cast_put birth identifier (Int next) (cast_int next); int = refl; childless = λ olds. no_works olds put})
+    (record { uncounted = refl; kept = cast_put birth identifier (Int next) (cast_int next); int = refl; childless = λ olds. no_works olds put })
     no_works_out
     (λ r h. conflict_is next (pos birth) (pos identifier) r (apart db 7 r whole.ready.shaped.inbound h))
     (λ top. ap (with_rowid Chosen (db 7)) (cast_put birth identifier Null cast_null))

@@ -1,20 +1,15 @@
 -- INSERT OR REPLACE INTO retained, from its text on.
-use Rattle.std.proofs.Common.{◌≡◌, ℕ, ℤ, pos, Bool, true, false, ◌&&◌, ◌||◌, List, [], ◌∷◌, codes, None, Ok, Err, Result, OnOk, refl, sym, ap, ◌∙◌}
-use Rattle.sqlite_value.specs.declared.value.Value.{Value}
+use Rattle.std.proofs.Common.{◌≡◌, ℕ, pos, List, [], ◌∷◌, codes, None, Result, OnOk, refl, ap}
 use Rattle.sqlite_value.specs.declared.value.Value.TheVariants.{Null, Int, Text, Blob}
-use Rattle.sqlite_value.specs.declared.keys.Collation.TheVariants.{Binary}
 use Rattle.sqlite_value.specs.Keys.{first_key, joined}
-use Rattle.sqlite_value.specs.Order.{Row, column}
-use Rattle.sqlite_trees.specs.Tree.{Trees, rowid}
+use Rattle.sqlite_value.specs.Order.{Row}
 use Rattle.sqlite_schema.specs.Names.{same_name}
-use Rattle.sqlite_schema.specs.Rules.{equal}
 use Rattle.sqlite_schema.specs.declared.schema.Keys.TheVariants.{Enforced}
-use Rattle.sqlite_schema.specs.declared.schema.Kind.TheVariants.{Integer}
 use Rattle.sqlite_schema.specs.declared.command.Conflict.TheVariants.{Replace}
 use Rattle.sqlite.specs.Source.TheVariants.{Values}
 use Rattle.sqlite_rules.specs.Keys.{conflicts}
-use Rattle.sqlite_rules.specs.Cast.{cast, cast_row}
-use Rattle.sqlite_rules.specs.Edit.{with_rowid, next_rowid}
+use Rattle.sqlite_rules.specs.Cast.{cast_row}
+use Rattle.sqlite_rules.specs.Edit.{with_rowid}
 use Rattle.sqlite_rules.specs.Action.{works}
 use Rattle.sqlite_rules.specs.declared.error.Rowids.TheVariants.{Chosen}
 use Rattle.sqlite.specs.Command.TheVariants.{InsertOr}
@@ -25,14 +20,12 @@ use Rattle.sqlite.specs.State.{State, ExecutesInside}
 use Rattle.sqlite_tied.specs.Compute.{everything}
 use Rattle.sqlite.proofs.Callers.{IsPlain, command_of}
 use Rattle.mqtt_sql_schema.specs.Tables.{keep_schema, retained}
-use Rattle.mqtt_sql_write.specs.Content.{is_of, is_text, IsShapedAt, IsWhole}
-use Rattle.mqtt_sql_write.specs.Removal.{is_keyed, is_subscription}
-use Rattle.mqtt_sql_write.specs.Columns.{flag, WillColumns, will_row, RetainedColumns, retained_row}
-use Rattle.mqtt_sql_write.specs.Copy.{CopyColumns, copy_row, number_or_null}
-use Rattle.mqtt_sql_write.specs.Put.{PutsInto, numbered, is_retained}
-use Rattle.mqtt_sql_write.proofs.SetCopy.{cast_int, cast_null, cast_number}
-use Rattle.mqtt_sql_write.proofs.Fresh.{apart, and_true, or_false}
-use Rattle.mqtt_sql_write.proofs.Replace.{IsPutOf, replaces}
+use Rattle.mqtt_sql_write.specs.Content.{is_of, is_text, IsWhole}
+use Rattle.mqtt_sql_write.specs.Columns.{RetainedColumns, retained_row}
+use Rattle.mqtt_sql_write.specs.Put.{PutsInto, is_retained}
+use Rattle.mqtt_sql_write.proofs.SetCopy.{cast_int, cast_null}
+use Rattle.mqtt_sql_write.proofs.Fresh.{and_true, or_false}
+use Rattle.mqtt_sql_write.proofs.Replace.{replaces}
 
 abbrev pub put_text : List ℕ
 put_text = codes "INSERT OR REPLACE INTO retained VALUES (?1, ?2, ?3, ?4, ?5, ?6, ?7, ?8)"
@@ -69,7 +62,7 @@ puts place m old new r whole h =
     let db = old.now.trees in
     let put = retained_row place m in
     replaces put_text 6 retained terms 9 (Int (pos place) ∷ Text m.topic ∷ Text m.sender ∷ Int (pos m.publication) ∷ Int (pos m.qos) ∷ Blob m.props ∷ Blob m.payload ∷ Int (pos m.arrived) ∷ []) put (is_retained place m.topic) put_is put_plain refl refl put old new r whole whole.retained
-    (record { uncounted = refl; kept = cast_put place m; int = refl; childless = λ olds. no_works olds put})
+    (record { uncounted = refl; kept = cast_put place m; int = refl; childless = λ olds. no_works olds put })
     no_works_out
     (λ r h. conflict_is place m r)
     (λ top. ap (with_rowid Chosen (db 11)) (cast_put place m))

@@ -1,5 +1,5 @@
 -- INSERT INTO session .. ON CONFLICT DO UPDATE, from its text on.
-use Rattle.std.proofs.Common.{◌≡◌, ℕ, ℤ, pos, Bool, true, false, not, ◌&&◌, ◌||◌, List, [], ◌∷◌, ◌++◌, filter, map, codes, Option, Some, None, Ok, Err, Result, OnOk, refl, sym, ap, ◌∙◌, subst, inl, inr}
+use Rattle.std.proofs.Common.{◌≡◌, ℕ, ℤ, pos, true, List, [], ◌∷◌, filter, map, codes, Option, Some, None, Ok, Err, Result, OnOk, refl, sym, ap, ◌∙◌, subst, inl, inr}
 use Rattle.std.specs.Ordering.{is_eq}
 use Rattle.std.specs.List.Sorted.{IsPermutation}
 use Rattle.sqlite_value.specs.declared.value.Value.{Value}
@@ -33,7 +33,7 @@ use Rattle.sqlite.specs.Query.{IsAnswer}
 use Rattle.sqlite_sql.specs.Program.{overlay}
 use Rattle.sqlite.specs.declared.error.Error.{Error}
 use Rattle.sqlite.specs.Effect.{edit_error}
-use Rattle.sqlite.specs.Rows.{Written, Clears, Puts, Meets, Resolves, Tries, Upserts, Updates, Judged, shown}
+use Rattle.sqlite.specs.Rows.{Written, Clears, Puts, Meets, Tries, Upserts, Updates, Judged, shown}
 use Rattle.sqlite.specs.Listing.{understood}
 use Rattle.sqlite.specs.State.{State, ExecutesInside}
 use Rattle.sqlite_tied.specs.Compute.{everything}
@@ -82,7 +82,7 @@ unfolding same_name joined
 no_works [] new = refl
 no_works (old ∷ olds) new = refl
 
-own_number : (v : Value) (n : ℤ) → is_int v ≡ true → equal Binary v (Int n) ≡ true → v ≡ Int n
+pub own_number : (v : Value) (n : ℤ) → is_int v ≡ true → equal Binary v (Int n) ≡ true → v ≡ Int n
 own_number Null n int h = absurd (cc)
 own_number (Int m) n int h = ap Int (same_int m n (ap is_eq (sym (value_cmp-Int m n) ∙ equal_is (value_cmp (Int m) (Int n)) (sym (equal_ids (Int m) n refl) ∙ h))))
 own_number (Real x) n int h = absurd (cc)

@@ -1,14 +1,12 @@
 -- INSERT of one row into a table, from its text on.
-use Rattle.std.proofs.Common.{◌≡◌, ◌≢◌, ◌⊎◌, ℕ, zero, suc, ℤ, ◌/◌, Bool, true, false, not, ◌&&◌, ◌||◌, if◌then◌else◌, List, [], ◌∷◌, ◌++◌, filter, map, length, slice_get, Option, Some, None, Ok, Err, Result, OnOk, refl, sym, ap, ◌∙◌, subst, inl, inr, IsTrue, MatchBool, true≢false}
+use Rattle.std.proofs.Common.{◌≡◌, ◌≢◌, ℕ, ℤ, ◌/◌, Bool, true, false, not, if◌then◌else◌, List, [], ◌∷◌, filter, length, slice_get, Option, Some, None, Ok, Err, Result, OnOk, sym, ap, ◌∙◌, subst, inl, inr, IsTrue, MatchBool, true≢false}
 use Rattle.std.specs.Ordering.{is_lt, int_cmp}
-use Rattle.sqlite_value.specs.declared.value.Value.{Value}
-use Rattle.sqlite_value.specs.declared.value.Value.TheVariants.{Null, Int}
+use Rattle.sqlite_value.specs.declared.value.Value.TheVariants.{Int}
 use Rattle.sqlite_value.specs.Order.{Row}
 use Rattle.sqlite_trees.specs.Tree.{Trees, rowid, put_row}
 use Rattle.sqlite_trees.specs.View.{is_int}
 use Rattle.sqlite_trees.specs.declared.store.Shape.TheVariants.{Table as TableShape}
 use Rattle.sqlite_trees.proofs.TreeLemmas.{IsShaped-filter, IsShaped-put_row}
-use Rattle.sqlite_schema.specs.Rules.{Obeys}
 use Rattle.sqlite_schema.specs.declared.schema.Keys.TheVariants.{Enforced}
 use Rattle.sqlite_schema.specs.declared.schema.Table.{Table}
 use Rattle.sqlite_schema.specs.declared.command.Conflict.{Conflict}
@@ -18,7 +16,7 @@ use Rattle.sqlite.specs.Source.TheVariants.{Values}
 use Rattle.sqlite_rules.specs.Lists.{Has}
 use Rattle.sqlite_rules.specs.Keys.{AreConflicts, conflicts}
 use Rattle.sqlite_rules.specs.Cast.{cast_row}
-use Rattle.sqlite_rules.specs.Edit.{Edit, IsNoIndex, edit_of, id_in, taken_by, without_all, with_rowid, is_off}
+use Rattle.sqlite_rules.specs.Edit.{Edit, IsNoIndex, edit_of, id_in, taken_by, without_all, with_rowid}
 use Rattle.sqlite_rules.specs.Calls.{ids_of}
 use Rattle.sqlite_rules.specs.Action.{works, Writes}
 use Rattle.sqlite_rules.proofs.ListLemmas.{all_has}
@@ -31,7 +29,7 @@ use Rattle.sqlite.specs.Term.{Term}
 use Rattle.sqlite.specs.declared.error.Error.{Error}
 use Rattle.sqlite.specs.Listing.{understood}
 use Rattle.sqlite.specs.Effect.{Database, value_rows, edit_error}
-use Rattle.sqlite.specs.Rows.{Task, Written, Upserts, Clears, Puts, Tries, TriesEach, Judged, rowids_for, mended, stamped, nothing, count_of, CountsIn, sequence, Gives}
+use Rattle.sqlite.specs.Rows.{Task, Written, Clears, Puts, Tries, TriesEach, Judged, rowids_for, mended, stamped, nothing, count_of, CountsIn, sequence, Gives}
 use Rattle.sqlite.specs.Does.{Does, Tally}
 use Rattle.sqlite.specs.State.{State, mode_of, ExecutesInside}
 use Rattle.sqlite.proofs.Callers.{IsPlain, command_of, statement_of, runs_as, one_step}

@@ -6,7 +6,7 @@ use Rattle.sqlite_schema.specs.Rules.{Obeys}
 use Rattle.sqlite_rules.specs.Edit.{IsNoIndex}
 use Rattle.sqlite.specs.State.{State}
 use Rattle.mqtt_sql_schema.specs.Tables.{keep_schema}
-use Rattle.mqtt_sql_write.specs.Content.{IsShapedAt, IsReady, IsWhole}
+use Rattle.mqtt_sql_write.specs.Content.{IsShapedAt, IsWhole}
 use Rattle.mqtt_sql_write.proofs.RemovesSession.{not_tree}
 
 abbrev pub Spares : ℕ → Trees → Trees → Type 0

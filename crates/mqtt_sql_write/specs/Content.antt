@@ -6,7 +6,6 @@ use Rattle.sqlite_value.specs.Order.{Row, column}
 use Rattle.std.specs.List.{AllByRecursion}
 use Rattle.sqlite_trees.specs.Tree.{Trees, IsTable, rowid}
 use Rattle.sqlite_trees.specs.View.{is_int}
-use Rattle.sqlite_rules.specs.Lists.{Has}
 use Rattle.sqlite.specs.State.{State}
 use Rattle.mqtt_sql_schema.specs.Tables.{keep_schema}
 use Rattle.sqlite_schema.specs.Rules.{equal, Obeys}
@@ -55,7 +54,3 @@ pub record IsWhole (s : State) : Type 0 where
   pub ready : IsReady s
   pub meta : IsShapedAt s.now.trees 0
   pub retained : IsShapedAt s.now.trees 11
-
--- the session is there
-abbrev pub HasSession : ℤ → Trees → Type 0
-HasSession birth db = (one : Row) × Has (db 2) one × (rowid one ≡ Int birth)

@@ -1,6 +1,6 @@
 -- What a REPLACE leaves, and the rows that are put.
-use Rattle.std.specs.Prelude.{◌≡◌, ◌≢◌, ℕ, ℤ, pos, Bool, not, ◌||◌, List, [], ◌∷◌, filter}
-use Rattle.sqlite_value.specs.declared.value.Value.TheVariants.{Null, Int, Text, Blob}
+use Rattle.std.specs.Prelude.{◌≡◌, ◌≢◌, ℕ, pos, Bool, not, ◌||◌, List, [], ◌∷◌, filter}
+use Rattle.sqlite_value.specs.declared.value.Value.TheVariants.{Int}
 use Rattle.sqlite_value.specs.Order.{Row}
 use Rattle.sqlite_trees.specs.Tree.{Trees, put_row}
 use Rattle.sqlite_rules.specs.Edit.{IsNoIndex, next_rowid}
