@@ -1,8 +1,6 @@
 -- Rows determine the sessions that they are of.
-use Rattle.std.proofs.Common.{◌≡◌, ◌≢◌, ◌⊎◌, ℕ, ◌<◌, List, [], ◌∷◌, refl, sym, ap, subst, ◌∙◌, arith, inl, inr}
+use Rattle.std.proofs.Common.{◌≡◌, ℕ, List, [], ◌∷◌, refl, sym, ap, subst, ◌∙◌, arith, inl, inr}
 use Rattle.std.specs.Prelude.{Option, Some, None}
-use Rattle.std.specs.List.{AllByRecursion}
-use Rattle.std.proofs.lemmas.Bool.{cases_order}
 use Rattle.mqtt_records.specs.declared.session.Session.{Session}
 use Rattle.mqtt_records.specs.declared.session.Columns.{Columns}
 use Rattle.mqtt_message.specs.declared.message.Will.{Will}
@@ -11,7 +9,7 @@ use Rattle.mqtt_message.specs.Queue.{CopyRow}
 use Rattle.mqtt_records.specs.declared.records.Records.{Records}
 use Rattle.mqtt_rows.specs.Order.{IsAbove, IsAscending}
 use Rattle.mqtt_records.specs.Session.{birth_of, place_of, number_of, copy_place, columns_of}
-use Rattle.mqtt_sql_members.specs.Members.{Has, InPart, listed, will_of, subscriptions_of, inbound_of, queue_of, HasColumns, SameRows, IsOrdered, AllOrdered}
+use Rattle.mqtt_sql_members.specs.Members.{Has, InPart, listed, will_of, subscriptions_of, inbound_of, queue_of, SameRows, IsOrdered, AllOrdered}
 use Rattle.mqtt_sql_members.proofs.Members.{has_all, has_above}
 use Rattle.mqtt_sql_members.proofs.Queues.{one_session}
 

@@ -1,6 +1,6 @@
 -- The Wills, the open identifiers and the subscriptions of sessions after a change.
 use Rattle.std.proofs.Common.{◌≡◌, ◌≢◌, ◌⊎◌, ℕ, ◌<◌, Bool, true, false, not, bytes_eq, ◌||◌, List, [], ◌∷◌, filter, length, nat_lt, ap, arith, refl, sym, subst, ◌∙◌, inl, inr, true≢false}
-use Rattle.std.specs.Prelude.{Option, Some, None}
+use Rattle.std.specs.Prelude.{Some, None}
 use Rattle.std.proofs.lemmas.Bool.{cases_Bool, eq-eqb, lt-ltb, or_right}
 use Rattle.mqtt_base.specs.declared.limits.TheConstants.{OPEN_LIMIT, SUBSCRIPTION_LIMIT}
 use Rattle.mqtt_message.specs.declared.message.Will.{Will}
@@ -8,11 +8,11 @@ use Rattle.mqtt_records.specs.declared.session.Session.{Session}
 use Rattle.mqtt_records.specs.declared.subscription.Subscription.{Subscription}
 use Rattle.mqtt_records.specs.declared.records.Records.{Records}
 use Rattle.mqtt_records.specs.declared.change.Change.TheVariants.{PutWill, RemoveWill, PutInbound, RemoveInbound, PutSubscription, RemoveSubscription}
-use Rattle.mqtt_rows.specs.Order.{IsAbove, IsAscending, HasRoomFor, row_at, has_row, insert_row, put_row}
+use Rattle.mqtt_rows.specs.Order.{IsAbove, IsAscending, HasRoomFor, row_at}
 use Rattle.mqtt_records.specs.Session.{birth_of, number_of, place_of, without_filter, with_will, with_open, without_open, with_subscription, without_subscription}
 use Rattle.mqtt_records.specs.Records.{changed, Fits, HasSome, TakesSubscription}
 use Rattle.mqtt_sql_members.specs.Members.{Has, InPart, will_of, inbound_of, subscriptions_of, IsOrdered, AllOrdered}
-use Rattle.mqtt_sql_members.proofs.Members.{has_all, changed_new, changed_old, inserted_new, inserted_old, removed_new, removed_old, found_has, edited_new, edited_old}
+use Rattle.mqtt_sql_members.proofs.Members.{has_all, inserted_new, inserted_old, removed_new, removed_old, found_has, edited_new, edited_old}
 use Rattle.mqtt_sql_members.proofs.Queues.{one_session}
 
 has_filter : {X : Type 0} (p : X → Bool) (xs : List X) (x : X) → Has (filter p xs) x → Has xs x × (p x ≡ true)

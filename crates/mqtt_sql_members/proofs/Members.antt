@@ -1,12 +1,10 @@
 -- Members of lists in the order of their keys, after an edit.
-use Rattle.std.proofs.Common.{◌≡◌, ◌≢◌, ◌⊎◌, ℕ, ◌<◌, Bool, true, false, cond, not, ◌||◌, List, [], ◌∷◌, filter, nat_eq, nat_lt, refl, sym, ap, subst, ◌∙◌, arith, inl, inr}
-use Rattle.std.specs.Prelude.{Option, Some, None}
+use Rattle.std.proofs.Common.{◌≡◌, ◌≢◌, ◌⊎◌, ℕ, ◌<◌, true, false, List, [], ◌∷◌, nat_eq, nat_lt, refl, sym, ap, subst, ◌∙◌, arith, inl, inr}
 use Rattle.std.specs.List.{AllByRecursion}
 use Rattle.std.proofs.lemmas.Bool.{eqb-true, eq-eqb, cases_Bool, cases_order, lt-ltb, le-ltb}
 use Rattle.mqtt_records.specs.declared.session.Session.{Session}
-use Rattle.mqtt_message.specs.Queue.{CopyRow}
-use Rattle.mqtt_rows.specs.Order.{IsAbove, IsAscending, HasRoomFor, row_at, insert_row, put_row, remove_row, change_row}
-use Rattle.mqtt_records.specs.Session.{birth_of, copy_place}
+use Rattle.mqtt_rows.specs.Order.{IsAbove, IsAscending, row_at, insert_row, remove_row, change_row}
+use Rattle.mqtt_records.specs.Session.{birth_of}
 use Rattle.mqtt_records.specs.Records.{HasSome}
 use Rattle.mqtt_sql_members.specs.Members.{Has, InPart}
 

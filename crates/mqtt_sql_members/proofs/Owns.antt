@@ -1,5 +1,5 @@
 -- The sessions' own rows and the retained messages after a change.
-use Rattle.std.proofs.Common.{◌≡◌, ◌≢◌, ◌⊎◌, ℕ, Bool, true, false, ◌||◌, List, [], ◌∷◌, nat_eq, nat_lt, length, ap, refl, sym, subst, ◌∙◌, inl, inr, true≢false}
+use Rattle.std.proofs.Common.{◌≡◌, ◌≢◌, ◌⊎◌, ℕ, Bool, true, false, ◌||◌, List, ap, refl, sym, ◌∙◌, inl, inr, true≢false}
 use Rattle.std.specs.Prelude.{Option, Some, None, is_some}
 use Rattle.std.proofs.lemmas.Bool.{cases_Bool}
 use Rattle.mqtt_base.specs.declared.limits.TheConstants.{SESSION_LIMIT, RETAINED_LIMIT}
@@ -8,10 +8,10 @@ use Rattle.mqtt_records.specs.declared.session.Session.{Session}
 use Rattle.mqtt_records.specs.declared.session.Columns.{Columns}
 use Rattle.mqtt_records.specs.declared.records.Records.{Records}
 use Rattle.mqtt_records.specs.declared.change.Change.TheVariants.{PutSession, SetSession, RemoveSession, PutRetained, RemoveRetained}
-use Rattle.mqtt_rows.specs.Order.{IsAscending, HasRoomFor, row_at, has_row, insert_row, put_row, change_row, remove_row}
+use Rattle.mqtt_rows.specs.Order.{IsAscending, HasRoomFor, row_at, has_row, insert_row, change_row}
 use Rattle.mqtt_records.specs.Session.{birth_of, columns_of, with_columns, fresh}
-use Rattle.mqtt_records.specs.Records.{changed, Fits, HasSome, kept_place, put_session}
-use Rattle.mqtt_sql_members.specs.Members.{Has, InPart, HasColumns}
+use Rattle.mqtt_records.specs.Records.{changed, HasSome, kept_place}
+use Rattle.mqtt_sql_members.specs.Members.{Has, HasColumns}
 use Rattle.mqtt_sql_members.proofs.Members.{changed_new, changed_old, inserted_new, inserted_old, removed_new, removed_old, found_has}
 
 some_row : {X : Type 0} (key : X → ℕ) (k : ℕ) (xs : List X) → has_row key k xs ≡ true → HasSome (row_at key k xs) (λ _. Unit {0})

@@ -1,16 +1,15 @@
 -- The queues of sessions after a change of a copy.
-use Rattle.std.proofs.Common.{◌≡◌, ◌≢◌, ◌⊎◌, ℕ, true, ◌||◌, List, [], ◌∷◌, ap, arith, refl, sym, subst, ◌∙◌, inl, inr, nat_lt, length}
-use Rattle.std.specs.List.{AllByRecursion}
+use Rattle.std.proofs.Common.{◌≡◌, ◌≢◌, ◌⊎◌, ℕ, List, [], ◌∷◌, ap, arith, refl, sym, subst, ◌∙◌, inl, inr}
 use Rattle.mqtt_base.specs.declared.session.Phase.{Phase}
 use Rattle.mqtt_base.specs.declared.limits.TheConstants.{QUEUE_LIMIT}
 use Rattle.mqtt_records.specs.declared.session.Session.{Session}
 use Rattle.mqtt_message.specs.Queue.{CopyRow}
 use Rattle.mqtt_records.specs.declared.records.Records.{Records}
 use Rattle.mqtt_records.specs.declared.change.Change.TheVariants.{PutCopy, SetCopy, RemoveCopy, RemoveSession}
-use Rattle.mqtt_rows.specs.Order.{IsAscending, HasRoomFor, row_at, has_row, insert_row, put_row}
+use Rattle.mqtt_rows.specs.Order.{IsAscending, HasRoomFor}
 use Rattle.mqtt_records.specs.Session.{birth_of, copy_place, in_phase, with_copy, with_phase, without_copy}
 use Rattle.mqtt_records.specs.Records.{changed, Fits}
-use Rattle.mqtt_sql_members.specs.Members.{Has, InPart, queue_of, InQueue, IsOther, IsKept}
+use Rattle.mqtt_sql_members.specs.Members.{Has, queue_of, InQueue, IsOther, IsKept}
 use Rattle.mqtt_sql_members.proofs.Members.{has_all, has_above, changed_new, changed_old, inserted_new, inserted_old, removed_new, removed_old, found_has, edited_new, edited_old}
 
 -- of two sessions in order, those with one birth are one

@@ -1,5 +1,5 @@
 -- What each statement leaves, and what a transaction of them leaves.
-use Rattle.std.proofs.Common.{◌≡◌, ◌≢◌, ℕ, ℤ, pos, List, [], ◌∷◌, ◌++◌, true, Option, Ok, Err, Result, OnOk, OnErr, IfErr, IsTrue, refl, sym, ap, subst, ◌∙◌, inl, inr, arith, true≢false}
+use Rattle.std.proofs.Common.{◌≡◌, ◌≢◌, ℕ, ℤ, List, ◌∷◌, true, Option, Ok, Err, Result, OnOk, OnErr, IfErr, IsTrue, refl, sym, ap, subst, ◌∙◌, inl, inr, arith, true≢false}
 use Rattle.sqlite_value.specs.declared.value.Value.TheVariants.{Int}
 use Rattle.sqlite_trees.specs.Tree.{Trees}
 use Rattle.sqlite_schema.specs.Rules.{Obeys}
@@ -10,13 +10,11 @@ use Rattle.sqlite.specs.State.{State, IsRolledBack}
 use Rattle.sqlite.specs.Effect.{Database}
 use Rattle.sqlite.specs.Steps.{FailsToCommit}
 use Rattle.mqtt_sql_schema.specs.Tables.{keep_schema}
-use Rattle.mqtt_sql_write.specs.Content.{RemovesSession, AreShaped, IsShapedAt, IsReady, IsWhole}
-use Rattle.mqtt_sql_write.specs.Removal.{RemovesFrom}
+use Rattle.mqtt_sql_write.specs.Content.{AreShaped, IsShapedAt, IsReady, IsWhole}
 use Rattle.mqtt_sql_write.specs.Copy.{CopyColumns, copy_row, SetsCopy}
-use Rattle.mqtt_sql_write.specs.Numbers.{number_row, SetsNumber}
 use Rattle.mqtt_sql_write.proofs.RemovesSession.{not_tree}
 use Rattle.mqtt_sql_step.specs.declared.statement.Statement.{Statement}
-use Rattle.mqtt_sql_step.specs.Step.{AskAll, DoAll, IsSettled}
+use Rattle.mqtt_sql_step.specs.Step.{AskAll, IsSettled}
 
 -- what is so of an answer gives something else
 on_ok : (X Y : Type 0) (r : Result ℕ Error) → (X → Y) → OnOk r X → OnOk r Y
@@ -33,17 +31,11 @@ at_tree a b t same h = record { up = rw same h.up; ints = rw same h.ints }
 whole_from : (old new : State) → IsWhole old → new.now.trees 0 ≡ old.now.trees 0 → new.now.trees 11 ≡ old.now.trees 11 → IsReady new → IsWhole new
 whole_from old new whole meta retained ready = record { ready = ready; meta = at_tree old.now.trees new.now.trees 0 meta whole.meta; retained = at_tree old.now.trees new.now.trees 11 retained whole.retained }
 
--- a statement on a table of what sessions have leaves the others
+-- a statement on a table of what sessions have leaves the shapes of the others
 module _ (old new : State) (r : Result ℕ Error) (whole : IsWhole old) where
   spared : (tree : ℕ) → 0 ≢ tree → 11 ≢ tree → ((t : ℕ) → t ≢ tree → IsNoIndex keep_schema t → new.now.trees t ≡ old.now.trees t) → IsReady new → IsWhole new
   spared tree a b others = whole_from old new whole (others 0 a (not_tree 0 (omega arith) (omega arith) (omega arith) (omega arith) (omega arith) (omega arith)))
       (others 11 b (not_tree 11 (omega arith) (omega arith) (omega arith) (omega arith) (omega arith) (omega arith)))
-
-  pub session_out : (birth : ℤ) → OnOk r (RemovesSession birth old.now.trees new.now.trees) × OnOk r (IsReady new) → OnOk r (RemovesSession birth old.now.trees new.now.trees) × OnOk r (IsWhole new)
-  session_out birth h = (h.0, on_both (RemovesSession birth old.now.trees new.now.trees) (IsReady new) (IsWhole new) r (λ x y. whole_from old new whole x.meta x.retained y) h.0 h.1)
-
-  pub removed : (tree : ℕ) (gone : _) → 0 ≢ tree → 11 ≢ tree → OnOk r (RemovesFrom tree gone old.now.trees new.now.trees) × OnOk r (IsReady new) → OnOk r (RemovesFrom tree gone old.now.trees new.now.trees) × OnOk r (IsWhole new)
-  removed tree gone a b h = (h.0, on_both (RemovesFrom tree gone old.now.trees new.now.trees) (IsReady new) (IsWhole new) r (λ x y. spared tree a b x.others y) h.0 h.1)
 
   pub copy_set : (birth place phase : ℕ) (pid rel : Option ℕ) (id : ℤ) (c : CopyColumns) → Has (old.now.trees 9) (Int id ∷ copy_row birth place c)
       → OnOk r (SetsCopy birth place phase pid rel id c old.now.trees new.now.trees) × OnOk r (IsReady new)
@@ -52,10 +44,6 @@ module _ (old new : State) (r : Result ℕ Error) (whole : IsWhole old) where
     on_ok (SetsCopy birth place phase pid rel id c old.now.trees new.now.trees) ((id : ℤ) × (c : CopyColumns) × Has (old.now.trees 9) (Int id ∷ copy_row birth place c) × SetsCopy birth place phase pid rel id c old.now.trees new.now.trees) r (λ x. (id, c, there, x)) h.0,
     on_both (SetsCopy birth place phase pid rel id c old.now.trees new.now.trees) (IsReady new) (IsWhole new) r (λ x y. spared 9 (omega arith) (omega arith) x.others y) h.0 h.1,
   )
-
-  pub number_set : (name : List ℕ) (value : ℕ) (id : ℤ) → OnOk r (SetsNumber name value id old.now.trees new.now.trees) × OnOk r (IsWhole new)
-      → OnOk r ((id : ℤ) × SetsNumber name value id old.now.trees new.now.trees) × OnOk r (IsWhole new)
-  number_set name value id h = (on_ok (SetsNumber name value id old.now.trees new.now.trees) ((id : ℤ) × SetsNumber name value id old.now.trees new.now.trees) r (λ x. (id, x)) h.0, h.1)
 
 pub begun_whole : (old begun : State) → begun ≡ record old { in_transaction = true } → IsSettled old → IsWhole begun
 begun_whole old begun same s = rw same (record { ready = record { schema = s.schema; inside = refl; shaped = s.shaped; obeys = s.obeys }; meta = s.meta; retained = s.retained })
@@ -83,11 +71,6 @@ pub commit_err : (old tx new : State) (res : Result (Unit {0}) Error) → IsSett
 commit_err old tx new (Ok t) s kept inside h up = tt
 commit_err old tx new (Err e) s kept inside (inl fails) up = back old tx new s kept fails.3 up
 commit_err old tx new (Err e) s kept inside (inr ended) up = absurd (true≢false (sym inside ∙ ended.1))
-
--- who does the rest after the first has done all
-pub done_after : (first more : List Statement) (a b c : Trees) → DoAll first a b → DoAll more b c → DoAll (first ++ more) a c
-done_after [] more a b c h k = subst (λ d. DoAll more d c) h k
-done_after (s ∷ first) more a b c h k = (h.0, h.1, done_after first more h.0 b c h.2 k)
 
 pub begun_asks : (statements : List Statement) (old begun : State) → begun ≡ record old { in_transaction = true } → AskAll statements old.now.trees → AskAll statements begun.now.trees
 begun_asks statements old begun same asks = rw same asks

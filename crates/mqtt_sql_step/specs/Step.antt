@@ -1,12 +1,12 @@
 -- What the statements of a step make of the tables, one after the other.
-use Rattle.std.specs.Prelude.{◌≡◌, ℕ, ℤ, pos, ◌<◌, ◌^◌, List, [], ◌∷◌, Option, IfSome, IsTrue}
+use Rattle.std.specs.Prelude.{◌≡◌, ℕ, ℤ, pos, ◌<◌, ◌^◌, List, [], ◌∷◌, IfSome, IsTrue}
 use Rattle.sqlite_value.specs.declared.value.Value.TheVariants.{Int}
 use Rattle.sqlite_trees.specs.Tree.{Trees}
 use Rattle.sqlite_rules.specs.Lists.{Has}
 use Rattle.sqlite_schema.specs.Rules.{Obeys}
 use Rattle.sqlite.specs.State.{State}
 use Rattle.mqtt_sql_schema.specs.Tables.{keep_schema}
-use Rattle.mqtt_sql_write.specs.Content.{is_of, RemovesSession, AreShaped, IsShapedAt, IsWhole}
+use Rattle.mqtt_sql_write.specs.Content.{is_of, RemovesSession, AreShaped, IsShapedAt}
 use Rattle.mqtt_sql_write.specs.Removal.{is_keyed, is_subscription, RemovesFrom}
 use Rattle.mqtt_sql_write.specs.Copy.{CopyColumns, copy_row, SetsCopy, IsSized as IsSizedCopy}
 use Rattle.mqtt_sql_write.specs.Columns.{session_row, will_row, subscription_row, retained_row}
