@@ -19,3 +19,4 @@ pub mod PutCopy
 pub mod SetNumber
 pub mod PutSession
 pub mod RemoveNone
+pub mod Stands

@@ -2,6 +2,7 @@
 #![tactic(auto)]
 
 mod copies;
+mod laws;
 mod numbers;
 mod retained;
 mod sessions;
@@ -9,6 +10,7 @@ mod subscriptions;
 mod wills;
 
 pub use copies::{CopyColumns, put_copy, put_open, remove_copy, remove_open, set_copy};
+pub use laws::{number_is_free, row_is_put, row_is_removed};
 pub use numbers::set_number;
 pub use retained::{RetainedColumns, put_retained, remove_retained};
 pub use sessions::{SessionColumns, put_session, remove_session};
