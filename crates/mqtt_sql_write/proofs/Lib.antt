@@ -7,3 +7,16 @@ pub mod RemovesSession
 pub mod RemoveSessionRuns
 pub mod SetCopy
 pub mod Removal
+pub mod Whole
+pub mod Deletes
+pub mod Replace
+pub mod Fresh
+pub mod PutOpen
+pub mod PutWill
+pub mod PutRetained
+pub mod PutSubscription
+pub mod PutCopy
+pub mod SetNumber
+pub mod PutSession
+pub mod RemoveNone
+pub mod Stands

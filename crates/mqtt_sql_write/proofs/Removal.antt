@@ -37,7 +37,7 @@ use Rattle.mqtt_sql_write.proofs.Commands.{over, program, equals}
 use Rattle.mqtt_sql_write.proofs.Parts.{passes, shows, answers_over, deleted}
 use Rattle.mqtt_sql_write.proofs.RemovesSession.{not_tree}
 
-has_filter : {X : Type 0} (p : X → Bool) (xs : List X) (x : X) → Has (filter p xs) x → Has xs x × (p x ≡ true)
+pub has_filter : {X : Type 0} (p : X → Bool) (xs : List X) (x : X) → Has (filter p xs) x → Has xs x × (p x ≡ true)
 has_filter p [] x h = absurd h
 has_filter p (y ∷ ys) x h = elim (cases_Bool (p y)) [
   | inl stays ↦
@@ -46,19 +46,19 @@ has_filter p (y ∷ ys) x h = elim (cases_Bool (p y)) [
   | inr goes ↦ let there : Has (filter p ys) x = rw goes at h in let it = has_filter p ys x there in (inr it.0, it.1)
 ]
 
-filter_has : {X : Type 0} (p : X → Bool) (xs : List X) (x : X) → Has xs x → p x ≡ true → Has (filter p xs) x
+pub filter_has : {X : Type 0} (p : X → Bool) (xs : List X) (x : X) → Has xs x → p x ≡ true → Has (filter p xs) x
 filter_has p [] x h passes = absurd h
 filter_has p (y ∷ ys) x h passes = elim (cases_Bool (p y)) [
   | inl stays ↦ let there : Has (y ∷ filter p ys) x = elim h [ inl here ↦ inl here | inr later ↦ inr (filter_has p ys x later passes) ] in rw stays there
   | inr goes ↦ rw goes (elim h [ inl here ↦ absurd (true≢false (sym passes ∙ (ap p here ∙ goes))) | inr later ↦ filter_has p ys x later passes ])
 ]
 
-has_map : {X Y : Type 0} (f : X → Y) (xs : List X) (y : Y) → Has (map f xs) y → (x : X) × Has xs x × (y ≡ f x)
+pub has_map : {X Y : Type 0} (f : X → Y) (xs : List X) (y : Y) → Has (map f xs) y → (x : X) × Has xs x × (y ≡ f x)
 has_map f [] y h = absurd h
 has_map f (x ∷ xs) y (inl here) = (x, inl refl, here)
 has_map f (x ∷ xs) y (inr later) = let it = has_map f xs y later in (it.0, inr it.1, it.2)
 
-map_has : {X Y : Type 0} (f : X → Y) (xs : List X) (x : X) → Has xs x → Has (map f xs) (f x)
+pub map_has : {X Y : Type 0} (f : X → Y) (xs : List X) (x : X) → Has xs x → Has (map f xs) (f x)
 map_has f [] x h = absurd h
 map_has f (y ∷ ys) x (inl here) = inl (ap f here)
 map_has f (y ∷ ys) x (inr later) = inr (map_has f ys x later)
@@ -83,7 +83,7 @@ gone_are tree tests params db rows shaped a =
     let shown = has_permuted (map (shows params numbers) found) rows (shows params numbers r) p (map_has (shows params numbers) found r (filter_has (passes params tests) (db tree) r h same)) in
     subst (Has (ids_of rows)) (ap id_in there) (map_has (λ (z : Row). id_in (rowid z)) rows (shows params numbers r) shown))
 
-shaped_left : (a b : Trees) (t : ℕ) (gone : Row → Bool) → b t ≡ filter (λ r. not (gone r)) (a t) → IsShapedAt a t → IsShapedAt b t
+pub shaped_left : (a b : Trees) (t : ℕ) (gone : Row → Bool) → b t ≡ filter (λ r. not (gone r)) (a t) → IsShapedAt a t → IsShapedAt b t
 shaped_left a b t gone same h =
     let both = IsShaped-filter TableShape (λ r. not (gone r)) (a t) (h.up, h.ints) in
     record { up = rw same both.0; ints = rw same both.1 }

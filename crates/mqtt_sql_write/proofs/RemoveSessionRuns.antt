@@ -27,7 +27,7 @@ use Rattle.sqlite_trees.specs.declared.store.Shape.TheVariants.{Table}
 use Rattle.sqlite_trees.proofs.TreeLemmas.{IsShaped-filter}
 use Rattle.sqlite.proofs.Callers.{statement_of, runs_as, one_permutation}
 use Rattle.mqtt_sql_schema.specs.Tables.{keep_schema, will, sub, inbound, copy, session}
-use Rattle.mqtt_sql_write.specs.Content.{is_of, without, RemovesSession, AreShaped, IsShapedAt, IsReady, HasSession}
+use Rattle.mqtt_sql_write.specs.Content.{is_of, without, RemovesSession, AreShaped, IsShapedAt, IsReady}
 use Rattle.mqtt_sql_write.proofs.Rows.{without_those}
 use Rattle.mqtt_sql_write.proofs.Commands.{over, program, equals, remove_session_is}
 use Rattle.mqtt_sql_write.proofs.Parts.{passes, shows, answers_over, deleted}
@@ -48,7 +48,7 @@ module _ (birth : ℤ) (db after : Trees) (one : Row) (shaped : AreShaped db) (h
       let p : IsPermutation ((rowid one ∷ []) ∷ []) rows = subst (λ l. IsPermutation (map (shows (Int birth ∷ []) (col 1 0 ∷ [])) l) rows) alone (answers_over 2 (equals 0 0 ∷ []) (col 1 0 ∷ []) db (Int birth ∷ []) rows a) in
       one_permutation (rowid one ∷ []) rows p ∙ ap (λ v. (v ∷ []) ∷ []) is
 
-  went_out : without_all (db 2) (birth ∷ []) ≡ without 0 birth (db 2)
+  pub went_out : without_all (db 2) (birth ∷ []) ≡ without 0 birth (db 2)
   went_out = without_those (is_of 0 birth) (db 2) (birth ∷ []) shaped.session.up shaped.session.ints
       (λ id h. elim h [ inl same ↦ (one, has, is_own one birth is, is ∙ ap Int (sym same)) | inr none ↦ absurd none ])
       (λ r id h p there.
@@ -91,6 +91,10 @@ shaped_after birth old new cuts h = record {
   inbound = filtered old new 7 1 birth cuts.inbound h.inbound;
   copy = filtered old new 9 1 birth cuts.copy h.copy;
 }
+
+-- the session is there
+abbrev pub HasSession : ℤ → Trees → Type 0
+HasSession birth db = (one : Row) × Has (db 2) one × (rowid one ≡ Int birth)
 
 pub removes_inside : (birth : ℤ) (old new : State) (r : Result ℕ Error) → IsReady old → HasSession birth old.now.trees → ExecutesInside 0 remove_session_text (Int birth ∷ []) old new r
     → OnOk r (RemovesSession birth old.now.trees new.now.trees) × OnOk r (IsReady new)

@@ -202,7 +202,7 @@ sets_copy birth place phase pid rel old new id c (Ok count) ready there h =
     )
 
 -- what is bound where there may be no number
-bound_is : (n : Option ℕ) → bound_value (or_null Int (option_map pos n)) ≡ number_or_null n
+pub bound_is : (n : Option ℕ) → bound_value (or_null Int (option_map pos n)) ≡ number_or_null n
 bound_is None = refl
 bound_is (Some n) = refl
 

@@ -1,12 +1,11 @@
 -- What the statements do to the tables.
 use Rattle.std.specs.Prelude.{◌≡◌, ℕ, ℤ, Bool, not, List, filter, IsTrue}
-use Rattle.sqlite_value.specs.declared.value.Value.TheVariants.{Int}
+use Rattle.sqlite_value.specs.declared.value.Value.TheVariants.{Int, Text}
 use Rattle.sqlite_value.specs.declared.keys.Collation.TheVariants.{Binary}
 use Rattle.sqlite_value.specs.Order.{Row, column}
 use Rattle.std.specs.List.{AllByRecursion}
 use Rattle.sqlite_trees.specs.Tree.{Trees, IsTable, rowid}
 use Rattle.sqlite_trees.specs.View.{is_int}
-use Rattle.sqlite_rules.specs.Lists.{Has}
 use Rattle.sqlite.specs.State.{State}
 use Rattle.mqtt_sql_schema.specs.Tables.{keep_schema}
 use Rattle.sqlite_schema.specs.Rules.{equal, Obeys}
@@ -14,6 +13,10 @@ use Rattle.sqlite_schema.specs.Rules.{equal, Obeys}
 -- SQL finds the number in that place
 abbrev pub is_of : ℕ → ℤ → Row → Bool
 is_of at n r = equal Binary (column r at) (Int n)
+
+-- SQL finds the text in that place
+abbrev pub is_text : ℕ → List ℕ → Row → Bool
+is_text at text r = equal Binary (column r at) (Text text)
 
 abbrev pub without : ℕ → ℤ → List Row → List Row
 without at n = filter (λ r. not (is_of at n r))
@@ -46,6 +49,8 @@ pub record IsReady (s : State) : Type 0 where
   pub shaped : AreShaped s.now.trees
   pub obeys : Obeys keep_schema s.now.trees
 
--- the session is there
-abbrev pub HasSession : ℤ → Trees → Type 0
-HasSession birth db = (one : Row) × Has (db 2) one × (rowid one ≡ Int birth)
+-- and the rows of the numbers and of the retained messages rise by their numbers, too
+pub record IsWhole (s : State) : Type 0 where
+  pub ready : IsReady s
+  pub meta : IsShapedAt s.now.trees 0
+  pub retained : IsShapedAt s.now.trees 11

@@ -1,5 +1,5 @@
 -- A copy's row, and what sets its handshake.
-use Rattle.std.specs.Prelude.{◌≡◌, ◌≢◌, ℕ, ℤ, pos, Bool, ◌&&◌, List, [], ◌∷◌, Option, Some, None}
+use Rattle.std.specs.Prelude.{◌≡◌, ◌≢◌, ℕ, ℤ, pos, Bool, ◌&&◌, List, [], ◌∷◌, Option, Some, None, IfSome, ◌<◌, ◌^◌}
 use Rattle.sqlite_value.specs.declared.value.Value.{Value}
 use Rattle.sqlite_value.specs.declared.value.Value.TheVariants.{Null, Int, Text, Blob}
 use Rattle.sqlite_value.specs.Order.{Row}
@@ -23,6 +23,14 @@ pub record CopyColumns : Type 0 where
   pub props : List ℕ
   pub payload : List ℕ
   pub arrived : ℕ
+
+-- its numbers are such as SQL has
+pub record IsSized (c : CopyColumns) : Type 0 where
+  pub publication : c.publication < 2 ^ 63
+  pub cause_n : c.cause_n < 2 ^ 63
+  pub pid : IfSome c.pid (λ n. n < 2 ^ 63)
+  pub rel : IfSome c.rel (λ n. n < 2 ^ 63)
+  pub arrived : c.arrived < 2 ^ 63
 
 abbrev pub set_copy : Option ℕ → ℕ → Option ℕ → CopyColumns → CopyColumns
 set_copy pid phase rel row = record row { pid = pid; phase = phase; rel = rel }

@@ -2,12 +2,12 @@ use Rattle.std.proofs.Common.{arith, w64, pos}
 use Rattle.std.proofs.lemmas.Int.{to_z-of_z}
 use Rattle.sqlite.specs.Held.{state}
 use Rattle.mqtt_sql_schema.proofs.Kept.{keeps_either}
-use Rattle.mqtt_sql_write.proofs.RemoveSessionRuns.{removes_inside}
+use Rattle.mqtt_sql_write.proofs.RemoveNone.{removes_any}
 use Rattle.mqtt_sql_write.proofs.sessions.remove_session.Goals as goal
 
 pub returns-clause-removed : goal.returns-clause-removed
-returns-clause-removed g c clean ready there =
-    removes_inside (pos c.args.birth) (state g.S.Store c.args.tx.now.conn.now) (state g.S.Store c.execute.new.self.conn.now) c.execute.result ready there
+returns-clause-removed g c clean ready =
+    removes_any (pos c.args.birth) (state g.S.Store c.args.tx.now.conn.now) (state g.S.Store c.execute.new.self.conn.now) c.execute.result ready
     (rw (c.params-to_sql.ensures, c.whole-birth.ensures, to_z-of_z w64 (pos c.args.birth) (omega arith)) at (c.execute.ensures.runs clean ready.inside))
 
 pub returns-clause-kept : goal.returns-clause-kept

@@ -1,0 +1,5 @@
+pub mod Members
+pub mod Queues
+pub mod Determined
+pub mod Lists
+pub mod Owns

@@ -1,0 +1,17 @@
+//! Which rows records have, and what a change makes of them (4.1).
+#![tactic(auto)]
+
+mod laws;
+mod rows;
+mod wishes;
+
+pub use laws::{
+    copy_is_put, copy_is_removed, copy_is_set, rows_determine_sessions, session_is_removed,
+};
+pub use rows::{
+    columns_are_removed, retained_is_put, retained_is_removed, session_is_put, session_is_set,
+};
+pub use wishes::{
+    identifier_is_put, identifier_is_removed, subscription_is_put, subscription_is_removed,
+    will_is_put, will_is_removed,
+};
