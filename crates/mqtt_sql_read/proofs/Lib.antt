@@ -1,0 +1,3 @@
+pub mod Selects
+pub mod Listings
+pub mod Staying
