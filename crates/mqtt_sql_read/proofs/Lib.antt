@@ -1,3 +1,2 @@
 pub mod Selects
 pub mod Listings
-pub mod Staying

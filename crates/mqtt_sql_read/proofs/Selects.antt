@@ -12,6 +12,9 @@ use Rattle.sqlite.specs.Query.{Query, inner, end}
 use Rattle.sqlite.specs.Listing.{understood, reads_listing}
 use Rattle.sqlite_tied.specs.Compute.{everything}
 use Rattle.sqlite.proofs.Callers.{IsPlain, command_of}
+use Rattle.sqlite_resolve.specs.Compile.{first}
+use Rattle.sqlite_schema.specs.declared.schema.Schema.{Schema}
+use Rattle.mqtt_sql_schema.proofs.Plain.{IsSelect, ShowsOnly, text_shows}
 use Rattle.mqtt_sql_schema.specs.Tables.{keep_schema}
 use Rattle.mqtt_sql_schema.specs.declared.schema.StoreTable.{StoreTable}
 use Rattle.mqtt_sql_schema.specs.declared.schema.StoreTable.TheVariants.{Meta, Session, Will, Subscription, Inbound, Copy, Retained}
@@ -73,3 +76,17 @@ select_unlisted Subscription = refl
 select_unlisted Inbound = refl
 select_unlisted Copy = refl
 select_unlisted Retained = refl
+
+select_is_select : (table : StoreTable) → IsSelect (first (select_text table))
+unfolding everything
+select_is_select Meta = (_, refl)
+select_is_select Session = (_, refl)
+select_is_select Will = (_, refl)
+select_is_select Subscription = (_, refl)
+select_is_select Inbound = (_, refl)
+select_is_select Copy = (_, refl)
+select_is_select Retained = (_, refl)
+
+-- whatever the schema, the query shows no row of a write
+pub select_shows : (schema : Schema) (table : StoreTable) → ShowsOnly (understood schema (select_text table))
+select_shows schema table = text_shows schema (select_text table) (select_is_select table)

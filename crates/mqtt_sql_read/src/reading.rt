@@ -1,10 +1,10 @@
 //! The rows of the tables, through a connection.
-ghost use Rattle.std.specs.Prelude.{◌≡◌, false, IfOk};
+ghost use Rattle.std.specs.Prelude.{◌≡◌, IfOk, OnOk, IsTrue};
 ghost use Rattle.sqlite.specs.Held.{state};
-ghost use Rattle.sqlite.specs.State.{HasCleanDisk, Survives};
+ghost use Rattle.sqlite.specs.State.{HasCleanDisk};
 ghost use Rattle.mqtt_sql_schema.specs.Tables.{keep_schema};
 ghost use Rattle.mqtt_sql_read.specs.Listing.{select_text, IsListing};
-ghost use Rattle.mqtt_sql_read.specs.Settled.{IsSettled, Stays};
+ghost use Rattle.mqtt_sql_schema.specs.Settled.{OnlyReads};
 
 use mqtt_sql_schema::StoreTable;
 use sqlite::{Alter, Connection, Error, Row};
@@ -33,11 +33,8 @@ fn select_of(table: StoreTable) -> &'static str
 pub fn rows_of<S: Alter>(conn: &mut Connection<S>, table: StoreTable) -> Result<Vec<Row>, Error>
     ensures rows { HasCleanDisk (state S.Store conn.new) → (state S.Store conn.old).now.schema ≡ keep_schema
         → IfOk result (λ rows. IsListing table (state S.Store conn.old).now.trees rows.items) }
-    ensures stays { HasCleanDisk (state S.Store conn.new) → (state S.Store conn.old).now.schema ≡ keep_schema
-        → IsSettled (state S.Store conn.old) → Stays (state S.Store conn.old) (state S.Store conn.new) }
-    ensures mode { conn.old.in_transaction ≡ false → conn.new.in_transaction ≡ false }
-    ensures survives { (state S.Store conn.old).now.schema ≡ keep_schema
-        → Survives (state S.Store conn.old) (state S.Store conn.new) (λ _. ⊥) }
+    ensures is_open { HasCleanDisk (state S.Store conn.new) → OnOk result (IsTrue (state S.Store conn.new).is_open) }
+    ensures reads { OnlyReads (state S.Store conn.old) (state S.Store conn.new) }
 {
     conn.query_all(select_of(table), &[])
 }
