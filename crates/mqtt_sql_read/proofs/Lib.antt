@@ -1,2 +1,5 @@
 pub mod Selects
 pub mod Listings
+pub mod Rising
+pub mod Unique
+pub mod Loaded
