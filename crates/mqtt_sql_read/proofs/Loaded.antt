@@ -1,14 +1,16 @@
--- Several readings, one after the other, and what they give.
-use Rattle.std.proofs.Common.{◌≡◌, ℕ, zero, suc, ◌+◌, List, [], ◌∷◌, codes, ◌≤◌, IsTrue, Result, Ok, Err, IfOk, refl, sym, ap, subst, ◌∙◌, arith, IsSorted}
+-- What the rows of all tables give, and those of a new store.
+use Rattle.std.proofs.Common.{◌≡◌, ◌⊎◌, inl, inr, IfErr, IsErrOf, ℕ, zero, suc, ◌+◌, List, [], ◌∷◌, codes, ◌≤◌, IsTrue, Result, Ok, Err, IfOk, refl, sym, ap, subst, ◌∙◌, arith, IsSorted}
 use Rattle.std.proofs.lemmas.List.Sorted.{IsPermutation-refl}
 use Rattle.sqlite_value.specs.declared.value.Value.TheVariants.{Text}
 use Rattle.sqlite_value.specs.Order.{Row}
 use Rattle.sqlite_trees.specs.Tree.{Trees}
+use Rattle.sqlite_trees.specs.declared.store.Store.{Ghosts}
+use Rattle.sqlite.specs.Held.{Held, state}
 use Rattle.sqlite.specs.Effect.{Database}
-use Rattle.sqlite.specs.State.{State, HasCleanDisk}
 use Rattle.mqtt_lawful.specs.Lawful.{IsLawful}
 use Rattle.mqtt_records.specs.declared.records.Records.{Records}
 use Rattle.mqtt_records.specs.declared.keep.KeepError.{KeepError}
+use Rattle.mqtt_records.specs.declared.keep.KeepError.TheVariants.{Memory, Disk, Size, Corrupt, Schema}
 use Rattle.mqtt_records.specs.Records.{nothing}
 use Rattle.mqtt_sql_rows.specs.Values.{number}
 use Rattle.mqtt_sql_rows.specs.Rows.{SaysNumbers}
@@ -16,26 +18,12 @@ use Rattle.mqtt_sql_load.specs.Gives.{Rows, Gives, no_parts, counters_of}
 use Rattle.mqtt_sql_load.proofs.LawfulLemmas.{lawful_within}
 use Rattle.mqtt_sql_schema.specs.Creation.{IsNewStore, first_numbers}
 use Rattle.mqtt_sql_schema.specs.Tables.{keep_schema}
-use Rattle.mqtt_sql_schema.specs.Settled.{IsSettled, OnlyReads}
 use Rattle.mqtt_sql_schema.specs.declared.schema.StoreTable.{StoreTable}
 use Rattle.mqtt_sql_schema.specs.declared.schema.StoreTable.TheVariants.{Meta, Session, Will, Subscription, Inbound, Copy, Retained}
 use Rattle.mqtt_sql_read.specs.Listing.{by_columns, tree_of, IsListing}
-use Rattle.mqtt_sql_read.specs.Kept.{AreListed, HasRecords}
+use Rattle.mqtt_sql_read.specs.Kept.{AreListed, HasRecords, Refuses}
 use Rattle.mqtt_sql_read.proofs.Rising.{Rise}
 use Rattle.mqtt_sql_read.proofs.Unique.{by_total, numbers_rise, listed_one}
-
--- the disk was clean before
-pub was_clean : (old new : State) → OnlyReads old new → HasCleanDisk new → HasCleanDisk old
-was_clean old new it clean = let less = it.survives.clean in omega (arith, less, clean)
-
--- what is read after other readings is what was there before them
-pub read_then : (table : StoreTable) (old mid new : State) (rows : List Row) → OnlyReads old mid → OnlyReads mid new
-    → (mid.now.schema ≡ keep_schema → IsListing table mid.now.trees rows)
-    → HasCleanDisk new → IsTrue new.is_open → IsSettled old → old.now.schema ≡ keep_schema → IsListing table old.now.trees rows
-read_then table old mid new rows before it lists clean up settled schema =
-    let there = (it.stays clean).was_open up in
-    let same : mid.now ≡ old.now = ((before.stays (was_clean mid new it clean)).same there settled).0 in
-    subst (λ (db : Database). IsListing table db.trees rows) same (lists (ap (λ (db : Database). db.schema) same ∙ schema))
 
 -- ---- all tables
 
@@ -112,3 +100,20 @@ new_store_has db h = record {
   gives = record { numbers = new_numbers; sessions = refl; retained = tt };
   lawful = nothing_lawful;
 }
+
+-- ---- refusals
+
+-- the device and want of memory say nothing; `Corrupt` says that there are no records
+pub tables_refused : {S : Type 0} (g : Ghosts S) (old : Held S) (res : Result Records KeepError) → (state g old).now.schema ≡ keep_schema → IfErr res (λ e. (e ≡ Memory) ⊎ ((e ≡ Disk) ⊎ (e ≡ Corrupt)))
+    → (IsErrOf res Corrupt → (r : Records) → HasRecords (state g old).now.trees r → ⊥) → IfErr res (Refuses g old)
+tables_refused g old (Ok r) schema fault none = tt
+tables_refused g old (Err Memory) schema fault none = tt
+tables_refused g old (Err Disk) schema fault none = tt
+tables_refused g old (Err Size) schema fault none = elim fault [ inl h ↦ absurd cc | inr h ↦ elim h [ inl k ↦ absurd cc | inr k ↦ absurd cc ] ]
+tables_refused g old (Err Corrupt) schema fault none = inl (schema, none refl)
+tables_refused g old (Err Schema) schema fault none = elim fault [ inl h ↦ absurd cc | inr h ↦ elim h [ inl k ↦ absurd cc | inr k ↦ absurd cc ] ]
+
+-- a failure of the database is not `Corrupt`
+pub fault_other : (e : KeepError) → (e ≡ Memory) ⊎ (e ≡ Disk) → e ≡ Corrupt → ⊥
+fault_other e (inl h) is = absurd (let k : Memory ≡ Corrupt = sym h ∙ is in cc)
+fault_other e (inr h) is = absurd (let k : Disk ≡ Corrupt = sym h ∙ is in cc)
