@@ -69,7 +69,7 @@ new_numbers = (
 
 meta_listed : (db : Trees) → db 0 ≡ first_numbers → IsListing Meta db new_meta
 meta_listed db is = record {
-  each = rw is (record { moves = (3, 5) ∷ (2, 5) ∷ (0, 4) ∷ []; below = (omega arith, omega arith, omega arith, omega arith, omega arith, omega arith, tt); is = refl });
+  each = rw is (record { moves = (3, 5) ∷ (2, 5) ∷ (0, 4) ∷ []; below = (omega arith, omega arith, (omega arith, omega arith, (omega arith, omega arith, tt))); is = refl });
   sorted = rise_sorted (0 ∷ []) new_meta (numbers_rise (counters_of nothing) new_meta new_numbers);
 }
 
@@ -114,6 +114,6 @@ tables_refused g old (Err Corrupt) schema fault none = inl (schema, none refl)
 tables_refused g old (Err Schema) schema fault none = elim fault [ inl h ↦ absurd cc | inr h ↦ elim h [ inl k ↦ absurd cc | inr k ↦ absurd cc ] ]
 
 -- a failure of the database is not `Corrupt`
-pub fault_other : (e : KeepError) → (e ≡ Memory) ⊎ (e ≡ Disk) → e ≡ Corrupt → ⊥
-fault_other e (inl h) is = absurd (let k : Memory ≡ Corrupt = sym h ∙ is in cc)
-fault_other e (inr h) is = absurd (let k : Disk ≡ Corrupt = sym h ∙ is in cc)
+pub fault_other : (e : KeepError) → (e ≡ Memory) ⊎ (e ≡ Disk) → ◌≡◌ {A = Result Records KeepError} (Err e) (Err Corrupt) → ⊥
+fault_other e (inl h) is = let k : e ≡ Corrupt = cc in absurd (let m : Memory ≡ Corrupt = sym h ∙ k in cc)
+fault_other e (inr h) is = let k : e ≡ Corrupt = cc in absurd (let m : Disk ≡ Corrupt = sym h ∙ k in cc)

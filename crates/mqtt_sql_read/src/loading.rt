@@ -78,7 +78,9 @@ pub fn records_in<S: Alter>(
     ensures err { HasCleanDisk (state S.Store conn.new) → (state S.Store conn.old).now.schema ≡ keep_schema → IsSettled (state S.Store conn.old)
         → IsErrOf result KeepError.Corrupt → (r : Records) → HasRecords (state S.Store conn.old).now.trees r → ⊥ }
     ensures fault { IfErr result (λ e. (e ≡ KeepError.Memory) ⊎ ((e ≡ KeepError.Disk) ⊎ (e ≡ KeepError.Corrupt))) }
-    ensures is_open { HasCleanDisk (state S.Store conn.new) → OnOk result (IsTrue (state S.Store conn.new).is_open) }
+    ensures is_open { HasCleanDisk (state S.Store conn.new)
+        → OnOk result (IsTrue (state S.Store conn.new).is_open)
+        × (IsErrOf result KeepError.Corrupt → IsTrue (state S.Store conn.new).is_open) }
     ensures reads { OnlyReads (state S.Store conn.old) (state S.Store conn.new) }
 {
     let mut tables = Tables {

@@ -1,5 +1,5 @@
 //! A load: the schema looked at, the tables made where there are none, and the records read (4.1).
-ghost use Rattle.std.specs.Prelude.{◌≡◌, ◌⊎◌, false, IfOk, IfErr, OnErr, IsTrue};
+ghost use Rattle.std.specs.Prelude.{◌≡◌, ◌⊎◌, false, IfOk, IfErr, OnOk, OnErr, IsTrue};
 ghost use Rattle.sqlite.specs.Held.{state};
 ghost use Rattle.sqlite.specs.State.{HasCleanDisk, Survives};
 ghost use Rattle.mqtt_records.specs.declared.records.Records.{Records};
@@ -21,6 +21,7 @@ fn new_store<S: Alter>(alloc: Global, conn: &mut Connection<S>) -> Result<Record
     ensures ok { IfOk result (λ r. r ≡ nothing) }
     ensures made { HasCleanDisk (state S.Store conn.new) → (state S.Store conn.old).now.schema ≡ first 0
         → IfOk result (HasNow (state S.Store conn.new)) }
+    ensures is_open { HasCleanDisk (state S.Store conn.new) → OnOk result (IsTrue (state S.Store conn.new).is_open) }
     ensures was_open { HasCleanDisk (state S.Store conn.new) → IsTrue (state S.Store conn.new).is_open → IsTrue (state S.Store conn.old).is_open }
     ensures err { HasCleanDisk (state S.Store conn.new) → (state S.Store conn.old).now.schema ≡ first 0
         → OnErr result (Stays (state S.Store conn.old) (state S.Store conn.new)) }
@@ -52,10 +53,11 @@ pub fn load_from<S: Alter>(alloc: Global, conn: &mut Connection<S>) -> Result<Re
         → IfOk result (HasNow (state S.Store conn.new)) }
 
     // Why it is refused, and only then.
-    ensures refused { HasCleanDisk (state S.Store conn.new) → IsSettled (state S.Store conn.old)
+    ensures refused { HasCleanDisk (state S.Store conn.new) → (IsTrue (state S.Store conn.old).is_open → IsSettled (state S.Store conn.old))
         → IfErr result (Refuses S.Store conn.old) }
 
     // What the database has stays, and a crash leaves what it left before, or a new store.
+    ensures is_open { HasCleanDisk (state S.Store conn.new) → OnOk result (IsTrue (state S.Store conn.new).is_open) }
     ensures was_open { HasCleanDisk (state S.Store conn.new) → IsTrue (state S.Store conn.new).is_open → IsTrue (state S.Store conn.old).is_open }
     ensures same { HasCleanDisk (state S.Store conn.new) → IsSettled (state S.Store conn.old) → IsTrue (state S.Store conn.new).is_open
         → IsSettled (state S.Store conn.new)
