@@ -6,7 +6,7 @@ ghost use Rattle.mqtt_records.specs.declared.records.Records.{Records};
 ghost use Rattle.mqtt_records.specs.Records.{nothing};
 ghost use Rattle.mqtt_sql_schema.specs.Creation.{first, MakesStore};
 ghost use Rattle.mqtt_sql_schema.specs.Settled.{IsSettled, Stays};
-ghost use Rattle.mqtt_sql_read.specs.Kept.{Keeps, HasNow, Refuses};
+ghost use Rattle.mqtt_sql_read.specs.Kept.{Keeps, HasNow, Refuses, MakesNew};
 
 use crate::loading::{fault_of, records_in};
 use mqtt_records::{KeepError, Records};
@@ -62,7 +62,7 @@ pub fn load_from<S: Alter>(alloc: Global, conn: &mut Connection<S>) -> Result<Re
     ensures same { HasCleanDisk (state S.Store conn.new) → IsSettled (state S.Store conn.old) → IsTrue (state S.Store conn.new).is_open
         → IsSettled (state S.Store conn.new)
         × ((r : Records) → Keeps (state S.Store conn.old).now r → Keeps (state S.Store conn.new).now r) }
-    ensures crash { Survives (state S.Store conn.old) (state S.Store conn.new) (MakesStore (state S.Store conn.old)) }
+    ensures crash { Survives (state S.Store conn.old) (state S.Store conn.new) (MakesNew (state S.Store conn.old)) }
 {
     match found_in(conn) {
         Ok(Found::Ours) => records_in(alloc, conn),

@@ -1,6 +1,9 @@
-use Rattle.std.proofs.Common.{arith, refl, inl, inr}
+use Rattle.std.proofs.Common.{◌≡◌, arith, inl, inr, IsTrue, IsErrOf}
+use Rattle.sqlite.proofs.StateLemmas.{survives_weaker}
+use Rattle.mqtt_records.specs.declared.keep.KeepError.TheVariants.{Corrupt}
+use Rattle.mqtt_sql_schema.specs.Creation.{first, MakesStore}
 use Rattle.sqlite.specs.Held.{state}
-use Rattle.sqlite.specs.State.{HasCleanDisk}
+use Rattle.sqlite.specs.State.{HasCleanDisk, Survives}
 use Rattle.mqtt_sql_read.proofs.Loaded.{tables_refused}
 use Rattle.mqtt_sql_read.proofs.opening.load_from.Goals as goal
 
@@ -10,7 +13,8 @@ returns-in-Ok-Ours-clause-refused g c clean settled =
     let less = c.records_in.ensures.reads.survives.clean in
     let tidy : HasCleanDisk (state g.S.Store c.found_in.new.conn) = omega (arith, less, clean) in
     let schema = rw c.in-Ok-Ours.field-0-is at (c.in-Ok-Ours.ensures.found tidy) in
-    let up = λ is. (rw same at (c.records_in.ensures.reads.stays clean).was_open) ((c.records_in.ensures.is_open clean).1 is) in
+    let up : IsErrOf c.records_in.result Corrupt → IsTrue (state g.S.Store c.args.conn.now).is_open =
+    λ is. (rw same at (c.records_in.ensures.reads.stays clean).was_open) ((c.records_in.ensures.is_open clean).1 is) in
     tables_refused g.S.Store c.args.conn.now c.records_in.result schema c.records_in.ensures.fault (λ is. (rw same at (c.records_in.ensures.err clean)) schema (settled (up is)) is)
 
 pub returns-in-Ok-Empty-clause-loaded : goal.returns-in-Ok-Empty-clause-loaded
@@ -22,7 +26,14 @@ returns-in-Ok-Empty-clause-loaded g c clean settled =
     (rw same at (c.new_store.ensures.made clean)) schema
 
 pub returns-in-Ok-Empty-clause-crash : goal.returns-in-Ok-Empty-clause-crash
-returns-in-Ok-Empty-clause-crash g c = let same = c.in-Ok-Empty.ensures.untouched (inr c.in-Ok-Empty.field-0-is) in rw same at c.new_store.ensures.crash
+returns-in-Ok-Empty-clause-crash g c =
+    let same = c.in-Ok-Empty.ensures.untouched (inr c.in-Ok-Empty.field-0-is) in
+    let less = c.new_store.ensures.crash.clean in
+    let old = state g.S.Store c.args.conn.now in
+    let new = state g.S.Store c.new_store.new.conn in
+    let it : Survives old new (MakesStore old) = rw same at c.new_store.ensures.crash in
+    let found : HasCleanDisk (state g.S.Store c.found_in.new.conn) → old.now.schema ≡ first 0 = λ tidy. rw c.in-Ok-Empty.field-0-is at (c.in-Ok-Empty.ensures.found tidy) in
+    survives_weaker old new _ _ (λ clean db made. let schema = found (omega (arith, less, clean)) in (schema, made schema)) it
 
 pub returns-in-Ok-Broken-clause-refused : goal.returns-in-Ok-Broken-clause-refused
 returns-in-Ok-Broken-clause-refused g c clean settled =

@@ -1,0 +1,6 @@
+//! The store in SQL: records in the tables of a database (4.1).
+#![tactic(auto)]
+
+mod laws;
+
+pub use laws::{crash_leaves_what_it_has, database_keeps_one, loaded_store_has};
