@@ -47,11 +47,12 @@ numbers_rise all (a ∷ b ∷ c ∷ d ∷ e ∷ f ∷ []) h =
     let r = h.2.name in
     let s = h.3.name in
     let t = h.4.name in
-    let u = h.5.name in
-    (
+    let u = h.5.name in (
       (text_less a b _ _ p q refl, (text_less a c _ _ p r refl, (text_less a d _ _ p s refl, (text_less a e _ _ p t refl, (text_less a f _ _ p u refl, tt))))),
-      ((text_less b c _ _ q r refl, (text_less b d _ _ q s refl, (text_less b e _ _ q t refl, (text_less b f _ _ q u refl, tt)))),
-      ((text_less c d _ _ r s refl, (text_less c e _ _ r t refl, (text_less c f _ _ r u refl, tt))), ((text_less d e _ _ s t refl, (text_less d f _ _ s u refl, tt)), ((text_less e f _ _ t u refl, tt), (tt, tt))))),
+      (
+        (text_less b c _ _ q r refl, (text_less b d _ _ q s refl, (text_less b e _ _ q t refl, (text_less b f _ _ q u refl, tt)))),
+        ((text_less c d _ _ r s refl, (text_less c e _ _ r t refl, (text_less c f _ _ r u refl, tt))), ((text_less d e _ _ s t refl, (text_less d f _ _ s u refl, tt)), ((text_less e f _ _ t u refl, tt), (tt, tt)))),
+      ),
     )
 numbers_rise all (a ∷ b ∷ c ∷ d ∷ e ∷ f ∷ g ∷ rows) h = absurd h
 

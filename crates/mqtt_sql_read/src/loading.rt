@@ -69,10 +69,7 @@ fn read_all<S: Alter>(conn: &mut Connection<S>, tables: &mut Tables) -> Result<(
 }
 
 /// The records of a database that has the store's tables. `Corrupt` where its rows give none.
-pub fn records_in<S: Alter>(
-    alloc: Global,
-    conn: &mut Connection<S>,
-) -> Result<Records, KeepError>
+pub fn records_in<S: Alter>(alloc: Global, conn: &mut Connection<S>) -> Result<Records, KeepError>
     ensures ok { HasCleanDisk (state S.Store conn.new) → (state S.Store conn.old).now.schema ≡ keep_schema → IsSettled (state S.Store conn.old)
         → IfOk result (HasRecords (state S.Store conn.old).now.trees) }
     ensures err { HasCleanDisk (state S.Store conn.new) → (state S.Store conn.old).now.schema ≡ keep_schema → IsSettled (state S.Store conn.old)

@@ -15,8 +15,7 @@ fn select_of(table: StoreTable) -> &'static str
 {
     match table {
         StoreTable::Meta => "SELECT name, n FROM meta ORDER BY name",
-        StoreTable::Session =>
-            "SELECT birth, client, expiry, closed FROM session ORDER BY birth",
+        StoreTable::Session => "SELECT birth, client, expiry, closed FROM session ORDER BY birth",
         StoreTable::Will =>
             "SELECT birth, delay, topic, qos, retain, props, payload FROM will ORDER BY birth",
         StoreTable::Subscription =>
