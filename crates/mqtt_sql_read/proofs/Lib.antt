@@ -3,3 +3,4 @@ pub mod Listings
 pub mod Rising
 pub mod Unique
 pub mod Loaded
+pub mod Probing

@@ -1,26 +1,22 @@
 -- Rows that give records rise by their keys, each above all before it.
-use Rattle.std.proofs.Common.{◌≡◌, ℕ, ◌<◌, pos, List, [], ◌∷◌, ◌++◌, refl, sym, ap, ◌∙◌, subst, arith, nat_cmp, int_cmp, Less, Equal, Some, None, codes}
+use Rattle.std.proofs.Common.{◌≡◌, ℕ, ◌<◌, pos, List, [], ◌∷◌, ◌++◌, refl, sym, ◌∙◌, subst, arith, nat_cmp, int_cmp, Less, Some, None}
 use Rattle.std.specs.List.{AllByRecursion}
 use Rattle.std.specs.Cmp.Lexicographic.{slice_cmp}
 use Rattle.std.proofs.lemmas.Bool.{lt-ltb}
 use Rattle.std.proofs.lemmas.Cmp.{tied_itself}
-use Rattle.sqlite_value.specs.declared.value.Value.{Value}
 use Rattle.sqlite_value.specs.declared.value.Value.TheVariants.{Text}
 use Rattle.sqlite_value.specs.Order.{Row, column, value_cmp}
 use Rattle.sqlite_value.proofs.OrderLemmas.{value_cmp_total, value_cmp-Int, value_cmp-Text}
 use Rattle.sqlite_trees.specs.Tree as tree
-use Rattle.mqtt_message.specs.declared.message.Will.{Will}
 use Rattle.mqtt_message.specs.declared.message.RetainedMessage.{RetainedMessage}
-use Rattle.mqtt_message.specs.Queue.{CopyRow}
 use Rattle.mqtt_records.specs.declared.session.Session.{Session}
-use Rattle.mqtt_records.specs.Session.{birth_of, place_of, number_of, copy_place, columns_of}
+use Rattle.mqtt_records.specs.Session.{birth_of, place_of, number_of, copy_place}
 use Rattle.mqtt_records.specs.Records.{kept_place}
 use Rattle.mqtt_rows.specs.Order.{IsAbove, IsAscending}
-use Rattle.mqtt_sql_rows.specs.declared.meta.Counters.{Counters}
 use Rattle.mqtt_sql_rows.specs.Values.{number}
-use Rattle.mqtt_sql_rows.specs.Rows.{SaysNumbers, SaysSession, SaysWill, SaysSubscription, SaysOpen, SaysCopy, SaysRetained}
+use Rattle.mqtt_sql_rows.specs.Rows.{SaysWill, SaysSubscription, SaysOpen, SaysCopy, SaysRetained}
 use Rattle.mqtt_sql_load.specs.Lists.{AreRows, AllOf, Takes}
-use Rattle.mqtt_sql_load.specs.Gives.{Parts, no_parts, list_of, TakesParts, AreSessions, IsWithin}
+use Rattle.mqtt_sql_load.specs.Gives.{Parts, no_parts, list_of, AreSessions, IsWithin}
 use Rattle.mqtt_sql_read.specs.Listing.{by_columns}
 
 -- each row is above those before it

@@ -1,6 +1,5 @@
 -- What the texts of a load mean.
-use Rattle.std.proofs.Common.{◌≡◌, ℕ, List, [], ◌∷◌, map, codes, slice_index_or, pos, negsuc, Ok, Err, None, Some, refl, false}
-use Rattle.sqlite.specs.Command.{Command}
+use Rattle.std.proofs.Common.{◌≡◌, ℕ, List, [], ◌∷◌, map, codes, slice_index_or, pos, negsuc, None, refl, false}
 use Rattle.sqlite.specs.Command.TheVariants.{Select}
 use Rattle.sqlite_schema.specs.declared.program.Program.{Program}
 use Rattle.sqlite_value.specs.declared.value.Value.TheVariants.{Int}

@@ -12,7 +12,7 @@ use Rattle.mqtt_records.specs.declared.keep.KeepError.{KeepError}
 use Rattle.mqtt_records.specs.declared.keep.KeepError.TheVariants.{Memory, Disk, Size, Corrupt, Schema}
 use Rattle.mqtt_sql_load.specs.Gives.{Parts, Rows, Gives}
 use Rattle.mqtt_sql_schema.specs.Tables.{keep_schema}
-use Rattle.mqtt_sql_schema.specs.Creation.{first, IsNewStore}
+use Rattle.mqtt_sql_schema.specs.Creation.{first, IsNewStore, MakesStore}
 use Rattle.mqtt_sql_schema.specs.Finding.{Differs}
 use Rattle.mqtt_sql_schema.specs.Asking.{SaysOne, SaysOther}
 use Rattle.mqtt_sql_schema.specs.Settled.{IsSettled}
@@ -62,6 +62,10 @@ pub record HasNow (s : State) (r : Records) : Type 0 where
   pub schema : s.now.schema ≡ keep_schema
   pub has : HasRecords s.now.trees r
 
--- what a load may commit: the tables of a new store, in an empty database
+-- what may be committed where a new store is made: the connection is open
+abbrev pub BeginsStore : State → Trees → Type 0
+BeginsStore s db = IsTrue s.is_open × MakesStore s db
+
+-- what a load may commit: the tables of a new store, in an empty database that is open
 abbrev pub MakesNew : State → Trees → Type 0
-MakesNew s db = (s.now.schema ≡ first 0) × IsNewStore (record { schema = keep_schema; trees = db })
+MakesNew s db = IsTrue s.is_open × (s.now.schema ≡ first 0) × IsNewStore (record { schema = keep_schema; trees = db })

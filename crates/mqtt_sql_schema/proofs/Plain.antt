@@ -1,5 +1,5 @@
 -- Whatever the schema, the question for it writes nothing.
-use Rattle.std.proofs.Common.{◌≡◌, if◌then◌else◌, ℕ, ◌+◌, Bool, true, false, List, [], Option, Some, None, Result, Ok, Err, refl, sym, ap, ◌∙◌, subst}
+use Rattle.std.proofs.Common.{◌≡◌, if◌then◌else◌, ℕ, true, false, List, Option, None, Result, Ok, Err, refl, subst}
 use Rattle.sqlite_ast.specs.declared.Select.{Select}
 use Rattle.sqlite_ast.specs.declared.Statement.TheVariants as written
 use Rattle.sqlite_syntax.specs.declared.statement.Parsed.{Parsed}

@@ -1,9 +1,8 @@
 -- What a query leaves.
-use Rattle.std.proofs.Common.{◌≡◌, List, ℕ, [], Option, Some, None, Ok, Err, refl, sym, ap, ◌∙◌, subst, inl, inr, IsTrue, IfOk, IfErr, OnOk, Result, Vec, Global, ◌≤◌, arith, false}
+use Rattle.std.proofs.Common.{◌≡◌, List, ℕ, [], Ok, Err, refl, sym, ◌∙◌, subst, inl, inr, IsTrue, IfOk, IfErr, OnOk, Result, Vec, Global, arith, false}
 use Rattle.sqlite_value.specs.Order.{Row}
 use Rattle.sqlite.specs.declared.rows.Row.{Row as SqlRow}
 use Rattle.sqlite_trees.specs.Tree.{Trees}
-use Rattle.sqlite_resolve.specs.declared.compiled.Compiled.{Compiled}
 use Rattle.sqlite.specs.declared.error.Error.{Error}
 use Rattle.sqlite.specs.State.{State, HasCleanDisk, IsUnchanged, IsRolledBack, Shown, ShowsRows, FailsToQuery, FailsToShow, IsNotRun, CommitsShowing, Survives}
 use Rattle.sqlite.specs.Listing.{understood}
@@ -14,7 +13,7 @@ use Rattle.mqtt_sql_schema.proofs.Plain.{ShowsOnly}
 pub unchanged_stays : (old new : State) → IsUnchanged old new → Stays old new
 unchanged_stays old new h = record { was_open = λ _. h.0.was_open; same = λ _ _. (h.0.now_is, h.0.committed_is) }
 
-rolled_stays : (old new : State) → IsRolledBack old new → Stays old new
+pub rolled_stays : (old new : State) → IsRolledBack old new → Stays old new
 rolled_stays old new h = record { was_open = h.was_open; same = λ up settled. ((h.undone up).0 ∙ settled.committed, (h.undone up).1) }
 
 module _ (text : List ℕ) (old new : State) (plain : ShowsOnly (understood old.now.schema text)) where

@@ -3,13 +3,15 @@ use Rattle.std.proofs.Common.{◌≡◌, length, IsTrue, ap, sym, subst, ◌∙�
 use Rattle.sqlite_schema.specs.declared.schema.Schema.{Schema}
 use Rattle.sqlite_trees.specs.Tree.{Trees}
 use Rattle.sqlite.specs.Effect.{Database}
-use Rattle.sqlite.specs.State.{State, HasCleanDisk}
+use Rattle.sqlite.specs.State.{State, HasCleanDisk, Survives}
 use Rattle.mqtt_records.specs.declared.records.Records.{Records}
+use Rattle.mqtt_records.specs.Records.{nothing}
 use Rattle.mqtt_sql_schema.specs.Tables.{keep_schema}
 use Rattle.mqtt_sql_schema.specs.Creation.{first}
-use Rattle.mqtt_sql_read.specs.Kept.{HasRecords, Keeps, HasNow}
+use Rattle.mqtt_sql_read.specs.Kept.{HasRecords, Keeps, HasNow, MakesNew}
+use Rattle.mqtt_sql_read.proofs.Loaded.{new_store_has}
 use Rattle.mqtt_sql_read.proofs.Unique.{records_one}
-use Rattle.mqtt_store.specs.Holding.{Finds, Has, Holds, Leaves}
+use Rattle.mqtt_store.specs.Holding.{Finds, Has, Holds, Leaves, StillKeeps}
 
 -- an empty database has not the store's tables
 pub not_both : (s : Schema) → s ≡ keep_schema → s ≡ first 0 → ⊥
@@ -41,3 +43,22 @@ has_now s r only h clean = record {
       finds_one db q r (subst (λ t. HasRecords t r) (sym same) h.has) found;
   shows = λ _. inl (h.schema, h.has);
 }
+
+-- an empty database has nothing
+keeps_nothing : (db : Database) (r : Records) → db.schema ≡ first 0 → Keeps db r → r ≡ nothing
+keeps_nothing db r none (inl h) = absurd (not_both db.schema h.0 none)
+keeps_nothing db r none (inr h) = h.1
+
+pub load_holds : (old new : State) (r : Records) → Survives old new (MakesNew old) → (HasCleanDisk new → StillKeeps old new r) → Holds old r → Holds new r
+load_holds old new r it still holds clean =
+    let less = it.clean in
+    let had : Has old r = holds (omega (arith, less, clean)) in
+    record {
+      left = λ db q may found. elim (it.crash clean db may) [
+        | inl before ↦ had.left db q before found
+        | inr made ↦
+            let begun : HasRecords db nothing = new_store_has (record { schema = keep_schema; trees = db }) made.2 in
+            finds_one db q nothing begun found ∙ sym (keeps_nothing old.now r made.1 (had.shows made.0))
+      ];
+      shows = λ up. let kept = still clean up in kept.1 (had.shows kept.0);
+    }

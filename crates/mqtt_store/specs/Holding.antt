@@ -38,3 +38,7 @@ pub record IsReady (s : State) : Type 0 where
 
 abbrev pub IsLoaded : State → Type 0
 IsLoaded s = HasCleanDisk s → IsReady s
+
+-- where it is open after a call, it was open before, and shows these records if it did before
+abbrev pub StillKeeps : State → State → Records → Type 0
+StillKeeps old new r = IsTrue new.is_open → IsTrue old.is_open × (Keeps old.now r → Keeps new.now r)

@@ -2,9 +2,10 @@
 ghost use Rattle.std.specs.Prelude.{◌≡◌};
 ghost use Rattle.sqlite.specs.Effect.{Database};
 ghost use Rattle.sqlite.specs.Held.{Held, state};
+ghost use Rattle.sqlite.specs.State.{HasCleanDisk, Survives};
 ghost use Rattle.mqtt_records.specs.declared.records.Records.{Records};
-ghost use Rattle.mqtt_sql_read.specs.Kept.{Keeps, HasNow};
-ghost use Rattle.mqtt_store.specs.Holding.{Holds, Leaves};
+ghost use Rattle.mqtt_sql_read.specs.Kept.{Keeps, HasNow, MakesNew};
+ghost use Rattle.mqtt_store.specs.Holding.{Holds, Leaves, StillKeeps};
 
 use sqlite::Alter;
 
@@ -17,6 +18,15 @@ pub fn database_keeps_one()
 pub fn loaded_store_has<S: Alter>()
     ensures { (conn : Held S) (r : Records)
         → HasNow (state S.Store conn) r → Holds (state S.Store conn) r }
+{}
+
+/// What a store has stays through a load: a load commits the tables of a new store at the most, and
+/// only where the store has nothing.
+pub fn load_keeps_what_it_has<S: Alter>()
+    ensures { (old new : Held S) (r : Records)
+        → Survives (state S.Store old) (state S.Store new) (MakesNew (state S.Store old))
+        → (HasCleanDisk (state S.Store new) → StillKeeps (state S.Store old) (state S.Store new) r)
+        → Holds (state S.Store old) r → Holds (state S.Store new) r }
 {}
 
 /// A crash leaves what a store has.

@@ -3,4 +3,6 @@
 
 mod laws;
 
-pub use laws::{crash_leaves_what_it_has, database_keeps_one, loaded_store_has};
+pub use laws::{
+    crash_leaves_what_it_has, database_keeps_one, load_keeps_what_it_has, loaded_store_has,
+};

@@ -1,4 +1,3 @@
-use Rattle.std.proofs.Common.{subst}
 use Rattle.sqlite.specs.Held.{state}
 use Rattle.mqtt_sql_load.specs.Tables.{rows_in}
 use Rattle.mqtt_sql_read.proofs.Loaded.{gives_none, fault_other}
