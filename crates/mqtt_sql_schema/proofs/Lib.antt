@@ -3,3 +3,5 @@ pub mod Kept
 pub mod Fills
 pub mod One
 pub mod Said
+pub mod Staying
+pub mod Plain

@@ -4,3 +4,4 @@ pub mod Named
 pub mod Creation
 pub mod Asking
 pub mod Finding
+pub mod Settled

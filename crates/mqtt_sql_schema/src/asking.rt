@@ -1,10 +1,11 @@
 //! What a database that is not ours says of its schema.
-ghost use Rattle.std.specs.Prelude.{◌≡◌, ◌≢◌, ◌∷◌, [], pos, false, MatchBool, IfOk};
+ghost use Rattle.std.specs.Prelude.{◌≡◌, ◌≢◌, ◌∷◌, [], pos, MatchBool, IfOk};
 ghost use Rattle.sqlite_value.specs.declared.value.Value.TheVariants.{Int};
 ghost use Rattle.sqlite.specs.Held.{state};
-ghost use Rattle.sqlite.specs.State.{HasCleanDisk, Survives, CommitsShowing};
+ghost use Rattle.sqlite.specs.State.{HasCleanDisk};
 ghost use Rattle.mqtt_sql_schema.specs.Creation.{first};
-ghost use Rattle.mqtt_sql_schema.specs.Asking.{ask_text, SaysOne, SaysOther};
+ghost use Rattle.mqtt_sql_schema.specs.Asking.{SaysOne, SaysOther};
+ghost use Rattle.mqtt_sql_schema.specs.Settled.{OnlyReads};
 
 use sqlite::types::ValueRef;
 use sqlite::{Alter, Connection, Error, Row};
@@ -43,7 +44,7 @@ fn are_one(rows: &[Row]) -> bool
 pub fn says_one<S: Alter>(conn: &mut Connection<S>) -> Result<bool, Error>
     ensures said { HasCleanDisk (state S.Store conn.new) → IfOk result (λ yes. MatchBool yes
         (SaysOne (state S.Store conn.old) (state S.Store conn.new)) (SaysOther (state S.Store conn.old) (state S.Store conn.new))) }
-    ensures survives { Survives (state S.Store conn.old) (state S.Store conn.new) (CommitsShowing ask_text [] (state S.Store conn.old)) }
+    ensures reads { OnlyReads (state S.Store conn.old) (state S.Store conn.new) }
 {
     match conn.query_all("SELECT n FROM meta WHERE name = 'schema'", &[]) {
         Ok(rows) => Ok(are_one(rows.as_slice())),

@@ -1,9 +1,10 @@
 //! What a database is to the store.
-ghost use Rattle.std.specs.Prelude.{[], IfOk};
+ghost use Rattle.std.specs.Prelude.{◌≡◌, ◌⊎◌, IfOk};
 ghost use Rattle.sqlite.specs.Held.{state};
-ghost use Rattle.sqlite.specs.State.{HasCleanDisk, Survives, CommitsShowing};
-ghost use Rattle.mqtt_sql_schema.specs.Asking.{ask_text};
+ghost use Rattle.sqlite.specs.State.{HasCleanDisk};
 ghost use Rattle.mqtt_sql_schema.specs.Finding.{IsFound};
+ghost use Rattle.mqtt_sql_schema.specs.declared.found.Found.{Found};
+ghost use Rattle.mqtt_sql_schema.specs.Settled.{OnlyReads};
 
 use crate::asking::{is_empty, says_one};
 use crate::schema::is_schema;
@@ -23,9 +24,11 @@ pub enum Found {
 }
 
 /// What a database is to the store. Writes nothing.
+#[tactic(auto, using(crate::proofs::Staying::reads_nothing))]
 pub fn found_in<S: Alter>(conn: &mut Connection<S>) -> Result<Found, Error>
     ensures found { HasCleanDisk (state S.Store conn.new) → IfOk result (λ it. IsFound it (state S.Store conn.old) (state S.Store conn.new)) }
-    ensures survives { Survives (state S.Store conn.old) (state S.Store conn.new) (CommitsShowing ask_text [] (state S.Store conn.old)) }
+    ensures untouched { IfOk result (λ it. (it ≡ Found.Ours) ⊎ (it ≡ Found.Empty) → conn.new ≡ conn.old) }
+    ensures reads { OnlyReads (state S.Store conn.old) (state S.Store conn.new) }
 {
     if is_schema(conn.schema()) {
         return Ok(Found::Ours);

@@ -95,6 +95,7 @@ pub fn create_store<S: Alter>(conn: &mut Connection<S>) -> Result<(), Error>
         → OnOk result (((state S.Store conn.new).committed ≡ (state S.Store conn.new).now) × IsTrue (state S.Store conn.new).is_open) }
     ensures err { HasCleanDisk (state S.Store conn.new) → IsTrue (state S.Store conn.new).is_open → (state S.Store conn.old).now.schema ≡ first 0
         → OnErr result (((state S.Store conn.new).now ≡ (state S.Store conn.old).committed) × ((state S.Store conn.new).committed ≡ (state S.Store conn.old).committed)) }
+    ensures was_open { HasCleanDisk (state S.Store conn.new) → IsTrue (state S.Store conn.new).is_open → IsTrue (state S.Store conn.old).is_open }
     ensures crash { Survives (state S.Store conn.old) (state S.Store conn.new) (MakesStore (state S.Store conn.old)) }
 {
     let mut tx = conn.transaction();

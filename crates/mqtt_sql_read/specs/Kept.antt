@@ -1,0 +1,71 @@
+-- Which records a database has.
+use Rattle.std.specs.Prelude.{◌≡◌, ◌⊎◌, ⊤, IsTrue}
+use Rattle.sqlite_trees.specs.Tree.{Trees}
+use Rattle.sqlite_trees.specs.declared.store.Store.{Ghosts}
+use Rattle.sqlite.specs.Effect.{Database}
+use Rattle.sqlite.specs.Held.{Held, state}
+use Rattle.sqlite.specs.State.{State}
+use Rattle.mqtt_lawful.specs.Lawful.{IsLawful}
+use Rattle.mqtt_records.specs.declared.records.Records.{Records}
+use Rattle.mqtt_records.specs.Records.{nothing}
+use Rattle.mqtt_records.specs.declared.keep.KeepError.{KeepError}
+use Rattle.mqtt_records.specs.declared.keep.KeepError.TheVariants.{Memory, Disk, Size, Corrupt, Schema}
+use Rattle.mqtt_sql_load.specs.Gives.{Parts, Rows, Gives}
+use Rattle.mqtt_sql_schema.specs.Tables.{keep_schema}
+use Rattle.mqtt_sql_schema.specs.Creation.{first, IsNewStore, MakesStore}
+use Rattle.mqtt_sql_schema.specs.Finding.{Differs}
+use Rattle.mqtt_sql_schema.specs.Asking.{SaysOne, SaysOther}
+use Rattle.mqtt_sql_schema.specs.Settled.{IsSettled}
+use Rattle.mqtt_sql_schema.specs.declared.schema.StoreTable.TheVariants.{Meta, Session, Will, Subscription, Inbound, Copy, Retained}
+use Rattle.mqtt_sql_read.specs.Listing.{IsListing}
+
+-- the rows of the tables of what sessions have
+pub record ArePartsListed (db : Trees) (parts : Parts) : Type 0 where
+  pub wills : IsListing Will db parts.wills
+  pub subscriptions : IsListing Subscription db parts.subscriptions
+  pub inbound : IsListing Inbound db parts.inbound
+  pub copies : IsListing Copy db parts.copies
+
+-- the rows of all tables
+pub record AreListed (db : Trees) (rows : Rows) : Type 0 where
+  pub meta : IsListing Meta db rows.meta
+  pub sessions : IsListing Session db rows.sessions
+  pub parts : ArePartsListed db rows.parts
+  pub retained : IsListing Retained db rows.retained
+
+-- the rows of the tables give these records, and they are lawful
+pub record HasRecords (db : Trees) (r : Records) : Type 0 where
+  pub rows : Rows
+  pub listed : AreListed db rows
+  pub gives : Gives rows r
+  pub lawful : IsLawful r
+
+-- the store's tables have these records; and an empty database has none yet
+abbrev pub Keeps : Database → Records → Type 0
+Keeps db r = ((db.schema ≡ keep_schema) × HasRecords db.trees r) ⊎ ((db.schema ≡ first 0) × (r ≡ nothing))
+
+-- Why a database is refused: the rows of its tables give no records, or its schema says 1 and differs; or it doesn't say 1.
+-- Want of memory and the device say nothing of it.
+abbrev pub Refuses : {S : Type 0} → Ghosts S → Held S → KeepError → Type 0
+Refuses g old Memory = ⊤
+Refuses g old Disk = ⊤
+Refuses g old Size = ⊥
+Refuses {S} g old Corrupt =
+    (((state g old).now.schema ≡ keep_schema) × ((r : Records) → HasRecords (state g old).now.trees r → ⊥))
+    ⊎ (Differs (state g old) × ((new : Held S) × SaysOne (state g old) (state g new)))
+Refuses {S} g old Schema = Differs (state g old) × ((new : Held S) × SaysOther (state g old) (state g new))
+
+-- between two transactions it has the records in the store's tables
+pub record HasNow (s : State) (r : Records) : Type 0 where
+  pub is_open : IsTrue s.is_open
+  pub settled : IsSettled s
+  pub schema : s.now.schema ≡ keep_schema
+  pub has : HasRecords s.now.trees r
+
+-- what may be committed where a new store is made: the connection is open
+abbrev pub BeginsStore : State → Trees → Type 0
+BeginsStore s db = IsTrue s.is_open × MakesStore s db
+
+-- what a load may commit: the tables of a new store, in an empty database that is open
+abbrev pub MakesNew : State → Trees → Type 0
+MakesNew s db = IsTrue s.is_open × (s.now.schema ≡ first 0) × IsNewStore (record { schema = keep_schema; trees = db })

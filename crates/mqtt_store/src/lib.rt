@@ -1,0 +1,8 @@
+//! The store in SQL: records in the tables of a database (4.1).
+#![tactic(auto)]
+
+mod laws;
+
+pub use laws::{
+    crash_leaves_what_it_has, database_keeps_one, load_keeps_what_it_has, loaded_store_has,
+};
