@@ -8,7 +8,7 @@ use Rattle.mqtt_message.specs.declared.message.Will.{Will}
 use Rattle.mqtt_records.specs.declared.session.Session.{Session}
 use Rattle.mqtt_records.specs.declared.records.Records.{Records}
 use Rattle.mqtt_rules.specs.Closing.{will_message, publish_or_refuse, will_deeds, publish_will}
-use Rattle.mqtt_rules.specs.Contents.{IsWilled}
+use Rattle.mqtt_rules.specs.Contents.{IsWilled, of_rows}
 use Rattle.mqtt_rules.specs.Deeds.{Act, At, DropWill, FromWill, Message, Part, RefuseWill, Whose, whose, always, with_session}
 use Rattle.mqtt_rules.specs.Routing.{CopyTo, publish, next_publication}
 use Rattle.mqtt_rules.specs.State.{Broker, Env, MemberChoice, session_at}
@@ -111,7 +111,7 @@ will_is birth m r w = ap will_of w.stands ∙ w.has
 pub lawful_will : (birth : ℕ) (m : Message) (r : Records) → Wills birth m r → IsWilled (will_at birth r) → IsLawfulMessage m
 lawful_will birth m r w lawful =
     subst IsLawfulMessage (sym w.message)
-    (published places.Will w.will.topic w.will.properties w.will.payload (subst IsWilled (will_is birth m r w) lawful))
+    (published of_rows places.Will w.will.topic w.will.properties w.will.payload (subst IsWilled (will_is birth m r w) lawful))
 
 pub birth_is : (birth : ℕ) (m : Message) (r : Records) (w : Wills birth m r) → (whose w.session).birth ≡ birth
 birth_is birth m r w = found_birth birth r.sessions w.session w.stands

@@ -3,12 +3,14 @@ use Rattle.std.proofs.Common.{◌≡◌, ℕ, false}
 use Rattle.mqtt_lawful.specs.Lawful.{IsLawful}
 use Rattle.mqtt_records.specs.declared.records.Records.{Records}
 use Rattle.mqtt_rules.specs.declared.Limits.{Limits}
-use Rattle.mqtt_rules.specs.Contents.{HasLawfulContents, TakesLawful}
+use Rattle.mqtt_rules.specs.Contents.{TakesLawful, of_rows}
 use Rattle.mqtt_rules.specs.Laws.{AreWithin}
 use Rattle.mqtt_rules.specs.State.{Broker, MemberChoice, stored}
 use Rattle.mqtt_rules.specs.Step.{Call, is_opening_spent, is_step_spent, opened, stepped}
 use Rattle.mqtt_rules.proofs.ContentLaw.{step_contents, opening_contents}
 use Rattle.mqtt_rules.proofs.FlightStep.{step_keeps, opening_keeps}
+use Rattle.mqtt_rules.proofs.LawfulContents.{lawful_contents}
+use Rattle.mqtt_rules.proofs.SpelledContents.{rows_are}
 use Rattle.mqtt_rules.proofs.LawfulRecords.{lawful_coherent, lawful_accepted}
 use Rattle.mqtt_rules.proofs.LineSteps.{step_unique, opening_unique}
 use Rattle.mqtt_rules.proofs.NumberCopies.{step_accepted, opening_accepted}
@@ -29,12 +31,12 @@ step_sound limits choice now call b unspent taken h = record {
   accepted = step_accepted limits choice now call b h.accepted;
   flight = step_keeps limits choice now call b h.flight;
   lines = step_unique limits choice now call b h.limited h.coherent h.timed h.last unspent h.lines;
-  contents = step_contents limits choice now call b taken h.contents;
+  contents = step_contents of_rows rows_are limits choice now call b taken h.contents;
 }
 
-pub opening_sound : (limits : Limits) (choice : MemberChoice) (now : ℕ) (r : Records) → AreWithin limits → IsLawful r → HasLawfulContents r → is_opening_spent limits choice now r ≡ false
+pub opening_sound : (limits : Limits) (choice : MemberChoice) (now : ℕ) (r : Records) → AreWithin limits → IsLawful r → is_opening_spent limits choice now r ≡ false
     → IsSound limits (opened limits choice now r)
-opening_sound limits choice now r limited lawful contents unspent = record {
+opening_sound limits choice now r limited lawful unspent = record {
   limited = limited;
   coherent = opening_coherent limits choice now r limited (lawful_coherent r lawful) unspent;
   timed = (opening_timed limits choice now r lawful.numbers.moment).1;
@@ -42,7 +44,7 @@ opening_sound limits choice now r limited lawful contents unspent = record {
   accepted = opening_accepted limits choice now r (lawful_accepted r lawful);
   flight = opening_keeps limits choice now r (lawful_flight r lawful);
   lines = opening_unique limits choice now r;
-  contents = opening_contents limits choice now r contents;
+  contents = opening_contents of_rows rows_are limits choice now r (lawful_contents r lawful);
 }
 
 pub step_within : (limits : Limits) (choice : MemberChoice) (now : ℕ) (call : Call) (b : Broker) → IsSound limits b → IsWithin limits (stored b) → IsWithin limits (stored (stepped limits choice now call b))

@@ -2,7 +2,7 @@
 ghost use Rattle.std.specs.Prelude.{◌≡◌, ℕ, false};
 ghost use Rattle.mqtt_lawful.specs.Lawful.{IsLawful};
 ghost use Rattle.mqtt_records.specs.declared.records.Records.{Records};
-ghost use Rattle.mqtt_rules.specs.Contents.{HasLawfulContents, TakesLawful};
+ghost use Rattle.mqtt_rules.specs.Contents.{TakesLawful};
 ghost use Rattle.mqtt_rules.specs.Laws.{AreWithin};
 ghost use Rattle.mqtt_rules.specs.State.{Broker, MemberChoice, stored};
 ghost use Rattle.mqtt_rules.specs.Step.{Call, is_opening_spent, is_step_spent, opened, stepped};
@@ -10,14 +10,13 @@ ghost use Rattle.mqtt_rules.specs.declared.Limits.{Limits as TheLimits};
 ghost use Rattle.mqtt_engine.specs.Sound.{IsSound, IsWithin};
 
 /// Each step of a sound broker on a packet that is lawful and no longer than a packet may be leaves a
-/// sound one, where no number is spent; and so does an opening of lawful records, if their contents are
-/// such as packets can carry (4.1).
+/// sound one, where no number is spent; and so does an opening of lawful records (4.1).
 pub fn sound_brokers_stay_sound()
     ensures step { (limits : TheLimits) (choice : MemberChoice) (now : ℕ) (call : Call) (b : Broker)
         → is_step_spent limits choice now call b ≡ false → TakesLawful call
         → IsSound limits b → IsSound limits (stepped limits choice now call b) }
     ensures opening { (limits : TheLimits) (choice : MemberChoice) (now : ℕ) (r : Records)
-        → AreWithin limits → IsLawful r → HasLawfulContents r
+        → AreWithin limits → IsLawful r
         → is_opening_spent limits choice now r ≡ false
         → IsSound limits (opened limits choice now r) }
 {}

@@ -9,22 +9,33 @@ use Rattle.mqtt_routes.specs.Subscriptions.{Subscriber}
 use Rattle.mqtt_routes.specs.Intended.{Answers, Copy, Publication}
 use Rattle.mqtt_routes.specs.Acceptance.{Routed, Served, copies_in, routed}
 use Rattle.mqtt_rules.specs.Deeds.{Message}
-use Rattle.mqtt_rules.proofs.ContentCopies.{AreNumbered, IsIdentified, IsRoutedWell, routed_identified}
+use Rattle.mqtt_rules.specs.Contents.{of_rows}
+use Rattle.mqtt_rules.proofs.ContentCopies.{routed_identified}
+use Rattle.mqtt_rules.proofs.ContentCopies as copies
 use Rattle.mqtt_rules.proofs.Copies.{each_append}
-use Rattle.mqtt_rules.proofs.SpelledContents.{copy_spelled}
+use Rattle.mqtt_rules.proofs.SpelledContents.{copy_spelled, rows_are}
 use Rattle.mqtt_acts.specs.Choosing.{IsLawfulMessage}
 use Rattle.mqtt_router.specs.Indexing.{IsLawful, all_copied, copied, served_copied}
+
+abbrev AreNumbered : Subscriber → Type 0
+AreNumbered = copies.AreNumbered of_rows rows_are
+
+abbrev IsIdentified : Copy → Type 0
+IsIdentified = copies.IsIdentified of_rows rows_are
+
+abbrev IsRoutedWell : Routed → Type 0
+IsRoutedWell = copies.IsRoutedWell of_rows rows_are
 
 numbered : (xs : List Subscriber) → AllByRecursion IsLawful xs → AllByRecursion AreNumbered xs
 numbered [] h = tt
 numbered (x ∷ xs) h = ((h.0.identifiers, h.0.few), numbered xs h.1)
 
 routed_well : (at : Answers) (p : Publication) (choices : List ℕ) (table : List Subscriber) (r : Routed) → AllByRecursion IsLawful table → routed at p choices table ≡ Some r → IsRoutedWell r
-routed_well at p choices table r h is = routed_identified at p choices table r (numbered table h) is
+routed_well at p choices table r h is = routed_identified of_rows rows_are at p choices table r (numbered table h) is
 
 module _ (number moment : ℕ) (m : Message) (lawful : IsLawfulMessage m) where
   one_spelled : (cause : Cause) (c : Copy) → IsIdentified c → IsSpelled (copied number moment m cause c)
-  one_spelled cause c h = copy_spelled (copied number moment m cause c) (record { content = lawful; identifiers = h })
+  one_spelled cause c h = copy_spelled of_rows rows_are (copied number moment m cause c) (record { content = lawful; identifiers = h })
 
   some_spelled : (cause : Cause) (cs : List Copy) → AllByRecursion IsIdentified cs → AllByRecursion IsSpelled (map (copied number moment m cause) cs)
   some_spelled cause [] h = tt
