@@ -1,0 +1,6 @@
+pub mod Lines
+pub mod Dropped
+pub mod Removed
+pub mod Unsubscribed
+pub mod LateCopies
+pub mod BroughtMessages

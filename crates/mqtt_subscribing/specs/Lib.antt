@@ -1,0 +1,3 @@
+pub mod Offering
+pub mod Dropping
+pub mod Bringing
