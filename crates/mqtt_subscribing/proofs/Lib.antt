@@ -4,3 +4,4 @@ pub mod Removed
 pub mod Unsubscribed
 pub mod LateCopies
 pub mod BroughtMessages
+pub mod Enrolled

@@ -3,10 +3,12 @@
 
 mod bringing;
 mod dropping;
+mod enrolling;
 mod late;
 mod offering;
 mod unsubscribing;
 
 pub use bringing::brought;
+pub use enrolling::enroll;
 pub use late::send_late;
 pub use unsubscribing::unsubscribe;
