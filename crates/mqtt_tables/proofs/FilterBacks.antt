@@ -13,7 +13,6 @@ use Rattle.mqtt_tables.specs.Subscribing.{HasEachFilterOnce, MaySubscribe}
 use Rattle.mqtt_tables.proofs.Backs.{session_back}
 use Rattle.mqtt_tables.proofs.Filters.{put_again, put_beside, put_gone, removed_again, none_without}
 
-
 -- the one to the same filter, which text is
 pub over_back : (text : List ℕ) (x y : Subscription) (s : Session) → text ≡ x.filter → HasTables s → MaySubscribe x s → find (is_to text) s.subscriptions ≡ Some y
     → TakesBack (PutSubscription s.birth x) (PutSubscription s.birth y) s

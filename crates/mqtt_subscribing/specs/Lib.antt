@@ -1,0 +1,4 @@
+pub mod Offering
+pub mod Dropping
+pub mod Bringing
+pub mod Enrolling

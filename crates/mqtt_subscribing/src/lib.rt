@@ -1,0 +1,14 @@
+//! SUBSCRIBE and UNSUBSCRIBE, as the rules have them, over the tables of a step (MQTT 5.0, 3.8 to 3.11).
+#![tactic(auto)]
+
+mod bringing;
+mod dropping;
+mod enrolling;
+mod late;
+mod offering;
+mod unsubscribing;
+
+pub use bringing::brought;
+pub use enrolling::enroll;
+pub use late::send_late;
+pub use unsubscribing::unsubscribe;
