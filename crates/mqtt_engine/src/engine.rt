@@ -7,6 +7,8 @@ ghost use Rattle.mqtt_rules.specs.Lines.{session_on};
 ghost use Rattle.mqtt_rules.specs.State.{line_at};
 ghost use Rattle.mqtt_rules.specs.Step.{BrokerStep, Call, NewLine, Input, SpentStep, copy_of, nothing_told};
 ghost use Rattle.mqtt_tables.specs.Doing.{next_line};
+ghost use Rattle.mqtt_tables.specs.Stepping.{at_rest};
+ghost use Rattle.mqtt_engine.specs.Sound.{IsSound};
 ghost use Rattle.mqtt_engine.specs.Calling.{IsAnswered, IsLeftBy, IsOn};
 
 use crate::answering::{ping_at, release_at};
@@ -58,6 +60,27 @@ fn has_failed(answer: &Result<Outcome, EngineError>) -> bool
 }
 
 impl<K: Keep> Engine<K> {
+    /// An engine whose store holds what is stored, with no step under way. Takes no memory.
+    pub fn over(alloc: Global, keep: K, step: Step) -> Engine<K>
+        requires rest { step ≡ at_rest step.limits step.broker }
+        requires sound { IsSound step.limits step.broker }
+        requires loaded { K.is_loaded keep }
+        requires holds { K.holds keep step.broker.records }
+        ensures { result ≡ record {
+          keep = keep;
+          limits = step.limits;
+          broker = step.broker;
+          stopped = false;
+        } }
+    {
+        Engine {
+            alloc,
+            keep,
+            step,
+            stopped: false,
+        }
+    }
+
     /// A line is linked at a moment in milliseconds, and gets the next number, from 1. None where 64 lines
     /// stand or 2^62 were linked. Works after the store has failed too. Takes no memory.
     pub fn link(&mut self, moment: u64) -> Option<u64>
