@@ -1,6 +1,6 @@
 -- What the acts of a call make of a step that had begun is what the call makes of it.
-use Rattle.std.proofs.Common.{◌≡◌, ℕ, suc, Bool, true, false, ◌||◌, List, [], ◌∷◌, ◌++◌, nat_eq, length, refl, ap, sym, subst, ◌∙◌, append-nil, arith}
-use Rattle.std.specs.Prelude.{⊤, Option, Some, None, Result, Ok, Err, IfErr, OnOk}
+use Rattle.std.proofs.Common.{◌≡◌, ℕ, suc, Bool, true, ◌||◌, List, [], ◌∷◌, ◌++◌, nat_eq, length, refl, ap, sym, subst, ◌∙◌, append-nil, arith}
+use Rattle.std.specs.Prelude.{⊤, Option, Some, Result, Ok, Err, IfErr, OnOk}
 use Rattle.std.proofs.lemmas.Bool.{eqb-true}
 use Rattle.mqtt_base.specs.Values.{varint}
 use Rattle.mqtt_codec.specs.declared.packet.Packet.{Packet}
@@ -9,11 +9,10 @@ use Rattle.mqtt_codec.specs.Packets.{shortest_body}
 use Rattle.mqtt_records.specs.declared.change.Change.{Change}
 use Rattle.mqtt_records.specs.declared.change.Change.TheVariants.{SetCounter}
 use Rattle.mqtt_records.specs.declared.change.Counter.TheVariants.{Moment}
-use Rattle.mqtt_records.specs.declared.records.Records.{Records}
 use Rattle.mqtt_records.specs.declared.session.Session.{Session}
 use Rattle.mqtt_rules.specs.declared.Limits.{Limits}
 use Rattle.mqtt_rules.specs.Contents.{IsTaken}
-use Rattle.mqtt_rules.specs.Deeds.{Act, Deed, Hear, On, after_all, always, of_session, rows_of_all, series, then, with_line, with_session}
+use Rattle.mqtt_rules.specs.Deeds.{Act, Hear, On, after_all, always, of_session, rows_of_all, series, then, with_line, with_session}
 use Rattle.mqtt_rules.specs.Lines.{session_on}
 use Rattle.mqtt_rules.specs.Packets.{size_of}
 use Rattle.mqtt_rules.specs.State.{Broker, Env, Line, MemberChoice, line_at, session_at}
@@ -59,7 +58,7 @@ left_call limits now call b fault s leaves e =
     let choice : MemberChoice = λ number sender. leaves.members in
     let left : IsLeft (deeds_of (env_of limits choice b) call) fault (begun limits now b) s = leaves.is choice refl in
     let spent : is_step_spent limits choice now call b ≡ true =
-        spent_stamped (at_moment now b).now (rows_of_all (deeds limits choice now call b) b.records) (left.spent e) in
+    spent_stamped (at_moment now b).now (rows_of_all (deeds limits choice now call b) b.records) (left.spent e) in
     record {
       choice = choice;
       spent = ap (λ (l : Limits). is_step_spent l choice now call s.start) left.limits ∙ (ap (λ (c : Broker). is_step_spent limits choice now call c) left.start ∙ spent);

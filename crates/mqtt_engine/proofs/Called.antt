@@ -1,27 +1,24 @@
 -- A step that did the deeds of a call is the broker's step of that call.
-use Rattle.std.proofs.Common.{◌≡◌, ℕ, Bool, true, false, ◌||◌, ◌⊎◌, List, [], ◌∷◌, ◌++◌, refl, ap, sym, subst, ◌∙◌, inl, inr}
-use Rattle.std.specs.Prelude.{⊤, Result, Ok, Err, IfOk, OnErr, IsErrOf}
+use Rattle.std.proofs.Common.{◌≡◌, ℕ, Bool, false, ◌⊎◌, List, refl, ap, sym, subst, ◌∙◌, inl, inr}
+use Rattle.std.specs.Prelude.{Result, Ok, Err, IfOk, OnErr, IsErrOf}
 use Rattle.mqtt_records.specs.declared.change.Change.{Change}
-use Rattle.mqtt_records.specs.declared.change.Change.TheVariants.{SetCounter}
-use Rattle.mqtt_records.specs.declared.change.Counter.TheVariants.{Moment}
 use Rattle.mqtt_records.specs.declared.records.Records.{Records}
 use Rattle.mqtt_records.specs.Records.{FitAll}
 use Rattle.mqtt_rules.specs.declared.Limits.{Limits}
 use Rattle.mqtt_rules.specs.Contents.{TakesLawful}
-use Rattle.mqtt_rules.specs.Deeds.{Act, Deed, after_all, rows_of_all}
-use Rattle.mqtt_rules.specs.State.{Broker, Env, MemberChoice, stored}
-use Rattle.mqtt_rules.specs.Step.{BrokerStep, Call, SpentStep, at_moment, deeds, deeds_of, env_of, is_again, is_spent, is_step_spent, rows_written, stamped, stepped, told, with_moment}
-use Rattle.mqtt_rules.specs.Step.{Outcome as Told}
+use Rattle.mqtt_rules.specs.Deeds.{Deed, rows_of_all}
+use Rattle.mqtt_rules.specs.State.{Broker}
+use Rattle.mqtt_rules.specs.Step.{Call, at_moment, deeds, is_spent, is_step_spent, rows_written, stamped, stepped, told, with_moment}
 use Rattle.mqtt_rules.proofs.RowsFit.{step_fits}
 use Rattle.mqtt_rules.proofs.StoredLaw.{now_stays}
 use Rattle.mqtt_tables.specs.declared.fault.StepFault.{StepFault}
 use Rattle.mqtt_tables.specs.declared.fault.StepFault.TheVariants.{Memory, Spent}
 use Rattle.mqtt_tables.specs.declared.call.EngineError.{EngineError}
 use Rattle.mqtt_tables.specs.declared.call.EngineError.TheVariants as errors
-use Rattle.mqtt_tables.specs.Stepping.{Stepping, Did, IsLeft, at_rest, did, with_broker, with_stamp}
+use Rattle.mqtt_tables.specs.Stepping.{Stepping, at_rest, with_stamp}
 use Rattle.mqtt_tables.specs.Undoing.{moment_of}
 use Rattle.mqtt_engine.specs.declared.outcome.Outcome.{Outcome}
-use Rattle.mqtt_engine.specs.Calling.{DidCall, IsAnswered, IsCalled, IsLeftBy, IsStoredNext, Tells, begun}
+use Rattle.mqtt_engine.specs.Calling.{DidCall, IsAnswered, IsLeftBy}
 use Rattle.mqtt_engine.specs.Sound.{IsSound}
 use Rattle.mqtt_engine.proofs.SoundLaw.{step_sound}
 

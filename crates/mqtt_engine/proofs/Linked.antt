@@ -1,11 +1,11 @@
 -- What needs no act: a line is linked, and a line that isn't linked.
 use Rattle.std.proofs.Common.{◌≡◌, ℕ, suc, Bool, true, false, cond, List, [], ◌∷◌, refl, ap, sym, ◌∙◌}
-use Rattle.std.specs.Prelude.{Option, None}
+use Rattle.std.specs.Prelude.{None}
 use Rattle.mqtt_records.specs.declared.records.Records.{Records}
 use Rattle.mqtt_rules.specs.declared.Limits.{Limits}
-use Rattle.mqtt_rules.specs.Deeds.{Deed, Link, after_all, rows_of_all, with_line}
-use Rattle.mqtt_rules.specs.State.{Broker, Line, MemberChoice, line_at}
-use Rattle.mqtt_rules.specs.Step.{BrokerStep, Call, NewLine, Input, BadInput, Lost, Pump, Tick, at_moment, can_link, deeds, deeds_of, done, env_of, is_again, is_spent, is_step_spent, nothing_told, outcome_of, rows_written, stamped, stepped, told}
+use Rattle.mqtt_rules.specs.Deeds.{Deed, Link, after_all, rows_of_all}
+use Rattle.mqtt_rules.specs.State.{Broker, MemberChoice, line_at}
+use Rattle.mqtt_rules.specs.Step.{BrokerStep, Call, NewLine, Input, BadInput, Lost, Pump, Tick, at_moment, can_link, deeds, done, is_again, is_spent, is_step_spent, nothing_told, outcome_of, rows_written, stamped, stepped}
 use Rattle.mqtt_rules.specs.Step.{Outcome as Told}
 use Rattle.mqtt_tables.specs.Doing.{after_act, links}
 use Rattle.mqtt_engine.specs.declared.outcome.Outcome.{Outcome}

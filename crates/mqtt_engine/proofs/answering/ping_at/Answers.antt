@@ -10,7 +10,7 @@ pub returns-in-Ok-clause-called : goal.returns-in-Ok-clause-called
 returns-in-Ok-clause-called c =
     let s = c.args.step.now in
     let same : c.begin.new.self ≡ begun s.limits c.args.moment s.broker =
-        c.in-Ok.ensures.ok ∙ ap (with_broker (at_moment c.args.moment s.broker)) c.requires.rest in
+    c.in-Ok.ensures.ok ∙ ap (with_broker (at_moment c.args.moment s.broker)) c.requires.rest in
     called_by s.limits c.args.moment (Input c.args.line Pingreq) false s.broker c.begin.new.self c.ping.new.step c.ping.result same (λ choice. refl)
     c.ping.ensures.ok c.ping.ensures.left
 
@@ -18,7 +18,7 @@ pub returns-in-Ok-clause-start : goal.returns-in-Ok-clause-start
 returns-in-Ok-clause-start c =
     let s = c.args.step.now in
     let same : c.begin.new.self ≡ begun s.limits c.args.moment s.broker =
-        c.in-Ok.ensures.ok ∙ ap (with_broker (at_moment c.args.moment s.broker)) c.requires.rest in
+    c.in-Ok.ensures.ok ∙ ap (with_broker (at_moment c.args.moment s.broker)) c.requires.rest in
     start_by s.limits c.args.moment (λ env. deeds_of env (Input c.args.line Pingreq)) s.broker c.begin.new.self c.ping.new.step c.ping.result same
     c.ping.ensures.ok c.ping.ensures.left
 
@@ -26,6 +26,6 @@ pub returns-in-Ok-clause-limits : goal.returns-in-Ok-clause-limits
 returns-in-Ok-clause-limits c =
     let s = c.args.step.now in
     let same : c.begin.new.self ≡ begun s.limits c.args.moment s.broker =
-        c.in-Ok.ensures.ok ∙ ap (with_broker (at_moment c.args.moment s.broker)) c.requires.rest in
+    c.in-Ok.ensures.ok ∙ ap (with_broker (at_moment c.args.moment s.broker)) c.requires.rest in
     limits_by s.limits c.args.moment (λ env. deeds_of env (Input c.args.line Pingreq)) s.broker c.begin.new.self c.ping.new.step c.ping.result same
     c.ping.ensures.ok c.ping.ensures.left

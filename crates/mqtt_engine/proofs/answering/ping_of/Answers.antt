@@ -1,4 +1,4 @@
-use Rattle.std.proofs.Common.{◌≡◌, rules, Some, ap, sym, ◌∙◌}
+use Rattle.std.proofs.Common.{◌≡◌, rules, Some}
 use Rattle.mqtt_codec.specs.declared.packet.Packet.TheVariants.{Pingreq}
 use Rattle.mqtt_rules.specs.State.{session_at}
 use Rattle.mqtt_rules.specs.Step.{next_packet}

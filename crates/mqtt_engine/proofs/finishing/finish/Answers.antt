@@ -1,4 +1,4 @@
-use Rattle.std.proofs.Common.{◌≡◌, refl, subst}
+use Rattle.std.proofs.Common.{refl, subst}
 use Rattle.std.specs.Prelude.{⊤, Result}
 use Rattle.mqtt_tables.specs.declared.fault.StepFault.{StepFault}
 use Rattle.mqtt_engine.specs.Calling.{IsCalled}
@@ -14,6 +14,8 @@ returns-in-Ok-clause-sound g c =
     (c.store.ensures.step called.0 called.1 did) c.store.ensures.same
 
 pub returns-in-Err-clause-spent : goal.returns-in-Err-clause-spent
-returns-in-Err-clause-spent g c = λ now call called is.
-    (subst (λ (r : Result ⊤ StepFault). IsCalled now call c.args.again r c.args.step.now) c.in-Err.is called
-    (spent_fault c.in-Err.fault c.refusal.result c.refusal.ensures.memory is), refl)
+returns-in-Err-clause-spent g c = λ now call called is. (
+  subst (λ (r : Result ⊤ StepFault). IsCalled now call c.args.again r c.args.step.now) c.in-Err.is called
+      (spent_fault c.in-Err.fault c.refusal.result c.refusal.ensures.memory is),
+  refl,
+)

@@ -13,14 +13,13 @@ pub invariant_of-self : goal.invariant_of-self
 invariant_of-self g c =
     let s = c.self.inside.step in
     let is = c.link.ensures.step in
-    let sound = step_sound s.limits first_members c.args.moment NewLine s.broker (link_unspent s.limits c.args.moment s.broker) tt c.self.invariant.1 in
-    (
+    let sound = step_sound s.limits first_members c.args.moment NewLine s.broker (link_unspent s.limits c.args.moment s.broker) tt c.self.invariant.1 in (
       is ∙ sym (ap (λ (t : Stepping). at_rest t.limits t.broker) is),
       subst (λ (t : Stepping). IsSound t.limits t.broker) (sym is) (subst (λ (b : Broker). IsSound s.limits b) (sym (linked_step s.limits c.args.moment s.broker)) sound),
       λ running. (
         (c.self.invariant.2 running).0,
         subst (λ (r : Records). g.K.Keep.holds c.self.inside.keep r)
-        (sym (ap (λ (t : Stepping). t.broker.records) is ∙ link_records c.args.moment s.broker)) (c.self.invariant.2 running).1,
+            (sym (ap (λ (t : Stepping). t.broker.records) is ∙ link_records c.args.moment s.broker)) (c.self.invariant.2 running).1,
       ),
     )
 
