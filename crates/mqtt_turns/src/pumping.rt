@@ -73,7 +73,8 @@ fn pump_turns(
 /// out.
 pub fn pump(alloc: Global, step: &mut Step, line: u64) -> Result<bool, StepFault>
     requires { (birth : ℕ) → HasKeptOrders birth step.old.broker.records }
-    ensures again { IfOk result (λ again. again ≡ is_again (Pump line) (pumps line step.old.broker)) }
+    ensures again { IfOk result (λ again. again
+        ≡ is_again (Pump line) (pumps line step.old.broker)) }
     ensures ok { OnOk result (Did (pumps line) step.old step.new) }
     ensures left { IfErr result (λ fault. IsLeft (pumps line) fault step.old step.new) }
 {
