@@ -5,3 +5,4 @@ pub mod Asked
 pub mod Seen
 pub mod Pumped
 pub mod Entered
+pub mod Sending

@@ -81,6 +81,9 @@ way_with window largest moment = record { window = window; largest = largest; no
 pub same_way : {w1 w2 l1 l2 m1 m2 : ℕ} → w1 ≡ w2 → l1 ≡ l2 → m1 ≡ m2 → way_with w1 l1 m1 ≡ way_with w2 l2 m2
 same_way p q r = three way_with p q r
 
+pub taken_of : (line birth : ℕ) (ts : List Turn) (x : Session) (b : Broker) → session_at birth b.records ≡ Some x → takes_turns line birth ts b ≡ all_turn_deeds b.now line x ts
+taken_of line birth ts x b found = ap (λ (o : Option Session). with_session o (λ s. always (all_turn_deeds b.now line s ts)) b) found
+
 pub pumps_is : (line birth : ℕ) (ts : List Turn) (l : Line) (x : Session) (b : Broker) → line_at line b ≡ Some l → l.number ≡ line → l.session ≡ Some birth
     → session_at birth b.records ≡ Some x → ts ≡ pump (way_of l b.now) (queue_on l.went x) → takes_turns line birth ts b ≡ pumps line b
 pumps_is line birth ts l x b there number connected found is =
