@@ -11,7 +11,7 @@ use Rattle.mqtt_rules.specs.Deeds.{Enter, At, whose, with_session, of_session, a
 use Rattle.mqtt_rules.specs.Outbound.{leave_deeds, since, enter_deeds}
 use Rattle.mqtt_tables.specs.declared.fault.StepFault.{StepFault}
 use Rattle.mqtt_tables.specs.Stepping.{Stepping, Did, Does, IsLeft, Leaves, env_in, to_session}
-use Rattle.mqtt_acts.proofs.Then.{same_act, same_left}
+use Rattle.mqtt_tables.proofs.Then.{same_act, same_left}
 
 pub length_on : (es : List CopyRow) → length (map (entry_on []) es) ≡ length es
 length_on [] = refl

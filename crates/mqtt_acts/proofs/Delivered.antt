@@ -25,7 +25,7 @@ use Rattle.mqtt_tables.specs.declared.fault.StepFault.{StepFault}
 use Rattle.mqtt_tables.specs.Stepping.{Stepping, did, Did, Does, IsLeft, Leaves, env_in}
 use Rattle.mqtt_tables.proofs.Doing.{found_birth}
 use Rattle.mqtt_acts.specs.Delivering.{addressed, addressed_all, offers, delivers_all, IsBelowLimit, HasRoom, HasRoomIn, whose_at, SameSessions}
-use Rattle.mqtt_acts.proofs.Then.{same_act, same_left}
+use Rattle.mqtt_tables.proofs.Then.{same_act, same_left}
 use Rattle.mqtt_acts.proofs.Below.{length_on, enters_below}
 use Rattle.mqtt_acts.proofs.Leading.{LeadsOn, leads_first, leads_next, leads_left, leads_last, same_env}
 

@@ -5,7 +5,7 @@ use Rattle.mqtt_rules.specs.Deeds.{Act, series}
 use Rattle.mqtt_tables.specs.declared.fault.StepFault.{StepFault}
 use Rattle.mqtt_tables.specs.Stepping.{Stepping, Did, Does, IsLeft, Leaves, env_in}
 use Rattle.mqtt_tables.proofs.Doing.{did_none}
-use Rattle.mqtt_acts.proofs.Then.{did_then, left_first, left_then}
+use Rattle.mqtt_tables.proofs.Then.{did_then, left_first, left_then}
 
 pub record LeadsOn (rest all : Env → Act) (first s : Stepping) : Type 0 where
   pub start : s.start ≡ first.start

@@ -1,4 +1,3 @@
-pub mod Then
 pub mod Opens
 pub mod Below
 pub mod Leading

@@ -10,7 +10,7 @@ use Rattle.mqtt_tables.specs.declared.fault.StepFault.{StepFault}
 use Rattle.mqtt_tables.specs.Stepping.{Stepping, Did, IsLeft}
 use Rattle.mqtt_tables.specs.Undoing.{moment_of}
 use Rattle.mqtt_acts.specs.Delivering.{offers}
-use Rattle.mqtt_acts.proofs.Then.{same_act, same_left}
+use Rattle.mqtt_tables.proofs.Then.{same_act, same_left}
 
 offers_is : (birth line : ℕ) (copy : MessageCopy) (l : Line) (s : Stepping) → line_of birth s.broker ≡ Some l → line ≡ l.number
     → size_of (publish_of (moment_of s.broker) false 0 copy) ≤ l.largest → always (Send line (publish_of (moment_of s.broker) false 0 copy) ∷ []) s.broker ≡ offers birth copy s.broker

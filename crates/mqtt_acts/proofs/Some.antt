@@ -5,7 +5,7 @@ use Rattle.mqtt_rules.specs.State.{Broker, Env, MemberChoice}
 use Rattle.mqtt_tables.specs.declared.fault.StepFault.{StepFault}
 use Rattle.mqtt_tables.specs.Stepping.{Stepping, Did, Does, IsLeft, Leaves, env_in}
 use Rattle.mqtt_acts.specs.Choosing.{DoesSome, LeavesSome}
-use Rattle.mqtt_acts.proofs.Then.{same_act, same_left, did_then, left_first, left_then}
+use Rattle.mqtt_tables.proofs.Then.{same_act, same_left, did_then, left_first, left_then}
 use Rattle.mqtt_acts.proofs.Leading.{same_env}
 
 -- one, then the other

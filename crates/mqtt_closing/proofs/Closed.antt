@@ -26,7 +26,7 @@ use Rattle.mqtt_tables.specs.Stepping.{Stepping, did, Did, Does, IsLeft, Leaves,
 use Rattle.mqtt_tables.proofs.Doing.{did_none, found_birth, stands}
 use Rattle.mqtt_acts.specs.Choosing.{DoesSome, LeavesSome}
 use Rattle.mqtt_acts.specs.Delivering.{whose_at}
-use Rattle.mqtt_acts.proofs.Then.{same_act, same_left}
+use Rattle.mqtt_tables.proofs.Then.{same_act, same_left}
 use Rattle.mqtt_acts.proofs.Some.{both, does_then, leaves_first, leaves_then, then_some, then_some_left, same_does, same_leaves, same_some, same_some_left, leaves_some, alone}
 use Rattle.mqtt_closing.specs.Settling.{settles_will, settles_end, drops_will, closes}
 use Rattle.mqtt_closing.specs.Wills.{ChoosesOnce, publishes_will, will_of, will_at}

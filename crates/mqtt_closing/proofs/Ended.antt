@@ -17,7 +17,7 @@ use Rattle.mqtt_tables.specs.Doing.{leaves}
 use Rattle.mqtt_tables.specs.declared.fault.StepFault.{StepFault}
 use Rattle.mqtt_tables.specs.Stepping.{Stepping, did, Did, IsLeft}
 use Rattle.mqtt_tables.proofs.Doing.{did_none, found_birth, stands}
-use Rattle.mqtt_acts.proofs.Then.{same_act, same_left, did_then, left_first, left_then}
+use Rattle.mqtt_tables.proofs.Then.{same_act, same_left, did_then, left_first, left_then}
 use Rattle.mqtt_closing.specs.Ending.{ends, first_ends, ends_first, finishes, queue_of, queue_at}
 
 -- ---- the queue after its first copy left

@@ -18,7 +18,7 @@ use Rattle.mqtt_tables.specs.declared.fault.StepFault.{StepFault}
 use Rattle.mqtt_tables.specs.Stepping.{Stepping, did, Did, IsLeft, env_in, to_session}
 use Rattle.mqtt_tables.proofs.Doing.{did_none}
 use Rattle.mqtt_acts.specs.Choosing.{DoesSome, LeavesSome}
-use Rattle.mqtt_acts.proofs.Then.{same_act}
+use Rattle.mqtt_tables.proofs.Then.{same_act}
 use Rattle.mqtt_acts.proofs.Some.{both, does_then, does_some, leaves_first, leaves_some, then_some, then_some_left, same_does, same_some, same_some_left, alone}
 use Rattle.mqtt_closing.specs.Settling.{closes, disconnects, leaves_by, sets_expiry}
 use Rattle.mqtt_closing.specs.Wills.{ChoosesOnce, will_at}

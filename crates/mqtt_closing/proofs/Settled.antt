@@ -10,7 +10,7 @@ use Rattle.mqtt_tables.specs.declared.fault.StepFault.{StepFault}
 use Rattle.mqtt_tables.specs.Stepping.{Stepping, did, Did, Does, IsLeft, Leaves, env_in}
 use Rattle.mqtt_tables.proofs.Doing.{did_none}
 use Rattle.mqtt_acts.specs.Choosing.{DoesSome, LeavesSome}
-use Rattle.mqtt_acts.proofs.Then.{same_act, same_left}
+use Rattle.mqtt_tables.proofs.Then.{same_act, same_left}
 use Rattle.mqtt_acts.proofs.Some.{both, does_then, leaves_first, leaves_then, some_then, some_left_first, some_left_then, same_does, same_leaves, same_some, same_some_left, does_some, alone}
 use Rattle.mqtt_closing.specs.Ending.{ends}
 use Rattle.mqtt_closing.specs.Settling.{settles_will, settles_end}

@@ -19,7 +19,7 @@ use Rattle.mqtt_tables.specs.Stepping.{Stepping, did, Did, Does, IsLeft, Leaves,
 use Rattle.mqtt_tables.proofs.Doing.{did_none, found_birth}
 use Rattle.mqtt_acts.specs.Choosing.{DoesSome, LeavesSome, IsLawfulMessage, IsRefused, IsAccepted}
 use Rattle.mqtt_acts.specs.Delivering.{addressed_all, whose_at, SameSessions}
-use Rattle.mqtt_acts.proofs.Then.{same_act, same_left}
+use Rattle.mqtt_tables.proofs.Then.{same_act, same_left}
 use Rattle.mqtt_acts.proofs.Some.{both, some_then, some_left_first, some_left_then, same_some, same_some_left, does_some}
 use Rattle.mqtt_closing.specs.Wills.{will_of, will_at, message_of, message_at, publishes, publishes_will}
 

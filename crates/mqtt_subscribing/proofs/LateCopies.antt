@@ -9,7 +9,7 @@ use Rattle.mqtt_rules.specs.Deeds.{Act, Deed, always, series, after_all}
 use Rattle.mqtt_rules.specs.Packets.{publish_of}
 use Rattle.mqtt_tables.specs.declared.fault.StepFault.{StepFault}
 use Rattle.mqtt_tables.specs.Stepping.{Stepping, Did, IsLeft}
-use Rattle.mqtt_acts.proofs.Then.{same_act, same_left}
+use Rattle.mqtt_tables.proofs.Then.{same_act, same_left}
 use Rattle.mqtt_acts.proofs.Leading.{LeadsOn, leads_first, leads_next, leads_left, leads_last}
 use Rattle.mqtt_subscribing.specs.Offering.{offer_within}
 use Rattle.mqtt_subscribing.specs.Bringing.{late_within}

@@ -13,7 +13,7 @@ use Rattle.mqtt_tables.specs.declared.fault.StepFault.{StepFault}
 use Rattle.mqtt_tables.specs.declared.fault.StepFault.TheVariants.{Memory, Spent}
 use Rattle.mqtt_tables.specs.Stepping.{Stepping, did, Did, IsLeft}
 use Rattle.mqtt_tables.proofs.Doing.{did_none}
-use Rattle.mqtt_acts.proofs.Then.{same_act, same_left, did_then, left_first, left_then}
+use Rattle.mqtt_tables.proofs.Then.{same_act, same_left, did_then, left_first, left_then}
 use Rattle.mqtt_subscribing.specs.Offering.{largest_on, offer_within}
 use Rattle.mqtt_subscribing.specs.Dropping.{held, drops}
 use Rattle.mqtt_subscribing.proofs.Lines.{offer_is}

@@ -15,3 +15,4 @@ pub mod FiltersKept
 pub mod FilterBacks
 pub mod AliasDeeds
 pub mod NumbersBefore
+pub mod Then

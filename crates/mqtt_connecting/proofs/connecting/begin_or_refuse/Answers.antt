@@ -7,7 +7,7 @@ use Rattle.mqtt_rules.specs.Connect.{connect_by, refused}
 use Rattle.mqtt_rules.specs.Deeds.{always}
 use Rattle.mqtt_tables.specs.Stepping.{env_in}
 use Rattle.mqtt_tables.proofs.Doing.{on_ok, if_err}
-use Rattle.mqtt_acts.proofs.Then.{same_act, same_left}
+use Rattle.mqtt_tables.proofs.Then.{same_act, same_left}
 use Rattle.mqtt_connecting.proofs.Wholes.{begins_named}
 use Rattle.mqtt_connecting.proofs.Connected.{new_begins, new_refused}
 use Rattle.mqtt_connecting.proofs.connecting.begin_or_refuse.Goals as goal

@@ -4,7 +4,7 @@ use Rattle.mqtt_rules.specs.Connect.{on_connect, refused}
 use Rattle.mqtt_rules.specs.Deeds.{always}
 use Rattle.mqtt_tables.specs.Stepping.{env_in}
 use Rattle.mqtt_tables.proofs.Doing.{on_ok, if_err}
-use Rattle.mqtt_acts.proofs.Then.{same_act, same_left}
+use Rattle.mqtt_tables.proofs.Then.{same_act, same_left}
 use Rattle.mqtt_connecting.proofs.Connected.{by_refusal}
 use Rattle.mqtt_connecting.proofs.connecting.connect_refused.Goals as goal
 
