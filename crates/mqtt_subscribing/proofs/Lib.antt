@@ -5,3 +5,5 @@ pub mod Unsubscribed
 pub mod LateCopies
 pub mod BroughtMessages
 pub mod Enrolled
+pub mod Chosen
+pub mod Granted

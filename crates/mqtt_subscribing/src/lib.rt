@@ -2,8 +2,10 @@
 #![tactic(auto)]
 
 mod bringing;
+mod copying;
 mod dropping;
 mod enrolling;
+mod granting;
 mod late;
 mod offering;
 mod unsubscribing;
