@@ -13,14 +13,15 @@ use Rattle.mqtt_records.specs.declared.session.Session.{Session}
 use Rattle.mqtt_records.specs.declared.subscription.Subscription.{Subscription}
 use Rattle.mqtt_records.specs.declared.records.Records.{Records}
 use Rattle.mqtt_records.specs.Session.{birth_of, with_subscription}
-use Rattle.mqtt_topic.specs.Filters.{is_filter}
+use Rattle.mqtt_routes.specs.Retained.{kept_for}
+use Rattle.mqtt_topic.specs.Filters.{is_filter, begins_share}
 use Rattle.mqtt_rules.specs.Contents.{IsPublished, AreIdentifiers}
 use Rattle.mqtt_rules.specs.State.{Broker, Env, MemberChoice, session_at}
 use Rattle.mqtt_rules.specs.Deeds.{Act, Deed, whose, At, Count, Subscribe, series, after_all}
 use Rattle.mqtt_rules.specs.Laws.{is_entering}
 use Rattle.mqtt_rules.specs.Outbound.{room, room_at}
 use Rattle.mqtt_rules.specs.Routing.{CopyTo, is_queued, deliver}
-use Rattle.mqtt_rules.specs.Subscribe.{Wish, FilterAnswer, subscription, retained_copy, retained_copy_to, identifiers_of, next_number, answer_by, filter_answer_of, brought, brought_if}
+use Rattle.mqtt_rules.specs.Subscribe.{Wish, FilterAnswer, subscription, retained_copy, retained_copy_to, identifiers_of, next_number, answer_by, filter_answer_of, brought, brought_if, has_filter, wants_retained, is_brought, kept_of, message_in}
 use Rattle.mqtt_rules.proofs.FlightRows.{change_row-here}
 use Rattle.mqtt_rules.proofs.Ordered.{length-filter_le}
 use Rattle.mqtt_rules.proofs.SpelledContents.{copy_spelled}
@@ -91,7 +92,7 @@ no_others birth other (c ∷ cs) differ own =
     let isnt : nat_eq c.id.birth other ≡ false = ap (λ n. nat_eq n other) own.0 ∙ differ in
     elim (cases_Bool (is_chosen true c)) [
       | inl so ↦ rw (so, isnt) (no_others birth other cs differ own.1)
-      | inr no ↦ rw no (no_others birth other cs differ own.1)
+      | inr isnt_so ↦ rw isnt_so (no_others birth other cs differ own.1)
     ]
 
 chosen_own : (queued : Bool) (birth number : ℕ) (w : Wish) (ks : List RetainedMessage) → AllByRecursion (λ (c : MessageCopy). c.id.birth ≡ birth) (chosen queued birth number w ks)
@@ -187,10 +188,16 @@ memory_after f act fault s new is memory = λ choice. record {
 
 -- ---- what becomes of the filter
 
+pub messages_are : (now : ℕ) (x : Session) (w : Wish) (ks found : List RetainedMessage) → begins_share w.filter ≡ false → wants_retained w.options.retain_handling (has_filter w.filter x) ≡ true
+    → found ≡ filter (is_brought now x w) (map message_in (kept_for w.filter (map kept_of ks))) → found ≡ messages now x w ks
+messages_are now x w ks found plain wants is =
+    let asks : asks_retained x w ≡ true = rw (plain, wants) refl in
+    is ∙ ap (λ (b : Bool). cond b (filter (is_brought now x w) (map message_in (kept_for w.filter (map kept_of ks)))) []) (sym asks)
+
 brought_is : (now number : ℕ) (x : Session) (w : Wish) (ks : List RetainedMessage) → map (retained_copy_to x.birth number w) (messages now x w ks) ≡ brought now number x w ks
 brought_is now number x w ks = elim (cases_Bool (asks_retained x w)) [
   | inl so ↦ rw so refl
-  | inr no ↦ rw no refl
+  | inr isnt ↦ rw isnt refl
 ]
 
 -- by what was found of it

@@ -1,5 +1,5 @@
 -- One filter of a SUBSCRIBE: the messages that it brings, the room for their copies, and its answer (MQTT 5.0, 3.3.1.3, 3.8.4, 3.9.3).
-use Rattle.std.specs.Prelude.{ℕ, ◌-◌, Bool, true, false, not, cond, ◌&&◌, ◌||◌, List, [], length, filter, map, nat_lt, nat_le, Option, Some}
+use Rattle.std.specs.Prelude.{◌≡◌, ◌≤◌, ℕ, ◌-◌, Bool, true, false, not, cond, ◌&&◌, ◌||◌, List, [], length, filter, map, nat_lt, nat_le, Option, Some}
 use Rattle.mqtt_base.specs.declared.limits.TheConstants.{SUBSCRIPTION_LIMIT}
 use Rattle.mqtt_base.specs.declared.session.SubscriptionOptions.{SubscriptionOptions}
 use Rattle.mqtt_message.specs.declared.message.MessageCopy.{MessageCopy}
@@ -11,6 +11,7 @@ use Rattle.mqtt_rules.specs.State.{Broker, Env, session_at}
 use Rattle.mqtt_rules.specs.Deeds.{Act}
 use Rattle.mqtt_rules.specs.Routing.{is_queued_at}
 use Rattle.mqtt_rules.specs.Subscribe.{Wish, FilterAnswer, has_filter, is_brought, kept_of, message_in, wants_retained, retained_copy, retained_copy_to, next_number, granted_filter, filter_answer_of}
+use Rattle.mqtt_tables.specs.Stepping.{Stepping}
 
 -- a filter with its options and its Subscription Identifier
 abbrev pub asked_for : List ℕ → SubscriptionOptions → Option ℕ → Wish
@@ -39,6 +40,12 @@ has_place s w = has_filter w.filter s || nat_lt (length s.subscriptions) SUBSCRI
 abbrev pub has_room : ℕ → Session → Wish → List MessageCopy → Bool
 has_room limit s w copies = has_place s w && nat_le (length copies) (limit - length s.queue)
 
+-- the session stands, and its queue takes those copies that enter it
+pub record FindsRoom (birth : ℕ) (w : Wish) (ks : List RetainedMessage) (s : Stepping) : Type 0 where
+  pub session : Session
+  pub found : session_at birth s.broker.records ≡ Some session
+  pub fits : length (chosen true birth (next_number s.broker.records) w ks) ≤ s.limits.queue - length session.queue
+
 -- the deeds of a filter that is granted
 abbrev pub grants : Session → Wish → List RetainedMessage → Env → Act
 grants s w ks env b =
@@ -48,3 +55,6 @@ grants s w ks env b =
 -- what becomes of a filter
 abbrev pub answer_at : ℕ → Wish → Env → Broker → FilterAnswer
 answer_at birth w env b = filter_answer_of env (Some w) b (session_at birth b.records)
+
+abbrev pub answers : ℕ → Wish → Env → Act
+answers birth w env b = (answer_at birth w env b).deeds

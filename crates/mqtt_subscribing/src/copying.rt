@@ -1,6 +1,6 @@
 //! Copies of the retained messages that a filter brings: those that enter the queue, and those that go out after
 //! the SUBACK (MQTT 5.0, 3.3.1.3, 3.8.4).
-ghost use Rattle.std.specs.Prelude.{◌≡◌, ℕ, true, ◌∷◌, ◌++◌, [], length, min, nat_le, suc, cond, IfNone, IfSome, OnOk};
+ghost use Rattle.std.specs.Prelude.{◌≡◌, ℕ, true, ◌∷◌, ◌++◌, [], length, min, nat_le, suc, cond, IfNone, IfOk, IfSome, OnOk};
 ghost use Rattle.mqtt_codec.specs.Heads.{qos_number};
 ghost use Rattle.mqtt_rules.specs.Packets.{quality};
 ghost use Rattle.mqtt_rules.specs.Routing.{is_queued_at};
@@ -93,4 +93,21 @@ pub(crate) fn push_all(
         rest = after;
     }
     Ok(())
+}
+
+/// Copies of messages that are to be queued, in their order.
+pub(crate) fn queued(
+    alloc: Global,
+    birth: u64,
+    number: u64,
+    options: SubscriptionOptions,
+    identifier: Option<u32>,
+    kept: &[RetainedMessage],
+) -> Result<Vec<MessageCopy>, AllocError>
+    ensures { (w : Wish) → w.options ≡ options → w.identifier ≡ identifier
+        → IfOk result (λ copies. copies.items ≡ chosen true birth number w kept.now) }
+{
+    let mut copies = Vec::new(alloc);
+    push_all(&mut copies, alloc, true, birth, number, options, identifier, kept)?;
+    Ok(copies)
 }

@@ -15,10 +15,10 @@ ghost use Rattle.mqtt_tables.specs.Subscribing.{HaveFiltersOnce};
 ghost use Rattle.mqtt_tables.specs.Undoing.{moment_of};
 ghost use Rattle.mqtt_acts.specs.Delivering.{addressed_all};
 ghost use Rattle.mqtt_topic.specs.Filters.{is_filter};
-ghost use Rattle.mqtt_subscribing.specs.Granting.{answer_at, asked_for, chosen, grants, has_room, messages};
+ghost use Rattle.mqtt_subscribing.specs.Granting.{FindsRoom, answer_at, answers, asked_for, chosen, grants, has_room, messages};
 
 use crate::bringing::brought;
-use crate::copying::{fit, push_all};
+use crate::copying::{fit, push_all, queued};
 use crate::enrolling::enroll;
 use mqtt_acts::deliver_all;
 use mqtt_base::{Reason, SUBSCRIPTION_LIMIT, SubscriptionOptions, Text};
@@ -67,4 +67,126 @@ fn has_room(
         || session.subscriptions.len() < SUBSCRIPTION_LIMIT as usize;
     let room = (limit as usize).saturating_sub(session.queue.len());
     has_place && fit(room, options, kept)
+}
+
+/// A filter gets its number, and the session its subscription; its copies that are queued enter the queue, and
+/// those that aren't are added to the late ones (3.8.4, 3.3.1.3).
+fn grant(
+    alloc: Global,
+    step: &mut Step,
+    birth: u64,
+    asked: &SubFilter,
+    options: SubscriptionOptions,
+    identifier: Option<u32>,
+    kept: &[RetainedMessage],
+    late: &mut Vec<MessageCopy>,
+) -> Result<(), StepFault>
+    requires once { HaveFiltersOnce step.old.broker.records }
+    requires full { step.old.limits.full ≡ Refuse }
+    requires lawful { AllByRecursion (λ (k : Retained). IsPublished k.content) kept.now }
+    requires identifier { IsIdentifier identifier }
+    requires room { FindsRoom birth (asked_for asked.now options identifier) kept.now step.old }
+    ensures ok { (s : TheSession) → session_at birth step.old.broker.records ≡ Some s
+        → OnOk result (Does (grants s (asked_for asked.now options identifier) kept.now)
+        step.old step.new) }
+    ensures late { OnOk result (late.new.items ≡ late.old.items ++ chosen false birth
+        (next_number step.old.broker.records) (asked_for asked.now options identifier)
+        kept.now) }
+    ensures left { (s : TheSession) → session_at birth step.old.broker.records ≡ Some s
+        → IfErr result (λ fault. Leaves
+        (grants s (asked_for asked.now options identifier) kept.now) fault step.old step.new) }
+{
+    let text = asked.text().clone()?;
+    let number = enroll(step, birth, text, options, identifier)?;
+    push_all(late, alloc, false, birth, number, options, identifier, kept)?;
+    let copies = queued(alloc, birth, number, options, identifier, kept)?;
+    deliver_all(alloc, step, copies)
+}
+
+/// What becomes of a valid filter.
+fn answer_valid(
+    alloc: Global,
+    step: &mut Step,
+    birth: u64,
+    limit: u32,
+    asked: &SubFilter,
+    options: SubscriptionOptions,
+    identifier: Option<u32>,
+    codes: &mut Vec<u8>,
+    late: &mut Vec<MessageCopy>,
+) -> Result<(), StepFault>
+    requires once { HaveFiltersOnce step.old.broker.records }
+    requires full { step.old.limits.full ≡ Refuse }
+    requires limit { limit ≡ step.old.limits.queue }
+    requires lawful { AllByRecursion (λ (k : Retained). IsPublished k.content)
+        step.old.broker.records.retained }
+    requires identifier { IsIdentifier identifier }
+    ensures ok { OnOk result (Does (answers birth (asked_for asked.now options identifier))
+        step.old step.new) }
+    ensures code { (choice : MemberChoice) → OnOk result (codes.new.items ≡ codes.old.items
+        ++ (answer_at birth (asked_for asked.now options identifier) (env_in choice step.old)
+        step.old.broker).code ∷ []) }
+    ensures late { (choice : MemberChoice) → OnOk result (addressed_all late.new.items
+        ≡ addressed_all late.old.items
+        ++ (answer_at birth (asked_for asked.now options identifier) (env_in choice step.old)
+        step.old.broker).late) }
+    ensures left { IfErr result (λ fault. Leaves
+        (answers birth (asked_for asked.now options identifier)) fault step.old step.new) }
+{
+    let Some(session) = step.session(birth) else {
+        codes.push(Reason::TOPIC_FILTER_INVALID.0)?;
+        return Ok(());
+    };
+    let kept = messages(alloc, step, session, asked, options, identifier)?;
+    let has_room = has_room(limit, session, asked, options, identifier, &kept);
+    codes.push(filter_code(true, has_room, options.qos).0)?;
+    if has_room {
+        grant(alloc, step, birth, asked, options, identifier, &kept, late)
+    } else {
+        Ok(())
+    }
+}
+
+/// What becomes of a filter of a SUBSCRIBE, in a session whose queue holds at most so many copies. Where it is
+/// valid, and the session has room for it, and the queue for its copies, it gets its number, the session its
+/// subscription, and the copies of retained messages enter the queue; those of QoS 0 are added to the late ones,
+/// which go out after the SUBACK. Its code is added to the codes (3.8.4, 3.9.3).
+pub fn answer_filter(
+    alloc: Global,
+    step: &mut Step,
+    birth: u64,
+    limit: u32,
+    text: Text,
+    options: SubscriptionOptions,
+    identifier: Option<u32>,
+    codes: &mut Vec<u8>,
+    late: &mut Vec<MessageCopy>,
+) -> Result<(), StepFault>
+    requires once { HaveFiltersOnce step.old.broker.records }
+    requires full { step.old.limits.full ≡ Refuse }
+    requires limit { limit ≡ step.old.limits.queue }
+    requires lawful { AllByRecursion (λ (k : Retained). IsPublished k.content)
+        step.old.broker.records.retained }
+    requires identifier { IsIdentifier identifier }
+    ensures ok { OnOk result (Does (answers birth (asked_for text options identifier))
+        step.old step.new) }
+    ensures code { (choice : MemberChoice) → OnOk result (codes.new.items ≡ codes.old.items
+        ++ (answer_at birth (asked_for text options identifier) (env_in choice step.old)
+        step.old.broker).code ∷ []) }
+    ensures late { (choice : MemberChoice) → OnOk result (addressed_all late.new.items
+        ≡ addressed_all late.old.items
+        ++ (answer_at birth (asked_for text options identifier) (env_in choice step.old)
+        step.old.broker).late) }
+    ensures left { IfErr result (λ fault. Leaves
+        (answers birth (asked_for text options identifier)) fault step.old step.new) }
+{
+    match SubFilter::from_text(text) {
+        Ok(asked) => answer_valid(
+            alloc, step, birth, limit, &asked, options, identifier, codes, late,
+        ),
+        Err(_) => {
+            codes.push(Reason::TOPIC_FILTER_INVALID.0)?;
+            Ok(())
+        }
+    }
 }

@@ -12,5 +12,6 @@ mod unsubscribing;
 
 pub use bringing::brought;
 pub use enrolling::enroll;
+pub use granting::answer_filter;
 pub use late::send_late;
 pub use unsubscribing::unsubscribe;
