@@ -222,3 +222,14 @@ answer_is birth x w kept t env b found valid refuses held may =
     ∙ (ap (λ (v : Bool). answer_by true v env number x w ds b) same
     ∙ (ap (λ (v : Bool). answer_by v (has_place x w && nat_le (length (filter is_queued ds)) (room env x)) env number x w ds b) (sym valid)
     ∙ ap (λ (o : Option Session). filter_answer_of env (Some w) b o) (sym found)))
+
+and_second : (a b : Bool) → true ≡ (a && b) → b ≡ true
+and_second true b e = sym e
+and_second false b e = absurd cc
+
+-- the queue takes those that enter it
+pub room_found : (birth : ℕ) (x : Session) (w : Wish) (kept : List RetainedMessage) (s : Stepping) → true ≡ has_room s.limits.queue x w (chosen true birth (next_number s.broker.records) w kept)
+    → length (chosen true birth (next_number s.broker.records) w kept) ≤ s.limits.queue - length x.queue
+room_found birth x w kept s may =
+    let copies : List MessageCopy = chosen true birth (next_number s.broker.records) w kept in
+    leb-true (length copies) (s.limits.queue - length x.queue) (and_second (has_place x w) (nat_le (length copies) (s.limits.queue - length x.queue)) may)

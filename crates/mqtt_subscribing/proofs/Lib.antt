@@ -7,3 +7,4 @@ pub mod BroughtMessages
 pub mod Enrolled
 pub mod Chosen
 pub mod Granted
+pub mod Answered

@@ -121,6 +121,7 @@ fn answer_valid(
     requires lawful { AllByRecursion (λ (k : Retained). IsPublished k.content)
         step.old.broker.records.retained }
     requires identifier { IsIdentifier identifier }
+    requires valid { is_filter asked.now ≡ true }
     ensures ok { OnOk result (Does (answers birth (asked_for asked.now options identifier))
         step.old step.new) }
     ensures code { (choice : MemberChoice) → OnOk result (codes.new.items ≡ codes.old.items
