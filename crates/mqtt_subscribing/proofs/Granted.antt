@@ -69,6 +69,10 @@ chosen_spelled queued birth number w (k ∷ ks) lawful h =
       | inr other ↦ rw other more
     ]
 
+pub all_spelled : (xs ys : List MessageCopy) → AllByRecursion IsSpelled xs → AllByRecursion IsSpelled ys → AllByRecursion IsSpelled (xs ++ ys)
+all_spelled [] ys before more = more
+all_spelled (x ∷ xs) ys before more = (before.0, all_spelled xs ys before.1 more)
+
 -- ---- the room after the subscription is put
 
 -- the session's queue stays

@@ -89,7 +89,9 @@ pub(crate) fn push_all(
 {
     let mut rest = kept;
     while let Some((message, after)) = rest.split_first() {
-        push_chosen(copies, alloc, queued, birth, number, options, identifier, message)?;
+        push_chosen(
+            copies, alloc, queued, birth, number, options, identifier, message,
+        )?;
         rest = after;
     }
     Ok(())
@@ -108,6 +110,15 @@ pub(crate) fn queued(
         → IfOk result (λ copies. copies.items ≡ chosen true birth number w kept.now) }
 {
     let mut copies = Vec::new(alloc);
-    push_all(&mut copies, alloc, true, birth, number, options, identifier, kept)?;
+    push_all(
+        &mut copies,
+        alloc,
+        true,
+        birth,
+        number,
+        options,
+        identifier,
+        kept,
+    )?;
     Ok(copies)
 }

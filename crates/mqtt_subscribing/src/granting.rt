@@ -92,6 +92,8 @@ fn grant(
     ensures late { OnOk result (late.new.items ≡ late.old.items ++ chosen false birth
         (next_number step.old.broker.records) (asked_for asked.now options identifier)
         kept.now) }
+    ensures spelled { AllByRecursion IsSpelled late.old.items
+        → OnOk result (AllByRecursion IsSpelled late.new.items) }
     ensures left { (s : TheSession) → session_at birth step.old.broker.records ≡ Some s
         → IfErr result (λ fault. Leaves
         (grants s (asked_for asked.now options identifier) kept.now) fault step.old step.new) }
@@ -131,6 +133,8 @@ fn answer_valid(
         ≡ addressed_all late.old.items
         ++ (answer_at birth (asked_for asked.now options identifier) (env_in choice step.old)
         step.old.broker).late) }
+    ensures spelled { AllByRecursion IsSpelled late.old.items
+        → OnOk result (AllByRecursion IsSpelled late.new.items) }
     ensures left { IfErr result (λ fault. Leaves
         (answers birth (asked_for asked.now options identifier)) fault step.old step.new) }
 {
@@ -178,6 +182,8 @@ pub fn answer_filter(
         ≡ addressed_all late.old.items
         ++ (answer_at birth (asked_for text options identifier) (env_in choice step.old)
         step.old.broker).late) }
+    ensures spelled { AllByRecursion IsSpelled late.old.items
+        → OnOk result (AllByRecursion IsSpelled late.new.items) }
     ensures left { IfErr result (λ fault. Leaves
         (answers birth (asked_for text options identifier)) fault step.old step.new) }
 {

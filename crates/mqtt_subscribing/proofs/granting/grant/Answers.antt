@@ -1,5 +1,5 @@
 use Rattle.std.proofs.Common.{◌≡◌, ℕ, List, rules, refl, ap, sym, subst, ◌∙◌}
-use Rattle.std.specs.Prelude.{⊤, true, Some, Result, Err, IfErr}
+use Rattle.std.specs.Prelude.{⊤, true, false, Some, Result, Err, IfErr}
 use Rattle.std.specs.List.{AllByRecursion}
 use Rattle.mqtt_flow.specs.declared.entry.Full.TheVariants.{Refuse}
 use Rattle.mqtt_message.specs.Queue.{IsSpelled}
@@ -13,7 +13,7 @@ use Rattle.mqtt_tables.specs.Stepping.{Did, Leaves}
 use Rattle.mqtt_tables.proofs.Doing.{on_ok, if_err}
 use Rattle.mqtt_subscribing.specs.Enrolling.{enrolls}
 use Rattle.mqtt_subscribing.specs.Granting.{asked_for, chosen, grants}
-use Rattle.mqtt_subscribing.proofs.Granted.{chosen_spelled, room_stays, granted_ok, enroll_left, deliver_left, memory_after}
+use Rattle.mqtt_subscribing.proofs.Granted.{all_spelled, chosen_spelled, room_stays, granted_ok, enroll_left, deliver_left, memory_after}
 use Rattle.mqtt_subscribing.proofs.granting.grant.Goals as goal
 
 pub returns-in_err-number-clause-left : goal.returns-in_err-number-clause-left
@@ -89,3 +89,12 @@ returns-clause-left c = λ s found.
     (λ fault. deliver_left c.args.birth s w c.args.kept.now c.in_ok-copies.copies.items fault c.args.step.now c.enroll.new.step c.deliver_all.new.step found made
     (c.in_ok-number.ensures.ok s w found text refl refl))
     c.deliver_all.ensures.left
+
+pub returns-clause-spelled : goal.returns-clause-spelled
+returns-clause-spelled c = λ before.
+    let w = asked_for c.args.asked.now c.args.options c.args.identifier in
+    on_ok c.deliver_all.result
+    (λ done. subst (λ (cs : List MessageCopy). AllByRecursion IsSpelled cs) (sym (c.in_ok-push_all.ensures w refl refl))
+    (all_spelled c.args.late.now.items (chosen false c.args.birth c.in_ok-number.number w c.args.kept.now) before
+    (chosen_spelled false c.args.birth c.in_ok-number.number w c.args.kept.now c.requires.lawful c.requires.identifier)))
+    c.deliver_all.ensures.ok
