@@ -1,5 +1,5 @@
 -- What becomes of a valid filter, by what was found of it.
-use Rattle.std.proofs.Common.{◌≡◌, ℕ, Bool, true, false, List, [], ◌∷◌, ◌++◌, Option, Some, refl, ap, sym, subst, ◌∙◌, append-nil, inl, inr}
+use Rattle.std.proofs.Common.{◌≡◌, ℕ, Bool, true, false, List, [], ◌∷◌, ◌++◌, Some, refl, ap, sym, subst, ◌∙◌, append-nil, inl, inr}
 use Rattle.std.specs.Prelude.{filter, map, not}
 use Rattle.std.specs.List.{AllByRecursion}
 use Rattle.std.proofs.lemmas.Bool.{cases_Bool}
@@ -9,11 +9,11 @@ use Rattle.mqtt_message.specs.declared.message.RetainedMessage.{RetainedMessage}
 use Rattle.mqtt_records.specs.declared.session.Session.{Session}
 use Rattle.mqtt_topic.specs.Filters.{is_filter}
 use Rattle.mqtt_rules.specs.Contents.{IsPublished}
-use Rattle.mqtt_rules.specs.State.{Env, MemberChoice, session_at}
+use Rattle.mqtt_rules.specs.State.{MemberChoice, session_at}
 use Rattle.mqtt_rules.specs.Routing.{CopyTo, is_queued}
 use Rattle.mqtt_rules.specs.Subscribe.{Wish, FilterAnswer, retained_copy_to, next_number, answer_by}
 use Rattle.mqtt_tables.specs.declared.fault.StepFault.{StepFault}
-use Rattle.mqtt_tables.specs.Stepping.{Stepping, did, Did, Does, Leaves, env_in}
+use Rattle.mqtt_tables.specs.Stepping.{Stepping, did, Does, Leaves, env_in}
 use Rattle.mqtt_tables.specs.Undoing.{moment_of}
 use Rattle.mqtt_tables.proofs.Doing.{did_none, found_birth}
 use Rattle.mqtt_acts.specs.Delivering.{addressed, addressed_all}

@@ -1,9 +1,8 @@
 -- A filter that is granted: its subscription, and the copies that it brings.
-use Rattle.std.proofs.Common.{◌≡◌, ℕ, suc, ◌-◌, ◌≤◌, Bool, true, false, cond, not, ◌&&◌, ◌||◌, List, [], ◌∷◌, ◌++◌, length, nat_eq, nat_lt, nat_le, refl, ap, sym, subst, ◌∙◌, arith, inl, inr}
+use Rattle.std.proofs.Common.{◌≡◌, ℕ, suc, ◌-◌, ◌≤◌, Bool, true, false, cond, not, ◌&&◌, List, [], ◌∷◌, ◌++◌, length, nat_eq, nat_le, refl, ap, sym, subst, ◌∙◌, arith, inl, inr}
 use Rattle.std.specs.Prelude.{Option, Some, None, filter, map}
 use Rattle.std.specs.List.{AllByRecursion}
 use Rattle.std.proofs.lemmas.Bool.{cases_Bool, eqb-true, leb-true}
-use Rattle.mqtt_base.specs.declared.limits.TheConstants.{SUBSCRIPTION_LIMIT}
 use Rattle.mqtt_flow.specs.declared.entry.Full.TheVariants.{Refuse}
 use Rattle.mqtt_lawful.specs.Lawful.{IsIdentifier}
 use Rattle.mqtt_message.specs.Queue.{IsSpelled}
@@ -11,17 +10,16 @@ use Rattle.mqtt_message.specs.declared.message.MessageCopy.{MessageCopy}
 use Rattle.mqtt_message.specs.declared.message.RetainedMessage.{RetainedMessage}
 use Rattle.mqtt_records.specs.declared.session.Session.{Session}
 use Rattle.mqtt_records.specs.declared.subscription.Subscription.{Subscription}
-use Rattle.mqtt_records.specs.declared.records.Records.{Records}
 use Rattle.mqtt_records.specs.Session.{birth_of, with_subscription}
 use Rattle.mqtt_routes.specs.Retained.{kept_for}
 use Rattle.mqtt_topic.specs.Filters.{is_filter, begins_share}
 use Rattle.mqtt_rules.specs.Contents.{IsPublished, AreIdentifiers}
 use Rattle.mqtt_rules.specs.State.{Broker, Env, MemberChoice, session_at}
-use Rattle.mqtt_rules.specs.Deeds.{Act, Deed, whose, At, Count, Subscribe, series, after_all}
+use Rattle.mqtt_rules.specs.Deeds.{Act, whose, At, Count, Subscribe, series, after_all}
 use Rattle.mqtt_rules.specs.Laws.{is_entering}
 use Rattle.mqtt_rules.specs.Outbound.{room, room_at}
 use Rattle.mqtt_rules.specs.Routing.{CopyTo, is_queued, deliver}
-use Rattle.mqtt_rules.specs.Subscribe.{Wish, FilterAnswer, subscription, retained_copy, retained_copy_to, identifiers_of, next_number, answer_by, filter_answer_of, brought, brought_if, has_filter, wants_retained, is_brought, kept_of, message_in}
+use Rattle.mqtt_rules.specs.Subscribe.{Wish, subscription, retained_copy, retained_copy_to, identifiers_of, next_number, answer_by, filter_answer_of, brought, has_filter, wants_retained, is_brought, kept_of, message_in}
 use Rattle.mqtt_rules.proofs.FlightRows.{change_row-here}
 use Rattle.mqtt_rules.proofs.Ordered.{length-filter_le}
 use Rattle.mqtt_rules.proofs.SpelledContents.{copy_spelled}
@@ -29,7 +27,7 @@ use Rattle.mqtt_tables.specs.declared.fault.StepFault.{StepFault}
 use Rattle.mqtt_tables.specs.declared.fault.StepFault.TheVariants.{Memory, Spent}
 use Rattle.mqtt_tables.specs.Stepping.{Stepping, did, Did, Does, IsLeft, Leaves, env_in}
 use Rattle.mqtt_tables.proofs.Doing.{found_birth, stands}
-use Rattle.mqtt_acts.specs.Delivering.{addressed, addressed_all, delivers_all, HasRoomIn}
+use Rattle.mqtt_acts.specs.Delivering.{addressed_all, delivers_all, HasRoomIn}
 use Rattle.mqtt_acts.proofs.Then.{same_act, same_left, did_then, left_first, left_then}
 use Rattle.mqtt_acts.proofs.Leading.{same_env}
 use Rattle.mqtt_acts.proofs.Delivered.{room_is}

@@ -1,4 +1,4 @@
-use Rattle.std.proofs.Common.{◌≡◌, ℕ, List, [], ◌∷◌, ◌++◌, rules, refl, ap, sym, subst, ◌∙◌}
+use Rattle.std.proofs.Common.{◌≡◌, [], ◌∷◌, ◌++◌, rules, refl, sym, ◌∙◌}
 use Rattle.std.specs.Prelude.{true, false, map}
 use Rattle.mqtt_rules.specs.Subscribe.{next_number, retained_copy_to}
 use Rattle.mqtt_tables.specs.Stepping.{env_in}

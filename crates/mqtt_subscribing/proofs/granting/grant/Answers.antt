@@ -1,12 +1,9 @@
 use Rattle.std.proofs.Common.{◌≡◌, ℕ, List, rules, refl, ap, sym, subst, ◌∙◌}
-use Rattle.std.specs.Prelude.{⊤, true, false, Some, Result, Err, IfErr}
+use Rattle.std.specs.Prelude.{⊤, true, false, Result, Err, IfErr}
 use Rattle.std.specs.List.{AllByRecursion}
-use Rattle.mqtt_flow.specs.declared.entry.Full.TheVariants.{Refuse}
 use Rattle.mqtt_message.specs.Queue.{IsSpelled}
 use Rattle.mqtt_message.specs.declared.message.MessageCopy.{MessageCopy}
-use Rattle.mqtt_records.specs.declared.session.Session.{Session}
-use Rattle.mqtt_rules.specs.State.{session_at}
-use Rattle.mqtt_rules.specs.Subscribe.{Wish, next_number}
+use Rattle.mqtt_rules.specs.Subscribe.{next_number}
 use Rattle.mqtt_tables.specs.declared.fault.StepFault.{StepFault}
 use Rattle.mqtt_tables.specs.declared.fault.StepFault.TheVariants.{Memory}
 use Rattle.mqtt_tables.specs.Stepping.{Did, Leaves}
