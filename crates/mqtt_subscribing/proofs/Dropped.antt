@@ -1,13 +1,13 @@
 -- The filters of an UNSUBSCRIBE, one after the other: what is held, what is gone, and the codes.
-use Rattle.std.proofs.Common.{◌≡◌, ℕ, Bool, true, false, cond, not, ◌&&◌, ◌||◌, List, [], ◌∷◌, ◌++◌, Option, Some, None, bytes_eq, refl, ap, sym, subst, ◌∙◌, append_assoc, append-nil, inl, inr}
-use Rattle.std.specs.Prelude.{find, filter, map, is_some, length}
+use Rattle.std.proofs.Common.{◌≡◌, ℕ, Bool, true, false, cond, not, ◌&&◌, ◌||◌, List, [], ◌∷◌, ◌++◌, Some, None, bytes_eq, refl, ap, sym, subst, ◌∙◌, append_assoc, append-nil, inl, inr}
+use Rattle.std.specs.Prelude.{find, is_some}
 use Rattle.std.specs.List.{list_any}
 use Rattle.std.proofs.lemmas.Bool.{cases_Bool}
 use Rattle.mqtt_topic.specs.Filters.{is_filter}
 use Rattle.mqtt_records.specs.declared.session.Session.{Session}
 use Rattle.mqtt_records.specs.declared.subscription.Subscription.{Subscription}
 use Rattle.mqtt_rules.specs.Subscribe.{is_to, has_filter, drop_code, drop_codes}
-use Rattle.mqtt_tables.proofs.Filters.{found_filter, text_is, text_same}
+use Rattle.mqtt_tables.proofs.Filters.{found_filter, text_is}
 use Rattle.mqtt_subscribing.specs.Dropping.{is_left, gone_after, held}
 
 -- ---- what is found

@@ -5,3 +5,6 @@ pub mod Unsubscribed
 pub mod LateCopies
 pub mod BroughtMessages
 pub mod Enrolled
+pub mod Chosen
+pub mod Granted
+pub mod Answered

@@ -1,5 +1,5 @@
 -- What is offered on a line, by the Maximum Packet Size of its client.
-use Rattle.std.proofs.Common.{◌≡◌, ℕ, Bool, true, false, cond, List, [], ◌∷◌, Option, Some, None, nat_eq, nat_le, refl, ap, sym, subst, ◌∙◌, inl, inr}
+use Rattle.std.proofs.Common.{◌≡◌, ℕ, cond, List, [], ◌∷◌, Option, Some, None, nat_eq, nat_le, refl, ap, sym, ◌∙◌, inl, inr}
 use Rattle.std.specs.Prelude.{find, option_map}
 use Rattle.std.proofs.lemmas.Bool.{cases_Bool, eqb-true}
 use Rattle.mqtt_codec.specs.declared.packet.Packet.{Packet}

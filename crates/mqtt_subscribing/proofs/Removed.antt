@@ -1,18 +1,15 @@
 -- Filters that are removed, one after the other, as the deeds of one session.
-use Rattle.std.proofs.Common.{◌≡◌, ℕ, Bool, true, false, cond, List, [], ◌∷◌, ◌++◌, Option, Some, None, nat_eq, refl, ap, sym, subst, ◌∙◌, arith, inl, inr}
-use Rattle.std.specs.Prelude.{map, flat_map, filter, option_map, length}
-use Rattle.std.proofs.lemmas.Bool.{cases_Bool}
+use Rattle.std.proofs.Common.{◌≡◌, ℕ, List, [], ◌∷◌, ◌++◌, Some, refl, ap, sym, subst, ◌∙◌}
+use Rattle.std.specs.Prelude.{map, flat_map, length}
 use Rattle.mqtt_records.specs.declared.session.Session.{Session}
-use Rattle.mqtt_records.specs.declared.records.Records.{Records}
 use Rattle.mqtt_records.specs.Session.{birth_of, without_subscription}
-use Rattle.mqtt_records.specs.Records.{in_session}
-use Rattle.mqtt_rules.specs.State.{Broker, Env, session_at}
-use Rattle.mqtt_rules.specs.Deeds.{Act, Deed, Whose, whose, Part, At, Unsubscribe, after, after_all, with_session, always, series, part_rows_of, rows_of_all}
-use Rattle.mqtt_rules.specs.Subscribe.{has_filter, unsubscribes}
+use Rattle.mqtt_rules.specs.State.{Broker, session_at}
+use Rattle.mqtt_rules.specs.Deeds.{Act, Deed, whose, Part, At, Unsubscribe, after, after_all, with_session, always, series, rows_of_all}
+use Rattle.mqtt_rules.specs.Subscribe.{unsubscribes}
 use Rattle.mqtt_rules.proofs.FlightRows.{change_row-here}
 use Rattle.mqtt_rules.proofs.StoredLaw.{stored_after_all}
 use Rattle.mqtt_tables.specs.declared.fault.StepFault.{StepFault}
-use Rattle.mqtt_tables.specs.Stepping.{Stepping, Did, Does, IsLeft, Leaves, to_session}
+use Rattle.mqtt_tables.specs.Stepping.{Stepping, Did, IsLeft, to_session}
 use Rattle.mqtt_tables.specs.Subscribing.{HaveFiltersOnce}
 use Rattle.mqtt_tables.proofs.Doing.{found_birth, stands}
 use Rattle.mqtt_tables.proofs.FiltersKept.{once_all}

@@ -1,5 +1,5 @@
 -- The retained messages that a filter brings, and the copies of them that go out after the SUBACK (MQTT 5.0, 3.3.1.3, 3.8.3.1).
-use Rattle.std.specs.Prelude.{ℕ, Bool, false, ◌&&◌, List, filter, flat_map, Option}
+use Rattle.std.specs.Prelude.{ℕ, Bool, false, ◌&&◌, List, flat_map, Option}
 use Rattle.mqtt_topic.specs.Matching.{is_match}
 use Rattle.mqtt_message.specs.declared.message.MessageCopy.{MessageCopy}
 use Rattle.mqtt_message.specs.declared.message.RetainedMessage.{RetainedMessage}

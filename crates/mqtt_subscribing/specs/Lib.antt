@@ -2,3 +2,4 @@ pub mod Offering
 pub mod Dropping
 pub mod Bringing
 pub mod Enrolling
+pub mod Granting

@@ -2,13 +2,16 @@
 #![tactic(auto)]
 
 mod bringing;
+mod copying;
 mod dropping;
 mod enrolling;
+mod granting;
 mod late;
 mod offering;
 mod unsubscribing;
 
 pub use bringing::brought;
 pub use enrolling::enroll;
+pub use granting::answer_filter;
 pub use late::send_late;
 pub use unsubscribing::unsubscribe;

@@ -1,9 +1,8 @@
-use Rattle.std.proofs.Common.{◌≡◌, true, false, ap, sym, ◌∙◌, ◌∷◌, [], ◌++◌}
+use Rattle.std.proofs.Common.{◌≡◌, false, ap, sym, ◌∙◌, ◌∷◌, [], ◌++◌}
 use Rattle.std.specs.List.{list_any}
 use Rattle.std.specs.Prelude.{bytes_eq}
 use Rattle.mqtt_tables.proofs.Filters.{found_filter}
-use Rattle.mqtt_subscribing.specs.Dropping.{is_left}
-use Rattle.mqtt_subscribing.proofs.Dropped.{not_held_left, gone_left, held_left, not_left_after, left_after}
+use Rattle.mqtt_subscribing.proofs.Dropped.{not_held_left, held_left, not_left_after, left_after}
 use Rattle.mqtt_subscribing.proofs.dropping.goes.Goals as goal
 
 pub returns-in_default-clause-left : goal.returns-in_default-clause-left

@@ -1,8 +1,6 @@
 use Rattle.std.proofs.Common.{◌≡◌, [], length, false, rules, arith, ap, subst, sym, ◌∙◌}
-use Rattle.std.specs.Prelude.{⊤, Result, Err, IfErr, Some}
-use Rattle.mqtt_rules.specs.State.{session_at}
+use Rattle.std.specs.Prelude.{⊤, Result, Err, IfErr}
 use Rattle.mqtt_rules.specs.Subscribe.{unsubscribe_by}
-use Rattle.mqtt_records.specs.declared.session.Session.{Session}
 use Rattle.mqtt_tables.specs.declared.fault.StepFault.{StepFault}
 use Rattle.mqtt_tables.specs.Stepping.{IsLeft}
 use Rattle.mqtt_tables.proofs.Doing.{on_ok, if_err}
