@@ -17,7 +17,7 @@ use Rattle.mqtt_tables.specs.Stepping.{Stepping, did, Does, Leaves, env_in}
 use Rattle.mqtt_tables.specs.Undoing.{moment_of}
 use Rattle.mqtt_tables.proofs.Doing.{did_none, found_birth}
 use Rattle.mqtt_acts.specs.Delivering.{addressed, addressed_all}
-use Rattle.mqtt_acts.proofs.Then.{same_act, same_left}
+use Rattle.mqtt_tables.proofs.Then.{same_act, same_left}
 use Rattle.mqtt_subscribing.specs.Bringing.{brings}
 use Rattle.mqtt_subscribing.specs.Granting.{FindsRoom, asks_retained, messages, chosen, has_room, grants, answer_at, answers}
 use Rattle.mqtt_subscribing.proofs.BroughtMessages.{brings_is}

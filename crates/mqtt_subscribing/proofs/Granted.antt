@@ -13,7 +13,7 @@ use Rattle.mqtt_records.specs.declared.subscription.Subscription.{Subscription}
 use Rattle.mqtt_records.specs.Session.{birth_of, with_subscription}
 use Rattle.mqtt_routes.specs.Retained.{kept_for}
 use Rattle.mqtt_topic.specs.Filters.{is_filter, begins_share}
-use Rattle.mqtt_rules.specs.Contents.{IsPublished, AreIdentifiers}
+use Rattle.mqtt_rules.specs.Contents.{IsPublished, AreIdentifiers, of_rows}
 use Rattle.mqtt_rules.specs.State.{Broker, Env, MemberChoice, session_at}
 use Rattle.mqtt_rules.specs.Deeds.{Act, whose, At, Count, Subscribe, series, after_all}
 use Rattle.mqtt_rules.specs.Laws.{is_entering}
@@ -22,13 +22,13 @@ use Rattle.mqtt_rules.specs.Routing.{CopyTo, is_queued, deliver}
 use Rattle.mqtt_rules.specs.Subscribe.{Wish, subscription, retained_copy, retained_copy_to, identifiers_of, next_number, answer_by, filter_answer_of, brought, has_filter, wants_retained, is_brought, kept_of, message_in}
 use Rattle.mqtt_rules.proofs.FlightRows.{change_row-here}
 use Rattle.mqtt_rules.proofs.Ordered.{length-filter_le}
-use Rattle.mqtt_rules.proofs.SpelledContents.{copy_spelled}
+use Rattle.mqtt_rules.proofs.SpelledContents.{copy_spelled, rows_are}
 use Rattle.mqtt_tables.specs.declared.fault.StepFault.{StepFault}
 use Rattle.mqtt_tables.specs.declared.fault.StepFault.TheVariants.{Memory, Spent}
 use Rattle.mqtt_tables.specs.Stepping.{Stepping, did, Did, Does, IsLeft, Leaves, env_in}
 use Rattle.mqtt_tables.proofs.Doing.{found_birth, stands}
 use Rattle.mqtt_acts.specs.Delivering.{addressed_all, delivers_all, HasRoomIn}
-use Rattle.mqtt_acts.proofs.Then.{same_act, same_left, did_then, left_first, left_then}
+use Rattle.mqtt_tables.proofs.Then.{same_act, same_left, did_then, left_first, left_then}
 use Rattle.mqtt_acts.proofs.Leading.{same_env}
 use Rattle.mqtt_acts.proofs.Delivered.{room_is}
 use Rattle.mqtt_subscribing.specs.Enrolling.{enrolls}
@@ -61,7 +61,7 @@ pub chosen_spelled : (queued : Bool) (birth number : ℕ) (w : Wish) (ks : List 
 chosen_spelled queued birth number w [] lawful h = tt
 chosen_spelled queued birth number w (k ∷ ks) lawful h =
     let more = chosen_spelled queued birth number w ks lawful.1 h in
-    let one : IsSpelled (retained_copy birth number w k) = copy_spelled (retained_copy birth number w k) (record { content = lawful.0; identifiers = one_identifier w.identifier h }) in
+    let one : IsSpelled (retained_copy birth number w k) = copy_spelled of_rows rows_are (retained_copy birth number w k) (record { content = lawful.0; identifiers = one_identifier w.identifier h }) in
     elim (cases_Bool (is_chosen queued (retained_copy birth number w k))) [
       | inl so ↦ rw so (one, more)
       | inr other ↦ rw other more
