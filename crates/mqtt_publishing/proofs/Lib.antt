@@ -1,0 +1,3 @@
+pub mod Aliased
+pub mod ByIdentifier
+pub mod Routed
