@@ -1,5 +1,5 @@
 -- A PUBLISH that means a topic: its Topic Alias is set first.
-use Rattle.std.proofs.Common.{◌≡◌, ℕ, List, [], ◌∷◌, refl, ap, sym, subst, ◌∙◌, append-nil}
+use Rattle.std.proofs.Common.{◌≡◌, ℕ, List, [], ◌∷◌, refl, ap, sym, subst, ◌∙◌}
 use Rattle.std.specs.Prelude.{Option, Some, None}
 use Rattle.mqtt_codec.specs.declared.publish.Publish.{Publish}
 use Rattle.mqtt_props.specs.declared.table.PropName.TheVariants.{SubscriptionIdentifier, TopicAlias}
@@ -8,9 +8,8 @@ use Rattle.mqtt_topic.specs.Aliases.{AliasTable, IsInRange, Resolves}
 use Rattle.mqtt_topic.specs.Names.{is_empty}
 use Rattle.mqtt_message.specs.PassedOn.{number_at}
 use Rattle.mqtt_records.specs.declared.session.Session.{Session}
-use Rattle.mqtt_records.specs.declared.records.Records.{Records}
-use Rattle.mqtt_rules.specs.State.{Broker, Line, Env, MemberChoice, session_at}
-use Rattle.mqtt_rules.specs.Deeds.{Act, Message, always, series, then}
+use Rattle.mqtt_rules.specs.State.{Broker, Line, Env, MemberChoice}
+use Rattle.mqtt_rules.specs.Deeds.{Act, always, series, then}
 use Rattle.mqtt_rules.specs.Inbound.{Means, meaning, message_of, on_publish, publish_by, publish_meant, resolved, sets_alias, standing}
 use Rattle.mqtt_rules.proofs.Meanings.{identified_only, resolved_only}
 use Rattle.mqtt_tables.specs.declared.fault.StepFault.{StepFault}

@@ -3,9 +3,9 @@ use Rattle.std.proofs.Common.{◌≡◌, ℕ, List, [], refl, ap, sym, subst, �
 use Rattle.std.specs.Prelude.{Option, Some, None, option_map}
 use Rattle.mqtt_codec.specs.declared.publish.Publish.{Publish}
 use Rattle.mqtt_inbound.specs.declared.inflow.Published.{Published as Standing}
-use Rattle.mqtt_inbound.specs.declared.inflow.Published.TheVariants.{New, Again}
+use Rattle.mqtt_inbound.specs.declared.inflow.Published.TheVariants.{Again}
 use Rattle.mqtt_records.specs.declared.session.Session.{Session}
-use Rattle.mqtt_rules.specs.State.{Line, MemberChoice}
+use Rattle.mqtt_rules.specs.State.{Line}
 use Rattle.mqtt_rules.specs.Deeds.{Message}
 use Rattle.mqtt_rules.specs.Inbound.{message_of, publish_by, standing}
 use Rattle.mqtt_tables.specs.declared.fault.StepFault.{StepFault}

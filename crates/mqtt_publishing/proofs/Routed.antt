@@ -1,5 +1,5 @@
 -- A publication that was routed is taken or refused.
-use Rattle.std.proofs.Common.{◌≡◌, ℕ, Bool, List, [], ap, sym, ◌∙◌}
+use Rattle.std.proofs.Common.{◌≡◌, Bool, List, [], ap, sym}
 use Rattle.std.specs.Prelude.{Option, Some, None, Result, Ok, Err, IfErr, OnOk}
 use Rattle.mqtt_codec.specs.declared.publish.Publish.{Publish}
 use Rattle.mqtt_inbound.specs.declared.inflow.Published.TheVariants.{New}
@@ -86,8 +86,8 @@ nothing_left act fault s new memory same = record {
   sender = [];
   members = [];
   is = λ choice chosen. record {
-      start = ap (λ (t : Stepping). t.start) same;
-      limits = ap (λ (t : Stepping). t.limits) same;
-      spent = λ e. absurd (not_spent fault memory e);
+    start = ap (λ (t : Stepping). t.start) same;
+    limits = ap (λ (t : Stepping). t.limits) same;
+    spent = λ e. absurd (not_spent fault memory e);
   };
 }

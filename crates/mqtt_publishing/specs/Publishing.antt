@@ -3,11 +3,10 @@ use Rattle.std.specs.Prelude.{◌≡◌, ℕ, List}
 use Rattle.mqtt_codec.specs.declared.publish.Publish.{Publish}
 use Rattle.mqtt_props.specs.declared.table.PropName.TheVariants.{TopicAlias}
 use Rattle.mqtt_topic.specs.Names.{is_empty}
-use Rattle.mqtt_inbound.specs.declared.inflow.Published.{Published as Standing}
 use Rattle.mqtt_inbound.specs.declared.inflow.Published.TheVariants as standings
 use Rattle.mqtt_message.specs.PassedOn.{number_at}
 use Rattle.mqtt_records.specs.declared.session.Session.{Session}
-use Rattle.mqtt_rules.specs.State.{Line, Env}
+use Rattle.mqtt_rules.specs.State.{Line}
 use Rattle.mqtt_rules.specs.Deeds.{Act, always}
 use Rattle.mqtt_rules.specs.Inbound.{Means, Wrong, meaning, message_of, on_publish, publish_by, sets_alias, standing}
 use Rattle.mqtt_tables.specs.Stepping.{Stepping, Did}

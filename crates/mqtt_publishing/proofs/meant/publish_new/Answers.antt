@@ -1,5 +1,5 @@
-use Rattle.std.proofs.Common.{◌≡◌, refl, sym, subst, ◌∙◌}
-use Rattle.std.specs.Prelude.{Some, IfErr, OnOk, option_map}
+use Rattle.std.proofs.Common.{refl, sym, subst, ◌∙◌}
+use Rattle.std.specs.Prelude.{IfErr, OnOk}
 use Rattle.mqtt_inbound.specs.declared.inflow.Published.TheVariants.{New}
 use Rattle.mqtt_rules.specs.State.{session_at}
 use Rattle.mqtt_rules.specs.Deeds.{Message}
