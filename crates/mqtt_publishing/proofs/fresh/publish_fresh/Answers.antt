@@ -1,6 +1,7 @@
 use Rattle.std.proofs.Common.{refl}
 use Rattle.mqtt_rules.specs.Inbound.{publish_by}
 use Rattle.mqtt_inbound.specs.declared.inflow.Published.TheVariants.{New}
+use Rattle.mqtt_acts.specs.Choosing.{IsAccepted}
 use Rattle.mqtt_tables.proofs.Doing.{on_ok, if_err}
 use Rattle.mqtt_publishing.proofs.Routed.{nothing_left, refused_does, refused_leaves, taken_err, taken_ok}
 use Rattle.mqtt_publishing.proofs.fresh.publish_fresh.Goals as goal
@@ -16,6 +17,21 @@ returns-in-Ok-Refused-clause-left g c = λ l s p number stands same.
     if_err c.publish_refused.result
     (λ fault. refused_leaves l s p c.args.message.now fault c.args.step.now c.publish_refused.new.step (rw c.in-Ok-Refused.field-0-is at c.in-Ok-Refused.ensures.routed))
     (c.publish_refused.ensures.left l s p c.args.message.now number same)
+
+pub publish_taken-requires-clause-spelled : goal.publish_taken-requires-clause-spelled
+publish_taken-requires-clause-spelled g c =
+    let taken : IsAccepted c.args.message.now c.args.step.now c.in-Ok-Accepted.copies.items c.in-Ok-Accepted.wanted =
+    rw c.in-Ok-Accepted.field-0-is at c.in-Ok-Accepted.ensures.routed in
+    taken.spelled
+
+pub publish_taken-requires-clause-full : goal.publish_taken-requires-clause-full
+publish_taken-requires-clause-full g c = c.requires.full
+
+pub publish_taken-requires-clause-room : goal.publish_taken-requires-clause-room
+publish_taken-requires-clause-room g c =
+    let taken : IsAccepted c.args.message.now c.args.step.now c.in-Ok-Accepted.copies.items c.in-Ok-Accepted.wanted =
+    rw c.in-Ok-Accepted.field-0-is at c.in-Ok-Accepted.ensures.routed in
+    taken.room
 
 pub returns-in-Ok-Accepted-clause-ok : goal.returns-in-Ok-Accepted-clause-ok
 returns-in-Ok-Accepted-clause-ok g c = λ l s p number stands same.
