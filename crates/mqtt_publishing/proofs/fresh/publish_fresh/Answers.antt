@@ -48,3 +48,18 @@ returns-in-Ok-Accepted-clause-left g c = λ l s p number stands same.
 pub returns-in-Err-clause-left : goal.returns-in-Err-clause-left
 returns-in-Err-clause-left g c = λ l s p number stands same.
     nothing_left (λ env. publish_by New env l s p c.args.message.now) c.in-Err.fault c.args.step.now c.args.step.now c.in-Err.ensures.fault refl
+
+pub route-requires-clause-serves : goal.route-requires-clause-serves
+route-requires-clause-serves g c = c.requires.serves
+
+pub route-requires-clause-lawful : goal.route-requires-clause-lawful
+route-requires-clause-lawful g c = c.requires.lawful
+
+pub returns-in-Ok-Refused-clause-serves : goal.returns-in-Ok-Refused-clause-serves
+returns-in-Ok-Refused-clause-serves g c = c.route.ensures.serves
+
+pub returns-in-Ok-Accepted-clause-serves : goal.returns-in-Ok-Accepted-clause-serves
+returns-in-Ok-Accepted-clause-serves g c = c.route.ensures.serves
+
+pub returns-in-Err-clause-serves : goal.returns-in-Err-clause-serves
+returns-in-Err-clause-serves g c = c.route.ensures.serves
