@@ -1,0 +1,4 @@
+pub mod Aliased
+pub mod ByIdentifier
+pub mod Dropped
+pub mod Routed
