@@ -6,3 +6,4 @@ pub mod Delivered
 pub mod Offered
 pub mod Published
 pub mod Taken
+pub mod Some

@@ -37,15 +37,6 @@ sessions_stay origin number m s s1 s2 accepted kept =
     ∙ (retain_sessions m.retain (is_empty m.payload) number m s1
     ∙ ap (λ (t : Stepping). t.broker.records.sessions) accepted.is)
 
-pub found_stays : (origin : Origin) (m : Message) (found : Option ℕ) (s s1 : Stepping) → Did (accepts origin m) s s1
-    → found ≡ option_map kept_place (retained_of m.topic s.broker.records) → found ≡ option_map kept_place (retained_of m.topic s1.broker.records)
-found_stays origin m found s s1 accepted is =
-    is ∙ ap (λ (t : Stepping). option_map kept_place (retained_of m.topic t.broker.records)) (sym accepted.is)
-
-pub next_stays : (origin : Origin) (m : Message) (next : ℕ) (s s1 : Stepping) → Did (accepts origin m) s s1
-    → next ≡ next_of kept_place s.broker.records.retained → next ≡ next_of kept_place s1.broker.records.retained
-next_stays origin m next s s1 accepted is = is ∙ ap (λ (t : Stepping). next_of kept_place t.broker.records.retained) (sym accepted.is)
-
 start_stays : (origin : Origin) (number : ℕ) (m : Message) (s s1 s2 : Stepping) → Did (accepts origin m) s s1 → Did (retain_by m.retain (is_empty m.payload) number m) s1 s2 → s2.start ≡ s.start
 start_stays origin number m s s1 s2 accepted kept = ap (λ (t : Stepping). t.start) kept.is ∙ ap (λ (t : Stepping). t.start) accepted.is
 

@@ -1,13 +1,11 @@
 //! A publication is accepted: it gets its number, RETAIN is done, and its copies are handed over (MQTT 5.0,
 //! 3.3.1.3, 3.3.4).
-ghost use Rattle.std.specs.Prelude.{◌≡◌, option_map, OnOk, IfErr};
+ghost use Rattle.std.specs.Prelude.{◌≡◌, OnOk, IfErr};
 ghost use Rattle.std.specs.List.{AllByRecursion};
 ghost use Rattle.mqtt_flow.specs.declared.entry.Full.TheVariants.{Refuse};
 ghost use Rattle.mqtt_message.specs.Queue.{IsSpelled};
-ghost use Rattle.mqtt_records.specs.Records.{kept_place};
-ghost use Rattle.mqtt_rules.specs.State.{next_of};
 ghost use Rattle.mqtt_rules.specs.Deeds.{Origin};
-ghost use Rattle.mqtt_rules.specs.Routing.{publish, retained_of};
+ghost use Rattle.mqtt_rules.specs.Routing.{publish};
 ghost use Rattle.mqtt_tables.specs.Stepping.{Does, Leaves};
 ghost use Rattle.mqtt_acts.specs.Delivering.{addressed_all, HasRoomIn, SameSessions};
 
@@ -20,18 +18,13 @@ use std::alloc::Global;
 
 /// A publication is accepted, retained where it is to be, and handed over in these copies, whose PUBLISH
 /// have spellings (3.3.1.3, 3.3.4). Each queue has room for those that are to enter it, and a full one
-/// refuses. `found` is the place of the message that is retained for the topic, `next` the next place.
+/// refuses.
 pub fn publish(
     alloc: Global,
     step: &mut Step,
     message: &Message,
-    found: Option<u64>,
-    next: u64,
     copies: Vec<MessageCopy>,
 ) -> Result<(), StepFault>
-    requires found { found
-        ≡ option_map kept_place (retained_of message.now.topic step.old.broker.records) }
-    requires next { next ≡ next_of kept_place step.old.broker.records.retained }
     requires spelled { AllByRecursion IsSpelled copies.items }
     requires full { step.old.limits.full ≡ Refuse }
     requires room { HasRoomIn step.old (addressed_all copies.items) }
@@ -44,6 +37,6 @@ pub fn publish(
         fault step.old step.new) }
 {
     let number = step.accept()?;
-    retain(alloc, step, number, message, found, next)?;
+    retain(alloc, step, number, message)?;
     deliver_all(alloc, step, copies)
 }

@@ -1,10 +1,8 @@
 //! What RETAIN of an accepted publication does (MQTT 5.0, 3.3.1.3).
-ghost use Rattle.std.specs.Prelude.{◌≡◌, ◌∷◌, [], option_map, OnOk, IfErr};
+ghost use Rattle.std.specs.Prelude.{◌≡◌, ◌∷◌, [], ℕ, true, false, OnOk, IfErr};
 ghost use Rattle.mqtt_topic.specs.Names.{is_empty};
-ghost use Rattle.mqtt_records.specs.Records.{kept_place};
-ghost use Rattle.mqtt_rules.specs.State.{next_of};
-ghost use Rattle.mqtt_rules.specs.Deeds.{Forget, always};
-ghost use Rattle.mqtt_rules.specs.Routing.{retain_by, retained_of};
+ghost use Rattle.mqtt_rules.specs.Deeds.{always};
+ghost use Rattle.mqtt_rules.specs.Routing.{retain_by};
 ghost use Rattle.mqtt_tables.specs.Stepping.{Did, IsLeft};
 ghost use Rattle.mqtt_acts.specs.Retaining.{keeps, forgets_place};
 
@@ -41,20 +39,42 @@ fn forget_at(step: &mut Step, place: Option<u64>) -> Result<(), StepFault>
     }
 }
 
+/// A message is retained for its topic (3.3.1.3).
+fn keep_message(
+    alloc: Global,
+    step: &mut Step,
+    number: u64,
+    message: &Message,
+) -> Result<(), StepFault>
+    ensures ok { OnOk result (Did (retain_by true false number message.now) step.old step.new) }
+    ensures left { IfErr result (λ fault. IsLeft (retain_by true false number message.now) fault
+        step.old step.new) }
+{
+    match step.place_for(message.topic().as_str().as_bytes()) {
+        Ok(place) => keep_at(alloc, step, number, message, place),
+        Err(fault) => Err(fault),
+    }
+}
+
+/// The message that is retained for the topic of a message is forgotten (3.3.1.3).
+fn forget_message(step: &mut Step, message: &Message) -> Result<(), StepFault>
+    ensures ok { (number : ℕ) → OnOk result (Did (retain_by true true number message.now)
+        step.old step.new) }
+    ensures left { (number : ℕ) → IfErr result (λ fault.
+        IsLeft (retain_by true true number message.now) fault step.old step.new) }
+{
+    let place = step.retained_place(message.topic().as_str().as_bytes());
+    forget_at(step, place)
+}
+
 /// With RETAIN 1 an empty message removes the one that is retained for its topic, and any other takes its
-/// place, or the next one where none is retained (3.3.1.3). `found` is the place of the message that is
-/// retained for the topic, `next` the next place; `number` is that of the publication.
+/// place, or the next one where none is retained (3.3.1.3). `number` is that of the publication.
 pub fn retain(
     alloc: Global,
     step: &mut Step,
     number: u64,
     message: &Message,
-    found: Option<u64>,
-    next: u64,
 ) -> Result<(), StepFault>
-    requires found { found
-        ≡ option_map kept_place (retained_of message.now.topic step.old.broker.records) }
-    requires next { next ≡ next_of kept_place step.old.broker.records.retained }
     ensures ok { OnOk result (Did
         (retain_by message.now.retain (is_empty message.now.payload) number message.now)
         step.old step.new) }
@@ -66,8 +86,8 @@ pub fn retain(
         return Ok(());
     }
     if message.payload().is_empty() {
-        return forget_at(step, found);
+        forget_message(step, message)
+    } else {
+        keep_message(alloc, step, number, message)
     }
-    let place = found.unwrap_or(next);
-    keep_at(alloc, step, number, message, place)
 }

@@ -30,12 +30,7 @@ pub trait Router: Drop {
 
     /// Routes a publication, and chooses a member of each group that gets it (3.3.4, 4.8). `Memory` (1) alone
     /// refuses, and nothing is chosen.
-    fn route(
-        &mut self,
-        alloc: Global,
-        step: &Step,
-        message: &Message,
-    ) -> Result<Routing, StepFault>
+    fn route(&mut self, alloc: Global, step: &Step, message: &Message) -> Result<Routing, StepFault>
         requires serves { serves self.old (subscribers step.now.broker.records) }
         requires lawful { IsLawfulMessage message.now }
         ensures routed { IfOk result (IsRouted message.now step.now) }

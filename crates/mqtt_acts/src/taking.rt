@@ -1,15 +1,14 @@
 //! A PUBLISH of a client whose identifier isn't open: it is taken, or refused (MQTT 5.0, 3.3.4, 4.3).
-ghost use Rattle.std.specs.Prelude.{◌≡◌, Some, None, option_map, OnOk, IfErr};
+ghost use Rattle.std.specs.Prelude.{◌≡◌, Some, None, OnOk, IfErr};
 ghost use Rattle.std.specs.List.{AllByRecursion};
 ghost use Rattle.mqtt_codec.specs.declared.publish.Publish.{Publish};
 ghost use Rattle.mqtt_flow.specs.declared.entry.Full.TheVariants.{Refuse};
 ghost use Rattle.mqtt_message.specs.Queue.{IsSpelled};
 ghost use Rattle.mqtt_records.specs.declared.session.Session.{Session};
-ghost use Rattle.mqtt_records.specs.Records.{kept_place};
-ghost use Rattle.mqtt_rules.specs.State.{Line, MemberChoice, next_of, session_at};
+ghost use Rattle.mqtt_rules.specs.State.{Line, MemberChoice, session_at};
 ghost use Rattle.mqtt_rules.specs.Deeds.{Message};
 ghost use Rattle.mqtt_rules.specs.Inbound.{publish_new};
-ghost use Rattle.mqtt_rules.specs.Routing.{is_wanted, retained_of};
+ghost use Rattle.mqtt_rules.specs.Routing.{is_wanted};
 ghost use Rattle.mqtt_tables.specs.Stepping.{Did, Does, env_in, IsLeft, Leaves};
 ghost use Rattle.mqtt_acts.specs.Delivering.{addressed_all, HasRoomIn};
 
@@ -42,8 +41,7 @@ pub fn publish_refused(
 
 /// A PUBLISH that is accepted: it is published in these copies, whose PUBLISH have spellings, at QoS 2 its
 /// identifier is opened, and it is answered by whether somebody is there for it (3.3.4, 4.3). Each queue
-/// has room for the copies that are to enter it, and a full one refuses. `found` is the place of the
-/// message that is retained for the topic, `next` the next place.
+/// has room for the copies that are to enter it, and a full one refuses.
 pub fn publish_taken(
     alloc: Global,
     step: &mut Step,
@@ -51,14 +49,9 @@ pub fn publish_taken(
     birth: u64,
     delivery: Delivery,
     message: &Message,
-    found: Option<u64>,
-    next: u64,
     copies: Vec<MessageCopy>,
     wanted: bool,
 ) -> Result<(), StepFault>
-    requires found { found
-        ≡ option_map kept_place (retained_of message.now.topic step.old.broker.records) }
-    requires next { next ≡ next_of kept_place step.old.broker.records.retained }
     requires spelled { AllByRecursion IsSpelled copies.items }
     requires full { step.old.limits.full ≡ Refuse }
     requires room { HasRoomIn step.old (addressed_all copies.items) }
@@ -75,7 +68,7 @@ pub fn publish_taken(
         → IfErr result (λ fault. IsLeft (publish_new (env_in choice step.old) l s p message.now
         (Some (addressed_all copies.items))) fault step.old step.new) }
 {
-    publish(alloc, step, message, found, next, copies)?;
+    publish(alloc, step, message, copies)?;
     open_by(step, birth, delivery)?;
     answer(alloc, step, line, delivery, accepted_code(wanted))
 }

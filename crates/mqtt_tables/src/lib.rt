@@ -16,6 +16,7 @@ mod numbers;
 mod outputs;
 mod resuming;
 mod retained;
+mod retained_looks;
 mod sessions;
 mod step;
 mod tables;

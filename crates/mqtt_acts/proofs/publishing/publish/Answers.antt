@@ -6,16 +6,8 @@ use Rattle.mqtt_rules.specs.Routing.{publish}
 use Rattle.mqtt_tables.specs.Stepping.{Leaves}
 use Rattle.mqtt_tables.proofs.Doing.{on_ok, if_err}
 use Rattle.mqtt_acts.specs.Delivering.{addressed_all}
-use Rattle.mqtt_acts.proofs.Published.{found_stays, next_stays, limits_stay, room_stays, whose_stay, published_is, accept_left, retain_left, deliver_left}
+use Rattle.mqtt_acts.proofs.Published.{limits_stay, room_stays, whose_stay, published_is, accept_left, retain_left, deliver_left}
 use Rattle.mqtt_acts.proofs.publishing.publish.Goals as goal
-
-pub retain-requires-clause-found : goal.retain-requires-clause-found
-retain-requires-clause-found c =
-    found_stays FromClient c.args.message.now c.args.found c.args.step.now c.accept.new.self (c.in_ok-number.ensures.ok FromClient c.args.message.now) c.requires.found
-
-pub retain-requires-clause-next : goal.retain-requires-clause-next
-retain-requires-clause-next c =
-    next_stays FromClient c.args.message.now c.args.next c.args.step.now c.accept.new.self (c.in_ok-number.ensures.ok FromClient c.args.message.now) c.requires.next
 
 pub deliver_all-requires-clause-full : goal.deliver_all-requires-clause-full
 deliver_all-requires-clause-full c =
