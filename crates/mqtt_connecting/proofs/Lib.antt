@@ -7,3 +7,4 @@ pub mod Fewer
 pub mod Steady
 pub mod Prepared
 pub mod Standings
+pub mod Once

@@ -12,6 +12,7 @@ mod refusing;
 mod repeating;
 mod resuming;
 mod standing;
+mod whole;
 
 pub use beginning::begin_named;
 pub use connecting::{connect_new, connect_refused, refusal_of};
@@ -21,3 +22,4 @@ pub use preparing::prepare;
 pub use refusing::refuse;
 pub use resuming::resume;
 pub use standing::connect_standing;
+pub use whole::on_connect;
