@@ -1,16 +1,16 @@
 -- A CONNECT as a whole: refused at once or done, and a client identifier that one session has.
 use Rattle.std.proofs.Common.{◌≡◌, ℕ, Bool, true, false, List, [], ◌∷◌, nat_eq, bytes_eq, refl, ap, sym, ◌∙◌, inl, inr}
-use Rattle.std.specs.Prelude.{Option, Some, None, option_map}
+use Rattle.std.specs.Prelude.{Option, Some, option_map}
 use Rattle.std.specs.List.{AllByRecursion}
-use Rattle.std.proofs.lemmas.Bool.{cases_Bool, eqb-true}
+use Rattle.std.proofs.lemmas.Bool.{eqb-true}
 use Rattle.std.proofs.lemmas.Cmp.{nat_eq_equiv}
 use Rattle.std.proofs.lemmas.Slice.Eq.{bytes_eq-Decides}
 use Rattle.mqtt_connect.specs.declared.connect.Connect.{Connect}
 use Rattle.mqtt_records.specs.declared.session.Session.{Session}
 use Rattle.mqtt_records.specs.declared.records.Records.{Records}
 use Rattle.mqtt_rules.specs.Connect.{on_connect}
-use Rattle.mqtt_rules.specs.Laws.{IsAmong, IsCoherent, client_at}
-use Rattle.mqtt_rules.specs.State.{Line, session_at, session_named}
+use Rattle.mqtt_rules.specs.Laws.{IsAmong, IsCoherent}
+use Rattle.mqtt_rules.specs.State.{Line, session_at}
 use Rattle.mqtt_rules.proofs.Leads.{found_passes}
 use Rattle.mqtt_rules.proofs.LineLaw.{here}
 use Rattle.mqtt_tables.specs.Stepping.{Stepping, Does}

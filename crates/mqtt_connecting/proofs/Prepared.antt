@@ -1,12 +1,10 @@
 -- What comes before a new connection of a client whose session stands: its parts, one after the other.
-use Rattle.std.proofs.Common.{◌≡◌, ℕ, Bool, true, false, cond, List, [], ◌∷◌, ◌++◌, map, nat_eq, bytes_eq, refl, ap, sym, subst, ◌∙◌, inl, inr, append-nil}
+use Rattle.std.proofs.Common.{◌≡◌, ℕ, Bool, true, false, cond, List, [], ◌∷◌, ◌++◌, nat_eq, bytes_eq, refl, ap, sym, subst, ◌∙◌, inl, inr, append-nil}
 use Rattle.std.specs.Prelude.{Option, Some, None, find}
 use Rattle.std.proofs.lemmas.Slice.Eq.{bytes_eq-Decides}
 use Rattle.mqtt_connect.specs.declared.connect.Connect.{Connect}
 use Rattle.mqtt_flow.specs.declared.entry.Full.TheVariants.{Refuse}
-use Rattle.mqtt_message.specs.declared.message.Will.{Will}
 use Rattle.mqtt_records.specs.declared.session.Session.{Session}
-use Rattle.mqtt_records.specs.declared.records.Records.{Records}
 use Rattle.mqtt_records.specs.Session.{birth_of}
 use Rattle.mqtt_routes.specs.Subscriptions.{Subscriber}
 use Rattle.mqtt_rows.specs.Order.{row_at}
@@ -15,17 +13,17 @@ use Rattle.mqtt_rules.specs.Closing.{drop_line, end_session, has_due_end, has_du
 use Rattle.mqtt_rules.specs.Connect.{clear, of_client, prepare, take_over}
 use Rattle.mqtt_rules.specs.Contents.{IsWilled}
 use Rattle.mqtt_rules.specs.Deeds.{Act, Deed, after_all, always, only_if, series, then, with_line, with_session}
-use Rattle.mqtt_rules.specs.Routing.{subscriber_of, subscribers}
+use Rattle.mqtt_rules.specs.Routing.{subscribers}
 use Rattle.mqtt_rules.specs.State.{Broker, Env, Line, MemberChoice, line_of, session_at}
 use Rattle.mqtt_rules.proofs.Goods.{AreGood, GoodAct}
 use Rattle.mqtt_rules.proofs.Leads.{found_passes}
 use Rattle.mqtt_tables.specs.declared.fault.StepFault.{StepFault}
-use Rattle.mqtt_tables.specs.Stepping.{Stepping, did, Did, Does, Leaves, env_in}
+use Rattle.mqtt_tables.specs.Stepping.{Stepping, Did, Does, Leaves, env_in}
 use Rattle.mqtt_tables.proofs.Doing.{found_birth}
 use Rattle.mqtt_acts.specs.Choosing.{DoesSome, LeavesSome}
 use Rattle.mqtt_acts.proofs.Some.{same_does, same_leaves, same_some, same_some_left}
 use Rattle.mqtt_closing.specs.Ending.{ends}
-use Rattle.mqtt_closing.specs.Wills.{ChoosesOnce, publishes_will, will_at}
+use Rattle.mqtt_closing.specs.Wills.{ChoosesOnce, will_at}
 use Rattle.mqtt_closing.proofs.Settled.{does_nothing}
 use Rattle.mqtt_connecting.specs.Preparing.{IsOnly, clears, clears_if, settles, settles_and_clears, takes_over}
 use Rattle.mqtt_connecting.proofs.Steady.{IsSteady, IsGone, IsKept, OnlyIn, SubsIn, WillIn, gone_kept, only_kept, subs_kept, will_kept, steady_keeps, steady_publish_will, steady_settle, steady_take_over}

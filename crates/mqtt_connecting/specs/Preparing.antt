@@ -1,14 +1,12 @@
 -- What comes before a new connection of a client whose session stands (MQTT 5.0, 3.1.2.4, 3.1.4).
-use Rattle.std.specs.Prelude.{◌≡◌, ℕ, Bool, List, nat_eq, bytes_eq, Some}
+use Rattle.std.specs.Prelude.{◌≡◌, ℕ, Bool, List, nat_eq, bytes_eq}
 use Rattle.std.specs.List.{AllByRecursion}
 use Rattle.mqtt_base.specs.Codes.{session_taken_over}
 use Rattle.mqtt_connect.specs.declared.connect.Connect.{Connect}
-use Rattle.mqtt_records.specs.declared.session.Session.{Session}
 use Rattle.mqtt_records.specs.declared.records.Records.{Records}
 use Rattle.mqtt_rules.specs.Closing.{drop_line, settle}
-use Rattle.mqtt_rules.specs.Connect.{on_connect}
 use Rattle.mqtt_rules.specs.Deeds.{Act, only_if, then, with_line}
-use Rattle.mqtt_rules.specs.State.{Env, Line, MemberChoice, line_of, session_at}
+use Rattle.mqtt_rules.specs.State.{Env, Line, MemberChoice, line_of}
 use Rattle.mqtt_tables.specs.Stepping.{Stepping, env_in}
 use Rattle.mqtt_closing.specs.Ending.{ends}
 use Rattle.mqtt_closing.specs.Wills.{publishes_will}

@@ -1,4 +1,4 @@
-use Rattle.std.proofs.Common.{◌≡◌, rules, sym, inr}
+use Rattle.std.proofs.Common.{◌≡◌, rules, inr}
 use Rattle.std.specs.Prelude.{None}
 use Rattle.mqtt_rules.specs.State.{session_at}
 use Rattle.mqtt_acts.proofs.Some.{does_some}
