@@ -4,3 +4,7 @@ pub mod GoingOn
 pub mod Connected
 pub mod AfterPreparing
 pub mod Fewer
+pub mod Steady
+pub mod Prepared
+pub mod Standings
+pub mod Once

@@ -23,7 +23,7 @@ pub enum Joined {
 }
 
 /// The birth of the session of a client identifier, if it stands.
-fn birth_named(step: &Step, client: &str) -> Option<u64>
+pub(crate) fn birth_named(step: &Step, client: &str) -> Option<u64>
     ensures birth { IfSome result (λ birth.
         IsNamedAt client.now birth step.now.broker.records) }
     ensures none { IfNone result (session_named client.now step.now.broker.records ≡ None) }
