@@ -11,6 +11,7 @@ mod leaving;
 mod line;
 mod lines;
 mod linking;
+mod listing;
 mod numbers;
 mod outputs;
 mod resuming;

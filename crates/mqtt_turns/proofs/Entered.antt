@@ -1,0 +1,131 @@
+-- A copy enters when those that make way have left.
+use Rattle.std.proofs.Common.{◌≡◌, ℕ, suc, ◌+◌, ◌-◌, List, [], ◌∷◌, ◌++◌, length, map, refl, ap, sym, ◌∙◌}
+use Rattle.std.specs.Prelude.{Option, Some, None, IfSome, flat_map, option_map}
+use Rattle.mqtt_flow.specs.declared.entry.Turn.{Turn}
+use Rattle.mqtt_flow.specs.declared.entry.Turn.TheVariants as turns
+use Rattle.mqtt_flow.specs.Outbound.{way_made}
+use Rattle.mqtt_message.specs.declared.message.MessageCopy.{MessageCopy}
+use Rattle.mqtt_message.specs.Queue.{CopyRow}
+use Rattle.mqtt_rows.specs.Order.{row_at}
+use Rattle.mqtt_records.specs.declared.session.Session.{Session}
+use Rattle.mqtt_records.specs.Session.{copy_place}
+use Rattle.mqtt_routes.specs.Intended.{greatest}
+use Rattle.mqtt_rules.specs.Laws.{client_at}
+use Rattle.mqtt_rules.specs.State.{Broker, Env, session_at, queue_on}
+use Rattle.mqtt_rules.specs.Deeds.{Act, Deed, At, Enter, Leave, whose, then, always, of_session, with_session, after_all}
+use Rattle.mqtt_rules.specs.Outbound.{of_entry, leave_deeds, all_turn_deeds, enter_deeds, first_given, queue_limits, since}
+use Rattle.mqtt_rules.proofs.Goods.{after_append}
+use Rattle.mqtt_rules.proofs.LookedUp.{client_at_part}
+use Rattle.mqtt_tables.specs.declared.fault.StepFault.{StepFault}
+use Rattle.mqtt_tables.specs.Stepping.{Stepping, Did, Does, IsLeft, Leaves, env_in, to_session}
+use Rattle.mqtt_tables.proofs.Doing.{found_birth}
+use Rattle.mqtt_turns.specs.Entering.{makes_way}
+use Rattle.mqtt_turns.specs.Turning.{takes_turns}
+use Rattle.mqtt_turns.proofs.Pumped.{dropped_leave}
+use Rattle.mqtt_turns.proofs.Taking.{same_whose}
+use Rattle.mqtt_turns.proofs.Then.{same_act, same_left, did_then, left_first, left_then}
+
+some_is : {X : Type 0} (x y : X) → Some x ≡ Some y → x ≡ y
+some_is x y e = cc
+
+-- ---- the first place given
+
+pub given_first : (o : Option CopyRow) (queue : List CopyRow) (place : ℕ) → Some place ≡ option_map copy_place o → place ≡ first_given o queue
+given_first None queue place is = absurd cc
+given_first (Some e) queue place is = some_is place e.place is
+
+pub given_next : (o : Option CopyRow) (queue : List CopyRow) (place : ℕ) → None ≡ option_map copy_place o → place ≡ suc (greatest (map copy_place queue)) → place ≡ first_given o queue
+given_next None queue place is next = next
+given_next (Some e) queue place is next = absurd cc
+
+pub if_some : {A : Type 0} (o : Option A) {P Q : A → Type 0} → ((a : A) → P a → Q a) → IfSome o P → IfSome o Q
+if_some None f p = p
+if_some (Some a) f p = f a p
+
+-- ---- way is made
+
+pub way_is : (line birth : ℕ) (env : Env) (ts : List Turn) (x : Session) (b : Broker) → session_at birth b.records ≡ Some x
+    → ts ≡ way_made (queue_limits env) (since env x) (queue_on [] x) → takes_turns line birth ts b ≡ makes_way env birth b
+way_is line birth env ts x b found is =
+    ap (λ (o : Option Session). with_session o (λ s. always (all_turn_deeds b.now line s ts)) b) found
+    ∙ (ap (λ rs. all_turn_deeds b.now line x rs) is
+    ∙ (dropped_leave b.now line (length (queue_on [] x) + 1 - env.limits.queue) (since env x) x (queue_on [] x)
+    ∙ ap (λ (o : Option Session). with_session o (λ s. always (flat_map (leave_deeds s) (way_made (queue_limits env) (since env s) (queue_on [] s)))) b) (sym found)))
+
+-- ---- whose the session is stays
+
+client_leave : (birth : ℕ) (x : Session) (t : Turn) (b : Broker) → client_at birth (after_all (leave_deeds x t) b).records ≡ client_at birth b.records
+client_leave birth x (turns.Send place id) b = refl
+client_leave birth x (turns.Resend place id) b = refl
+client_leave birth x (turns.Release place id order) b = refl
+client_leave birth x (turns.Outgrow place id order) b = refl
+client_leave birth x (turns.Repeat id) b = refl
+client_leave birth x (turns.Unknown id) b = refl
+client_leave birth x (turns.Leave place ending) b = by (row_at copy_place place x.queue)
+  where
+    by : (o : Option CopyRow) → client_at birth (after_all (of_entry o (λ e. At (whose x) (Leave e ending) ∷ [])) b).records ≡ client_at birth b.records
+    by None = refl
+    by (Some e) = client_at_part (whose x) (Leave e ending) birth b.records
+
+client_leaves : (birth : ℕ) (x : Session) (ts : List Turn) (b : Broker) → client_at birth (after_all (flat_map (leave_deeds x) ts) b).records ≡ client_at birth b.records
+client_leaves birth x [] b = refl
+client_leaves birth x (t ∷ ts) b =
+    ap (λ (c : Broker). client_at birth c.records) (after_append (leave_deeds x t) (flat_map (leave_deeds x) ts) b)
+    ∙ (client_leaves birth x ts (after_all (leave_deeds x t) b) ∙ client_leave birth x t b)
+
+abbrev ways : Env → Session → List Deed
+ways env s = flat_map (leave_deeds s) (way_made (queue_limits env) (since env s) (queue_on [] s))
+
+pub client_enter : (birth : ℕ) (env : Env) (copy : MessageCopy) (x : Session) (b : Broker) → client_at birth (after_all (enter_deeds env copy x) b).records ≡ client_at birth b.records
+client_enter birth env copy x b =
+    ap (λ (c : Broker). client_at birth c.records) (after_append (ways env x) (At (whose x) (Enter copy) ∷ []) b)
+    ∙ (client_at_part (whose x) (Enter copy) birth (after_all (ways env x) b).records
+    ∙ client_leaves birth x (way_made (queue_limits env) (since env x) (queue_on [] x)) b)
+
+enters_still : (birth : ℕ) (copy : MessageCopy) (x : Session) (b c : Broker) (o : Option Session) → session_at birth c.records ≡ o → x.birth ≡ birth → client_at birth c.records ≡ Some x.client
+    → with_session o (λ s. always (At (whose s) (Enter copy) ∷ [])) c ≡ At (whose x) (Enter copy) ∷ []
+enters_still birth copy x b c None found key client =
+    let no : None ≡ Some x.client = sym (ap (λ (o : Option Session). option_map (λ (y : Session). y.client) o) found) ∙ client in
+    absurd cc
+enters_still birth copy x b c (Some y) found key client =
+    let one : Some y.client ≡ Some x.client = sym (ap (λ (o : Option Session). option_map (λ (z : Session). z.client) o) found) ∙ client in
+    ap (λ w. At w (Enter copy) ∷ [])
+    (same_whose x y (found_birth birth c.records.sessions y found ∙ sym key) (some_is y.client x.client one))
+
+enters_by : (env : Env) (birth : ℕ) (copy : MessageCopy) (b : Broker) (o : Option Session) → session_at birth b.records ≡ o
+    → with_session o (λ s. always (ways env s)) b ++ to_session birth (Enter copy) (after_all (with_session o (λ s. always (ways env s)) b) b)
+    ≡ with_session o (λ s. always (enter_deeds env copy s)) b
+enters_by env birth copy b None found = ap (λ (o : Option Session). with_session o (λ s. always (At (whose s) (Enter copy) ∷ [])) b) found
+enters_by env birth copy b (Some x) found =
+    let c = after_all (ways env x) b in
+    ap (λ ds. ways env x ++ ds)
+    (enters_still birth copy x b c (session_at birth c.records) refl (found_birth birth b.records.sessions x found)
+    (client_leaves birth x (way_made (queue_limits env) (since env x) (queue_on [] x)) b
+    ∙ ap (λ (o : Option Session). option_map (λ (y : Session). y.client) o) found))
+
+abbrev enters : Env → ℕ → MessageCopy → Act
+enters env birth copy = of_session birth (λ s. always (enter_deeds env copy s))
+
+whole_is : (env : Env) (birth : ℕ) (copy : MessageCopy) (b : Broker) → then (makes_way env birth b) (to_session birth (Enter copy)) b ≡ enters env birth copy b
+whole_is env birth copy b = enters_by env birth copy b (session_at birth b.records) refl
+
+pub entered_done : (birth : ℕ) (copy : MessageCopy) (s s1 s2 : Stepping) → Does (λ env. makes_way env birth) s s1 → Did (to_session birth (Enter copy)) s1 s2
+    → Does (λ env. of_session birth (λ x. always (enter_deeds env copy x))) s s2
+entered_done birth copy s s1 s2 made is = λ choice.
+    let env = env_in choice s in
+    same_act (λ b. then (makes_way env birth b) (to_session birth (Enter copy)) b) (enters env birth copy) s s2 (whole_is env birth copy s.broker)
+    (did_then (makes_way env birth) (to_session birth (Enter copy)) s s1 s2 (made choice) is)
+
+pub entered_left : (birth : ℕ) (copy : MessageCopy) (fault : StepFault) (s s1 s2 : Stepping) → Does (λ env. makes_way env birth) s s1 → IsLeft (to_session birth (Enter copy)) fault s1 s2
+    → Leaves (λ env. of_session birth (λ x. always (enter_deeds env copy x))) fault s s2
+entered_left birth copy fault s s1 s2 made left = λ choice.
+    let env = env_in choice s in
+    same_left (λ b. then (makes_way env birth b) (to_session birth (Enter copy)) b) (enters env birth copy) fault s s2 (whole_is env birth copy s.broker)
+    (left_then (makes_way env birth) (to_session birth (Enter copy)) fault s s1 s2 (made choice) left)
+
+pub way_left : (birth : ℕ) (copy : MessageCopy) (fault : StepFault) (s new : Stepping) → Leaves (λ env. makes_way env birth) fault s new
+    → Leaves (λ env. of_session birth (λ x. always (enter_deeds env copy x))) fault s new
+way_left birth copy fault s new left = λ choice.
+    let env = env_in choice s in
+    same_left (λ b. then (makes_way env birth b) (to_session birth (Enter copy)) b) (enters env birth copy) fault s new (whole_is env birth copy s.broker)
+    (left_first (makes_way env birth) (to_session birth (Enter copy)) fault s new (left choice))

@@ -1,0 +1,14 @@
+use Rattle.mqtt_tables.proofs.Doing.{on_ok, if_err}
+use Rattle.mqtt_turns.proofs.Entered.{entered_done, entered_left, way_left}
+use Rattle.mqtt_turns.proofs.entering.enter.Goals as goal
+
+pub returns-in-Ok-clause-ok : goal.returns-in-Ok-clause-ok
+returns-in-Ok-clause-ok c =
+    on_ok c.enter.result (entered_done c.args.birth c.args.copy c.args.step.now c.make_way.new.step c.enter.new.self c.in-Ok.ensures.ok) c.enter.ensures.ok
+
+pub returns-in-Ok-clause-left : goal.returns-in-Ok-clause-left
+returns-in-Ok-clause-left c =
+    if_err c.enter.result (λ fault. entered_left c.args.birth c.args.copy fault c.args.step.now c.make_way.new.step c.enter.new.self c.in-Ok.ensures.ok) c.enter.ensures.left
+
+pub returns-in-Err-clause-left : goal.returns-in-Err-clause-left
+returns-in-Err-clause-left c = way_left c.args.birth c.args.copy c.in-Err.fault c.args.step.now c.make_way.new.step c.in-Err.ensures.left
