@@ -13,6 +13,7 @@ mod line;
 mod lines;
 mod linking;
 mod naming;
+mod listing;
 mod numbers;
 mod outputs;
 mod resuming;

@@ -1,3 +1,4 @@
+pub mod Then
 pub mod Turned
 pub mod Taking
 pub mod Asked

@@ -1,0 +1,4 @@
+pub mod Found
+pub mod Nonempty
+pub mod Told
+pub mod Ticked
