@@ -16,7 +16,7 @@ use Rattle.mqtt_tables.specs.declared.fault.StepFault.{StepFault}
 use Rattle.mqtt_tables.specs.Stepping.{Stepping, did, Did, IsLeft, env_in}
 use Rattle.mqtt_tables.proofs.Doing.{did_none}
 use Rattle.mqtt_acts.specs.Choosing.{DoesSome, LeavesSome}
-use Rattle.mqtt_acts.proofs.Then.{same_act, same_left, did_then, left_first, left_then}
+use Rattle.mqtt_tables.proofs.Then.{same_act, same_left, did_then, left_first, left_then}
 use Rattle.mqtt_acts.proofs.Leading.{same_env}
 use Rattle.mqtt_publishing.specs.declared.publish.Published.{Published}
 use Rattle.mqtt_publishing.specs.declared.publish.Published.TheVariants as published

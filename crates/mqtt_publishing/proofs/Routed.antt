@@ -14,7 +14,7 @@ use Rattle.mqtt_tables.specs.declared.fault.StepFault.TheVariants.{Memory, Spent
 use Rattle.mqtt_tables.specs.Stepping.{Stepping, Did, Does, IsLeft, Leaves, env_in}
 use Rattle.mqtt_acts.specs.Choosing.{DoesSome, IsAccepted, IsRefused, LeavesSome}
 use Rattle.mqtt_acts.specs.Delivering.{addressed_all}
-use Rattle.mqtt_acts.proofs.Then.{same_act, same_left}
+use Rattle.mqtt_tables.proofs.Then.{same_act, same_left}
 
 module _ (l : Line) (x : Session) (p : Publish) (m : Message) where
   by_copies : (s : Stepping) (choice : MemberChoice) (o : Option (List CopyTo)) → accepted_copies (env_in choice s) m s.broker ≡ o

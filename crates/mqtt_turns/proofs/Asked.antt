@@ -15,11 +15,7 @@ use Rattle.mqtt_tables.specs.Stepping.{Stepping, IsLeft}
 use Rattle.mqtt_turns.specs.declared.answering.Answered.{Answered}
 use Rattle.mqtt_turns.specs.declared.answering.Answered.TheVariants.{Taken, Wrong}
 use Rattle.mqtt_turns.specs.Answering.{asks, Came}
-<<<<<<< HEAD
 use Rattle.mqtt_tables.proofs.Then.{same_act, same_left}
-=======
-use Rattle.mqtt_turns.proofs.Then.{same_act, same_left}
->>>>>>> closing
 
 -- ---- who holds an identifier is the same copy, whatever went out
 

@@ -23,11 +23,7 @@ use Rattle.mqtt_turns.specs.Entering.{makes_way}
 use Rattle.mqtt_turns.specs.Turning.{takes_turns}
 use Rattle.mqtt_turns.proofs.Pumped.{dropped_leave}
 use Rattle.mqtt_turns.proofs.Taking.{same_whose}
-<<<<<<< HEAD
 use Rattle.mqtt_tables.proofs.Then.{same_act, same_left, did_then, left_first, left_then}
-=======
-use Rattle.mqtt_turns.proofs.Then.{same_act, same_left, did_then, left_first, left_then}
->>>>>>> closing
 
 some_is : {X : Type 0} (x y : X) → Some x ≡ Some y → x ≡ y
 some_is x y e = cc

@@ -1,4 +1,3 @@
-pub mod Then
 pub mod Turned
 pub mod Taking
 pub mod Asked

@@ -20,11 +20,7 @@ use Rattle.mqtt_tables.specs.declared.fault.StepFault.{StepFault}
 use Rattle.mqtt_tables.specs.Stepping.{Stepping, did, Did, IsLeft}
 use Rattle.mqtt_tables.proofs.Doing.{did_none, found_birth}
 use Rattle.mqtt_turns.specs.Turning.{takes_turn, takes_turns}
-<<<<<<< HEAD
 use Rattle.mqtt_tables.proofs.Then.{same_act, same_left, did_then, left_first, left_then}
-=======
-use Rattle.mqtt_turns.proofs.Then.{same_act, same_left, did_then, left_first, left_then}
->>>>>>> closing
 
 some_is : {X : Type 0} (x y : X) → Some x ≡ Some y → x ≡ y
 some_is x y e = cc

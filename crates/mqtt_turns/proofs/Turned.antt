@@ -16,11 +16,7 @@ use Rattle.mqtt_rules.specs.Packets.{publish_of}
 use Rattle.mqtt_tables.specs.declared.fault.StepFault.{StepFault}
 use Rattle.mqtt_tables.specs.Stepping.{Stepping, Did, IsLeft, to_session}
 use Rattle.mqtt_turns.specs.Turning.{takes_turn}
-<<<<<<< HEAD
 use Rattle.mqtt_tables.proofs.Then.{same_act, same_left, did_then, left_then}
-=======
-use Rattle.mqtt_turns.proofs.Then.{same_act, same_left, did_then, left_then}
->>>>>>> closing
 
 abbrev found_in : ℕ → Option Session → Option CopyRow
 found_in place o = option_and_then (λ s. row_at copy_place place s.queue) o

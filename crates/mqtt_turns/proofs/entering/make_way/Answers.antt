@@ -5,11 +5,7 @@ use Rattle.mqtt_turns.specs.Entering.{makes_way}
 use Rattle.mqtt_turns.specs.Turning.{takes_turns}
 use Rattle.mqtt_turns.proofs.Entered.{way_is}
 use Rattle.mqtt_turns.proofs.Pumped.{rise_there}
-<<<<<<< HEAD
 use Rattle.mqtt_tables.proofs.Then.{same_act, same_left}
-=======
-use Rattle.mqtt_turns.proofs.Then.{same_act, same_left}
->>>>>>> closing
 use Rattle.mqtt_turns.proofs.entering.make_way.Goals as goal
 
 pub take_turns-requires : goal.take_turns-requires

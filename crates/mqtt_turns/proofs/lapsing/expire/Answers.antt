@@ -4,11 +4,7 @@ use Rattle.mqtt_rules.specs.State.{queue_on}
 use Rattle.mqtt_tables.proofs.Doing.{on_ok, if_err}
 use Rattle.mqtt_turns.specs.Turning.{takes_turns, lapses_of}
 use Rattle.mqtt_turns.proofs.Pumped.{rise_there, lapses_is}
-<<<<<<< HEAD
 use Rattle.mqtt_tables.proofs.Then.{same_act, same_left}
-=======
-use Rattle.mqtt_turns.proofs.Then.{same_act, same_left}
->>>>>>> closing
 use Rattle.mqtt_turns.proofs.lapsing.expire.Goals as goal
 
 pub take_turns-requires : goal.take_turns-requires

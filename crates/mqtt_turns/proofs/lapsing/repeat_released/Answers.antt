@@ -2,11 +2,7 @@ use Rattle.std.proofs.Common.{sym}
 use Rattle.mqtt_tables.proofs.Doing.{on_ok, if_err}
 use Rattle.mqtt_turns.specs.Turning.{takes_turns, resumes_on}
 use Rattle.mqtt_turns.proofs.Pumped.{rise_there, resumes_is}
-<<<<<<< HEAD
 use Rattle.mqtt_tables.proofs.Then.{same_act, same_left}
-=======
-use Rattle.mqtt_turns.proofs.Then.{same_act, same_left}
->>>>>>> closing
 use Rattle.mqtt_turns.proofs.lapsing.repeat_released.Goals as goal
 
 pub take_turns-requires : goal.take_turns-requires

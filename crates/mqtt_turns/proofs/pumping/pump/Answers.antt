@@ -9,11 +9,7 @@ use Rattle.mqtt_tables.specs.Stepping.{IsLeft}
 use Rattle.mqtt_tables.proofs.Inverse.{row_key}
 use Rattle.mqtt_turns.specs.Turning.{is_sending, takes_turns, pumps}
 use Rattle.mqtt_turns.proofs.Pumped.{line_found, same_way, pumps_is, taken_of}
-<<<<<<< HEAD
 use Rattle.mqtt_tables.proofs.Then.{same_act, same_left}
-=======
-use Rattle.mqtt_turns.proofs.Then.{same_act, same_left}
->>>>>>> closing
 use Rattle.mqtt_turns.proofs.pumping.pump.Goals as goal
 
 pub returns-clause-ok : goal.returns-clause-ok
