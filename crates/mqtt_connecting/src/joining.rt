@@ -13,12 +13,13 @@ use mqtt_codec::Connect;
 use mqtt_tables::{Step, StepFault};
 use std::alloc::Global;
 
-/// What became of a CONNECT that isn't refused at once.
+/// What became of a CONNECT.
 #[derive(Clone, Copy, Debug, PartialEq, Eq)]
 pub enum Joined {
-    /// Its session is connected on its line.
+    /// It was done: its session is connected on its line, or it was refused with its code.
     Done,
-    /// It is new, and there is no place for one session more (ours).
+    /// After what came before it its client is new, and there is no place for one session more: the step is to be
+    /// taken back, and the client refused (ours).
     NoPlace,
 }
 
