@@ -7,7 +7,7 @@ ghost use Rattle.mqtt_rules.specs.Lines.{session_on};
 ghost use Rattle.mqtt_rules.specs.State.{Line};
 ghost use Rattle.mqtt_rules.specs.Step.{Input, deeds_of, on_packet};
 ghost use Rattle.mqtt_tables.specs.Stepping.{Did, Does, IsLeft, Leaves, at_rest};
-ghost use Rattle.mqtt_engine.specs.Calling.{IsCalled};
+ghost use Rattle.mqtt_calls.specs.Doing.{IsCalled};
 
 use mqtt_acts::{pingreq, pubrel};
 use mqtt_codec::Ack;

@@ -7,7 +7,7 @@ ghost use Rattle.mqtt_rules.specs.Laws.{AreWithin};
 ghost use Rattle.mqtt_rules.specs.State.{Broker, MemberChoice, stored};
 ghost use Rattle.mqtt_rules.specs.Step.{Call, is_opening_spent, is_step_spent, opened, stepped};
 ghost use Rattle.mqtt_rules.specs.declared.Limits.{Limits as TheLimits};
-ghost use Rattle.mqtt_engine.specs.Sound.{IsSound, IsWithin};
+ghost use Rattle.mqtt_calls.specs.Sound.{IsSound, IsWithin};
 
 /// Each step of a sound broker on a packet that is lawful and no longer than a packet may be leaves a
 /// sound one, where no number is spent; and so does an opening of lawful records (4.1).

@@ -3,8 +3,8 @@ use Rattle.mqtt_codec.specs.declared.packet.Packet.TheVariants.{Pingreq}
 use Rattle.mqtt_rules.specs.State.{session_at}
 use Rattle.mqtt_rules.specs.Step.{next_packet}
 use Rattle.mqtt_tables.proofs.Doing.{if_err, on_ok}
-use Rattle.mqtt_engine.proofs.CallActs.{does_found, left_found}
-use Rattle.mqtt_engine.proofs.answering.ping_of.Goals as goal
+use Rattle.mqtt_calls.proofs.CallActs.{does_found, left_found}
+use Rattle.mqtt_calls.proofs.answering.ping_of.Goals as goal
 
 pub returns-in-Some-clause-ok : goal.returns-in-Some-clause-ok
 returns-in-Some-clause-ok c = λ l number.

@@ -4,8 +4,8 @@ use Rattle.mqtt_rules.specs.Deeds.{always, of_session}
 use Rattle.mqtt_rules.specs.Inbound.{on_pubrel}
 use Rattle.mqtt_tables.specs.Stepping.{Did, IsLeft}
 use Rattle.mqtt_tables.proofs.Doing.{if_err, on_ok}
-use Rattle.mqtt_engine.proofs.CallActs.{input_does, input_left, stands_on}
-use Rattle.mqtt_engine.proofs.answering.release.Goals as goal
+use Rattle.mqtt_calls.proofs.CallActs.{input_does, input_left, stands_on}
+use Rattle.mqtt_calls.proofs.answering.release.Goals as goal
 
 pub returns-in-Ok-clause-ok : goal.returns-in-Ok-clause-ok
 returns-in-Ok-clause-ok c = λ ack same.

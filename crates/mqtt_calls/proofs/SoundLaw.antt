@@ -18,8 +18,8 @@ use Rattle.mqtt_rules.proofs.NumberSteps.{step_timed, opening_timed}
 use Rattle.mqtt_rules.proofs.OrderedFull.{step_queues, opening_queues}
 use Rattle.mqtt_rules.proofs.OrderedLimits.{step_sessions, opening_sessions, step_retained, opening_retained}
 use Rattle.mqtt_rules.proofs.RowsFit.{step_coherent, step_last, opening_coherent, opened_last}
-use Rattle.mqtt_engine.specs.Sound.{IsSound, IsWithin}
-use Rattle.mqtt_engine.proofs.Flights.{lawful_flight}
+use Rattle.mqtt_calls.specs.Sound.{IsSound, IsWithin}
+use Rattle.mqtt_calls.proofs.Flights.{lawful_flight}
 
 pub step_sound : (limits : Limits) (choice : MemberChoice) (now : ℕ) (call : Call) (b : Broker) → is_step_spent limits choice now call b ≡ false → TakesLawful call
     → IsSound limits b → IsSound limits (stepped limits choice now call b)

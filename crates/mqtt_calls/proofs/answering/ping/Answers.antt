@@ -1,7 +1,7 @@
 use Rattle.mqtt_codec.specs.declared.packet.Packet.TheVariants.{Pingreq}
 use Rattle.mqtt_tables.proofs.Doing.{if_err, on_ok}
-use Rattle.mqtt_engine.proofs.CallActs.{input_does, input_left, stands_on}
-use Rattle.mqtt_engine.proofs.answering.ping.Goals as goal
+use Rattle.mqtt_calls.proofs.CallActs.{input_does, input_left, stands_on}
+use Rattle.mqtt_calls.proofs.answering.ping.Goals as goal
 
 pub returns-in-Ok-clause-ok : goal.returns-in-Ok-clause-ok
 returns-in-Ok-clause-ok c =

@@ -1,5 +1,5 @@
-use Rattle.mqtt_engine.proofs.SoundLaw.{step_sound, opening_sound}
-use Rattle.mqtt_engine.proofs.laws.sound_brokers_stay_sound.Goals as goal
+use Rattle.mqtt_calls.proofs.SoundLaw.{step_sound, opening_sound}
+use Rattle.mqtt_calls.proofs.laws.sound_brokers_stay_sound.Goals as goal
 
 pub returns-clause-step : goal.returns-clause-step
 returns-clause-step c = step_sound

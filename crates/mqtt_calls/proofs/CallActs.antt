@@ -26,7 +26,7 @@ use Rattle.mqtt_tables.proofs.Rows.{spent_append}
 use Rattle.mqtt_acts.specs.Choosing.{DoesSome, LeavesSome}
 use Rattle.mqtt_acts.proofs.Leading.{same_env}
 use Rattle.mqtt_tables.proofs.Then.{did_then, left_then, same_act, same_left}
-use Rattle.mqtt_engine.specs.Calling.{DidCall, IsCalled, begun}
+use Rattle.mqtt_calls.specs.Doing.{DidCall, IsCalled, begun}
 
 -- ---- the acts of a call, from its beginning
 

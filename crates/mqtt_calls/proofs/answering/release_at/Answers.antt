@@ -2,9 +2,9 @@ use Rattle.std.proofs.Common.{◌≡◌, false, refl, ap, ◌∙◌}
 use Rattle.mqtt_codec.specs.declared.packet.Packet.TheVariants.{Pubrel}
 use Rattle.mqtt_rules.specs.Step.{Input, at_moment, deeds_of}
 use Rattle.mqtt_tables.specs.Stepping.{with_broker}
-use Rattle.mqtt_engine.specs.Calling.{begun}
-use Rattle.mqtt_engine.proofs.CallActs.{called_by, limits_by, start_by}
-use Rattle.mqtt_engine.proofs.answering.release_at.Goals as goal
+use Rattle.mqtt_calls.specs.Doing.{begun}
+use Rattle.mqtt_calls.proofs.CallActs.{called_by, limits_by, start_by}
+use Rattle.mqtt_calls.proofs.answering.release_at.Goals as goal
 
 pub returns-in-Ok-clause-called : goal.returns-in-Ok-clause-called
 returns-in-Ok-clause-called c =

@@ -1,5 +1,5 @@
-use Rattle.mqtt_engine.proofs.SoundLaw.{step_within, opening_within}
-use Rattle.mqtt_engine.proofs.laws.limits_stay_kept.Goals as goal
+use Rattle.mqtt_calls.proofs.SoundLaw.{step_within, opening_within}
+use Rattle.mqtt_calls.proofs.laws.limits_stay_kept.Goals as goal
 
 pub returns-clause-step : goal.returns-clause-step
 returns-clause-step c = step_within

@@ -1,0 +1,3 @@
+pub mod Flights
+pub mod SoundLaw
+pub mod CallActs
