@@ -69,6 +69,11 @@ pub record Framing : Type 0 where
 abbrev pub empty : Framing
 empty = record { held = []; place = 0 }
 
+-- the first of bytes, if there are any
+abbrev pub first_byte : List ℕ → Option ℕ
+first_byte [] = None
+first_byte (b ∷ bytes) = Some b
+
 -- without the first n bytes
 abbrev pub after : ℕ → Framing → Framing
 after n f = record { held = drop n f.held; place = place_after f.place n }

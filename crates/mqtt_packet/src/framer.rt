@@ -4,7 +4,7 @@ ghost use Rattle.std.specs.Prelude.{◌≡◌, ◌≢◌, ◌-◌, ◌<◌, ◌�
 ghost use Rattle.mqtt_fields.specs.declared.fault.Fault.{Fault};
 ghost use Rattle.mqtt_base.specs.declared.limits.TheConstants.{PACKET_LIMIT};
 ghost use Rattle.mqtt_packet.specs.Front.{first_of};
-ghost use Rattle.mqtt_packet.specs.Stream.{Framing, empty, after, without_last, Stands, Refuses, Finds, FindsSized, Gives};
+ghost use Rattle.mqtt_packet.specs.Stream.{Framing, empty, after, first_byte, without_last, Stands, Refuses, Finds, FindsSized, Gives};
 ghost use Rattle.mqtt_base.specs.Values.{FitsText};
 ghost use Rattle.mqtt_codec.specs.Frames.{packet_of};
 
@@ -58,6 +58,17 @@ impl Framer {
         ensures { result ≡ self.now.place }
     {
         self.place
+    }
+
+    /// The first byte that is held, which has the type of its packet in its high half (2.1.2). Takes no
+    /// memory.
+    pub fn first_byte(&self) -> Option<u8>
+        ensures { result ≡ first_byte self.now.held }
+    {
+        match self.store.as_slice() {
+            [] => None,
+            [first, ..] => Some(*first),
+        }
     }
 
     /// Takes as many bytes as fit, from the front of the piece, and answers how many.

@@ -80,8 +80,8 @@ impl Step {
         self.make(row, undo)
     }
 
-    /// The rows for the store. Takes no memory.
-    fn rows(&self) -> &[Change]
+    /// The rows that the step has written, for the store and for what goes along with it. Takes no memory.
+    pub fn rows(&self) -> &[Change]
         ensures rows { result.now ≡ self.now.rows }
         ensures made { changed_all self.now.rows self.now.start.records
             ≡ self.now.broker.records }
