@@ -1,11 +1,15 @@
 -- A call: the step that it is of the broker, and what is answered (MQTT 5.0, 4.1).
-use Rattle.std.specs.Prelude.{◌≡◌, ◌⊎◌, ℕ, false}
+use Rattle.std.specs.Prelude.{◌≡◌, ◌≢◌, ◌⊎◌, ℕ, true, false, Result, IfOk, OnOk, OnErr, IsErrOf}
+use Rattle.mqtt_records.specs.declared.keep.Keep.{Ghosts}
 use Rattle.mqtt_records.specs.declared.records.Records.{Records}
 use Rattle.mqtt_rules.specs.declared.Limits.{Limits}
 use Rattle.mqtt_rules.specs.State.{Broker, MemberChoice, stored}
-use Rattle.mqtt_rules.specs.Step.{Call, NewLine, Input, BadInput, Lost, Pump, Tick, BrokerStep, bytes_out, is_step_spent, stepped}
+use Rattle.mqtt_rules.specs.Step.{Call, NewLine, Input, BadInput, Lost, Pump, Tick, BrokerStep, SpentStep, bytes_out, is_step_spent, stepped}
 use Rattle.mqtt_rules.specs.Step.{Outcome as Told}
+use Rattle.mqtt_tables.specs.declared.call.EngineError.{EngineError}
+use Rattle.mqtt_tables.specs.declared.call.EngineError.TheVariants.{Memory, Stopped, Spent}
 use Rattle.mqtt_engine.specs.declared.outcome.Outcome.{Outcome}
+use Rattle.mqtt_engine.specs.Running.{Running}
 
 -- ---- what is answered
 
@@ -34,6 +38,25 @@ pub record IsStoredNext (limits : Limits) (old : Broker) (now : ℕ) (call : Cal
 -- what was stored before the call, or is after it
 abbrev pub IsLeftBy : Limits → Broker → ℕ → Call → Records → Type 0
 IsLeftBy limits old now call r = (r ≡ stored old) ⊎ IsStoredNext limits old now call r
+
+-- ---- what a call makes of an engine over a store, and what it answers
+
+pub record Called {K : Type 0} (g : Ghosts K) (now : ℕ) (call : Call) (old : Running K) (result : Result Outcome EngineError) (new : Running K)
+    : Type 0 where
+  -- Ok: it was a step of the broker, and the store holds what is stored after it
+  pub step : IfOk result (λ out. IsAnswered old.limits old.broker now call out new.broker)
+  pub stored : OnOk result ((new.stopped ≡ false) × g.holds new.keep new.broker.records)
+  pub limits : new.limits ≡ old.limits
+  -- otherwise nothing changed here, and in the store only where it failed
+  pub same : OnErr result (new.broker ≡ old.broker)
+  pub memory : IsErrOf result Memory → (new.stopped ≡ false) × g.holds new.keep old.broker.records
+  pub spent : IsErrOf result Spent → (new ≡ old) × SpentStep old.limits old.broker now call
+  -- it stops where the store counted a failure, and stays stopped
+  pub stopped : IsErrOf result Stopped → new.stopped ≡ true
+  pub cause : IsErrOf result Stopped → old.stopped ≡ false → g.counted new.keep ≢ g.counted old.keep
+  pub still : old.stopped ≡ true → IsErrOf result Stopped × (new ≡ old)
+  -- a crash leaves what was stored before the call or after it
+  pub crash : old.stopped ≡ false → (left : Records) → g.leaves new.keep left → IsLeftBy old.limits old.broker now call left
 
 -- ---- what is asked on a line
 

@@ -1,38 +1,40 @@
 //! The engine: a broker over a store, one call after the other (MQTT 5.0, 4.1).
-ghost use Rattle.std.specs.Prelude.{◌≡◌, ◌≢◌, ◌↔◌, Some, None, false, true, IfOk, OnOk, OnErr, IsErrOf, IsTrue, option_copied};
-ghost use Rattle.mqtt_codec.specs.declared.packet.Packet.TheVariants.{Pingreq, Pubrel};
-ghost use Rattle.mqtt_rules.specs.Contents.{IsTaken};
-ghost use Rattle.mqtt_records.specs.declared.records.Records.{Records};
-ghost use Rattle.mqtt_rules.specs.Lines.{session_on};
+ghost use Rattle.std.specs.Prelude.{◌≡◌, None, false, option_copied};
+ghost use Rattle.mqtt_router.specs.Indexing.{Serves};
+ghost use Rattle.mqtt_rules.specs.Routing.{subscribers};
 ghost use Rattle.mqtt_rules.specs.State.{line_at};
-ghost use Rattle.mqtt_rules.specs.Step.{BrokerStep, Call, NewLine, Input, SpentStep, copy_of, nothing_told};
+ghost use Rattle.mqtt_rules.specs.Step.{BrokerStep, Call, NewLine, copy_of, nothing_told};
 ghost use Rattle.mqtt_tables.specs.Doing.{next_line};
 ghost use Rattle.mqtt_tables.specs.Stepping.{at_rest};
 ghost use Rattle.mqtt_calls.specs.Sound.{IsSound};
-ghost use Rattle.mqtt_engine.specs.Calling.{IsAnswered, IsLeftBy, IsOn};
+ghost use Rattle.mqtt_engine.specs.Calling.{IsAnswered, IsOn};
 
-use crate::finishing::finish;
 use crate::holding::copy_of;
 use crate::outcome::{Outcome, nothing};
 use mqtt_base::CopyId;
-use mqtt_calls::{ping_at, release_at};
-use mqtt_codec::Ack;
 use mqtt_records::Keep;
-use mqtt_tables::{EngineError, Step};
+use mqtt_router::Index;
+use mqtt_tables::Step;
 use std::alloc::Global;
+use std::hash::RandomState;
 use std::marker::Model;
 
 /// A broker over a store.
 #[derive(Drop)]
 pub struct Engine<K: Keep> {
-    alloc: Global,
-    keep: K,
-    step: Step,
-    stopped: bool,
+    pub(crate) alloc: Global,
+    pub(crate) hasher: RandomState,
+    pub(crate) keep: K,
+    pub(crate) step: Step,
+    pub(crate) index: Index,
+    pub(crate) is_stale: bool,
+    pub(crate) stopped: bool,
 }
 
 impl<K: Keep> Model for Engine<K> {
     ghost use Rattle.std.specs.Prelude.{◌≡◌, false};
+    ghost use Rattle.mqtt_router.specs.Indexing.{Serves};
+    ghost use Rattle.mqtt_rules.specs.Routing.{subscribers};
     ghost use Rattle.mqtt_tables.specs.Stepping.{at_rest};
     ghost use Rattle.mqtt_engine.specs.Running.{Running};
     ghost use Rattle.mqtt_calls.specs.Sound.{IsSound};
@@ -46,26 +48,23 @@ impl<K: Keep> Model for Engine<K> {
       stopped = e.stopped;
     } };
 
-    // Between calls no step is under way, and while the store hasn't failed it holds what is stored.
+    // Between calls no step is under way; while the store hasn't failed it holds what is stored; and the index is that of
+    // the subscriptions that stand, unless it is to be made anew.
     ghost invariant = { λ e. (e.step ≡ at_rest e.step.limits e.step.broker)
         × IsSound e.step.limits e.step.broker
-        × (e.stopped ≡ false → K.is_loaded e.keep × K.holds e.keep e.step.broker.records) };
-}
-
-/// Whether the store has failed.
-fn has_failed(answer: &Result<Outcome, EngineError>) -> bool
-    ensures { IsTrue result ↔ IsErrOf answer.now EngineError.Stopped }
-{
-    matches!(answer, Err(EngineError::Stopped))
+        × (e.stopped ≡ false → K.is_loaded e.keep × K.holds e.keep e.step.broker.records)
+        × (e.is_stale ≡ false → Serves e.index.sessions (subscribers e.step.broker.records)) };
 }
 
 impl<K: Keep> Engine<K> {
-    /// An engine whose store holds what is stored, with no step under way. Takes no memory.
-    pub fn over(alloc: Global, keep: K, step: Step) -> Engine<K>
+    /// An engine whose store holds what is stored, with no step under way, and with the index of the subscriptions
+    /// that stand. Takes no memory.
+    pub fn over(alloc: Global, hasher: RandomState, keep: K, step: Step, index: Index) -> Engine<K>
         requires rest { step ≡ at_rest step.limits step.broker }
         requires sound { IsSound step.limits step.broker }
         requires loaded { K.is_loaded keep }
         requires holds { K.holds keep step.broker.records }
+        requires serves { Serves index.sessions (subscribers step.broker.records) }
         ensures { result ≡ record {
           keep = keep;
           limits = step.limits;
@@ -75,8 +74,11 @@ impl<K: Keep> Engine<K> {
     {
         Engine {
             alloc,
+            hasher,
             keep,
             step,
+            index,
+            is_stale: false,
             stopped: false,
         }
     }
@@ -96,8 +98,14 @@ impl<K: Keep> Engine<K> {
     pub fn close(self) -> K
         ensures { result ≡ self.keep }
     {
-        let Engine { keep, step, .. } = self;
+        let Engine {
+            keep,
+            step,
+            index,
+            ..
+        } = self;
         drop(step);
+        drop(index);
         keep
     }
 
@@ -125,94 +133,5 @@ impl<K: Keep> Engine<K> {
         ensures { option_copied result ≡ copy_of line identifier self.now.broker }
     {
         copy_of(&self.step, line, identifier)
-    }
-
-    /// A PINGREQ on the line of a session is answered with PINGRESP (3.12). `Memory` (1) and `Spent` (3):
-    /// nothing changed. `Stopped` (2): the store has failed, and nothing changed here.
-    pub fn pingreq(&mut self, line: u64, birth: u64, moment: u64) -> Result<Outcome, EngineError>
-        requires { session_on line self.old.broker ≡ Some (Some birth) }
-
-        // Ok: it was a step of the broker, and the store holds what is stored after it.
-        ensures step { IfOk result (λ out. IsAnswered self.old.limits self.old.broker moment
-            (Input line Pingreq) out self.new.broker) }
-        ensures stored { OnOk result ((self.new.stopped ≡ false)
-            × K.holds self.new.keep self.new.broker.records) }
-        ensures limits { self.new.limits ≡ self.old.limits }
-
-        // Otherwise nothing changed here, and in the store only where it failed.
-        ensures err { OnErr result (self.new.broker ≡ self.old.broker) }
-        ensures memory { IsErrOf result EngineError.Memory → (self.new.stopped ≡ false)
-            × K.holds self.new.keep self.old.broker.records }
-        ensures spent { IsErrOf result EngineError.Spent → (self.new ≡ self.old)
-            × SpentStep self.old.limits self.old.broker moment (Input line Pingreq) }
-
-        // It stops where the store counted a failure, and stays stopped.
-        ensures stopped { IsErrOf result EngineError.Stopped → self.new.stopped ≡ true }
-        ensures cause { IsErrOf result EngineError.Stopped → self.old.stopped ≡ false
-            → K.counted self.new.keep ≢ K.counted self.old.keep }
-        ensures still { self.old.stopped ≡ true
-            → IsErrOf result EngineError.Stopped × (self.new ≡ self.old) }
-
-        // A crash leaves what was stored before the call or after it.
-        ensures crash { self.old.stopped ≡ false → (left : Records)
-            → K.leaves self.new.keep left
-            → IsLeftBy self.old.limits self.old.broker moment (Input line Pingreq) left }
-    {
-        if self.stopped {
-            return Err(EngineError::Stopped);
-        }
-        let done = ping_at(&mut self.step, line, birth, moment);
-        let answer = finish(&mut self.keep, &mut self.step, done, false);
-        self.stopped = has_failed(&answer);
-        answer
-    }
-
-    /// A PUBREL on the line of a session closes its identifier and is answered with PUBCOMP (3.6, 4.3.3).
-    /// Refusals are those of `pingreq`.
-    pub fn pubrel(
-        &mut self,
-        line: u64,
-        birth: u64,
-        ack: &Ack,
-        moment: u64,
-    ) -> Result<Outcome, EngineError>
-        requires connected { session_on line self.old.broker ≡ Some (Some birth) }
-        requires taken { IsTaken (Pubrel ack.now) }
-
-        // Ok: it was a step of the broker, and the store holds what is stored after it.
-        ensures step { IfOk result (λ out. IsAnswered self.old.limits self.old.broker moment
-            (Input line (Pubrel ack.now)) out self.new.broker) }
-        ensures stored { OnOk result ((self.new.stopped ≡ false)
-            × K.holds self.new.keep self.new.broker.records) }
-        ensures limits { self.new.limits ≡ self.old.limits }
-
-        // Otherwise nothing changed here, and in the store only where it failed.
-        ensures err { OnErr result (self.new.broker ≡ self.old.broker) }
-        ensures memory { IsErrOf result EngineError.Memory → (self.new.stopped ≡ false)
-            × K.holds self.new.keep self.old.broker.records }
-        ensures spent { IsErrOf result EngineError.Spent → (self.new ≡ self.old)
-            × SpentStep self.old.limits self.old.broker moment
-            (Input line (Pubrel ack.now)) }
-
-        // It stops where the store counted a failure, and stays stopped.
-        ensures stopped { IsErrOf result EngineError.Stopped → self.new.stopped ≡ true }
-        ensures cause { IsErrOf result EngineError.Stopped → self.old.stopped ≡ false
-            → K.counted self.new.keep ≢ K.counted self.old.keep }
-        ensures still { self.old.stopped ≡ true
-            → IsErrOf result EngineError.Stopped × (self.new ≡ self.old) }
-
-        // A crash leaves what was stored before the call or after it.
-        ensures crash { self.old.stopped ≡ false → (left : Records)
-            → K.leaves self.new.keep left
-            → IsLeftBy self.old.limits self.old.broker moment
-            (Input line (Pubrel ack.now)) left }
-    {
-        if self.stopped {
-            return Err(EngineError::Stopped);
-        }
-        let done = release_at(&mut self.step, line, birth, ack, moment);
-        let answer = finish(&mut self.keep, &mut self.step, done, false);
-        self.stopped = has_failed(&answer);
-        answer
     }
 }

@@ -1,8 +1,11 @@
 //! A call comes to its end: the store is told, and only then it is answered; or nothing is done (MQTT 5.0, 4.1).
-ghost use Rattle.std.specs.Prelude.{◌≡◌, ◌≢◌, ℕ, Ok, IfOk, OnOk, OnErr, IsErrOf};
+ghost use Rattle.std.specs.Prelude.{◌≡◌, ◌≢◌, ◌⊎◌, ℕ, false, Ok, IfOk, OnOk, OnErr, IsErrOf};
 ghost use Rattle.mqtt_records.specs.declared.records.Records.{Records};
+ghost use Rattle.mqtt_records.specs.Records.{FitAll};
+ghost use Rattle.mqtt_router.specs.Indexing.{Serves};
 ghost use Rattle.mqtt_rules.specs.Contents.{TakesLawful};
-ghost use Rattle.mqtt_rules.specs.Step.{Call, SpentStep};
+ghost use Rattle.mqtt_rules.specs.Routing.{subscribers};
+ghost use Rattle.mqtt_rules.specs.Step.{Call, SpentStep, is_spent};
 ghost use Rattle.mqtt_tables.specs.Stepping.{at_rest};
 ghost use Rattle.mqtt_tables.specs.declared.fault.StepFault.TheVariants.{Spent};
 ghost use Rattle.mqtt_engine.specs.Calling.{IsAnswered, IsLeftBy};
@@ -11,7 +14,8 @@ ghost use Rattle.mqtt_calls.specs.Sound.{IsSound};
 
 use crate::outcome::{Outcome, answered};
 use mqtt_records::Keep;
-use mqtt_tables::{EngineError, Step, StepFault, commit};
+use mqtt_router::Index;
+use mqtt_tables::{EngineError, Outcome as StepOutcome, Step, StepFault, commit};
 
 /// The number of a fault stays.
 fn refusal(fault: StepFault) -> EngineError
@@ -24,12 +28,58 @@ fn refusal(fault: StepFault) -> EngineError
     }
 }
 
+/// The index goes along with the rows of a step, and the store is told of them. Where one of them refuses the step is
+/// taken back, and the index says nothing any more.
+fn tell<K: Keep>(
+    keep: &mut K,
+    step: &mut Step,
+    index: &mut Index,
+    is_stale: &mut bool,
+) -> Result<StepOutcome, EngineError>
+    requires loaded { K.is_loaded keep.old }
+    requires holds { K.holds keep.old step.old.start.records }
+    requires fit { is_spent step.old.rows ≡ false → FitAll step.old.rows step.old.start.records }
+    requires serves { is_stale.old ≡ false → Serves index.old.sessions (subscribers step.old.start.records) }
+    ensures unspent { is_spent step.old.rows ≡ false }
+    ensures outputs { IfOk result (λ out. out.outputs.items ≡ step.old.outputs) }
+    ensures closed { IfOk result (λ out. out.closed.items ≡ step.old.closed) }
+    ensures reports { IfOk result (λ out. out.reports.items ≡ step.old.reports) }
+    ensures done { OnOk result (step.new ≡ at_rest step.old.limits step.old.broker) }
+    ensures stored { OnOk result (K.is_loaded keep.new × K.holds keep.new step.old.broker.records) }
+    ensures same { OnErr result (step.new ≡ at_rest step.old.limits step.old.start) }
+    ensures memory { IsErrOf result EngineError.Memory
+        → K.is_loaded keep.new × K.holds keep.new step.old.start.records }
+    ensures spent { IsErrOf result EngineError.Spent → ⊥ }
+    ensures cause { IsErrOf result EngineError.Stopped → K.counted keep.new ≢ K.counted keep.old }
+    ensures crash { (left : Records) → K.leaves keep.new left
+        → (left ≡ step.old.start.records) ⊎ (left ≡ step.old.broker.records) }
+    ensures serves { is_stale.new ≡ false → Serves index.new.sessions (subscribers step.new.broker.records) }
+{
+    if index.follow_all(step.rows()).is_err() {
+        *is_stale = true;
+        step.take_back();
+        return Err(EngineError::Memory);
+    }
+    let told = commit(keep, step);
+    if told.is_err() {
+        *is_stale = true;
+    }
+    told
+}
+
 /// A step that did the deeds of a call is stored with its moment, and then answered.
-fn store<K: Keep>(keep: &mut K, step: &mut Step, again: bool) -> Result<Outcome, EngineError>
+fn store<K: Keep>(
+    keep: &mut K,
+    step: &mut Step,
+    index: &mut Index,
+    is_stale: &mut bool,
+    again: bool,
+) -> Result<Outcome, EngineError>
     requires loaded { K.is_loaded keep.old }
     requires holds { K.holds keep.old step.old.start.records }
     requires sound { IsSound step.old.limits step.old.start }
     requires called { (now : ℕ) × (call : Call) × DidCall now call again step.old }
+    requires serves { is_stale.old ≡ false → Serves index.old.sessions (subscribers step.old.start.records) }
     ensures step { (now : ℕ) (call : Call) → DidCall now call again step.old
         → IfOk result (λ out. IsAnswered step.old.limits step.old.start now call out step.new.broker) }
     ensures rest { step.new ≡ at_rest step.old.limits step.new.broker }
@@ -43,9 +93,10 @@ fn store<K: Keep>(keep: &mut K, step: &mut Step, again: bool) -> Result<Outcome,
     ensures crash { (now : ℕ) (call : Call) → DidCall now call again step.old
         → (left : Records) → K.leaves keep.new left
         → IsLeftBy step.old.limits step.old.start now call left }
+    ensures serves { is_stale.new ≡ false → Serves index.new.sessions (subscribers step.new.broker.records) }
 {
     match step.stamp() {
-        Ok(()) => match commit(keep, step) {
+        Ok(()) => match tell(keep, step, index, is_stale) {
             Ok(told) => Ok(answered(told, again)),
             Err(error) => Err(error),
         },
@@ -62,6 +113,8 @@ fn store<K: Keep>(keep: &mut K, step: &mut Step, again: bool) -> Result<Outcome,
 pub fn finish<K: Keep>(
     keep: &mut K,
     step: &mut Step,
+    index: &mut Index,
+    is_stale: &mut bool,
     done: Result<(), StepFault>,
     again: bool,
 ) -> Result<Outcome, EngineError>
@@ -70,6 +123,7 @@ pub fn finish<K: Keep>(
     requires sound { IsSound step.old.limits step.old.start }
     requires called { (now : ℕ) × (call : Call) × TakesLawful call
         × IsCalled now call again done step.old }
+    requires serves { is_stale.old ≡ false → Serves index.old.sessions (subscribers step.old.start.records) }
 
     // Ok: it was a step of the broker, and the store holds what is stored after it.
     ensures step { (now : ℕ) (call : Call) → IsCalled now call again done step.old
@@ -94,9 +148,12 @@ pub fn finish<K: Keep>(
     ensures crash { (now : ℕ) (call : Call) → IsCalled now call again done step.old
         → (left : Records) → K.leaves keep.new left
         → IsLeftBy step.old.limits step.old.start now call left }
+
+    // The index is that of the subscriptions that stand, or is to be made anew.
+    ensures serves { is_stale.new ≡ false → Serves index.new.sessions (subscribers step.new.broker.records) }
 {
     match done {
-        Ok(()) => store(keep, step, again),
+        Ok(()) => store(keep, step, index, is_stale, again),
         Err(fault) => {
             step.take_back();
             Err(refusal(fault))

@@ -2,10 +2,12 @@
 //! step leaves (MQTT 5.0, 4.1). Private: not all packets are answered yet.
 #![tactic(auto)]
 
+mod calling;
 mod engine;
 mod finishing;
 mod framing;
 mod holding;
+mod indexing;
 mod outcome;
 
 pub use engine::Engine;
