@@ -3,5 +3,4 @@ pub mod SoundLaw
 pub mod Called
 pub mod CallActs
 pub mod Linked
-pub mod Framings
 pub mod Holders

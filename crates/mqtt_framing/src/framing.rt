@@ -1,24 +1,23 @@
 //! What a line holds: the bytes that came on it and were not answered yet (MQTT 5.0, 2.1, 4.13).
-ghost use Rattle.std.specs.Prelude.{◌≡◌, ◌≤◌, length, IfOk, IfErr, IfSome, IfNone, OnOk, OnErr};
+ghost use Rattle.std.specs.Prelude.{◌≡◌, ◌≤◌, length, IfOk, IfSome, IfNone, OnOk, OnErr};
 ghost use Rattle.mqtt_packet.specs.Front.{first_of};
 ghost use Rattle.mqtt_packet.specs.Stream.{after};
 ghost use Rattle.mqtt_rules.specs.Piece.{bytes_taken, fed, is_whole, without_first};
 
 use mqtt_codec::Fault;
 use mqtt_packet::Framer;
-use mqtt_tables::EngineError;
+use std::alloc::AllocError;
 
-/// Takes as many bytes of a piece as fit, and none behind a fault. `Memory` (1) alone refuses, and takes none.
+/// Takes as many bytes of a piece as fit, and none behind a fault. Want of memory alone refuses, and takes none.
 #[tactic(auto, using(crate::proofs::Framings::none_taken, crate::proofs::Framings::nothing_fed))]
-pub fn take(framer: &mut Framer, piece: &[u8]) -> Result<usize, EngineError>
+pub(crate) fn take(framer: &mut Framer, piece: &[u8]) -> Result<usize, AllocError>
     ensures taken { IfOk result (λ count. count ≡ bytes_taken framer.old.held piece.now) }
     ensures ok { OnOk result (framer.new ≡ fed piece.now framer.old) }
-    ensures fault { IfErr result (λ error. error ≡ EngineError.Memory) }
     ensures err { OnErr result (framer.new ≡ framer.old) }
 {
     match framer.feed(piece) {
         Ok(count) => Ok(count),
-        Err((Fault::Memory, _)) => Err(EngineError::Memory),
+        Err((Fault::Memory, _)) => Err(AllocError),
         Err((Fault::Malformed | Fault::Protocol | Fault::TooLarge | Fault::Version, _)) => Ok(0),
     }
 }
@@ -37,7 +36,7 @@ fn first_size(framer: &Framer) -> Option<usize>
 }
 
 /// The packet that is answered is held no longer. Takes no memory.
-pub fn drop_first(framer: &mut Framer)
+pub(crate) fn drop_first(framer: &mut Framer)
     ensures { framer.new ≡ without_first framer.old }
 {
     match first_size(framer) {
@@ -48,7 +47,7 @@ pub fn drop_first(framer: &mut Framer)
 
 /// Whether a packet, or a fault, is whole. Takes no memory.
 #[tactic(auto, using(crate::proofs::Framings::whole_is))]
-pub fn is_whole(framer: &Framer) -> bool
+pub(crate) fn is_whole(framer: &Framer) -> bool
     ensures { result ≡ is_whole (first_of framer.now.held) }
 {
     match framer.look_sized() {
