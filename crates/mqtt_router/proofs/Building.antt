@@ -18,7 +18,7 @@ use Rattle.mqtt_tables.specs.Subscribing.{filter_of, HasEachFilterOnce}
 use Rattle.mqtt_tables.proofs.Filters.{text_is}
 use Rattle.mqtt_router.specs.Following.{CanBeIndexed, given, given_all}
 use Rattle.mqtt_router.specs.Indexing.{Serves}
-use Rattle.mqtt_router.proofs.Following.{serves_of}
+use Rattle.mqtt_router.proofs.Along.{serves_of}
 use Rattle.mqtt_router.proofs.Granting.{routed_all}
 use Rattle.mqtt_router.proofs.Standing.{order_some, some_twice}
 use Rattle.mqtt_router.proofs.Subscribers.{subscribers_of, births_in_order}

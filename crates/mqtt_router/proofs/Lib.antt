@@ -5,7 +5,7 @@ pub mod Serving
 pub mod Standing
 pub mod Granting
 pub mod Subscribers
-pub mod Following
+pub mod Along
 pub mod Building
 pub mod Granted
 pub mod Followed

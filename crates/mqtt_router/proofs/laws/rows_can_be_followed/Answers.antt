@@ -1,5 +1,5 @@
 use Rattle.mqtt_router.proofs.Followed.{step_followed, opening_followed, indexed_of, indexed_lawful}
-use Rattle.mqtt_router.proofs.Following.{indexed_all}
+use Rattle.mqtt_router.proofs.Along.{indexed_all}
 use Rattle.mqtt_router.proofs.laws.rows_can_be_followed.Goals as goal
 
 pub returns-clause-step : goal.returns-clause-step
