@@ -162,9 +162,9 @@ grant_well env w s b k there its fit =
     let coherent = all_at birth_of (IsCoherentSession r.autos r.subscribes) s.birth s r.sessions k.0.sessions there in
     let granted : (t : Session) → session_at s.birth r ≡ Some t → IsGranted (sub.subscription (sub.next_number r) s w) t =
     λ t here.
-        let same : Some s ≡ Some t = sym there ∙ here in
-        let is : s ≡ t = cc in
-        subst (λ (u : Session). IsGranted (sub.subscription (sub.next_number r) s w) u) is (granted_is r.subscribes s w r.autos coherent (fit.1.0 s there).0.1) in
+    let same : Some s ≡ Some t = sym there ∙ here in
+    let is : s ≡ t = cc in
+    subst (λ (u : Session). IsGranted (sub.subscription (sub.next_number r) s w) u) is (granted_is r.subscribes s w r.autos coherent (fit.1.0 s there).0.1) in
     let queued = filter is_queued (brought_to w s b) in
     (tt, ((granted, its), deliveries_well env queued (after_all (Count (sub.next_number r) ∷ At (whose s) (told.Subscribe (sub.subscription (sub.next_number r) s w)) ∷ []) b)))
 

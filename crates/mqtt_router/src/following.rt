@@ -1,6 +1,6 @@
 //! The index goes along with the rows of a step, and is built anew from all sessions (MQTT 5.0, 3.1.2.11.2, 3.8.4,
 //! 3.10.4).
-ghost use Rattle.std.specs.Prelude.{◌≡◌, [], OnOk, IfOk, IfErr};
+ghost use Rattle.std.specs.Prelude.{◌≡◌, OnOk, OnErr, IfOk, IfErr};
 ghost use Rattle.mqtt_records.specs.Records.{changed, changed_all};
 ghost use Rattle.mqtt_records.specs.declared.records.Records.{Records};
 ghost use Rattle.mqtt_routes.specs.Subscriptions.{subscribed};
@@ -38,6 +38,7 @@ impl Index {
     fn put(&mut self, birth: u64, subscription: &Subscription) -> Result<(), StepFault>
         ensures put { OnOk result (self.new.sessions
             ≡ subscribed birth (routed_subscription subscription.now) self.old.sessions) }
+        ensures same { OnErr result (self.new.sessions ≡ self.old.sessions) }
         ensures fault { IfErr result (λ fault. fault ≡ StepFault.Memory) }
     {
         let subscription = routed(subscription)?;
@@ -50,6 +51,7 @@ impl Index {
     /// What a row says of subscriptions.
     fn go_along(&mut self, change: &Change) -> Result<(), StepFault>
         ensures followed { OnOk result (self.new.sessions ≡ followed change.now self.old.sessions) }
+        ensures same { OnErr result (self.new.sessions ≡ self.old.sessions) }
         ensures fault { IfErr result (λ fault. fault ≡ StepFault.Memory) }
     {
         match change {
@@ -82,11 +84,12 @@ impl Index {
 
     /// The index goes along with a row that is written: one that served what was stored before the row serves
     /// what is stored after it. A subscription that is put has to be such as a grant makes it. `Memory` (1)
-    /// alone refuses: the index may then be thrown away, and built anew by `over`.
+    /// alone refuses, and the index is then as it was.
     pub fn follow(&mut self, change: &Change) -> Result<(), StepFault>
         ensures serves { (r : Records) → CanBeIndexed r → CanBeFollowed change.now r
             → Serves self.old.sessions (subscribers r)
             → OnOk result (Serves self.new.sessions (subscribers (changed change.now r))) }
+        ensures same { OnErr result (self.new.sessions ≡ self.old.sessions) }
         ensures fault { IfErr result (λ fault. fault ≡ StepFault.Memory) }
     {
         self.go_along(change)
@@ -107,7 +110,7 @@ impl Index {
     }
 
     /// The index goes along with all rows of a step, in order. `Memory` (1) alone refuses: the index has then gone
-    /// along with some of them, and is to be thrown away.
+    /// along with some of them, and is to be thrown away and built anew by `over`.
     pub fn follow_all(&mut self, changes: &[Change]) -> Result<(), StepFault>
         ensures serves { (r : Records) → CanBeIndexed r → CanAllBeFollowed changes.now r
             → Serves self.old.sessions (subscribers r)

@@ -19,11 +19,11 @@ pub fn rows_can_be_followed()
     ensures step { (limits : Limits) (choice : MemberChoice) (now : ℕ) (call : Call) (b : Broker)
         → AreWithin limits → IsCoherent (stored b) → IsNumber b.now → TakesLawful call
         → CanAllBeFollowed
-          (rows_written (deeds limits choice now call b) (at_moment now b)) (stored b) }
+        (rows_written (deeds limits choice now call b) (at_moment now b)) (stored b) }
     ensures opening { (limits : Limits) (choice : MemberChoice) (now : ℕ) (r : Records)
         → AreWithin limits → IsCoherent r
         → CanAllBeFollowed
-          (rows_written (opening_deeds limits choice now r) (unopened now r)) r }
+        (rows_written (opening_deeds limits choice now r) (unopened now r)) r }
     ensures changed { (changes : List Change) (r : Records) → CanBeIndexed r
         → CanAllBeFollowed changes r → CanBeIndexed (changed_all changes r) }
     ensures indexed { (r : Records) → IsOrdered r → HaveFiltersOnce r → HasLawfulContents r
