@@ -1,12 +1,11 @@
 -- An index that goes along with a row serves what the row leaves.
-use Rattle.std.proofs.Common.{◌≡◌, ℕ, ◌≤◌, Bool, true, false, cond, not, List, [], ◌∷◌, length, map, Option, Some, None, nat_eq, bytes_eq, refl, ap, sym, subst, ◌∙◌, inl, inr, arith}
+use Rattle.std.proofs.Common.{◌≡◌, ℕ, ◌≤◌, Bool, true, false, cond, not, List, [], ◌∷◌, length, Option, Some, None, nat_eq, bytes_eq, refl, ap, sym, subst, ◌∙◌, arith}
 use Rattle.std.specs.Prelude.{is_some}
 use Rattle.std.specs.List.{AllByRecursion}
-use Rattle.std.proofs.lemmas.Bool.{cases_Bool}
 use Rattle.std.proofs.lemmas.List.{length-map}
 use Rattle.mqtt_base.specs.declared.limits.TheConstants.{SUBSCRIPTION_LIMIT, SESSION_LIMIT}
 use Rattle.mqtt_lawful.specs.Lawful.{IsIdentifier}
-use Rattle.mqtt_records.specs.Records.{HasSome, HasSession, changed, changed_all, in_session, put_session, with_counter}
+use Rattle.mqtt_records.specs.Records.{HasSome, changed, changed_all, in_session, put_session, with_counter}
 use Rattle.mqtt_records.specs.Session.{birth_of, place_of, fresh, with_columns, with_will, without_filter, with_subscription, without_subscription, with_open, without_open, with_copy, with_phase, without_copy}
 use Rattle.mqtt_records.specs.declared.change.Change.{Change}
 use Rattle.mqtt_records.specs.declared.change.Change.TheVariants.{SetCounter, PutSession, SetSession, RemoveSession, PutWill, RemoveWill, PutSubscription, RemoveSubscription, PutInbound, RemoveInbound, PutCopy, SetCopy, RemoveCopy, PutRetained, RemoveRetained}
@@ -17,10 +16,10 @@ use Rattle.mqtt_records.specs.declared.session.Columns.{Columns}
 use Rattle.mqtt_records.specs.declared.session.Session.{Session}
 use Rattle.mqtt_records.specs.declared.subscription.Subscription.{Subscription}
 use Rattle.mqtt_routes.specs.declared.subscription.Subscription.{Subscription as RoutedSubscription}
-use Rattle.mqtt_routes.specs.Subscriptions.{Subscriber, AreInOrder, beside, put, subs_of, subscribed, unsubscribed, with_some, with_subs, without_session}
+use Rattle.mqtt_routes.specs.Subscriptions.{Subscriber, AreInOrder, beside, put, subs_of, subscribed, with_some, with_subs, without_session}
 use Rattle.mqtt_routes.proofs.SomeLemmas.{some_dropped}
 use Rattle.mqtt_routes.proofs.SpotLemmas.{order-with_subs, order-unsubscribed, order-without_session}
-use Rattle.mqtt_rows.specs.Order.{IsAscending, row_at, has_row, put_row, change_row}
+use Rattle.mqtt_rows.specs.Order.{row_at, has_row, put_row, change_row}
 use Rattle.mqtt_rules.specs.Laws.{HasTables}
 use Rattle.mqtt_rules.specs.Routing.{routed_subscription, subscribers}
 use Rattle.mqtt_rules.proofs.Copies.{each_filter}

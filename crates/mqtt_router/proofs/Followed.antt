@@ -1,7 +1,5 @@
 -- The rows of every step and opening can be followed, and records that may be opened can be indexed.
-use Rattle.std.proofs.Common.{◌≡◌, ℕ, ◌≤◌, List, [], ◌∷◌, ◌++◌, Option, Some, None, refl, sym, subst}
-use Rattle.std.specs.Prelude.{⊤}
-use Rattle.std.specs.List.{AllByRecursion}
+use Rattle.std.proofs.Common.{◌≡◌, ℕ, List, [], ◌∷◌, ◌++◌, Option, Some, None, refl, sym, subst}
 use Rattle.std.proofs.Math.Nat.{max-le, min-le_right}
 use Rattle.mqtt_base.specs.declared.limits.TheConstants.{LAST_NUMBER}
 use Rattle.mqtt_lawful.specs.Lawful.{IsIdentifier, IsLawful, IsLawfulSession, last_of}
@@ -19,14 +17,14 @@ use Rattle.mqtt_rules.specs.declared.Limits.{Limits}
 use Rattle.mqtt_rules.specs.Deeds.{Whose, Part, Resume, Close, SetExpiry, DropWill, Subscribe, Unsubscribe, Open, Release, Enter, Mark, Leave, Deed, Accept, Begin, Name, Count, At, Finish, Keep, Forget, RefuseWill, Link, On, Send, Gone, will_row, part_rows, part_rows_of, rows_of, rows_of_all, stored_after, after}
 use Rattle.mqtt_rules.specs.Laws.{AreWithin, IsCoherent, IsOrdered}
 use Rattle.mqtt_rules.specs.State.{Broker, MemberChoice, session_at, stored}
-use Rattle.mqtt_rules.specs.Step.{Call, at_moment, deeds, env_of, opening, opening_deeds, rows_written, stamped, unopened}
+use Rattle.mqtt_rules.specs.Step.{Call, at_moment, deeds, env_of, opening_deeds, rows_written, stamped, unopened}
 use Rattle.mqtt_rules.proofs.Copies.{each_more}
 use Rattle.mqtt_rules.proofs.FlightRows.{found_key}
 use Rattle.mqtt_rules.proofs.LawfulContents.{lawful_contents}
 use Rattle.mqtt_rules.proofs.LawfulRecords.{lawful_coherent}
 use Rattle.mqtt_rules.proofs.RowsFit.{made_of, moment_last}
 use Rattle.mqtt_tables.specs.Subscribing.{HasEachFilterOnce, HaveFiltersOnce}
-use Rattle.mqtt_router.specs.Following.{HasIdentifiers, CanBeIndexed, IsGranted, CanBeFollowed, CanAllBeFollowed}
+use Rattle.mqtt_router.specs.Following.{HasIdentifiers, CanBeIndexed, IsGranted, CanAllBeFollowed}
 use Rattle.mqtt_router.proofs.Granted.{IsWell, AreWell, well_call, well_opening}
 
 -- ---- rows of deeds

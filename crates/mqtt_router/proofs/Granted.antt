@@ -1,5 +1,5 @@
 -- The deeds of every step and opening subscribe only to what a grant makes.
-use Rattle.std.proofs.Common.{◌≡◌, ℕ, ◌≤◌, Bool, true, false, cond, List, [], ◌∷◌, ◌++◌, filter, length, map, Option, Some, None, refl, ap, sym, subst, ◌∙◌, arith}
+use Rattle.std.proofs.Common.{◌≡◌, ℕ, ◌≤◌, Bool, true, false, List, [], ◌∷◌, ◌++◌, filter, length, map, Option, Some, None, refl, sym, subst, ◌∙◌, arith}
 use Rattle.std.specs.Prelude.{⊤, suc, flat_map, find, ◌<◌}
 use Rattle.std.specs.List.{AllByRecursion}
 use Rattle.mqtt_base.specs.declared.limits.TheConstants.{SUBSCRIPTION_LIMIT}
@@ -33,8 +33,7 @@ use Rattle.mqtt_rules.specs.Laws.{AreWithin, IsCoherentSession}
 use Rattle.mqtt_rules.specs.Step.{Call, NewLine, Input, BadInput, Lost, Pump, Tick, deeds_of, opening}
 use Rattle.mqtt_rules.specs.Subscribe as sub
 use Rattle.mqtt_rules.specs.Tick.{lapses, lapse_deeds}
-use Rattle.mqtt_rules.proofs.Acts.{About, closing_session, closing_on, closing, is_alone, brought_to, Finds, Law, IsAsked, IsCallOf, leads_call, leads_opening}
-use Rattle.mqtt_rules.proofs.Acts as acts
+use Rattle.mqtt_rules.proofs.Acts.{About, closing_session, closing_on, closing, is_alone, brought_to, Finds, Law, IsCallOf, leads_call, leads_opening}
 use Rattle.mqtt_rules.proofs.ByDeeds.{by_deeds, turn_law, by_deeds_shuts}
 use Rattle.mqtt_rules.proofs.Coherent.{IsFit}
 use Rattle.mqtt_rules.proofs.ContentPackets.{asked_identifier}

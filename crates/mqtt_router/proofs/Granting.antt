@@ -1,6 +1,6 @@
 -- Subscriptions of a session, as records have them and as routing has them (MQTT 5.0, 3.8.4, 3.10.4).
-use Rattle.std.proofs.Common.{◌≡◌, ℕ, ◌<◌, Bool, true, false, cond, not, ◌||◌, List, [], ◌∷◌, length, map, Option, Some, None, nat_eq, nat_lt, bytes_eq, refl, ap, sym, subst, ◌∙◌, inl, inr, arith}
-use Rattle.std.specs.Prelude.{◌≢◌, find, filter}
+use Rattle.std.proofs.Common.{◌≡◌, ℕ, ◌<◌, Bool, true, false, cond, ◌||◌, List, [], ◌∷◌, length, map, Option, Some, None, nat_eq, nat_lt, bytes_eq, refl, ap, sym, subst, ◌∙◌, inl, inr, arith}
+use Rattle.std.specs.Prelude.{◌≢◌, find}
 use Rattle.std.specs.List.{AllByRecursion, list_any}
 use Rattle.std.proofs.lemmas.Bool.{cases_Bool, lt-ltb, le-ltb}
 use Rattle.mqtt_base.specs.declared.limits.TheConstants.{SUBSCRIPTION_LIMIT}
@@ -10,14 +10,14 @@ use Rattle.mqtt_records.specs.Session.{place_of, without_filter, put_subscriptio
 use Rattle.mqtt_routes.specs.declared.subscription.Subscription.{Subscription as RoutedSubscription}
 use Rattle.mqtt_routes.specs.Subscriptions.{put, without}
 use Rattle.mqtt_rows.specs.Distinct.{AllDiffer}
-use Rattle.mqtt_rows.specs.Order.{IsAbove, IsAscending, IsBelow, row_at, has_row, insert_row}
+use Rattle.mqtt_rows.specs.Order.{IsAbove, IsAscending, IsBelow, has_row, insert_row}
 use Rattle.mqtt_rows.proofs.OrderLemmas.{apart}
 use Rattle.mqtt_rules.specs.Routing.{routed_subscription}
 use Rattle.mqtt_rules.specs.Subscribe.{is_to, place_among}
 use Rattle.mqtt_rules.specs.Subscribe as sub
 use Rattle.mqtt_rules.proofs.FlightRows.{above_found}
 use Rattle.mqtt_tables.specs.Subscribing.{filter_of}
-use Rattle.mqtt_tables.proofs.Filters.{text_is, text_same, found_row}
+use Rattle.mqtt_tables.proofs.Filters.{text_is, found_row}
 use Rattle.mqtt_router.specs.Following.{IsGranted}
 
 abbrev pub routed_all : List Subscription → List RoutedSubscription

@@ -1,13 +1,11 @@
 -- Sessions as records have them, and as routing has them, when one changes, begins or ends.
-use Rattle.std.proofs.Common.{◌≡◌, ℕ, ◌<◌, Bool, true, false, cond, ◌||◌, List, [], ◌∷◌, length, map, Option, Some, None, nat_eq, nat_lt, refl, ap, sym, subst, ◌∙◌, inl, inr, arith}
-use Rattle.std.specs.Prelude.{is_some}
+use Rattle.std.proofs.Common.{◌≡◌, ℕ, ◌<◌, Bool, true, false, cond, ◌||◌, List, [], ◌∷◌, length, map, Some, None, nat_eq, nat_lt, refl, ap, sym, subst, ◌∙◌, inl, inr, arith}
 use Rattle.std.specs.List.{AllByRecursion}
 use Rattle.std.proofs.lemmas.Bool.{cases_Bool, eqb-true, eq-eqb, lt-ltb, le-ltb, ltb-true, ltb-false}
 use Rattle.mqtt_base.specs.declared.limits.TheConstants.{SESSION_LIMIT}
 use Rattle.mqtt_records.specs.declared.session.Columns.{Columns}
 use Rattle.mqtt_records.specs.declared.session.Session.{Session}
 use Rattle.mqtt_records.specs.Session.{birth_of, fresh, without_subscription}
-use Rattle.mqtt_routes.specs.declared.subscription.Subscription.{Subscription as RoutedSubscription}
 use Rattle.mqtt_routes.specs.Subscriptions.{Subscriber, subscriber, AreAfter, AreInOrder, beside, subs_of, with_subs, with_some, without, unsubscribed, without_session}
 use Rattle.mqtt_rows.specs.Order.{IsAbove, IsAscending, row_at, has_row, insert_row, put_row, remove_row, change_row}
 use Rattle.mqtt_rows.proofs.OrderLemmas.{apart, above_less, above_none, remove-none, change-none}
