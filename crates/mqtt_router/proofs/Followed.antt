@@ -87,13 +87,16 @@ follow_stamped now (x ∷ rows) r h = follow_append (x ∷ rows) (SetCounter Mom
 
 -- ---- steps and openings
 
+pub deeds_followed : (limits : Limits) (choice : MemberChoice) (now : ℕ) (call : Call) (b : Broker) → AreWithin limits → IsCoherent (stored b) → IsNumber b.now → TakesLawful call
+    → CanAllBeFollowed (rows_of_all (deeds limits choice now call b) (stored b)) (stored b)
+deeds_followed limits choice now call b within h last taken =
+    let c = at_moment now b in
+    follow_deeds (deeds limits choice now call b) c (well_call (env_of limits choice b) within call c (made_of b.records h, moment_last b now last) taken)
+
 pub step_followed : (limits : Limits) (choice : MemberChoice) (now : ℕ) (call : Call) (b : Broker) → AreWithin limits → IsCoherent (stored b) → IsNumber b.now → TakesLawful call
     → CanAllBeFollowed (rows_written (deeds limits choice now call b) (at_moment now b)) (stored b)
 step_followed limits choice now call b within h last taken =
-    let c = at_moment now b in
-    let ds = deeds limits choice now call b in
-    follow_stamped c.now (rows_of_all ds c.records) c.records
-    (follow_deeds ds c (well_call (env_of limits choice b) within call c (made_of b.records h, moment_last b now last) taken))
+    follow_stamped (at_moment now b).now (rows_of_all (deeds limits choice now call b) (stored b)) (stored b) (deeds_followed limits choice now call b within h last taken)
 
 opening_last : (r : Records) (now : ℕ) → IsNumber (unopened now r).now
 opening_last r now = max-le (min-le_right r.moment LAST_NUMBER) (min-le_right now LAST_NUMBER)

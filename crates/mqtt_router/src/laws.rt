@@ -5,6 +5,7 @@ ghost use Rattle.mqtt_records.specs.Records.{IsNumber, changed_all};
 ghost use Rattle.mqtt_records.specs.declared.change.Change.{Change};
 ghost use Rattle.mqtt_records.specs.declared.records.Records.{Records};
 ghost use Rattle.mqtt_rules.specs.Contents.{HasLawfulContents, TakesLawful};
+ghost use Rattle.mqtt_rules.specs.Deeds.{rows_of_all};
 ghost use Rattle.mqtt_rules.specs.Laws.{AreWithin, IsCoherent, IsOrdered};
 ghost use Rattle.mqtt_rules.specs.State.{Broker, MemberChoice, stored};
 ghost use Rattle.mqtt_rules.specs.Step.{Call, at_moment, deeds, opening_deeds, rows_written, unopened};
@@ -16,6 +17,11 @@ ghost use Rattle.mqtt_router.specs.Following.{CanAllBeFollowed, CanBeIndexed};
 /// subscription that they put has room, keeps its place or comes last, and its Subscription Identifier has a
 /// spelling. Records that a store may be opened with can be indexed, and so can what such rows make of them.
 pub fn rows_can_be_followed()
+    ensures deeds { (limits : Limits) (choice : MemberChoice) (now : ℕ) (call : Call) (b : Broker)
+        → AreWithin limits → IsCoherent (stored b) → IsNumber b.now → TakesLawful call
+        → CanAllBeFollowed (rows_of_all (deeds limits choice now call b) (stored b)) (stored b) }
+
+    // With the row of its moment.
     ensures step { (limits : Limits) (choice : MemberChoice) (now : ℕ) (call : Call) (b : Broker)
         → AreWithin limits → IsCoherent (stored b) → IsNumber b.now → TakesLawful call
         → CanAllBeFollowed

@@ -1,6 +1,9 @@
-use Rattle.mqtt_router.proofs.Followed.{step_followed, opening_followed, indexed_of, indexed_lawful}
+use Rattle.mqtt_router.proofs.Followed.{deeds_followed, step_followed, opening_followed, indexed_of, indexed_lawful}
 use Rattle.mqtt_router.proofs.Along.{indexed_all}
 use Rattle.mqtt_router.proofs.laws.rows_can_be_followed.Goals as goal
+
+pub returns-clause-deeds : goal.returns-clause-deeds
+returns-clause-deeds c = deeds_followed
 
 pub returns-clause-step : goal.returns-clause-step
 returns-clause-step c = step_followed
