@@ -1,13 +1,15 @@
 //! The laws of what a step makes of the rows (4.1).
-ghost use Rattle.std.specs.Prelude.{[]};
-ghost use Rattle.mqtt_records.specs.Records.{changed_all};
+ghost use Rattle.mqtt_records.specs.Records.{changed, kept_place};
+ghost use Rattle.mqtt_records.specs.declared.change.Change.{Change};
 ghost use Rattle.mqtt_records.specs.declared.records.Records.{Records};
-ghost use Rattle.sqlite_trees.specs.Tree.{Trees};
-ghost use Rattle.mqtt_sql_kept.specs.Written.{KeepsRows};
-ghost use Rattle.mqtt_sql_kept.specs.Steps.{AreStatementsFor};
+ghost use Rattle.mqtt_rows.specs.Order.{IsAscending};
+ghost use Rattle.mqtt_sql_members.specs.Members.{AllOrdered};
 
-/// A step without changes has no statements, and the rows are those of the same records.
-pub fn no_step_changes_nothing()
-    ensures { (db : Trees) (r : Records)
-        → AreStatementsFor [] [] × (KeepsRows db r → KeepsRows db (changed_all [] r)) }
+/// A change leaves the lists of records in the order of their keys.
+pub fn change_keeps_order()
+    ensures sessions { (change : Change) (r : Records)
+        → AllOrdered r → AllOrdered (changed change r) }
+    ensures retained { (change : Change) (r : Records)
+        → IsAscending kept_place r.retained
+        → IsAscending kept_place (changed change r).retained }
 {}

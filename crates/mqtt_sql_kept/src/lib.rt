@@ -3,4 +3,4 @@
 
 mod laws;
 
-pub use laws::no_step_changes_nothing;
+pub use laws::change_keeps_order;
