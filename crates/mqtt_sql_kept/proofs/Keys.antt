@@ -6,6 +6,7 @@ use Rattle.std.specs.Cmp.{int_ranks}
 use Rattle.std.proofs.lemmas.Bool.{false_from_ne_true}
 use Rattle.std.proofs.lemmas.Cmp.{tied_itself}
 use Rattle.std.proofs.lemmas.Map.Text.{is_eq-slice_cmp}
+use Rattle.sqlite_value.specs.declared.value.Value.{Value}
 use Rattle.sqlite_value.specs.declared.value.Value.TheVariants.{Int, Text}
 use Rattle.sqlite_value.specs.declared.keys.Collation.TheVariants.{Binary}
 use Rattle.sqlite_value.specs.Order.{Row, column, value_cmp}
@@ -77,3 +78,10 @@ module _ (b birth : ℕ) (s t : List ℕ) (r : Row) (at_birth : column r 1 ≡ I
 
   pub missed_filter : is_subscription (pos birth) t r ≡ false → b ≡ birth → bytes_eq s t ≡ false
   missed_filter missed same = sym (is_text_bytes 2 s t r at_text) ∙ and_missed _ _ missed (number_found 1 b birth r at_birth same)
+
+abbrev number_of : Value → ℕ
+number_of (Int n) = whole n
+number_of _ = zero
+
+pub same_number : {m n : ℕ} → ◌≡◌ {A = Value} (Int (pos m)) (Int (pos n)) → m ≡ n
+same_number h = ap number_of h

@@ -2,3 +2,12 @@ pub mod Keys
 pub mod Tables
 pub mod Parts
 pub mod Ordered
+pub mod Trees
+pub mod Edited
+pub mod Kept
+pub mod Single
+pub mod Wills
+pub mod Subscriptions
+pub mod Inbound
+pub mod Copies
+pub mod CopySet
