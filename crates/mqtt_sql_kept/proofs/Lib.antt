@@ -11,3 +11,7 @@ pub mod Subscriptions
 pub mod Inbound
 pub mod Copies
 pub mod CopySet
+pub mod Retained
+pub mod Numbers
+pub mod Sessions
+pub mod EndedSession
