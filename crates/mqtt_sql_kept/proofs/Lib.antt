@@ -15,3 +15,4 @@ pub mod Retained
 pub mod Numbers
 pub mod Sessions
 pub mod EndedSession
+pub mod Statements
