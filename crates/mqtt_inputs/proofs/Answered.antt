@@ -1,5 +1,5 @@
 -- What acts make of a step is what packets do: PUBLISH, a receiver's answers, and those that drop their line.
-use Rattle.std.proofs.Common.{◌≡◌, ℕ, true, refl, ap, sym, subst, ◌∙◌}
+use Rattle.std.proofs.Common.{◌≡◌, ◌≢◌, ℕ, true, refl, ap, sym, subst, ◌∙◌}
 use Rattle.std.specs.Prelude.{Option, Some, None}
 use Rattle.mqtt_base.specs.Codes.{protocol_error, receive_maximum_exceeded}
 use Rattle.mqtt_codec.specs.declared.ack.Ack.{Ack}
@@ -7,6 +7,8 @@ use Rattle.mqtt_codec.specs.declared.notice.Notice.{Notice}
 use Rattle.mqtt_codec.specs.declared.packet.Packet.{Packet}
 use Rattle.mqtt_codec.specs.declared.packet.Packet.TheVariants.{Connect, Connack, Publish, Puback, Pubrec, Pubrel, Pubcomp, Subscribe, Suback, Unsubscribe, Unsuback, Pingreq, Pingresp, Disconnect, Auth}
 use Rattle.mqtt_codec.specs.declared.publish.Publish.{Publish as Publication}
+use Rattle.mqtt_subscribe.specs.declared.subscribe.Subscribe.{Subscribe as Asking}
+use Rattle.mqtt_subscribe.specs.declared.unsubscribe.Unsubscribe.{Unsubscribe as Giving}
 use Rattle.mqtt_props.specs.declared.table.PropName.TheVariants.{SessionExpiryInterval}
 use Rattle.mqtt_records.specs.declared.records.Records.{Records}
 use Rattle.mqtt_records.specs.declared.session.Session.{Session}
@@ -143,3 +145,23 @@ module _ (line birth : ℕ) (s : Stepping) (h : OnLine line birth s.broker) wher
       left_next line birth packet fault s new h
       (same_some_left (λ env. drop_line env protocol_error h.l) (λ env. next_packet env h.l packet h.x) fault s new
       (λ choice. stray_is packet (env_in choice s) h.l h.x s.broker stray) left)
+
+-- a packet that is none of those that a connected client may send
+pub other_stray : (packet : Packet) → ((p : Publication) → packet ≢ Publish p) → ((a : Ack) → packet ≢ Puback a) → ((a : Ack) → packet ≢ Pubrec a) → ((a : Ack) → packet ≢ Pubrel a)
+    → ((a : Ack) → packet ≢ Pubcomp a) → ((p : Asking) → packet ≢ Subscribe p) → ((p : Giving) → packet ≢ Unsubscribe p)
+    → packet ≢ Pingreq → ((n : Notice) → packet ≢ Disconnect n) → is_stray packet ≡ true
+other_stray (Connect c) n1 n2 n3 n4 n5 n6 n7 n8 n9 = refl
+other_stray (Connack c) n1 n2 n3 n4 n5 n6 n7 n8 n9 = refl
+other_stray (Publish p) n1 n2 n3 n4 n5 n6 n7 n8 n9 = absurd (n1 p refl)
+other_stray (Puback a) n1 n2 n3 n4 n5 n6 n7 n8 n9 = absurd (n2 a refl)
+other_stray (Pubrec a) n1 n2 n3 n4 n5 n6 n7 n8 n9 = absurd (n3 a refl)
+other_stray (Pubrel a) n1 n2 n3 n4 n5 n6 n7 n8 n9 = absurd (n4 a refl)
+other_stray (Pubcomp a) n1 n2 n3 n4 n5 n6 n7 n8 n9 = absurd (n5 a refl)
+other_stray (Subscribe p) n1 n2 n3 n4 n5 n6 n7 n8 n9 = absurd (n6 p refl)
+other_stray (Suback c) n1 n2 n3 n4 n5 n6 n7 n8 n9 = refl
+other_stray (Unsubscribe p) n1 n2 n3 n4 n5 n6 n7 n8 n9 = absurd (n7 p refl)
+other_stray (Unsuback c) n1 n2 n3 n4 n5 n6 n7 n8 n9 = refl
+other_stray Pingreq n1 n2 n3 n4 n5 n6 n7 n8 n9 = absurd (n8 refl)
+other_stray Pingresp n1 n2 n3 n4 n5 n6 n7 n8 n9 = refl
+other_stray (Disconnect n) n1 n2 n3 n4 n5 n6 n7 n8 n9 = absurd (n9 n refl)
+other_stray (Auth n) n1 n2 n3 n4 n5 n6 n7 n8 n9 = refl

@@ -6,12 +6,15 @@ use Rattle.mqtt_codec.specs.declared.packet.Packet.TheVariants.{Connect, Connack
 use Rattle.mqtt_codec.specs.declared.publish.Publish.{Publish as Publication}
 use Rattle.mqtt_inbound.specs.declared.inflow.Published.{Published}
 use Rattle.mqtt_inbound.specs.declared.inflow.Published.TheVariants.{New, Again, Over}
+use Rattle.mqtt_inbound.specs.declared.inflow.ReleaseAnswer.{ReleaseAnswer}
+use Rattle.mqtt_inbound.specs.declared.inflow.ReleaseAnswer.TheVariants.{Known, Unknown}
+use Rattle.mqtt_inbound.specs.Inbound.{answer_to_release}
 use Rattle.mqtt_flow.specs.Outbound.{Answer, puback, pubcomp, pubrec}
 use Rattle.mqtt_props.specs.declared.table.PropName.TheVariants.{SessionExpiryInterval, TopicAlias}
 use Rattle.mqtt_records.specs.declared.session.Session.{Session}
 use Rattle.mqtt_topic.specs.Names.{is_empty}
 use Rattle.mqtt_rules.specs.Deeds.{Act, Hear, Message, On, after_all, always, series, then, with_line, with_session}
-use Rattle.mqtt_rules.specs.Inbound.{Meaning, Means, Wrong, is_late_expiry, leave_by, meaning, message_of, on_answer, on_publish, publish_by, publish_meant, publish_new, sets_alias, standing}
+use Rattle.mqtt_rules.specs.Inbound.{Meaning, Means, Wrong, is_late_expiry, leave_by, meaning, message_of, on_answer, on_publish, publish_by, publish_meant, publish_new, release_by, sets_alias, standing}
 use Rattle.mqtt_rules.specs.Packets.{number_at}
 use Rattle.mqtt_rules.specs.Routing.{CopyTo, accepted_copies}
 use Rattle.mqtt_rules.specs.State.{Broker, Env, Line, line_at, queue_on, session_at}
@@ -53,11 +56,15 @@ leave_alike : (late : Bool) (env : Env) (l : Line) (n : ℕ) (s : Session) (code
 leave_alike true env l n s code expiry b = refl
 leave_alike false env l n s code expiry b = refl
 
+release_alike : (answer : ReleaseAnswer) (l : Line) (n : ℕ) (s : Session) (id : ℕ) → release_by answer (at n l) s id ≡ release_by answer l s id
+release_alike Known l n s id = refl
+release_alike Unknown l n s id = refl
+
 next_alike : (packet : Packet) (env : Env) (l : Line) (n : ℕ) (s : Session) (b : Broker) → next_packet env (at n l) packet s b ≡ next_packet env l packet s b
 next_alike (Publish p) env l n s b = meant_alike (meaning p l.aliases) env l n s p b
 next_alike (Puback a) env l n s b = answer_alike (puback a.identifier a.reason.0 (queue_on l.went s)) env l n s b
 next_alike (Pubrec a) env l n s b = answer_alike (pubrec a.identifier a.reason.0 (queue_on l.went s)) env l n s b
-next_alike (Pubrel a) env l n s b = refl
+next_alike (Pubrel a) env l n s b = release_alike (answer_to_release a.identifier s.inbound) l n s a.identifier
 next_alike (Pubcomp a) env l n s b = answer_alike (pubcomp a.identifier (queue_on l.went s)) env l n s b
 next_alike (Subscribe p) env l n s b = refl
 next_alike (Unsubscribe p) env l n s b = refl

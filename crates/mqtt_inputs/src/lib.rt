@@ -2,9 +2,9 @@
 #![tactic(auto)]
 
 mod answers;
-mod input;
+mod calling;
 mod leaving;
 mod publishing;
 mod quiet;
 
-pub use input::input;
+pub use calling::input;
