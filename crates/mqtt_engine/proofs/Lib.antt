@@ -1,6 +1,3 @@
-pub mod Flights
-pub mod SoundLaw
 pub mod Called
-pub mod CallActs
 pub mod Linked
 pub mod Holders
