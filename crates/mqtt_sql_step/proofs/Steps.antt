@@ -12,6 +12,7 @@ use Rattle.sqlite.specs.Steps.{FailsToCommit}
 use Rattle.mqtt_sql_schema.specs.Tables.{keep_schema}
 use Rattle.mqtt_sql_write.specs.Content.{AreShaped, IsShapedAt, IsReady, IsWhole}
 use Rattle.mqtt_sql_write.specs.Copy.{CopyColumns, copy_row, SetsCopy}
+use Rattle.mqtt_sql_write.specs.Numbers.{number_row, SetsNumber}
 use Rattle.mqtt_sql_write.proofs.RemovesSession.{not_tree}
 use Rattle.mqtt_sql_step.specs.declared.statement.Statement.{Statement}
 use Rattle.mqtt_sql_step.specs.Step.{AskAll, IsSettled}
@@ -44,6 +45,15 @@ module _ (old new : State) (r : Result ℕ Error) (whole : IsWhole old) where
     on_ok (SetsCopy birth place phase pid rel id c old.now.trees new.now.trees) ((id : ℤ) × (c : CopyColumns) × Has (old.now.trees 9) (Int id ∷ copy_row birth place c) × SetsCopy birth place phase pid rel id c old.now.trees new.now.trees) r (λ x. (id, c, there, x)) h.0,
     on_both (SetsCopy birth place phase pid rel id c old.now.trees new.now.trees) (IsReady new) (IsWhole new) r (λ x y. spared 9 (omega arith) (omega arith) x.others y) h.0 h.1,
   )
+
+-- the row that is set stood
+pub number_set : (name : List ℕ) (value : ℕ) (id : ℤ) (n : ℕ) (old new : State) (r : Result ℕ Error) → Has (old.now.trees 0) (Int id ∷ number_row name n)
+    → OnOk r (SetsNumber name value id old.now.trees new.now.trees) × OnOk r (IsWhole new)
+    → OnOk r ((id : ℤ) × (n : ℕ) × Has (old.now.trees 0) (Int id ∷ number_row name n) × SetsNumber name value id old.now.trees new.now.trees) × OnOk r (IsWhole new)
+number_set name value id n old new r there h = (
+  on_ok (SetsNumber name value id old.now.trees new.now.trees) ((id : ℤ) × (n : ℕ) × Has (old.now.trees 0) (Int id ∷ number_row name n) × SetsNumber name value id old.now.trees new.now.trees) r (λ x. (id, n, there, x)) h.0,
+  h.1,
+)
 
 pub begun_whole : (old begun : State) → begun ≡ record old { in_transaction = true } → IsSettled old → IsWhole begun
 begun_whole old begun same s = rw same (record { ready = record { schema = s.schema; inside = refl; shaped = s.shaped; obeys = s.obeys }; meta = s.meta; retained = s.retained })
