@@ -1,6 +1,6 @@
 -- Which records a database keeps: its rows are written from them, item by item (4.1).
 use Rattle.std.specs.Prelude.{◌≡◌, ◌≢◌, ℕ, List, [], ◌∷◌, Some, codes}
-use Rattle.sqlite_value.specs.Order.{Row}
+use Rattle.sqlite_value.specs.Order.{Row, column}
 use Rattle.sqlite_trees.specs.Tree.{Trees}
 use Rattle.sqlite_rules.specs.Lists.{Has}
 use Rattle.mqtt_props.specs.Properties.{FitsBlock}
@@ -25,10 +25,6 @@ use Rattle.mqtt_sql_kept.specs.Items.{IsNumberRow, IsSessionRow, IsWillRow, IsSu
 pub record AreWritten {X : Type 0} (IsRow : X → Row → Type 0) (Item : X → Type 0) (rows : List Row) : Type 0 where
   pub each : (x : X) → Item x → (row : Row) × Has rows row × IsRow x row
   pub only : (row : Row) → Has rows row → (x : X) × Item x × IsRow x row
-
--- no item has two rows
-abbrev pub AreSingle : {X : Type 0} → (X → Row → Type 0) → List Row → Type 0
-AreSingle {X} IsRow rows = (x : X) (a b : Row) → Has rows a → Has rows b → IsRow x a → IsRow x b → a ≡ b
 
 -- ---- all tables
 
@@ -60,10 +56,10 @@ pub record HasRows (db : Trees) (r : Records) : Type 0 where
   pub copies : AreWritten IsCopyRow (IsCopyOf r) (db 9)
   pub retained : AreWritten IsRetainedRow (HasItem r.retained) (db 11)
 
--- the tables in which rows are set: none has an item twice
+-- in the tables in which rows are set no two have the same key: a name, or a birth and a place
 pub record AreAllSingle (db : Trees) : Type 0 where
-  pub numbers : AreSingle IsNumberRow (db 0)
-  pub copies : AreSingle IsCopyRow (db 9)
+  pub numbers : (a b : Row) → Has (db 0) a → Has (db 0) b → column a 1 ≡ column b 1 → a ≡ b
+  pub copies : (a b : Row) → Has (db 9) a → Has (db 9) b → column a 1 ≡ column b 1 → column a 2 ≡ column b 2 → a ≡ b
 
 -- ---- what a row can say of its item
 
