@@ -25,8 +25,9 @@ fn write_parts<S: Alter>(
     ensures same_reference { tx.new.conn.ghost_name ≡ tx.old.conn.ghost_name }
     ensures made { HasCleanDisk (state S.Store tx.new.conn.now) → IsWhole (state S.Store tx.old.conn.now)
         → Needs change.now (state S.Store tx.old.conn.now).now.trees
-        → OnOk result (Makes change.now (state S.Store tx.old.conn.now).now.trees (state S.Store tx.new.conn.now).now.trees
-        × IsWhole (state S.Store tx.new.conn.now)) }
+        → OnOk result (Makes change.now (state S.Store tx.old.conn.now).now.trees (state S.Store tx.new.conn.now).now.trees) }
+    ensures whole { HasCleanDisk (state S.Store tx.new.conn.now) → IsWhole (state S.Store tx.old.conn.now)
+        → OnOk result (IsWhole (state S.Store tx.new.conn.now)) }
     ensures inside { StaysInside (state S.Store tx.old.conn.now) (state S.Store tx.new.conn.now) }
 {
     let statement = statement_of(change, parts);
@@ -48,8 +49,9 @@ fn write_change<S: Alter>(
     ensures same_reference { tx.new.conn.ghost_name ≡ tx.old.conn.ghost_name }
     ensures made { HasCleanDisk (state S.Store tx.new.conn.now) → IsWhole (state S.Store tx.old.conn.now)
         → Needs change.now (state S.Store tx.old.conn.now).now.trees
-        → OnOk result (Makes change.now (state S.Store tx.old.conn.now).now.trees (state S.Store tx.new.conn.now).now.trees
-        × IsWhole (state S.Store tx.new.conn.now)) }
+        → OnOk result (Makes change.now (state S.Store tx.old.conn.now).now.trees (state S.Store tx.new.conn.now).now.trees) }
+    ensures whole { HasCleanDisk (state S.Store tx.new.conn.now) → IsWhole (state S.Store tx.old.conn.now)
+        → OnOk result (IsWhole (state S.Store tx.new.conn.now)) }
     ensures inside { StaysInside (state S.Store tx.old.conn.now) (state S.Store tx.new.conn.now) }
 {
     match parts_of(alloc, change) {
@@ -71,8 +73,9 @@ fn write_changes<S: Alter>(
     ensures same_reference { tx.new.conn.ghost_name ≡ tx.old.conn.ghost_name }
     ensures made { HasCleanDisk (state S.Store tx.new.conn.now) → IsWhole (state S.Store tx.old.conn.now)
         → NeedAll changes.now (state S.Store tx.old.conn.now).now.trees
-        → OnOk result (MakeAll changes.now (state S.Store tx.old.conn.now).now.trees (state S.Store tx.new.conn.now).now.trees
-        × IsWhole (state S.Store tx.new.conn.now)) }
+        → OnOk result (MakeAll changes.now (state S.Store tx.old.conn.now).now.trees (state S.Store tx.new.conn.now).now.trees) }
+    ensures whole { HasCleanDisk (state S.Store tx.new.conn.now) → IsWhole (state S.Store tx.old.conn.now)
+        → OnOk result (IsWhole (state S.Store tx.new.conn.now)) }
     ensures inside { StaysInside (state S.Store tx.old.conn.now) (state S.Store tx.new.conn.now) }
 {
     for change in changes {
@@ -93,10 +96,12 @@ pub fn commit_changes<S: Alter>(
     ensures autocommit { conn.new.in_transaction ≡ false }
     ensures ok { HasCleanDisk (state S.Store conn.new) → IsSettled (state S.Store conn.old)
         → NeedAll changes.now (state S.Store conn.old).now.trees
-        → OnOk result (MakeAll changes.now (state S.Store conn.old).now.trees (state S.Store conn.new).now.trees
-        × IsSettled (state S.Store conn.new)) }
-    ensures err { HasCleanDisk (state S.Store conn.new) → IsSettled (state S.Store conn.old)
-        → NeedAll changes.now (state S.Store conn.old).now.trees → IsTrue (state S.Store conn.new).is_open
+        → OnOk result (MakeAll changes.now (state S.Store conn.old).now.trees (state S.Store conn.new).now.trees) }
+    ensures settled { HasCleanDisk (state S.Store conn.new) → IsSettled (state S.Store conn.old)
+        → OnOk result (IsSettled (state S.Store conn.new)) }
+
+    // What failed changed nothing, unless it shut the connection.
+    ensures err { HasCleanDisk (state S.Store conn.new) → IsSettled (state S.Store conn.old) → IsTrue (state S.Store conn.new).is_open
         → OnErr result (((state S.Store conn.new).now ≡ (state S.Store conn.old).now)
         × IsSettled (state S.Store conn.new)) }
     ensures crash { Survives (state S.Store conn.old) (state S.Store conn.new) (MayCommit (state S.Store conn.old) changes.now) }

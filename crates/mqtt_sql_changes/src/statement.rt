@@ -1,29 +1,34 @@
 //! The statement that a change becomes.
+ghost use Rattle.std.specs.Prelude.{◌≡◌};
 ghost use Rattle.mqtt_sql_kept.specs.Steps.{IsStatementFor};
-ghost use Rattle.mqtt_sql_changes.specs.Parts.{ArePartsOf};
+ghost use Rattle.mqtt_sql_changes.specs.Parts.{ArePartsOf, columns_in, block_in};
 
 use crate::columns::{
     copy_columns, counter_name, packet_identifier, phase_number, release_order, retained_columns,
     session_columns, subscription_columns, will_columns,
 };
 use crate::parts::Parts;
-use mqtt_records::{Change, Columns};
+use mqtt_records::Change;
 use mqtt_sql_step::Statement;
 
-/// The columns of the session that is put.
-fn columns_in(parts: &Parts) -> &Columns
-    requires { IsSome parts.now.columns }
-    ensures { parts.now.columns ≡ Some result.now }
-{
-    match &parts.columns {
-        Some(columns) => columns,
-        None => unreachable!(),
-    }
-}
-
-/// The statement that a change becomes.
+/// The statement that a change becomes, whose parts these are.
 pub(crate) fn statement_of<'a>(change: &'a Change, parts: &'a Parts) -> Statement<'a>
     requires { ArePartsOf change.now parts.now }
+    ensures { IsStatementFor change.now result }
+{
+    if let Some(columns) = &parts.columns {
+        return Statement::PutSession {
+            birth: columns.birth,
+            session: session_columns(columns),
+        };
+    }
+    statement_with(change, parts.block.as_slice())
+}
+
+/// The statement of a change that puts no session, with the block of its row's properties.
+fn statement_with<'a>(change: &'a Change, bytes: &'a [u8]) -> Statement<'a>
+    requires other { columns_in change.now ≡ None }
+    requires block { bytes.now ≡ block_in change.now }
     ensures { IsStatementFor change.now result }
 {
     match change {
@@ -31,28 +36,22 @@ pub(crate) fn statement_of<'a>(change: &'a Change, parts: &'a Parts) -> Statemen
             name: counter_name(*counter),
             value: *value,
         },
-        Change::PutSession { .. } | Change::SetSession { .. } => {
-            let columns = columns_in(parts);
-            Statement::PutSession {
-                birth: columns.birth,
-                session: session_columns(columns),
-            }
-        }
+        Change::PutSession { .. } | Change::SetSession { .. } => unreachable!(),
         Change::RemoveSession { birth } => Statement::RemoveSession { birth: *birth },
-        Change::PutWill { birth, will } => Statement::PutWill {
+        Change::PutWill { birth, will } => return Statement::PutWill {
             birth: *birth,
-            will: will_columns(will, &parts.block),
+            will: will_columns(will, bytes),
         },
         Change::RemoveWill { birth } => Statement::RemoveWill { birth: *birth },
         Change::PutSubscription {
             birth,
             subscription,
-        } => Statement::PutSubscription {
+        } => return Statement::PutSubscription {
             birth: *birth,
             filter: subscription.get().filter.as_str(),
             subscription: subscription_columns(subscription.get()),
         },
-        Change::RemoveSubscription { birth, filter } => Statement::RemoveSubscription {
+        Change::RemoveSubscription { birth, filter } => return Statement::RemoveSubscription {
             birth: *birth,
             filter: filter.as_str(),
         },
@@ -64,10 +63,10 @@ pub(crate) fn statement_of<'a>(change: &'a Change, parts: &'a Parts) -> Statemen
             birth: *birth,
             identifier: u64::from(*identifier),
         },
-        Change::PutCopy { birth, row } => Statement::PutCopy {
+        Change::PutCopy { birth, row } => return Statement::PutCopy {
             birth: *birth,
             place: row.get().place(),
-            copy: copy_columns(row.get(), &parts.block),
+            copy: copy_columns(row.get(), bytes),
         },
         Change::SetCopy {
             birth,
@@ -84,9 +83,9 @@ pub(crate) fn statement_of<'a>(change: &'a Change, parts: &'a Parts) -> Statemen
             birth: *birth,
             place: *place,
         },
-        Change::PutRetained { kept } => Statement::PutRetained {
+        Change::PutRetained { kept } => return Statement::PutRetained {
             place: kept.get().place,
-            message: retained_columns(kept.get(), &parts.block),
+            message: retained_columns(kept.get(), bytes),
         },
         Change::RemoveRetained { place } => Statement::RemoveRetained { place: *place },
     }

@@ -1,9 +1,9 @@
-use Rattle.std.proofs.Common.{◌≡◌, drop}
-use Rattle.sqlite_trees.specs.Tree.{Trees}
+use Rattle.std.proofs.Common.{◌≡◌}
 use Rattle.sqlite.specs.State.{HasCleanDisk}
 use Rattle.sqlite.specs.Held.{state}
 use Rattle.mqtt_sql_write.specs.Content.{IsWhole}
-use Rattle.mqtt_sql_changes.specs.Making.{NeedAll, MakeAll, StaysInside}
+use Rattle.mqtt_sql_changes.specs.Making.{NeedAll, StaysInside}
+use Rattle.mqtt_sql_changes.proofs.Inside.{Leads}
 use Rattle.mqtt_sql_changes.proofs.commit.write_changes.Given as goal
 
 abbrev pub invariant-loop-change : goal.invariant-loop-change
@@ -13,7 +13,6 @@ invariant-loop-change g l =
     record {
       same : l.tx.conn.ghost_name ≡ l.fn.tx.conn.ghost_name;
       inside : StaysInside old now;
-      left : HasCleanDisk now → IsWhole old → NeedAll l.changes old.now.trees
-          → IsWhole now × NeedAll (drop l.change-index l.changes) now.now.trees
-          × ((after : Trees) → MakeAll (drop l.change-index l.changes) now.now.trees after → MakeAll l.changes old.now.trees after);
+      whole : HasCleanDisk now → IsWhole old → IsWhole now;
+      left : HasCleanDisk now → IsWhole old → NeedAll l.changes old.now.trees → Leads l.changes l.change-index old.now.trees now.now.trees;
     }
