@@ -4,5 +4,6 @@
 mod laws;
 
 pub use laws::{
-    crash_leaves_what_it_has, database_keeps_one, load_keeps_what_it_has, loaded_store_has,
+    crash_leaves_what_it_has, database_keeps_one, load_finds_what_is_kept, load_keeps_what_it_has,
+    loaded_rows_are_kept, loaded_store_has,
 };
