@@ -1,5 +1,5 @@
 -- The table of copies after a copy's phase is set.
-use Rattle.std.proofs.Common.{◌≡◌, ◌≢◌, ℕ, ℤ, pos, Bool, true, false, [], ◌∷◌, refl, sym, ap, subst, ◌∙◌, arith, inl, inr, true≢false}
+use Rattle.std.proofs.Common.{◌≡◌, ℕ, ℤ, pos, Bool, true, false, ◌∷◌, refl, sym, ap, subst, ◌∙◌, arith, inl, inr, true≢false}
 use Rattle.std.specs.Prelude.{Option}
 use Rattle.std.specs.Ordering.{is_eq}
 use Rattle.std.proofs.lemmas.Bool.{false_from_ne_true}
@@ -22,9 +22,9 @@ use Rattle.mqtt_sql_members.proofs.Queues.{set_new, set_old}
 use Rattle.mqtt_sql_write.specs.Copy.{CopyColumns, copy_row, number_or_null, set_copy, SetsCopy}
 use Rattle.mqtt_sql_write.specs.Put.{PutsInto}
 use Rattle.mqtt_sql_write.proofs.Rows.{equal_is}
-use Rattle.mqtt_sql_kept.specs.Items.{IsNumberRow, IsCopyRow, IsRetainedRow, copy_columns, packet_identifier, phase_number, release_order}
-use Rattle.mqtt_sql_kept.specs.Written.{AreWritten, AreAllSingle, KeepsRows, AreInOrder, numbers_in, IsCopyOf, IsSayableCopy}
-use Rattle.mqtt_sql_kept.proofs.Keys.{same_pos, same_number}
+use Rattle.mqtt_sql_kept.specs.Items.{IsNumberRow, IsCopyRow, IsRetainedRow, packet_identifier, phase_number, release_order}
+use Rattle.mqtt_sql_kept.specs.Written.{AreWritten, AreAllSingle, KeepsRows, AreInOrder, numbers_in, IsCopyOf}
+use Rattle.mqtt_sql_kept.proofs.Keys.{same_number}
 use Rattle.mqtt_sql_kept.proofs.Tables.{with_row}
 use Rattle.mqtt_sql_kept.proofs.Ordered.{ordered_after, by_place_after}
 use Rattle.mqtt_sql_kept.proofs.Trees.{meta_same, session_same, will_same, sub_same, inbound_same, retained_same, order_put}

@@ -1,5 +1,5 @@
 -- The tables of what sessions have, and what their rows can say, where a change leaves them alone.
-use Rattle.std.proofs.Common.{◌≡◌, ℕ, List, ◌∷◌}
+use Rattle.std.proofs.Common.{◌≡◌, ℕ}
 use Rattle.sqlite_trees.specs.Tree.{Trees}
 use Rattle.mqtt_message.specs.declared.message.Will.{Will}
 use Rattle.mqtt_message.specs.Queue.{CopyRow}

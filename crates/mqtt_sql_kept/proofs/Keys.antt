@@ -1,5 +1,5 @@
 -- What SQL's = finds of the keys that are written.
-use Rattle.std.proofs.Common.{◌≡◌, ◌≢◌, ℕ, zero, ℤ, pos, Bool, true, false, not, ◌&&◌, ◌||◌, bytes_eq, List, refl, sym, ap, subst, ◌∙◌, ◌<ℤ◌, int_cmp, true≢false}
+use Rattle.std.proofs.Common.{◌≡◌, ◌≢◌, ℕ, zero, ℤ, pos, Bool, true, false, ◌&&◌, bytes_eq, List, refl, sym, ap, subst, ◌∙◌, ◌<ℤ◌, int_cmp, true≢false}
 use Rattle.std.specs.Prelude.{Some}
 use Rattle.std.specs.Ordering.{is_eq, MatchOrdering}
 use Rattle.std.specs.Cmp.{int_ranks}

@@ -1,5 +1,5 @@
 -- The table of numbers after one is set.
-use Rattle.std.proofs.Common.{◌≡◌, ◌≢◌, ℕ, ℤ, pos, Bool, true, false, cond, bytes_eq, List, [], ◌∷◌, map, refl, sym, ap, subst, ◌∙◌, arith, inl, inr, ◌⊎◌, true≢false}
+use Rattle.std.proofs.Common.{◌≡◌, ℕ, ℤ, Bool, true, false, cond, bytes_eq, List, [], ◌∷◌, map, refl, sym, ap, ◌∙◌, arith, inl, inr, ◌⊎◌, true≢false}
 use Rattle.std.specs.Ordering.{is_eq}
 use Rattle.std.proofs.lemmas.Bool.{cases_Bool, false_from_ne_true}
 use Rattle.std.proofs.lemmas.Cmp.{tied_itself}
@@ -111,7 +111,6 @@ same_text h = ap text_of h
 
 number_name : (x : Number) (row : Row) → IsNumberRow x row → column row 1 ≡ Text x.0
 number_name x row is = ap (λ (r : Row). column r 1) is.1
-
 
 module _ (db next : Trees) (r : Records) (keeps : KeepsRows db r) (order : AreInOrder db) (counter : Counter) (value n : ℕ) (id : ℤ)
     (stood : Has (db 0) (Int id ∷ number_row (counter_name counter) n)) (sets : SetsNumber (counter_name counter) value id db next) where

@@ -3,7 +3,6 @@ use Rattle.std.proofs.Common.{◌≡◌, ℕ, Bool, true, false, not, ◌||◌, 
 use Rattle.std.specs.List.{AllByRecursion}
 use Rattle.std.proofs.lemmas.Bool.{cases_Bool}
 use Rattle.mqtt_base.specs.declared.limits.TheConstants.{SESSION_LIMIT, SUBSCRIPTION_LIMIT, OPEN_LIMIT, QUEUE_LIMIT, RETAINED_LIMIT}
-use Rattle.mqtt_message.specs.declared.message.RetainedMessage.{RetainedMessage}
 use Rattle.mqtt_records.specs.declared.session.Session.{Session}
 use Rattle.mqtt_records.specs.declared.session.Columns.{Columns}
 use Rattle.mqtt_records.specs.declared.change.Change.{Change}
@@ -11,11 +10,11 @@ use Rattle.mqtt_records.specs.declared.change.Change.TheVariants.{SetCounter, Pu
 use Rattle.mqtt_records.specs.declared.change.Counter.{Counter}
 use Rattle.mqtt_records.specs.declared.change.Counter.TheVariants.{Births, Publications, Subscribes, Autos, Moment}
 use Rattle.mqtt_records.specs.declared.records.Records.{Records}
-use Rattle.mqtt_rows.specs.Order.{IsAscending, has_row, insert_row, put_row, remove_row, change_row}
+use Rattle.mqtt_rows.specs.Order.{IsAscending, has_row, insert_row, put_row, change_row}
 use Rattle.mqtt_rows.proofs.OrderLemmas.{put-ascending, filter-ascending, remove-ascending, change-ascending}
 use Rattle.mqtt_records.specs.Session.{birth_of, place_of, number_of, copy_place, in_phase, fresh, with_columns, with_will}
 use Rattle.mqtt_records.specs.Session.{with_subscription, without_subscription, with_open, without_open, with_copy, with_phase, without_copy}
-use Rattle.mqtt_records.specs.Records.{changed, kept_place, with_counter, put_session, in_session}
+use Rattle.mqtt_records.specs.Records.{changed, kept_place, with_counter, in_session}
 use Rattle.mqtt_sql_members.specs.Members.{IsOrdered, AllOrdered}
 
 -- ---- what holds of each row holds after an edit

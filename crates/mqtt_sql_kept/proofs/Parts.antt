@@ -1,11 +1,10 @@
 -- What sessions have, where a change leaves it alone or takes the session away.
-use Rattle.std.proofs.Common.{◌≡◌, ◌≢◌, ◌⊎◌, ℕ, nat_eq, Bool, true, false, ◌||◌, List, [], ◌∷◌, ap, refl, sym, subst, ◌∙◌, inl, inr, true≢false}
-use Rattle.std.specs.Prelude.{Option, Some, None, is_some}
+use Rattle.std.proofs.Common.{◌≡◌, ◌≢◌, ℕ, nat_eq, Bool, true, false, ◌||◌, List, [], ◌∷◌, ap, refl, sym, subst, ◌∙◌, inl, inr, true≢false}
 use Rattle.std.proofs.lemmas.Bool.{cases_Bool, eq-eqb, eqb-true}
 use Rattle.mqtt_base.specs.declared.limits.TheConstants.{SESSION_LIMIT}
 use Rattle.mqtt_records.specs.declared.session.Session.{Session}
 use Rattle.mqtt_records.specs.declared.session.Columns.{Columns}
-use Rattle.mqtt_rows.specs.Order.{IsAscending, HasRoomFor, row_at, has_row, insert_row, remove_row, change_row}
+use Rattle.mqtt_rows.specs.Order.{IsAscending, HasRoomFor, has_row, insert_row, remove_row, change_row}
 use Rattle.mqtt_records.specs.Session.{birth_of, columns_of, with_columns, fresh}
 use Rattle.mqtt_records.specs.Records.{put_session}
 use Rattle.mqtt_sql_members.specs.Members.{Has, InPart}
@@ -33,9 +32,9 @@ module _ (birth : ℕ) (f : Session → Session) (sessions : List Session) (up :
     pub part_new : (b : ℕ) (x : X) → InPart part (change_row birth_of birth f sessions) b x → InPart part sessions b x
     part_new b x it = elim (edited_new part birth f sessions up keeps (λ _. ⊥) (λ _. Unit {0})
         (λ s x h at there. inr (subst (λ (l : List X). Has l x) (same s) there, tt)) b x it) [
-      | inl none ↦ absurd none.1
-      | inr old ↦ old.0
-    ]
+          | inl none ↦ absurd none.1
+          | inr old ↦ old.0
+        ]
 
     pub part_old : (b : ℕ) (x : X) → InPart part sessions b x → InPart part (change_row birth_of birth f sessions) b x
     part_old b x it = edited_old part birth f sessions up keeps (λ _. ⊥) (λ _. Unit {0})

@@ -1,6 +1,6 @@
 -- The table of retained messages after one is put or removed.
-use Rattle.std.proofs.Common.{◌≡◌, ◌≢◌, ℕ, pos, Bool, true, false, ◌||◌, bytes_eq, List, [], ◌∷◌, refl, sym, ap, subst, ◌∙◌, arith, inl, inr, true≢false}
-use Rattle.std.specs.List.{All, Contains}
+use Rattle.std.proofs.Common.{◌≡◌, ◌≢◌, ℕ, pos, Bool, true, false, ◌||◌, List, [], ◌∷◌, refl, sym, ap, subst, ◌∙◌, arith, inl, inr}
+use Rattle.std.specs.List.{All}
 use Rattle.std.proofs.lemmas.Bool.{false_from_ne_true}
 use Rattle.std.proofs.lemmas.List.Elements.{All-contains}
 use Rattle.std.proofs.lemmas.Slice.Eq.{bytes_eq-Decides}
@@ -16,7 +16,7 @@ use Rattle.mqtt_records.specs.Records.{changed, Fits}
 use Rattle.mqtt_sql_members.specs.Members.{Has as HasItem, HasColumns}
 use Rattle.mqtt_sql_members.proofs.Owns.{retained_new, retained_old, retained_out_new, retained_out_old}
 use Rattle.mqtt_sql_write.specs.Columns.{retained_row}
-use Rattle.mqtt_sql_write.specs.Content.{is_of, is_text}
+use Rattle.mqtt_sql_write.specs.Content.{is_of}
 use Rattle.mqtt_sql_write.specs.Put.{PutsInto, is_retained}
 use Rattle.mqtt_sql_write.specs.Removal.{RemovesFrom}
 use Rattle.mqtt_sql_write.proofs.Stands.{key_free}

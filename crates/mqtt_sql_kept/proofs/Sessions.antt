@@ -1,6 +1,5 @@
 -- The table of sessions after a session's own row is put or set.
-use Rattle.std.proofs.Common.{◌≡◌, ◌≢◌, ◌⊎◌, ℕ, pos, Bool, [], ◌∷◌, refl, sym, subst, arith}
-use Rattle.sqlite_value.specs.declared.value.Value.TheVariants.{Int}
+use Rattle.std.proofs.Common.{◌≡◌, ◌≢◌, ◌⊎◌, pos, Bool, [], refl, sym, subst, arith}
 use Rattle.sqlite_value.specs.Order.{Row}
 use Rattle.sqlite_trees.specs.Tree.{Trees}
 use Rattle.mqtt_records.specs.declared.session.Session.{Session}

@@ -1,5 +1,5 @@
 -- In the tables in which rows are set no two rows have the same key, whatever is put, set or removed.
-use Rattle.std.proofs.Common.{◌≡◌, ℕ, Bool, false, not, List, filter, refl, sym, subst, ◌∙◌, ap, inl, inr}
+use Rattle.std.proofs.Common.{◌≡◌, ℕ, Bool, false, not, List, filter, sym, subst, ◌∙◌, ap, inl, inr}
 use Rattle.sqlite_value.specs.Order.{Row, column}
 use Rattle.sqlite_trees.specs.Tree.{Trees}
 use Rattle.sqlite_rules.specs.Lists.{Has}

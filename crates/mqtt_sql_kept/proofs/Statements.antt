@@ -1,5 +1,5 @@
 -- What the statement of a change makes of the rows, and what it asks stands.
-use Rattle.std.proofs.Common.{◌≡◌, ℕ, ℤ, pos, true, List, [], ◌∷◌, refl, sym, subst, true≢false}
+use Rattle.std.proofs.Common.{◌≡◌, ℕ, ℤ, pos, true, List, [], ◌∷◌, sym, subst, true≢false}
 use Rattle.std.specs.Prelude.{Option, Some, None, is_some}
 use Rattle.sqlite_value.specs.declared.value.Value.TheVariants.{Int}
 use Rattle.sqlite_trees.specs.Tree.{Trees}
@@ -15,7 +15,7 @@ use Rattle.mqtt_records.specs.declared.records.Records.{Records}
 use Rattle.mqtt_records.specs.Records.{changed, changed_all, counter_of, Fits, FitAll, HasSome}
 use Rattle.mqtt_records.specs.Session.{birth_of, copy_place}
 use Rattle.mqtt_rows.specs.Order.{row_at, has_row}
-use Rattle.mqtt_sql_members.specs.Members.{Has as HasItem, InQueue}
+use Rattle.mqtt_sql_members.specs.Members.{InQueue}
 use Rattle.mqtt_sql_members.proofs.Members.{found_has}
 use Rattle.mqtt_sql_write.specs.Columns.{subscription_row}
 use Rattle.mqtt_sql_write.specs.Copy.{CopyColumns, copy_row}
@@ -44,9 +44,12 @@ use Rattle.mqtt_sql_kept.proofs.Retained as retained
 module _ (db next : Trees) where
   number_done : (name : List ℕ) (value : ℕ) (s : Statement) → SetsNumberOf name value s → Does s db next
       → (id : ℤ) × (n : ℕ) × Has (db 0) (Int id ∷ number_row name n) × SetsNumber name value id db next
-  number_done name value (SetNumber text v) is does = (does.0, does.1,
+  number_done name value (SetNumber text v) is does = (
+    does.0,
+    does.1,
     subst (λ (t : List ℕ). Has (db 0) (Int does.0 ∷ number_row t does.1)) is.0 does.2,
-    subst (λ (w : ℕ). SetsNumber name w does.0 db next) is.1 (subst (λ (t : List ℕ). SetsNumber t v does.0 db next) is.0 does.3))
+    subst (λ (w : ℕ). SetsNumber name w does.0 db next) is.1 (subst (λ (t : List ℕ). SetsNumber t v does.0 db next) is.0 does.3),
+  )
   number_done name value _ is does = absurd is
 
   abbrev Puts : ℕ → List ℕ → SubscriptionColumns → Type 0
@@ -141,9 +144,11 @@ module _ (db : Trees) (r : Records) (keeps : KeepsRows db r) where
   copy_asked : (birth place : ℕ) (phase : Phase) → Fits (change.SetCopy birth place phase) r → (id : ℤ) × (c : CopyColumns) × Has (db 9) (Int id ∷ copy_row birth place c)
   copy_asked birth place phase fits =
       let y = copy_stands birth place phase r fits in
-      let it = keeps.rows.copies.each (birth, y.0) y.1 in
-      (it.2.0, copy_columns y.0,
-      subst (λ (p : ℕ). Has (db 9) (Int it.2.0 ∷ copy_row birth p (copy_columns y.0))) y.2 (subst (Has (db 9)) it.2.1 it.1))
+      let it = keeps.rows.copies.each (birth, y.0) y.1 in (
+        it.2.0,
+        copy_columns y.0,
+        subst (λ (p : ℕ). Has (db 9) (Int it.2.0 ∷ copy_row birth p (copy_columns y.0))) y.2 (subst (Has (db 9)) it.2.1 it.1),
+      )
 
   number_asked : (counter : Counter) (value : ℕ) (s : Statement) → SetsNumberOf (counter_name counter) value s → Asks s db
   number_asked counter value (SetNumber text v) is =
@@ -194,6 +199,9 @@ pub statements_ask : (cs : List Change) (ss : List Statement) (db : Trees) (r : 
 statements_ask [] [] db r k o fits say are = tt
 statements_ask [] (s ∷ ss) db r k o fits say are = absurd are
 statements_ask (c ∷ cs) [] db r k o fits say are = absurd are
-statements_ask (c ∷ cs) (s ∷ ss) db r k o fits say are = (statement_asks db r k c s fits.0 are.0, λ mid does.
-    let first = statement_keeps c s db mid r k o fits.0 say.0 are.0 does in
-    statements_ask cs ss mid (changed c r) first.0 first.1 fits.1 say.1 are.1)
+statements_ask (c ∷ cs) (s ∷ ss) db r k o fits say are = (
+  statement_asks db r k c s fits.0 are.0,
+  λ mid does.
+      let first = statement_keeps c s db mid r k o fits.0 say.0 are.0 does in
+      statements_ask cs ss mid (changed c r) first.0 first.1 fits.1 say.1 are.1,
+)

@@ -1,5 +1,5 @@
 -- The table of subscriptions after one is put or removed.
-use Rattle.std.proofs.Common.{◌≡◌, ℕ, pos, false, bytes_eq, List, [], ◌∷◌, refl, sym, ap, subst, arith, inl, inr}
+use Rattle.std.proofs.Common.{◌≡◌, ℕ, pos, false, bytes_eq, List, refl, sym, ap, subst, arith, inl, inr}
 use Rattle.sqlite_value.specs.declared.value.Value.TheVariants.{Int, Text}
 use Rattle.sqlite_value.specs.Order.{Row, column}
 use Rattle.sqlite_trees.specs.Tree.{Trees}

@@ -1,5 +1,5 @@
 -- A table's rows and its items, when a row is put, when rows go, and when nothing is done to it.
-use Rattle.std.proofs.Common.{◌≡◌, ◌⊎◌, ℕ, Bool, true, false, not, List, filter, ap, sym, subst, ◌∙◌, inl, inr, true≢false, refl}
+use Rattle.std.proofs.Common.{◌≡◌, ◌⊎◌, ℕ, Bool, true, false, not, List, filter, ap, sym, subst, inl, inr, true≢false, refl}
 use Rattle.sqlite_value.specs.Order.{Row}
 use Rattle.sqlite_trees.specs.Tree.{Trees}
 use Rattle.sqlite_rules.specs.Lists.{Has}
