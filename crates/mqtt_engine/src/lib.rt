@@ -4,11 +4,9 @@
 
 mod engine;
 mod finishing;
-mod framing;
 mod holding;
 mod outcome;
 
 pub use engine::Engine;
 pub use finishing::finish;
-pub use framing::{drop_first, is_whole, take};
 pub use outcome::Outcome;
