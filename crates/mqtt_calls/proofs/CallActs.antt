@@ -115,7 +115,7 @@ left_found f birth x fault s new found left = λ choice.
 
 -- ---- a packet on the line of a session: the line is heard, and the packet is answered
 
-abbrev hears : ℕ → Act
+abbrev pub hears : ℕ → Act
 hears line = always (On line Hear ∷ [])
 
 abbrev heard_packet : Env → ℕ → Packet → Line → Option ℕ → Act

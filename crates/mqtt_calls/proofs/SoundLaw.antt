@@ -20,6 +20,7 @@ use Rattle.mqtt_rules.proofs.OrderedLimits.{step_sessions, opening_sessions, ste
 use Rattle.mqtt_rules.proofs.RowsFit.{step_coherent, step_last, opening_coherent, opened_last}
 use Rattle.mqtt_calls.specs.Sound.{IsSound, IsWithin}
 use Rattle.mqtt_calls.proofs.Flights.{lawful_flight}
+use Rattle.mqtt_calls.proofs.Kept.{step_orders, step_filters, opening_orders, opening_filters}
 
 pub step_sound : (limits : Limits) (choice : MemberChoice) (now : ℕ) (call : Call) (b : Broker) → is_step_spent limits choice now call b ≡ false → TakesLawful call
     → IsSound limits b → IsSound limits (stepped limits choice now call b)
@@ -30,6 +31,8 @@ step_sound limits choice now call b unspent taken h = record {
   last = step_last limits choice now call b h.last;
   accepted = step_accepted limits choice now call b h.accepted;
   flight = step_keeps limits choice now call b h.flight;
+  orders = step_orders limits choice now call b h.limited h.coherent h.timed h.last unspent h.orders;
+  filters = step_filters limits choice now call b h.filters;
   lines = step_unique limits choice now call b h.limited h.coherent h.timed h.last unspent h.lines;
   contents = step_contents of_rows rows_are limits choice now call b taken h.contents;
 }
@@ -43,6 +46,8 @@ opening_sound limits choice now r limited lawful unspent = record {
   last = opened_last limits choice now r;
   accepted = opening_accepted limits choice now r (lawful_accepted r lawful);
   flight = opening_keeps limits choice now r (lawful_flight r lawful);
+  orders = opening_orders limits choice now r limited (lawful_coherent r lawful) lawful unspent;
+  filters = opening_filters limits choice now r lawful;
   lines = opening_unique limits choice now r;
   contents = opening_contents of_rows rows_are limits choice now r (lawful_contents r lawful);
 }

@@ -8,7 +8,7 @@ use Rattle.mqtt_codec.specs.declared.packet.Packet.{Packet}
 use Rattle.mqtt_codec.specs.declared.packet.Packet.TheVariants.{Connect, Connack, Publish, Puback, Pubrec, Pubrel, Pubcomp, Subscribe, Suback, Unsubscribe, Unsuback, Pingreq, Pingresp, Disconnect, Auth}
 use Rattle.mqtt_codec.specs.Tails.{tail}
 use Rattle.mqtt_codec.specs.Ack.{IsAckBody, ack_body}
-use Rattle.mqtt_codec.specs.Packets.{head, IsBody, framed, HasLayout, shortest_body, shortest_of, HasSpelling, IsShortest}
+use Rattle.mqtt_codec.specs.Packets.{head, IsBody, framed, HasLayout, Spells, shortest_body, shortest_of, HasSpelling, IsShortest}
 use Rattle.mqtt_codec.proofs.TailLemmas.{tail_is_tail, tail_is_least}
 use Rattle.mqtt_codec.proofs.NoticeLemmas.{auth_is_body, auth_is_least}
 
@@ -72,3 +72,9 @@ shortest_is p h = (
 pub shortest_found : {X E : Type 0} (items : X → List ℕ) (p : Packet) (r : Result X E) → HasSpelling p → IfOk r (λ x. items x ≡ shortest_of p) → IfOk r (λ x. IsShortest p (items x))
 shortest_found {X} {E} items p (Ok x) h e = subst (λ (b : List ℕ). IsShortest p b) (sym e) (shortest_is p h)
 shortest_found {X} {E} items p (Err d) h e = tt
+
+-- what has one spelling has a shortest one, no longer than that
+pub spelled_has : (p : Packet) (bytes : List ℕ) → Spells p bytes → HasSpelling p × (length (shortest_of p) ≤ length bytes)
+spelled_has p bytes ((fits, (body, is, lt, e)), lawful) =
+    let shorter = shortest_is_least p body is in
+    ((fits, omega (arith, shorter, lt), lawful), least p bytes (fits, (body, is, lt, e)))

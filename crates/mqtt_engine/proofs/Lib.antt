@@ -1,4 +1,3 @@
 pub mod Called
 pub mod Linked
-pub mod Framings
 pub mod Holders

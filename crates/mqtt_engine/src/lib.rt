@@ -5,12 +5,10 @@
 mod calling;
 mod engine;
 mod finishing;
-mod framing;
 mod holding;
 mod indexing;
 mod outcome;
 
 pub use engine::Engine;
 pub use finishing::finish;
-pub use framing::{drop_first, is_whole, take};
 pub use outcome::Outcome;

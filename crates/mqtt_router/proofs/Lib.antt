@@ -2,3 +2,10 @@ pub mod Rooms
 pub mod Spelled
 pub mod Routed
 pub mod Serving
+pub mod Standing
+pub mod Granting
+pub mod Subscribers
+pub mod Along
+pub mod Building
+pub mod Granted
+pub mod Followed

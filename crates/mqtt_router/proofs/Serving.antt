@@ -4,6 +4,7 @@ use Rattle.std.specs.List.{AllByRecursion}
 use Rattle.mqtt_routes.specs.declared.subscription.Subscription.{Subscription}
 use Rattle.mqtt_routes.specs.Subscriptions.{Subscriber, subscriber, AreInOrder, subs_of, with_subs, without_session, standing}
 use Rattle.mqtt_routes.proofs.SomeLemmas.{some_dropped, some_standing}
+use Rattle.mqtt_routes.proofs.SpotLemmas.{order-with_subs, order-without_session}
 use Rattle.mqtt_router.specs.Indexing.{IsLawful, Serves}
 
 -- ---- a session ends
@@ -18,9 +19,10 @@ dropped_lawful : (b : ℕ) (xs : List Subscriber) → AllByRecursion IsLawful xs
 dropped_lawful b [] h = tt
 dropped_lawful b (x ∷ xs) h = dropped_lawful_by (nat_lt x.birth b) (nat_eq x.birth b) b x xs h.0 h.1 (dropped_lawful b xs h.1)
 
-pub serves_dropped : (b : ℕ) (table sessions : List Subscriber) → AreInOrder table → AreInOrder sessions → Serves table sessions → Serves (without_session b table) (without_session b sessions)
-serves_dropped b table sessions up order serves = record {
-  same = some_dropped b table up ∙ (ap (without_session b) serves.same ∙ sym (some_dropped b sessions order));
+pub serves_dropped : (b : ℕ) (table sessions : List Subscriber) → AreInOrder sessions → Serves table sessions → Serves (without_session b table) (without_session b sessions)
+serves_dropped b table sessions order serves = record {
+  same = some_dropped b table serves.order ∙ (ap (without_session b) serves.same ∙ sym (some_dropped b sessions order));
+  order = order-without_session b table serves.order;
   lawful = dropped_lawful b table serves.lawful;
 }
 
@@ -51,8 +53,13 @@ standing_lawful : (b : ℕ) (filters : List (List ℕ)) (xs : List Subscriber) �
 standing_lawful b [] xs h = h
 standing_lawful b (f ∷ fs) xs h = with_lawful b (subs_of b xs) xs (subs_lawful b xs h) h
 
+standing_order : (b : ℕ) (filters : List (List ℕ)) (xs : List Subscriber) → AreInOrder xs → AreInOrder (standing b filters xs)
+standing_order b [] xs h = h
+standing_order b (f ∷ fs) xs h = order-with_subs b (subs_of b xs) xs h
+
 pub serves_standing : (b : ℕ) (filters : List (List ℕ)) (table sessions : List Subscriber) → Serves table sessions → Serves (standing b filters table) sessions
 serves_standing b filters table sessions serves = record {
   same = some_standing b filters table ∙ serves.same;
+  order = standing_order b filters table serves.order;
   lawful = standing_lawful b filters table serves.lawful;
 }

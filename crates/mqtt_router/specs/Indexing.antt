@@ -10,7 +10,7 @@ use Rattle.mqtt_message.specs.declared.message.MessageCopy.{MessageCopy}
 use Rattle.mqtt_message.specs.Queue.{CopyRow}
 use Rattle.mqtt_records.specs.declared.records.Records.{Records}
 use Rattle.mqtt_records.specs.declared.session.Session.{Session}
-use Rattle.mqtt_routes.specs.Subscriptions.{Subscriber, with_some}
+use Rattle.mqtt_routes.specs.Subscriptions.{Subscriber, AreInOrder, with_some}
 use Rattle.mqtt_routes.specs.Intended.{Answers, Copy}
 use Rattle.mqtt_routes.specs.Acceptance.{Routed, Served, copies_in, has_takers, routed}
 use Rattle.mqtt_rules.specs.Deeds.{Message}
@@ -29,9 +29,10 @@ pub record IsLawful (x : Subscriber) : Type 0 where
   pub identifiers : AllByRecursion (λ s. IsIdentifier s.identifier) x.subs
   pub few : length x.subs ≤ SUBSCRIPTION_LIMIT
 
--- the table is that of these sessions, those without subscriptions aside
+-- the table is that of these sessions, those without subscriptions aside, and in the order of births
 pub record Serves (table sessions : List Subscriber) : Type 0 where
   pub same : with_some table ≡ with_some sessions
+  pub order : AreInOrder table
   pub lawful : AllByRecursion IsLawful table
 
 -- ---- what is asked of the sessions of a step; no choice has a part in it

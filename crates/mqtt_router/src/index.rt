@@ -27,7 +27,7 @@ use std::marker::Model;
 /// An index of the subscriptions of all sessions.
 #[derive(Drop)]
 pub struct Index {
-    routes: Routes<()>,
+    pub(crate) routes: Routes<()>,
 }
 
 impl Model for Index {
@@ -86,7 +86,9 @@ impl Index {
     /// The index where no session has a subscription. Filters, which strangers choose, are hashed by
     /// `hasher`.
     pub fn new(alloc: Global, hasher: RandomState) -> Index
-        ensures { (sessions : List Subscriber) → with_some sessions ≡ [] → Serves result.sessions sessions }
+        ensures serves { (sessions : List Subscriber) → with_some sessions ≡ []
+            → Serves result.sessions sessions }
+        ensures empty { result.sessions ≡ [] }
     {
         Index {
             routes: Routes::new(alloc, hasher),

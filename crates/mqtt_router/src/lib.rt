@@ -3,8 +3,11 @@
 #![tactic(auto)]
 
 mod copies;
+mod following;
 mod index;
+mod laws;
 mod look;
 mod room;
 
 pub use index::Index;
+pub use laws::rows_can_be_followed;

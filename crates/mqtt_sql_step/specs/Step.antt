@@ -52,7 +52,8 @@ Asks (RemoveRetained place) db = Unit {0}
 
 -- what it makes of the tables
 abbrev pub Does : Statement → Trees → Trees → Type 0
-Does (SetNumber name value) old new = (id : ℤ) × SetsNumber name.now value id old new
+Does (SetNumber name value) old new =
+    (id : ℤ) × (n : ℕ) × Has (old 0) (Int id ∷ number_row name.now n) × SetsNumber name.now value id old new
 Does (PutSession birth session) old new = PutsInto 2 (session_row birth session) (is_of 0 (pos birth)) old new
 Does (RemoveSession birth) old new = RemovesSession (pos birth) old new
 Does (PutWill birth will) old new = PutsInto 4 (will_row birth will) (is_of 0 (pos birth)) old new
@@ -90,7 +91,3 @@ pub record IsSettled (s : State) : Type 0 where
   pub obeys : Obeys keep_schema s.now.trees
   pub same : s.committed ≡ s.now
   pub is_open : IsTrue s.is_open
-
--- what a step may commit
-abbrev pub Commits : State → List Statement → Trees → Type 0
-Commits s statements db = IsSettled s → AskAll statements s.now.trees → DoAll statements s.now.trees db

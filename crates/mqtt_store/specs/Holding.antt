@@ -1,16 +1,23 @@
 -- What a store in SQL has, what a crash leaves of it, and why a load of it is refused (4.1).
 use Rattle.std.specs.Prelude.{◌≡◌, ◌⊎◌, IsTrue}
 use Rattle.sqlite_trees.specs.Tree.{Trees}
+use Rattle.sqlite.specs.Effect.{Database}
 use Rattle.sqlite.specs.State.{State, HasCleanDisk}
 use Rattle.mqtt_records.specs.declared.records.Records.{Records}
 use Rattle.mqtt_records.specs.Records.{nothing}
 use Rattle.mqtt_sql_schema.specs.Tables.{keep_schema}
+use Rattle.mqtt_sql_schema.specs.Creation.{first}
 use Rattle.mqtt_sql_schema.specs.Settled.{IsSettled}
 use Rattle.mqtt_sql_read.specs.Kept.{HasRecords, Keeps}
+use Rattle.mqtt_sql_kept.specs.Written.{KeepsRows}
 
--- an open that finds these trees finds these records; where the store's tables have none there, it begins with nothing
+-- the rows of the store's tables are those of these records; and an empty database has none yet
+abbrev pub ShowsKept : Database → Records → Type 0
+ShowsKept db r = ((db.schema ≡ keep_schema) × KeepsRows db.trees r) ⊎ ((db.schema ≡ first 0) × (r ≡ nothing))
+
+-- an open that finds these trees finds these records; where the tables keep none, it begins with nothing
 abbrev pub Finds : Trees → Records → Type 0
-Finds db r = HasRecords db r ⊎ (((q : Records) → HasRecords db q → ⊥) × (r ≡ nothing))
+Finds db r = HasRecords db r ⊎ (((q : Records) → KeepsRows db q → ⊥) × (r ≡ nothing))
 
 -- where it is open, nothing is written that isn't committed
 abbrev pub IsTidy : State → Type 0
@@ -19,13 +26,13 @@ IsTidy s = IsTrue s.is_open → IsSettled s
 -- it has these records: no crash leaves others, and where it is open it shows them
 pub record Has (s : State) (r : Records) : Type 0 where
   pub left : (db : Trees) (q : Records) → s.may_leave db → Finds db q → q ≡ r
-  pub shows : IsTrue s.is_open → Keeps s.now r
+  pub shows : IsTrue s.is_open → ShowsKept s.now r
 
 -- of a device that lied this says nothing
 abbrev pub Holds : State → Records → Type 0
 Holds s r = HasCleanDisk s → Has s r
 
--- what is opened after a crash may have these: those that are found then, or those that it shows
+-- what is opened after a crash may have these: those that are found then, or those that a load of it finds
 pub record Leaves (s : State) (r : Records) : Type 0 where
   pub clean : HasCleanDisk s
   pub may : ((db : Trees) × s.may_leave db × Finds db r) ⊎ (IsTrue s.is_open × Keeps s.now r)
@@ -39,6 +46,11 @@ pub record IsReady (s : State) : Type 0 where
 abbrev pub IsLoaded : State → Type 0
 IsLoaded s = HasCleanDisk s → IsReady s
 
+-- between two transactions, its rows are those of these records
+pub record HasKept (s : State) (r : Records) : Type 0 where
+  pub ready : IsReady s
+  pub keeps : KeepsRows s.now.trees r
+
 -- where it is open after a call, it was open before, and shows these records if it did before
 abbrev pub StillKeeps : State → State → Records → Type 0
-StillKeeps old new r = IsTrue new.is_open → IsTrue old.is_open × (Keeps old.now r → Keeps new.now r)
+StillKeeps old new r = IsTrue new.is_open → IsTrue old.is_open × (ShowsKept old.now r → ShowsKept new.now r)

@@ -11,5 +11,5 @@ returns c = record {
       let before : Serves table sessions = subst (λ (v : HeldSessions). Serves v.sessions sessions) (sym c.self.view_is) serves in
       let after : c.drop_session.new.self.table.sessions ≡ without_session c.args.birth table = ap (λ t. t.sessions) c.drop_session.ensures.after in
       subst (λ (xs : List Subscriber). Serves xs (without_session c.args.birth sessions)) (sym after)
-      (serves_dropped c.args.birth table sessions c.drop_session.ensures.order order before);
+      (serves_dropped c.args.birth table sessions order before);
 }

@@ -1,0 +1,2 @@
+pub mod Framings
+pub mod Held
