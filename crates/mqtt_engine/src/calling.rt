@@ -1,9 +1,9 @@
 //! What is asked of the engine: a packet, a fault, a loss, a turn of sending, a turn of the clock (MQTT 5.0, 3, 4).
-ghost use Rattle.std.specs.Prelude.{◌≡◌, ◌↔◌, Some, IsErrOf, IsTrue};
+ghost use Rattle.std.specs.Prelude.{◌≡◌, ◌↔◌, Some, IfOk, IsErrOf, IsTrue};
 ghost use Rattle.mqtt_rules.specs.Contents.{IsTaken};
 ghost use Rattle.mqtt_rules.specs.Lines.{session_on};
 ghost use Rattle.mqtt_rules.specs.Step.{BadInput, Input, Lost, Pump, Tick};
-ghost use Rattle.mqtt_engine.specs.Calling.{Called};
+ghost use Rattle.mqtt_engine.specs.Calling.{Called, without_more};
 
 use crate::engine::Engine;
 use crate::finishing::finish;
@@ -33,8 +33,28 @@ fn session_of(step: &Step, line: u64) -> Option<Option<u64>>
     }
 }
 
+/// Whether more may be there.
+fn is_more(done: &Result<bool, StepFault>) -> bool
+    ensures { IfOk done.now (λ again. result ≡ again) }
+{
+    match done {
+        Ok(again) => *again,
+        Err(_) => false,
+    }
+}
+
+/// What was done, without that.
+fn without_more(done: Result<bool, StepFault>) -> Result<(), StepFault>
+    ensures { result ≡ without_more done }
+{
+    match done {
+        Ok(_) => Ok(()),
+        Err(fault) => Err(fault),
+    }
+}
+
 impl<K: Keep> Engine<K> {
-    /// A packet on a line that is linked.
+    /// A packet on a line that is linked, with the session that is connected on it.
     fn input_on(
         &mut self,
         line: u64,
@@ -73,8 +93,9 @@ impl<K: Keep> Engine<K> {
         answer
     }
 
-    /// The first whole packet of a line is answered (3, 4). A line that isn't linked: nothing is done. `Memory` (1) and
-    /// `Spent` (3): nothing changed. `Stopped` (2): the store has failed, and nothing changed here.
+    /// A packet, the first whole one of a line, is answered (3, 4). On a line that isn't linked nothing is done, without
+    /// memory. `Memory` (1) and `Spent` (3): nothing changed. `Stopped` (2): the store has failed, and nothing changed
+    /// here.
     pub fn input(&mut self, line: u64, packet: &Packet, moment: u64) -> Result<Outcome, EngineError>
         requires { IsTaken packet.now }
         ensures { Called K.Keep moment (Input line packet.now) self.old result self.new }
@@ -86,5 +107,165 @@ impl<K: Keep> Engine<K> {
             Some(session) => self.input_on(line, session, packet, moment),
             None => Ok(self.pass_over(line, moment)),
         }
+    }
+
+    /// A fault on a line that is linked, with the session that is connected on it.
+    fn bad_input_on(
+        &mut self,
+        line: u64,
+        session: Option<u64>,
+        is_connect: bool,
+        code: Reason,
+        moment: u64,
+    ) -> Result<Outcome, EngineError>
+        requires { session_on line self.old.broker ≡ Some session }
+        ensures { Called K.Keep moment (BadInput line is_connect code.0) self.old result self.new }
+    {
+        if self.stopped {
+            return Err(EngineError::Stopped);
+        }
+        renew(
+            self.alloc,
+            self.hasher,
+            &self.step,
+            &mut self.index,
+            &mut self.is_stale,
+        )?;
+        let (alloc, index, step) = (self.alloc, &mut self.index, &mut self.step);
+        let done = fault_at(alloc, index, step, line, session, is_connect, code, moment);
+        let answer = finish(
+            &mut self.keep,
+            &mut self.step,
+            &mut self.index,
+            &mut self.is_stale,
+            done,
+            false,
+        );
+        self.stopped = has_failed(&answer);
+        answer
+    }
+
+    /// The bytes of a line begin with a fault, which has a code; `is_connect` says whether they begin with the type of
+    /// CONNECT: the line closes, with CONNACK, DISCONNECT or nothing before (4.13). Refusals are those of `input`.
+    pub fn bad_input(
+        &mut self,
+        line: u64,
+        is_connect: bool,
+        code: Reason,
+        moment: u64,
+    ) -> Result<Outcome, EngineError>
+        ensures { Called K.Keep moment (BadInput line is_connect code.0) self.old result self.new }
+    {
+        if self.stopped {
+            return Err(EngineError::Stopped);
+        }
+        match session_of(&self.step, line) {
+            Some(session) => self.bad_input_on(line, session, is_connect, code, moment),
+            None => Ok(self.pass_over(line, moment)),
+        }
+    }
+
+    /// A line that is linked is lost.
+    fn lose(&mut self, line: u64, moment: u64) -> Result<Outcome, EngineError>
+        ensures { Called K.Keep moment (Lost line) self.old result self.new }
+    {
+        if self.stopped {
+            return Err(EngineError::Stopped);
+        }
+        renew(
+            self.alloc,
+            self.hasher,
+            &self.step,
+            &mut self.index,
+            &mut self.is_stale,
+        )?;
+        let done = lost_at(self.alloc, &mut self.index, &mut self.step, line, moment);
+        let answer = finish(
+            &mut self.keep,
+            &mut self.step,
+            &mut self.index,
+            &mut self.is_stale,
+            done,
+            false,
+        );
+        self.stopped = has_failed(&answer);
+        answer
+    }
+
+    /// A line is lost: it closes, and its session with it (4.1). Refusals are those of `input`.
+    pub fn lost(&mut self, line: u64, moment: u64) -> Result<Outcome, EngineError>
+        ensures { Called K.Keep moment (Lost line) self.old result self.new }
+    {
+        if self.stopped {
+            return Err(EngineError::Stopped);
+        }
+        match session_of(&self.step, line) {
+            Some(_) => self.lose(line, moment),
+            None => Ok(self.pass_over(line, moment)),
+        }
+    }
+
+    /// A turn of sending on a line that is linked.
+    fn pump_on(&mut self, line: u64, moment: u64) -> Result<Outcome, EngineError>
+        ensures { Called K.Keep moment (Pump line) self.old result self.new }
+    {
+        if self.stopped {
+            return Err(EngineError::Stopped);
+        }
+        let done = pump_at(self.alloc, &mut self.step, line, moment);
+        let again = is_more(&done);
+        let answer = finish(
+            &mut self.keep,
+            &mut self.step,
+            &mut self.index,
+            &mut self.is_stale,
+            without_more(done),
+            again,
+        );
+        self.stopped = has_failed(&answer);
+        answer
+    }
+
+    /// A turn of sending: what waits for the session of a line goes out, up to 16 PUBLISH (4.6, 4.9); `again` says whether
+    /// more may be there. Refusals are those of `input`.
+    pub fn pump(&mut self, line: u64, moment: u64) -> Result<Outcome, EngineError>
+        ensures { Called K.Keep moment (Pump line) self.old result self.new }
+    {
+        if self.stopped {
+            return Err(EngineError::Stopped);
+        }
+        match session_of(&self.step, line) {
+            Some(_) => self.pump_on(line, moment),
+            None => Ok(self.pass_over(line, moment)),
+        }
+    }
+
+    /// A turn of the clock: the first of what is due is done, and nothing else (3.1.2.10, 3.1.2.11.2, 3.1.3.2.2,
+    /// 3.3.2.3.3); `again` says whether one was. Refusals are those of `input`.
+    pub fn tick(&mut self, moment: u64) -> Result<Outcome, EngineError>
+        ensures { Called K.Keep moment Tick self.old result self.new }
+    {
+        if self.stopped {
+            return Err(EngineError::Stopped);
+        }
+        renew(
+            self.alloc,
+            self.hasher,
+            &self.step,
+            &mut self.index,
+            &mut self.is_stale,
+        )?;
+        let done = tick_at(self.alloc, &mut self.index, &mut self.step, moment);
+        let again = is_more(&done);
+        let answer = finish(
+            &mut self.keep,
+            &mut self.step,
+            &mut self.index,
+            &mut self.is_stale,
+            without_more(done),
+            again,
+        );
+        self.stopped = has_failed(&answer);
+        answer
     }
 }
