@@ -17,11 +17,18 @@ use Rattle.mqtt_tables.specs.declared.call.EngineError.{EngineError}
 use Rattle.mqtt_tables.specs.declared.call.EngineError.TheVariants as errors
 use Rattle.mqtt_tables.specs.Stepping.{Stepping, at_rest, with_stamp}
 use Rattle.mqtt_tables.specs.Undoing.{moment_of}
+use Rattle.mqtt_router.specs.Following.{CanAllBeFollowed, CanBeIndexed}
+use Rattle.mqtt_router.proofs.Followed.{indexed_of, step_followed}
 use Rattle.mqtt_engine.specs.declared.outcome.Outcome.{Outcome}
 use Rattle.mqtt_engine.specs.Calling.{IsAnswered, IsLeftBy}
 use Rattle.mqtt_calls.specs.Doing.{DidCall}
 use Rattle.mqtt_calls.specs.Sound.{IsSound}
 use Rattle.mqtt_calls.proofs.SoundLaw.{step_sound}
+
+-- ---- what a sound broker gives
+
+pub sound_indexed : (limits : Limits) (b : Broker) → IsSound limits b → CanBeIndexed b.records
+sound_indexed limits b sound = indexed_of b.records sound.coherent.ordered sound.filters sound.contents.stored
 
 -- ---- a step that did the deeds of a call, with its moment
 
@@ -44,6 +51,11 @@ module _ (now : ℕ) (call : Call) (again : Bool) (s : Stepping) (h : DidCall no
   call_fits sound e =
       subst (λ (rows : List Change). FitAll rows s.start.records) (sym rows_are)
       (step_fits s.limits h.choice now call s.start sound.limited sound.coherent sound.timed sound.last (call_unspent e))
+
+  pub call_followed : IsSound s.limits s.start → TakesLawful call → CanAllBeFollowed (with_stamp s).rows s.start.records
+  call_followed sound taken =
+      subst (λ (rows : List Change). CanAllBeFollowed rows s.start.records) (sym rows_are)
+      (step_followed s.limits h.choice now call s.start sound.limited sound.coherent sound.last taken)
 
   pub call_stored : is_spent (with_stamp s).rows ≡ false → (left : Records) → (left ≡ s.start.records) ⊎ (left ≡ (with_stamp s).broker.records) → IsLeftBy s.limits s.start now call left
   call_stored e left (inl same) = inl same

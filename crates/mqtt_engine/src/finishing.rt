@@ -2,6 +2,7 @@
 ghost use Rattle.std.specs.Prelude.{◌≡◌, ◌≢◌, ◌⊎◌, ℕ, false, Ok, IfOk, OnOk, OnErr, IsErrOf};
 ghost use Rattle.mqtt_records.specs.declared.records.Records.{Records};
 ghost use Rattle.mqtt_records.specs.Records.{FitAll};
+ghost use Rattle.mqtt_router.specs.Following.{CanAllBeFollowed, CanBeIndexed};
 ghost use Rattle.mqtt_router.specs.Indexing.{Serves};
 ghost use Rattle.mqtt_rules.specs.Contents.{TakesLawful};
 ghost use Rattle.mqtt_rules.specs.Routing.{subscribers};
@@ -28,6 +29,17 @@ fn refusal(fault: StepFault) -> EngineError
     }
 }
 
+/// The index goes along with the rows of a step. `Memory` (1) alone refuses.
+fn follow(index: &mut Index, step: &Step) -> Result<(), StepFault>
+    ensures serves { CanBeIndexed step.now.start.records
+        → CanAllBeFollowed step.now.rows step.now.start.records
+        → Serves index.old.sessions (subscribers step.now.start.records)
+        → OnOk result (Serves index.new.sessions (subscribers step.now.broker.records)) }
+    ensures unspent { is_spent step.now.rows ≡ false }
+{
+    index.follow_all(step.rows())
+}
+
 /// The index goes along with the rows of a step, and the store is told of them. Where one of them refuses the step is
 /// taken back, and the index says nothing any more.
 fn tell<K: Keep>(
@@ -39,6 +51,9 @@ fn tell<K: Keep>(
     requires loaded { K.is_loaded keep.old }
     requires holds { K.holds keep.old step.old.start.records }
     requires fit { is_spent step.old.rows ≡ false → FitAll step.old.rows step.old.start.records }
+    requires indexed { CanBeIndexed step.old.start.records }
+    requires followed { is_spent step.old.rows ≡ false
+        → CanAllBeFollowed step.old.rows step.old.start.records }
     requires serves { is_stale.old ≡ false → Serves index.old.sessions (subscribers step.old.start.records) }
     ensures unspent { is_spent step.old.rows ≡ false }
     ensures outputs { IfOk result (λ out. out.outputs.items ≡ step.old.outputs) }
@@ -55,7 +70,7 @@ fn tell<K: Keep>(
         → (left ≡ step.old.start.records) ⊎ (left ≡ step.old.broker.records) }
     ensures serves { is_stale.new ≡ false → Serves index.new.sessions (subscribers step.new.broker.records) }
 {
-    if index.follow_all(step.rows()).is_err() {
+    if follow(index, step).is_err() {
         *is_stale = true;
         step.take_back();
         return Err(EngineError::Memory);
@@ -78,7 +93,8 @@ fn store<K: Keep>(
     requires loaded { K.is_loaded keep.old }
     requires holds { K.holds keep.old step.old.start.records }
     requires sound { IsSound step.old.limits step.old.start }
-    requires called { (now : ℕ) × (call : Call) × DidCall now call again step.old }
+    requires called { (now : ℕ) × (call : Call) × TakesLawful call
+        × DidCall now call again step.old }
     requires serves { is_stale.old ≡ false → Serves index.old.sessions (subscribers step.old.start.records) }
     ensures step { (now : ℕ) (call : Call) → DidCall now call again step.old
         → IfOk result (λ out. IsAnswered step.old.limits step.old.start now call out step.new.broker) }
