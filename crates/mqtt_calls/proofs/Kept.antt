@@ -117,9 +117,9 @@ each_below (e ∷ es) h =
 each_found : (P : Session → Type 0) (ss : List Session) → IsAscending birth_of ss → ((birth : ℕ) (s : Session) → row_at birth_of birth ss ≡ Some s → P s) → AllByRecursion P ss
 each_found P [] up f = tt
 each_found P (x ∷ xs) up f = (
-    f x.birth x (row_at-here birth_of x xs),
-    each_found P xs up.1 (λ birth s found. f birth s (found_behind birth_of birth s x xs up.0 found)),
-  )
+  f x.birth x (row_at-here birth_of x xs),
+  each_found P xs up.1 (λ birth s found. f birth s (found_behind birth_of birth s x xs up.0 found)),
+)
 
 kept_orders : (r : Records) → HaveKept r → (birth : ℕ) → HasKeptOrders birth r
 kept_orders r h birth = λ s found. greatest_kept s.queue (all_at birth_of AreKept birth s r.sessions h found)

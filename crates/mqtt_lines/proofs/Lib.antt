@@ -1,4 +1,4 @@
 pub mod Begun
 pub mod Refused
-pub mod Crowded
+pub mod Instead
 pub mod Greeted

@@ -105,12 +105,7 @@ fn greet_at<R: Router>(
 }
 
 /// A line is heard, its client is refused with Quota exceeded, and the line closes (3.2.2.2).
-fn turn_away(
-    alloc: Global,
-    step: &mut Step,
-    line: u64,
-    connect: &Connect,
-) -> Result<(), StepFault>
+fn turn_away(alloc: Global, step: &mut Step, line: u64, connect: &Connect) -> Result<(), StepFault>
     ensures ok { (l : Line) → l.number ≡ line
         → OnOk result (Did (turns_away l connect.now) step.old step.new) }
     ensures left { (l : Line) → l.number ≡ line → IfErr result (λ fault.

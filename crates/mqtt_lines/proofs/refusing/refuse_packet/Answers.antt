@@ -12,7 +12,7 @@ returns-in-Some-clause-ok g c =
     let s = c.args.step.now in
     let h = on_line c.args.line c.args.session s.broker c.requires.on in
     on_ok c.drop_line.result
-    (late_refused c.args.line c.args.code.0 c.fault_code.result.0 c.in-Some.birth c.args.is_connect c.args.session s c.drop_line.new.step h c.in-Some.is c.fault_code.ensures)
+    (late_refused c.args.line c.args.code.0 c.fault_code-late.result.0 c.in-Some.birth c.args.is_connect c.args.session s c.drop_line.new.step h c.in-Some.is c.fault_code-late.ensures)
     (c.drop_line.ensures.ok h.l h.number (h.its ∙ c.in-Some.is))
 
 pub returns-in-Some-clause-left : goal.returns-in-Some-clause-left
@@ -20,7 +20,7 @@ returns-in-Some-clause-left g c =
     let s = c.args.step.now in
     let h = on_line c.args.line c.args.session s.broker c.requires.on in
     if_err c.drop_line.result
-    (λ fault. late_left c.args.line c.args.code.0 c.fault_code.result.0 c.in-Some.birth c.args.is_connect c.args.session fault s c.drop_line.new.step h c.in-Some.is c.fault_code.ensures)
+    (λ fault. late_left c.args.line c.args.code.0 c.fault_code-late.result.0 c.in-Some.birth c.args.is_connect c.args.session fault s c.drop_line.new.step h c.in-Some.is c.fault_code-late.ensures)
     (c.drop_line.ensures.left h.l h.number (h.its ∙ c.in-Some.is))
 
 pub returns-in-None-clause-ok : goal.returns-in-None-clause-ok
