@@ -69,3 +69,7 @@ BeginsStore s db = IsTrue s.is_open × MakesStore s db
 -- what a load may commit: the tables of a new store, in an empty database that is open
 abbrev pub MakesNew : State → Trees → Type 0
 MakesNew s db = IsTrue s.is_open × (s.now.schema ≡ first 0) × IsNewStore (record { schema = keep_schema; trees = db })
+
+-- the database is left as it was, or it was empty and has the tables of a new store
+abbrev pub IsLeft : Database → Database → Type 0
+IsLeft old new = (new ≡ old) ⊎ ((old.schema ≡ first 0) × IsNewStore new)

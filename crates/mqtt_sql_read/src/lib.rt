@@ -8,5 +8,5 @@ mod reading;
 
 pub use laws::database_has_one;
 pub use loading::{fault_of, records_in};
-pub use opening::load_from;
+pub use opening::{load_from, probe};
 pub use reading::rows_of;

@@ -4,9 +4,9 @@ ghost use Rattle.sqlite.specs.Held.{state};
 ghost use Rattle.sqlite.specs.State.{HasCleanDisk, IsUnchanged, Survives};
 ghost use Rattle.mqtt_records.specs.declared.records.Records.{Records};
 ghost use Rattle.mqtt_records.specs.Records.{nothing};
-ghost use Rattle.mqtt_sql_schema.specs.Creation.{first, MakesStore};
+ghost use Rattle.mqtt_sql_schema.specs.Creation.{first, IsNewStore, MakesStore};
 ghost use Rattle.mqtt_sql_schema.specs.Settled.{IsSettled, OnlyReads, Stays};
-ghost use Rattle.mqtt_sql_read.specs.Kept.{Keeps, HasNow, Refuses, BeginsStore, MakesNew};
+ghost use Rattle.mqtt_sql_read.specs.Kept.{Keeps, HasNow, Refuses, BeginsStore, MakesNew, IsLeft};
 
 use crate::loading::{fault_of, records_in};
 use mqtt_records::{KeepError, Records};
@@ -23,6 +23,8 @@ fn new_store<S: Alter>(alloc: Global, conn: &mut Connection<S>) -> Result<Record
         → IfOk result (HasNow (state S.Store conn.new)) }
     ensures is_open { HasCleanDisk (state S.Store conn.new) → OnOk result (IsTrue (state S.Store conn.new).is_open) }
     ensures was_open { HasCleanDisk (state S.Store conn.new) → IsTrue (state S.Store conn.new).is_open → IsTrue (state S.Store conn.old).is_open }
+    ensures begun { HasCleanDisk (state S.Store conn.new) → (state S.Store conn.old).now.schema ≡ first 0
+        → OnOk result (IsNewStore (state S.Store conn.new).now) }
     ensures err { HasCleanDisk (state S.Store conn.new) → (state S.Store conn.old).now.schema ≡ first 0
         → OnErr result (Stays (state S.Store conn.old) (state S.Store conn.new)) }
     ensures fault { IfErr result (λ e. (e ≡ KeepError.Memory) ⊎ (e ≡ KeepError.Disk)) }
@@ -42,7 +44,7 @@ fn new_store<S: Alter>(alloc: Global, conn: &mut Connection<S>) -> Result<Record
 }
 
 /// Whether the connection is open: Ok only then. Writes nothing.
-fn probe<S: Alter>(conn: &mut Connection<S>) -> Result<(), Error>
+pub fn probe<S: Alter>(conn: &mut Connection<S>) -> Result<(), Error>
     ensures same { HasCleanDisk (state S.Store conn.new) → OnOk result (IsUnchanged (state S.Store conn.old) (state S.Store conn.new)) }
     ensures reads { OnlyReads (state S.Store conn.old) (state S.Store conn.new) }
 {
@@ -64,6 +66,8 @@ fn begin_store<S: Alter>(alloc: Global, conn: &mut Connection<S>) -> Result<Reco
         → IfOk result (HasNow (state S.Store conn.new)) }
     ensures is_open { HasCleanDisk (state S.Store conn.new) → OnOk result (IsTrue (state S.Store conn.new).is_open) }
     ensures was_open { HasCleanDisk (state S.Store conn.new) → IsTrue (state S.Store conn.new).is_open → IsTrue (state S.Store conn.old).is_open }
+    ensures begun { HasCleanDisk (state S.Store conn.new) → (state S.Store conn.old).now.schema ≡ first 0
+        → OnOk result (IsNewStore (state S.Store conn.new).now) }
     ensures err { HasCleanDisk (state S.Store conn.new) → (state S.Store conn.old).now.schema ≡ first 0
         → OnErr result (Stays (state S.Store conn.old) (state S.Store conn.new)) }
     ensures fault { IfErr result (λ e. (e ≡ KeepError.Memory) ⊎ (e ≡ KeepError.Disk)) }
@@ -96,6 +100,8 @@ pub fn load_from<S: Alter>(alloc: Global, conn: &mut Connection<S>) -> Result<Re
     ensures same { HasCleanDisk (state S.Store conn.new) → IsSettled (state S.Store conn.old) → IsTrue (state S.Store conn.new).is_open
         → IsSettled (state S.Store conn.new)
         × ((r : Records) → Keeps (state S.Store conn.old).now r → Keeps (state S.Store conn.new).now r) }
+    ensures left { HasCleanDisk (state S.Store conn.new) → IsSettled (state S.Store conn.old) → IsTrue (state S.Store conn.new).is_open
+        → IsLeft (state S.Store conn.old).now (state S.Store conn.new).now }
     ensures crash { Survives (state S.Store conn.old) (state S.Store conn.new) (MakesNew (state S.Store conn.old)) }
 {
     match found_in(conn) {

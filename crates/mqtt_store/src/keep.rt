@@ -12,7 +12,8 @@ ghost use Rattle.mqtt_store.specs.Ordered.{IsOrdered};
 use crate::apply::apply_all;
 use crate::load::load_records;
 use mqtt_records::{Change, KeepError, Records};
-use sqlite::{Alter, Connection, Error, ErrorCode, Store};
+use sqlite::{Alter, Connection, Error, ErrorCode};
+use sqlite_trees::store::Store;
 use std::alloc::Global;
 
 /// Records in the tables of a database.
