@@ -4,12 +4,12 @@ use Rattle.sqlite_schema.specs.declared.schema.Schema.{Schema}
 use Rattle.sqlite_schema.specs.Rules.{Obeys}
 use Rattle.sqlite_trees.specs.Tree.{Trees}
 use Rattle.sqlite.specs.Effect.{Database}
-use Rattle.sqlite.specs.State.{State, HasCleanDisk, Survives}
+use Rattle.sqlite.specs.State.{State}
 use Rattle.mqtt_records.specs.declared.records.Records.{Records}
 use Rattle.mqtt_records.specs.Records.{nothing}
 use Rattle.mqtt_sql_schema.specs.Tables.{keep_schema}
 use Rattle.mqtt_sql_schema.specs.Creation.{first, IsNewStore}
-use Rattle.mqtt_sql_read.specs.Kept.{HasRecords, Keeps, HasNow, MakesNew, IsLeft}
+use Rattle.mqtt_sql_read.specs.Kept.{HasRecords, Keeps, HasNow, IsLeft}
 use Rattle.mqtt_sql_kept.specs.Written.{KeepsRows, AreInOrder}
 use Rattle.mqtt_sql_found.proofs.Alike.{alike}
 use Rattle.mqtt_sql_found.proofs.Found.{found_distinct}
