@@ -1,5 +1,5 @@
 -- What a load leaves, and what it answers.
-use Rattle.std.proofs.Common.{◌≡◌, Result, Ok, Err, IfOk, IfErr, OnOk, IsTrue, sym, ap, subst, ◌∙◌, inl, inr, arith}
+use Rattle.std.proofs.Common.{◌≡◌, Bool, not, false, Result, Ok, Err, IfOk, IfErr, OnOk, IsTrue, sym, ap, subst, ◌∙◌, inl, inr, arith}
 use Rattle.sqlite_trees.specs.declared.store.Store.{Ghosts}
 use Rattle.sqlite.specs.Effect.{Database}
 use Rattle.sqlite.specs.Held.{Held}
@@ -20,6 +20,15 @@ pub record Loads (old new : State) : Type 0 where
   pub survives : Survives old new (MakesNew old)
   pub was_open : HasCleanDisk new → IsTrue new.is_open → IsTrue old.is_open
   pub left : HasCleanDisk new → IsSettled old → IsTrue new.is_open → IsLeft old.now new.now
+
+pub loads_from : (old new : State) (auto : Bool) → auto ≡ not old.in_transaction → (IsTrue auto → IsTrue old.is_open → old.now ≡ old.committed) → old.in_transaction ≡ false
+    → Survives old new (MakesNew old) → (HasCleanDisk new → IsTrue new.is_open → IsTrue old.is_open) → (HasCleanDisk new → IsSettled old → IsTrue new.is_open → IsLeft old.now new.now) → Loads old new
+loads_from old new auto value settled autocommit it was_open left = record {
+  tidy = λ up. record { committed = sym (settled (value ∙ ap not autocommit) up); autocommit = autocommit };
+  survives = it;
+  was_open = was_open;
+  left = left;
+}
 
 module _ (old new : State) (l : Loads old new) where
   pub clean_old : HasCleanDisk new → HasCleanDisk old

@@ -8,6 +8,7 @@ ghost use Rattle.mqtt_sql_read.specs.Kept.{Refuses};
 ghost use Rattle.mqtt_sql_kept.specs.Written.{AllSayable};
 ghost use Rattle.mqtt_store.specs.Holding.{Holds, Leaves, IsLoaded};
 ghost use Rattle.mqtt_store.specs.Ordered.{IsOrdered};
+ghost use Rattle.mqtt_store.specs.Props.{ordered_prop};
 
 use crate::apply::apply_all;
 use crate::load::load_records;
@@ -23,7 +24,7 @@ pub struct SqlKeep<S: Alter + Drop> {
     alloc: Global,
     failures: u64,
     ghost autocommit: { conn.in_transaction ≡ false },
-    ghost ordered: { IsOrdered (state S.Store conn) },
+    ghost ordered: { IsOrdered (state S.Store conn) } by { ordered_prop (state S.Store conn) },
 }
 
 impl<S: Alter + Drop> SqlKeep<S> {
