@@ -65,7 +65,7 @@ impl<S: Alter + Drop> SqlKeep<S> {
     }
 
     /// Reads all records. Changes can be applied once it has answered Ok.
-    pub fn load(&mut self, alloc: Global) -> Result<Records, KeepError>
+    pub fn load_records(&mut self, alloc: Global) -> Result<Records, KeepError>
         // What it answers is what it has.
         ensures exact { (r : Kept) → Holds (state S.Store self.old.conn) r
             → IfOk result (λ records. HasCleanDisk (state S.Store self.new.conn) → records ≡ r) }
@@ -130,7 +130,7 @@ impl<S: Alter + Drop> SqlKeep<S> {
     }
 
     /// How many failures of its device it has counted, modulo 2^64. Takes no memory.
-    pub fn failures(&self) -> u64
+    pub fn counted_failures(&self) -> u64
         ensures { result ≡ self.now.failures }
     {
         self.failures
