@@ -53,7 +53,7 @@ leaves_held s left r holds found =
       | inr shown ↦ load_finds s.now left r shown.1 (has.shows shown.0)
     ]
 
-pub finds_one : (db : Trees) (q r : Records) → KeepsRows db r → Finds db q → q ≡ r
+finds_one : (db : Trees) (q r : Records) → KeepsRows db r → Finds db q → q ≡ r
 finds_one db q r h (inl k) = found_one db q r k h
 finds_one db q r h (inr none) = absurd (none.0 r h)
 

@@ -1,6 +1,8 @@
 -- In which order the rows of a store's tables stand.
-use Rattle.std.proofs.Common.{◌≡◌, List, [], IsTrue, refl, sym, ap, subst, tt}
-use Rattle.sqlite_value.specs.Order.{Row}
+use Rattle.std.proofs.Common.{◌≡◌, ℕ, pos, [], Less, int_cmp, refl, subst, ◌∙◌}
+use Rattle.sqlite_value.specs.declared.value.Value.TheVariants.{Int}
+use Rattle.sqlite_value.specs.Order.{value_cmp}
+use Rattle.sqlite_value.proofs.OrderLemmas.{value_cmp-Int}
 use Rattle.sqlite_trees.specs.Tree.{Trees}
 use Rattle.sqlite_trees.specs.View.{View, IsShaped, IsOrdered as AreOrdered}
 use Rattle.sqlite_trees.specs.Objects.{catalog_tree, IsListed}
@@ -17,7 +19,7 @@ pub shaped_from : (v : View) → AreOrdered v.shape v.trees → IsListed (v.tree
 shaped_from v ordered listed sound =
     let laid = laid_out listed (objects_rise v listed ordered) sound.lists.listed in
     let t = laid.tables in
-    let s0 = subst (λ s. IsShaped s (v.trees 0)) t.0.0 (ordered 0) in
+    let s0 = subst (λ s. IsShaped s (v.trees 0)) t.0 (ordered 0) in
     let s2 = subst (λ s. IsShaped s (v.trees 2)) t.1.0 (ordered 2) in
     let s4 = subst (λ s. IsShaped s (v.trees 4)) t.1.1.0 (ordered 4) in
     let s5 = subst (λ s. IsShaped s (v.trees 5)) t.1.1.1.0 (ordered 5) in
@@ -38,12 +40,19 @@ shaped_from v ordered listed sound =
 
 -- ---- a new store
 
-none_shaped : (db : Trees) (t : _) → db t ≡ [] → IsShapedAt db t
+none_shaped : (db : Trees) (t : ℕ) → db t ≡ [] → IsShapedAt db t
 none_shaped db t is = record { up = rw is tt; ints = rw is tt }
+
+-- one number is below the next
+abbrev below : (m n : ℕ) → int_cmp (pos m) (pos n) ≡ Less → value_cmp (Int (pos m)) (Int (pos n)) ≡ Less
+below m n less = value_cmp-Int (pos m) (pos n) ∙ less
 
 first_shaped : (db : Trees) → db 0 ≡ first_numbers → IsShapedAt db 0
 first_shaped db is = record {
-  up = rw is ((refl, (refl, (refl, (refl, (refl, tt))))), ((refl, (refl, (refl, (refl, tt)))), ((refl, (refl, (refl, tt))), ((refl, (refl, tt)), ((refl, tt), (tt, tt))))));
+  up = rw is (
+    (below 1 2 refl, (below 1 3 refl, (below 1 4 refl, (below 1 5 refl, (below 1 6 refl, tt))))),
+    ((below 2 3 refl, (below 2 4 refl, (below 2 5 refl, (below 2 6 refl, tt)))), ((below 3 4 refl, (below 3 5 refl, (below 3 6 refl, tt))), ((below 4 5 refl, (below 4 6 refl, tt)), ((below 5 6 refl, tt), (tt, tt))))),
+  );
   ints = rw is (refl, (refl, (refl, (refl, (refl, (refl, tt))))));
 }
 
