@@ -3,4 +3,7 @@
 
 mod laws;
 
-pub use laws::no_step_changes_nothing;
+pub use laws::{
+    change_keeps_order, statement_finds_its_row, statement_keeps_rows, statements_find_their_rows,
+    statements_keep_rows,
+};

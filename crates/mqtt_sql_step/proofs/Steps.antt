@@ -4,7 +4,6 @@ use Rattle.sqlite_value.specs.declared.value.Value.TheVariants.{Int}
 use Rattle.sqlite_trees.specs.Tree.{Trees}
 use Rattle.sqlite_schema.specs.Rules.{Obeys}
 use Rattle.sqlite_rules.specs.Lists.{Has}
-use Rattle.sqlite_rules.specs.Edit.{IsNoIndex}
 use Rattle.sqlite.specs.declared.error.Error.{Error}
 use Rattle.sqlite.specs.State.{State, IsRolledBack}
 use Rattle.sqlite.specs.Effect.{Database}
@@ -13,47 +12,26 @@ use Rattle.mqtt_sql_schema.specs.Tables.{keep_schema}
 use Rattle.mqtt_sql_write.specs.Content.{AreShaped, IsShapedAt, IsReady, IsWhole}
 use Rattle.mqtt_sql_write.specs.Copy.{CopyColumns, copy_row, SetsCopy}
 use Rattle.mqtt_sql_write.specs.Numbers.{number_row, SetsNumber}
-use Rattle.mqtt_sql_write.proofs.RemovesSession.{not_tree}
-use Rattle.mqtt_sql_step.specs.declared.statement.Statement.{Statement}
-use Rattle.mqtt_sql_step.specs.Step.{AskAll, IsSettled}
+use Rattle.mqtt_sql_step.specs.Step.{IsSettled}
 
 -- what is so of an answer gives something else
 on_ok : (X Y : Type 0) (r : Result ℕ Error) → (X → Y) → OnOk r X → OnOk r Y
 on_ok X Y (Ok a) f x = f x
 on_ok X Y (Err b) f x = tt
 
-on_both : (X Y Z : Type 0) (r : Result ℕ Error) → (X → Y → Z) → OnOk r X → OnOk r Y → OnOk r Z
-on_both X Y Z (Ok a) f x y = f x y
-on_both X Y Z (Err b) f x y = tt
-
-at_tree : (a b : Trees) (t : ℕ) → b t ≡ a t → IsShapedAt a t → IsShapedAt b t
-at_tree a b t same h = record { up = rw same h.up; ints = rw same h.ints }
-
-whole_from : (old new : State) → IsWhole old → new.now.trees 0 ≡ old.now.trees 0 → new.now.trees 11 ≡ old.now.trees 11 → IsReady new → IsWhole new
-whole_from old new whole meta retained ready = record { ready = ready; meta = at_tree old.now.trees new.now.trees 0 meta whole.meta; retained = at_tree old.now.trees new.now.trees 11 retained whole.retained }
-
--- a statement on a table of what sessions have leaves the shapes of the others
-module _ (old new : State) (r : Result ℕ Error) (whole : IsWhole old) where
-  spared : (tree : ℕ) → 0 ≢ tree → 11 ≢ tree → ((t : ℕ) → t ≢ tree → IsNoIndex keep_schema t → new.now.trees t ≡ old.now.trees t) → IsReady new → IsWhole new
-  spared tree a b others = whole_from old new whole (others 0 a (not_tree 0 (omega arith) (omega arith) (omega arith) (omega arith) (omega arith) (omega arith)))
-      (others 11 b (not_tree 11 (omega arith) (omega arith) (omega arith) (omega arith) (omega arith) (omega arith)))
-
-  pub copy_set : (birth place phase : ℕ) (pid rel : Option ℕ) (id : ℤ) (c : CopyColumns) → Has (old.now.trees 9) (Int id ∷ copy_row birth place c)
-      → OnOk r (SetsCopy birth place phase pid rel id c old.now.trees new.now.trees) × OnOk r (IsReady new)
-      → OnOk r ((id : ℤ) × (c : CopyColumns) × Has (old.now.trees 9) (Int id ∷ copy_row birth place c) × SetsCopy birth place phase pid rel id c old.now.trees new.now.trees) × OnOk r (IsWhole new)
-  copy_set birth place phase pid rel id c there h = (
-    on_ok (SetsCopy birth place phase pid rel id c old.now.trees new.now.trees) ((id : ℤ) × (c : CopyColumns) × Has (old.now.trees 9) (Int id ∷ copy_row birth place c) × SetsCopy birth place phase pid rel id c old.now.trees new.now.trees) r (λ x. (id, c, there, x)) h.0,
-    on_both (SetsCopy birth place phase pid rel id c old.now.trees new.now.trees) (IsReady new) (IsWhole new) r (λ x y. spared 9 (omega arith) (omega arith) x.others y) h.0 h.1,
-  )
+-- the copy that is set stood
+pub copy_set : (birth place phase : ℕ) (pid rel : Option ℕ) (id : ℤ) (c : CopyColumns) (old new : State) (r : Result ℕ Error) → Has (old.now.trees 9) (Int id ∷ copy_row birth place c)
+    → OnOk r (SetsCopy birth place phase pid rel id c old.now.trees new.now.trees)
+    → OnOk r ((id : ℤ) × (c : CopyColumns) × Has (old.now.trees 9) (Int id ∷ copy_row birth place c) × SetsCopy birth place phase pid rel id c old.now.trees new.now.trees)
+copy_set birth place phase pid rel id c old new r there h =
+    on_ok (SetsCopy birth place phase pid rel id c old.now.trees new.now.trees) ((id : ℤ) × (c : CopyColumns) × Has (old.now.trees 9) (Int id ∷ copy_row birth place c) × SetsCopy birth place phase pid rel id c old.now.trees new.now.trees) r (λ x. (id, c, there, x)) h
 
 -- the row that is set stood
 pub number_set : (name : List ℕ) (value : ℕ) (id : ℤ) (n : ℕ) (old new : State) (r : Result ℕ Error) → Has (old.now.trees 0) (Int id ∷ number_row name n)
-    → OnOk r (SetsNumber name value id old.now.trees new.now.trees) × OnOk r (IsWhole new)
-    → OnOk r ((id : ℤ) × (n : ℕ) × Has (old.now.trees 0) (Int id ∷ number_row name n) × SetsNumber name value id old.now.trees new.now.trees) × OnOk r (IsWhole new)
-number_set name value id n old new r there h = (
-  on_ok (SetsNumber name value id old.now.trees new.now.trees) ((id : ℤ) × (n : ℕ) × Has (old.now.trees 0) (Int id ∷ number_row name n) × SetsNumber name value id old.now.trees new.now.trees) r (λ x. (id, n, there, x)) h.0,
-  h.1,
-)
+    → OnOk r (SetsNumber name value id old.now.trees new.now.trees)
+    → OnOk r ((id : ℤ) × (n : ℕ) × Has (old.now.trees 0) (Int id ∷ number_row name n) × SetsNumber name value id old.now.trees new.now.trees)
+number_set name value id n old new r there h =
+    on_ok (SetsNumber name value id old.now.trees new.now.trees) ((id : ℤ) × (n : ℕ) × Has (old.now.trees 0) (Int id ∷ number_row name n) × SetsNumber name value id old.now.trees new.now.trees) r (λ x. (id, n, there, x)) h
 
 pub begun_whole : (old begun : State) → begun ≡ record old { in_transaction = true } → IsSettled old → IsWhole begun
 begun_whole old begun same s = rw same (record { ready = record { schema = s.schema; inside = refl; shaped = s.shaped; obeys = s.obeys }; meta = s.meta; retained = s.retained })
@@ -81,6 +59,3 @@ pub commit_err : (old tx new : State) (res : Result (Unit {0}) Error) → IsSett
 commit_err old tx new (Ok t) s kept inside h up = tt
 commit_err old tx new (Err e) s kept inside (inl fails) up = back old tx new s kept fails.3 up
 commit_err old tx new (Err e) s kept inside (inr ended) up = absurd (true≢false (sym inside ∙ ended.1))
-
-pub begun_asks : (statements : List Statement) (old begun : State) → begun ≡ record old { in_transaction = true } → AskAll statements old.now.trees → AskAll statements begun.now.trees
-begun_asks statements old begun same asks = rw same asks

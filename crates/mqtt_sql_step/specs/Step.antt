@@ -91,7 +91,3 @@ pub record IsSettled (s : State) : Type 0 where
   pub obeys : Obeys keep_schema s.now.trees
   pub same : s.committed ≡ s.now
   pub is_open : IsTrue s.is_open
-
--- what a step may commit
-abbrev pub Commits : State → List Statement → Trees → Type 0
-Commits s statements db = IsSettled s → AskAll statements s.now.trees → DoAll statements s.now.trees db

@@ -1,8 +1,6 @@
-//! The statements of one step as one transaction of the SQL store (4.1).
+//! A statement of the SQL store, with its parameters (4.1).
 #![tactic(auto)]
 
 mod statement;
-mod step;
 
 pub use statement::{Statement, write};
-pub use step::commit_all;

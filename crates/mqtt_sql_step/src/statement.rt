@@ -84,8 +84,9 @@ pub fn write<S: Alter>(
     ensures same_reference { tx.new.conn.ghost_name ≡ tx.old.conn.ghost_name }
     ensures made { HasCleanDisk (state S.Store tx.new.conn.now) → IsWhole (state S.Store tx.old.conn.now)
         → Asks statement.now (state S.Store tx.old.conn.now).now.trees
-        → OnOk result (Does statement.now (state S.Store tx.old.conn.now).now.trees (state S.Store tx.new.conn.now).now.trees)
-        × OnOk result (IsWhole (state S.Store tx.new.conn.now)) }
+        → OnOk result (Does statement.now (state S.Store tx.old.conn.now).now.trees (state S.Store tx.new.conn.now).now.trees) }
+    ensures whole { HasCleanDisk (state S.Store tx.new.conn.now) → IsWhole (state S.Store tx.old.conn.now)
+        → OnOk result (IsWhole (state S.Store tx.new.conn.now)) }
     ensures kept { HasCleanDisk (state S.Store tx.new.conn.now) → KeepsCommit (state S.Store tx.old.conn.now) (state S.Store tx.new.conn.now) }
     ensures survives { Survives (state S.Store tx.old.conn.now) (state S.Store tx.new.conn.now) (λ _. ⊥) }
 {

@@ -5,9 +5,10 @@ pub mod Cascade
 pub mod RemoveSession
 pub mod RemovesSession
 pub mod RemoveSessionRuns
-pub mod SetCopy
 pub mod Removal
 pub mod Whole
+pub mod SetAny
+pub mod SetCopy
 pub mod Deletes
 pub mod Replace
 pub mod Fresh

@@ -8,7 +8,7 @@ use Rattle.sqlite_value.specs.declared.value.Value.{Value}
 use Rattle.sqlite_value.specs.declared.value.Value.TheVariants.{Null, Int}
 use Rattle.sqlite_value.specs.declared.keys.Collation.TheVariants.{Binary}
 use Rattle.sqlite_value.specs.Keys.{joined}
-use Rattle.sqlite_value.specs.Order.{Row, value_cmp}
+use Rattle.sqlite_value.specs.Order.{Row, value_cmp, column}
 use Rattle.sqlite_value.proofs.OrderLemmas.{value_cmp_total}
 use Rattle.sqlite_trees.specs.Tree.{Trees, rowid, has_rowid, without_rowid}
 use Rattle.sqlite_trees.specs.declared.store.Shape.TheVariants.{Table}
@@ -50,12 +50,13 @@ use Rattle.sqlite.specs.State.{ExecutesInside}
 use Rattle.sqlite.specs.Values.{bound_value, or_null}
 use Rattle.sqlite.proofs.Callers.{command_of}
 use Rattle.mqtt_sql_schema.specs.Tables.{keep_schema, copy}
-use Rattle.mqtt_sql_write.specs.Content.{IsShapedAt, IsReady}
+use Rattle.mqtt_sql_write.specs.Content.{IsShapedAt, IsReady, IsWhole}
 use Rattle.mqtt_sql_write.specs.Copy.{CopyColumns, set_copy, number_or_null, copy_row, is_copy, SetsCopy}
 use Rattle.mqtt_sql_write.proofs.Commands.{over, program, equals}
 use Rattle.mqtt_sql_write.proofs.Parts.{passes, shows, answers_over, updated}
 use Rattle.mqtt_sql_write.proofs.RemoveSession.{equal_ids, only_row}
 use Rattle.mqtt_sql_write.proofs.RemovesSession.{not_tree}
+use Rattle.mqtt_sql_write.proofs.SetAny.{any_whole}
 
 abbrev pub set_copy_text : List ℕ
 set_copy_text = codes "UPDATE copy SET pid = ?3, phase = ?4, rel = ?5 WHERE birth = ?1 AND place = ?2"
@@ -210,3 +211,21 @@ pub args_are : (text : List ℕ) (old new : State) (res : Result ℕ Error) (a b
     → ExecutesInside 0 text (a ∷ b ∷ bound_value (or_null Int (option_map pos pid)) ∷ d ∷ bound_value (or_null Int (option_map pos rel)) ∷ []) old new res
     → ExecutesInside 0 text (a ∷ b ∷ number_or_null pid ∷ d ∷ number_or_null rel ∷ []) old new res
 args_are text old new res a b d pid rel h = subst (λ (p : Row). ExecutesInside 0 text p old new res) (ap (λ v. a ∷ b ∷ v ∷ d ∷ bound_value (or_null Int (option_map pos rel)) ∷ []) (bound_is pid) ∙ ap (λ v. a ∷ b ∷ number_or_null pid ∷ d ∷ v ∷ []) (bound_is rel)) h
+
+none_works : works keep_schema Enforced 0 9 [] [] ≡ []
+unfolding same_name joined
+none_works = refl
+
+-- be there a copy at that place or not
+pub any_copy : (birth place phase : ℕ) (pid rel : Option ℕ) (old after : State) (r : Result ℕ Error) → IsWhole old
+    → ExecutesInside 0 set_copy_text (Int (pos birth) ∷ Int (pos place) ∷ number_or_null pid ∷ Int (pos phase) ∷ number_or_null rel ∷ []) old after r → OnOk r (IsWhole after)
+any_copy birth place phase pid rel old after (Err e) whole h = tt
+any_copy birth place phase pid rel old after (Ok count) whole h =
+    any_whole set_copy_text 5 copy set_tests set_project (Int (pos birth) ∷ Int (pos place) ∷ number_or_null pid ∷ Int (pos phase) ∷ number_or_null rel ∷ []) set_copy_is set_copy_plain refl none_works no_works
+    (λ x. (
+      column x 1 ∷ column x 2 ∷ column x 3 ∷ column x 4 ∷ column x 5 ∷ column x 6 ∷ number_or_null pid ∷ Int (pos phase) ∷ number_or_null rel ∷ column x 10 ∷ column x 11 ∷ column x 12 ∷ column x 13
+      ∷ column x 14 ∷ column x 15 ∷ [],
+      refl,
+    ))
+    (λ id rest. cast_int id) old after count whole whole.ready.shaped.copy
+    (λ r x hr hx pr px. one_copy old.now.trees birth place r x whole.ready.obeys whole.ready.shaped.copy hr hx (sym (and_true _ _) ∙ pr) (sym (and_true _ _) ∙ px)) h

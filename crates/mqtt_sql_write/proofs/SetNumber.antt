@@ -7,7 +7,7 @@ use Rattle.std.proofs.lemmas.Bool.{false_from_ne_true, and_from}
 use Rattle.sqlite_value.specs.declared.value.Value.TheVariants.{Null, Int, Text}
 use Rattle.sqlite_value.specs.declared.keys.Collation.TheVariants.{Binary}
 use Rattle.sqlite_value.specs.Keys.{plain, first_key, joined}
-use Rattle.sqlite_value.specs.Order.{Row}
+use Rattle.sqlite_value.specs.Order.{Row, column}
 use Rattle.sqlite_value.proofs.OrderLemmas.{value_cmp_total}
 use Rattle.sqlite_trees.specs.Tree.{Trees, rowid, has_rowid, without_rowid}
 use Rattle.sqlite_trees.specs.declared.store.Shape.TheVariants.{Table}
@@ -48,6 +48,7 @@ use Rattle.mqtt_sql_write.proofs.RemoveSession.{only_row}
 use Rattle.mqtt_sql_write.proofs.SetCopy.{cast_int, same_rowid}
 use Rattle.mqtt_sql_write.proofs.Fresh.{and_true}
 use Rattle.mqtt_sql_write.proofs.Whole.{whole_after}
+use Rattle.mqtt_sql_write.proofs.SetAny.{any_whole}
 
 abbrev pub set_text : List ℕ
 set_text = codes "UPDATE meta SET n = ?2 WHERE name = ?1"
@@ -144,3 +145,15 @@ sets_number name value old new id n (Ok count) whole there h =
     let shown = found name value n db new.now.trees id whole.meta whole.ready.obeys there d.rows (d.answers.answer Null) in
     let s = goes name value n db new.now.trees id whole.meta whole.ready.obeys (subst (λ l. Writes keep_schema Enforced db (edit_of db meta (ids_of l) Given 1 l) (Ok new.now.trees)) shown d.writes) in
     (s, whole_after 0 old new whole s.others (set_shaped name value n db new.now.trees id whole.meta whole.ready.obeys s) d.schema h.1.mode (rw d.schema at w.sound.obeys))
+
+none_works : works keep_schema Enforced 0 0 [] [] ≡ []
+unfolding same_name joined
+none_works = refl
+
+-- be there a number of that name or not
+pub any_number : (name : List ℕ) (value : ℕ) (old after : State) (r : Result ℕ Error) → IsWhole old → ExecutesInside 0 set_text (Text name ∷ Int (pos value) ∷ []) old after r → OnOk r (IsWhole after)
+any_number name value old after (Err e) whole h = tt
+any_number name value old after (Ok count) whole h =
+    any_whole set_text 0 meta tests project (Text name ∷ Int (pos value) ∷ []) set_is set_plain refl none_works no_works
+    (λ x. (column x 1 ∷ Int (pos value) ∷ [], refl)) (λ id rest. cast_int id) old after count whole whole.meta
+    (λ r x hr hx pr px. one_name old.now.trees name r x whole.ready.obeys whole.meta hr hx (sym (and_true _) ∙ pr) (sym (and_true _) ∙ px)) h

@@ -96,6 +96,10 @@ pub fn set_copy<S: Alter>(
         → Has ((state S.Store tx.old.conn.now).now.trees 9) (Int id ∷ copy_row birth place c)
         → OnOk result (SetsCopy birth place phase pid rel id c (state S.Store tx.old.conn.now).now.trees (state S.Store tx.new.conn.now).now.trees)
         × OnOk result (IsReady (state S.Store tx.new.conn.now)) }
+
+    // Where no copy has that place nothing is set.
+    ensures whole { HasCleanDisk (state S.Store tx.new.conn.now) → IsWhole (state S.Store tx.old.conn.now)
+        → OnOk result (IsWhole (state S.Store tx.new.conn.now)) }
     ensures kept { HasCleanDisk (state S.Store tx.new.conn.now) → KeepsCommit (state S.Store tx.old.conn.now) (state S.Store tx.new.conn.now) }
     ensures survives { Survives (state S.Store tx.old.conn.now) (state S.Store tx.new.conn.now) (λ _. ⊥) }
 {

@@ -22,6 +22,10 @@ pub fn set_number<S: Alter>(
         → Has ((state S.Store tx.old.conn.now).now.trees 0) (Int id ∷ number_row name.now n)
         → OnOk result (SetsNumber name.now value id (state S.Store tx.old.conn.now).now.trees (state S.Store tx.new.conn.now).now.trees)
         × OnOk result (IsWhole (state S.Store tx.new.conn.now)) }
+
+    // Where no row has that name nothing is set.
+    ensures whole { HasCleanDisk (state S.Store tx.new.conn.now) → IsWhole (state S.Store tx.old.conn.now)
+        → OnOk result (IsWhole (state S.Store tx.new.conn.now)) }
     ensures kept { HasCleanDisk (state S.Store tx.new.conn.now) → KeepsCommit (state S.Store tx.old.conn.now) (state S.Store tx.new.conn.now) }
     ensures survives { Survives (state S.Store tx.old.conn.now) (state S.Store tx.new.conn.now) (λ _. ⊥) }
 {

@@ -1,1 +1,4 @@
 pub mod Held
+pub mod Order
+pub mod Loads
+pub mod Applies

@@ -1,0 +1,18 @@
+use Rattle.std.proofs.Common.{◌≡◌}
+use Rattle.sqlite.specs.State.{HasCleanDisk}
+use Rattle.sqlite.specs.Held.{state}
+use Rattle.mqtt_sql_write.specs.Content.{IsWhole}
+use Rattle.mqtt_sql_changes.specs.Making.{NeedAll, StaysInside}
+use Rattle.mqtt_sql_changes.proofs.Inside.{Leads}
+use Rattle.mqtt_sql_changes.proofs.commit.write_changes.Given as goal
+
+abbrev pub invariant-loop-change : goal.invariant-loop-change
+invariant-loop-change g l =
+    let old = state g.S.Store l.fn.tx.conn.now in
+    let now = state g.S.Store l.tx.conn.now in
+    record {
+      same : l.tx.conn.ghost_name ≡ l.fn.tx.conn.ghost_name;
+      inside : StaysInside old now;
+      whole : HasCleanDisk now → IsWhole old → IsWhole now;
+      left : HasCleanDisk now → IsWhole old → NeedAll l.changes old.now.trees → Leads l.changes l.change-index old.now.trees now.now.trees;
+    }

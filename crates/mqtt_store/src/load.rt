@@ -1,0 +1,45 @@
+//! A load of the store's records, and what it leaves (4.1).
+ghost use Rattle.std.specs.Prelude.{◌≡◌, false, IfOk, IfErr};
+ghost use Rattle.sqlite.specs.Held.{state};
+ghost use Rattle.sqlite.specs.State.{HasCleanDisk};
+ghost use Rattle.mqtt_records.specs.declared.records.Records.{Records as Kept};
+ghost use Rattle.mqtt_sql_read.specs.Kept.{Refuses};
+ghost use Rattle.mqtt_store.specs.Holding.{Holds, Leaves, HasKept};
+ghost use Rattle.mqtt_store.specs.Ordered.{IsOrdered};
+
+use mqtt_records::{KeepError, Records};
+use mqtt_sql_read::load_from;
+use sqlite::{Alter, Connection};
+use std::alloc::Global;
+
+/// Reads all records of a database; where it is empty, makes the tables of a new store.
+pub(crate) fn load_records<S: Alter>(
+    alloc: Global,
+    conn: &mut Connection<S>,
+) -> Result<Records, KeepError>
+    requires autocommit { conn.old.in_transaction ≡ false }
+    requires ordered { IsOrdered (state S.Store conn.old) }
+    ensures autocommit { conn.new.in_transaction ≡ false }
+    ensures ordered { IsOrdered (state S.Store conn.new) }
+
+    // What it answers is what the database has.
+    ensures exact { (r : Kept) → Holds (state S.Store conn.old) r
+        → IfOk result (λ records. HasCleanDisk (state S.Store conn.new) → records ≡ r) }
+    ensures kept { IfOk result (λ records. HasCleanDisk (state S.Store conn.new)
+        → HasKept (state S.Store conn.new) records) }
+    ensures found { IfOk result (λ records. HasCleanDisk (state S.Store conn.new)
+        → Leaves (state S.Store conn.old) records) }
+
+    // What the database has stays, and a crash finds nothing else than before.
+    ensures same { (r : Kept) → Holds (state S.Store conn.old) r → Holds (state S.Store conn.new) r }
+    ensures crash { (r : Kept) → Leaves (state S.Store conn.new) r → Leaves (state S.Store conn.old) r }
+    ensures sound { HasCleanDisk (state S.Store conn.new) → HasCleanDisk (state S.Store conn.old) }
+    ensures refused { IfErr result (λ fault. HasCleanDisk (state S.Store conn.new)
+        → Refuses S.Store conn.old fault) }
+{
+    // These show that all is committed, and that the rows obey their schema.
+    let _autocommit = conn.is_autocommit();
+    let answer = load_from(alloc, conn);
+    let _schema = conn.schema();
+    answer
+}
