@@ -18,9 +18,10 @@ use Rattle.mqtt_tables.specs.declared.call.EngineError.TheVariants as errors
 use Rattle.mqtt_tables.specs.Stepping.{Stepping, at_rest, with_stamp}
 use Rattle.mqtt_tables.specs.Undoing.{moment_of}
 use Rattle.mqtt_engine.specs.declared.outcome.Outcome.{Outcome}
-use Rattle.mqtt_engine.specs.Calling.{DidCall, IsAnswered, IsLeftBy}
-use Rattle.mqtt_engine.specs.Sound.{IsSound}
-use Rattle.mqtt_engine.proofs.SoundLaw.{step_sound}
+use Rattle.mqtt_engine.specs.Calling.{IsAnswered, IsLeftBy}
+use Rattle.mqtt_calls.specs.Doing.{DidCall}
+use Rattle.mqtt_calls.specs.Sound.{IsSound}
+use Rattle.mqtt_calls.proofs.SoundLaw.{step_sound}
 
 -- ---- a step that did the deeds of a call, with its moment
 

@@ -1,7 +1,4 @@
-pub mod Flights
-pub mod SoundLaw
 pub mod Called
-pub mod CallActs
 pub mod Linked
 pub mod Framings
 pub mod Holders

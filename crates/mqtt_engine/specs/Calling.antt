@@ -1,31 +1,11 @@
 -- A call: the step that it is of the broker, and what is answered (MQTT 5.0, 4.1).
-use Rattle.std.specs.Prelude.{◌≡◌, ◌⊎◌, ⊤, ℕ, Bool, false, Result, Ok, Err}
+use Rattle.std.specs.Prelude.{◌≡◌, ◌⊎◌, ℕ, false}
 use Rattle.mqtt_records.specs.declared.records.Records.{Records}
 use Rattle.mqtt_rules.specs.declared.Limits.{Limits}
 use Rattle.mqtt_rules.specs.State.{Broker, MemberChoice, stored}
-use Rattle.mqtt_rules.specs.Step.{Call, NewLine, Input, BadInput, Lost, Pump, Tick, BrokerStep, SpentStep, at_moment, bytes_out, deeds, is_again, is_step_spent, stepped}
+use Rattle.mqtt_rules.specs.Step.{Call, NewLine, Input, BadInput, Lost, Pump, Tick, BrokerStep, bytes_out, is_step_spent, stepped}
 use Rattle.mqtt_rules.specs.Step.{Outcome as Told}
-use Rattle.mqtt_tables.specs.declared.fault.StepFault.{StepFault}
-use Rattle.mqtt_tables.specs.declared.fault.StepFault.TheVariants.{Spent}
-use Rattle.mqtt_tables.specs.Stepping.{Stepping, at_rest, did, with_broker}
 use Rattle.mqtt_engine.specs.declared.outcome.Outcome.{Outcome}
-
--- ---- the deeds of a call, in place
-
--- a step that has begun at a moment, where none was under way
-abbrev pub begun : Limits → ℕ → Broker → Stepping
-begun limits now b = with_broker (at_moment now b) (at_rest limits b)
-
--- since it began, it did the deeds of a call, for some choice of members, and more may be there
-pub record DidCall (now : ℕ) (call : Call) (again : Bool) (s : Stepping) : Type 0 where
-  pub choice : MemberChoice
-  pub is : s ≡ did (deeds s.limits choice now call s.start) (begun s.limits now s.start)
-  pub again_is : again ≡ is_again call (deeds s.limits choice now call s.start)
-
--- or it was refused, and numbers are spent only where the call's are
-abbrev pub IsCalled : (now : ℕ) (call : Call) (again : Bool) → Result ⊤ StepFault → Stepping → Type 0
-IsCalled now call again (Ok done) s = DidCall now call again s
-IsCalled now call again (Err fault) s = fault ≡ Spent → SpentStep s.limits s.start now call
 
 -- ---- what is answered
 

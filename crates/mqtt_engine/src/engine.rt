@@ -8,14 +8,14 @@ ghost use Rattle.mqtt_rules.specs.State.{line_at};
 ghost use Rattle.mqtt_rules.specs.Step.{BrokerStep, Call, NewLine, Input, SpentStep, copy_of, nothing_told};
 ghost use Rattle.mqtt_tables.specs.Doing.{next_line};
 ghost use Rattle.mqtt_tables.specs.Stepping.{at_rest};
-ghost use Rattle.mqtt_engine.specs.Sound.{IsSound};
+ghost use Rattle.mqtt_calls.specs.Sound.{IsSound};
 ghost use Rattle.mqtt_engine.specs.Calling.{IsAnswered, IsLeftBy, IsOn};
 
-use crate::answering::{ping_at, release_at};
 use crate::finishing::finish;
 use crate::holding::copy_of;
 use crate::outcome::{Outcome, nothing};
 use mqtt_base::CopyId;
+use mqtt_calls::{ping_at, release_at};
 use mqtt_codec::Ack;
 use mqtt_records::Keep;
 use mqtt_tables::{EngineError, Step};
@@ -35,7 +35,7 @@ impl<K: Keep> Model for Engine<K> {
     ghost use Rattle.std.specs.Prelude.{◌≡◌, false};
     ghost use Rattle.mqtt_tables.specs.Stepping.{at_rest};
     ghost use Rattle.mqtt_engine.specs.Running.{Running};
-    ghost use Rattle.mqtt_engine.specs.Sound.{IsSound};
+    ghost use Rattle.mqtt_calls.specs.Sound.{IsSound};
 
     ghost Value = { Running K };
 

@@ -5,8 +5,9 @@ ghost use Rattle.mqtt_rules.specs.Contents.{TakesLawful};
 ghost use Rattle.mqtt_rules.specs.Step.{Call, SpentStep};
 ghost use Rattle.mqtt_tables.specs.Stepping.{at_rest};
 ghost use Rattle.mqtt_tables.specs.declared.fault.StepFault.TheVariants.{Spent};
-ghost use Rattle.mqtt_engine.specs.Calling.{DidCall, IsAnswered, IsCalled, IsLeftBy};
-ghost use Rattle.mqtt_engine.specs.Sound.{IsSound};
+ghost use Rattle.mqtt_engine.specs.Calling.{IsAnswered, IsLeftBy};
+ghost use Rattle.mqtt_calls.specs.Doing.{DidCall, IsCalled};
+ghost use Rattle.mqtt_calls.specs.Sound.{IsSound};
 
 use crate::outcome::{Outcome, answered};
 use mqtt_records::Keep;

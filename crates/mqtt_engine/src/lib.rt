@@ -2,17 +2,13 @@
 //! step leaves (MQTT 5.0, 4.1). Private: not all packets are answered yet.
 #![tactic(auto)]
 
-mod answering;
 mod engine;
 mod finishing;
 mod framing;
 mod holding;
-mod laws;
 mod outcome;
 
-pub use answering::{ping_at, release_at};
 pub use engine::Engine;
 pub use finishing::finish;
 pub use framing::{drop_first, is_whole, take};
-pub use laws::{limits_stay_kept, sound_brokers_stay_sound};
 pub use outcome::Outcome;

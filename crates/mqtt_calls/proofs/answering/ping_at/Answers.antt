@@ -1,0 +1,31 @@
+use Rattle.std.proofs.Common.{◌≡◌, false, refl, ap, ◌∙◌}
+use Rattle.mqtt_codec.specs.declared.packet.Packet.TheVariants.{Pingreq}
+use Rattle.mqtt_rules.specs.Step.{Input, at_moment, deeds_of}
+use Rattle.mqtt_tables.specs.Stepping.{with_broker}
+use Rattle.mqtt_calls.specs.Doing.{begun}
+use Rattle.mqtt_calls.proofs.CallActs.{called_by, limits_by, start_by}
+use Rattle.mqtt_calls.proofs.answering.ping_at.Goals as goal
+
+pub returns-in-Ok-clause-called : goal.returns-in-Ok-clause-called
+returns-in-Ok-clause-called c =
+    let s = c.args.step.now in
+    let same : c.begin.new.self ≡ begun s.limits c.args.moment s.broker =
+    c.in-Ok.ensures.ok ∙ ap (with_broker (at_moment c.args.moment s.broker)) c.requires.rest in
+    called_by s.limits c.args.moment (Input c.args.line Pingreq) false s.broker c.begin.new.self c.ping.new.step c.ping.result same (λ choice. refl)
+    c.ping.ensures.ok c.ping.ensures.left
+
+pub returns-in-Ok-clause-start : goal.returns-in-Ok-clause-start
+returns-in-Ok-clause-start c =
+    let s = c.args.step.now in
+    let same : c.begin.new.self ≡ begun s.limits c.args.moment s.broker =
+    c.in-Ok.ensures.ok ∙ ap (with_broker (at_moment c.args.moment s.broker)) c.requires.rest in
+    start_by s.limits c.args.moment (λ env. deeds_of env (Input c.args.line Pingreq)) s.broker c.begin.new.self c.ping.new.step c.ping.result same
+    c.ping.ensures.ok c.ping.ensures.left
+
+pub returns-in-Ok-clause-limits : goal.returns-in-Ok-clause-limits
+returns-in-Ok-clause-limits c =
+    let s = c.args.step.now in
+    let same : c.begin.new.self ≡ begun s.limits c.args.moment s.broker =
+    c.in-Ok.ensures.ok ∙ ap (with_broker (at_moment c.args.moment s.broker)) c.requires.rest in
+    limits_by s.limits c.args.moment (λ env. deeds_of env (Input c.args.line Pingreq)) s.broker c.begin.new.self c.ping.new.step c.ping.result same
+    c.ping.ensures.ok c.ping.ensures.left

@@ -1,0 +1,5 @@
+pub mod OnLine
+pub mod Clients
+pub mod Heard
+pub mod Answered
+pub mod Called
