@@ -1,6 +1,5 @@
 -- What a store has, it has alone.
-use Rattle.std.proofs.Common.{◌≡◌, ◌⊎◌, length, IsTrue, ap, sym, subst, ◌∙◌, inl, inr, arith}
-use Rattle.sqlite_schema.specs.declared.schema.Schema.{Schema}
+use Rattle.std.proofs.Common.{◌≡◌, ◌⊎◌, IsTrue, ap, sym, subst, ◌∙◌, inl, inr, arith}
 use Rattle.sqlite_schema.specs.Rules.{Obeys}
 use Rattle.sqlite_trees.specs.Tree.{Trees}
 use Rattle.sqlite.specs.Effect.{Database}
@@ -9,23 +8,17 @@ use Rattle.mqtt_records.specs.declared.records.Records.{Records}
 use Rattle.mqtt_records.specs.Records.{nothing}
 use Rattle.mqtt_sql_schema.specs.Tables.{keep_schema}
 use Rattle.mqtt_sql_schema.specs.Creation.{first, IsNewStore}
-use Rattle.mqtt_sql_read.specs.Kept.{HasRecords, Keeps, HasNow, IsLeft}
+use Rattle.mqtt_sql_read.specs.Kept.{Keeps, HasNow, IsLeft}
 use Rattle.mqtt_sql_kept.specs.Written.{KeepsRows, AreInOrder}
 use Rattle.mqtt_sql_found.proofs.Alike.{alike}
 use Rattle.mqtt_sql_found.proofs.Found.{found_distinct}
 use Rattle.mqtt_sql_found.proofs.Kept.{distinct_kept, kept_distinct}
 use Rattle.mqtt_sql_found.proofs.New.{new_keeps}
+pub use Rattle.mqtt_store.specs.Ones.{not_both, found_one, load_finds, leaves_held}
 use Rattle.mqtt_store.specs.Holding.{ShowsKept, Finds, Has, Holds, HasKept, Leaves, OnlyLoads, OnlySteps}
-
--- an empty database has not the store's tables
-pub not_both : (s : Schema) → s ≡ keep_schema → s ≡ first 0 → ⊥
-not_both s ours none = let tables : 7 ≡ 0 = ap (λ (t : Schema). length t.tables) (sym ours ∙ none) in absurd (omega (arith, tables))
 
 rows_one : (db : Trees) (q r : Records) → KeepsRows db q → KeepsRows db r → q ≡ r
 rows_one db q r h k = alike db q r (kept_distinct db q h) (kept_distinct db r k)
-
-found_one : (db : Trees) (q r : Records) → HasRecords db q → KeepsRows db r → q ≡ r
-found_one db q r h k = alike db q r (found_distinct db q h) (kept_distinct db r k)
 
 pub keeps_one : (db : Database) (q r : Records) → ShowsKept db q → ShowsKept db r → q ≡ r
 keeps_one db q r (inl h) (inl k) = rows_one db.trees q r h.1 k.1
@@ -33,25 +26,11 @@ keeps_one db q r (inl h) (inr k) = absurd (not_both db.schema h.0 k.0)
 keeps_one db q r (inr h) (inl k) = absurd (not_both db.schema k.0 h.0)
 keeps_one db q r (inr h) (inr k) = h.1 ∙ sym k.1
 
-pub load_finds : (db : Database) (q r : Records) → Keeps db q → ShowsKept db r → q ≡ r
-load_finds db q r (inl h) (inl k) = found_one db.trees q r h.1 k.1
-load_finds db q r (inl h) (inr k) = absurd (not_both db.schema h.0 k.0)
-load_finds db q r (inr h) (inl k) = absurd (not_both db.schema k.0 h.0)
-load_finds db q r (inr h) (inr k) = h.1 ∙ sym k.1
-
 pub loaded_kept : (s : State) (r : Records) → Obeys keep_schema s.now.trees → AreInOrder s.now.trees → HasNow s r → HasKept s r
 loaded_kept s r obeys order h = record {
   ready = record { is_open = h.is_open; settled = h.settled; schema = h.schema };
   keeps = distinct_kept s.now.trees obeys order r (found_distinct s.now.trees r h.has);
 }
-
-pub leaves_held : (s : State) (left r : Records) → Holds s r → Leaves s left → left ≡ r
-leaves_held s left r holds found =
-    let has = holds found.clean in
-    elim found.may [
-      | inl crash ↦ has.left crash.0 left crash.1 crash.2
-      | inr shown ↦ load_finds s.now left r shown.1 (has.shows shown.0)
-    ]
 
 finds_one : (db : Trees) (q r : Records) → KeepsRows db r → Finds db q → q ≡ r
 finds_one db q r h (inl k) = found_one db q r k h
