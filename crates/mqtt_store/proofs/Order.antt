@@ -1,18 +1,20 @@
 -- In which order the rows of a store's tables stand.
-use Rattle.std.proofs.Common.{◌≡◌, ℕ, pos, [], Less, int_cmp, refl, subst, ◌∙◌}
+use Rattle.std.proofs.Common.{◌≡◌, ◌≤◌, ℕ, pos, [], Less, int_cmp, false, refl, sym, subst, ◌∙◌, arith}
 use Rattle.sqlite_value.specs.declared.value.Value.TheVariants.{Int}
 use Rattle.sqlite_value.specs.Order.{value_cmp}
 use Rattle.sqlite_value.proofs.OrderLemmas.{value_cmp-Int}
 use Rattle.sqlite_trees.specs.Tree.{Trees}
-use Rattle.sqlite_trees.specs.View.{View, IsShaped, IsOrdered as AreOrdered}
+use Rattle.sqlite_trees.specs.View.{View, IsShaped, IsOrdered as AreOrdered, doubt, IsClean}
 use Rattle.sqlite_trees.specs.Objects.{catalog_tree, IsListed}
 use Rattle.sqlite_catalog.specs.Listing.{IsSound}
 use Rattle.sqlite_catalog.proofs.LayoutLemmas.{laid_out, objects_rise}
 use Rattle.sqlite.specs.Effect.{Database}
+use Rattle.sqlite.specs.State.{State, HasCleanDisk, Opens, IsLive}
 use Rattle.mqtt_sql_schema.specs.Tables.{keep_schema}
 use Rattle.mqtt_sql_schema.specs.Creation.{IsNewStore, first_numbers}
 use Rattle.mqtt_sql_write.specs.Content.{IsShapedAt}
 use Rattle.mqtt_sql_kept.specs.Written.{AreInOrder}
+use Rattle.mqtt_store.specs.Ordered.{IsOrdered}
 
 -- a store that is not broken has its trees in order
 pub shaped_from : (v : View) → AreOrdered v.shape v.trees → IsListed (v.trees catalog_tree) v.shape v.reals → IsSound keep_schema v.trees → AreInOrder v.trees
@@ -37,6 +39,16 @@ shaped_from v ordered listed sound =
       meta = record { up = s0.0; ints = s0.1 };
       retained = record { up = s11.0; ints = s11.1 };
     }
+
+-- a connection that was just opened over a store shows its rows in order
+pub ordered_over : (v : View) (s : State) → (HasCleanDisk s → Opens s × IsLive s) → doubt v.is_clean ≤ doubt s.is_clean → (HasCleanDisk s → s.now.trees ≡ v.trees) → (IsClean v → v.is_broken ≡ false)
+    → (v.is_broken ≡ false → AreOrdered v.shape v.trees) → (v.is_broken ≡ false → IsListed (v.trees catalog_tree) v.shape v.reals) → IsOrdered s
+ordered_over v s opens less trees unbroken ordered listed tidy up ours =
+    let was : IsClean v = omega (arith, less, tidy) in
+    let sound = unbroken was in
+    let live = (opens tidy).1 (opens tidy).0.is_open in
+    let obeyed : IsSound keep_schema v.trees = subst (IsSound keep_schema) (trees tidy) (rw ours at live.0) in
+    subst AreInOrder (sym (trees tidy)) (shaped_from v (ordered sound) (listed sound) obeyed)
 
 -- ---- a new store
 

@@ -35,10 +35,10 @@ returns-in-Ok-clause-crash g c =
     let full = λ (clean : HasCleanDisk old). let ready = c.requires.loaded clean in settled_of old ready (c.requires.ordered clean ready.is_open ready.schema) c.schema-schema.ensures.live in
     let first = λ (clean : HasCleanDisk mid). let less = e.crash.clean in let k : HasCleanDisk old = omega (arith, less, clean) in k in
     let either = λ (clean : HasCleanDisk mid) (up : IsTrue mid.is_open).
-        let s = full (first clean) in
-        let settled = c.in-Ok.ensures.settled clean s in
-        let either : IsEither changes old mid = inr (settled.schema, λ needs. c.in-Ok.ensures.ok clean s needs) in
-        either in
+    let s = full (first clean) in
+    let settled = c.in-Ok.ensures.settled clean s in
+    let either : IsEither changes old mid = inr (settled.schema, λ needs. c.in-Ok.ensures.ok clean s needs) in
+    either in
     λ r left holds fit say found. step_leaves old mid r (changed_all changes r) left (only_steps old changes r full holds fit say mid e.crash either) holds found
 
 pub returns-in-Ok-probe-clause-same : goal.returns-in-Ok-probe-clause-same
@@ -74,12 +74,12 @@ returns-in-Ok-probe-clause-crash g c =
     let second = λ (clean : HasCleanDisk new). let less = reads.survives.clean in let k : HasCleanDisk mid = omega (arith, less, clean) in k in
     let it = survives_then old mid new (MayCommit old changes) (λ _. ⊥) (MayCommit old changes) (λ _ db h. h) (λ _ db none. absurd none) e.crash reads.survives in
     let either = λ (clean : HasCleanDisk new) (up : IsTrue new.is_open).
-        let stays = reads.stays clean in
-        let before = second clean in
-        let err = c.in-Err.ensures.err before (full (first before)) (stays.was_open up) in
-        let same = stays.same up (record { committed = err.1.same; autocommit = e.autocommit }) in
-        let either : IsEither changes old new = inl (same.0 ∙ err.0) in
-        either in
+    let stays = reads.stays clean in
+    let before = second clean in
+    let err = c.in-Err.ensures.err before (full (first before)) (stays.was_open up) in
+    let same = stays.same up (record { committed = err.1.same; autocommit = e.autocommit }) in
+    let either : IsEither changes old new = inl (same.0 ∙ err.0) in
+    either in
     λ r left holds fit say found. step_leaves old new r (changed_all changes r) left (only_steps old changes r full holds fit say new it either) holds found
 
 pub returns-in-Err-probe-clause-crash : goal.returns-in-Err-probe-clause-crash
@@ -95,10 +95,10 @@ returns-in-Err-probe-clause-crash g c =
     let second = λ (clean : HasCleanDisk new). let less = reads.survives.clean in let k : HasCleanDisk mid = omega (arith, less, clean) in k in
     let it = survives_then old mid new (MayCommit old changes) (λ _. ⊥) (MayCommit old changes) (λ _ db h. h) (λ _ db none. absurd none) e.crash reads.survives in
     let either = λ (clean : HasCleanDisk new) (up : IsTrue new.is_open).
-        let stays = reads.stays clean in
-        let before = second clean in
-        let err = c.in-Err.ensures.err before (full (first before)) (stays.was_open up) in
-        let same = stays.same up (record { committed = err.1.same; autocommit = e.autocommit }) in
-        let either : IsEither changes old new = inl (same.0 ∙ err.0) in
-        either in
+    let stays = reads.stays clean in
+    let before = second clean in
+    let err = c.in-Err.ensures.err before (full (first before)) (stays.was_open up) in
+    let same = stays.same up (record { committed = err.1.same; autocommit = e.autocommit }) in
+    let either : IsEither changes old new = inl (same.0 ∙ err.0) in
+    either in
     λ r left holds fit say found. step_leaves old new r (changed_all changes r) left (only_steps old changes r full holds fit say new it either) holds found
