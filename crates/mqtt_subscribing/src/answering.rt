@@ -3,7 +3,6 @@ ghost use Rattle.std.specs.Prelude.{◌≡◌, ◌∷◌, ◌++◌, [], IfErr, O
 ghost use Rattle.std.specs.List.{AllByRecursion};
 ghost use Rattle.mqtt_base.specs.Values.{FitsText};
 ghost use Rattle.mqtt_codec.specs.Subscriptions.{IsSubscription};
-ghost use Rattle.mqtt_flow.specs.declared.entry.Full.TheVariants.{Refuse};
 ghost use Rattle.mqtt_lawful.specs.Lawful.{IsIdentifier};
 ghost use Rattle.mqtt_message.specs.Queue.{IsSpelled};
 ghost use Rattle.mqtt_message.specs.declared.message.RetainedMessage.{RetainedMessage as Retained};
@@ -26,7 +25,6 @@ fn answer_one(
     alloc: Global,
     step: &mut Step,
     birth: u64,
-    limit: u32,
     filter: &str,
     byte: u8,
     identifier: Option<u32>,
@@ -34,8 +32,6 @@ fn answer_one(
     late: &mut Vec<MessageCopy>,
 ) -> Result<(), StepFault>
     requires once { HaveFiltersOnce step.old.broker.records }
-    requires full { step.old.limits.full ≡ Refuse }
-    requires limit { limit ≡ step.old.limits.queue }
     requires lawful { AllByRecursion (λ (k : Retained). IsPublished k.content)
         step.old.broker.records.retained }
     requires identifier { IsIdentifier identifier }
@@ -59,9 +55,7 @@ fn answer_one(
         return Ok(());
     };
     let text = Text::new(alloc, filter)?;
-    answer_filter(
-        alloc, step, birth, limit, text, options, identifier, codes, late,
-    )
+    answer_filter(alloc, step, birth, text, options, identifier, codes, late)
 }
 
 /// What becomes of the filters, in order, each on what the ones before it left: the deeds of all are done, and
@@ -76,7 +70,6 @@ pub(crate) fn answer_all(
     late: &mut Vec<MessageCopy>,
 ) -> Result<(), StepFault>
     requires once { HaveFiltersOnce step.old.broker.records }
-    requires full { step.old.limits.full ≡ Refuse }
     requires lawful { AllByRecursion (λ (k : Retained). IsPublished k.content)
         step.old.broker.records.retained }
     requires identifier { IsIdentifier identifier }
@@ -94,14 +87,12 @@ pub(crate) fn answer_all(
     ensures left { IfErr result (λ fault. Leaves
         (answers_all birth identifier filters.now) fault step.old step.new) }
 {
-    let limit = step.limits().queue;
     let mut rest = filters.lend();
     while let Some((asked, after)) = rest.split_first() {
         answer_one(
             alloc,
             step,
             birth,
-            limit,
             asked.filter,
             asked.options,
             identifier,

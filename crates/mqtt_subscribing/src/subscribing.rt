@@ -4,7 +4,6 @@ ghost use Rattle.std.specs.List.{AllByRecursion};
 ghost use Rattle.mqtt_base.specs.Codes.{identifier_in_use};
 ghost use Rattle.mqtt_codec.specs.Subscriptions.{Subscription as Asked};
 ghost use Rattle.mqtt_codec.specs.declared.packet.Packet.TheVariants as packets;
-ghost use Rattle.mqtt_flow.specs.declared.entry.Full.TheVariants.{Refuse};
 ghost use Rattle.mqtt_message.specs.Queue.{IsSpelled};
 ghost use Rattle.mqtt_message.specs.declared.message.RetainedMessage.{RetainedMessage as Retained};
 ghost use Rattle.mqtt_records.specs.declared.session.Session.{Session as TheSession};
@@ -97,7 +96,6 @@ fn answer_packet(
     packet: &Subscribe,
 ) -> Result<(), StepFault>
     requires once { HaveFiltersOnce step.old.broker.records }
-    requires full { step.old.limits.full ≡ Refuse }
     requires lawful { AllByRecursion (λ (k : Retained). IsPublished k.content)
         step.old.broker.records.retained }
     requires taken { IsTaken (packets.Subscribe packet.now) }
@@ -143,7 +141,6 @@ pub fn subscribe(
     packet: &Subscribe,
 ) -> Result<(), StepFault>
     requires once { HaveFiltersOnce step.old.broker.records }
-    requires full { step.old.limits.full ≡ Refuse }
     requires lawful { AllByRecursion (λ (k : Retained). IsPublished k.content)
         step.old.broker.records.retained }
     requires taken { IsTaken (packets.Subscribe packet.now) }

@@ -1,4 +1,4 @@
-use Rattle.std.proofs.Common.{◌≡◌, List, rules, ap, sym, subst, ◌∙◌}
+use Rattle.std.proofs.Common.{◌≡◌, List, rules, sym, subst}
 use Rattle.std.specs.Prelude.{⊤, Result, Err, IfErr}
 use Rattle.mqtt_codec.specs.Subscriptions.{Subscription as Asked}
 use Rattle.mqtt_tables.specs.declared.fault.StepFault.{StepFault}
@@ -13,12 +13,6 @@ loop-asked-init c =
     (sym c.lend-rest.ensures)
     (answers_first c.args.birth c.args.identifier c.args.filters.now c.args.codes.now.items c.args.late.now.items c.args.step.now
     c.requires.codes c.requires.late c.requires.once c.requires.lawful c.requires.fit)
-
-pub answer_one-requires-clause-full : goal.answer_one-requires-clause-full
-answer_one-requires-clause-full c = ap (λ l. l.full) c.loop-asked.invariant.leads.limits ∙ c.requires.full
-
-pub answer_one-requires-clause-limit : goal.answer_one-requires-clause-limit
-answer_one-requires-clause-limit c = ap (λ l. l.queue) c.limits-limit.ensures ∙ ap (λ l. l.queue) (sym c.loop-asked.invariant.leads.limits)
 
 pub answer_one-requires-clause-fits : goal.answer_one-requires-clause-fits
 answer_one-requires-clause-fits c =
