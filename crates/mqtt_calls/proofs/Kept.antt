@@ -1,5 +1,5 @@
 -- Orders of release stay such as are kept, and each session keeps having each filter once, in steps and openings.
-use Rattle.std.proofs.Common.{◌≡◌, ℕ, ◌≤◌, Bool, true, false, cond, not, List, [], ◌∷◌, map, nat_eq, refl, ap, sym, subst, ◌∙◌, arith}
+use Rattle.std.proofs.Common.{◌≡◌, ℕ, ◌≤◌, Bool, true, false, cond, not, List, [], ◌∷◌, map, nat_eq, refl, sym, subst, arith}
 use Rattle.std.specs.Prelude.{Some, None}
 use Rattle.std.specs.List.{AllByRecursion}
 use Rattle.std.proofs.Math.Nat.{max-le, le-max_left, le-max_right}
@@ -117,9 +117,9 @@ each_below (e ∷ es) h =
 each_found : (P : Session → Type 0) (ss : List Session) → IsAscending birth_of ss → ((birth : ℕ) (s : Session) → row_at birth_of birth ss ≡ Some s → P s) → AllByRecursion P ss
 each_found P [] up f = tt
 each_found P (x ∷ xs) up f = (
-    f x.birth x (row_at-here birth_of x xs),
-    each_found P xs up.1 (λ birth s found. f birth s (found_behind birth_of birth s x xs up.0 found)),
-  )
+  f x.birth x (row_at-here birth_of x xs),
+  each_found P xs up.1 (λ birth s found. f birth s (found_behind birth_of birth s x xs up.0 found)),
+)
 
 kept_orders : (r : Records) → HaveKept r → (birth : ℕ) → HasKeptOrders birth r
 kept_orders r h birth = λ s found. greatest_kept s.queue (all_at birth_of AreKept birth s r.sessions h found)

@@ -79,13 +79,13 @@ on_line line session b on =
       its = l.2;
     }
 
-abbrev hears_first : ℕ → Env → Act
+abbrev pub hears_first : ℕ → Env → Act
 hears_first line env = hears line
 
-abbrev answers : Line → Packet → Option ℕ → Env → Act
+abbrev pub answers : Line → Packet → Option ℕ → Env → Act
 answers l packet session env = on_packet env l packet session
 
-input_is : (env : Env) (line : ℕ) (session : Option ℕ) (packet : Packet) (l : Line) (b : Broker) → line_at line b ≡ Some l → l.session ≡ session
+pub input_is : (env : Env) (line : ℕ) (session : Option ℕ) (packet : Packet) (l : Line) (b : Broker) → line_at line b ≡ Some l → l.session ≡ session
     → both (hears_first line) (answers l packet session) env b ≡ deeds_of env (Input line packet) b
 input_is env line session packet l b found its =
     let act = on_packet env l packet session in

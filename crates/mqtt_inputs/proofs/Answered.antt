@@ -1,6 +1,6 @@
 -- What acts make of a step is what packets do: PUBLISH, a receiver's answers, and those that drop their line.
 use Rattle.std.proofs.Common.{◌≡◌, ◌≢◌, ℕ, true, refl, ap, sym, subst, ◌∙◌}
-use Rattle.std.specs.Prelude.{Option, Some, None}
+use Rattle.std.specs.Prelude.{Option, Some}
 use Rattle.mqtt_base.specs.Codes.{protocol_error, receive_maximum_exceeded}
 use Rattle.mqtt_codec.specs.declared.ack.Ack.{Ack}
 use Rattle.mqtt_codec.specs.declared.notice.Notice.{Notice}
@@ -10,16 +10,15 @@ use Rattle.mqtt_codec.specs.declared.publish.Publish.{Publish as Publication}
 use Rattle.mqtt_subscribe.specs.declared.subscribe.Subscribe.{Subscribe as Asking}
 use Rattle.mqtt_subscribe.specs.declared.unsubscribe.Unsubscribe.{Unsubscribe as Giving}
 use Rattle.mqtt_props.specs.declared.table.PropName.TheVariants.{SessionExpiryInterval}
-use Rattle.mqtt_records.specs.declared.records.Records.{Records}
 use Rattle.mqtt_records.specs.declared.session.Session.{Session}
 use Rattle.mqtt_rules.specs.Closing.{drop_line}
-use Rattle.mqtt_rules.specs.Deeds.{Act, of_session}
+use Rattle.mqtt_rules.specs.Deeds.{Act}
 use Rattle.mqtt_rules.specs.Inbound.{on_publish}
 use Rattle.mqtt_rules.specs.Packets.{number_at}
 use Rattle.mqtt_rules.specs.State.{Broker, Env, Line}
 use Rattle.mqtt_rules.specs.Step.{next_packet, on_packet}
 use Rattle.mqtt_tables.specs.declared.fault.StepFault.{StepFault}
-use Rattle.mqtt_tables.specs.Stepping.{Stepping, Did, Does, IsLeft, Leaves, env_in}
+use Rattle.mqtt_tables.specs.Stepping.{Stepping, Did, IsLeft, env_in}
 use Rattle.mqtt_acts.specs.Choosing.{DoesSome, LeavesSome}
 use Rattle.mqtt_acts.proofs.Some.{does_some, leaves_some, same_some, same_some_left}
 use Rattle.mqtt_closing.specs.Settling.{disconnects}

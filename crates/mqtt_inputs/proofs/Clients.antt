@@ -1,6 +1,6 @@
 -- What a packet of a connected client finds, from what holds between calls on, and what it is that it holds.
-use Rattle.std.proofs.Common.{◌≡◌, ℕ, ◌+◌, ◌<◌, ◌≤◌, ◌^◌, Bool, cond, List, [], ◌∷◌, ◌++◌, length, nat_eq, refl, ap, sym, subst, ◌∙◌, arith, inl, inr}
-use Rattle.std.specs.Prelude.{Option, Some, None, flat_map, find, option_map}
+use Rattle.std.proofs.Common.{◌≡◌, ℕ, ◌+◌, ◌<◌, ◌≤◌, ◌^◌, List, [], ◌∷◌, ◌++◌, length, nat_eq, ap, subst, ◌∙◌, arith, inl, inr}
+use Rattle.std.specs.Prelude.{Option, Some, flat_map, find, option_map}
 use Rattle.std.specs.List.{AllByRecursion}
 use Rattle.std.proofs.lemmas.Bool.{cases_Bool}
 use Rattle.std.proofs.lemmas.List.{length-append}
@@ -8,15 +8,11 @@ use Rattle.mqtt_base.specs.Values.{blob, two_bytes, varint}
 use Rattle.mqtt_codec.specs.declared.packet.Packet.TheVariants as packets
 use Rattle.mqtt_codec.specs.declared.publish.Publish.{Publish}
 use Rattle.mqtt_props.specs.Properties.{block}
-use Rattle.mqtt_records.specs.declared.records.Records.{Records}
 use Rattle.mqtt_records.specs.declared.session.Session.{Session}
-use Rattle.mqtt_records.specs.Session.{birth_of}
 use Rattle.mqtt_rows.specs.Order.{row_at}
-use Rattle.mqtt_rules.specs.declared.Limits.{Limits}
-use Rattle.mqtt_rules.specs.Contents.{AreContentsLawful, AreSizes, HasContentsOf, HasTopics, IsTaken, IsWilled, of_rows}
+use Rattle.mqtt_rules.specs.Contents.{AreContentsLawful, AreSizes, HasTopics, IsTaken, of_rows}
 use Rattle.mqtt_rules.specs.Deeds.{Hear, On, after_all, on_line}
 use Rattle.mqtt_rules.specs.Inbound.{Means, meaning, message_of}
-use Rattle.mqtt_rules.specs.Lines.{session_on}
 use Rattle.mqtt_rules.specs.State.{Broker, Line, line_at}
 use Rattle.mqtt_rules.specs.Step.{at_moment}
 use Rattle.mqtt_rules.proofs.ContentPackets.{sent_content}
@@ -25,7 +21,6 @@ use Rattle.mqtt_tables.specs.Lines.{line_number}
 use Rattle.mqtt_acts.specs.Choosing.{IsLawfulMessage}
 use Rattle.mqtt_subscribe.specs.declared.unsubscribe.Unsubscribe.{Unsubscribe}
 use Rattle.mqtt_subscribe.specs.Unsubscribe.{unsubscribe_body}
-use Rattle.mqtt_closing.specs.Wills.{will_at, will_of}
 use Rattle.mqtt_inputs.specs.Inputs.{HasClient}
 
 -- ---- a line that is heard
@@ -76,16 +71,6 @@ client_begun line birth moment b k = record {
 }
 
 -- ---- what it finds
-
-willed_in : (birth : ℕ) (ss : List Session) → AllByRecursion (HasContentsOf of_rows) ss → IsWilled (will_of (row_at birth_of birth ss))
-willed_in birth [] h = tt
-willed_in birth (x ∷ xs) h = elim (cases_Bool (nat_eq x.birth birth)) [
-  | inl here ↦ rw here h.0.will
-  | inr other ↦ rw other (willed_in birth xs h.1)
-]
-
-pub willed : (birth : ℕ) (b : Broker) → AreContentsLawful b → IsWilled (will_at birth b.records)
-willed birth b k = willed_in birth b.records.sessions k.stored.sessions
 
 topics_in : (n : ℕ) (ls : List Line) (l : Line) → AllByRecursion HasTopics ls → row_at line_number n ls ≡ Some l → HasTopics l
 topics_in n [] l h found = absurd cc

@@ -1,6 +1,6 @@
 -- A packet comes on a line: the line is heard, and the packet does the same as on the line as it was.
 use Rattle.std.proofs.Common.{◌≡◌, ℕ, Bool, true, false, List, [], ◌∷◌, ◌++◌, refl, ap, sym, ◌∙◌, append-nil}
-use Rattle.std.specs.Prelude.{⊤, Option, Some, None, Result, Ok, Err, IfErr, OnOk}
+use Rattle.std.specs.Prelude.{Option, Some, None, Ok, Err}
 use Rattle.mqtt_codec.specs.declared.packet.Packet.{Packet}
 use Rattle.mqtt_codec.specs.declared.packet.Packet.TheVariants.{Connect, Connack, Publish, Puback, Pubrec, Pubrel, Pubcomp, Subscribe, Suback, Unsubscribe, Unsuback, Pingreq, Pingresp, Disconnect, Auth}
 use Rattle.mqtt_codec.specs.declared.publish.Publish.{Publish as Publication}
@@ -13,11 +13,11 @@ use Rattle.mqtt_flow.specs.Outbound.{Answer, puback, pubcomp, pubrec}
 use Rattle.mqtt_props.specs.declared.table.PropName.TheVariants.{SessionExpiryInterval, TopicAlias}
 use Rattle.mqtt_records.specs.declared.session.Session.{Session}
 use Rattle.mqtt_topic.specs.Names.{is_empty}
-use Rattle.mqtt_rules.specs.Deeds.{Act, Hear, Message, On, after_all, always, series, then, with_line, with_session}
-use Rattle.mqtt_rules.specs.Inbound.{Meaning, Means, Wrong, is_late_expiry, leave_by, meaning, message_of, on_answer, on_publish, publish_by, publish_meant, publish_new, release_by, sets_alias, standing}
+use Rattle.mqtt_rules.specs.Deeds.{Act, Hear, Message, On, after_all, always, series, with_line, with_session}
+use Rattle.mqtt_rules.specs.Inbound.{Meaning, Means, Wrong, is_late_expiry, leave_by, meaning, message_of, on_answer, publish_by, publish_meant, publish_new, release_by, sets_alias, standing}
 use Rattle.mqtt_rules.specs.Packets.{number_at}
 use Rattle.mqtt_rules.specs.Routing.{CopyTo, accepted_copies}
-use Rattle.mqtt_rules.specs.State.{Broker, Env, Line, line_at, queue_on, session_at}
+use Rattle.mqtt_rules.specs.State.{Broker, Env, Line, queue_on, session_at}
 use Rattle.mqtt_rules.specs.Step.{Input, deeds_of, next_packet, on_packet}
 use Rattle.mqtt_tables.specs.declared.fault.StepFault.{StepFault}
 use Rattle.mqtt_tables.specs.Stepping.{Stepping, Did, IsLeft, env_in}

@@ -1,13 +1,11 @@
 -- The line that a packet came on, and what the packet does by the session that is connected on it.
-use Rattle.std.proofs.Common.{◌≡◌, ℕ, refl, ap, sym, ◌∙◌}
-use Rattle.std.specs.Prelude.{Option, Some, None, nat_eq}
+use Rattle.std.proofs.Common.{◌≡◌, ℕ, ap, sym, ◌∙◌}
+use Rattle.std.specs.Prelude.{Some, None, nat_eq}
 use Rattle.std.proofs.lemmas.Bool.{eqb-true}
 use Rattle.mqtt_codec.specs.declared.packet.Packet.{Packet}
-use Rattle.mqtt_records.specs.declared.records.Records.{Records}
 use Rattle.mqtt_records.specs.declared.session.Session.{Session}
 use Rattle.mqtt_rows.specs.Order.{row_at}
-use Rattle.mqtt_rules.specs.Deeds.{Act, of_session, with_line, with_session}
-use Rattle.mqtt_rules.specs.Lines.{closed_at, session_on}
+use Rattle.mqtt_rules.specs.Deeds.{with_line, with_session}
 use Rattle.mqtt_rules.specs.State.{Broker, Env, Line, line_at, session_at}
 use Rattle.mqtt_rules.specs.Step.{next_packet, on_packet}
 use Rattle.mqtt_rules.proofs.FitLaw.{mapped_some}

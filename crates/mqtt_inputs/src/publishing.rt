@@ -34,7 +34,7 @@ pub(crate) fn publish<R: Router>(
     ensures serves { (sessions : List Subscriber) → R.serves router.old sessions
         → R.serves router.new sessions }
 {
-    match on_publish(alloc, step, router, line, birth, packet) {
+    match on_publish(alloc, router, step, line, birth, packet) {
         Ok(Published::Done) => Ok(()),
         Ok(Published::Wrong(code)) => drop_line(alloc, router, step, line, Some(birth), code),
         Ok(Published::Over) => {

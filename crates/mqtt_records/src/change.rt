@@ -1,5 +1,6 @@
 //! Changes of what is kept: a row put by its key, a row removed, a copy's phase set (4.1).
 ghost use Rattle.std.specs.Prelude.{◌≡◌, IfOk};
+ghost use Rattle.mqtt_records.specs.Saying.{PassesOn, AllPassOn};
 
 use crate::session::{Columns, SessionRow};
 use crate::subscription::Subscription;
@@ -170,4 +171,23 @@ pub fn clone_all(alloc: Global, changes: &[Change]) -> Result<Vec<Change>, Alloc
         clones.push(change.clone()?)?;
     }
     Ok(clones)
+}
+
+/// A copy that is put has properties as a publication passes them on. Takes no memory.
+fn passes_on(change: &Change)
+    ensures { PassesOn change.now }
+{
+    if let Change::PutCopy { row, .. } = change {
+        row.get().copy().content.properties.lend();
+    }
+}
+
+/// Each copy that is put has properties as a publication passes them on: their type gives it, and here it
+/// is told (3.3.2.3). Takes no memory.
+pub fn all_pass_on(changes: &[Change])
+    ensures { AllPassOn changes.now }
+{
+    for change in changes {
+        passes_on(change);
+    }
 }

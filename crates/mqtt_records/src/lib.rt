@@ -10,7 +10,7 @@ mod records;
 mod session;
 mod subscription;
 
-pub use change::{Change, Counter, clone_all};
+pub use change::{Change, Counter, all_pass_on, clone_all};
 pub use keep::{Keep, KeepError};
 pub use laws::{ended_session_leaves_nothing, numbers_never_fall};
 pub use memory::MemKeep;

@@ -29,6 +29,8 @@ fn routed(subscription: &Subscription) -> Result<RoutedSubscription, StepFault>
             options: subscription.options,
             identifier: subscription.identifier,
         }),
+
+        // What is stored is a filter, since only filters are granted.
         Err(_) => Err(StepFault::Memory),
     }
 }
@@ -44,6 +46,8 @@ impl Index {
         let subscription = routed(subscription)?;
         match self.routes.subscribe(birth, subscription) {
             Ok(()) => Ok(()),
+
+            // A row that fits finds a place: the session isn't full.
             Err(_) => Err(StepFault::Memory),
         }
     }

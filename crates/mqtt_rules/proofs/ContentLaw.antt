@@ -40,7 +40,7 @@ use Rattle.mqtt_rules.specs.Connect.{expiry_of, will_of, greet, begin_named}
 use Rattle.mqtt_rules.specs.Inbound.{pump_turns, pump_deeds}
 use Rattle.mqtt_rules.specs.Subscribe as sub
 use Rattle.mqtt_rules.specs.Tick.{lapses, lapse_deeds}
-use Rattle.mqtt_rules.specs.Step.{Call, NewLine, Input, BadInput, Lost, Pump, Tick, deeds, at_moment, env_of, with_moment, stepped, opening, unopened, opened}
+use Rattle.mqtt_rules.specs.Step.{Call, NewLine, Input, BadInput, Lost, Pump, Tick, deeds, at_moment, env_of, with_moment, rows_written, stepped, opening_deeds, unopened, opened}
 use Rattle.mqtt_rules.specs.Laws.{IsAmong}
 use Rattle.mqtt_lawful.specs.Lawful.{IsIdentifier}
 use Rattle.mqtt_records.specs.declared.subscription.Subscription.{Subscription}
@@ -331,19 +331,47 @@ module _ (sizes : Sizes) (are : AreSizes sizes) where
   stamped_lawful [] b k = k
   stamped_lawful (row ∷ rows) b k = record { stored = record { sessions = k.stored.sessions; retained = k.stored.retained }; lines = k.lines }
 
-  pub step_contents : (limits : Limits) (choice : MemberChoice) (now : ℕ) (call : Call) (b : Broker) → TakesLawful call → AreContentsLawful b → AreContentsLawful (stepped limits choice now call b)
-  step_contents limits choice now call b taken h =
+  -- the deeds of a step, and those of an opening
+  step_leads : (limits : Limits) (choice : MemberChoice) (now : ℕ) (call : Call) (b : Broker) → TakesLawful call → AreContentsLawful b
+      → Leads AreContentsLawful Brings (deeds limits choice now call b) (at_moment now b)
+  step_leads limits choice now call b taken h =
       let env = env_of limits choice b in
       let c = at_moment now b in
       let k : AreContentsLawful c = record { stored = h.stored; lines = h.lines } in
+      leads_call env topical AreContentsLawful Brings (content_law env) call c k (topical_call call c k taken)
+
+  opening_leads : (limits : Limits) (choice : MemberChoice) (now : ℕ) (r : Records) → HasLawfulContents r
+      → Leads AreContentsLawful Brings (opening_deeds limits choice now r) (unopened now r)
+  opening_leads limits choice now r h =
+      let c = unopened now r in
+      let env = env_of limits choice c in
+      let k : AreContentsLawful c = record { stored = h; lines = tt } in
+      leads_opening env topical AreContentsLawful Brings (content_law env) (λ s b h is. led (At (whose s) (Close b.now) ∷ []) b h (tt, tt)) (λ birth. tt) c k
+
+  pub step_contents : (limits : Limits) (choice : MemberChoice) (now : ℕ) (call : Call) (b : Broker) → TakesLawful call → AreContentsLawful b → AreContentsLawful (stepped limits choice now call b)
+  step_contents limits choice now call b taken h =
+      let c = at_moment now b in
       let ds = deeds limits choice now call b in
-      stamped_lawful (rows_of_all ds c.records) (after_all ds c) (leads_call env topical AreContentsLawful Brings (content_law env) call c k (topical_call call c k taken)).1
+      stamped_lawful (rows_of_all ds c.records) (after_all ds c) (step_leads limits choice now call b taken h).1
 
   pub opening_contents : (limits : Limits) (choice : MemberChoice) (now : ℕ) (r : Records) → HasLawfulContents r → AreContentsLawful (opened limits choice now r)
   opening_contents limits choice now r h =
       let c = unopened now r in
-      let env = env_of limits choice c in
-      let k : AreContentsLawful c = record { stored = h; lines = tt } in
-      let ds = opening env c in
-      stamped_lawful (rows_of_all ds c.records) (after_all ds c)
-      (leads_opening env topical AreContentsLawful Brings (content_law env) (λ s b h is. led (At (whose s) (Close b.now) ∷ []) b h (tt, tt)) (λ birth. tt) c k).1
+      let ds = opening_deeds limits choice now r in
+      stamped_lawful (rows_of_all ds c.records) (after_all ds c) (opening_leads limits choice now r h).1
+
+  -- ---- what their rows bring
+
+  pub step_brings : (limits : Limits) (choice : MemberChoice) (now : ℕ) (call : Call) (b : Broker) → TakesLawful call → AreContentsLawful b
+      → rows.RowsBring sizes (rows_written (deeds limits choice now call b) (at_moment now b))
+  step_brings limits choice now call b taken h =
+      let c = at_moment now b in
+      let ds = deeds limits choice now call b in
+      rows.stamped_bring sizes c.now (rows_of_all ds c.records) (rows.written_bring sizes ds c (step_leads limits choice now call b taken h).0)
+
+  pub opening_brings : (limits : Limits) (choice : MemberChoice) (now : ℕ) (r : Records) → HasLawfulContents r
+      → rows.RowsBring sizes (rows_written (opening_deeds limits choice now r) (unopened now r))
+  opening_brings limits choice now r h =
+      let c = unopened now r in
+      let ds = opening_deeds limits choice now r in
+      rows.stamped_bring sizes c.now (rows_of_all ds c.records) (rows.written_bring sizes ds c (opening_leads limits choice now r h).0)

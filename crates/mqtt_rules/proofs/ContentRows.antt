@@ -1,5 +1,5 @@
 -- Lawful contents stay lawful by each row and each deed that brings lawful ones.
-use Rattle.std.proofs.Common.{ℕ, Bool, true, false, cond, not, List, [], ◌∷◌, Option, Some, None, nat_eq, arith, inl, inr}
+use Rattle.std.proofs.Common.{ℕ, Bool, true, false, cond, not, List, [], ◌∷◌, ◌++◌, Option, Some, None, nat_eq, arith, inl, inr}
 use Rattle.std.specs.Prelude.{⊤, bytes_eq}
 use Rattle.std.specs.List.{AllByRecursion}
 use Rattle.std.proofs.lemmas.Bool.{cases_Bool}
@@ -18,11 +18,13 @@ use Rattle.mqtt_rows.specs.Order.{has_row, put_row, change_row}
 use Rattle.mqtt_records.specs.Session.{birth_of, place_of, without_filter, copy_place, fresh, with_columns, with_will, with_subscription, without_subscription, with_open, without_open, with_copy, with_phase, without_copy, in_phase}
 use Rattle.mqtt_records.specs.Records.{in_session, changed, changed_all, put_session, with_counter, kept_place}
 use Rattle.mqtt_rules.specs.State.{Line, Broker, session_at, is_of}
-use Rattle.mqtt_rules.specs.Deeds.{Whose, Part, Resume, Subscribe, Enter, Leave, LinePart, Hear, Greet, SetAlias, Went, Deed, Accept, Begin, Name, Count, At, Finish, Keep, Forget, Link, On, Gone, part_rows_of, rows_of, line_after, on_line, fresh_line, without_place, lines_at, lines_after, after}
+use Rattle.mqtt_rules.specs.Deeds.{Whose, Part, Resume, Subscribe, Enter, Leave, LinePart, Hear, Greet, SetAlias, Went, Deed, Accept, Begin, Name, Count, At, Finish, Keep, Forget, Link, On, Gone, part_rows_of, rows_of, rows_of_all, stored_after, line_after, on_line, fresh_line, without_place, lines_at, lines_after, after}
 use Rattle.mqtt_message.specs.declared.message.Content.{Content}
 use Rattle.mqtt_message.specs.declared.message.Will.{Will}
 use Rattle.mqtt_message.specs.declared.message.MessageCopy.{MessageCopy}
 use Rattle.mqtt_rules.specs.Contents.{IsTopic, IsAskedFor, HasTopics, IsPublishedOf, IsWilledOf, IsCopiedOf, HasContentsOf, HasLawfulContentsOf, AreContentsOf, Sizes}
+use Rattle.mqtt_rules.specs.Step.{stamped}
+use Rattle.mqtt_rules.proofs.Goods.{AreGood}
 use Rattle.mqtt_rules.proofs.Copies.{each_append, each_filter, each_more, each_map}
 use Rattle.mqtt_records.specs.declared.subscription.Subscription.{Subscription}
 use Rattle.mqtt_rules.proofs.Ordered.{put-table, filter-table}
@@ -49,14 +51,14 @@ module _ (sizes : Sizes) where
 
   -- ---- rows
 
-  abbrev RowBrings : Change → Type 0
+  abbrev pub RowBrings : Change → Type 0
   RowBrings (PutWill birth will) = IsWilled (Some will)
   RowBrings (PutCopy birth e) = IsCopied e.copy
   RowBrings (PutSubscription birth sub) = IsAskedFor sub
   RowBrings (PutRetained kept) = IsPublished kept.content
   RowBrings change = ⊤
 
-  abbrev RowsBring : List Change → Type 0
+  abbrev pub RowsBring : List Change → Type 0
   RowsBring [] = ⊤
   RowsBring (change ∷ changes) = RowBrings change × RowsBring changes
 
@@ -158,6 +160,19 @@ module _ (sizes : Sizes) where
   rows_bring (Keep kept) b q = (q, tt)
   rows_bring (Forget place) b q = (tt, tt)
   rows_bring d b q = tt
+
+  both_bring : (xs ys : List Change) → RowsBring xs → RowsBring ys → RowsBring (xs ++ ys)
+  both_bring [] ys p q = q
+  both_bring (x ∷ xs) ys p q = (p.0, both_bring xs ys p.1 q)
+
+  -- deeds that bring lawful contents write rows that do, and so does the moment with them
+  pub written_bring : (ds : List Deed) (b : Broker) → AreGood Brings ds b → RowsBring (rows_of_all ds b.records)
+  written_bring [] b q = tt
+  written_bring (d ∷ ds) b q = both_bring (rows_of d b.records) (rows_of_all ds (stored_after d b.records)) (rows_bring d b q.0) (written_bring ds (after d b) q.1)
+
+  pub stamped_bring : (now : ℕ) (rows : List Change) → RowsBring rows → RowsBring (stamped now rows)
+  stamped_bring now [] q = tt
+  stamped_bring now (x ∷ rows) q = both_bring (x ∷ rows) (SetCounter Moment now ∷ []) q (tt, tt)
 
   -- ---- lines
 

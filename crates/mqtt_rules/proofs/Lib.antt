@@ -82,3 +82,4 @@ pub mod ContentCopies
 pub mod ContentLaw
 pub mod SentContents
 pub mod SpelledContents
+pub mod SayableRows

@@ -11,6 +11,7 @@ mod laws;
 mod line_laws;
 mod number_laws;
 mod routing_laws;
+mod saying_laws;
 mod topic_laws;
 
 pub use content_laws::{contents_are_lawful, stored_copies_have_a_spelling};
@@ -27,6 +28,7 @@ pub use number_laws::{
     counted_numbers_are_apart, counters_never_fall, new_places_are_last, numbers_are_new,
 };
 pub use routing_laws::{copies_find_room, members_are_reached};
+pub use saying_laws::rows_can_be_said;
 pub use topic_laws::topics_are_resolved;
 
 /// The sizes of the tables.

@@ -7,3 +7,4 @@ pub mod Alike
 pub mod Found
 pub mod Kept
 pub mod New
+pub mod Order

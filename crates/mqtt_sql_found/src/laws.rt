@@ -31,3 +31,8 @@ pub fn rows_are_of_one()
 pub fn new_store_keeps_nothing()
     ensures { (db : Database) → IsNewStore db → KeepsRows db.trees nothing }
 {}
+
+/// The rows of a new store rise by their numbers.
+pub fn new_store_is_in_order()
+    ensures { (db : Database) → IsNewStore db → AreInOrder db.trees }
+{}

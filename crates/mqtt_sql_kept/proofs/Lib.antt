@@ -16,3 +16,4 @@ pub mod Numbers
 pub mod Sessions
 pub mod EndedSession
 pub mod Statements
+pub mod Said

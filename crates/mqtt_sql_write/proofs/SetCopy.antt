@@ -224,7 +224,7 @@ any_copy birth place phase pid rel old after (Ok count) whole h =
     any_whole set_copy_text 5 copy set_tests set_project (Int (pos birth) ∷ Int (pos place) ∷ number_or_null pid ∷ Int (pos phase) ∷ number_or_null rel ∷ []) set_copy_is set_copy_plain refl none_works no_works
     (λ x. (
       column x 1 ∷ column x 2 ∷ column x 3 ∷ column x 4 ∷ column x 5 ∷ column x 6 ∷ number_or_null pid ∷ Int (pos phase) ∷ number_or_null rel ∷ column x 10 ∷ column x 11 ∷ column x 12 ∷ column x 13
-      ∷ column x 14 ∷ column x 15 ∷ [],
+          ∷ column x 14 ∷ column x 15 ∷ [],
       refl,
     ))
     (λ id rest. cast_int id) old after count whole whole.ready.shaped.copy

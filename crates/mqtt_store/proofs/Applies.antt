@@ -3,17 +3,17 @@ use Rattle.std.proofs.Common.{◌≡◌, ◌⊎◌, List, [], ◌∷◌, false, 
 use Rattle.sqlite_trees.specs.Tree.{Trees}
 use Rattle.sqlite.specs.Effect.{Database}
 use Rattle.sqlite.specs.State.{State, HasCleanDisk, Survives, IsLive, IsUnchanged}
+use Rattle.sqlite.proofs.StateLemmas.{survives_weaker}
 use Rattle.mqtt_records.specs.declared.records.Records.{Records}
 use Rattle.mqtt_records.specs.declared.change.Change.{Change}
 use Rattle.mqtt_records.specs.Records.{changed, changed_all, FitAll}
 use Rattle.mqtt_sql_schema.specs.Tables.{keep_schema}
-use Rattle.mqtt_sql_read.specs.Kept.{Keeps}
 use Rattle.mqtt_sql_step.specs.Step.{IsSettled}
 use Rattle.mqtt_sql_kept.specs.Written.{KeepsRows, AreInOrder, AllSayable}
 use Rattle.mqtt_sql_kept.proofs.Statements.{statement_keeps, statement_asks}
 use Rattle.mqtt_sql_changes.specs.Making.{MakeAll, NeedAll, MayCommit}
-use Rattle.mqtt_store.specs.Holding.{Holds, HasKept, IsReady, Leaves}
-use Rattle.mqtt_store.proofs.Held.{not_both, load_finds, finds_one}
+use Rattle.mqtt_store.specs.Holding.{Holds, IsReady, OnlySteps}
+use Rattle.mqtt_store.proofs.Held.{not_both}
 
 -- ---- what the statements of changes make of the rows
 
@@ -76,20 +76,14 @@ module _ (old : State) (changes : List Change) (r : Records) (full : HasCleanDis
     pub keeps_made : HasCleanDisk old → (db : Trees) → MakeAll changes old.now.trees db → KeepsRows db (changed_all changes r)
     keeps_made clean db made = makes_kept changes old.now.trees db r (keeps_old clean) (order_of old (full clean)) fit say made
 
-    pub crash_one_of_two : (new : State) (left : Records) → Survives old new (MayCommit old changes) → (HasCleanDisk new → IsTrue new.is_open → IsEither changes old new) → Leaves new left
-        → (left ≡ r) ⊎ (left ≡ changed_all changes r)
-    crash_one_of_two new left it either found =
+    pub only_steps : (new : State) → Survives old new (MayCommit old changes) → (HasCleanDisk new → IsTrue new.is_open → IsEither changes old new) → OnlySteps old new r (changed_all changes r)
+    only_steps new it either =
         let less = it.clean in
-        let now = found.clean in
-        let clean : HasCleanDisk old = omega (arith, less, now) in
-        let s = full clean in
-        elim found.may [
-          | inl c ↦ elim (it.crash now c.0 c.1) [
-            | inl before ↦ inl ((holds clean).left c.0 left before c.2)
-            | inr commits ↦ inr (finds_one c.0 left (changed_all changes r) (keeps_made clean c.0 (commits s (needs_old clean))) c.2)
-          ]
-          | inr shown ↦ elim (either now shown.0) [
-            | inl same ↦ inl (load_finds old.now left r (subst (λ (d : Database). Keeps d left) same shown.1) (inl (s.schema, keeps_old clean)))
-            | inr made ↦ inr (load_finds new.now left (changed_all changes r) shown.1 (inl (made.0, keeps_made clean new.now.trees (made.1 (needs_old clean)))))
-          ]
-        ]
+        let clean = λ (now : HasCleanDisk new). let was : HasCleanDisk old = omega (arith, less, now) in was in
+        record {
+          survives = survives_weaker old new (MayCommit old changes) (λ db. KeepsRows db (changed_all changes r)) (λ now db commits. keeps_made (clean now) db (commits (full (clean now)) (needs_old (clean now)))) it;
+          left = λ now up. elim (either now up) [
+            | inl same ↦ inl (inl (ap (λ (d : Database). d.schema) same ∙ (full (clean now)).schema, subst (λ (d : Database). KeepsRows d.trees r) (sym same) (keeps_old (clean now))))
+            | inr made ↦ inr (inl (made.0, keeps_made (clean now) new.now.trees (made.1 (needs_old (clean now)))))
+          ];
+        }

@@ -1,31 +1,24 @@
 -- What a store has, it has alone.
-use Rattle.std.proofs.Common.{◌≡◌, length, IsTrue, ap, sym, subst, ◌∙◌, inl, inr, arith}
-use Rattle.sqlite_schema.specs.declared.schema.Schema.{Schema}
+use Rattle.std.proofs.Common.{◌≡◌, ◌⊎◌, IsTrue, ap, sym, subst, ◌∙◌, inl, inr, arith}
 use Rattle.sqlite_schema.specs.Rules.{Obeys}
 use Rattle.sqlite_trees.specs.Tree.{Trees}
 use Rattle.sqlite.specs.Effect.{Database}
-use Rattle.sqlite.specs.State.{State, HasCleanDisk, Survives}
+use Rattle.sqlite.specs.State.{State}
 use Rattle.mqtt_records.specs.declared.records.Records.{Records}
 use Rattle.mqtt_records.specs.Records.{nothing}
 use Rattle.mqtt_sql_schema.specs.Tables.{keep_schema}
-use Rattle.mqtt_sql_schema.specs.Creation.{first}
-use Rattle.mqtt_sql_read.specs.Kept.{HasRecords, Keeps, HasNow, MakesNew}
+use Rattle.mqtt_sql_schema.specs.Creation.{first, IsNewStore}
+use Rattle.mqtt_sql_read.specs.Kept.{Keeps, HasNow, IsLeft}
 use Rattle.mqtt_sql_kept.specs.Written.{KeepsRows, AreInOrder}
 use Rattle.mqtt_sql_found.proofs.Alike.{alike}
 use Rattle.mqtt_sql_found.proofs.Found.{found_distinct}
 use Rattle.mqtt_sql_found.proofs.Kept.{distinct_kept, kept_distinct}
 use Rattle.mqtt_sql_found.proofs.New.{new_keeps}
-use Rattle.mqtt_store.specs.Holding.{ShowsKept, Finds, Has, Holds, HasKept, Leaves, StillKeeps}
-
--- an empty database has not the store's tables
-pub not_both : (s : Schema) → s ≡ keep_schema → s ≡ first 0 → ⊥
-not_both s ours none = let tables : 7 ≡ 0 = ap (λ (t : Schema). length t.tables) (sym ours ∙ none) in absurd (omega (arith, tables))
+pub use Rattle.mqtt_store.specs.Ones.{not_both, found_one, load_finds, leaves_held}
+use Rattle.mqtt_store.specs.Holding.{ShowsKept, Finds, Has, Holds, HasKept, Leaves, OnlyLoads, OnlySteps}
 
 rows_one : (db : Trees) (q r : Records) → KeepsRows db q → KeepsRows db r → q ≡ r
 rows_one db q r h k = alike db q r (kept_distinct db q h) (kept_distinct db r k)
-
-found_one : (db : Trees) (q r : Records) → HasRecords db q → KeepsRows db r → q ≡ r
-found_one db q r h k = alike db q r (found_distinct db q h) (kept_distinct db r k)
 
 pub keeps_one : (db : Database) (q r : Records) → ShowsKept db q → ShowsKept db r → q ≡ r
 keeps_one db q r (inl h) (inl k) = rows_one db.trees q r h.1 k.1
@@ -33,27 +26,13 @@ keeps_one db q r (inl h) (inr k) = absurd (not_both db.schema h.0 k.0)
 keeps_one db q r (inr h) (inl k) = absurd (not_both db.schema k.0 h.0)
 keeps_one db q r (inr h) (inr k) = h.1 ∙ sym k.1
 
-pub load_finds : (db : Database) (q r : Records) → Keeps db q → ShowsKept db r → q ≡ r
-load_finds db q r (inl h) (inl k) = found_one db.trees q r h.1 k.1
-load_finds db q r (inl h) (inr k) = absurd (not_both db.schema h.0 k.0)
-load_finds db q r (inr h) (inl k) = absurd (not_both db.schema k.0 h.0)
-load_finds db q r (inr h) (inr k) = h.1 ∙ sym k.1
-
 pub loaded_kept : (s : State) (r : Records) → Obeys keep_schema s.now.trees → AreInOrder s.now.trees → HasNow s r → HasKept s r
 loaded_kept s r obeys order h = record {
   ready = record { is_open = h.is_open; settled = h.settled; schema = h.schema };
   keeps = distinct_kept s.now.trees obeys order r (found_distinct s.now.trees r h.has);
 }
 
-pub leaves_held : (s : State) (left r : Records) → Holds s r → Leaves s left → left ≡ r
-leaves_held s left r holds found =
-    let has = holds found.clean in
-    elim found.may [
-      | inl crash ↦ has.left crash.0 left crash.1 crash.2
-      | inr shown ↦ load_finds s.now left r shown.1 (has.shows shown.0)
-    ]
-
-pub finds_one : (db : Trees) (q r : Records) → KeepsRows db r → Finds db q → q ≡ r
+finds_one : (db : Trees) (q r : Records) → KeepsRows db r → Finds db q → q ≡ r
 finds_one db q r h (inl k) = found_one db q r k h
 finds_one db q r h (inr none) = absurd (none.0 r h)
 
@@ -71,16 +50,65 @@ keeps_nothing : (db : Database) (r : Records) → db.schema ≡ first 0 → Show
 keeps_nothing db r none (inl h) = absurd (not_both db.schema h.0 none)
 keeps_nothing db r none (inr h) = h.1
 
-pub load_holds : (old new : State) (r : Records) → Survives old new (MakesNew old) → (HasCleanDisk new → StillKeeps old new r) → Holds old r → Holds new r
-load_holds old new r it still holds clean =
-    let less = it.clean in
+-- a new store's tables have nothing
+begun_nothing : (db : Trees) (q : Records) → IsNewStore (record { schema = keep_schema; trees = db }) → Finds db q → q ≡ nothing
+begun_nothing db q made found = finds_one db q nothing (new_keeps (record { schema = keep_schema; trees = db }) made) found
+
+-- ---- loads
+
+left_keeps : (old new : Database) (r : Records) → IsLeft old new → ShowsKept old r → ShowsKept new r
+left_keeps old new r (inl same) has = subst (λ (db : Database). ShowsKept db r) (sym same) has
+left_keeps old new r (inr made) has =
+    let none : r ≡ nothing = keeps_nothing old r made.0 has in
+    inl (made.1.schema, subst (KeepsRows new.trees) (sym none) (new_keeps new made.1))
+
+pub load_holds : (old new : State) (r : Records) → OnlyLoads old new → Holds old r → Holds new r
+load_holds old new r it holds clean =
+    let less = it.survives.clean in
     let had : Has old r = holds (omega (arith, less, clean)) in
     record {
-      left = λ db q may found. elim (it.crash clean db may) [
+      left = λ db q may found. elim (it.survives.crash clean db may) [
         | inl before ↦ had.left db q before found
-        | inr made ↦
-            let begun : KeepsRows db nothing = new_keeps (record { schema = keep_schema; trees = db }) made.2 in
-            finds_one db q nothing begun found ∙ sym (keeps_nothing old.now r made.1 (had.shows made.0))
+        | inr made ↦ begun_nothing db q made.2 found ∙ sym (keeps_nothing old.now r made.1 (had.shows made.0))
       ];
-      shows = λ up. let kept = still clean up in kept.1 (had.shows kept.0);
+      shows = λ up. let was = it.left clean up in left_keeps old.now new.now r was.1 (had.shows was.0);
     }
+
+-- what a load of the database found before, where it finds this now
+found_before : (old new : Database) (r : Records) → IsLeft old new → Keeps new r → Keeps old r
+found_before old new r (inl same) has = subst (λ (db : Database). Keeps db r) same has
+found_before old new r (inr made) (inl has) = inr (made.0, found_one new.trees r nothing has.1 (new_keeps new made.1))
+found_before old new r (inr made) (inr has) = inr (made.0, has.1)
+
+pub load_leaves : (old new : State) (r : Records) → OnlyLoads old new → Leaves new r → Leaves old r
+load_leaves old new r it found =
+    let less = it.survives.clean in
+    let clean = found.clean in
+    record {
+      clean = omega (arith, less, clean);
+      may = elim found.may [
+        | inl crash ↦ elim (it.survives.crash clean crash.0 crash.1) [
+          | inl before ↦ inl (crash.0, before, crash.2)
+          | inr made ↦ inr (made.0, inr (made.1, begun_nothing crash.0 r made.2 crash.2))
+        ]
+        | inr shown ↦ let was = it.left clean shown.0 in inr (was.0, found_before old.now new.now r was.1 shown.1)
+      ];
+    }
+
+-- ---- steps
+
+pub step_leaves : (old new : State) (r after left : Records) → OnlySteps old new r after → Holds old r → Leaves new left → (left ≡ r) ⊎ (left ≡ after)
+step_leaves old new r after left it holds found =
+    let less = it.survives.clean in
+    let clean = found.clean in
+    let had : Has old r = holds (omega (arith, less, clean)) in
+    elim found.may [
+      | inl crash ↦ elim (it.survives.crash clean crash.0 crash.1) [
+        | inl before ↦ inl (had.left crash.0 left before crash.2)
+        | inr made ↦ inr (finds_one crash.0 left after made crash.2)
+      ]
+      | inr shown ↦ elim (it.left clean shown.0) [
+        | inl same ↦ inl (load_finds new.now left r shown.1 same)
+        | inr done ↦ inr (load_finds new.now left after shown.1 done)
+      ]
+    ]

@@ -1,80 +1,47 @@
 -- What a load leaves, and what it answers.
-use Rattle.std.proofs.Common.{◌≡◌, ◌⊎◌, Result, Ok, Err, IfOk, IfErr, OnOk, IsTrue, sym, ap, subst, ◌∙◌, inl, inr, arith}
-use Rattle.sqlite_trees.specs.Tree.{Trees}
+use Rattle.std.proofs.Common.{◌≡◌, Bool, not, false, Result, Ok, Err, IfOk, IfErr, OnOk, IsTrue, sym, ap, subst, ◌∙◌, inl, inr, arith}
 use Rattle.sqlite_trees.specs.declared.store.Store.{Ghosts}
 use Rattle.sqlite.specs.Effect.{Database}
 use Rattle.sqlite.specs.Held.{Held}
 use Rattle.sqlite.specs.State.{State, HasCleanDisk, Survives, IsLive}
 use Rattle.mqtt_records.specs.declared.records.Records.{Records}
 use Rattle.mqtt_records.specs.declared.keep.KeepError.{KeepError}
-use Rattle.mqtt_records.specs.Records.{nothing}
-use Rattle.mqtt_sql_schema.specs.Tables.{keep_schema}
-use Rattle.mqtt_sql_schema.specs.Creation.{first, IsNewStore}
 use Rattle.mqtt_sql_schema.specs.Settled.{IsSettled}
-use Rattle.mqtt_sql_read.specs.Kept.{Keeps, HasNow, MakesNew, Refuses}
-use Rattle.mqtt_sql_kept.specs.Written.{KeepsRows, AreInOrder}
-use Rattle.mqtt_sql_found.proofs.New.{new_keeps}
-use Rattle.mqtt_store.specs.Holding.{ShowsKept, Finds, IsTidy, Holds, HasKept, Leaves, StillKeeps}
+use Rattle.mqtt_sql_read.specs.Kept.{Keeps, HasNow, MakesNew, Refuses, IsLeft}
+use Rattle.mqtt_sql_kept.specs.Written.{AreInOrder}
+use Rattle.mqtt_store.specs.Holding.{IsTidy, Holds, HasKept, Leaves, OnlyLoads}
 use Rattle.mqtt_store.specs.Ordered.{IsOrdered}
-use Rattle.mqtt_store.proofs.Held.{not_both, load_finds, loaded_kept, finds_one, load_holds}
+use Rattle.mqtt_store.proofs.Held.{load_finds, loaded_kept}
 use Rattle.mqtt_store.proofs.Order.{new_in_order}
 
--- the tables are as they were, or those of a new store in an empty database
-abbrev pub IsLeft : State → State → Type 0
-IsLeft old new = (new.now ≡ old.now) ⊎ ((old.now.schema ≡ first 0) × IsNewStore new.now)
-
+-- what a load's clauses say together
 pub record Loads (old new : State) : Type 0 where
   pub tidy : IsTidy old
-  pub it : Survives old new (MakesNew old)
+  pub survives : Survives old new (MakesNew old)
   pub was_open : HasCleanDisk new → IsTrue new.is_open → IsTrue old.is_open
-  pub left : HasCleanDisk new → IsSettled old → IsTrue new.is_open → IsLeft old new
+  pub left : HasCleanDisk new → IsSettled old → IsTrue new.is_open → IsLeft old.now new.now
 
-keeps_new : (db : Database) (r : Records) → IsNewStore db → Keeps db r → r ≡ nothing
-keeps_new db r h k = load_finds db r nothing k (inl (h.schema, new_keeps db h))
+pub loads_from : (old new : State) (auto : Bool) → auto ≡ not old.in_transaction → (IsTrue auto → IsTrue old.is_open → old.now ≡ old.committed) → old.in_transaction ≡ false
+    → Survives old new (MakesNew old) → (HasCleanDisk new → IsTrue new.is_open → IsTrue old.is_open) → (HasCleanDisk new → IsSettled old → IsTrue new.is_open → IsLeft old.now new.now) → Loads old new
+loads_from old new auto value settled autocommit it was_open left = record {
+  tidy = λ up. record { committed = sym (settled (value ∙ ap not autocommit) up); autocommit = autocommit };
+  survives = it;
+  was_open = was_open;
+  left = left;
+}
 
 module _ (old new : State) (l : Loads old new) where
   pub clean_old : HasCleanDisk new → HasCleanDisk old
-  clean_old clean = let less = l.it.clean in omega (arith, less, clean)
+  clean_old clean = let less = l.survives.clean in omega (arith, less, clean)
 
-  after : HasCleanDisk new → IsTrue new.is_open → IsLeft old new
-  after clean up = l.left clean (l.tidy (l.was_open clean up)) up
+  pub only_loads : OnlyLoads old new
+  only_loads = record { survives = l.survives; left = λ clean up. let was = l.was_open clean up in (was, l.left clean (l.tidy was) up) }
 
   pub order_left : IsOrdered old → IsOrdered new
-  order_left order clean up ours = elim (after clean up) [
-    | inl same ↦ subst (λ (d : Database). AreInOrder d.trees) (sym same) (order (clean_old clean) (l.was_open clean up) (ap (λ (d : Database). d.schema) (sym same) ∙ ours))
+  order_left order clean up ours = let was = only_loads.left clean up in elim was.1 [
+    | inl same ↦ subst (λ (d : Database). AreInOrder d.trees) (sym same) (order (clean_old clean) was.0 (ap (λ (d : Database). d.schema) (sym same) ∙ ours))
     | inr made ↦ new_in_order new.now made.1
   ]
-
-  shows_still : (r : Records) → HasCleanDisk new → IsTrue new.is_open → ShowsKept old.now r → ShowsKept new.now r
-  shows_still r clean up shows = elim (after clean up) [
-    | inl same ↦ subst (λ (d : Database). ShowsKept d r) (sym same) shows
-    | inr made ↦ elim shows [
-      | inl ours ↦ absurd (not_both old.now.schema ours.0 made.0)
-      | inr none ↦ inl (made.1.schema, subst (KeepsRows new.now.trees) (sym none.1) (new_keeps new.now made.1))
-    ]
-  ]
-
-  pub same_left : (r : Records) → Holds old r → Holds new r
-  same_left r = load_holds old new r l.it (λ clean up. (l.was_open clean up, shows_still r clean up))
-
-  pub crash_left : (r : Records) → Leaves new r → Leaves old r
-  crash_left r found =
-      let clean = found.clean in
-      record {
-        clean = clean_old clean;
-        may = elim found.may [
-          | inl c ↦ elim (l.it.crash clean c.0 c.1) [
-            | inl before ↦ inl (c.0, before, c.2)
-            | inr made ↦ inr (made.0, inr (made.1, finds_one c.0 r nothing (new_keeps (record { schema = keep_schema; trees = c.0 }) made.2) c.2))
-          ]
-          | inr shown ↦
-              let was = l.was_open clean shown.0 in
-              elim (after clean shown.0) [
-                | inl same ↦ inr (was, subst (λ (d : Database). Keeps d r) same shown.1)
-                | inr made ↦ inr (was, inr (made.0, keeps_new new.now r made.1 shown.1))
-              ]
-        ];
-      }
 
   pub exact : (res : Result Records KeepError) → (HasCleanDisk new → OnOk res (IsTrue new.is_open)) → (HasCleanDisk new → IsSettled old → IfOk res (Keeps old.now)) → (r : Records) → Holds old r
       → IfOk res (λ q. HasCleanDisk new → q ≡ r)

@@ -2,13 +2,13 @@
 use Rattle.std.specs.Prelude.{◌≡◌, ◌⊎◌, IsTrue}
 use Rattle.sqlite_trees.specs.Tree.{Trees}
 use Rattle.sqlite.specs.Effect.{Database}
-use Rattle.sqlite.specs.State.{State, HasCleanDisk}
+use Rattle.sqlite.specs.State.{State, HasCleanDisk, Survives}
 use Rattle.mqtt_records.specs.declared.records.Records.{Records}
 use Rattle.mqtt_records.specs.Records.{nothing}
 use Rattle.mqtt_sql_schema.specs.Tables.{keep_schema}
 use Rattle.mqtt_sql_schema.specs.Creation.{first}
 use Rattle.mqtt_sql_schema.specs.Settled.{IsSettled}
-use Rattle.mqtt_sql_read.specs.Kept.{HasRecords, Keeps}
+use Rattle.mqtt_sql_read.specs.Kept.{HasRecords, Keeps, MakesNew, IsLeft}
 use Rattle.mqtt_sql_kept.specs.Written.{KeepsRows}
 
 -- the rows of the store's tables are those of these records; and an empty database has none yet
@@ -51,6 +51,14 @@ pub record HasKept (s : State) (r : Records) : Type 0 where
   pub ready : IsReady s
   pub keeps : KeepsRows s.now.trees r
 
--- where it is open after a call, it was open before, and shows these records if it did before
-abbrev pub StillKeeps : State → State → Records → Type 0
-StillKeeps old new r = IsTrue new.is_open → IsTrue old.is_open × (ShowsKept old.now r → ShowsKept new.now r)
+-- a load commits the tables of a new store at the most; where it is open then, it was open before, and is left as it was or
+-- with these tables
+pub record OnlyLoads (old new : State) : Type 0 where
+  pub survives : Survives old new (MakesNew old)
+  pub left : HasCleanDisk new → IsTrue new.is_open → IsTrue old.is_open × IsLeft old.now new.now
+
+-- a step from these records to those after it commits the rows of those at the most; where it is open then, it shows the one
+-- or the other
+pub record OnlySteps (old new : State) (r after : Records) : Type 0 where
+  pub survives : Survives old new (λ db. KeepsRows db after)
+  pub left : HasCleanDisk new → IsTrue new.is_open → ShowsKept new.now r ⊎ ShowsKept new.now after

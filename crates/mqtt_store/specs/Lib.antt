@@ -1,2 +1,4 @@
 pub mod Holding
+pub mod Ones
 pub mod Ordered
+pub mod Props

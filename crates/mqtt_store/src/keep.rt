@@ -8,11 +8,13 @@ ghost use Rattle.mqtt_sql_read.specs.Kept.{Refuses};
 ghost use Rattle.mqtt_sql_kept.specs.Written.{AllSayable};
 ghost use Rattle.mqtt_store.specs.Holding.{Holds, Leaves, IsLoaded};
 ghost use Rattle.mqtt_store.specs.Ordered.{IsOrdered};
+ghost use Rattle.mqtt_store.specs.Props.{ordered_prop};
 
 use crate::apply::apply_all;
 use crate::load::load_records;
 use mqtt_records::{Change, KeepError, Records};
-use sqlite::{Alter, Connection, Error, ErrorCode, Store};
+use sqlite::{Alter, Connection, Error, ErrorCode};
+use sqlite_trees::store::Store;
 use std::alloc::Global;
 
 /// Records in the tables of a database.
@@ -22,7 +24,7 @@ pub struct SqlKeep<S: Alter + Drop> {
     alloc: Global,
     failures: u64,
     ghost autocommit: { conn.in_transaction ≡ false },
-    ghost ordered: { IsOrdered (state S.Store conn) },
+    ghost ordered: { IsOrdered (state S.Store conn) } by { ordered_prop (state S.Store conn) },
 }
 
 impl<S: Alter + Drop> SqlKeep<S> {
@@ -63,7 +65,7 @@ impl<S: Alter + Drop> SqlKeep<S> {
     }
 
     /// Reads all records. Changes can be applied once it has answered Ok.
-    pub fn load(&mut self, alloc: Global) -> Result<Records, KeepError>
+    pub fn load_records(&mut self, alloc: Global) -> Result<Records, KeepError>
         // What it answers is what it has.
         ensures exact { (r : Kept) → Holds (state S.Store self.old.conn) r
             → IfOk result (λ records. HasCleanDisk (state S.Store self.new.conn) → records ≡ r) }
@@ -128,7 +130,7 @@ impl<S: Alter + Drop> SqlKeep<S> {
     }
 
     /// How many failures of its device it has counted, modulo 2^64. Takes no memory.
-    pub fn failures(&self) -> u64
+    pub fn counted_failures(&self) -> u64
         ensures { result ≡ self.now.failures }
     {
         self.failures

@@ -1,14 +1,13 @@
 //! The laws of what a store in SQL has (4.1).
-ghost use Rattle.std.specs.Prelude.{◌≡◌};
+ghost use Rattle.std.specs.Prelude.{◌≡◌, ◌⊎◌};
 ghost use Rattle.sqlite_schema.specs.Rules.{Obeys};
 ghost use Rattle.sqlite.specs.Effect.{Database};
 ghost use Rattle.sqlite.specs.Held.{Held, state};
-ghost use Rattle.sqlite.specs.State.{HasCleanDisk, Survives};
 ghost use Rattle.mqtt_records.specs.declared.records.Records.{Records};
 ghost use Rattle.mqtt_sql_schema.specs.Tables.{keep_schema};
-ghost use Rattle.mqtt_sql_read.specs.Kept.{Keeps, HasNow, MakesNew};
+ghost use Rattle.mqtt_sql_read.specs.Kept.{Keeps, HasNow};
 ghost use Rattle.mqtt_sql_kept.specs.Written.{AreInOrder};
-ghost use Rattle.mqtt_store.specs.Holding.{ShowsKept, HasKept, Holds, Leaves, StillKeeps};
+ghost use Rattle.mqtt_store.specs.Holding.{ShowsKept, HasKept, Holds, Leaves, OnlyLoads, OnlySteps};
 
 use sqlite::Alter;
 
@@ -41,9 +40,22 @@ pub fn loaded_store_has<S: Alter>()
 /// only where the store has nothing.
 pub fn load_keeps_what_it_has<S: Alter>()
     ensures { (old new : Held S) (r : Records)
-        → Survives (state S.Store old) (state S.Store new) (MakesNew (state S.Store old))
-        → (HasCleanDisk (state S.Store new) → StillKeeps (state S.Store old) (state S.Store new) r)
+        → OnlyLoads (state S.Store old) (state S.Store new)
         → Holds (state S.Store old) r → Holds (state S.Store new) r }
+{}
+
+/// After a load a crash leaves what it left before, and nothing else.
+pub fn load_leaves_no_more<S: Alter>()
+    ensures { (old new : Held S) (r : Records)
+        → OnlyLoads (state S.Store old) (state S.Store new)
+        → Leaves (state S.Store new) r → Leaves (state S.Store old) r }
+{}
+
+/// After a step, whatever became of it, a crash leaves the records before it or those after it.
+pub fn step_leaves_one_of_two<S: Alter>()
+    ensures { (old new : Held S) (r after left : Records)
+        → OnlySteps (state S.Store old) (state S.Store new) r after
+        → Holds (state S.Store old) r → Leaves (state S.Store new) left → (left ≡ r) ⊎ (left ≡ after) }
 {}
 
 /// A crash leaves what a store has.

@@ -9,5 +9,5 @@ mod load;
 pub use keep::SqlKeep;
 pub use laws::{
     crash_leaves_what_it_has, database_keeps_one, load_finds_what_is_kept, load_keeps_what_it_has,
-    loaded_rows_are_kept, loaded_store_has,
+    load_leaves_no_more, loaded_rows_are_kept, loaded_store_has, step_leaves_one_of_two,
 };

@@ -3,13 +3,13 @@ use Rattle.std.proofs.Common.{◌≡◌, ℕ, Bool, true, false, List, [], ◌�
 use Rattle.std.specs.Prelude.{filter, map, not}
 use Rattle.std.specs.List.{AllByRecursion}
 use Rattle.std.proofs.lemmas.Bool.{cases_Bool}
-use Rattle.mqtt_flow.specs.declared.entry.Full.TheVariants.{Refuse}
 use Rattle.mqtt_message.specs.declared.message.MessageCopy.{MessageCopy}
 use Rattle.mqtt_message.specs.declared.message.RetainedMessage.{RetainedMessage}
 use Rattle.mqtt_records.specs.declared.session.Session.{Session}
 use Rattle.mqtt_topic.specs.Filters.{is_filter}
 use Rattle.mqtt_rules.specs.Contents.{IsPublished}
 use Rattle.mqtt_rules.specs.State.{MemberChoice, session_at}
+use Rattle.mqtt_rules.specs.Outbound.{room}
 use Rattle.mqtt_rules.specs.Routing.{CopyTo, is_queued}
 use Rattle.mqtt_rules.specs.Subscribe.{Wish, FilterAnswer, retained_copy_to, next_number, answer_by}
 use Rattle.mqtt_tables.specs.declared.fault.StepFault.{StepFault}
@@ -47,22 +47,20 @@ messages_lawful now x w ks kept is all =
 pub record Looked (birth : ℕ) (x : Session) (w : Wish) (kept : List RetainedMessage) (t : Bool) (s : Stepping) : Type 0 where
   pub found : session_at birth s.broker.records ≡ Some x
   pub valid : is_filter w.filter ≡ true
-  pub full : s.limits.full ≡ Refuse
   pub held : kept ≡ messages (moment_of s.broker) x w s.broker.records.retained
-  pub may : t ≡ has_room s.limits.queue x w (chosen true birth (next_number s.broker.records) w kept)
+  pub may : (choice : MemberChoice) → t ≡ has_room (room (env_in choice s) x) x w (chosen true birth (next_number s.broker.records) w kept)
 
-pub looked : (birth limit : ℕ) (x : Session) (w : Wish) (kept kept2 : List RetainedMessage) (t t2 : Bool) (s : Stepping) → session_at birth s.broker.records ≡ Some x → is_filter w.filter ≡ true
-    → s.limits.full ≡ Refuse → limit ≡ s.limits.queue → kept ≡ messages (moment_of s.broker) x w s.broker.records.retained
-    → t ≡ has_room limit x w (chosen true birth (next_number s.broker.records) w kept) → kept2 ≡ kept → t2 ≡ t → Looked birth x w kept2 t2 s
-looked birth limit x w kept kept2 t t2 s found valid full is held may same test = record {
+pub looked : (birth left : ℕ) (x : Session) (w : Wish) (kept kept2 : List RetainedMessage) (t t2 : Bool) (s : Stepping) → session_at birth s.broker.records ≡ Some x → is_filter w.filter ≡ true
+    → ((choice : MemberChoice) → left ≡ room (env_in choice s) x) → kept ≡ messages (moment_of s.broker) x w s.broker.records.retained
+    → t ≡ has_room left x w (chosen true birth (next_number s.broker.records) w kept) → kept2 ≡ kept → t2 ≡ t → Looked birth x w kept2 t2 s
+looked birth left x w kept kept2 t t2 s found valid is held may same test = record {
   found = found;
   valid = valid;
-  full = full;
   held = same ∙ held;
-  may = test
+  may = λ choice. test
       ∙ (may
-      ∙ (ap (λ (n : ℕ). has_room n x w (chosen true birth (next_number s.broker.records) w kept)) is
-      ∙ ap (λ (ks : List RetainedMessage). has_room s.limits.queue x w (chosen true birth (next_number s.broker.records) w ks)) (sym same)));
+      ∙ (ap (λ (n : ℕ). has_room n x w (chosen true birth (next_number s.broker.records) w kept)) (is choice)
+      ∙ ap (λ (ks : List RetainedMessage). has_room (room (env_in choice s) x) x w (chosen true birth (next_number s.broker.records) w ks)) (sym same)));
 }
 
 abbrev by_look : ℕ → Session → Wish → List RetainedMessage → Bool → Stepping → MemberChoice → FilterAnswer
@@ -71,10 +69,14 @@ by_look birth x w kept t s choice =
 
 look_is : (birth : ℕ) (x : Session) (w : Wish) (kept : List RetainedMessage) (t : Bool) (s : Stepping) (choice : MemberChoice) → Looked birth x w kept t s
     → by_look birth x w kept t s choice ≡ answer_at birth w (env_in choice s) s.broker
-look_is birth x w kept t s choice l = answer_is birth x w kept t (env_in choice s) s.broker l.found l.valid l.full l.held l.may
+look_is birth x w kept t s choice l = answer_is birth x w kept t (env_in choice s) s.broker l.found l.valid l.held (l.may choice)
 
 pub look_room : (birth : ℕ) (x : Session) (w : Wish) (kept : List RetainedMessage) (s : Stepping) → Looked birth x w kept true s → FindsRoom birth w kept s
-look_room birth x w kept s l = record { session = x; found = l.found; fits = room_found birth x w kept s l.may }
+look_room birth x w kept s l = record {
+  session = x;
+  found = l.found;
+  fits = λ choice. room_found (room (env_in choice s) x) x w (chosen true birth (next_number s.broker.records) w kept) (l.may choice);
+}
 
 -- ---- granted
 

@@ -1,9 +1,8 @@
 -- A filter that is granted: its subscription, and the copies that it brings.
-use Rattle.std.proofs.Common.{◌≡◌, ℕ, suc, ◌-◌, ◌≤◌, Bool, true, false, cond, not, ◌&&◌, List, [], ◌∷◌, ◌++◌, length, nat_eq, nat_le, refl, ap, sym, subst, ◌∙◌, arith, inl, inr}
+use Rattle.std.proofs.Common.{◌≡◌, ℕ, suc, ◌≤◌, Bool, true, false, cond, not, ◌&&◌, List, [], ◌∷◌, ◌++◌, length, nat_eq, nat_le, refl, ap, sym, subst, ◌∙◌, arith, inl, inr}
 use Rattle.std.specs.Prelude.{Option, Some, None, filter, map}
 use Rattle.std.specs.List.{AllByRecursion}
 use Rattle.std.proofs.lemmas.Bool.{cases_Bool, eqb-true, leb-true}
-use Rattle.mqtt_flow.specs.declared.entry.Full.TheVariants.{Refuse}
 use Rattle.mqtt_lawful.specs.Lawful.{IsIdentifier}
 use Rattle.mqtt_message.specs.Queue.{IsSpelled}
 use Rattle.mqtt_message.specs.declared.message.MessageCopy.{MessageCopy}
@@ -30,7 +29,6 @@ use Rattle.mqtt_tables.proofs.Doing.{found_birth, stands}
 use Rattle.mqtt_acts.specs.Delivering.{addressed_all, delivers_all, HasRoomIn}
 use Rattle.mqtt_tables.proofs.Then.{same_act, same_left, did_then, left_first, left_then}
 use Rattle.mqtt_acts.proofs.Leading.{same_env}
-use Rattle.mqtt_acts.proofs.Delivered.{room_is}
 use Rattle.mqtt_subscribing.specs.Enrolling.{enrolls}
 use Rattle.mqtt_subscribing.specs.Granting.{asks_retained, messages, is_chosen, chosen, has_place, has_room, grants, answer_at}
 
@@ -108,11 +106,14 @@ length_addressed : (cs : List MessageCopy) → length (addressed_all cs) ≡ len
 length_addressed [] = refl
 length_addressed (c ∷ cs) = ap suc (length_addressed cs)
 
+env_stays : (x : Session) (w : Wish) (s s1 : Stepping) (choice : MemberChoice) → Did (enrolls x w) s s1 → env_in choice s1 ≡ env_in choice s
+env_stays x w s s1 choice is = same_env choice s s1 (ap (λ (t : Stepping). t.start) is.is) (ap (λ (t : Stepping). t.limits) is.is)
+
 -- what was there before is there still
 pub room_stays : (birth number : ℕ) (x : Session) (w : Wish) (ks : List RetainedMessage) (copies : List MessageCopy) (s s1 : Stepping) → session_at birth s.broker.records ≡ Some x
-    → Did (enrolls x w) s s1 → s.limits.full ≡ Refuse → copies ≡ chosen true birth number w ks
-    → length (chosen true birth number w ks) ≤ s.limits.queue - length x.queue → HasRoomIn s1 (addressed_all copies)
-room_stays birth number x w ks copies s s1 found is refuses made few = λ choice other.
+    → Did (enrolls x w) s s1 → copies ≡ chosen true birth number w ks
+    → ((choice : MemberChoice) → length (chosen true birth number w ks) ≤ room (env_in choice s) x) → HasRoomIn s1 (addressed_all copies)
+room_stays birth number x w ks copies s s1 found is made few = λ choice other.
     subst (λ (cs : List MessageCopy). length (filter (is_entering other) (addressed_all cs)) ≤ room_at (env_in choice s1) (session_at other s1.broker.records)) (sym made)
     (elim (cases_Bool (nat_eq birth other)) [
       | inl same ↦
@@ -120,14 +121,12 @@ room_stays birth number x w ks copies s s1 found is refuses made few = λ choice
           let y : Session = with_subscription (subscription (next_number s.broker.records) x w) x in
           let stays : session_at other s1.broker.records ≡ Some y =
           subst (λ (n : ℕ). session_at n s1.broker.records ≡ Some y) at (enrolled_session x w s s1 birth found is) in
-          let limits : s1.limits ≡ s.limits = ap (λ (t : Stepping). t.limits) is.is in
-          let full : s1.limits.full ≡ Refuse = ap (λ l. l.full) limits ∙ refuses in
           let here : room_at (env_in choice s1) (session_at other s1.broker.records) ≡ room (env_in choice s1) y = ap (room_at (env_in choice s1)) stays in
-          let left : room (env_in choice s1) y ≡ s1.limits.queue - length x.queue = room_is (env_in choice s1) y full in
-          let old : s1.limits.queue - length x.queue ≡ s.limits.queue - length x.queue = ap (λ l. l.queue - length x.queue) limits in
+          let left : room (env_in choice s1) y ≡ room (env_in choice s) x = ap (λ (e : Env). room e x) (env_stays x w s s1 choice is) in
+          let fits : length (chosen true birth number w ks) ≤ room (env_in choice s) x = few choice in
           let less = length-filter_le (is_entering other) (addressed_all (chosen true birth number w ks)) in
           let many = length_addressed (chosen true birth number w ks) in
-          omega (arith, here, left, old, less, many, few)
+          omega (arith, here, left, less, many, fits)
       | inr differ ↦
           let none = no_others birth other (chosen true birth number w ks) differ (chosen_own true birth number w ks) in
           omega (arith, none)
@@ -143,9 +142,6 @@ granted_is birth x w ks copies env b found made =
     let number : ℕ = next_number b.records in
     ap (λ (ds : List CopyTo). enrolls x w b ++ series (map (deliver env) ds) (after_all (enrolls x w b) b))
     (ap addressed_all made ∙ (queued_are birth number w ks ∙ ap (λ (n : ℕ). filter is_queued (map (retained_copy_to n number w) ks)) (sym own)))
-
-env_stays : (x : Session) (w : Wish) (s s1 : Stepping) (choice : MemberChoice) → Did (enrolls x w) s s1 → env_in choice s1 ≡ env_in choice s
-env_stays x w s s1 choice is = same_env choice s s1 (ap (λ (t : Stepping). t.start) is.is) (ap (λ (t : Stepping). t.limits) is.is)
 
 -- granted, and its copies in the queue
 pub granted_ok : (birth : ℕ) (x : Session) (w : Wish) (ks : List RetainedMessage) (copies : List MessageCopy) (s s1 s2 : Stepping) → session_at birth s.broker.records ≡ Some x
@@ -204,9 +200,9 @@ brought_is now number x w ks = elim (cases_Bool (asks_retained x w)) [
 
 -- by what was found of it
 pub answer_is : (birth : ℕ) (x : Session) (w : Wish) (kept : List RetainedMessage) (t : Bool) (env : Env) (b : Broker) → session_at birth b.records ≡ Some x → is_filter w.filter ≡ true
-    → env.limits.full ≡ Refuse → kept ≡ messages b.now x w b.records.retained → t ≡ has_room env.limits.queue x w (chosen true birth (next_number b.records) w kept)
+    → kept ≡ messages b.now x w b.records.retained → t ≡ has_room (room env x) x w (chosen true birth (next_number b.records) w kept)
     → answer_by true t env (next_number b.records) x w (map (retained_copy_to x.birth (next_number b.records) w) kept) b ≡ answer_at birth w env b
-answer_is birth x w kept t env b found valid refuses held may =
+answer_is birth x w kept t env b found valid held may =
     let number : ℕ = next_number b.records in
     let own : x.birth ≡ birth = found_birth birth b.records.sessions x found in
     let ds : List CopyTo = brought b.now number x w b.records.retained in
@@ -217,9 +213,7 @@ answer_is birth x w kept t env b found valid refuses held may =
     ∙ (ap (λ (n : ℕ). length (filter is_queued (map (retained_copy_to n number w) kept))) (sym own)
     ∙ ap (λ (cs : List CopyTo). length (filter is_queued cs)) are)) in
     let same : t ≡ (has_place x w && nat_le (length (filter is_queued ds)) (room env x)) =
-    may
-    ∙ (ap (λ (n : ℕ). has_place x w && nat_le n (env.limits.queue - length x.queue)) many
-    ∙ ap (λ (n : ℕ). has_place x w && nat_le (length (filter is_queued ds)) n) (sym (room_is env x refuses))) in
+    may ∙ ap (λ (n : ℕ). has_place x w && nat_le n (room env x)) many in
     ap (λ (cs : List CopyTo). answer_by true t env number x w cs b) are
     ∙ (ap (λ (v : Bool). answer_by true v env number x w ds b) same
     ∙ (ap (λ (v : Bool). answer_by v (has_place x w && nat_le (length (filter is_queued ds)) (room env x)) env number x w ds b) (sym valid)
@@ -230,8 +224,5 @@ and_second true b e = sym e
 and_second false b e = absurd cc
 
 -- the queue takes those that enter it
-pub room_found : (birth : ℕ) (x : Session) (w : Wish) (kept : List RetainedMessage) (s : Stepping) → true ≡ has_room s.limits.queue x w (chosen true birth (next_number s.broker.records) w kept)
-    → length (chosen true birth (next_number s.broker.records) w kept) ≤ s.limits.queue - length x.queue
-room_found birth x w kept s may =
-    let copies : List MessageCopy = chosen true birth (next_number s.broker.records) w kept in
-    leb-true (length copies) (s.limits.queue - length x.queue) (and_second (has_place x w) (nat_le (length copies) (s.limits.queue - length x.queue)) may)
+pub room_found : (left : ℕ) (x : Session) (w : Wish) (copies : List MessageCopy) → true ≡ has_room left x w copies → length copies ≤ left
+room_found left x w copies may = leb-true (length copies) left (and_second (has_place x w) (nat_le (length copies) left) may)

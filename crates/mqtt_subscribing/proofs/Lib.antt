@@ -8,3 +8,6 @@ pub mod Enrolled
 pub mod Chosen
 pub mod Granted
 pub mod Answered
+pub mod Keeping
+pub mod AllAnswers
+pub mod Subscribed

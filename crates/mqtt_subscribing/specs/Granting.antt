@@ -1,5 +1,5 @@
 -- One filter of a SUBSCRIBE: the messages that it brings, the room for their copies, and its answer (MQTT 5.0, 3.3.1.3, 3.8.4, 3.9.3).
-use Rattle.std.specs.Prelude.{◌≡◌, ◌≤◌, ℕ, ◌-◌, Bool, true, false, not, cond, ◌&&◌, ◌||◌, List, [], length, filter, map, nat_lt, nat_le, Option, Some}
+use Rattle.std.specs.Prelude.{◌≡◌, ◌≤◌, ℕ, Bool, true, false, not, cond, ◌&&◌, ◌||◌, List, [], length, filter, map, nat_lt, nat_le, Option, Some}
 use Rattle.mqtt_base.specs.declared.limits.TheConstants.{SUBSCRIPTION_LIMIT}
 use Rattle.mqtt_base.specs.declared.session.SubscriptionOptions.{SubscriptionOptions}
 use Rattle.mqtt_message.specs.declared.message.MessageCopy.{MessageCopy}
@@ -7,11 +7,12 @@ use Rattle.mqtt_message.specs.declared.message.RetainedMessage.{RetainedMessage}
 use Rattle.mqtt_records.specs.declared.session.Session.{Session}
 use Rattle.mqtt_routes.specs.Retained.{kept_for}
 use Rattle.mqtt_topic.specs.Filters.{begins_share}
-use Rattle.mqtt_rules.specs.State.{Broker, Env, session_at}
+use Rattle.mqtt_rules.specs.State.{Broker, Env, MemberChoice, session_at}
 use Rattle.mqtt_rules.specs.Deeds.{Act}
+use Rattle.mqtt_rules.specs.Outbound.{room}
 use Rattle.mqtt_rules.specs.Routing.{is_queued_at}
 use Rattle.mqtt_rules.specs.Subscribe.{Wish, FilterAnswer, has_filter, is_brought, kept_of, message_in, wants_retained, retained_copy, retained_copy_to, next_number, granted_filter, filter_answer_of}
-use Rattle.mqtt_tables.specs.Stepping.{Stepping}
+use Rattle.mqtt_tables.specs.Stepping.{Stepping, env_in}
 
 -- a filter with its options and its Subscription Identifier
 abbrev pub asked_for : List ℕ → SubscriptionOptions → Option ℕ → Wish
@@ -33,18 +34,19 @@ is_chosen false copy = not (is_queued_at copy.qos)
 abbrev pub chosen : Bool → ℕ → ℕ → Wish → List RetainedMessage → List MessageCopy
 chosen queued birth number w ks = filter (is_chosen queued) (map (retained_copy birth number w) ks)
 
--- the session has the filter or may have one more, and its queue, of at most so many copies, takes those that enter it
+-- the session has the filter or may have one more
 abbrev pub has_place : Session → Wish → Bool
 has_place s w = has_filter w.filter s || nat_lt (length s.subscriptions) SUBSCRIPTION_LIMIT
 
+-- and its queue, which has room for so many copies, takes those that enter it
 abbrev pub has_room : ℕ → Session → Wish → List MessageCopy → Bool
-has_room limit s w copies = has_place s w && nat_le (length copies) (limit - length s.queue)
+has_room left s w copies = has_place s w && nat_le (length copies) left
 
 -- the session stands, and its queue takes those copies that enter it
 pub record FindsRoom (birth : ℕ) (w : Wish) (ks : List RetainedMessage) (s : Stepping) : Type 0 where
   pub session : Session
   pub found : session_at birth s.broker.records ≡ Some session
-  pub fits : length (chosen true birth (next_number s.broker.records) w ks) ≤ s.limits.queue - length session.queue
+  pub fits : (choice : MemberChoice) → length (chosen true birth (next_number s.broker.records) w ks) ≤ room (env_in choice s) session
 
 -- the deeds of a filter that is granted
 abbrev pub grants : Session → Wish → List RetainedMessage → Env → Act

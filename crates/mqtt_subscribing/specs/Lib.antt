@@ -3,3 +3,4 @@ pub mod Dropping
 pub mod Bringing
 pub mod Enrolling
 pub mod Granting
+pub mod Answering

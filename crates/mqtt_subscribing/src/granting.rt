@@ -2,7 +2,6 @@
 //! 3.8.4, 3.9.3).
 ghost use Rattle.std.specs.Prelude.{◌≡◌, ℕ, true, false, ◌∷◌, ◌++◌, [], Some, IfOk, IfErr, OnOk};
 ghost use Rattle.std.specs.List.{AllByRecursion};
-ghost use Rattle.mqtt_flow.specs.declared.entry.Full.TheVariants.{Refuse};
 ghost use Rattle.mqtt_lawful.specs.Lawful.{IsIdentifier};
 ghost use Rattle.mqtt_message.specs.Queue.{IsSpelled};
 ghost use Rattle.mqtt_message.specs.declared.message.RetainedMessage.{RetainedMessage as Retained};
@@ -25,6 +24,7 @@ use mqtt_base::{Reason, SUBSCRIPTION_LIMIT, SubscriptionOptions, Text};
 use mqtt_records::{MessageCopy, RetainedMessage, Session};
 use mqtt_tables::{Step, StepFault};
 use mqtt_topic::SubFilter;
+use mqtt_turns::room;
 use mqtt_verdicts::{filter_code, has_filter, wants_retained};
 use std::alloc::{AllocError, Global};
 
@@ -49,24 +49,23 @@ fn messages(
     brought(alloc, step, session, asked, options)
 }
 
-/// Whether the session has room for the filter, and its queue, of at most so many copies, for those that are to
-/// enter it (ours).
+/// Whether the session has room for the filter, and its queue, which has room for so many copies, for those that
+/// are to enter it (ours).
 fn has_room(
-    limit: u32,
+    room: u32,
     session: &Session,
     asked: &SubFilter,
     options: SubscriptionOptions,
     identifier: Option<u32>,
     kept: &[RetainedMessage],
 ) -> bool
-    ensures { (birth number : ℕ) → result ≡ has_room limit session.now
+    ensures { (birth number : ℕ) → result ≡ has_room room session.now
         (asked_for asked.now options identifier)
         (chosen true birth number (asked_for asked.now options identifier) kept.now) }
 {
     let has_place = has_filter(session, asked.as_str())
         || session.subscriptions.len() < SUBSCRIPTION_LIMIT as usize;
-    let room = (limit as usize).saturating_sub(session.queue.len());
-    has_place && fit(room, options, kept)
+    has_place && fit(room as usize, options, kept)
 }
 
 /// A filter gets its number, and the session its subscription; its copies that are queued enter the queue, and
@@ -82,7 +81,6 @@ fn grant(
     late: &mut Vec<MessageCopy>,
 ) -> Result<(), StepFault>
     requires once { HaveFiltersOnce step.old.broker.records }
-    requires full { step.old.limits.full ≡ Refuse }
     requires lawful { AllByRecursion (λ (k : Retained). IsPublished k.content) kept.now }
     requires identifier { IsIdentifier identifier }
     requires room { FindsRoom birth (asked_for asked.now options identifier) kept.now step.old }
@@ -110,7 +108,6 @@ fn answer_valid(
     alloc: Global,
     step: &mut Step,
     birth: u64,
-    limit: u32,
     asked: &SubFilter,
     options: SubscriptionOptions,
     identifier: Option<u32>,
@@ -118,8 +115,6 @@ fn answer_valid(
     late: &mut Vec<MessageCopy>,
 ) -> Result<(), StepFault>
     requires once { HaveFiltersOnce step.old.broker.records }
-    requires full { step.old.limits.full ≡ Refuse }
-    requires limit { limit ≡ step.old.limits.queue }
     requires lawful { AllByRecursion (λ (k : Retained). IsPublished k.content)
         step.old.broker.records.retained }
     requires identifier { IsIdentifier identifier }
@@ -143,7 +138,8 @@ fn answer_valid(
         return Ok(());
     };
     let kept = messages(alloc, step, session, asked, options, identifier)?;
-    let has_room = has_room(limit, session, asked, options, identifier, &kept);
+    let room = room(step, session);
+    let has_room = has_room(room, session, asked, options, identifier, &kept);
     codes.push(filter_code(true, has_room, options.qos).0)?;
     if has_room {
         grant(alloc, step, birth, asked, options, identifier, &kept, late)
@@ -152,15 +148,14 @@ fn answer_valid(
     }
 }
 
-/// What becomes of a filter of a SUBSCRIBE, in a session whose queue holds at most so many copies. Where it is
-/// valid, and the session has room for it, and the queue for its copies, it gets its number, the session its
+/// What becomes of a filter of a SUBSCRIBE. Where it is valid, and the session has room for it, and its queue for
+/// the copies that it brings, beside those that make way for them, it gets its number, the session its
 /// subscription, and the copies of retained messages enter the queue; those of QoS 0 are added to the late ones,
 /// which go out after the SUBACK. Its code is added to the codes (3.8.4, 3.9.3).
 pub fn answer_filter(
     alloc: Global,
     step: &mut Step,
     birth: u64,
-    limit: u32,
     text: Text,
     options: SubscriptionOptions,
     identifier: Option<u32>,
@@ -168,8 +163,6 @@ pub fn answer_filter(
     late: &mut Vec<MessageCopy>,
 ) -> Result<(), StepFault>
     requires once { HaveFiltersOnce step.old.broker.records }
-    requires full { step.old.limits.full ≡ Refuse }
-    requires limit { limit ≡ step.old.limits.queue }
     requires lawful { AllByRecursion (λ (k : Retained). IsPublished k.content)
         step.old.broker.records.retained }
     requires identifier { IsIdentifier identifier }
@@ -188,9 +181,7 @@ pub fn answer_filter(
         (answers birth (asked_for text options identifier)) fault step.old step.new) }
 {
     match SubFilter::from_text(text) {
-        Ok(asked) => answer_valid(
-            alloc, step, birth, limit, &asked, options, identifier, codes, late,
-        ),
+        Ok(asked) => answer_valid(alloc, step, birth, &asked, options, identifier, codes, late),
         Err(_) => {
             codes.push(Reason::TOPIC_FILTER_INVALID.0)?;
             Ok(())

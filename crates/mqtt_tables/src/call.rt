@@ -2,6 +2,7 @@
 ghost use Rattle.std.specs.Prelude.{◌≡◌, ◌≢◌, ◌⊎◌, false, IfOk, IfErr, OnOk, OnErr, IsErrOf};
 ghost use Rattle.mqtt_records.specs.declared.records.Records.{Records};
 ghost use Rattle.mqtt_records.specs.Records.{changed_all, FitAll};
+ghost use Rattle.mqtt_records.specs.Saying.{AllSayable};
 ghost use Rattle.mqtt_rules.specs.Step.{at_moment, is_spent};
 ghost use Rattle.mqtt_tables.specs.Undoing.{moment_of};
 ghost use Rattle.mqtt_tables.specs.Stepping.{at_rest, with_broker, with_stamp};
@@ -107,13 +108,15 @@ impl Step {
     }
 }
 
-/// Tells the store of a step that was done in place. Where the store refuses, the step is taken back.
+/// Tells the store of a step that was done in place. The step's rows have to fit, and to be such as can be
+/// said in a table. Where the store refuses, the step is taken back.
 /// `Memory` (1): nothing changed, here or there. `Stopped` (2): the store failed.
 pub fn commit<K: Keep>(keep: &mut K, step: &mut Step) -> Result<Outcome, EngineError>
     requires loaded { K.is_loaded keep.old }
     requires holds { K.holds keep.old step.old.start.records }
     requires fit { is_spent step.old.rows ≡ false
         → FitAll step.old.rows step.old.start.records }
+    requires sayable { AllSayable step.old.rows }
 
     // None of the rows gives a number above the last.
     ensures unspent { is_spent step.old.rows ≡ false }

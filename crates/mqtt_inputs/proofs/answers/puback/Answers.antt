@@ -1,4 +1,4 @@
-use Rattle.std.proofs.Common.{◌≡◌, refl, sym, subst}
+use Rattle.std.proofs.Common.{refl, sym, subst}
 use Rattle.mqtt_codec.specs.declared.packet.Packet.TheVariants.{Puback}
 use Rattle.mqtt_rules.specs.Contents.{IsWilled}
 use Rattle.mqtt_rules.specs.Routing.{subscribers}
@@ -8,7 +8,7 @@ use Rattle.mqtt_closing.specs.Wills.{will_at}
 use Rattle.mqtt_turns.specs.Answering.{Came, pubacks}
 use Rattle.mqtt_turns.specs.declared.answering.Answered.TheVariants.{Taken, Wrong}
 use Rattle.mqtt_inputs.proofs.OnLine.{on_line}
-use Rattle.mqtt_inputs.proofs.Clients.{willed}
+use Rattle.mqtt_calls.proofs.Willed.{willed}
 use Rattle.mqtt_inputs.proofs.Answered.{came_taken, came_wrong, came_wrong_left, left_packet}
 use Rattle.mqtt_inputs.proofs.answers.puback.Goals as goal
 
@@ -20,7 +20,7 @@ drop_line-requires-clause-serves g c =
 pub drop_line-requires-clause-lawful : goal.drop_line-requires-clause-lawful
 drop_line-requires-clause-lawful g c =
     let came : Came (pubacks c.args.birth c.args.packet.now.identifier c.args.packet.now.reason.0) c.args.line Wrong c.args.step.now c.puback.new.step = rw c.in-Ok-Wrong.field-0-is at c.in-Ok-Wrong.ensures.ok in
-    λ birth is. subst (λ (t : Stepping). IsWilled (will_at birth t.broker.records)) (sym came.0) (willed birth c.args.step.now.broker c.requires.client.contents)
+    λ birth is. subst (λ (t : Stepping). IsWilled (will_at birth t.broker.records)) (sym came.0) (willed c.args.step.now.broker c.requires.client.contents birth)
 
 pub returns-in-Ok-Taken-clause-ok : goal.returns-in-Ok-Taken-clause-ok
 returns-in-Ok-Taken-clause-ok g c =

@@ -1,6 +1,5 @@
-use Rattle.std.proofs.Common.{◌≡◌, true, refl, sym, subst, ap}
+use Rattle.std.proofs.Common.{sym, subst, ap}
 use Rattle.mqtt_records.specs.declared.records.Records.{Records}
-use Rattle.mqtt_rules.specs.Deeds.{always, On, Hear}
 use Rattle.mqtt_rules.specs.Routing.{subscribers}
 use Rattle.mqtt_rules.specs.State.{Broker}
 use Rattle.mqtt_tables.specs.Stepping.{Stepping}

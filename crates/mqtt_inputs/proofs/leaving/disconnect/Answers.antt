@@ -3,13 +3,13 @@ use Rattle.mqtt_props.specs.declared.table.PropName.TheVariants.{SessionExpiryIn
 use Rattle.mqtt_rules.specs.Packets.{number_at}
 use Rattle.mqtt_tables.proofs.Doing.{if_err, on_ok}
 use Rattle.mqtt_inputs.proofs.OnLine.{on_line}
-use Rattle.mqtt_inputs.proofs.Clients.{willed}
+use Rattle.mqtt_calls.proofs.Willed.{willed}
 use Rattle.mqtt_inputs.proofs.Answered.{disconnect_left, disconnected}
 use Rattle.mqtt_inputs.proofs.leaving.disconnect.Goals as goal
 
 pub disconnect-requires-clause-lawful : goal.disconnect-requires-clause-lawful
 disconnect-requires-clause-lawful g c =
-    willed c.args.birth c.args.step.now.broker c.requires.client.contents
+    willed c.args.step.now.broker c.requires.client.contents c.args.birth
 
 pub returns-clause-ok : goal.returns-clause-ok
 returns-clause-ok g c =

@@ -1,12 +1,12 @@
 use Rattle.mqtt_tables.proofs.Doing.{if_err, on_ok}
 use Rattle.mqtt_inputs.proofs.OnLine.{on_line}
-use Rattle.mqtt_inputs.proofs.Clients.{willed}
+use Rattle.mqtt_calls.proofs.Willed.{willed}
 use Rattle.mqtt_inputs.proofs.Answered.{stray_left, strayed}
 use Rattle.mqtt_inputs.proofs.leaving.stray.Goals as goal
 
 pub drop_line-requires-clause-lawful : goal.drop_line-requires-clause-lawful
 drop_line-requires-clause-lawful g c =
-    λ birth is. willed birth c.args.step.now.broker c.requires.client.contents
+    λ birth is. willed c.args.step.now.broker c.requires.client.contents birth
 
 pub returns-clause-ok : goal.returns-clause-ok
 returns-clause-ok g c = λ packet stray.

@@ -1,4 +1,4 @@
-use Rattle.std.proofs.Common.{◌≡◌, sym, subst}
+use Rattle.std.proofs.Common.{sym, subst}
 use Rattle.mqtt_records.specs.declared.records.Records.{Records}
 use Rattle.mqtt_rules.specs.Contents.{IsWilled}
 use Rattle.mqtt_rules.specs.Inbound.{on_publish}
@@ -8,7 +8,8 @@ use Rattle.mqtt_acts.specs.Choosing.{DoesSome}
 use Rattle.mqtt_closing.specs.Wills.{will_at}
 use Rattle.mqtt_publishing.specs.Publishing.{IsOver, IsWrong}
 use Rattle.mqtt_inputs.proofs.OnLine.{on_line}
-use Rattle.mqtt_inputs.proofs.Clients.{lawful_message, willed}
+use Rattle.mqtt_calls.proofs.Willed.{willed}
+use Rattle.mqtt_inputs.proofs.Clients.{lawful_message}
 use Rattle.mqtt_inputs.proofs.Answered.{over_publish, over_publish_left, over_stays, publish_left, published, wrong_publish, wrong_publish_left, wrong_stays}
 use Rattle.mqtt_inputs.proofs.publishing.publish.Goals as goal
 
@@ -44,7 +45,7 @@ drop_line-requires-clause-lawful g c =
     let h = on_line c.args.line c.args.birth s.broker c.requires.client in
     let came : IsWrong c.in-Ok-Wrong.code.0 h.l c.args.packet.now s c.on_publish.new.step = rw c.in-Ok-Wrong.field-0-is at (c.in-Ok-Wrong.ensures.ok h.l h.x h.row h.stands) in
     let stays = wrong_stays c.args.line c.args.birth s h c.args.packet.now c.in-Ok-Wrong.code.0 c.on_publish.new.step came in
-    λ birth is. subst (λ (r : Records). IsWilled (will_at birth r)) (sym stays) (willed birth s.broker c.requires.client.contents)
+    λ birth is. subst (λ (r : Records). IsWilled (will_at birth r)) (sym stays) (willed s.broker c.requires.client.contents birth)
 
 pub returns-in-Ok-Wrong-clause-ok : goal.returns-in-Ok-Wrong-clause-ok
 returns-in-Ok-Wrong-clause-ok g c =
@@ -80,7 +81,7 @@ drop_line-requires-in-Ok-Over-clause-lawful g c =
     let h = on_line c.args.line c.args.birth s.broker c.requires.client in
     let came : IsOver h.l h.x c.args.packet.now s c.on_publish.new.step = rw c.in-Ok-Over.field-0-is at (c.in-Ok-Over.ensures.ok h.l h.x h.row h.stands) in
     let stays = over_stays c.args.line c.args.birth s h c.args.packet.now c.on_publish.new.step came in
-    λ birth is. subst (λ (r : Records). IsWilled (will_at birth r)) (sym stays) (willed birth s.broker c.requires.client.contents)
+    λ birth is. subst (λ (r : Records). IsWilled (will_at birth r)) (sym stays) (willed s.broker c.requires.client.contents birth)
 
 pub returns-in-Ok-Over-clause-ok : goal.returns-in-Ok-Over-clause-ok
 returns-in-Ok-Over-clause-ok g c =

@@ -1,11 +1,8 @@
-use Rattle.std.proofs.Common.{◌≡◌, refl, sym, subst}
-use Rattle.mqtt_tables.specs.Stepping.{Did, Does, IsLeft, Leaves}
 use Rattle.mqtt_tables.proofs.Doing.{if_err, on_ok}
-use Rattle.mqtt_inputs.proofs.OnLine.{on_line}
+use Rattle.mqtt_inputs.proofs.OnLine.{left_next, on_line, some_next}
 use Rattle.mqtt_codec.specs.declared.packet.Packet.TheVariants.{Pingreq}
 use Rattle.mqtt_rules.specs.Step.{next_packet}
 use Rattle.mqtt_acts.proofs.Some.{does_some, leaves_some}
-use Rattle.mqtt_inputs.proofs.OnLine.{left_next, some_next}
 use Rattle.mqtt_inputs.proofs.quiet.pingreq.Goals as goal
 
 pub returns-clause-ok : goal.returns-clause-ok

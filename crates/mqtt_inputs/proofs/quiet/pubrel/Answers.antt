@@ -1,5 +1,4 @@
-use Rattle.std.proofs.Common.{◌≡◌, refl, sym, subst}
-use Rattle.mqtt_tables.specs.Stepping.{Did, Does, IsLeft, Leaves}
+use Rattle.std.proofs.Common.{refl}
 use Rattle.mqtt_tables.proofs.Doing.{if_err, on_ok}
 use Rattle.mqtt_inputs.proofs.OnLine.{on_line}
 use Rattle.mqtt_codec.specs.declared.packet.Packet.TheVariants.{Pubrel}

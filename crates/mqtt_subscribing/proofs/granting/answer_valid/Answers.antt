@@ -19,8 +19,8 @@ grant-requires-clause-room c =
     let w = asked_for c.args.asked.now c.args.options c.args.identifier in
     let is : true ≡ c.has_room-has_room.result = search rules in
     let l : Looked c.args.birth c.in-Some.session.now w c.deref-then-has_room.result.now true c.args.step.now =
-    looked c.args.birth c.args.limit c.in-Some.session.now w c.deref.result.now c.deref-then-has_room.result.now c.has_room-has_room.result true c.args.step.now
-    (sym c.in-Some.ensures) c.requires.valid c.requires.full c.requires.limit (c.deref.ensures.value ∙ c.in_ok-kept.ensures)
+    looked c.args.birth c.room-room.result c.in-Some.session.now w c.deref.result.now c.deref-then-has_room.result.now c.has_room-has_room.result true c.args.step.now
+    (sym c.in-Some.ensures) c.requires.valid c.room-room.ensures (c.deref.ensures.value ∙ c.in_ok-kept.ensures)
     (c.has_room-has_room.ensures c.args.birth (next_number c.args.step.now.broker.records)) (c.deref-then-has_room.ensures.value ∙ sym c.deref.ensures.value) is in
     look_room c.args.birth c.in-Some.session.now w c.deref-then-has_room.result.now c.args.step.now l
 
@@ -29,8 +29,8 @@ returns-then-has_room-clause-ok c =
     let w = asked_for c.args.asked.now c.args.options c.args.identifier in
     let is : true ≡ c.has_room-has_room.result = search rules in
     let l : Looked c.args.birth c.in-Some.session.now w c.deref-then-has_room.result.now true c.args.step.now =
-    looked c.args.birth c.args.limit c.in-Some.session.now w c.deref.result.now c.deref-then-has_room.result.now c.has_room-has_room.result true c.args.step.now
-    (sym c.in-Some.ensures) c.requires.valid c.requires.full c.requires.limit (c.deref.ensures.value ∙ c.in_ok-kept.ensures)
+    looked c.args.birth c.room-room.result c.in-Some.session.now w c.deref.result.now c.deref-then-has_room.result.now c.has_room-has_room.result true c.args.step.now
+    (sym c.in-Some.ensures) c.requires.valid c.room-room.ensures (c.deref.ensures.value ∙ c.in_ok-kept.ensures)
     (c.has_room-has_room.ensures c.args.birth (next_number c.args.step.now.broker.records)) (c.deref-then-has_room.ensures.value ∙ sym c.deref.ensures.value) is in
     on_ok c.grant.result
     (look_ok c.args.birth c.in-Some.session.now w c.deref-then-has_room.result.now c.args.step.now c.grant.new.step l)
@@ -40,8 +40,8 @@ pub returns-then-has_room-clause-code : goal.returns-then-has_room-clause-code
 returns-then-has_room-clause-code c = λ choice.
     let w = asked_for c.args.asked.now c.args.options c.args.identifier in
     let l : Looked c.args.birth c.in-Some.session.now w c.deref.result.now c.has_room-has_room.result c.args.step.now =
-    looked c.args.birth c.args.limit c.in-Some.session.now w c.deref.result.now c.deref.result.now c.has_room-has_room.result c.has_room-has_room.result c.args.step.now
-    (sym c.in-Some.ensures) c.requires.valid c.requires.full c.requires.limit (c.deref.ensures.value ∙ c.in_ok-kept.ensures)
+    looked c.args.birth c.room-room.result c.in-Some.session.now w c.deref.result.now c.deref.result.now c.has_room-has_room.result c.has_room-has_room.result c.args.step.now
+    (sym c.in-Some.ensures) c.requires.valid c.room-room.ensures (c.deref.ensures.value ∙ c.in_ok-kept.ensures)
     (c.has_room-has_room.ensures c.args.birth (next_number c.args.step.now.broker.records)) refl refl in
     let pushed : c.push-2.new.self.items ≡ c.args.codes.now.items ++ c.filter_code.result.0 ∷ [] = search rules in
     on_ok c.grant.result (λ done. look_code c.args.birth c.in-Some.session.now w c.deref.result.now c.has_room-has_room.result c.args.codes.now.items c.push-2.new.self.items c.filter_code.result.0 c.args.step.now choice l pushed
@@ -54,8 +54,8 @@ returns-then-has_room-clause-late c = λ choice.
     let w = asked_for c.args.asked.now c.args.options c.args.identifier in
     let is : true ≡ c.has_room-has_room.result = search rules in
     let l : Looked c.args.birth c.in-Some.session.now w c.deref-then-has_room.result.now true c.args.step.now =
-    looked c.args.birth c.args.limit c.in-Some.session.now w c.deref.result.now c.deref-then-has_room.result.now c.has_room-has_room.result true c.args.step.now
-    (sym c.in-Some.ensures) c.requires.valid c.requires.full c.requires.limit (c.deref.ensures.value ∙ c.in_ok-kept.ensures)
+    looked c.args.birth c.room-room.result c.in-Some.session.now w c.deref.result.now c.deref-then-has_room.result.now c.has_room-has_room.result true c.args.step.now
+    (sym c.in-Some.ensures) c.requires.valid c.room-room.ensures (c.deref.ensures.value ∙ c.in_ok-kept.ensures)
     (c.has_room-has_room.ensures c.args.birth (next_number c.args.step.now.broker.records)) (c.deref-then-has_room.ensures.value ∙ sym c.deref.ensures.value) is in
     on_ok c.grant.result
     (look_late c.args.birth c.in-Some.session.now w c.deref-then-has_room.result.now c.args.late.now.items c.grant.new.late.items c.args.step.now choice l)
@@ -66,8 +66,8 @@ returns-then-has_room-clause-left c =
     let w = asked_for c.args.asked.now c.args.options c.args.identifier in
     let is : true ≡ c.has_room-has_room.result = search rules in
     let l : Looked c.args.birth c.in-Some.session.now w c.deref-then-has_room.result.now true c.args.step.now =
-    looked c.args.birth c.args.limit c.in-Some.session.now w c.deref.result.now c.deref-then-has_room.result.now c.has_room-has_room.result true c.args.step.now
-    (sym c.in-Some.ensures) c.requires.valid c.requires.full c.requires.limit (c.deref.ensures.value ∙ c.in_ok-kept.ensures)
+    looked c.args.birth c.room-room.result c.in-Some.session.now w c.deref.result.now c.deref-then-has_room.result.now c.has_room-has_room.result true c.args.step.now
+    (sym c.in-Some.ensures) c.requires.valid c.room-room.ensures (c.deref.ensures.value ∙ c.in_ok-kept.ensures)
     (c.has_room-has_room.ensures c.args.birth (next_number c.args.step.now.broker.records)) (c.deref-then-has_room.ensures.value ∙ sym c.deref.ensures.value) is in
     if_err c.grant.result
     (λ fault. look_left c.args.birth c.in-Some.session.now w c.deref-then-has_room.result.now fault c.args.step.now c.grant.new.step l)
@@ -78,8 +78,8 @@ returns-clause-ok c =
     let w = asked_for c.args.asked.now c.args.options c.args.identifier in
     let is : false ≡ c.has_room-has_room.result = search rules in
     let l : Looked c.args.birth c.in-Some.session.now w c.deref.result.now false c.args.step.now =
-    looked c.args.birth c.args.limit c.in-Some.session.now w c.deref.result.now c.deref.result.now c.has_room-has_room.result false c.args.step.now
-    (sym c.in-Some.ensures) c.requires.valid c.requires.full c.requires.limit (c.deref.ensures.value ∙ c.in_ok-kept.ensures)
+    looked c.args.birth c.room-room.result c.in-Some.session.now w c.deref.result.now c.deref.result.now c.has_room-has_room.result false c.args.step.now
+    (sym c.in-Some.ensures) c.requires.valid c.room-room.ensures (c.deref.ensures.value ∙ c.in_ok-kept.ensures)
     (c.has_room-has_room.ensures c.args.birth (next_number c.args.step.now.broker.records)) refl is in
     refused_does c.args.birth c.in-Some.session.now w c.deref.result.now c.args.step.now l
 
@@ -87,8 +87,8 @@ pub returns-clause-code : goal.returns-clause-code
 returns-clause-code c = λ choice.
     let w = asked_for c.args.asked.now c.args.options c.args.identifier in
     let l : Looked c.args.birth c.in-Some.session.now w c.deref.result.now c.has_room-has_room.result c.args.step.now =
-    looked c.args.birth c.args.limit c.in-Some.session.now w c.deref.result.now c.deref.result.now c.has_room-has_room.result c.has_room-has_room.result c.args.step.now
-    (sym c.in-Some.ensures) c.requires.valid c.requires.full c.requires.limit (c.deref.ensures.value ∙ c.in_ok-kept.ensures)
+    looked c.args.birth c.room-room.result c.in-Some.session.now w c.deref.result.now c.deref.result.now c.has_room-has_room.result c.has_room-has_room.result c.args.step.now
+    (sym c.in-Some.ensures) c.requires.valid c.room-room.ensures (c.deref.ensures.value ∙ c.in_ok-kept.ensures)
     (c.has_room-has_room.ensures c.args.birth (next_number c.args.step.now.broker.records)) refl refl in
     let pushed : c.push-2.new.self.items ≡ c.args.codes.now.items ++ c.filter_code.result.0 ∷ [] = search rules in
     look_code c.args.birth c.in-Some.session.now w c.deref.result.now c.has_room-has_room.result c.args.codes.now.items c.push-2.new.self.items c.filter_code.result.0 c.args.step.now choice l pushed
@@ -100,7 +100,7 @@ returns-clause-late c = λ choice.
     let w = asked_for c.args.asked.now c.args.options c.args.identifier in
     let is : false ≡ c.has_room-has_room.result = search rules in
     let l : Looked c.args.birth c.in-Some.session.now w c.deref.result.now false c.args.step.now =
-    looked c.args.birth c.args.limit c.in-Some.session.now w c.deref.result.now c.deref.result.now c.has_room-has_room.result false c.args.step.now
-    (sym c.in-Some.ensures) c.requires.valid c.requires.full c.requires.limit (c.deref.ensures.value ∙ c.in_ok-kept.ensures)
+    looked c.args.birth c.room-room.result c.in-Some.session.now w c.deref.result.now c.deref.result.now c.has_room-has_room.result false c.args.step.now
+    (sym c.in-Some.ensures) c.requires.valid c.room-room.ensures (c.deref.ensures.value ∙ c.in_ok-kept.ensures)
     (c.has_room-has_room.ensures c.args.birth (next_number c.args.step.now.broker.records)) refl is in
     refused_late c.args.birth c.in-Some.session.now w c.deref.result.now c.args.late.now.items c.args.step.now choice l

@@ -6,7 +6,7 @@ use Rattle.mqtt_message.specs.declared.message.MessageCopy.{MessageCopy}
 use Rattle.mqtt_rules.specs.Subscribe.{next_number}
 use Rattle.mqtt_tables.specs.declared.fault.StepFault.{StepFault}
 use Rattle.mqtt_tables.specs.declared.fault.StepFault.TheVariants.{Memory}
-use Rattle.mqtt_tables.specs.Stepping.{Did, Leaves}
+use Rattle.mqtt_tables.specs.Stepping.{Leaves}
 use Rattle.mqtt_tables.proofs.Doing.{on_ok, if_err}
 use Rattle.mqtt_subscribing.specs.Enrolling.{enrolls}
 use Rattle.mqtt_subscribing.specs.Granting.{asked_for, chosen, grants}
@@ -49,13 +49,6 @@ deliver_all-requires-clause-spelled c =
     subst (λ (cs : List MessageCopy). AllByRecursion IsSpelled cs) (sym (c.in_ok-copies.ensures w refl refl))
     (chosen_spelled true c.args.birth c.in_ok-number.number w c.args.kept.now c.requires.lawful c.requires.identifier)
 
-pub deliver_all-requires-clause-full : goal.deliver_all-requires-clause-full
-deliver_all-requires-clause-full c =
-    let w = asked_for c.args.asked.now c.args.options c.args.identifier in
-    let text : c.args.asked.now ≡ c.in_ok-text.text = search rules in
-    let first : Did (enrolls c.requires.room.session w) c.args.step.now c.enroll.new.step = c.in_ok-number.ensures.ok c.requires.room.session w c.requires.room.found text refl refl in
-    ap (λ t. t.limits.full) first.is ∙ c.requires.full
-
 pub deliver_all-requires-clause-room : goal.deliver_all-requires-clause-room
 deliver_all-requires-clause-room c =
     let w = asked_for c.args.asked.now c.args.options c.args.identifier in
@@ -63,7 +56,7 @@ deliver_all-requires-clause-room c =
     let made : c.in_ok-copies.copies.items ≡ chosen true c.args.birth (next_number c.args.step.now.broker.records) w c.args.kept.now =
     c.in_ok-copies.ensures w refl refl ∙ ap (λ (n : ℕ). chosen true c.args.birth n w c.args.kept.now) c.in_ok-number.ensures.number in
     room_stays c.args.birth (next_number c.args.step.now.broker.records) c.requires.room.session w c.args.kept.now c.in_ok-copies.copies.items c.args.step.now c.enroll.new.step
-    c.requires.room.found (c.in_ok-number.ensures.ok c.requires.room.session w c.requires.room.found text refl refl) c.requires.full made c.requires.room.fits
+    c.requires.room.found (c.in_ok-number.ensures.ok c.requires.room.session w c.requires.room.found text refl refl) made c.requires.room.fits
 
 pub returns-clause-ok : goal.returns-clause-ok
 returns-clause-ok c = λ s found.

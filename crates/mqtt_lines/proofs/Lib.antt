@@ -1,0 +1,4 @@
+pub mod Begun
+pub mod Refused
+pub mod Instead
+pub mod Greeted

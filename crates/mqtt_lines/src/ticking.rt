@@ -1,0 +1,42 @@
+//! A turn of the clock, as the acts of its call (MQTT 5.0, 3.1.2.10, 3.1.2.11.2, 3.1.3.2.2, 3.3.2.3.3).
+ghost use Rattle.std.specs.Prelude.{◌≡◌, List, IfOk, IfErr};
+ghost use Rattle.mqtt_flow.specs.declared.entry.Full.TheVariants.{Refuse};
+ghost use Rattle.mqtt_routes.specs.Subscriptions.{Subscriber};
+ghost use Rattle.mqtt_rules.specs.Routing.{subscribers};
+ghost use Rattle.mqtt_rules.specs.Step.{SpentStep, Tick};
+ghost use Rattle.mqtt_tables.specs.declared.fault.StepFault.TheVariants.{Spent};
+ghost use Rattle.mqtt_tables.specs.Stepping.{at_rest};
+ghost use Rattle.mqtt_calls.specs.Doing.{DidCall};
+ghost use Rattle.mqtt_calls.specs.Sound.{IsSound};
+
+use mqtt_acts::Router;
+use mqtt_tables::{Step, StepFault};
+use mqtt_ticking::tick;
+use std::alloc::Global;
+
+/// The step of a turn of the clock begins at a moment, and does its deeds. Answers whether anything was due, so that
+/// there may be more. `Memory` (1) and `Spent` (3): the step is to be taken back (3.1.2.10, 3.1.2.11.2, 3.1.3.2.2,
+/// 3.3.2.3.3).
+pub fn tick_at<R: Router>(
+    alloc: Global,
+    router: &mut R,
+    step: &mut Step,
+    moment: u64,
+) -> Result<bool, StepFault>
+    requires rest { step.old ≡ at_rest step.old.limits step.old.broker }
+    requires sound { IsSound step.old.limits step.old.broker }
+    requires serves { R.serves router.old (subscribers step.old.broker.records) }
+    requires full { step.old.limits.full ≡ Refuse }
+    ensures called { IfOk result (λ again. DidCall moment Tick again step.new) }
+    ensures left { IfErr result (λ fault. fault ≡ Spent
+        → SpentStep step.new.limits step.new.start moment Tick) }
+    ensures start { step.new.start ≡ step.old.broker }
+    ensures limits { step.new.limits ≡ step.old.limits }
+    ensures serves { (sessions : List Subscriber) → R.serves router.old sessions
+        → R.serves router.new sessions }
+{
+    match step.begin(moment) {
+        Ok(()) => tick(alloc, router, step),
+        Err(fault) => Err(fault),
+    }
+}
