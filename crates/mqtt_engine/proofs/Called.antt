@@ -5,11 +5,14 @@ use Rattle.mqtt_records.specs.declared.change.Change.{Change}
 use Rattle.mqtt_records.specs.declared.records.Records.{Records}
 use Rattle.mqtt_records.specs.Records.{FitAll}
 use Rattle.mqtt_rules.specs.declared.Limits.{Limits}
-use Rattle.mqtt_rules.specs.Contents.{TakesLawful}
+use Rattle.mqtt_records.specs.Saying.{AllSayable}
+use Rattle.mqtt_rules.specs.Contents.{TakesLawful, of_rows}
 use Rattle.mqtt_rules.specs.Deeds.{Deed, rows_of_all}
 use Rattle.mqtt_rules.specs.State.{Broker}
 use Rattle.mqtt_rules.specs.Step.{Call, at_moment, deeds, is_spent, is_step_spent, rows_written, stamped, stepped, told, with_moment}
 use Rattle.mqtt_rules.proofs.RowsFit.{step_fits}
+use Rattle.mqtt_rules.proofs.SayableRows.{step_said}
+use Rattle.mqtt_rules.proofs.SpelledContents.{rows_are as row_sizes}
 use Rattle.mqtt_rules.proofs.StoredLaw.{now_stays}
 use Rattle.mqtt_tables.specs.declared.fault.StepFault.{StepFault}
 use Rattle.mqtt_tables.specs.declared.fault.StepFault.TheVariants.{Memory, Spent}
@@ -51,6 +54,10 @@ module _ (now : ℕ) (call : Call) (again : Bool) (s : Stepping) (h : DidCall no
   call_fits sound e =
       subst (λ (rows : List Change). FitAll rows s.start.records) (sym rows_are)
       (step_fits s.limits h.choice now call s.start sound.limited sound.coherent sound.timed sound.last (call_unspent e))
+
+  pub call_sayable : IsSound s.limits s.start → TakesLawful call → AllSayable (with_stamp s).rows
+  call_sayable sound taken =
+      subst AllSayable (sym rows_are) (step_said of_rows row_sizes s.limits h.choice now call s.start taken sound.contents)
 
   pub call_followed : IsSound s.limits s.start → TakesLawful call → CanAllBeFollowed (with_stamp s).rows s.start.records
   call_followed sound taken =

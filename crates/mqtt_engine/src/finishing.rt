@@ -2,6 +2,7 @@
 ghost use Rattle.std.specs.Prelude.{◌≡◌, ◌≢◌, ◌⊎◌, ℕ, false, Ok, IfOk, OnOk, OnErr, IsErrOf};
 ghost use Rattle.mqtt_records.specs.declared.records.Records.{Records};
 ghost use Rattle.mqtt_records.specs.Records.{FitAll};
+ghost use Rattle.mqtt_records.specs.Saying.{AllSayable};
 ghost use Rattle.mqtt_router.specs.Following.{CanAllBeFollowed, CanBeIndexed};
 ghost use Rattle.mqtt_router.specs.Indexing.{Serves};
 ghost use Rattle.mqtt_rules.specs.Contents.{TakesLawful};
@@ -51,6 +52,7 @@ fn tell<K: Keep>(
     requires loaded { K.is_loaded keep.old }
     requires holds { K.holds keep.old step.old.start.records }
     requires fit { is_spent step.old.rows ≡ false → FitAll step.old.rows step.old.start.records }
+    requires sayable { AllSayable step.old.rows }
     requires indexed { CanBeIndexed step.old.start.records }
     requires followed { is_spent step.old.rows ≡ false
         → CanAllBeFollowed step.old.rows step.old.start.records }

@@ -1,9 +1,10 @@
 use Rattle.std.proofs.Common.{◌≡◌, ◌⊎◌, ap, sym, subst, ◌∙◌}
 use Rattle.mqtt_records.specs.Records.{FitAll}
+use Rattle.mqtt_records.specs.Saying.{AllSayable}
 use Rattle.mqtt_rules.specs.Step.{is_spent}
 use Rattle.mqtt_router.specs.Following.{CanAllBeFollowed, CanBeIndexed}
 use Rattle.mqtt_tables.specs.Stepping.{Stepping, with_stamp}
-use Rattle.mqtt_engine.proofs.Called.{call_answered, call_fits, call_followed, call_stored, sound_indexed}
+use Rattle.mqtt_engine.proofs.Called.{call_answered, call_fits, call_followed, call_sayable, call_stored, sound_indexed}
 use Rattle.mqtt_engine.proofs.finishing.store.Goals as goal
 
 pub tell-requires-clause-fit : goal.tell-requires-clause-fit
@@ -13,6 +14,13 @@ tell-requires-clause-fit g c = λ e.
     let called = c.requires.called in
     subst (λ (t : Stepping). FitAll t.rows t.start.records) (sym is)
     (call_fits called.0 called.1 c.args.again s called.3 c.requires.sound (ap (λ (t : Stepping). is_spent t.rows) (sym is) ∙ e))
+
+pub tell-requires-clause-sayable : goal.tell-requires-clause-sayable
+tell-requires-clause-sayable g c =
+    let s = c.args.step.now in
+    let is : c.stamp.new.self ≡ with_stamp s = c.in-Ok.ensures.ok in
+    let called = c.requires.called in
+    subst (λ (t : Stepping). AllSayable t.rows) (sym is) (call_sayable called.0 called.1 c.args.again s called.3 c.requires.sound called.2)
 
 pub tell-requires-clause-indexed : goal.tell-requires-clause-indexed
 tell-requires-clause-indexed g c =
