@@ -1,12 +1,11 @@
 -- A call: the step that it is of the broker, and what is answered (MQTT 5.0, 4.1).
-use Rattle.std.specs.Prelude.{◌≡◌, ◌≢◌, ◌⊎◌, ⊤, ℕ, Bool, true, false, Result, Ok, Err, IfOk, OnOk, OnErr, IsErrOf}
+use Rattle.std.specs.Prelude.{◌≡◌, ◌≢◌, ◌⊎◌, ℕ, true, false, Result, IfOk, OnOk, OnErr, IsErrOf}
 use Rattle.mqtt_records.specs.declared.keep.Keep.{Ghosts}
 use Rattle.mqtt_records.specs.declared.records.Records.{Records}
 use Rattle.mqtt_rules.specs.declared.Limits.{Limits}
 use Rattle.mqtt_rules.specs.State.{Broker, MemberChoice, stored}
 use Rattle.mqtt_rules.specs.Step.{Call, NewLine, Input, BadInput, Lost, Pump, Tick, BrokerStep, SpentStep, bytes_out, is_step_spent, stepped}
 use Rattle.mqtt_rules.specs.Step.{Outcome as Told}
-use Rattle.mqtt_tables.specs.declared.fault.StepFault.{StepFault}
 use Rattle.mqtt_tables.specs.declared.call.EngineError.{EngineError}
 use Rattle.mqtt_tables.specs.declared.call.EngineError.TheVariants.{Memory, Stopped, Spent}
 use Rattle.mqtt_engine.specs.declared.outcome.Outcome.{Outcome}
@@ -58,11 +57,6 @@ pub record Called {K : Type 0} (g : Ghosts K) (now : ℕ) (call : Call) (old : R
   pub still : old.stopped ≡ true → IsErrOf result Stopped × (new ≡ old)
   -- a crash leaves what was stored before the call or after it
   pub crash : old.stopped ≡ false → (left : Records) → g.leaves new.keep left → IsLeftBy old.limits old.broker now call left
-
--- what was done, without whether more may be there
-abbrev pub without_more : Result Bool StepFault → Result ⊤ StepFault
-without_more (Ok again) = Ok tt
-without_more (Err fault) = Err fault
 
 -- ---- what is asked on a line
 

@@ -1,9 +1,14 @@
 //! What is asked of the engine: a packet, a fault, a loss, a turn of sending, a turn of the clock (MQTT 5.0, 3, 4).
-ghost use Rattle.std.specs.Prelude.{◌≡◌, ◌↔◌, Some, IfOk, IsErrOf, IsTrue};
+ghost use Rattle.std.specs.Prelude.{◌≡◌, ◌↔◌, Some, false, IsErrOf, IsTrue};
 ghost use Rattle.mqtt_rules.specs.Contents.{IsTaken};
 ghost use Rattle.mqtt_rules.specs.Lines.{session_on};
+ghost use Rattle.mqtt_rules.specs.Routing.{subscribers};
 ghost use Rattle.mqtt_rules.specs.Step.{BadInput, Input, Lost, Pump, Tick};
-ghost use Rattle.mqtt_engine.specs.Calling.{Called, without_more};
+ghost use Rattle.mqtt_tables.specs.Stepping.{at_rest};
+ghost use Rattle.mqtt_calls.specs.Doing.{IsCalled};
+ghost use Rattle.mqtt_calls.specs.Sound.{IsSound};
+ghost use Rattle.mqtt_router.specs.Indexing.{Serves};
+ghost use Rattle.mqtt_engine.specs.Calling.{Called};
 
 use crate::engine::Engine;
 use crate::finishing::finish;
@@ -14,7 +19,9 @@ use mqtt_codec::Packet;
 use mqtt_inputs::input;
 use mqtt_lines::{fault_at, first_at, lost_at, pump_at, tick_at};
 use mqtt_records::Keep;
+use mqtt_router::Index;
 use mqtt_tables::{EngineError, Step, StepFault};
+use std::alloc::Global;
 
 /// Whether the store has failed.
 fn has_failed(answer: &Result<Outcome, EngineError>) -> bool
@@ -33,22 +40,76 @@ fn session_of(step: &Step, line: u64) -> Option<Option<u64>>
     }
 }
 
-/// Whether more may be there.
-fn is_more(done: &Result<bool, StepFault>) -> bool
-    ensures { IfOk done.now (λ again. result ≡ again) }
+/// The step of a packet on a line that is linked, with the session that is connected on it.
+fn input_at(
+    alloc: Global,
+    index: &mut Index,
+    step: &mut Step,
+    line: u64,
+    session: Option<u64>,
+    packet: &Packet,
+    moment: u64,
+) -> Result<(), StepFault>
+    requires rest { step.old ≡ at_rest step.old.limits step.old.broker }
+    requires sound { IsSound step.old.limits step.old.broker }
+    requires linked { session_on line step.old.broker ≡ Some session }
+    requires taken { IsTaken packet.now }
+    requires serves { Serves index.old.sessions (subscribers step.old.broker.records) }
+    ensures called { IsCalled moment (Input line packet.now) false result step.new }
+    ensures start { step.new.start ≡ step.old.broker }
+    ensures limits { step.new.limits ≡ step.old.limits }
+    ensures serves { Serves index.new.sessions (subscribers step.old.broker.records) }
 {
-    match done {
-        Ok(again) => *again,
-        Err(_) => false,
+    match session {
+        Some(birth) => input(alloc, index, step, line, birth, packet, moment),
+        None => first_at(alloc, index, step, line, packet, moment),
     }
 }
 
-/// What was done, without that.
-fn without_more(done: Result<bool, StepFault>) -> Result<(), StepFault>
-    ensures { result ≡ without_more done }
+/// The step of a turn of sending, and whether more may be there.
+fn pump_once(
+    alloc: Global,
+    step: &mut Step,
+    line: u64,
+    moment: u64,
+    again: &mut bool,
+) -> Result<(), StepFault>
+    requires rest { step.old ≡ at_rest step.old.limits step.old.broker }
+    requires sound { IsSound step.old.limits step.old.broker }
+    ensures called { IsCalled moment (Pump line) again.new result step.new }
+    ensures start { step.new.start ≡ step.old.broker }
+    ensures limits { step.new.limits ≡ step.old.limits }
 {
-    match done {
-        Ok(_) => Ok(()),
+    match pump_at(alloc, step, line, moment) {
+        Ok(more) => {
+            *again = more;
+            Ok(())
+        }
+        Err(fault) => Err(fault),
+    }
+}
+
+/// The step of a turn of the clock, and whether more may be there.
+fn tick_once(
+    alloc: Global,
+    index: &mut Index,
+    step: &mut Step,
+    moment: u64,
+    again: &mut bool,
+) -> Result<(), StepFault>
+    requires rest { step.old ≡ at_rest step.old.limits step.old.broker }
+    requires sound { IsSound step.old.limits step.old.broker }
+    requires serves { Serves index.old.sessions (subscribers step.old.broker.records) }
+    ensures called { IsCalled moment Tick again.new result step.new }
+    ensures start { step.new.start ≡ step.old.broker }
+    ensures limits { step.new.limits ≡ step.old.limits }
+    ensures serves { Serves index.new.sessions (subscribers step.old.broker.records) }
+{
+    match tick_at(alloc, index, step, moment) {
+        Ok(more) => {
+            *again = more;
+            Ok(())
+        }
         Err(fault) => Err(fault),
     }
 }
@@ -77,10 +138,7 @@ impl<K: Keep> Engine<K> {
             &mut self.is_stale,
         )?;
         let (alloc, index, step) = (self.alloc, &mut self.index, &mut self.step);
-        let done = match session {
-            Some(birth) => input(alloc, index, step, line, birth, packet, moment),
-            None => first_at(alloc, index, step, line, packet, moment),
-        };
+        let done = input_at(alloc, index, step, line, session, packet, moment);
         let answer = finish(
             &mut self.keep,
             &mut self.step,
@@ -105,7 +163,7 @@ impl<K: Keep> Engine<K> {
         }
         match session_of(&self.step, line) {
             Some(session) => self.input_on(line, session, packet, moment),
-            None => Ok(self.pass_over(line, moment)),
+            None => self.skip(line, moment),
         }
     }
 
@@ -161,7 +219,7 @@ impl<K: Keep> Engine<K> {
         }
         match session_of(&self.step, line) {
             Some(session) => self.bad_input_on(line, session, is_connect, code, moment),
-            None => Ok(self.pass_over(line, moment)),
+            None => self.skip(line, moment),
         }
     }
 
@@ -201,7 +259,7 @@ impl<K: Keep> Engine<K> {
         }
         match session_of(&self.step, line) {
             Some(_) => self.lose(line, moment),
-            None => Ok(self.pass_over(line, moment)),
+            None => self.skip(line, moment),
         }
     }
 
@@ -212,14 +270,14 @@ impl<K: Keep> Engine<K> {
         if self.stopped {
             return Err(EngineError::Stopped);
         }
-        let done = pump_at(self.alloc, &mut self.step, line, moment);
-        let again = is_more(&done);
+        let mut again = false;
+        let done = pump_once(self.alloc, &mut self.step, line, moment, &mut again);
         let answer = finish(
             &mut self.keep,
             &mut self.step,
             &mut self.index,
             &mut self.is_stale,
-            without_more(done),
+            done,
             again,
         );
         self.stopped = has_failed(&answer);
@@ -236,7 +294,7 @@ impl<K: Keep> Engine<K> {
         }
         match session_of(&self.step, line) {
             Some(_) => self.pump_on(line, moment),
-            None => Ok(self.pass_over(line, moment)),
+            None => self.skip(line, moment),
         }
     }
 
@@ -255,14 +313,15 @@ impl<K: Keep> Engine<K> {
             &mut self.index,
             &mut self.is_stale,
         )?;
-        let done = tick_at(self.alloc, &mut self.index, &mut self.step, moment);
-        let again = is_more(&done);
+        let mut again = false;
+        let (alloc, index, step) = (self.alloc, &mut self.index, &mut self.step);
+        let done = tick_once(alloc, index, step, moment, &mut again);
         let answer = finish(
             &mut self.keep,
             &mut self.step,
             &mut self.index,
             &mut self.is_stale,
-            without_more(done),
+            done,
             again,
         );
         self.stopped = has_failed(&answer);

@@ -7,14 +7,14 @@ ghost use Rattle.mqtt_rules.specs.Step.{BrokerStep, Call, NewLine, copy_of, noth
 ghost use Rattle.mqtt_tables.specs.Doing.{next_line};
 ghost use Rattle.mqtt_tables.specs.Stepping.{at_rest};
 ghost use Rattle.mqtt_calls.specs.Sound.{IsSound};
-ghost use Rattle.mqtt_engine.specs.Calling.{IsAnswered, IsOn};
+ghost use Rattle.mqtt_engine.specs.Calling.{Called, IsOn};
 
 use crate::holding::copy_of;
 use crate::outcome::{Outcome, nothing};
 use mqtt_base::CopyId;
 use mqtt_records::Keep;
 use mqtt_router::Index;
-use mqtt_tables::Step;
+use mqtt_tables::{EngineError, Step};
 use std::alloc::Global;
 use std::hash::RandomState;
 use std::marker::Model;
@@ -116,16 +116,18 @@ impl<K: Keep> Engine<K> {
         self.keep.failures()
     }
 
-    /// What comes, or is asked, on a line that isn't linked does nothing but that the moment is the
-    /// greatest handed in. Takes no memory.
-    pub fn pass_over(&mut self, line: u64, moment: u64) -> Outcome
+    /// What comes, or is asked, on a line that isn't linked does nothing but that the moment is the greatest handed in.
+    /// Takes no memory.
+    pub(crate) fn skip(&mut self, line: u64, moment: u64) -> Result<Outcome, EngineError>
         requires { line_at line self.old.broker ≡ None }
-        ensures step { (call : Call) → IsOn line call
-            → IsAnswered self.old.limits self.old.broker moment call result self.new.broker }
-        ensures same { self.new ≡ record self.old { broker = self.new.broker } }
+        ensures { (call : Call) → IsOn line call
+            → Called K.Keep moment call self.old result self.new }
     {
+        if self.stopped {
+            return Err(EngineError::Stopped);
+        }
         self.step.rest_at(moment);
-        nothing(self.alloc)
+        Ok(nothing(self.alloc))
     }
 
     /// The copy that has a packet identifier in the queue of a line's session. Takes no memory.

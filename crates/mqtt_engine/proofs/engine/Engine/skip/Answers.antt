@@ -1,0 +1,24 @@
+use Rattle.std.proofs.Common.{◌≡◌, rules, ap, sym, ◌∙◌, inl}
+use Rattle.mqtt_rules.specs.State.{Broker}
+use Rattle.mqtt_rules.specs.Step.{at_moment}
+use Rattle.mqtt_tables.specs.Stepping.{Stepping}
+use Rattle.mqtt_engine.proofs.Linked.{passed_over}
+use Rattle.mqtt_engine.proofs.engine.Engine.skip.Goals as goal
+
+pub returns : goal.returns
+returns g c = λ call on.
+    let same : c.args.self.now.broker ≡ c.self.inside.step.broker = search rules in
+    record {
+      step = passed_over c.args.self.now.limits c.args.moment c.args.line c.args.self.now.broker c.rest_at.new.self.broker c.nothing.result c.requires
+          (ap (λ (t : Stepping). t.broker) c.rest_at.ensures ∙ ap (λ (b : Broker). at_moment c.args.moment b) (sym same))
+          c.nothing.ensures call on;
+      stored = search rules;
+      limits = search rules;
+      same = search rules;
+      memory = search rules;
+      spent = search rules;
+      stopped = search rules;
+      cause = search rules;
+      still = search rules;
+      crash = search rules;
+    }
