@@ -1,4 +1,4 @@
-use Rattle.std.proofs.Common.{◌≡◌, false, ap, refl, ◌∙◌}
+use Rattle.std.proofs.Common.{false, ap, refl, ◌∙◌}
 use Rattle.mqtt_rules.specs.Contents.{IsWilled}
 use Rattle.mqtt_rules.specs.Lines.{session_on}
 use Rattle.mqtt_rules.specs.Routing.{subscribers}
