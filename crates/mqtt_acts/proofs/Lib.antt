@@ -1,5 +1,4 @@
 pub mod Opens
-pub mod Below
 pub mod Leading
 pub mod Delivered
 pub mod Offered

@@ -1,5 +1,5 @@
 -- Copies that are handed over, one after the other, and the room for them (MQTT 5.0, 3.3.4, 4.3, 4.8).
-use Rattle.std.specs.Prelude.{◌≡◌, ℕ, ◌≤◌, ◌<◌, false, List, length, filter, map, Option, Some, option_map}
+use Rattle.std.specs.Prelude.{◌≡◌, ℕ, ◌≤◌, false, List, length, filter, map, Option, option_map}
 use Rattle.mqtt_message.specs.declared.message.MessageCopy.{MessageCopy}
 use Rattle.mqtt_records.specs.declared.session.Session.{Session}
 use Rattle.mqtt_records.specs.declared.records.Records.{Records}
@@ -25,10 +25,6 @@ offers birth copy b = offer (line_of birth b) (publish_of b.now false 0 copy)
 -- copies are handed over, one after the other
 abbrev pub delivers_all : List CopyTo → Env → Act
 delivers_all ds env = series (map (deliver env) ds)
-
--- the queue of a session is below the limit
-abbrev pub IsBelowLimit : ℕ → Stepping → Type 0
-IsBelowLimit birth s = (x : Session) → session_at birth s.broker.records ≡ Some x → length x.queue < s.limits.queue
 
 -- each queue has room for all the copies that are to enter it
 abbrev pub HasRoom : Env → List CopyTo → Records → Type 0

@@ -1,17 +1,17 @@
 //! The copies of a publication are handed over, one after the other (MQTT 5.0, 3.3.4, 4.3, 4.8).
 ghost use Rattle.std.specs.Prelude.{◌≡◌, true, OnOk, IfErr};
 ghost use Rattle.std.specs.List.{AllByRecursion};
-ghost use Rattle.mqtt_flow.specs.declared.entry.Full.TheVariants.{Refuse};
 ghost use Rattle.mqtt_message.specs.Queue.{IsSpelled};
 ghost use Rattle.mqtt_rules.specs.Routing.{deliver, is_queued, is_queued_at};
 ghost use Rattle.mqtt_tables.specs.Stepping.{Does, Leaves};
-ghost use Rattle.mqtt_acts.specs.Delivering.{addressed, addressed_all, delivers_all, HasRoomIn, IsBelowLimit, SameSessions};
+ghost use Rattle.mqtt_turns.specs.Entering.{HasEnteredAt, HasRoomAt};
+ghost use Rattle.mqtt_acts.specs.Delivering.{addressed, addressed_all, delivers_all, HasRoomIn, SameSessions};
 
-use crate::entering::enter_below;
 use crate::offering::offer_copy;
 use mqtt_base::Qos;
 use mqtt_records::MessageCopy;
 use mqtt_tables::{Step, StepFault};
+use mqtt_turns::enter;
 use std::alloc::Global;
 
 /// Whether a copy of this quality of service is queued.
@@ -24,32 +24,33 @@ fn is_queued(qos: Qos) -> bool
     }
 }
 
-/// A copy, whose PUBLISH has a spelling, enters its session's queue, which is below its limit; one of QoS 0
-/// goes out at once (4.3).
+/// A copy, whose PUBLISH has a spelling, enters its session's queue, which has room for it, and where that is full
+/// the oldest that wait make way for it; one of QoS 0 goes out at once (4.3).
 pub fn deliver(alloc: Global, step: &mut Step, copy: MessageCopy) -> Result<(), StepFault>
     requires spelled { IsSpelled copy }
-    requires room { is_queued (addressed copy) ≡ true → IsBelowLimit copy.id.birth step.old }
+    requires room { is_queued (addressed copy) ≡ true → HasRoomAt copy.id.birth step.old }
     ensures ok { OnOk result (Does (λ env. deliver env (addressed copy)) step.old step.new) }
+    ensures entered { OnOk result (is_queued (addressed copy) ≡ true
+        → HasEnteredAt copy.id.birth step.old step.new) }
     ensures left { IfErr result (λ fault. Leaves
         (λ env. deliver env (addressed copy)) fault step.old step.new) }
 {
     let birth = copy.id.birth;
     if is_queued(copy.qos) {
-        enter_below(step, birth, copy)
+        enter(alloc, step, birth, copy)
     } else {
         offer_copy(alloc, step, birth, &copy)
     }
 }
 
 /// Copies, whose PUBLISH have spellings, are handed over in order. Each queue has room for those that are
-/// to enter it, and a full one refuses.
+/// to enter it, and where it is full the oldest that wait make way.
 pub fn deliver_all(
     alloc: Global,
     step: &mut Step,
     copies: Vec<MessageCopy>,
 ) -> Result<(), StepFault>
     requires spelled { AllByRecursion IsSpelled copies.items }
-    requires full { step.old.limits.full ≡ Refuse }
     requires room { HasRoomIn step.old (addressed_all copies.items) }
     ensures ok { OnOk result (Does (delivers_all (addressed_all copies.items))
         step.old step.new) }

@@ -3,7 +3,6 @@
 
 mod answering;
 mod delivering;
-mod entering;
 mod offering;
 mod ping;
 mod publishing;
@@ -14,7 +13,6 @@ mod taking;
 
 pub use answering::{answer, open_by, publish_again};
 pub use delivering::{deliver, deliver_all};
-pub use entering::enter_below;
 pub use offering::offer_copy;
 pub use ping::pingreq;
 pub use publishing::publish;

@@ -2,7 +2,6 @@
 //! 3.3.1.3, 3.3.4).
 ghost use Rattle.std.specs.Prelude.{◌≡◌, OnOk, IfErr};
 ghost use Rattle.std.specs.List.{AllByRecursion};
-ghost use Rattle.mqtt_flow.specs.declared.entry.Full.TheVariants.{Refuse};
 ghost use Rattle.mqtt_message.specs.Queue.{IsSpelled};
 ghost use Rattle.mqtt_rules.specs.Deeds.{Origin};
 ghost use Rattle.mqtt_rules.specs.Routing.{publish};
@@ -17,8 +16,7 @@ use mqtt_verdicts::Message;
 use std::alloc::Global;
 
 /// A publication is accepted, retained where it is to be, and handed over in these copies, whose PUBLISH
-/// have spellings (3.3.1.3, 3.3.4). Each queue has room for those that are to enter it, and a full one
-/// refuses.
+/// have spellings (3.3.1.3, 3.3.4). Each queue has room for those that are to enter it.
 pub fn publish(
     alloc: Global,
     step: &mut Step,
@@ -26,7 +24,6 @@ pub fn publish(
     copies: Vec<MessageCopy>,
 ) -> Result<(), StepFault>
     requires spelled { AllByRecursion IsSpelled copies.items }
-    requires full { step.old.limits.full ≡ Refuse }
     requires room { HasRoomIn step.old (addressed_all copies.items) }
     ensures ok { (origin : Origin) → OnOk result (Does
         (λ env. publish env origin message.now (addressed_all copies.items)) step.old step.new) }

@@ -2,7 +2,6 @@
 ghost use Rattle.std.specs.Prelude.{◌≡◌, Some, None, OnOk, IfErr};
 ghost use Rattle.std.specs.List.{AllByRecursion};
 ghost use Rattle.mqtt_codec.specs.declared.publish.Publish.{Publish};
-ghost use Rattle.mqtt_flow.specs.declared.entry.Full.TheVariants.{Refuse};
 ghost use Rattle.mqtt_message.specs.Queue.{IsSpelled};
 ghost use Rattle.mqtt_records.specs.declared.session.Session.{Session};
 ghost use Rattle.mqtt_rules.specs.State.{Line, MemberChoice, session_at};
@@ -41,7 +40,7 @@ pub fn publish_refused(
 
 /// A PUBLISH that is accepted: it is published in these copies, whose PUBLISH have spellings, at QoS 2 its
 /// identifier is opened, and it is answered by whether somebody is there for it (3.3.4, 4.3). Each queue
-/// has room for the copies that are to enter it, and a full one refuses.
+/// has room for the copies that are to enter it.
 pub fn publish_taken(
     alloc: Global,
     step: &mut Step,
@@ -53,7 +52,6 @@ pub fn publish_taken(
     wanted: bool,
 ) -> Result<(), StepFault>
     requires spelled { AllByRecursion IsSpelled copies.items }
-    requires full { step.old.limits.full ≡ Refuse }
     requires room { HasRoomIn step.old (addressed_all copies.items) }
     ensures ok { (choice : MemberChoice) (l : Line) (s : Session) (p : Publish)
         → l.number ≡ line → session_at birth step.old.broker.records ≡ Some s

@@ -4,7 +4,6 @@ use Rattle.std.specs.Prelude.{Option, Some, None, option_map}
 use Rattle.std.proofs.lemmas.Bool.{cases_Bool}
 use Rattle.std.proofs.lemmas.Cmp.{nat_eq_equiv}
 use Rattle.mqtt_base.specs.declared.session.Ending.TheVariants.{SessionEnded}
-use Rattle.mqtt_flow.specs.declared.entry.Full.TheVariants.{Refuse}
 use Rattle.mqtt_message.specs.declared.message.Will.{Will}
 use Rattle.mqtt_message.specs.Queue.{CopyRow}
 use Rattle.mqtt_records.specs.declared.session.Session.{Session}
@@ -356,7 +355,3 @@ closed_once keeps birth moment s s1 s2 s3 is drop close once = elim once [
   | inl gone ↦ inl gone
   | inr does ↦ inr (closed_quiet keeps birth moment s s1 s2 s3 is drop close does)
 ]
-
--- the limits stay
-pub limits_after : (f : Act) (s s1 : Stepping) → Did f s s1 → s.limits.full ≡ Refuse → s1.limits.full ≡ Refuse
-limits_after f s s1 is full = ap (λ (t : Stepping). t.limits.full) is.is ∙ full

@@ -1,6 +1,5 @@
 //! A line closes, and its session with it (MQTT 5.0, 3.14.4, 4.13).
 ghost use Rattle.std.specs.Prelude.{◌≡◌, ◌∷◌, [], ℕ, List, Some, None, OnOk, IfErr};
-ghost use Rattle.mqtt_flow.specs.declared.entry.Full.TheVariants.{Refuse};
 ghost use Rattle.mqtt_routes.specs.Subscriptions.{Subscriber};
 ghost use Rattle.mqtt_rules.specs.Closing.{close, drop_line};
 ghost use Rattle.mqtt_rules.specs.Contents.{IsWilled};
@@ -41,7 +40,6 @@ fn close_session<R: Router>(
 ) -> Result<(), StepFault>
     requires serves { R.serves router.old (subscribers step.old.broker.records) }
     requires lawful { IsWilled (will_at birth step.old.broker.records) }
-    requires full { step.old.limits.full ≡ Refuse }
     ensures ok { OnOk result (DoesSome (closes keeps_will birth) step.old step.new) }
     ensures left { IfErr result (λ fault.
         LeavesSome (closes keeps_will birth) fault step.old step.new) }
@@ -72,7 +70,6 @@ pub fn close<R: Router>(
     requires serves { R.serves router.old (subscribers step.old.broker.records) }
     requires lawful { (birth : ℕ) → session ≡ Some birth
         → IsWilled (will_at birth step.old.broker.records) }
-    requires full { step.old.limits.full ≡ Refuse }
     ensures ok { (l : Line) → l.number ≡ line → l.session ≡ session
         → OnOk result (DoesSome (λ env. close env keeps_will l) step.old step.new) }
     ensures left { (l : Line) → l.number ≡ line → l.session ≡ session
@@ -113,7 +110,6 @@ pub fn drop_line<R: Router>(
     requires serves { R.serves router.old (subscribers step.old.broker.records) }
     requires lawful { (birth : ℕ) → session ≡ Some birth
         → IsWilled (will_at birth step.old.broker.records) }
-    requires full { step.old.limits.full ≡ Refuse }
     ensures ok { (l : Line) → l.number ≡ line → l.session ≡ session
         → OnOk result (DoesSome (λ env. drop_line env reason.0 l) step.old step.new) }
     ensures left { (l : Line) → l.number ≡ line → l.session ≡ session

@@ -1,7 +1,6 @@
 //! A client leaves: DISCONNECT, and a line that is lost (MQTT 5.0, 3.14, 4.1).
 ghost use Rattle.std.specs.Prelude.{◌≡◌, ℕ, List, not, nat_eq, Some, OnOk, IfErr};
 ghost use Rattle.mqtt_base.specs.Codes.{normal_disconnection};
-ghost use Rattle.mqtt_flow.specs.declared.entry.Full.TheVariants.{Refuse};
 ghost use Rattle.mqtt_routes.specs.Subscriptions.{Subscriber};
 ghost use Rattle.mqtt_rules.specs.Contents.{IsWilled};
 ghost use Rattle.mqtt_rules.specs.Routing.{subscribers};
@@ -50,7 +49,6 @@ fn leave<R: Router>(
 ) -> Result<(), StepFault>
     requires serves { R.serves router.old (subscribers step.old.broker.records) }
     requires lawful { IsWilled (will_at birth step.old.broker.records) }
-    requires full { step.old.limits.full ≡ Refuse }
     ensures ok { (l : Line) → l.number ≡ line → l.session ≡ Some birth
         → OnOk result (DoesSome (leaves_by birth expiry reason.0 l) step.old step.new) }
     ensures left { (l : Line) → l.number ≡ line → l.session ≡ Some birth
@@ -76,7 +74,6 @@ pub fn disconnect<R: Router>(
 ) -> Result<(), StepFault>
     requires serves { R.serves router.old (subscribers step.old.broker.records) }
     requires lawful { IsWilled (will_at birth step.old.broker.records) }
-    requires full { step.old.limits.full ≡ Refuse }
     ensures ok { (l : Line) → l.number ≡ line → l.session ≡ Some birth
         → OnOk result (DoesSome (disconnects birth l reason.0 expiry) step.old step.new) }
     ensures left { (l : Line) → l.number ≡ line → l.session ≡ Some birth
@@ -104,7 +101,6 @@ pub fn lost<R: Router>(
 ) -> Result<(), StepFault>
     requires serves { R.serves router.old (subscribers step.old.broker.records) }
     requires lawful { (birth : ℕ) → IsWilled (will_at birth step.old.broker.records) }
-    requires full { step.old.limits.full ≡ Refuse }
     ensures ok { OnOk result (DoesSome (λ env. deeds_of env (Lost line)) step.old step.new) }
     ensures left { IfErr result (λ fault.
         LeavesSome (λ env. deeds_of env (Lost line)) fault step.old step.new) }

@@ -1,7 +1,6 @@
 //! A session is settled: a waiting Will that is due is published, and then a session whose end is due ends (MQTT 5.0,
 //! 3.1.2.11.2, 3.1.3.2.2).
 ghost use Rattle.std.specs.Prelude.{◌≡◌, List, None, OnOk, IfErr};
-ghost use Rattle.mqtt_flow.specs.declared.entry.Full.TheVariants.{Refuse};
 ghost use Rattle.mqtt_routes.specs.Subscriptions.{Subscriber};
 ghost use Rattle.mqtt_rules.specs.Closing.{settle};
 ghost use Rattle.mqtt_rules.specs.Contents.{IsWilled};
@@ -28,7 +27,6 @@ fn settle_will<R: Router>(
 ) -> Result<(), StepFault>
     requires serves { R.serves router.old (subscribers step.old.broker.records) }
     requires lawful { IsWilled (will_at birth step.old.broker.records) }
-    requires full { step.old.limits.full ≡ Refuse }
     ensures ok { OnOk result (DoesSome (settles_will moment birth) step.old step.new) }
     ensures left { IfErr result (λ fault.
         LeavesSome (settles_will moment birth) fault step.old step.new) }
@@ -73,7 +71,6 @@ pub fn settle<R: Router>(
 ) -> Result<(), StepFault>
     requires serves { R.serves router.old (subscribers step.old.broker.records) }
     requires lawful { IsWilled (will_at birth step.old.broker.records) }
-    requires full { step.old.limits.full ≡ Refuse }
     ensures ok { OnOk result (DoesSome (λ env. settle env birth) step.old step.new) }
     ensures left { IfErr result (λ fault.
         LeavesSome (λ env. settle env birth) fault step.old step.new) }

@@ -1,7 +1,6 @@
 //! A turn of the clock: what is due, and lines that are silent (MQTT 5.0, 3.1.2.10, 3.1.2.11.2, 3.1.3.2.2,
 //! 3.3.2.3.3).
 ghost use Rattle.std.specs.Prelude.{◌≡◌, ℕ, List, Some, option_copied, OnOk, IfErr};
-ghost use Rattle.mqtt_flow.specs.declared.entry.Full.TheVariants.{Refuse};
 ghost use Rattle.mqtt_routes.specs.Subscriptions.{Subscriber};
 ghost use Rattle.mqtt_rules.specs.Contents.{IsWilled};
 ghost use Rattle.mqtt_rules.specs.Routing.{subscribers};
@@ -49,7 +48,6 @@ pub fn close_silent<R: Router>(
     requires serves { R.serves router.old (subscribers step.old.broker.records) }
     requires lawful { (birth : ℕ) → session ≡ Some birth
         → IsWilled (will_at birth step.old.broker.records) }
-    requires full { step.old.limits.full ≡ Refuse }
     ensures ok { (l : Line) → l.number ≡ line → l.session ≡ session
         → OnOk result (DoesSome (λ env. silence env l.session l) step.old step.new) }
     ensures left { (l : Line) → l.number ≡ line → l.session ≡ session

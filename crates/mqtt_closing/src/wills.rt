@@ -1,6 +1,5 @@
 //! A session's Will is published or refused, and then there is none (MQTT 5.0, 3.1.2.5).
 ghost use Rattle.std.specs.Prelude.{◌≡◌, ◌∷◌, [], List, Some, None, IfOk, OnOk, IfErr};
-ghost use Rattle.mqtt_flow.specs.declared.entry.Full.TheVariants.{Refuse};
 ghost use Rattle.mqtt_routes.specs.Subscriptions.{Subscriber};
 ghost use Rattle.mqtt_rules.specs.Contents.{IsWilled};
 ghost use Rattle.mqtt_rules.specs.Deeds.{Whose, RefuseWill, always};
@@ -49,7 +48,6 @@ fn publish_routed(
     routing: Routing,
 ) -> Result<(), StepFault>
     requires routed { IsRouted message.now step.old routing }
-    requires full { step.old.limits.full ≡ Refuse }
     ensures ok { (who : Whose) → who.birth ≡ birth → who.client ≡ message.now.sender
         → OnOk result (DoesSome (publishes who message.now) step.old step.new) }
     ensures sessions { OnOk result (SameSessions step.old.broker.records
@@ -73,7 +71,6 @@ fn publish_message<R: Router>(
 ) -> Result<(), StepFault>
     requires serves { R.serves router.old (subscribers step.old.broker.records) }
     requires lawful { IsLawfulMessage message.now }
-    requires full { step.old.limits.full ≡ Refuse }
     ensures ok { (who : Whose) → who.birth ≡ birth → who.client ≡ message.now.sender
         → OnOk result (DoesSome (publishes who message.now) step.old step.new) }
     ensures sessions { OnOk result (SameSessions step.old.broker.records
@@ -98,7 +95,6 @@ fn publish_and_drop<R: Router>(
     requires message { message_at birth step.old.broker.records ≡ Some message.now }
     requires serves { R.serves router.old (subscribers step.old.broker.records) }
     requires lawful { IsLawfulMessage message.now }
-    requires full { step.old.limits.full ≡ Refuse }
     ensures ok { OnOk result (DoesSome (publishes_will birth) step.old step.new) }
     ensures gone { OnOk result (will_at birth step.new.broker.records ≡ None) }
     ensures left { IfErr result (λ fault.
@@ -120,7 +116,6 @@ pub fn publish_will<R: Router>(
 ) -> Result<(), StepFault>
     requires serves { R.serves router.old (subscribers step.old.broker.records) }
     requires lawful { IsWilled (will_at birth step.old.broker.records) }
-    requires full { step.old.limits.full ≡ Refuse }
     ensures ok { OnOk result (DoesSome (publishes_will birth) step.old step.new) }
     ensures left { IfErr result (λ fault.
         LeavesSome (publishes_will birth) fault step.old step.new) }

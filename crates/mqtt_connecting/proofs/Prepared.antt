@@ -3,7 +3,6 @@ use Rattle.std.proofs.Common.{◌≡◌, ℕ, Bool, true, false, cond, List, [],
 use Rattle.std.specs.Prelude.{Option, Some, None, find}
 use Rattle.std.proofs.lemmas.Slice.Eq.{bytes_eq-Decides}
 use Rattle.mqtt_connect.specs.declared.connect.Connect.{Connect}
-use Rattle.mqtt_flow.specs.declared.entry.Full.TheVariants.{Refuse}
 use Rattle.mqtt_records.specs.declared.session.Session.{Session}
 use Rattle.mqtt_records.specs.Session.{birth_of}
 use Rattle.mqtt_routes.specs.Subscriptions.{Subscriber}
@@ -37,9 +36,6 @@ some_keeps birth P act s new kept steady some p =
     let is : Did (act (env_in choice s)) s new = some.is choice refl in
     subst (λ (t : Stepping). P t.broker.records.sessions) (sym is.is)
     (steady_keeps birth P kept (act (env_in choice s) s.broker) s.broker (steady (env_in choice s) s.broker) p)
-
-pub some_limits : (act : Env → Act) (s new : Stepping) → DoesSome act s new → s.limits.full ≡ Refuse → new.limits.full ≡ Refuse
-some_limits act s new some full = let choice : MemberChoice = λ n sender. some.members in ap (λ (t : Stepping). t.limits.full) (some.is choice refl).is ∙ full
 
 pub some_willed : (birth : ℕ) (act : Env → Act) (s new : Stepping) → ((env : Env) → GoodAct (IsSteady birth) (act env)) → DoesSome act s new
     → IsWilled (will_at birth s.broker.records) → IsWilled (will_at birth new.broker.records)

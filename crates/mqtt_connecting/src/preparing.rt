@@ -1,7 +1,6 @@
 //! What comes before a new connection of a client whose session stands: the old line is told and closes, the
 //! session is settled, and ends where the client starts clean (MQTT 5.0, 3.1.2.4, 3.1.4).
 ghost use Rattle.std.specs.Prelude.{◌≡◌, List, Some, None, option_copied, OnOk, IfErr};
-ghost use Rattle.mqtt_flow.specs.declared.entry.Full.TheVariants.{Refuse};
 ghost use Rattle.mqtt_records.specs.declared.session.Session.{Session as TheSession};
 ghost use Rattle.mqtt_routes.specs.Subscriptions.{Subscriber};
 ghost use Rattle.mqtt_rules.specs.Connect.{prepare};
@@ -37,7 +36,6 @@ fn take_over<R: Router>(
 ) -> Result<(), StepFault>
     requires serves { R.serves router.old (subscribers step.old.broker.records) }
     requires lawful { IsWilled (will_at birth step.old.broker.records) }
-    requires full { step.old.limits.full ≡ Refuse }
     ensures ok { OnOk result (DoesSome (takes_over birth) step.old step.new) }
     ensures left { IfErr result (λ fault. LeavesSome (takes_over birth) fault step.old step.new) }
     ensures once { OnOk result (ChoosesOnce birth (takes_over birth) step.old step.new) }
@@ -62,7 +60,6 @@ fn settle_standing<R: Router>(
     requires serves { (s : TheSession) → session_at birth step.old.broker.records ≡ Some s
         → R.serves router.old (subscribers step.old.broker.records) }
     requires lawful { IsWilled (will_at birth step.old.broker.records) }
-    requires full { step.old.limits.full ≡ Refuse }
     ensures ok { OnOk result (DoesSome (settles birth) step.old step.new) }
     ensures left { IfErr result (λ fault. LeavesSome (settles birth) fault step.old step.new) }
     ensures quiet { will_at birth step.old.broker.records ≡ None
@@ -88,7 +85,6 @@ fn publish_and_end<R: Router>(
 ) -> Result<(), StepFault>
     requires serves { R.serves router.old (subscribers step.old.broker.records) }
     requires lawful { IsWilled (will_at birth step.old.broker.records) }
-    requires full { step.old.limits.full ≡ Refuse }
     ensures ok { OnOk result (DoesSome (clears birth) step.old step.new) }
     ensures left { IfErr result (λ fault. LeavesSome (clears birth) fault step.old step.new) }
     ensures quiet { will_at birth step.old.broker.records ≡ None
@@ -113,7 +109,6 @@ fn clear_standing<R: Router>(
     requires serves { (s : TheSession) → session_at birth step.old.broker.records ≡ Some s
         → R.serves router.old (subscribers step.old.broker.records) }
     requires lawful { IsWilled (will_at birth step.old.broker.records) }
-    requires full { step.old.limits.full ≡ Refuse }
     ensures ok { OnOk result (DoesSome (clears_if clean_start birth) step.old step.new) }
     ensures left { IfErr result (λ fault.
         LeavesSome (clears_if clean_start birth) fault step.old step.new) }
@@ -144,7 +139,6 @@ fn settle_and_clear<R: Router>(
     requires serves { (s : TheSession) → session_at birth step.old.broker.records ≡ Some s
         → R.serves router.old (subscribers step.old.broker.records) }
     requires lawful { IsWilled (will_at birth step.old.broker.records) }
-    requires full { step.old.limits.full ≡ Refuse }
     ensures ok { OnOk result (DoesSome (settles_and_clears clean_start birth) step.old step.new) }
     ensures left { IfErr result (λ fault.
         LeavesSome (settles_and_clears clean_start birth) fault step.old step.new) }
@@ -174,7 +168,6 @@ pub fn prepare<R: Router>(
     requires only { IsOnly connect.now.client_identifier birth step.old.broker.records }
     requires serves { R.serves router.old (subscribers step.old.broker.records) }
     requires lawful { IsWilled (will_at birth step.old.broker.records) }
-    requires full { step.old.limits.full ≡ Refuse }
     ensures ok { OnOk result (DoesSome (λ env. prepare env connect.now) step.old step.new) }
     ensures left { IfErr result (λ fault.
         LeavesSome (λ env. prepare env connect.now) fault step.old step.new) }

@@ -1,6 +1,5 @@
 //! CONNECT of a client whose session stands (MQTT 5.0, 3.1.2.4, 3.1.4, 3.2.2.2).
 ghost use Rattle.std.specs.Prelude.{◌≡◌, ◌≤◌, List, None, length, IfOk, IfErr};
-ghost use Rattle.mqtt_flow.specs.declared.entry.Full.TheVariants.{Refuse};
 ghost use Rattle.mqtt_routes.specs.Subscriptions.{Subscriber};
 ghost use Rattle.mqtt_rules.specs.Connect.{on_connect, refusal};
 ghost use Rattle.mqtt_rules.specs.Contents.{IsWilled};
@@ -37,7 +36,6 @@ pub fn connect_standing<R: Router>(
     requires given { HasGivenBirths step.old.broker.records }
     requires serves { R.serves router.old (subscribers step.old.broker.records) }
     requires lawful { IsWilled (will_at birth step.old.broker.records) }
-    requires full { step.old.limits.full ≡ Refuse }
     ensures ok { (l : Line) → l.number ≡ line
         → IfOk result (λ joined. IsConnected l connect.now joined step.old step.new) }
 

@@ -44,9 +44,6 @@ records_stay (Some n) line (c ∷ cs) topic s = refl
 pub stored_stays : (line : ℕ) (p : Publish) (topic : List ℕ) (s s1 : Stepping) → Did (alias_set line p topic) s s1 → s1.broker.records ≡ s.broker.records
 stored_stays line p topic s s1 set = ap (λ (t : Stepping). t.broker.records) set.is ∙ records_stay (number_at TopicAlias p.properties) line p.topic topic s
 
-pub limits_stay : (line : ℕ) (p : Publish) (topic : List ℕ) (s s1 : Stepping) → Did (alias_set line p topic) s s1 → s1.limits ≡ s.limits
-limits_stay line p topic s s1 set = ap (λ (t : Stepping). t.limits) set.is
-
 module _ (l : Line) (x : Session) (p : Publish) (topic : List ℕ) (means : meaning p l.aliases ≡ Means topic) where
   abbrev rest : Env → Act
   rest env = publish_by (standing p.delivery x.inbound) env l x p (message_of x.client topic p)

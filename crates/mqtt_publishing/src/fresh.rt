@@ -1,7 +1,6 @@
 //! A PUBLISH whose identifier isn't open is routed, and taken or refused (MQTT 5.0, 3.3.4, 4.3).
 ghost use Rattle.std.specs.Prelude.{◌≡◌, Some, List, OnOk, IfErr};
 ghost use Rattle.mqtt_codec.specs.declared.publish.Publish.{Publish};
-ghost use Rattle.mqtt_flow.specs.declared.entry.Full.TheVariants.{Refuse};
 ghost use Rattle.mqtt_inbound.specs.declared.inflow.Published.TheVariants.{New};
 ghost use Rattle.mqtt_records.specs.declared.session.Session.{Session};
 ghost use Rattle.mqtt_routes.specs.Subscriptions.{Subscriber};
@@ -20,15 +19,14 @@ use std::alloc::Global;
 /// refused.
 pub(crate) fn publish_fresh<R: Router>(
     alloc: Global,
-    step: &mut Step,
     router: &mut R,
+    step: &mut Step,
     line: u64,
     birth: u64,
     delivery: Delivery,
     message: &Message,
 ) -> Result<(), StepFault>
     requires serves { R.serves router.old (subscribers step.old.broker.records) }
-    requires full { step.old.limits.full ≡ Refuse }
     requires lawful { IsLawfulMessage message.now }
     ensures ok { (l : Line) (s : Session) (p : Publish)
         → l.number ≡ line → session_at birth step.old.broker.records ≡ Some s

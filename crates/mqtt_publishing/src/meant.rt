@@ -1,6 +1,5 @@
 //! A PUBLISH whose topic is known, by what its identifier is (MQTT 5.0, 3.3.4, 4.3.3, 4.9).
 ghost use Rattle.std.specs.Prelude.{◌≡◌, Some, List, OnOk, IfOk, IfErr, option_map};
-ghost use Rattle.mqtt_flow.specs.declared.entry.Full.TheVariants.{Refuse};
 ghost use Rattle.mqtt_inbound.specs.declared.inflow.Published.TheVariants.{New};
 ghost use Rattle.mqtt_records.specs.declared.session.Session.{Session};
 ghost use Rattle.mqtt_routes.specs.Subscriptions.{Subscriber};
@@ -46,15 +45,14 @@ fn message_of(
 /// A PUBLISH whose identifier isn't open is routed, and taken or refused.
 fn publish_new<R: Router>(
     alloc: Global,
-    step: &mut Step,
     router: &mut R,
+    step: &mut Step,
     line: u64,
     birth: u64,
     publish: &Publish,
     topic: &TopicName,
 ) -> Result<(), StepFault>
     requires serves { R.serves router.old (subscribers step.old.broker.records) }
-    requires full { step.old.limits.full ≡ Refuse }
     requires lawful { (s : Session) → session_at birth step.old.broker.records ≡ Some s
         → IsLawfulMessage (message_of s.client topic.now publish.now) }
     ensures ok { (l : Line) (s : Session) → l.number ≡ line
@@ -70,7 +68,7 @@ fn publish_new<R: Router>(
 {
     match message_of(alloc, step, birth, topic, publish) {
         Ok(Some(message)) => {
-            let done = publish_fresh(alloc, step, router, line, birth, publish.delivery, &message);
+            let done = publish_fresh(alloc, router, step, line, birth, publish.delivery, &message);
             drop(message);
             done
         }
@@ -82,15 +80,14 @@ fn publish_new<R: Router>(
 /// A PUBLISH whose topic is known, by what its identifier is. A session that doesn't stand publishes nothing.
 pub(crate) fn publish_by<R: Router>(
     alloc: Global,
-    step: &mut Step,
     router: &mut R,
+    step: &mut Step,
     line: u64,
     birth: u64,
     publish: &Publish,
     topic: &TopicName,
 ) -> Result<Published, StepFault>
     requires serves { R.serves router.old (subscribers step.old.broker.records) }
-    requires full { step.old.limits.full ≡ Refuse }
     requires lawful { (s : Session) → session_at birth step.old.broker.records ≡ Some s
         → IsLawfulMessage (message_of s.client topic.now publish.now) }
     ensures ok { (l : Line) (s : Session) → l.number ≡ line
@@ -109,7 +106,7 @@ pub(crate) fn publish_by<R: Router>(
     };
     match standing(session, publish.delivery) {
         Standing::New => {
-            match publish_new(alloc, step, router, line, birth, publish, topic) {
+            match publish_new(alloc, router, step, line, birth, publish, topic) {
                 Ok(()) => Ok(Published::Done),
                 Err(fault) => Err(fault),
             }

@@ -1,6 +1,5 @@
 //! PUBLISH (MQTT 5.0, 3.3, 4.3).
 ghost use Rattle.std.specs.Prelude.{◌≡◌, ℕ, Some, List, IfOk, IfErr};
-ghost use Rattle.mqtt_flow.specs.declared.entry.Full.TheVariants.{Refuse};
 ghost use Rattle.mqtt_records.specs.declared.session.Session.{Session};
 ghost use Rattle.mqtt_routes.specs.Subscriptions.{Subscriber};
 ghost use Rattle.mqtt_rows.specs.Order.{row_at};
@@ -37,15 +36,14 @@ pub enum Published {
 /// A PUBLISH that means a topic: its Topic Alias is set, and it is taken, refused or answered.
 fn publish_meant<R: Router>(
     alloc: Global,
-    step: &mut Step,
     router: &mut R,
+    step: &mut Step,
     line: u64,
     birth: u64,
     publish: &Publish,
     topic: &TopicName,
 ) -> Result<Published, StepFault>
     requires serves { R.serves router.old (subscribers step.old.broker.records) }
-    requires full { step.old.limits.full ≡ Refuse }
     requires means { (l : Line) → row_at line_number line step.old.broker.lines ≡ Some l
         → meaning publish.now l.aliases ≡ Means topic.now }
     requires lawful { (s : Session) → session_at birth step.old.broker.records ≡ Some s
@@ -63,24 +61,23 @@ fn publish_meant<R: Router>(
         → R.serves router.new sessions }
 {
     match set_alias(step, line, publish, topic) {
-        Ok(()) => publish_by(alloc, step, router, line, birth, publish, topic),
+        Ok(()) => publish_by(alloc, router, step, line, birth, publish, topic),
         Err(fault) => Err(fault),
     }
 }
 
 /// A PUBLISH of a session that is connected on a line does what the rules have: its Topic Alias is set, and it is
 /// taken, refused or answered (3.3.4, 4.3), or else its line is to be dropped. What it passes on is as packets carry
-/// it, and a full queue refuses.
+/// it.
 pub fn on_publish<R: Router>(
     alloc: Global,
-    step: &mut Step,
     router: &mut R,
+    step: &mut Step,
     line: u64,
     birth: u64,
     publish: &Publish,
 ) -> Result<Published, StepFault>
     requires serves { R.serves router.old (subscribers step.old.broker.records) }
-    requires full { step.old.limits.full ≡ Refuse }
     requires lawful { (l : Line) (s : Session) (topic : List ℕ)
         → row_at line_number line step.old.broker.lines ≡ Some l
         → session_at birth step.old.broker.records ≡ Some s
@@ -106,7 +103,7 @@ pub fn on_publish<R: Router>(
         Err(Unmeant::Wrong(code)) => return Ok(Published::Wrong(code)),
         Err(Unmeant::Memory) => return Err(StepFault::Memory),
     };
-    let done = publish_meant(alloc, step, router, line, birth, publish, &topic);
+    let done = publish_meant(alloc, router, step, line, birth, publish, &topic);
     drop(topic);
     done
 }

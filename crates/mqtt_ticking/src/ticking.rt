@@ -1,6 +1,5 @@
 //! A turn of the clock (MQTT 5.0, 3.1.2.10, 3.1.2.11.2, 3.1.3.2.2, 3.3.2.3.3).
 ghost use Rattle.std.specs.Prelude.{◌≡◌, ℕ, List, IfOk, OnOk, IfErr};
-ghost use Rattle.mqtt_flow.specs.declared.entry.Full.TheVariants.{Refuse};
 ghost use Rattle.mqtt_routes.specs.Subscriptions.{Subscriber};
 ghost use Rattle.mqtt_rules.specs.Contents.{IsWilled};
 ghost use Rattle.mqtt_rules.specs.Routing.{subscribers};
@@ -26,7 +25,6 @@ fn silence<R: Router>(
 ) -> Result<(), StepFault>
     requires serves { R.serves router.old (subscribers step.old.broker.records) }
     requires lawful { (birth : ℕ) → IsWilled (will_at birth step.old.broker.records) }
-    requires full { step.old.limits.full ≡ Refuse }
     ensures ok { OnOk result (DoesSome (silences line) step.old step.new) }
     ensures left { IfErr result (λ fault. LeavesSome (silences line) fault step.old step.new) }
     ensures serves { (sessions : List Subscriber) → R.serves router.old sessions
@@ -43,7 +41,6 @@ fn silence<R: Router>(
 fn act<R: Router>(alloc: Global, router: &mut R, step: &mut Step, due: Due) -> Result<(), StepFault>
     requires serves { R.serves router.old (subscribers step.old.broker.records) }
     requires lawful { (birth : ℕ) → IsWilled (will_at birth step.old.broker.records) }
-    requires full { step.old.limits.full ≡ Refuse }
     ensures ok { OnOk result (DoesSome (does_due due) step.old step.new) }
     ensures left { IfErr result (λ fault. LeavesSome (does_due due) fault step.old step.new) }
     ensures serves { (sessions : List Subscriber) → R.serves router.old sessions
@@ -63,7 +60,6 @@ fn act<R: Router>(alloc: Global, router: &mut R, step: &mut Step, due: Due) -> R
 pub fn tick<R: Router>(alloc: Global, router: &mut R, step: &mut Step) -> Result<bool, StepFault>
     requires serves { R.serves router.old (subscribers step.old.broker.records) }
     requires lawful { (birth : ℕ) → IsWilled (will_at birth step.old.broker.records) }
-    requires full { step.old.limits.full ≡ Refuse }
     ensures ok { OnOk result (DoesSome (λ env. deeds_of env Tick) step.old step.new) }
     ensures again { (env : Env) → IfOk result (λ again. again
         ≡ is_again Tick (deeds_of env Tick step.old.broker)) }

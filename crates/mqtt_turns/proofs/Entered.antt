@@ -1,28 +1,39 @@
 -- A copy enters when those that make way have left.
-use Rattle.std.proofs.Common.{◌≡◌, ℕ, suc, ◌+◌, ◌-◌, List, [], ◌∷◌, ◌++◌, length, map, refl, ap, sym, ◌∙◌}
+use Rattle.std.proofs.Common.{◌≡◌, ℕ, suc, ◌+◌, ◌-◌, ◌<◌, ◌≤◌, Bool, true, false, arith, List, [], ◌∷◌, ◌++◌, length, map, refl, ap, sym, subst, ◌∙◌}
 use Rattle.std.specs.Prelude.{Option, Some, None, IfSome, flat_map, option_map}
+use Rattle.std.proofs.lemmas.Bool.{lt-ltb}
+use Rattle.mqtt_base.specs.declared.limits.TheConstants.{QUEUE_LIMIT}
 use Rattle.mqtt_flow.specs.declared.entry.Turn.{Turn}
 use Rattle.mqtt_flow.specs.declared.entry.Turn.TheVariants as turns
-use Rattle.mqtt_flow.specs.Outbound.{way_made}
+use Rattle.mqtt_flow.specs.declared.entry.Entry.{Entry as FlowEntry}
+use Rattle.mqtt_flow.specs.declared.entry.QueueLimits.{QueueLimits}
+use Rattle.mqtt_flow.specs.Outbound.{KeptOut, has_room, staying, way_made}
+use Rattle.mqtt_inbound.specs.declared.fault.FlowFault.{FlowFault}
+use Rattle.mqtt_inbound.specs.declared.fault.FlowFault.TheVariants as faults
 use Rattle.mqtt_message.specs.declared.message.MessageCopy.{MessageCopy}
 use Rattle.mqtt_message.specs.Queue.{CopyRow}
-use Rattle.mqtt_rows.specs.Order.{row_at}
+use Rattle.mqtt_rows.specs.Order.{IsTable, row_at}
+use Rattle.mqtt_records.specs.declared.records.Records.{Records}
 use Rattle.mqtt_records.specs.declared.session.Session.{Session}
 use Rattle.mqtt_records.specs.Session.{copy_place}
 use Rattle.mqtt_routes.specs.Intended.{greatest}
-use Rattle.mqtt_rules.specs.Laws.{client_at}
-use Rattle.mqtt_rules.specs.State.{Broker, Env, session_at, queue_on}
+use Rattle.mqtt_rules.specs.Laws.{HasEntered, client_at}
+use Rattle.mqtt_rules.specs.declared.Limits.{Limits}
+use Rattle.mqtt_rules.specs.State.{Broker, Env, entry_on, session_at, queue_on}
 use Rattle.mqtt_rules.specs.Deeds.{Act, Deed, At, Enter, Leave, whose, then, always, of_session, with_session, after_all}
-use Rattle.mqtt_rules.specs.Outbound.{of_entry, leave_deeds, all_turn_deeds, enter_deeds, first_given, queue_limits, since}
+use Rattle.mqtt_rules.specs.Outbound.{of_entry, leave_deeds, all_turn_deeds, enter_deeds, first_given, queue_limits, room, since}
 use Rattle.mqtt_rules.proofs.Goods.{after_append}
 use Rattle.mqtt_rules.proofs.LookedUp.{client_at_part}
+use Rattle.mqtt_rules.proofs.OrderedQueues.{length-mapped}
 use Rattle.mqtt_tables.specs.declared.fault.StepFault.{StepFault}
 use Rattle.mqtt_tables.specs.Stepping.{Stepping, Did, Does, IsLeft, Leaves, env_in, to_session}
 use Rattle.mqtt_tables.proofs.Doing.{found_birth}
-use Rattle.mqtt_turns.specs.Entering.{makes_way}
+use Rattle.mqtt_turns.specs.Entering.{HasEnteredAt, HasRoomAt, makes_way}
+use Rattle.mqtt_turns.specs.Queues.{Seen, entry_of}
 use Rattle.mqtt_turns.specs.Turning.{takes_turns}
 use Rattle.mqtt_turns.proofs.Pumped.{dropped_leave}
 use Rattle.mqtt_turns.proofs.Taking.{same_whose}
+use Rattle.mqtt_turns.proofs.RoomLeft.{has_entered}
 use Rattle.mqtt_tables.proofs.Then.{same_act, same_left, did_then, left_first, left_then}
 
 some_is : {X : Type 0} (x y : X) → Some x ≡ Some y → x ≡ y
@@ -129,3 +140,48 @@ way_left birth copy fault s new left = λ choice.
     let env = env_in choice s in
     same_left (λ b. then (makes_way env birth b) (to_session birth (Enter copy)) b) (enters env birth copy) fault s new (whole_is env birth copy s.broker)
     (left_first (makes_way env birth) (to_session birth (Enter copy)) fault s new (left choice))
+
+-- ---- what it leaves of the queue
+
+pub entered_at : (birth : ℕ) (copy : MessageCopy) (s s2 : Stepping) → ((x : Session) → session_at birth s.broker.records ≡ Some x → IsTable copy_place QUEUE_LIMIT x.queue) → HasRoomAt birth s
+    → Does (λ env. of_session birth (λ x. always (enter_deeds env copy x))) s s2 → HasEnteredAt birth s s2
+entered_at birth copy s s2 table free done = λ choice x found.
+    let env = env_in choice s in
+    let stands : session_at x.birth s.broker.records ≡ Some x = ap (λ n. session_at n s.broker.records) (found_birth birth s.broker.records.sessions x found) ∙ found in
+    let is : s2.broker.records ≡ (after_all (enter_deeds env copy x) s.broker).records =
+    ap (λ (t : Stepping). t.broker.records) (done choice).is
+    ∙ ap (λ (o : Option Session). (after_all (with_session o (λ y. always (enter_deeds env copy y)) s.broker) s.broker).records) found in
+    subst (λ (r : Records). HasEntered env x s.broker.records r) (sym is)
+    (has_entered env copy x s.broker (table x found).ascending (table x found).within stands (free choice x found))
+
+-- the table of the session that was found
+pub table_there : (birth : ℕ) (x : Session) (b : Broker) → session_at birth b.records ≡ Some x → IsTable copy_place QUEUE_LIMIT x.queue
+    → (y : Session) → session_at birth b.records ≡ Some y → IsTable copy_place QUEUE_LIMIT y.queue
+table_there birth x b found table y there = subst (λ (z : Session). IsTable copy_place QUEUE_LIMIT z.queue) (some_session x y (sym found ∙ there)) table
+  where
+    some_session : (x y : Session) → Some x ≡ Some y → x ≡ y
+    some_session x y e = cc
+
+-- ---- what the look was given
+
+pub few_rows : (seen : List Seen) (s : Session) → map entry_of seen ≡ queue_on [] s → length seen ≤ QUEUE_LIMIT → length s.queue ≤ QUEUE_LIMIT
+few_rows seen s is few =
+    let same = ap length is in
+    let left = length-mapped entry_of seen in
+    let right = length-mapped (entry_on []) s.queue in
+    omega (arith, same, left, right, few)
+
+abbrev pub limits_of : Limits → QueueLimits
+limits_of l = record { queue = l.queue; full = l.full }
+
+pub room_found : (l : Limits) (env : Env) (s : Session) (place : ℕ) (es : List FlowEntry) → l ≡ env.limits → place ≡ since env s → es ≡ queue_on [] s → 0 < room env s → has_room (limits_of l) place es ≡ true
+room_found l env s place es limits place_is es_is free =
+    ap (λ (k : Limits). has_room (limits_of k) place es) limits
+    ∙ (ap (λ n. has_room (limits_of env.limits) n es) place_is
+    ∙ (ap (λ (fs : List FlowEntry). has_room (limits_of env.limits) (since env s) fs) es_is
+    ∙ lt-ltb (staying env.limits.full (since env s) (queue_on [] s)) env.limits.queue (omega (arith, free))))
+
+-- where there is room, memory alone refuses
+pub kept_memory : (t : Bool) (fault : FlowFault) → t ≡ true → KeptOut t fault → fault ≡ faults.Memory
+kept_memory true fault is kept = kept
+kept_memory false fault is kept = absurd cc

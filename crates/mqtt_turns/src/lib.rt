@@ -7,12 +7,14 @@ mod entering;
 mod lapsing;
 mod pumping;
 mod queue;
+mod rooms;
 mod turning;
 mod turns;
 
 pub use answering::{Answered, puback, pubcomp, pubrec};
-pub use entering::{Beginning, enter};
+pub use entering::enter;
 pub use lapsing::{expire, repeat_released};
 pub use pumping::pump;
+pub use rooms::room;
 pub use turning::turn;
 pub use turns::take_turns;

@@ -8,12 +8,20 @@ use Rattle.mqtt_acts.proofs.delivering.deliver.Goals as goal
 pub returns-then-is_queued-clause-ok : goal.returns-then-is_queued-clause-ok
 returns-then-is_queued-clause-ok c =
     let queued : is_queued (addressed c.args.copy) ≡ true = sym c.is_queued.ensures ∙ c.if-is_queued.true in
-    on_ok c.enter_below.result (queued_is c.args.copy c.args.step.now c.enter_below.new.step queued) c.enter_below.ensures.ok
+    on_ok c.enter.result (queued_is c.args.copy c.args.step.now c.enter.new.step queued) c.enter.ensures.ok
 
 pub returns-then-is_queued-clause-left : goal.returns-then-is_queued-clause-left
 returns-then-is_queued-clause-left c =
     let queued : is_queued (addressed c.args.copy) ≡ true = sym c.is_queued.ensures ∙ c.if-is_queued.true in
-    if_err c.enter_below.result (λ fault. queued_left c.args.copy fault c.args.step.now c.enter_below.new.step queued) c.enter_below.ensures.left
+    if_err c.enter.result (λ fault. queued_left c.args.copy fault c.args.step.now c.enter.new.step queued) c.enter.ensures.left
+
+pub returns-then-is_queued-clause-entered : goal.returns-then-is_queued-clause-entered
+returns-then-is_queued-clause-entered c = on_ok c.enter.result (λ entered queued. entered) c.enter.ensures.entered
+
+pub returns-else-is_queued-clause-entered : goal.returns-else-is_queued-clause-entered
+returns-else-is_queued-clause-entered c =
+    let queued : is_queued (addressed c.args.copy) ≡ false = sym c.is_queued.ensures ∙ c.if-is_queued.false in
+    on_ok c.offer_copy.result (λ is so. let no : true ≡ false = sym so ∙ queued in absurd cc) c.offer_copy.ensures.ok
 
 pub returns-else-is_queued-clause-ok : goal.returns-else-is_queued-clause-ok
 returns-else-is_queued-clause-ok c =

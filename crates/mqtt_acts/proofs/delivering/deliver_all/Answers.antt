@@ -14,7 +14,7 @@ pub loop-copy-preserved : goal.loop-copy-preserved
 loop-copy-preserved c =
     let steps : c.loop-copy.copy-iterator.rest.items ≡ c.in-Some.copy ∷ c.next.new.self.rest.items = search rules in
     hands_step c.in-Some.copy c.next.new.self.rest.items c.loop-copy.copy-iterator.rest.items c.args.copies.items c.args.step.now c.loop-copy.step c.deliver.new.step
-    steps c.loop-copy.invariant c.in_ok-deliver.ensures.ok
+    steps c.loop-copy.invariant c.in_ok-deliver.ensures.ok c.in_ok-deliver.ensures.entered
 
 pub returns-in_err-deliver-clause-left : goal.returns-in_err-deliver-clause-left
 returns-in_err-deliver-clause-left c =

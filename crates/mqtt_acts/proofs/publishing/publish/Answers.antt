@@ -6,13 +6,8 @@ use Rattle.mqtt_rules.specs.Routing.{publish}
 use Rattle.mqtt_tables.specs.Stepping.{Leaves}
 use Rattle.mqtt_tables.proofs.Doing.{on_ok, if_err}
 use Rattle.mqtt_acts.specs.Delivering.{addressed_all}
-use Rattle.mqtt_acts.proofs.Published.{limits_stay, room_stays, whose_stay, published_is, accept_left, retain_left, deliver_left}
+use Rattle.mqtt_acts.proofs.Published.{room_stays, whose_stay, published_is, accept_left, retain_left, deliver_left}
 use Rattle.mqtt_acts.proofs.publishing.publish.Goals as goal
-
-pub deliver_all-requires-clause-full : goal.deliver_all-requires-clause-full
-deliver_all-requires-clause-full c =
-    ap (λ l. l.full) (limits_stay FromClient c.in_ok-number.number c.args.message.now c.args.step.now c.accept.new.self c.retain.new.step
-    (c.in_ok-number.ensures.ok FromClient c.args.message.now) c.in_ok-retain.ensures.ok) ∙ c.requires.full
 
 pub deliver_all-requires-clause-room : goal.deliver_all-requires-clause-room
 deliver_all-requires-clause-room c =

@@ -7,7 +7,7 @@ use Rattle.mqtt_tables.specs.declared.fault.StepFault.{StepFault}
 use Rattle.mqtt_tables.proofs.Doing.{on_ok, if_err}
 use Rattle.mqtt_acts.specs.Choosing.{LeavesSome}
 use Rattle.mqtt_closing.specs.Wills.{ChoosesOnce}
-use Rattle.mqtt_closing.proofs.Closed.{Keeps, limits_after}
+use Rattle.mqtt_closing.proofs.Closed.{Keeps}
 use Rattle.mqtt_closing.proofs.LineClosed.{gone_keeps, close_once, one_session, closed_with, closed_without, gone_refused, closed_left}
 use Rattle.mqtt_closing.proofs.closing.close.Goals as goal
 
@@ -22,10 +22,6 @@ close_session-requires-clause-lawful g c =
     let k : Keeps c.in-Some.birth c.args.step.now.broker.records c.gone.new.self.broker.records =
     gone_keeps c.in-Some.birth c.args.line c.args.step.now c.gone.new.self c.in_ok-gone.ensures.ok in
     k.willed (c.requires.lawful c.in-Some.birth c.in-Some.is)
-
-pub close_session-requires-clause-full : goal.close_session-requires-clause-full
-close_session-requires-clause-full g c =
-    limits_after (always (Gone c.args.line ∷ [])) c.args.step.now c.gone.new.self c.in_ok-gone.ensures.ok c.requires.full
 
 pub returns-in-Some-clause-ok : goal.returns-in-Some-clause-ok
 returns-in-Some-clause-ok g c = λ l number on.

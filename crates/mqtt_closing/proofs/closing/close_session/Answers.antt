@@ -8,7 +8,7 @@ use Rattle.mqtt_tables.proofs.Doing.{on_ok, if_err}
 use Rattle.mqtt_acts.specs.Choosing.{LeavesSome}
 use Rattle.mqtt_acts.proofs.Some.{leaves_some}
 use Rattle.mqtt_closing.specs.Settling.{closes, drops_will}
-use Rattle.mqtt_closing.proofs.Closed.{Keeps, keeps_then, drops_keeps, close_keeps, limits_after, closed_is, closed_once, closed_quiet, drop_refused, close_refused, settle_refused, settle_quiet_refused}
+use Rattle.mqtt_closing.proofs.Closed.{Keeps, keeps_then, drops_keeps, close_keeps, closed_is, closed_once, closed_quiet, drop_refused, close_refused, settle_refused, settle_quiet_refused}
 use Rattle.mqtt_closing.proofs.closing.close_session.Goals as goal
 
 pub settle-requires-clause-serves : goal.settle-requires-clause-serves
@@ -28,11 +28,6 @@ settle-requires-clause-lawful g c =
     (drops_keeps c.args.keeps_will c.args.birth s c.drop_will.new.step c.in_ok-drop_will.ensures.ok)
     (close_keeps c.args.birth c.moment-moment.result c.drop_will.new.step c.close.new.self c.in_ok-close.ensures.ok) in
     k.willed c.requires.lawful
-
-pub settle-requires-clause-full : goal.settle-requires-clause-full
-settle-requires-clause-full g c =
-    limits_after (to_session c.args.birth (Close c.moment-moment.result)) c.drop_will.new.step c.close.new.self c.in_ok-close.ensures.ok
-    (limits_after (drops_will c.args.keeps_will c.args.birth) c.args.step.now c.drop_will.new.step c.in_ok-drop_will.ensures.ok c.requires.full)
 
 pub returns-clause-ok : goal.returns-clause-ok
 returns-clause-ok g c =

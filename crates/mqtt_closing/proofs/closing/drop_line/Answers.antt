@@ -7,7 +7,7 @@ use Rattle.mqtt_rules.specs.Packets.{disconnect}
 use Rattle.mqtt_tables.specs.declared.fault.StepFault.{StepFault}
 use Rattle.mqtt_tables.proofs.Doing.{on_ok, if_err}
 use Rattle.mqtt_acts.specs.Choosing.{LeavesSome}
-use Rattle.mqtt_closing.proofs.Closed.{Keeps, limits_after}
+use Rattle.mqtt_closing.proofs.Closed.{Keeps}
 use Rattle.mqtt_closing.proofs.LineClosed.{sent_keeps, drop_once, line_dropped, told_refused, dropped_left}
 use Rattle.mqtt_closing.proofs.closing.drop_line.Goals as goal
 
@@ -20,10 +20,6 @@ pub close-requires-clause-lawful : goal.close-requires-clause-lawful
 close-requires-clause-lawful g c = λ birth is.
     let k : Keeps birth c.args.step.now.broker.records c.tell.new.step.broker.records = sent_keeps birth c.args.line c.args.reason.0 c.args.step.now c.tell.new.step c.in_ok-tell.ensures.ok in
     k.willed (c.requires.lawful birth is)
-
-pub close-requires-clause-full : goal.close-requires-clause-full
-close-requires-clause-full g c =
-    limits_after (always (Send c.args.line (disconnect c.args.reason.0) ∷ [])) c.args.step.now c.tell.new.step c.in_ok-tell.ensures.ok c.requires.full
 
 pub returns-clause-ok : goal.returns-clause-ok
 returns-clause-ok g c = λ l number on.

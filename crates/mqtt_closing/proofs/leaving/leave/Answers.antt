@@ -5,7 +5,7 @@ use Rattle.mqtt_tables.specs.declared.fault.StepFault.{StepFault}
 use Rattle.mqtt_tables.proofs.Doing.{on_ok, if_err}
 use Rattle.mqtt_acts.specs.Choosing.{LeavesSome}
 use Rattle.mqtt_closing.specs.Settling.{leaves_by, sets_expiry}
-use Rattle.mqtt_closing.proofs.Closed.{Keeps, limits_after}
+use Rattle.mqtt_closing.proofs.Closed.{Keeps}
 use Rattle.mqtt_closing.proofs.LineClosed.{expiry_kept, left_by, own_lawful, set_refused, leaving_left}
 use Rattle.mqtt_closing.proofs.leaving.leave.Goals as goal
 
@@ -20,10 +20,6 @@ close-requires-clause-lawful g c =
     let k : Keeps c.args.birth c.args.step.now.broker.records c.set_expiry.new.step.broker.records =
     expiry_kept c.args.expiry c.args.birth c.args.step.now c.set_expiry.new.step c.in_ok-set_expiry.ensures.ok in
     own_lawful c.args.birth c.set_expiry.new.step.broker.records (k.willed c.requires.lawful)
-
-pub close-requires-clause-full : goal.close-requires-clause-full
-close-requires-clause-full g c =
-    limits_after (sets_expiry c.args.expiry c.args.birth) c.args.step.now c.set_expiry.new.step c.in_ok-set_expiry.ensures.ok c.requires.full
 
 pub returns-clause-ok : goal.returns-clause-ok
 returns-clause-ok g c = λ l number on.

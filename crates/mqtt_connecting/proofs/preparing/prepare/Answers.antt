@@ -6,7 +6,7 @@ use Rattle.mqtt_acts.specs.Choosing.{LeavesSome}
 use Rattle.mqtt_acts.proofs.Some.{some_then, some_left_first, some_left_then, then_some, then_some_left}
 use Rattle.mqtt_rules.specs.Connect.{prepare}
 use Rattle.mqtt_connecting.specs.Preparing.{settles_and_clears, takes_over}
-use Rattle.mqtt_connecting.proofs.Prepared.{prepared_left, prepared_some, some_limits, some_serves, some_willed}
+use Rattle.mqtt_connecting.proofs.Prepared.{prepared_left, prepared_some, some_serves, some_willed}
 use Rattle.mqtt_connecting.proofs.Steady.{steady_take_over}
 use Rattle.mqtt_connecting.proofs.preparing.prepare.Goals as goal
 
@@ -20,10 +20,6 @@ pub settle_and_clear-requires-clause-lawful : goal.settle_and_clear-requires-cla
 settle_and_clear-requires-clause-lawful g c =
     some_willed c.args.birth (takes_over c.args.birth) c.args.step.now c.take_over.new.step
     (steady_take_over c.args.birth) c.in_ok-take_over.ensures.ok c.requires.lawful
-
-pub settle_and_clear-requires-clause-full : goal.settle_and_clear-requires-clause-full
-settle_and_clear-requires-clause-full g c =
-    some_limits (takes_over c.args.birth) c.args.step.now c.take_over.new.step c.in_ok-take_over.ensures.ok c.requires.full
 
 pub returns-clause-ok : goal.returns-clause-ok
 returns-clause-ok g c =

@@ -7,7 +7,7 @@ use Rattle.mqtt_acts.specs.Choosing.{LeavesSome}
 use Rattle.mqtt_acts.proofs.Some.{does_then, leaves_first, leaves_then, some_then, some_left_first, some_left_then, then_some, then_some_left}
 use Rattle.mqtt_closing.specs.Wills.{will_at}
 use Rattle.mqtt_connecting.specs.Preparing.{clears_if, settles, settles_and_clears}
-use Rattle.mqtt_connecting.proofs.Prepared.{some_limits, some_none, some_serves, some_willed}
+use Rattle.mqtt_connecting.proofs.Prepared.{some_none, some_serves, some_willed}
 use Rattle.mqtt_connecting.proofs.Steady.{steady_settle}
 use Rattle.mqtt_connecting.proofs.preparing.settle_and_clear.Goals as goal
 
@@ -21,10 +21,6 @@ pub clear_standing-requires-clause-lawful : goal.clear_standing-requires-clause-
 clear_standing-requires-clause-lawful g c =
     some_willed c.args.birth (settles c.args.birth) c.args.step.now c.settle_standing.new.step
     (λ env. steady_settle c.args.birth env c.args.birth refl) c.in_ok-settle_standing.ensures.ok c.requires.lawful
-
-pub clear_standing-requires-clause-full : goal.clear_standing-requires-clause-full
-clear_standing-requires-clause-full g c =
-    some_limits (settles c.args.birth) c.args.step.now c.settle_standing.new.step c.in_ok-settle_standing.ensures.ok c.requires.full
 
 pub returns-clause-ok : goal.returns-clause-ok
 returns-clause-ok g c =

@@ -24,9 +24,6 @@ publish_taken-requires-clause-spelled g c =
     rw c.in-Ok-Accepted.field-0-is at c.in-Ok-Accepted.ensures.routed in
     taken.spelled
 
-pub publish_taken-requires-clause-full : goal.publish_taken-requires-clause-full
-publish_taken-requires-clause-full g c = c.requires.full
-
 pub publish_taken-requires-clause-room : goal.publish_taken-requires-clause-room
 publish_taken-requires-clause-room g c =
     let taken : IsAccepted c.args.message.now c.args.step.now c.in-Ok-Accepted.copies.items c.in-Ok-Accepted.wanted =

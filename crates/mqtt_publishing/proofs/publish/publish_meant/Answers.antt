@@ -8,17 +8,13 @@ use Rattle.mqtt_tables.specs.Stepping.{Did, IsLeft}
 use Rattle.mqtt_tables.proofs.Inverse.{row_key}
 use Rattle.mqtt_tables.proofs.Doing.{if_ok, if_err}
 use Rattle.mqtt_publishing.specs.Publishing.{alias_set}
-use Rattle.mqtt_publishing.proofs.Aliased.{alias_leaves, alias_refused, answered, limits_stay, stored_stays}
+use Rattle.mqtt_publishing.proofs.Aliased.{alias_leaves, alias_refused, answered, stored_stays}
 use Rattle.mqtt_publishing.proofs.publish.publish_meant.Goals as goal
 
 pub publish_by-requires-clause-serves : goal.publish_by-requires-clause-serves
 publish_by-requires-clause-serves g c =
     subst (λ (r : Records). g.R.Router.serves c.args.router.now (subscribers r))
     (sym (stored_stays c.args.line c.args.publish.now c.args.topic.now c.args.step.now c.set_alias.new.step c.in-Ok.ensures.ok)) c.requires.serves
-
-pub publish_by-requires-clause-full : goal.publish_by-requires-clause-full
-publish_by-requires-clause-full g c =
-    ap (λ l. l.full) (limits_stay c.args.line c.args.publish.now c.args.topic.now c.args.step.now c.set_alias.new.step c.in-Ok.ensures.ok) ∙ c.requires.full
 
 pub publish_by-requires-clause-lawful : goal.publish_by-requires-clause-lawful
 publish_by-requires-clause-lawful g c = λ s stands.

@@ -1,5 +1,5 @@
 use Rattle.mqtt_tables.proofs.Doing.{on_ok, if_err}
-use Rattle.mqtt_turns.proofs.Entered.{entered_done, entered_left, way_left}
+use Rattle.mqtt_turns.proofs.Entered.{entered_at, entered_done, entered_left, way_left}
 use Rattle.mqtt_turns.proofs.entering.enter.Goals as goal
 
 pub returns-in-Ok-clause-ok : goal.returns-in-Ok-clause-ok
@@ -12,3 +12,10 @@ returns-in-Ok-clause-left c =
 
 pub returns-in-Err-clause-left : goal.returns-in-Err-clause-left
 returns-in-Err-clause-left c = way_left c.args.birth c.args.copy c.in-Err.fault c.args.step.now c.make_way.new.step c.in-Err.ensures.left
+
+pub returns-in-Ok-clause-entered : goal.returns-in-Ok-clause-entered
+returns-in-Ok-clause-entered c =
+    on_ok c.enter.result
+    (λ is. entered_at c.args.birth c.args.copy c.args.step.now c.enter.new.self c.in-Ok.ensures.table c.requires.room
+    (entered_done c.args.birth c.args.copy c.args.step.now c.make_way.new.step c.enter.new.self c.in-Ok.ensures.ok is))
+    c.enter.ensures.ok

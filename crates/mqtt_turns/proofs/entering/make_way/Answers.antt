@@ -3,7 +3,7 @@ use Rattle.mqtt_tables.specs.Stepping.{env_in}
 use Rattle.mqtt_tables.proofs.Doing.{on_ok, if_err}
 use Rattle.mqtt_turns.specs.Entering.{makes_way}
 use Rattle.mqtt_turns.specs.Turning.{takes_turns}
-use Rattle.mqtt_turns.proofs.Entered.{way_is}
+use Rattle.mqtt_turns.proofs.Entered.{table_there, way_is}
 use Rattle.mqtt_turns.proofs.Pumped.{rise_there}
 use Rattle.mqtt_tables.proofs.Then.{same_act, same_left}
 use Rattle.mqtt_turns.proofs.entering.make_way.Goals as goal
@@ -19,7 +19,7 @@ returns-clause-ok c =
     (λ is choice.
     let env = env_in choice s in
     same_act (takes_turns 0 c.args.birth c.in_ok-turns.turns.items) (makes_way env c.args.birth) s c.take_turns.new.step
-    (way_is 0 c.args.birth env c.in_ok-turns.turns.items c.in-Some.session.now s.broker (sym c.in-Some.ensures) (c.in_ok-turns.ensures.turns env c.requires.numbers c.requires.limits)) is)
+    (way_is 0 c.args.birth env c.in_ok-turns.turns.items c.in-Some.session.now s.broker (sym c.in-Some.ensures) (c.in_ok-turns.ensures.turns choice)) is)
     c.take_turns.ensures.ok
 
 pub returns-clause-left : goal.returns-clause-left
@@ -29,5 +29,13 @@ returns-clause-left c =
     (λ fault is choice.
     let env = env_in choice s in
     same_left (takes_turns 0 c.args.birth c.in_ok-turns.turns.items) (makes_way env c.args.birth) fault s c.take_turns.new.step
-    (way_is 0 c.args.birth env c.in_ok-turns.turns.items c.in-Some.session.now s.broker (sym c.in-Some.ensures) (c.in_ok-turns.ensures.turns env c.requires.numbers c.requires.limits)) is)
+    (way_is 0 c.args.birth env c.in_ok-turns.turns.items c.in-Some.session.now s.broker (sym c.in-Some.ensures) (c.in_ok-turns.ensures.turns choice)) is)
     c.take_turns.ensures.left
+
+pub way_turns-requires : goal.way_turns-requires
+way_turns-requires c = λ choice. c.requires choice c.in-Some.session.now (sym c.in-Some.ensures)
+
+pub returns-clause-table : goal.returns-clause-table
+returns-clause-table c =
+    on_ok c.take_turns.result
+    (λ is. table_there c.args.birth c.in-Some.session.now c.args.step.now.broker (sym c.in-Some.ensures) c.in_ok-turns.ensures.table) c.take_turns.ensures.ok
