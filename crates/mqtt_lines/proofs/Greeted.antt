@@ -34,9 +34,6 @@ use Rattle.mqtt_lines.proofs.Begun.{memory_left}
 pub records_heard : (line : ℕ) (s s1 : Stepping) → Did (hears line) s s1 → s1.broker.records ≡ s.broker.records
 records_heard line s s1 heard = ap (λ (t : Stepping). t.broker.records) heard.is
 
-pub limits_heard : (line : ℕ) (s s1 : Stepping) → Did (hears line) s s1 → s1.limits ≡ s.limits
-limits_heard line s s1 heard = ap (λ (t : Stepping). t.limits) heard.is
-
 pub at_heard : (P : Records → Type 0) (line : ℕ) (s s1 : Stepping) → Did (hears line) s s1 → P s.broker.records → P s1.broker.records
 at_heard P line s s1 heard h = subst P (sym (records_heard line s s1 heard)) h
 

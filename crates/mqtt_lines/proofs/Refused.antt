@@ -31,9 +31,6 @@ told_records line false code b = refl
 pub records_told : (line : ℕ) (is_connect : Bool) (code : ℕ) (s s1 : Stepping) → Did (always (first_told line is_connect code)) s s1 → s1.broker.records ≡ s.broker.records
 records_told line is_connect code s s1 told = ap (λ (t : Stepping). t.broker.records) told.is ∙ told_records line is_connect code s.broker
 
-pub limits_told : (line : ℕ) (is_connect : Bool) (code : ℕ) (s s1 : Stepping) → Did (always (first_told line is_connect code)) s s1 → s1.limits ≡ s.limits
-limits_told line is_connect code s s1 told = ap (λ (t : Stepping). t.limits) told.is
-
 -- ---- the first packet
 
 first_is : (is_connect : Bool) (line code : ℕ) (l : Line) (env : Env) (b : Broker) → l.number ≡ line
