@@ -1,10 +1,10 @@
 -- What the acts of a call make of a step that had begun, where members of groups may be chosen (MQTT 5.0, 4.8.2).
-use Rattle.std.proofs.Common.{◌≡◌, ℕ, Bool, List, [], ◌∷◌, ◌++◌, refl, ap, sym, subst, ◌∙◌, append-nil}
+use Rattle.std.proofs.Common.{◌≡◌, ℕ, Bool, [], ◌∷◌, ◌++◌, refl, ap, sym, subst, ◌∙◌, append-nil}
 use Rattle.std.specs.Prelude.{⊤, Option, Some, Result, Ok, Err, IfErr, IfOk, OnOk, nat_eq}
 use Rattle.std.proofs.lemmas.Bool.{eqb-true}
 use Rattle.mqtt_codec.specs.declared.packet.Packet.{Packet}
 use Rattle.mqtt_rules.specs.declared.Limits.{Limits}
-use Rattle.mqtt_rules.specs.Deeds.{Act, after_all, series, then, with_line}
+use Rattle.mqtt_rules.specs.Deeds.{Act, after_all, series, with_line}
 use Rattle.mqtt_rules.specs.Lines.{session_on}
 use Rattle.mqtt_rules.specs.State.{Broker, Env, Line, MemberChoice, line_at}
 use Rattle.mqtt_rules.specs.Step.{Call, Input, SpentStep, deeds, deeds_of, env_of, is_again, on_packet}

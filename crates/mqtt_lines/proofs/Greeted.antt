@@ -1,6 +1,6 @@
 -- The first packet of a line (MQTT 5.0, 3.1).
-use Rattle.std.proofs.Common.{◌≡◌, ℕ, Bool, true, false, List, [], ◌∷◌, ◌++◌, cond, nat_lt, refl, ap, sym, subst, ◌∙◌}
-use Rattle.std.specs.Prelude.{Option, None}
+use Rattle.std.proofs.Common.{◌≡◌, ℕ, true, false, List, [], ◌∷◌, ◌++◌, cond, nat_lt, refl, ap, sym, subst, ◌∙◌}
+use Rattle.std.specs.Prelude.{None}
 use Rattle.mqtt_base.specs.Codes.{quota_exceeded}
 use Rattle.mqtt_codec.specs.declared.packet.Packet.{Packet}
 use Rattle.mqtt_codec.specs.declared.packet.Packet.TheVariants as packets
@@ -33,9 +33,6 @@ use Rattle.mqtt_lines.proofs.Begun.{memory_left}
 
 pub records_heard : (line : ℕ) (s s1 : Stepping) → Did (hears line) s s1 → s1.broker.records ≡ s.broker.records
 records_heard line s s1 heard = ap (λ (t : Stepping). t.broker.records) heard.is
-
-pub limits_heard : (line : ℕ) (s s1 : Stepping) → Did (hears line) s s1 → s1.limits ≡ s.limits
-limits_heard line s s1 heard = ap (λ (t : Stepping). t.limits) heard.is
 
 pub at_heard : (P : Records → Type 0) (line : ℕ) (s s1 : Stepping) → Did (hears line) s s1 → P s.broker.records → P s1.broker.records
 at_heard P line s s1 heard h = subst P (sym (records_heard line s s1 heard)) h

@@ -1,6 +1,5 @@
 -- A CONNECT where more sessions stand than may.
-use Rattle.std.proofs.Common.{◌≡◌, refl}
-use Rattle.std.specs.Prelude.{Result, Ok, Err, IfErr}
+use Rattle.std.proofs.Common.{refl}
 use Rattle.mqtt_rules.specs.State.{Env}
 use Rattle.mqtt_rules.specs.Deeds.{Act}
 use Rattle.mqtt_tables.specs.declared.fault.StepFault.{StepFault}

@@ -1,13 +1,10 @@
 -- A fault in what came on a line: the first packet, or a later one (MQTT 5.0, 3.1, 4.13).
-use Rattle.std.proofs.Common.{◌≡◌, ℕ, Bool, true, false, List, [], ◌∷◌, ◌++◌, refl, ap, sym, subst, ◌∙◌}
+use Rattle.std.proofs.Common.{◌≡◌, ℕ, Bool, true, false, [], ◌∷◌, ◌++◌, refl, ap, sym, ◌∙◌}
 use Rattle.std.specs.Prelude.{Option, Some, None}
-use Rattle.mqtt_flow.specs.declared.entry.Full.{Full}
-use Rattle.mqtt_records.specs.declared.records.Records.{Records}
-use Rattle.mqtt_rules.specs.declared.Limits.{Limits}
 use Rattle.mqtt_rules.specs.Closing.{close, drop_line}
 use Rattle.mqtt_rules.specs.Deeds.{Act, Send, after_all, always, series, with_line}
 use Rattle.mqtt_rules.specs.Packets.{connack}
-use Rattle.mqtt_rules.specs.State.{Broker, Env, Line, line_at}
+use Rattle.mqtt_rules.specs.State.{Broker, Env, Line}
 use Rattle.mqtt_rules.specs.Step.{BadInput, deeds_of, late_code, on_fault}
 use Rattle.mqtt_tables.specs.declared.fault.StepFault.{StepFault}
 use Rattle.mqtt_tables.specs.Stepping.{Stepping, Did, IsLeft, env_in}
@@ -33,9 +30,6 @@ told_records line false code b = refl
 
 pub records_told : (line : ℕ) (is_connect : Bool) (code : ℕ) (s s1 : Stepping) → Did (always (first_told line is_connect code)) s s1 → s1.broker.records ≡ s.broker.records
 records_told line is_connect code s s1 told = ap (λ (t : Stepping). t.broker.records) told.is ∙ told_records line is_connect code s.broker
-
-pub limits_told : (line : ℕ) (is_connect : Bool) (code : ℕ) (s s1 : Stepping) → Did (always (first_told line is_connect code)) s s1 → s1.limits ≡ s.limits
-limits_told line is_connect code s s1 told = ap (λ (t : Stepping). t.limits) told.is
 
 -- ---- the first packet
 

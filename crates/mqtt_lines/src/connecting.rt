@@ -1,7 +1,6 @@
 //! CONNECT as the first packet of a line, from the beginning of its step (MQTT 5.0, 3.1, 3.1.4).
 ghost use Rattle.std.specs.Prelude.{◌≡◌, ℕ, List, None, Some, IfOk, OnOk, IfErr};
 ghost use Rattle.mqtt_codec.specs.declared.packet.Packet.TheVariants as packets;
-ghost use Rattle.mqtt_flow.specs.declared.entry.Full.TheVariants.{Refuse};
 ghost use Rattle.mqtt_routes.specs.Subscriptions.{Subscriber};
 ghost use Rattle.mqtt_rules.specs.Connect.{on_connect};
 ghost use Rattle.mqtt_rules.specs.Contents.{IsWilled};
@@ -37,7 +36,6 @@ fn connect_any<R: Router>(
     requires coherent { IsCoherent step.old.broker.records }
     requires serves { R.serves router.old (subscribers step.old.broker.records) }
     requires lawful { (birth : ℕ) → IsWilled (will_at birth step.old.broker.records) }
-    requires full { step.old.limits.full ≡ Refuse }
     ensures ok { (l : Line) → l.number ≡ line
         → IfOk result (λ joined. IsConnected l connect.now joined step.old step.new) }
     ensures left { (l : Line) → l.number ≡ line → IfErr result (λ fault.
@@ -63,7 +61,6 @@ fn greet<R: Router>(
     requires coherent { IsCoherent step.old.broker.records }
     requires serves { R.serves router.old (subscribers step.old.broker.records) }
     requires lawful { (birth : ℕ) → IsWilled (will_at birth step.old.broker.records) }
-    requires full { step.old.limits.full ≡ Refuse }
     ensures ok { IfOk result (λ joined. GreetedBy line connect.now joined step.old step.new) }
     ensures left { IfErr result (λ fault. LeavesSome
         (λ env. deeds_of env (Input line (packets.Connect connect.now))) fault step.old step.new) }
@@ -89,7 +86,6 @@ fn greet_at<R: Router>(
     requires sound { IsSound step.old.limits step.old.broker }
     requires on { session_on line step.old.broker ≡ Some None }
     requires serves { R.serves router.old (subscribers step.old.broker.records) }
-    requires full { step.old.limits.full ≡ Refuse }
     ensures ok { IfOk result (λ joined. GreetedBy line connect.now joined
         (begun step.old.limits moment step.old.broker) step.new) }
     ensures left { IfErr result (λ fault. LeavesSome
@@ -153,7 +149,6 @@ pub fn connect_at<R: Router>(
     requires sound { IsSound step.old.limits step.old.broker }
     requires on { session_on line step.old.broker ≡ Some None }
     requires serves { R.serves router.old (subscribers step.old.broker.records) }
-    requires full { step.old.limits.full ≡ Refuse }
     ensures ok { OnOk result (DoesSome
         (λ env. deeds_of env (Input line (packets.Connect connect.now)))
         (begun step.old.limits moment step.old.broker) step.new) }

@@ -1,6 +1,5 @@
 //! CONNECT where more sessions stand than may, as after an opening under lower limits (MQTT 5.0, 3.1.4, 3.2.2.2).
 ghost use Rattle.std.specs.Prelude.{◌≡◌, ℕ, List, None, Some, IfOk, IfErr, IfSome, IfNone};
-ghost use Rattle.mqtt_flow.specs.declared.entry.Full.TheVariants.{Refuse};
 ghost use Rattle.mqtt_routes.specs.Subscriptions.{Subscriber};
 ghost use Rattle.mqtt_rules.specs.Connect.{on_connect, refusal};
 ghost use Rattle.mqtt_rules.specs.Contents.{IsWilled};
@@ -89,7 +88,6 @@ fn connect_again<R: Router>(
     requires only { IsOnly connect.now.client_identifier birth step.old.broker.records }
     requires serves { R.serves router.old (subscribers step.old.broker.records) }
     requires lawful { IsWilled (will_at birth step.old.broker.records) }
-    requires full { step.old.limits.full ≡ Refuse }
     ensures ok { (l : Line) → l.number ≡ line
         → IfOk result (λ joined. IsConnected l connect.now joined step.old step.new) }
     ensures left { (l : Line) → l.number ≡ line → IfErr result (λ fault.
@@ -115,7 +113,6 @@ pub fn connect_crowded<R: Router>(
     requires coherent { IsCoherent step.old.broker.records }
     requires serves { R.serves router.old (subscribers step.old.broker.records) }
     requires lawful { (birth : ℕ) → IsWilled (will_at birth step.old.broker.records) }
-    requires full { step.old.limits.full ≡ Refuse }
     ensures ok { (l : Line) → l.number ≡ line
         → IfOk result (λ joined. IsConnected l connect.now joined step.old step.new) }
     ensures left { (l : Line) → l.number ≡ line → IfErr result (λ fault.

@@ -1,7 +1,6 @@
 //! The first packet of a line, as the acts of its call (MQTT 5.0, 3.1).
 ghost use Rattle.std.specs.Prelude.{◌≡◌, List, None, Some, false, OnOk, IfErr};
 ghost use Rattle.mqtt_codec.specs.declared.packet.Packet.{Packet as ThePacket};
-ghost use Rattle.mqtt_flow.specs.declared.entry.Full.TheVariants.{Refuse};
 ghost use Rattle.mqtt_routes.specs.Subscriptions.{Subscriber};
 ghost use Rattle.mqtt_rules.specs.Lines.{session_on};
 ghost use Rattle.mqtt_rules.specs.Routing.{subscribers};
@@ -28,7 +27,6 @@ fn close_heard<R: Router>(
 ) -> Result<(), StepFault>
     requires on { session_on line step.old.broker ≡ Some None }
     requires serves { R.serves router.old (subscribers step.old.broker.records) }
-    requires full { step.old.limits.full ≡ Refuse }
     ensures ok { (packet : ThePacket) → IsOther packet → OnOk result (DoesSome
         (λ env. deeds_of env (Input line packet)) step.old step.new) }
     ensures left { (packet : ThePacket) → IsOther packet → IfErr result (λ fault. LeavesSome
@@ -54,7 +52,6 @@ fn close_at<R: Router>(
     requires rest { step.old ≡ at_rest step.old.limits step.old.broker }
     requires on { session_on line step.old.broker ≡ Some None }
     requires serves { R.serves router.old (subscribers step.old.broker.records) }
-    requires full { step.old.limits.full ≡ Refuse }
     ensures ok { (packet : ThePacket) → IsOther packet → OnOk result (DoesSome
         (λ env. deeds_of env (Input line packet))
         (begun step.old.limits moment step.old.broker) step.new) }
@@ -86,7 +83,6 @@ pub fn first_at<R: Router>(
     requires sound { IsSound step.old.limits step.old.broker }
     requires on { session_on line step.old.broker ≡ Some None }
     requires serves { R.serves router.old (subscribers step.old.broker.records) }
-    requires full { step.old.limits.full ≡ Refuse }
     ensures called { IsCalled moment (Input line packet.now) false result step.new }
     ensures start { step.new.start ≡ step.old.broker }
     ensures limits { step.new.limits ≡ step.old.limits }

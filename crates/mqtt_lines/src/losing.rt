@@ -1,6 +1,5 @@
 //! A line that is lost, as the acts of its call (MQTT 5.0, 4.1).
 ghost use Rattle.std.specs.Prelude.{◌≡◌, List, false};
-ghost use Rattle.mqtt_flow.specs.declared.entry.Full.TheVariants.{Refuse};
 ghost use Rattle.mqtt_routes.specs.Subscriptions.{Subscriber};
 ghost use Rattle.mqtt_rules.specs.Routing.{subscribers};
 ghost use Rattle.mqtt_rules.specs.Step.{Lost};
@@ -25,7 +24,6 @@ pub fn lost_at<R: Router>(
     requires rest { step.old ≡ at_rest step.old.limits step.old.broker }
     requires sound { IsSound step.old.limits step.old.broker }
     requires serves { R.serves router.old (subscribers step.old.broker.records) }
-    requires full { step.old.limits.full ≡ Refuse }
     ensures called { IsCalled moment (Lost line) false result step.new }
     ensures start { step.new.start ≡ step.old.broker }
     ensures limits { step.new.limits ≡ step.old.limits }

@@ -1,6 +1,5 @@
 //! A fault in what came on a line, as the acts of its call (MQTT 5.0, 3.1, 4.13).
 ghost use Rattle.std.specs.Prelude.{◌≡◌, ℕ, List, None, Some, false, OnOk, IfErr};
-ghost use Rattle.mqtt_flow.specs.declared.entry.Full.TheVariants.{Refuse};
 ghost use Rattle.mqtt_routes.specs.Subscriptions.{Subscriber};
 ghost use Rattle.mqtt_rules.specs.Contents.{IsWilled};
 ghost use Rattle.mqtt_rules.specs.Deeds.{always};
@@ -53,7 +52,6 @@ fn refuse_first<R: Router>(
     code: Reason,
 ) -> Result<(), StepFault>
     requires serves { R.serves router.old (subscribers step.old.broker.records) }
-    requires full { step.old.limits.full ≡ Refuse }
     ensures ok { (l : Line) → l.number ≡ line → l.session ≡ None → OnOk result (DoesSome
         (λ env. on_fault env l is_connect code.0 None) step.old step.new) }
     ensures left { (l : Line) → l.number ≡ line → l.session ≡ None → IfErr result (λ fault.
@@ -81,7 +79,6 @@ fn refuse_packet<R: Router>(
     requires on { session_on line step.old.broker ≡ Some session }
     requires serves { R.serves router.old (subscribers step.old.broker.records) }
     requires lawful { (birth : ℕ) → IsWilled (will_at birth step.old.broker.records) }
-    requires full { step.old.limits.full ≡ Refuse }
     ensures ok { OnOk result (DoesSome
         (λ env. deeds_of env (BadInput line is_connect code.0)) step.old step.new) }
     ensures left { IfErr result (λ fault. LeavesSome
@@ -115,7 +112,6 @@ pub fn fault_at<R: Router>(
     requires sound { IsSound step.old.limits step.old.broker }
     requires on { session_on line step.old.broker ≡ Some session }
     requires serves { R.serves router.old (subscribers step.old.broker.records) }
-    requires full { step.old.limits.full ≡ Refuse }
     ensures called { IsCalled moment (BadInput line is_connect code.0) false result step.new }
     ensures start { step.new.start ≡ step.old.broker }
     ensures limits { step.new.limits ≡ step.old.limits }

@@ -1,6 +1,5 @@
 //! A turn of the clock, as the acts of its call (MQTT 5.0, 3.1.2.10, 3.1.2.11.2, 3.1.3.2.2, 3.3.2.3.3).
 ghost use Rattle.std.specs.Prelude.{◌≡◌, List, IfOk, IfErr};
-ghost use Rattle.mqtt_flow.specs.declared.entry.Full.TheVariants.{Refuse};
 ghost use Rattle.mqtt_routes.specs.Subscriptions.{Subscriber};
 ghost use Rattle.mqtt_rules.specs.Routing.{subscribers};
 ghost use Rattle.mqtt_rules.specs.Step.{SpentStep, Tick};
@@ -26,7 +25,6 @@ pub fn tick_at<R: Router>(
     requires rest { step.old ≡ at_rest step.old.limits step.old.broker }
     requires sound { IsSound step.old.limits step.old.broker }
     requires serves { R.serves router.old (subscribers step.old.broker.records) }
-    requires full { step.old.limits.full ≡ Refuse }
     ensures called { IfOk result (λ again. DidCall moment Tick again step.new) }
     ensures left { IfErr result (λ fault. fault ≡ Spent
         → SpentStep step.new.limits step.new.start moment Tick) }

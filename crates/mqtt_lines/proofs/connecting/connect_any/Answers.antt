@@ -1,4 +1,4 @@
-use Rattle.std.proofs.Common.{◌≡◌, ◌≤◌, arith, length}
+use Rattle.std.proofs.Common.{arith}
 use Rattle.mqtt_lines.proofs.connecting.connect_any.Goals as goal
 
 pub returns-clause-left : goal.returns-clause-left

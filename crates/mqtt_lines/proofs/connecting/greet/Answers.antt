@@ -1,14 +1,12 @@
-use Rattle.std.proofs.Common.{◌≡◌, ap, ◌∙◌}
 use Rattle.std.specs.Prelude.{None}
 use Rattle.mqtt_codec.specs.declared.packet.Packet.TheVariants as packets
 use Rattle.mqtt_rules.specs.Contents.{IsWilled}
 use Rattle.mqtt_rules.specs.Laws.{IsCoherent}
 use Rattle.mqtt_rules.specs.Routing.{subscribers}
-use Rattle.mqtt_rules.specs.declared.Limits.{Limits}
 use Rattle.mqtt_tables.proofs.Doing.{if_err, if_ok}
 use Rattle.mqtt_closing.specs.Wills.{will_at}
 use Rattle.mqtt_calls.proofs.SomeCalls.{input_some_left, on_line, unheard_left}
-use Rattle.mqtt_lines.proofs.Greeted.{at_heard, greeted_by, limits_heard}
+use Rattle.mqtt_lines.proofs.Greeted.{at_heard, greeted_by}
 use Rattle.mqtt_lines.proofs.connecting.greet.Goals as goal
 
 pub connect_any-requires-clause-coherent : goal.connect_any-requires-clause-coherent
@@ -22,10 +20,6 @@ connect_any-requires-clause-serves g c =
 pub connect_any-requires-clause-lawful : goal.connect_any-requires-clause-lawful
 connect_any-requires-clause-lawful g c = λ birth.
     at_heard (λ r. IsWilled (will_at birth r)) c.args.line c.args.step.now c.hear.new.self c.in-Ok.ensures.ok (c.requires.lawful birth)
-
-pub connect_any-requires-clause-full : goal.connect_any-requires-clause-full
-connect_any-requires-clause-full g c =
-    ap (λ (x : Limits). x.full) (limits_heard c.args.line c.args.step.now c.hear.new.self c.in-Ok.ensures.ok) ∙ c.requires.full
 
 pub returns-in-Ok-clause-ok : goal.returns-in-Ok-clause-ok
 returns-in-Ok-clause-ok g c =

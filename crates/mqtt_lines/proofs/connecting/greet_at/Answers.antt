@@ -1,4 +1,4 @@
-use Rattle.std.proofs.Common.{◌≡◌, ap, subst, ◌∙◌}
+use Rattle.std.proofs.Common.{ap, subst, ◌∙◌}
 use Rattle.std.specs.Prelude.{IfErr, IfOk}
 use Rattle.mqtt_codec.specs.declared.packet.Packet.TheVariants as packets
 use Rattle.mqtt_rules.specs.Contents.{IsWilled}
@@ -41,13 +41,6 @@ greet-requires-clause-lawful g c = λ birth.
     let s1 = c.begin.new.self in
     let same = begun_is c.args.moment s s1 c.requires.rest c.in-Ok.ensures.ok in
     at_begun (λ r. IsWilled (will_at birth r)) s.limits c.args.moment s.broker s1 same (willed s.broker c.requires.sound.contents birth)
-
-pub greet-requires-clause-full : goal.greet-requires-clause-full
-greet-requires-clause-full g c =
-    let s = c.args.step.now in
-    let s1 = c.begin.new.self in
-    let same = begun_is c.args.moment s s1 c.requires.rest c.in-Ok.ensures.ok in
-    ap (λ (t : Stepping). t.limits.full) same ∙ c.requires.full
 
 pub returns-in-Ok-clause-ok : goal.returns-in-Ok-clause-ok
 returns-in-Ok-clause-ok g c =

@@ -1,4 +1,4 @@
-use Rattle.std.proofs.Common.{◌≡◌, subst}
+use Rattle.std.proofs.Common.{subst}
 use Rattle.std.specs.Prelude.{IfErr, OnOk}
 use Rattle.mqtt_tables.specs.Stepping.{Stepping, Did, IsLeft}
 use Rattle.mqtt_lines.specs.First.{turns_away}

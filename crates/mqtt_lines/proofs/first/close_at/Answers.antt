@@ -1,4 +1,4 @@
-use Rattle.std.proofs.Common.{◌≡◌, ap, subst, ◌∙◌}
+use Rattle.std.proofs.Common.{ap, subst, ◌∙◌}
 use Rattle.std.specs.Prelude.{IfErr, OnOk}
 use Rattle.mqtt_rules.specs.Lines.{session_on}
 use Rattle.mqtt_rules.specs.Routing.{subscribers}
@@ -21,13 +21,6 @@ close_heard-requires-clause-serves g c =
     let s1 = c.begin.new.self in
     let same = begun_is c.args.moment s s1 c.requires.rest c.in-Ok.ensures.ok in
     at_begun (λ r. g.R.Router.serves c.args.router.now (subscribers r)) s.limits c.args.moment s.broker s1 same c.requires.serves
-
-pub close_heard-requires-clause-full : goal.close_heard-requires-clause-full
-close_heard-requires-clause-full g c =
-    let s = c.args.step.now in
-    let s1 = c.begin.new.self in
-    let same = begun_is c.args.moment s s1 c.requires.rest c.in-Ok.ensures.ok in
-    ap (λ (t : Stepping). t.limits.full) same ∙ c.requires.full
 
 pub returns-in-Ok-clause-ok : goal.returns-in-Ok-clause-ok
 returns-in-Ok-clause-ok g c = λ packet other.

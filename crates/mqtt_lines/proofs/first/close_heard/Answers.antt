@@ -1,10 +1,8 @@
-use Rattle.std.proofs.Common.{◌≡◌, ap, ◌∙◌}
 use Rattle.std.specs.Prelude.{None}
 use Rattle.mqtt_rules.specs.Routing.{subscribers}
-use Rattle.mqtt_rules.specs.declared.Limits.{Limits}
 use Rattle.mqtt_tables.proofs.Doing.{if_err, on_ok}
 use Rattle.mqtt_calls.proofs.SomeCalls.{on_line, unheard_left}
-use Rattle.mqtt_lines.proofs.Greeted.{at_heard, limits_heard, other_closes, other_left}
+use Rattle.mqtt_lines.proofs.Greeted.{at_heard, other_closes, other_left}
 use Rattle.mqtt_lines.proofs.first.close_heard.Goals as goal
 
 pub close-requires-clause-serves : goal.close-requires-clause-serves
@@ -13,10 +11,6 @@ close-requires-clause-serves g c =
 
 pub close-requires-clause-lawful : goal.close-requires-clause-lawful
 close-requires-clause-lawful g c = λ birth is. absurd cc
-
-pub close-requires-clause-full : goal.close-requires-clause-full
-close-requires-clause-full g c =
-    ap (λ (x : Limits). x.full) (limits_heard c.args.line c.args.step.now c.hear.new.self c.in-Ok.ensures.ok) ∙ c.requires.full
 
 pub returns-in-Ok-clause-ok : goal.returns-in-Ok-clause-ok
 returns-in-Ok-clause-ok g c = λ packet other.

@@ -1,4 +1,4 @@
-use Rattle.std.proofs.Common.{◌≡◌, false, refl, rules, subst, sym}
+use Rattle.std.proofs.Common.{false, refl, rules, subst, sym}
 use Rattle.mqtt_codec.specs.declared.packet.Packet.{Packet}
 use Rattle.mqtt_codec.specs.declared.packet.Packet.TheVariants as packets
 use Rattle.mqtt_rules.specs.Step.{Input, deeds_of}

@@ -1,8 +1,7 @@
-use Rattle.std.proofs.Common.{◌≡◌, false, ap, refl, ◌∙◌}
+use Rattle.std.proofs.Common.{false, refl}
 use Rattle.mqtt_rules.specs.Contents.{IsWilled}
 use Rattle.mqtt_rules.specs.Routing.{subscribers}
 use Rattle.mqtt_rules.specs.Step.{Lost, deeds_of}
-use Rattle.mqtt_tables.specs.Stepping.{Stepping}
 use Rattle.mqtt_closing.specs.Wills.{will_at}
 use Rattle.mqtt_calls.proofs.SomeCalls.{called_some, limits_some, start_some}
 use Rattle.mqtt_calls.proofs.Willed.{willed}
@@ -22,13 +21,6 @@ lost-requires-clause-lawful g c = λ birth.
     let s1 = c.begin.new.self in
     let same = begun_is c.args.moment s s1 c.requires.rest c.in-Ok.ensures.ok in
     at_begun (λ r. IsWilled (will_at birth r)) s.limits c.args.moment s.broker s1 same (willed s.broker c.requires.sound.contents birth)
-
-pub lost-requires-clause-full : goal.lost-requires-clause-full
-lost-requires-clause-full g c =
-    let s = c.args.step.now in
-    let s1 = c.begin.new.self in
-    let same = begun_is c.args.moment s s1 c.requires.rest c.in-Ok.ensures.ok in
-    ap (λ (t : Stepping). t.limits.full) same ∙ c.requires.full
 
 pub returns-in-Ok-clause-called : goal.returns-in-Ok-clause-called
 returns-in-Ok-clause-called g c =

@@ -1,4 +1,3 @@
-use Rattle.std.proofs.Common.{◌≡◌}
 use Rattle.mqtt_rules.specs.Step.{Pump, deeds_of}
 use Rattle.mqtt_tables.proofs.Doing.{if_err, on_ok}
 use Rattle.mqtt_acts.proofs.Some.{does_some, leaves_some}

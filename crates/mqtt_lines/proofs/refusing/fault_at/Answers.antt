@@ -1,4 +1,4 @@
-use Rattle.std.proofs.Common.{◌≡◌, false, ap, refl, ◌∙◌}
+use Rattle.std.proofs.Common.{false, ap, refl, ◌∙◌}
 use Rattle.mqtt_rules.specs.Contents.{IsWilled}
 use Rattle.mqtt_rules.specs.Lines.{session_on}
 use Rattle.mqtt_rules.specs.Routing.{subscribers}
@@ -23,13 +23,6 @@ refuse_packet-requires-clause-lawful g c = λ birth.
     let s1 = c.begin.new.self in
     let same = begun_is c.args.moment s s1 c.requires.rest c.in-Ok.ensures.ok in
     at_begun (λ r. IsWilled (will_at birth r)) s.limits c.args.moment s.broker s1 same (willed s.broker c.requires.sound.contents birth)
-
-pub refuse_packet-requires-clause-full : goal.refuse_packet-requires-clause-full
-refuse_packet-requires-clause-full g c =
-    let s = c.args.step.now in
-    let s1 = c.begin.new.self in
-    let same = begun_is c.args.moment s s1 c.requires.rest c.in-Ok.ensures.ok in
-    ap (λ (t : Stepping). t.limits.full) same ∙ c.requires.full
 
 pub returns-in-Ok-clause-called : goal.returns-in-Ok-clause-called
 returns-in-Ok-clause-called g c =

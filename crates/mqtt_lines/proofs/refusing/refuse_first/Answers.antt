@@ -1,9 +1,8 @@
-use Rattle.std.proofs.Common.{◌≡◌, ap, sym, subst, ◌∙◌}
+use Rattle.std.proofs.Common.{sym, subst}
 use Rattle.mqtt_records.specs.declared.records.Records.{Records}
 use Rattle.mqtt_rules.specs.Routing.{subscribers}
-use Rattle.mqtt_rules.specs.declared.Limits.{Limits}
 use Rattle.mqtt_tables.proofs.Doing.{if_err, on_ok}
-use Rattle.mqtt_lines.proofs.Refused.{first_left, first_refused, limits_told, records_told, untold_left}
+use Rattle.mqtt_lines.proofs.Refused.{first_left, first_refused, records_told, untold_left}
 use Rattle.mqtt_lines.proofs.refusing.refuse_first.Goals as goal
 
 pub close-requires-clause-serves : goal.close-requires-clause-serves
@@ -13,10 +12,6 @@ close-requires-clause-serves g c =
 
 pub close-requires-clause-lawful : goal.close-requires-clause-lawful
 close-requires-clause-lawful g c = λ birth is. absurd cc
-
-pub close-requires-clause-full : goal.close-requires-clause-full
-close-requires-clause-full g c =
-    ap (λ (x : Limits). x.full) (limits_told c.args.line c.args.is_connect c.args.code.0 c.args.step.now c.tell_first.new.step c.in-Ok.ensures.ok) ∙ c.requires.full
 
 pub returns-in-Ok-clause-ok : goal.returns-in-Ok-clause-ok
 returns-in-Ok-clause-ok g c = λ l number none.

@@ -1,4 +1,4 @@
-use Rattle.std.proofs.Common.{◌≡◌, sym, ◌∙◌}
+use Rattle.std.proofs.Common.{◌∙◌}
 use Rattle.mqtt_tables.proofs.Doing.{if_err, on_ok}
 use Rattle.mqtt_calls.proofs.SomeCalls.{on_line}
 use Rattle.mqtt_lines.proofs.Refused.{early_left, early_refused, late_left, late_refused}
