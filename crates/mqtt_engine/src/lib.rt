@@ -1,5 +1,5 @@
 //! The engine of the broker: each call is a step of the rules over any store, and the store holds what the
-//! step leaves (MQTT 5.0, 4.1). Private: not all packets are answered yet.
+//! step leaves (MQTT 5.0, 4.1). Private: it is not opened over a store yet, and bytes are cut into packets by its caller.
 #![tactic(auto)]
 
 mod calling;
