@@ -1,7 +1,7 @@
 use Rattle.sqlite.specs.Held.{state}
 use Rattle.sqlite.specs.State.{HasCleanDisk}
 use Rattle.mqtt_store.proofs.Held.{load_holds, load_leaves}
-use Rattle.mqtt_store.proofs.Loads.{Loads, loads_from, only_loads, order_left, exact, kept, refused}
+use Rattle.mqtt_store.proofs.Loads.{loads_from, only_loads, order_left, exact, kept, refused}
 use Rattle.mqtt_store.proofs.load.load_records.Goals as goal
 
 pub returns-clause-ordered : goal.returns-clause-ordered
