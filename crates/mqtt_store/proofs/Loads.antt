@@ -1,5 +1,6 @@
 -- What a load leaves, and what it answers.
 use Rattle.std.proofs.Common.{◌≡◌, Bool, not, false, Result, Ok, Err, IfOk, IfErr, OnOk, IsTrue, sym, ap, subst, ◌∙◌, inl, inr, arith}
+use Rattle.sqlite_trees.specs.Tree.{Trees}
 use Rattle.sqlite_trees.specs.declared.store.Store.{Ghosts}
 use Rattle.sqlite.specs.Effect.{Database}
 use Rattle.sqlite.specs.Held.{Held}
@@ -9,9 +10,9 @@ use Rattle.mqtt_records.specs.declared.keep.KeepError.{KeepError}
 use Rattle.mqtt_sql_schema.specs.Settled.{IsSettled}
 use Rattle.mqtt_sql_read.specs.Kept.{Keeps, HasNow, MakesNew, Refuses, IsLeft}
 use Rattle.mqtt_sql_kept.specs.Written.{AreInOrder}
-use Rattle.mqtt_store.specs.Holding.{IsTidy, Holds, HasKept, Leaves, OnlyLoads}
+use Rattle.mqtt_store.specs.Holding.{IsTidy, IsLoaded, Holds, HasKept, Leaves, OnlyLoads}
 use Rattle.mqtt_store.specs.Ordered.{IsOrdered}
-use Rattle.mqtt_store.proofs.Held.{load_finds, loaded_kept}
+use Rattle.mqtt_store.proofs.Held.{load_finds, loaded_kept, has_now}
 use Rattle.mqtt_store.proofs.Order.{new_in_order}
 
 -- what a load's clauses say together
@@ -64,3 +65,8 @@ module _ (old new : State) (l : Loads old new) where
 pub refused : {S : Type 0} (g : Ghosts S) (h : Held S) (Clean : Type 0) (res : Result Records KeepError) → (Clean → IfErr res (Refuses g h)) → IfErr res (λ e. Clean → Refuses g h e)
 refused g h Clean (Ok q) why = tt
 refused g h Clean (Err e) why = why
+
+-- what was loaded can be changed, and is what the store has
+pub loaded : (s : State) (res : Result Records KeepError) → (IsTrue s.is_open → (db : Trees) → s.may_leave db → db ≡ s.committed.trees) → IfOk res (λ q. HasCleanDisk s → HasKept s q) → IfOk res (λ q. IsLoaded s × Holds s q)
+loaded s (Ok q) only has = (λ clean. (has clean).ready, λ clean. has_now s q only (has clean) clean)
+loaded s (Err e) only has = tt

@@ -1,7 +1,8 @@
+use Rattle.std.proofs.Common.{arith}
 use Rattle.sqlite.specs.Held.{state}
 use Rattle.sqlite.specs.State.{HasCleanDisk}
 use Rattle.mqtt_store.proofs.Held.{load_holds, load_leaves}
-use Rattle.mqtt_store.proofs.Loads.{Loads, loads_from, only_loads, order_left, exact, kept, refused}
+use Rattle.mqtt_store.proofs.Loads.{loads_from, only_loads, order_left, exact, kept, found, refused}
 use Rattle.mqtt_store.proofs.load.load_records.Goals as goal
 
 pub returns-clause-ordered : goal.returns-clause-ordered
@@ -30,6 +31,20 @@ returns-clause-kept g c =
     let e = c.load_from-answer.ensures in
     let l = loads_from old new auto.result auto.ensures.value auto.ensures.settled c.requires.autocommit e.crash e.was_open e.left in
     kept old new l c.load_from-answer.result e.is_open e.loaded c.schema-schema.ensures.live c.requires.ordered
+
+pub returns-clause-found : goal.returns-clause-found
+returns-clause-found g c =
+    let old = state g.S.Store c.args.conn.now in
+    let new = state g.S.Store c.load_from-answer.new.conn in
+    let auto = c.is_autocommit-autocommit in
+    let e = c.load_from-answer.ensures in
+    let l = loads_from old new auto.result auto.ensures.value auto.ensures.settled c.requires.autocommit e.crash e.was_open e.left in
+    found old new l c.load_from-answer.result e.is_open e.ok
+
+pub returns-clause-sound : goal.returns-clause-sound
+returns-clause-sound g c =
+    let less = c.load_from-answer.ensures.crash.clean in
+    λ clean. omega (arith, less, clean)
 
 pub returns-clause-same : goal.returns-clause-same
 returns-clause-same g c =
