@@ -6,7 +6,7 @@ ghost use Rattle.mqtt_rules.specs.State.{line_at};
 ghost use Rattle.mqtt_rules.specs.Step.{BrokerStep, Call, NewLine, copy_of, nothing_told};
 ghost use Rattle.mqtt_tables.specs.Doing.{next_line};
 ghost use Rattle.mqtt_tables.specs.Stepping.{at_rest};
-ghost use Rattle.mqtt_calls.specs.Sound.{IsSound};
+ghost use Rattle.mqtt_lines.specs.Sound.{IsSound};
 ghost use Rattle.mqtt_engine.specs.Calling.{Called, IsOn};
 
 use crate::holding::copy_of;
@@ -37,7 +37,7 @@ impl<K: Keep> Model for Engine<K> {
     ghost use Rattle.mqtt_rules.specs.Routing.{subscribers};
     ghost use Rattle.mqtt_tables.specs.Stepping.{at_rest};
     ghost use Rattle.mqtt_engine.specs.Running.{Running};
-    ghost use Rattle.mqtt_calls.specs.Sound.{IsSound};
+    ghost use Rattle.mqtt_lines.specs.Sound.{IsSound};
 
     ghost Value = { Running K };
 
