@@ -57,7 +57,7 @@ fault_closes limits choice now line is_connect code b l there =
     let closed = (told limits choice now call b).closed in
     let number : l.number ≡ line = found_number line l b.lines there in
     let its : has_closed closed line ≡ true =
-        subst (λ (n : ℕ). has_closed closed n ≡ true) number (rw there (fault_told (env_of limits choice b) l is_connect code l.session (at_moment now b))) in
+    subst (λ (n : ℕ). has_closed closed n ≡ true) number (rw there (fault_told (env_of limits choice b) l is_connect code l.session (at_moment now b))) in
     standing_among line (stepped limits choice now call b).lines
     ∙ ap (among line) (step_numbers limits choice now call b tt)
     ∙ gone_among line closed (map line_number b.lines) its
@@ -146,8 +146,8 @@ module _ (line : ℕ) (items : List Item) (ending : Ending) where
       → IsGivenWhole line g → [] ≡ there_in items ending
   ended g place end rest tells cut ends whole =
       let first : first_of (g.framing.held ++ g.left) ≡ Ok None =
-          ap first_of (ap (λ (xs : List ℕ). g.framing.held ++ xs) whole.taken ∙ append-nil g.framing.held)
-          ∙ none_whole (first_of g.framing.held) (sym (tells whole.stands) ∙ whole.answered) in
+      ap first_of (ap (λ (xs : List ℕ). g.framing.held ++ xs) whole.taken ∙ append-nil g.framing.held)
+      ∙ none_whole (first_of g.framing.held) (sym (tells whole.stands) ∙ whole.answered) in
       sym (none_cut place (g.framing.held ++ g.left) items end rest ending cut ends first)
 
 -- a line that doesn't stand is given nothing more
@@ -192,9 +192,9 @@ module _ (limits : Limits) (choice : MemberChoice) (now line : ℕ) (piece : Lis
   fault_gone fault is =
       let code = code_of (answer_to fault) in
       let call : call_on (line_at line g.broker) piece g.framing ≡ Some (BadInput line (begins_connect bytes) code) =
-          ap (λ (o : Option Line). call_on o piece g.framing) there
-          ∙ ap (λ (x : Front). call_by l.number bytes x) is
-          ∙ ap (λ (n : ℕ). Some (BadInput n (begins_connect bytes) code)) (found_number line l g.broker.lines there) in
+      ap (λ (o : Option Line). call_on o piece g.framing) there
+      ∙ ap (λ (x : Front). call_by l.number bytes x) is
+      ∙ ap (λ (n : ℕ). Some (BadInput n (begins_connect bytes) code)) (found_number line l g.broker.lines there) in
       ap (λ (o : Option Call). is_some (line_at line (stepped_if limits choice now o g.broker))) call
       ∙ fault_closes limits choice now line (begins_connect bytes) code g.broker l there
 
@@ -216,11 +216,11 @@ module _ (limits : Limits) (choice : MemberChoice) (now line : ℕ) (piece : Lis
       let first : first_of (g.framing.held ++ g.left) ≡ Ok (Some (x.0, x.1)) = ap first_of (sym all) ∙ packet_stays bytes rest_left x is in
       let found = packet_cut place (g.framing.held ++ g.left) items end rest ending x.0 x.1 cut ends first in
       let same : next.framing.held ++ next.left ≡ drop x.1 (g.framing.held ++ g.left) =
-          held_then (Ok (Some x)) is ∙ sym (drop-append-le x.1 bytes rest_left (first_within bytes x.0 x.1 is).0) ∙ ap (drop x.1) all in
+      held_then (Ok (Some x)) is ∙ sym (drop-append-le x.1 bytes rest_left (first_within bytes x.0 x.1 is).0) ∙ ap (drop x.1) all in
       let then_ = later (place_after place x.1) found.1 (subst (λ (xs : List ℕ). IsCut (place_after place x.1) xs found.1 end rest) (sym same) found.4) in
       let told : answered line (came ∷ cs) g ≡ Ok x.0 ∷ answered line cs next = ap (λ (r : Front). whole_in r ++ answered line cs next) is in
       let there : there_in items ending ≡ Ok x.0 ∷ there_in found.1 ending =
-          ap (λ (its : List Item). there_in its ending) found.2 ∙ ap (λ (p : Packet). Ok p ∷ there_in found.1 ending) found.3 in
+      ap (λ (its : List Item). there_in its ending) found.2 ∙ ap (λ (p : Packet). Ok p ∷ there_in found.1 ending) found.3 in
       record {
         front = (then_.front.0, ap (λ xs. xs ++ then_.front.0) told ∙ ap (λ xs. Ok x.0 ∷ xs) then_.front.1 ∙ sym there);
         whole = λ whole. told ∙ ap (λ xs. Ok x.0 ∷ xs) (then_.whole whole) ∙ sym there;
@@ -229,7 +229,7 @@ module _ (limits : Limits) (choice : MemberChoice) (now line : ℕ) (piece : Lis
       let first : first_of (g.framing.held ++ g.left) ≡ Err fault = ap first_of (sym (all_stay piece g.framing g.left front)) ∙ fault_stays bytes rest_left fault is in
       let last : cs ≡ [] = none_given line cs next (fault_gone fault is) on in
       let told : answered line (came ∷ cs) g ≡ Err fault ∷ [] =
-          ap (λ (r : Front). whole_in r ++ answered line cs next) is ∙ ap (λ (ds : List Coming). Err fault ∷ answered line ds next) last in
+      ap (λ (r : Front). whole_in r ++ answered line cs next) is ∙ ap (λ (ds : List Coming). Err fault ∷ answered line ds next) last in
       let same = told ∙ sym (fault_cut place (g.framing.held ++ g.left) items end rest ending fault cut ends first) in
       record { front = ([], append-nil (answered line (came ∷ cs) g) ∙ same); whole = λ whole. same }
 

@@ -130,7 +130,6 @@ module _ (line : ℕ) (piece : List ℕ) (b : Broker) (held : List HeldLine) (li
         given = below_numbers (suc b.given) (changed_at line f fed_held) held same lines.given;
       }
 
-
 cond_and : (x y : Bool) → cond x y false ≡ (x && y)
 cond_and true y = refl
 cond_and false y = refl
@@ -326,7 +325,7 @@ module _ {K : Type 0} (g : Ghosts K) (now line : ℕ) (piece : List ℕ) (old ne
       let rest_as : rest ≡ its = left_as ∙ ap (λ (hs : List HeldLine). without_closed told.closed.items (changed_at line without_first hs)) fed_as in
       let again = is_whole (first_of (framing_at line rest).held) in
       let main = piece_ok g now line piece old new held lines linked running holds found asked told count again asked_as asked_so called
-          (taken ∙ taken_linked line piece held linked) (ap (λ (hs : List HeldLine). is_whole (first_of (framing_at line hs).held)) rest_as) in (
+      (taken ∙ taken_linked line piece held linked) (ap (λ (hs : List HeldLine). is_whole (first_of (framing_at line hs).held)) rest_as) in (
         subst (λ (hs : List HeldLine). PieceCalled g now line piece (serving old held) (Ok out) (serving new hs)) (sym rest_as)
             (subst (λ (o : Outcome). PieceCalled g now line piece (serving old held) (Ok o) (serving new its)) (sym out_as) main),
         subst (λ (hs : List HeldLine). IsOfLines hs new.broker) (sym rest_as) (lines_ok g now line piece old new held lines linked running holds found asked told asked_so called),

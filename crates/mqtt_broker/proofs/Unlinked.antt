@@ -136,10 +136,9 @@ un_end s b =
 un_settle : (env : Env) (birth : ℕ) → Does (settle env birth)
 un_settle env birth b =
     good_series IsUnlinked (
-      of_session birth (λ s. only_if (has_due_will b.now s) (publish_will env s))
-      ∷ of_session birth (λ s. only_if (has_due_end b.now s) (always (end_session s)))
-      ∷ [])
-    (
+    of_session birth (λ s. only_if (has_due_will b.now s) (publish_will env s))
+    ∷ of_session birth (λ s. only_if (has_due_end b.now s) (always (end_session s)))
+    ∷ []) (
       good_of_session IsUnlinked birth _ (λ s. good_if IsUnlinked (has_due_will b.now s) (publish_will env s) (un_will env (whose s) s.will)),
       (good_of_session IsUnlinked birth _ (λ s. good_if IsUnlinked (has_due_end b.now s) (always (end_session s)) (λ c. un_end s c)), tt),
     ) b
@@ -147,11 +146,10 @@ un_settle env birth b =
 un_close_session : (env : Env) (keeps_will : Bool) (s : Session) → Does (close_session env keeps_will s)
 un_close_session env keeps_will s b =
     good_series IsUnlinked (
-      only_if (not keeps_will) (always (At (whose s) DropWill ∷ []))
-      ∷ always (At (whose s) (Close b.now) ∷ [])
-      ∷ settle env s.birth
-      ∷ [])
-    (
+    only_if (not keeps_will) (always (At (whose s) DropWill ∷ []))
+    ∷ always (At (whose s) (Close b.now) ∷ [])
+    ∷ settle env s.birth
+    ∷ []) (
       good_if IsUnlinked (not keeps_will) (always (At (whose s) DropWill ∷ [])) (λ c. (tt, tt)),
       ((λ c. (tt, tt)), (un_settle env s.birth, tt)),
     ) b
@@ -181,11 +179,10 @@ un_clear env s b =
 un_prepare : (env : Env) (c : Greeting) → Does (prepare env c)
 un_prepare env c b =
     good_series IsUnlinked (
-      of_client c.client_identifier (take_over env)
-      ∷ of_client c.client_identifier (λ s. settle env s.birth)
-      ∷ only_if c.clean_start (of_client c.client_identifier (clear env))
-      ∷ [])
-    (
+    of_client c.client_identifier (take_over env)
+    ∷ of_client c.client_identifier (λ s. settle env s.birth)
+    ∷ only_if c.clean_start (of_client c.client_identifier (clear env))
+    ∷ []) (
       good_of_client IsUnlinked c.client_identifier (take_over env) (un_take_over env),
       (
         good_of_client IsUnlinked c.client_identifier (λ s. settle env s.birth) (λ s. un_settle env s.birth),
@@ -254,8 +251,7 @@ un_meant env l s p (Wrong code) b = un_drop env code l b
 un_meant env l s p (Means topic) b =
     let ds = sets_alias (is_empty p.topic) (number_at TopicAlias p.properties) l.number topic in
     let m = message_of s.client topic p in
-    good_series IsUnlinked (always ds ∷ publish_by (standing p.delivery s.inbound) env l s p m ∷ [])
-    (
+    good_series IsUnlinked (always ds ∷ publish_by (standing p.delivery s.inbound) env l s p m ∷ []) (
       (λ c. un_sets (is_empty p.topic) (number_at TopicAlias p.properties) l.number topic c),
       (un_by env l s p m (standing p.delivery s.inbound), tt),
     ) b
