@@ -1,0 +1,2 @@
+pub mod EachSession
+pub mod TimesKept

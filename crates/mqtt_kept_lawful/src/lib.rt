@@ -1,0 +1,6 @@
+//! What a broker writes is lawful again: a store that it left can be opened (MQTT 5.0, 4.1). Private.
+#![tactic(auto)]
+
+mod laws;
+
+pub use laws::times_stay_in_order;
