@@ -1,2 +1,4 @@
 pub mod EachSession
 pub mod TimesKept
+pub mod Differ
+pub mod PlacesKept

@@ -6,6 +6,7 @@ ghost use Rattle.mqtt_rules.specs.Numbers.{IsTimed};
 ghost use Rattle.mqtt_rules.specs.State.{Broker, MemberChoice, stored};
 ghost use Rattle.mqtt_rules.specs.Step.{Call, opened, stepped};
 ghost use Rattle.mqtt_rules.specs.declared.Limits.{Limits as TheLimits};
+ghost use Rattle.mqtt_kept_lawful.specs.Places.{HavePlacesApart};
 ghost use Rattle.mqtt_kept_lawful.specs.Times.{AreTimely};
 
 /// Births of sessions, places of subscriptions, copies and retained messages are numbers from 1; each close,
@@ -19,4 +20,15 @@ pub fn times_stay_in_order()
     ensures opening { (limits : TheLimits) (choice : MemberChoice) (now : ℕ) (r : Records)
         → IsNumber r.moment → AreTimely r.moment r
         → AreTimely (stored (opened limits choice now r)).moment (stored (opened limits choice now r)) }
+{}
+
+/// No two subscriptions have the same place, of whichever sessions: each has the number of a grant, and a
+/// filter that its session has already keeps its place. So it is in a new store, and after each step and each
+/// opening where it was so before (3.8.4).
+pub fn places_stay_apart()
+    ensures nothing { HavePlacesApart nothing }
+    ensures step { (limits : TheLimits) (choice : MemberChoice) (now : ℕ) (call : Call) (b : Broker)
+        → HavePlacesApart (stored b) → HavePlacesApart (stored (stepped limits choice now call b)) }
+    ensures opening { (limits : TheLimits) (choice : MemberChoice) (now : ℕ) (r : Records)
+        → HavePlacesApart r → HavePlacesApart (stored (opened limits choice now r)) }
 {}
