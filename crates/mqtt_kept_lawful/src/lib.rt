@@ -3,4 +3,4 @@
 
 mod laws;
 
-pub use laws::{places_stay_apart, times_stay_in_order};
+pub use laws::{phases_fit_their_service, places_stay_apart, times_stay_in_order};
