@@ -69,16 +69,16 @@ ascending_differ key (x ∷ xs) h = (above_differ key (key x) xs h.0, ascending_
 
 -- ---- what rows give, all together
 
-module _ {X : Type 0} (key : X → ℕ) (g : X → List ℕ) where
-  pub each_given : (P : ℕ → Type 0) (xs : List X) → AllByRecursion (λ x. AllByRecursion P (g x)) xs → AllByRecursion P (flat_map g xs)
+module _ {X Y : Type 0} (key : X → ℕ) (g : X → List Y) where
+  pub each_given : (P : Y → Type 0) (xs : List X) → AllByRecursion (λ x. AllByRecursion P (g x)) xs → AllByRecursion P (flat_map g xs)
   each_given P [] h = tt
   each_given P (x ∷ xs) h = each_append P (g x) (flat_map g xs) h.0 (each_given P xs h.1)
 
-  pub given_each : (P : ℕ → Type 0) (xs : List X) → AllByRecursion P (flat_map g xs) → AllByRecursion (λ x. AllByRecursion P (g x)) xs
+  pub given_each : (P : Y → Type 0) (xs : List X) → AllByRecursion P (flat_map g xs) → AllByRecursion (λ x. AllByRecursion P (g x)) xs
   given_each P [] h = tt
   given_each P (x ∷ xs) h = (each_first P (g x) (flat_map g xs) h, given_each P xs (each_last P (g x) (flat_map g xs) h))
 
-  given_filtered : (P : ℕ → Type 0) (keep : X → Bool) (xs : List X) → AllByRecursion P (flat_map g xs) → AllByRecursion P (flat_map g (filter keep xs))
+  given_filtered : (P : Y → Type 0) (keep : X → Bool) (xs : List X) → AllByRecursion P (flat_map g xs) → AllByRecursion P (flat_map g (filter keep xs))
   given_filtered P keep xs h = each_given P (filter keep xs) (each_filter (λ x. AllByRecursion P (g x)) keep xs (given_each P xs h))
 
   pub filter_differs : (keep : X → Bool) (xs : List X) → AllDiffer (flat_map g xs) → AllDiffer (flat_map g (filter keep xs))
@@ -90,7 +90,7 @@ module _ {X : Type 0} (key : X → ℕ) (g : X → List ℕ) where
   ]
 
   -- a row that gives nothing
-  given_inserted : (P : ℕ → Type 0) (row : X) (xs : List X) → g row ≡ [] → AllByRecursion P (flat_map g xs) → AllByRecursion P (flat_map g (insert_row key row xs))
+  given_inserted : (P : Y → Type 0) (row : X) (xs : List X) → g row ≡ [] → AllByRecursion P (flat_map g xs) → AllByRecursion P (flat_map g (insert_row key row xs))
   given_inserted P row [] none h = rw none tt
   given_inserted P row (x ∷ xs) none h = elim (cases_Bool (nat_lt (key row) (key x))) [
     | inl before ↦ rw (before, none) h
@@ -122,11 +122,11 @@ module _ {X : Type 0} (key : X → ℕ) (g : X → List ℕ) where
   pub given_same : (k : ℕ) (f : X → X) (xs : List X) → ((x : X) → g (f x) ≡ g x) → flat_map g (change_row key k f xs) ≡ flat_map g xs
   given_same k f [] same = refl
   given_same k f (x ∷ xs) same = elim (cases_Bool (nat_eq (key x) k)) [
-    | inl here ↦ rw here (ap (λ (ns : List ℕ). ns ++ flat_map g xs) (same x))
-    | inr other ↦ rw other (ap (λ (ns : List ℕ). g x ++ ns) (given_same k f xs same))
+    | inl here ↦ rw here (ap (λ (ns : List Y). ns ++ flat_map g xs) (same x))
+    | inr other ↦ rw other (ap (λ (ns : List Y). g x ++ ns) (given_same k f xs same))
   ]
 
-  given_at : (P : ℕ → Type 0) (k : ℕ) (x : X) (xs : List X) → row_at key k xs ≡ Some x → AllByRecursion P (flat_map g xs) → AllByRecursion P (g x)
+  given_at : (P : Y → Type 0) (k : ℕ) (x : X) (xs : List X) → row_at key k xs ≡ Some x → AllByRecursion P (flat_map g xs) → AllByRecursion P (g x)
   given_at P k x [] there h = absurd cc
   given_at P k x (y ∷ ys) there h = elim (cases_Bool (nat_eq (key y) k)) [
     | inl here ↦
@@ -136,7 +136,7 @@ module _ {X : Type 0} (key : X → ℕ) (g : X → List ℕ) where
     | inr other ↦ given_at P k x ys (rw other at there) (each_last P (g y) (flat_map g ys) h)
   ]
 
-  given_changed : (P : ℕ → Type 0) (k : ℕ) (f : X → X) (x : X) (xs : List X) → row_at key k xs ≡ Some x → AllByRecursion P (g (f x)) → AllByRecursion P (flat_map g xs) → AllByRecursion P (flat_map g (change_row key k f xs))
+  given_changed : (P : Y → Type 0) (k : ℕ) (f : X → X) (x : X) (xs : List X) → row_at key k xs ≡ Some x → AllByRecursion P (g (f x)) → AllByRecursion P (flat_map g xs) → AllByRecursion P (flat_map g (change_row key k f xs))
   given_changed P k f x [] there new h = tt
   given_changed P k f x (y ∷ ys) there new h = elim (cases_Bool (nat_eq (key y) k)) [
     | inl here ↦
@@ -147,10 +147,10 @@ module _ {X : Type 0} (key : X → ℕ) (g : X → List ℕ) where
   ]
 
   -- what a row gives, once it is changed, it gave before, or no row did
-  abbrev pub IsOwn : X → List X → ℕ → Type 0
+  abbrev pub IsOwn : X → List X → Y → Type 0
   IsOwn x xs n = IsAmong n (g x) ⊎ AllByRecursion (λ m. n ≢ m) (flat_map g xs)
 
-  own_behind : (x y : X) (ys : List X) (n : ℕ) → IsOwn x (y ∷ ys) n → IsOwn x ys n
+  own_behind : (x y : X) (ys : List X) (n : Y) → IsOwn x (y ∷ ys) n → IsOwn x ys n
   own_behind x y ys n own = elim own [ inl it ↦ inl it | inr new ↦ inr (each_last (λ m. n ≢ m) (g y) (flat_map g ys) new) ]
 
   pub change_differs : (k : ℕ) (f : X → X) (x : X) (xs : List X) → row_at key k xs ≡ Some x → AllDiffer (g (f x)) → AllByRecursion (IsOwn x xs) (g (f x)) → AllDiffer (flat_map g xs) → AllDiffer (flat_map g (change_row key k f xs))
@@ -161,14 +161,14 @@ module _ {X : Type 0} (key : X → ℕ) (g : X → List ℕ) where
         let is : x ≡ y = cc in
         let apart : AreApart (g (f x)) (flat_map g ys) = each_more (IsOwn x (y ∷ ys)) (λ n. AllByRecursion (λ m. n ≢ m) (flat_map g ys))
             (λ n o. elim o [
-              | inl among ↦ all_among (λ (i : ℕ). AllByRecursion (λ m. i ≢ m) (flat_map g ys)) n (g y) (differ_apart (g y) (flat_map g ys) h) (subst (λ (z : X). IsAmong n (g z)) is among)
+              | inl among ↦ all_among (λ (i : Y). AllByRecursion (λ m. i ≢ m) (flat_map g ys)) n (g y) (differ_apart (g y) (flat_map g ys) h) (subst (λ (z : X). IsAmong n (g z)) is among)
               | inr new ↦ each_last (λ m. n ≢ m) (g y) (flat_map g ys) new
             ]) (g (f x)) own in
         rw here (subst (λ (z : X). AllDiffer (g (f z) ++ flat_map g ys)) is (differ_join (g (f x)) (flat_map g ys) differ (differ_last (g y) (flat_map g ys) h) apart))
     | inr other ↦
         let found : row_at key k ys ≡ Some x = rw other at there in
         let old = differ_apart (g y) (flat_map g ys) h in
-        let new : (i : ℕ) → IsAmong i (g y) → AllByRecursion (λ n. i ≢ n) (g (f x)) = λ i among.
+        let new : (i : Y) → IsAmong i (g y) → AllByRecursion (λ n. i ≢ n) (g (f x)) = λ i among.
             each_more (IsOwn x (y ∷ ys)) (λ n. i ≢ n)
             (λ n o. elim o [
               | inl its ↦ all_among (λ m. i ≢ m) n (g x) (given_at (λ m. i ≢ m) k x ys found (all_among (λ j. AllByRecursion (λ m. j ≢ m) (flat_map g ys)) i (g y) old among)) its

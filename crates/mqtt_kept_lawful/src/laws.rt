@@ -1,14 +1,19 @@
 //! Laws of what a broker writes: it keeps each rule that records are opened by (MQTT 5.0, 4.1).
-ghost use Rattle.std.specs.Prelude.{ℕ};
+ghost use Rattle.std.specs.Prelude.{◌≡◌, ℕ, false};
 ghost use Rattle.mqtt_records.specs.Records.{nothing, IsNumber};
 ghost use Rattle.mqtt_records.specs.declared.records.Records.{Records};
-ghost use Rattle.mqtt_rules.specs.Laws.{IsOrdered};
+ghost use Rattle.mqtt_rules.specs.Contents.{TakesLawful};
+ghost use Rattle.mqtt_rules.specs.Laws.{AreWithin, IsCoherent, IsOrdered};
 ghost use Rattle.mqtt_rules.specs.Numbers.{IsTimed};
 ghost use Rattle.mqtt_rules.specs.State.{Broker, MemberChoice, stored};
-ghost use Rattle.mqtt_rules.specs.Step.{Call, opened, stepped};
+ghost use Rattle.mqtt_rules.specs.Step.{Call, is_opening_spent, is_step_spent, opened, stepped};
 ghost use Rattle.mqtt_rules.specs.declared.Limits.{Limits as TheLimits};
+ghost use Rattle.mqtt_kept_lawful.specs.Bounds.{HaveBounds};
+ghost use Rattle.mqtt_kept_lawful.specs.Identities.{HaveIdentities};
+ghost use Rattle.mqtt_kept_lawful.specs.Names.{AreNamed};
 ghost use Rattle.mqtt_kept_lawful.specs.Phases.{HavePhases};
 ghost use Rattle.mqtt_kept_lawful.specs.Places.{HavePlacesApart};
+ghost use Rattle.mqtt_kept_lawful.specs.Texts.{HaveTexts};
 ghost use Rattle.mqtt_kept_lawful.specs.Times.{AreTimely};
 
 /// Births of sessions, places of subscriptions, copies and retained messages are numbers from 1; each close,
@@ -46,4 +51,54 @@ pub fn phases_fit_their_service()
         → HavePhases (stored (stepped limits choice now call b)) }
     ensures opening { (limits : TheLimits) (choice : MemberChoice) (now : ℕ) (r : Records)
         → IsOrdered r → HavePhases r → HavePhases (stored (opened limits choice now r)) }
+{}
+
+/// No two copies in a session's queue have the same identity, and each is of QoS 1 or 2, of a publication that
+/// was accepted, and for a subscribe that was granted if it is of a retained message; no two retained messages
+/// are of the same publication. So it is in a new store, and after each step and each opening where it was so
+/// before (3.3.1.3, 3.3.4, 4.6).
+pub fn copies_stay_apart()
+    ensures nothing { HaveIdentities nothing }
+    ensures step { (limits : TheLimits) (choice : MemberChoice) (now : ℕ) (call : Call) (b : Broker)
+        → HaveIdentities (stored b) → HaveIdentities (stored (stepped limits choice now call b)) }
+    ensures opening { (limits : TheLimits) (choice : MemberChoice) (now : ℕ) (r : Records)
+        → HaveIdentities r → HaveIdentities (stored (opened limits choice now r)) }
+{}
+
+/// Each copy in a queue is for the session that the queue is of; its place, its order of release and the
+/// places of retained messages are at most the last number. So it is in a new store, and after each step and
+/// each opening of coherent records where it was so before, and no number is spent (ours).
+pub fn numbers_stay_within_the_last()
+    ensures nothing { HaveBounds nothing }
+    ensures step { (limits : TheLimits) (choice : MemberChoice) (now : ℕ) (call : Call) (b : Broker)
+        → AreWithin limits → IsCoherent (stored b) → IsTimed b → IsNumber b.now
+        → is_step_spent limits choice now call b ≡ false
+        → HaveBounds (stored b) → HaveBounds (stored (stepped limits choice now call b)) }
+    ensures opening { (limits : TheLimits) (choice : MemberChoice) (now : ℕ) (r : Records)
+        → AreWithin limits → IsCoherent r → is_opening_spent limits choice now r ≡ false
+        → HaveBounds r → HaveBounds (stored (opened limits choice now r)) }
+{}
+
+/// A client identifier that begins as those do that the broker assigns is one that it has assigned, in its
+/// shortest decimal form; and while none is spent, no session has one longer than the limit. So it is in a
+/// new store, and after each step and each opening where it was so before (3.1.3.1).
+pub fn client_identifiers_stay_lawful()
+    ensures nothing { AreNamed nothing }
+    ensures step { (limits : TheLimits) (choice : MemberChoice) (now : ℕ) (call : Call) (b : Broker)
+        → AreNamed (stored b) → AreNamed (stored (stepped limits choice now call b)) }
+    ensures opening { (limits : TheLimits) (choice : MemberChoice) (now : ℕ) (r : Records)
+        → AreNamed r → AreNamed (stored (opened limits choice now r)) }
+{}
+
+/// No session is without a client identifier; open identifiers are from 1, filters are such as packets carry,
+/// and each copy of a group is of one whose filter is such. So it is in a new store, and after each step on a
+/// lawful packet and each opening where it was so before, and copies had identities of their own (2.2.1,
+/// 3.8.3, 4.8.2).
+pub fn texts_stay_lawful()
+    ensures nothing { HaveTexts nothing }
+    ensures step { (limits : TheLimits) (choice : MemberChoice) (now : ℕ) (call : Call) (b : Broker)
+        → TakesLawful call → HaveIdentities (stored b) → HaveTexts (stored b)
+        → HaveTexts (stored (stepped limits choice now call b)) }
+    ensures opening { (limits : TheLimits) (choice : MemberChoice) (now : ℕ) (r : Records)
+        → HaveIdentities r → HaveTexts r → HaveTexts (stored (opened limits choice now r)) }
 {}

@@ -3,4 +3,7 @@
 
 mod laws;
 
-pub use laws::{phases_fit_their_service, places_stay_apart, times_stay_in_order};
+pub use laws::{
+    client_identifiers_stay_lawful, copies_stay_apart, numbers_stay_within_the_last,
+    phases_fit_their_service, places_stay_apart, texts_stay_lawful, times_stay_in_order,
+};
