@@ -12,3 +12,5 @@ pub mod Origins
 pub mod BoundsKept
 pub mod NamesKept
 pub mod TextsKept
+pub mod Facts
+pub mod WrittenKept

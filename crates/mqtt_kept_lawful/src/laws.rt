@@ -1,13 +1,15 @@
 //! Laws of what a broker writes: it keeps each rule that records are opened by (MQTT 5.0, 4.1).
-ghost use Rattle.std.specs.Prelude.{◌≡◌, ℕ, false};
+ghost use Rattle.std.specs.Prelude.{◌≡◌, ℕ, List, false};
+ghost use Rattle.mqtt_lawful.specs.Lawful.{IsLawful};
 ghost use Rattle.mqtt_records.specs.Records.{nothing, IsNumber};
 ghost use Rattle.mqtt_records.specs.declared.records.Records.{Records};
 ghost use Rattle.mqtt_rules.specs.Contents.{TakesLawful};
-ghost use Rattle.mqtt_rules.specs.Laws.{AreWithin, IsCoherent, IsOrdered};
+ghost use Rattle.mqtt_rules.specs.Laws.{AreWithin, Event, IsCoherent, IsOrdered, after_events, blank};
 ghost use Rattle.mqtt_rules.specs.Numbers.{IsTimed};
 ghost use Rattle.mqtt_rules.specs.State.{Broker, MemberChoice, stored};
 ghost use Rattle.mqtt_rules.specs.Step.{Call, is_opening_spent, is_step_spent, opened, stepped};
 ghost use Rattle.mqtt_rules.specs.declared.Limits.{Limits as TheLimits};
+ghost use Rattle.mqtt_calls.specs.Sound.{IsSound};
 ghost use Rattle.mqtt_kept_lawful.specs.Bounds.{HaveBounds};
 ghost use Rattle.mqtt_kept_lawful.specs.Identities.{HaveIdentities};
 ghost use Rattle.mqtt_kept_lawful.specs.Names.{AreNamed};
@@ -15,6 +17,7 @@ ghost use Rattle.mqtt_kept_lawful.specs.Phases.{HavePhases};
 ghost use Rattle.mqtt_kept_lawful.specs.Places.{HavePlacesApart};
 ghost use Rattle.mqtt_kept_lawful.specs.Texts.{HaveTexts};
 ghost use Rattle.mqtt_kept_lawful.specs.Times.{AreTimely};
+ghost use Rattle.mqtt_kept_lawful.specs.Written.{AreFair, IsWritten};
 
 /// Births of sessions, places of subscriptions, copies and retained messages are numbers from 1; each close,
 /// and each arrival of what is queued or retained, was at the stored moment or before it. So it is in a new
@@ -101,4 +104,35 @@ pub fn texts_stay_lawful()
         → HaveTexts (stored (stepped limits choice now call b)) }
     ensures opening { (limits : TheLimits) (choice : MemberChoice) (now : ℕ) (r : Records)
         → HaveIdentities r → HaveTexts r → HaveTexts (stored (opened limits choice now r)) }
+{}
+
+/// What a broker has written are lawful records, and it writes such again: a new store is such, and so is
+/// what each step of a sound broker leaves of such, on a packet that is lawful and no longer than a packet
+/// may be, and each opening, where no number is spent. Beyond what lawful records have, its messages are as
+/// short as those of packets, its filters such as packets carry, and its retained messages of different
+/// publications: without these a step could make a row too long, a group without a spelling, or two copies
+/// with one identity (4.1).
+pub fn what_a_broker_writes_is_lawful()
+    ensures lawful { (r : Records) → IsWritten r → IsLawful r }
+    ensures nothing { IsWritten nothing }
+    ensures step { (limits : TheLimits) (choice : MemberChoice) (now : ℕ) (call : Call) (b : Broker)
+        → is_step_spent limits choice now call b ≡ false → TakesLawful call
+        → IsSound limits b → IsWritten (stored b)
+        → IsWritten (stored (stepped limits choice now call b)) }
+    ensures opening { (limits : TheLimits) (choice : MemberChoice) (now : ℕ) (r : Records)
+        → AreWithin limits → is_opening_spent limits choice now r ≡ false
+        → IsWritten r → IsWritten (stored (opened limits choice now r)) }
+{}
+
+/// Starting again needs no hand: whatever was asked of a broker since its store was empty, or since it opened
+/// what a broker had written, and whenever it opened what it had stored, what is stored may be opened again,
+/// where limits were within those of the tables, packets lawful and no longer than a packet may be, and no
+/// number was spent (4.1).
+pub fn a_store_may_be_opened_again()
+    ensures run { (events : List Event) → AreFair events blank
+        → IsLawful (stored (after_events events blank)) }
+    ensures opened { (limits : TheLimits) (choice : MemberChoice) (now : ℕ) (r : Records) (events : List Event)
+        → AreWithin limits → is_opening_spent limits choice now r ≡ false → IsWritten r
+        → AreFair events (opened limits choice now r)
+        → IsLawful (stored (after_events events (opened limits choice now r))) }
 {}
