@@ -1,10 +1,9 @@
 -- Rows that fit keep places and orders up to the last number, and each copy its session's.
-use Rattle.std.proofs.Common.{◌≡◌, ℕ, Bool, true, false, cond, not, List, [], ◌∷◌, nat_eq, refl, sym, subst, ◌∙◌}
+use Rattle.std.proofs.Common.{◌≡◌, ℕ, Bool, true, false, cond, not, List, [], ◌∷◌, nat_eq, sym, subst, ◌∙◌}
 use Rattle.std.specs.Prelude.{None, Some}
 use Rattle.std.specs.List.{AllByRecursion}
 use Rattle.mqtt_base.specs.declared.limits.TheConstants.{QUEUE_LIMIT, RETAINED_LIMIT, SESSION_LIMIT}
-use Rattle.mqtt_message.specs.Queue.{CopyRow}
-use Rattle.mqtt_records.specs.Records.{FitAll, Fits, IsNumber, changed, changed_all, kept_place, nothing, put_session, with_counter}
+use Rattle.mqtt_records.specs.Records.{FitAll, Fits, IsNumber, changed, changed_all, kept_place, put_session, with_counter}
 use Rattle.mqtt_records.specs.Session.{birth_of, copy_place, fresh, in_phase, with_columns, with_copy, with_open, with_phase, with_subscription, with_will, without_copy, without_open, without_subscription}
 use Rattle.mqtt_records.specs.declared.change.Change.{Change}
 use Rattle.mqtt_records.specs.declared.change.Change.TheVariants.{SetCounter, PutSession, SetSession, RemoveSession, PutWill, RemoveWill, PutSubscription, RemoveSubscription, PutInbound, RemoveInbound, PutCopy, SetCopy, RemoveCopy, PutRetained, RemoveRetained}

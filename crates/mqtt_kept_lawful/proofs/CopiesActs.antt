@@ -1,6 +1,6 @@
 -- Every step and opening gives each copy that enters a queue an identity of its own.
-use Rattle.std.proofs.Common.{◌≡◌, ℕ, suc, ◌<◌, ◌≤◌, Bool, true, false, not, ◌&&◌, List, [], ◌∷◌, ◌++◌, length, filter, map, Option, Some, None, refl, sym, ap, subst, ◌∙◌, inl, inr, arith}
-use Rattle.std.specs.Prelude.{⊤, ◌≢◌, flat_map, nat_le, option_map}
+use Rattle.std.proofs.Common.{◌≡◌, ℕ, suc, ◌<◌, Bool, true, false, not, ◌&&◌, List, [], ◌∷◌, ◌++◌, filter, map, Option, Some, None, refl, sym, ap, subst, ◌∙◌, inl, inr, arith}
+use Rattle.std.specs.Prelude.{◌≢◌, flat_map, option_map}
 use Rattle.std.specs.List.{AllByRecursion}
 use Rattle.mqtt_base.specs.declared.session.Cause.{Cause}
 use Rattle.mqtt_base.specs.declared.session.Cause.TheVariants.{Direct, Share, Retained}
@@ -9,14 +9,10 @@ use Rattle.mqtt_flow.specs.Outbound.{way_made}
 use Rattle.mqtt_flow.specs.declared.entry.Turn.{Turn}
 use Rattle.mqtt_flow.specs.declared.entry.Turn.TheVariants as turns
 use Rattle.mqtt_lawful.specs.Lawful.{IsUpTo}
-use Rattle.mqtt_message.specs.Queue.{CopyRow}
-use Rattle.mqtt_message.specs.declared.message.MessageCopy.{MessageCopy}
 use Rattle.mqtt_message.specs.declared.message.RetainedMessage.{RetainedMessage}
-use Rattle.mqtt_message.specs.declared.message.Will.{Will}
 use Rattle.mqtt_records.specs.Session.{birth_of, copy_place}
 use Rattle.mqtt_records.specs.declared.change.Change.{Change}
 use Rattle.mqtt_records.specs.declared.records.Records.{Records}
-use Rattle.mqtt_records.specs.declared.session.Columns.{Columns}
 use Rattle.mqtt_records.specs.declared.session.Session.{Session}
 use Rattle.mqtt_records.specs.declared.subscription.Subscription.{Subscription}
 use Rattle.mqtt_routes.specs.Acceptance.{Routed}
@@ -26,27 +22,27 @@ use Rattle.mqtt_routes.specs.declared.retained.Kept.{Kept}
 use Rattle.mqtt_routes.specs.declared.subscription.Subscription.{Subscription as RoutedSubscription}
 use Rattle.mqtt_rows.specs.Distinct.{AllDiffer}
 use Rattle.mqtt_rows.specs.Order.{IsAbove, IsAscending, row_at}
-use Rattle.mqtt_topic.specs.Filters.{begins_share, group_of}
+use Rattle.mqtt_topic.specs.Filters.{begins_share}
 use Rattle.mqtt_topic.specs.Names.{is_empty}
 use Rattle.mqtt_rules.specs.declared.Limits.{Limits}
-use Rattle.mqtt_rules.specs.Deeds.{Whose, whose, Message, Origin, Part, Resume, Close, SetExpiry, DropWill, Subscribe, Unsubscribe, Open, Release, Enter, Mark, Leave, Deed, Accept, Begin, Name, Count, At, Finish, Keep, Forget, RefuseWill, Link, On, Send, Gone, after, after_all, always, offer, rows_of_all, series, stored_after}
+use Rattle.mqtt_rules.specs.Deeds.{whose, Message, Origin, Resume, Close, SetExpiry, DropWill, Subscribe, Unsubscribe, Open, Release, Enter, Mark, Leave, Deed, Accept, Begin, Name, Count, At, Finish, Keep, Forget, RefuseWill, Link, On, Send, Gone, after, after_all, always, offer, rows_of_all, series}
 use Rattle.mqtt_rules.specs.Laws.{IsAmong, IsOrdered}
-use Rattle.mqtt_rules.specs.Outbound.{enter_deeds, leave_deeds, queue_limits, room, since}
+use Rattle.mqtt_rules.specs.Outbound.{enter_deeds, leave_deeds, queue_limits, since}
 use Rattle.mqtt_rules.specs.Packets.{publish_of}
-use Rattle.mqtt_rules.specs.Routing.{CopyTo, accepted_copies, accepted_if, answers, copies_to, deliver, deliver_by, finds_place, forgets, is_queued, is_queued_at, kept_message, next_publication, place_of_kept, publication_of, publish, retain_by, retained_of, routed_subscription, routing_of, subscriber_of, subscribers}
+use Rattle.mqtt_rules.specs.Routing.{CopyTo, accepted_copies, accepted_if, answers, copies_to, deliver, deliver_by, finds_place, forgets, is_queued, is_queued_at, next_publication, publication_of, publish, retain_by, retained_of, routed_subscription, routing_of, subscriber_of, subscribers}
 use Rattle.mqtt_rules.specs.State.{Broker, Env, Line, MemberChoice, line_of, queue_on, session_at, stored}
-use Rattle.mqtt_rules.specs.Step.{Call, at_moment, deeds, deeds_of, env_of, opened, opening, opening_deeds, stepped, unopened, with_moment}
+use Rattle.mqtt_rules.specs.Step.{Call, at_moment, deeds, deeds_of, env_of, opened, opening, stepped, unopened, with_moment}
 use Rattle.mqtt_rules.specs.Subscribe as sub
 use Rattle.mqtt_rules.proofs.Acts.{brought_to}
-use Rattle.mqtt_rules.proofs.Copies.{AreNumbered, IsNumbered, Kinds, kinds_at, each_filter, each_map, each_more, routed_numbered}
+use Rattle.mqtt_rules.proofs.Copies.{IsNumbered, Kinds, kinds_at, each_filter, each_map, each_more, routed_numbered}
 use Rattle.mqtt_rules.proofs.Goods.{AreGood}
-use Rattle.mqtt_rules.proofs.Leads.{Leads, leads_append, leads_cond, leads_flat, leads_of_entry, leads_with_session}
-use Rattle.mqtt_rules.proofs.OrderedActs.{IsPlain, IsPlainPart, Keeping, leads_all, leads_open}
+use Rattle.mqtt_rules.proofs.Leads.{leads_append, leads_cond, leads_flat, leads_of_entry, leads_with_session}
+use Rattle.mqtt_rules.proofs.OrderedActs.{IsPlain, Keeping, leads_all, leads_open}
 use Rattle.mqtt_kept_lawful.specs.Identities.{HasIdentities, HaveIdentities, IsGivenCause, IsGivenCopy}
-use Rattle.mqtt_kept_lawful.proofs.CopiesKept.{Good, IsAbsent, IsAbsentIn, IsNewCopy, IsNewKept, IsOfGroup, IsQuiet, Keeps, Led, Stays, filters_in, filters_of, id_in, kept, more, one, quiet_deeds, quiet_deliver, quiet_leaves}
+use Rattle.mqtt_kept_lawful.proofs.CopiesKept.{Good, IsAbsent, IsAbsentIn, IsNewCopy, IsOfGroup, Keeps, Led, Stays, filters_in, filters_of, id_in, kept, more, one, quiet_deeds, quiet_deliver, quiet_leaves}
 use Rattle.mqtt_kept_lawful.proofs.Differ.{differ_filtered}
 use Rattle.mqtt_kept_lawful.proofs.EachSession.{deed_each}
-use Rattle.mqtt_kept_lawful.proofs.Routed.{AreStanding, IsApart, IsCauseOf, IsGroups, copies_caused, copies_differ, id_to, ids_to, routed_apart}
+use Rattle.mqtt_kept_lawful.proofs.Routed.{AreStanding, IsApart, IsCauseOf, copies_caused, copies_differ, id_to, ids_to, routed_apart}
 
 -- ---- a copy enters, and those of a publication, one after the other
 
@@ -100,11 +96,15 @@ leads_by false env d b queued k new = leads_offer (line_of d.birth b) d b k
 -- what is new stays so while others come
 still_new : (d : CopyTo) (ds : List CopyTo) (old new : Records) → Stays (λ i. i ≡ d.copy.id) old new → AllByRecursion (λ i. d.copy.id ≢ i) (ids_to ds) → AllByRecursion (IsNewTo old) ds → AllByRecursion (IsNewTo new) ds
 still_new d [] old new stays apart h = tt
-still_new d (x ∷ xs) old new stays apart h = ((
+still_new d (x ∷ xs) old new stays apart h = (
+  (
     subst (λ (n : ℕ). IsUpTo n x.copy.id.publication) (sym stays.publications) h.0.0,
     subst (λ (n : ℕ). IsGivenCause n x.copy.id.cause) (sym stays.subscribes) h.0.1,
     subst (λ (fs : List (List ℕ)). IsOfGroup fs x.copy.id.cause) (sym stays.filters) h.0.2,
-    stays.absent x.copy.id (λ i is e. apart.0 (sym (e ∙ is))) h.0.3), still_new d xs old new stays apart.1 h.1)
+    stays.absent x.copy.id (λ i is e. apart.0 (sym (e ∙ is))) h.0.3,
+  ),
+  still_new d xs old new stays apart.1 h.1,
+)
 
 pub leads_deliveries : (env : Env) (ds : List CopyTo) (b : Broker) → Keeps b → AllByRecursion (IsNewTo b.records) ds → AllDiffer (ids_to ds) → Led (series (map (deliver env) ds) b) b
 leads_deliveries env [] b k new differ = (tt, k)
@@ -139,8 +139,9 @@ subs_stand all (x ∷ xs) sub = (sub x.filter (inl refl), subs_stand all xs (λ 
 all_stand : (all : List (List ℕ)) (ss : List Session) → ((text : List ℕ) → IsAmong text (flat_map filters_in ss) → IsAmong text all) → AllByRecursion (AreStanding (StandsIn all)) (map subscriber_of ss)
 all_stand all [] sub = tt
 all_stand all (s ∷ ss) sub = (
-    subs_stand all s.subscriptions (λ text among. sub text (among_first text (filters_in s) (flat_map filters_in ss) among)),
-    all_stand all ss (λ text among. sub text (among_last text (filters_in s) (flat_map filters_in ss) among)))
+  subs_stand all s.subscriptions (λ text among. sub text (among_first text (filters_in s) (flat_map filters_in ss) among)),
+  all_stand all ss (λ text among. sub text (among_last text (filters_in s) (flat_map filters_in ss) among)),
+)
 
 births_above : (n : ℕ) (ss : List Session) → IsAbove birth_of n ss → IsAbove (λ (x : Subscriber). x.birth) n (map subscriber_of ss)
 births_above n [] h = tt
@@ -185,8 +186,9 @@ caused_given all m (Retained subscribe) h = absurd h
 number_absent : (n m : ℕ) (id : CopyId) (ss : List Session) → n < id.publication → AllByRecursion (HasIdentities n m) ss → AllByRecursion (IsAbsentIn id) ss
 number_absent n m id [] less h = tt
 number_absent n m id (s ∷ ss) less h = (
-    each_more (λ row. IsGivenCopy n m row.copy) (λ row. id ≢ id_in row) (λ row q e. let up = q.publication.1 in let same = ap (λ (i : CopyId). i.publication) e in absurd (omega (arith, up, same, less))) s.queue h.0.each,
-    number_absent n m id ss less h.1)
+  each_more (λ row. IsGivenCopy n m row.copy) (λ row. id ≢ id_in row) (λ row q e. let up = q.publication.1 in let same = ap (λ (i : CopyId). i.publication) e in absurd (omega (arith, up, same, less))) s.queue h.0.each,
+  number_absent n m id ss less h.1,
+)
 
 -- the copies of a publication are new on the state after its number was given, whatever was retained
 published_new : (number now : ℕ) (r c : Records) (ds : List CopyTo) → HaveIdentities r → number ≡ suc r.publications → c.publications ≡ number → c.sessions ≡ r.sessions
@@ -194,11 +196,14 @@ published_new : (number now : ℕ) (r c : Records) (ds : List CopyTo) → HaveId
 published_new number now r c [] h next is same numbered caused = tt
 published_new number now r c (d ∷ ds) h next is same numbered caused =
     let its = numbered.0.publication in (
-      ((omega (arith, its, next), omega (arith, its, is)),
-      caused_given (filters_of r) c.subscribes d.copy.id.cause caused.0,
-      subst (λ (ss : List Session). IsOfGroup (flat_map filters_in ss) d.copy.id.cause) (sym same) (caused_group (filters_of r) d.copy.id.cause caused.0),
-      subst (λ (ss : List Session). AllByRecursion (IsAbsentIn d.copy.id) ss) (sym same) (number_absent r.publications r.subscribes d.copy.id r.sessions (omega (arith, its, next)) h.sessions)),
-      published_new number now r c ds h next is same numbered.1 caused.1)
+      (
+        (omega (arith, its, next), omega (arith, its, is)),
+        caused_given (filters_of r) c.subscribes d.copy.id.cause caused.0,
+        subst (λ (ss : List Session). IsOfGroup (flat_map filters_in ss) d.copy.id.cause) (sym same) (caused_group (filters_of r) d.copy.id.cause caused.0),
+        subst (λ (ss : List Session). AllByRecursion (IsAbsentIn d.copy.id) ss) (sym same) (number_absent r.publications r.subscribes d.copy.id r.sessions (omega (arith, its, next)) h.sessions),
+      ),
+      published_new number now r c ds h next is same numbered.1 caused.1,
+    )
 
 -- ---- a publication
 
@@ -261,7 +266,7 @@ module _ (number : ℕ) (s : Session) (w : sub.Wish) where
   brought_differ true now ks h =
       let all = kept_for w.filter (map sub.kept_of ks) in
       let tabled : AllDiffer (map (λ (y : Kept RetainedMessage). number_of (sub.message_in y)) (map sub.kept_of ks)) =
-          subst AllDiffer (sym (mapped_twice (λ (y : Kept RetainedMessage). number_of (sub.message_in y)) sub.kept_of ks)) h in
+      subst AllDiffer (sym (mapped_twice (λ (y : Kept RetainedMessage). number_of (sub.message_in y)) sub.kept_of ks)) h in
       let matched : AllDiffer (map (λ (y : Kept RetainedMessage). number_of (sub.message_in y)) all) = differ_filtered (λ (y : Kept RetainedMessage). number_of (sub.message_in y)) _ (map sub.kept_of ks) tabled in
       let messages : AllDiffer (map number_of (map sub.message_in all)) = subst AllDiffer (sym (mapped_twice number_of sub.message_in all)) matched in
       brought_ids (filter (sub.is_brought now s w) (map sub.message_in all)) (differ_filtered number_of (sub.is_brought now s w) (map sub.message_in all) messages)
@@ -282,9 +287,10 @@ subscribe_absent : (n m number publication birth : ℕ) (ss : List Session) → 
     → AllByRecursion (IsAbsentIn (record { publication = publication; birth = birth; cause = Retained number })) ss
 subscribe_absent n m number publication birth [] less h = tt
 subscribe_absent n m number publication birth (s ∷ ss) less h = (
-    each_more (λ row. IsGivenCopy n m row.copy) (λ row. record { publication = publication; birth = birth; cause = Retained number } ≢ id_in row)
-    (λ row q e. absurd (clash row.copy.id.cause q.cause (ap (λ (i : CopyId). i.cause) e))) s.queue h.0.each,
-    subscribe_absent n m number publication birth ss less h.1)
+  each_more (λ row. IsGivenCopy n m row.copy) (λ row. record { publication = publication; birth = birth; cause = Retained number } ≢ id_in row)
+      (λ row q e. absurd (clash row.copy.id.cause q.cause (ap (λ (i : CopyId). i.cause) e))) s.queue h.0.each,
+  subscribe_absent n m number publication birth ss less h.1,
+)
   where
     clash : (c : Cause) → IsGivenCause m c → Retained number ≡ c → ⊥
     clash Direct q e = absurd cc
@@ -298,8 +304,11 @@ granted_new s w now r c t h publications subscribes absent =
     brought_each number s w (IsNewTo c) t now r.retained
     (each_more (λ k. IsUpTo r.publications k.publication) (λ k. IsNewTo c (sub.retained_copy_to s.birth number w k))
     (λ k q. let up = q.1 in (
-      (q.0, omega (arith, up, publications)), (omega arith, omega (arith, subscribes)), tt,
-      absent (sub.retained_copy s.birth number w k).id (subscribe_absent r.publications r.subscribes number k.publication s.birth r.sessions (omega arith) h.sessions))) r.retained h.retained)
+      (q.0, omega (arith, up, publications)),
+      (omega arith, omega (arith, subscribes)),
+      tt,
+      absent (sub.retained_copy s.birth number w k).id (subscribe_absent r.publications r.subscribes number k.publication s.birth r.sessions (omega arith) h.sessions),
+    )) r.retained h.retained)
 
 pub leads_grants : (env : Env) (w : sub.Wish) (s : Session) (b : Broker) → Keeps b → Led (sub.granted_filter env (sub.next_number b.records) s w (brought_to w s b) b).deeds b
 leads_grants env w s b k =

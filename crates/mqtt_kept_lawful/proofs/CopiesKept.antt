@@ -1,6 +1,6 @@
 -- Copies in queues have identities of their own, and are of groups that stand, deed by deed and over a step.
-use Rattle.std.proofs.Common.{◌≡◌, ℕ, suc, ◌<◌, ◌≤◌, Bool, true, false, cond, not, ◌||◌, ◌&&◌, List, [], ◌∷◌, ◌++◌, length, filter, map, Option, Some, None, nat_eq, nat_lt, refl, sym, ap, subst, ◌∙◌, inl, inr, arith}
-use Rattle.std.specs.Prelude.{⊤, ◌≢◌, flat_map, nat_le, option_map}
+use Rattle.std.proofs.Common.{◌≡◌, ℕ, ◌≤◌, Bool, true, false, not, ◌||◌, List, [], ◌∷◌, length, map, Option, Some, None, nat_eq, nat_lt, refl, sym, ap, subst, ◌∙◌, inl, inr, arith}
+use Rattle.std.specs.Prelude.{⊤, ◌≢◌, flat_map}
 use Rattle.std.specs.List.{AllByRecursion}
 use Rattle.std.proofs.lemmas.Bool.{cases_Bool}
 use Rattle.mqtt_base.specs.declared.limits.TheConstants.{QUEUE_LIMIT, RETAINED_LIMIT}
@@ -15,45 +15,30 @@ use Rattle.mqtt_lawful.specs.Lawful.{IsUpTo}
 use Rattle.mqtt_message.specs.Queue.{CopyRow}
 use Rattle.mqtt_message.specs.declared.message.MessageCopy.{MessageCopy}
 use Rattle.mqtt_message.specs.declared.message.RetainedMessage.{RetainedMessage}
-use Rattle.mqtt_message.specs.declared.message.Will.{Will}
 use Rattle.mqtt_records.specs.Records.{changed_all, kept_place}
 use Rattle.mqtt_records.specs.Session.{birth_of, copy_place, in_phase, with_copy, without_copy}
-use Rattle.mqtt_records.specs.declared.change.Change.{Change}
 use Rattle.mqtt_records.specs.declared.records.Records.{Records}
-use Rattle.mqtt_records.specs.declared.session.Columns.{Columns}
 use Rattle.mqtt_records.specs.declared.session.Session.{Session}
-use Rattle.mqtt_records.specs.declared.subscription.Subscription.{Subscription}
-use Rattle.mqtt_routes.specs.Acceptance.{Routed, routed}
-use Rattle.mqtt_routes.specs.Retained.{kept_for}
-use Rattle.mqtt_routes.specs.Subscriptions.{Subscriber}
-use Rattle.mqtt_routes.specs.declared.retained.Kept.{Kept}
 use Rattle.mqtt_rows.specs.Distinct.{AllDiffer}
-use Rattle.mqtt_rows.specs.Order.{IsAbove, IsAscending, change_row, has_row, insert_row, put_row, row_at}
+use Rattle.mqtt_rows.specs.Order.{change_row, has_row, insert_row, put_row, row_at}
 use Rattle.mqtt_topic.specs.Filters.{begins_share, group_of}
-use Rattle.mqtt_topic.specs.Names.{is_empty}
-use Rattle.mqtt_rules.specs.declared.Limits.{Limits}
-use Rattle.mqtt_rules.specs.Deeds.{Whose, whose, Message, Origin, Part, Resume, Close, SetExpiry, DropWill, Subscribe, Unsubscribe, Open, Release, Enter, Mark, Leave, Deed, Accept, Begin, Name, Count, At, Finish, Keep, Forget, RefuseWill, Link, On, Send, Gone, after, after_all, always, new_entry, offer, part_rows_of, rows_of, rows_of_all, series, stored_after}
-use Rattle.mqtt_rules.specs.Laws.{IsAmong, IsOrdered}
+use Rattle.mqtt_rules.specs.Deeds.{Whose, whose, Part, Resume, Close, SetExpiry, DropWill, Subscribe, Unsubscribe, Open, Release, Enter, Mark, Leave, Deed, Accept, Begin, Name, Count, At, Finish, Keep, Forget, RefuseWill, Link, On, Send, Gone, after, after_all, always, new_entry, offer, part_rows_of, rows_of}
+use Rattle.mqtt_rules.specs.Laws.{IsAmong}
 use Rattle.mqtt_rules.specs.Outbound.{enter_deeds, leave_deeds, queue_limits, room, since}
 use Rattle.mqtt_rules.specs.Packets.{publish_of}
-use Rattle.mqtt_rules.specs.Routing.{CopyTo, accepted_copies, accepted_if, answers, copies_to, deliver, deliver_by, finds_place, forgets, is_queued, is_queued_at, kept_message, next_publication, place_of_kept, publication_of, publish, retain_by, retained_of, routed_subscription, routing_of, subscriber_of, subscribers}
-use Rattle.mqtt_rules.specs.State.{Broker, Env, Line, MemberChoice, line_of, queue_on, session_at, stored}
-use Rattle.mqtt_rules.specs.Step.{Call, at_moment, deeds, env_of, opened, opening, opening_deeds, stepped, unopened, with_moment}
-use Rattle.mqtt_rules.specs.Subscribe as sub
-use Rattle.mqtt_rules.proofs.Acts.{brought_to}
-use Rattle.mqtt_rules.proofs.Copies.{AreNumbered, IsNumbered, Kinds, each_filter, each_map, each_more, kinds, kinds_at, routed_numbered}
-use Rattle.mqtt_rules.proofs.FlightRows.{found_key}
+use Rattle.mqtt_rules.specs.Routing.{CopyTo, deliver, deliver_by, is_queued}
+use Rattle.mqtt_rules.specs.State.{Broker, Env, Line, line_of, queue_on, session_at}
+use Rattle.mqtt_rules.proofs.Copies.{Kinds, each_filter, each_map, each_more, kinds_at}
 use Rattle.mqtt_rules.proofs.Goods.{AreGood, good_append, good_cond, good_flat, good_of_entry, good_with_session}
-use Rattle.mqtt_rules.proofs.Leads.{Leads, leads_append, leads_cond, leads_flat, leads_of_entry, leads_with_session}
+use Rattle.mqtt_rules.proofs.Leads.{Leads, leads_append}
 use Rattle.mqtt_rules.proofs.NumberCopies.{each_put, each_change}
 use Rattle.mqtt_rules.proofs.NumberFacts.{Counts, counts, counts_after, counts_deed}
 use Rattle.mqtt_rules.proofs.Ordered.{changed_all-ordered}
-use Rattle.mqtt_rules.proofs.OrderedActs.{IsPlain, IsPlainPart, Keeping, leads_all, leads_open}
+use Rattle.mqtt_rules.proofs.OrderedActs.{IsPlain, IsPlainPart}
 use Rattle.mqtt_rules.proofs.OrderedRoom.{at_retained, begin_retained}
 use Rattle.mqtt_kept_lawful.specs.Identities.{HasIdentities, HaveIdentities, IsGivenCause, IsGivenCopy}
 use Rattle.mqtt_kept_lawful.proofs.Differ.{differ_filtered, given_same}
-use Rattle.mqtt_kept_lawful.proofs.EachSession.{Makes, deed_each, deed_kept, part_made}
-use Rattle.mqtt_kept_lawful.proofs.Routed.{AreStanding, IsApart, IsCauseOf, IsGroups, copies_caused, copies_differ, id_to, ids_to, routed_apart}
+use Rattle.mqtt_kept_lawful.proofs.EachSession.{Makes, deed_each, part_made}
 
 -- ---- rows of which no two are equal in something
 

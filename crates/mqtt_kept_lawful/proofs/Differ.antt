@@ -1,8 +1,8 @@
 -- Lists in which no two are equal: parts of them, and what is put in or changed.
-use Rattle.std.proofs.Common.{◌≡◌, ℕ, ◌<◌, Bool, true, false, cond, not, ◌||◌, List, [], ◌∷◌, ◌++◌, ◌⊎◌, length, filter, map, Option, Some, None, nat_eq, nat_lt, refl, sym, ap, subst, ◌∙◌, inl, inr, arith}
-use Rattle.std.specs.Prelude.{◌≢◌, flat_map, filter_map}
+use Rattle.std.proofs.Common.{◌≡◌, ℕ, Bool, ◌||◌, List, [], ◌∷◌, ◌++◌, ◌⊎◌, length, filter, map, Some, nat_eq, nat_lt, refl, sym, ap, subst, inl, inr, arith}
+use Rattle.std.specs.Prelude.{◌≢◌, flat_map}
 use Rattle.std.specs.List.{AllByRecursion}
-use Rattle.std.proofs.lemmas.Bool.{cases_Bool, eqb-true}
+use Rattle.std.proofs.lemmas.Bool.{cases_Bool}
 use Rattle.mqtt_rows.specs.Distinct.{AllDiffer}
 use Rattle.mqtt_rows.specs.Order.{IsAbove, IsAscending, row_at, has_row, insert_row, put_row, change_row}
 use Rattle.mqtt_rules.specs.Laws.{IsAmong}
@@ -160,22 +160,22 @@ module _ {X Y : Type 0} (key : X → ℕ) (g : X → List Y) where
         let it : Some y ≡ Some x = rw here at there in
         let is : x ≡ y = cc in
         let apart : AreApart (g (f x)) (flat_map g ys) = each_more (IsOwn x (y ∷ ys)) (λ n. AllByRecursion (λ m. n ≢ m) (flat_map g ys))
-            (λ n o. elim o [
-              | inl among ↦ all_among (λ (i : Y). AllByRecursion (λ m. i ≢ m) (flat_map g ys)) n (g y) (differ_apart (g y) (flat_map g ys) h) (subst (λ (z : X). IsAmong n (g z)) is among)
-              | inr new ↦ each_last (λ m. n ≢ m) (g y) (flat_map g ys) new
-            ]) (g (f x)) own in
+        (λ n o. elim o [
+          | inl among ↦ all_among (λ (i : Y). AllByRecursion (λ m. i ≢ m) (flat_map g ys)) n (g y) (differ_apart (g y) (flat_map g ys) h) (subst (λ (z : X). IsAmong n (g z)) is among)
+          | inr new ↦ each_last (λ m. n ≢ m) (g y) (flat_map g ys) new
+        ]) (g (f x)) own in
         rw here (subst (λ (z : X). AllDiffer (g (f z) ++ flat_map g ys)) is (differ_join (g (f x)) (flat_map g ys) differ (differ_last (g y) (flat_map g ys) h) apart))
     | inr other ↦
         let found : row_at key k ys ≡ Some x = rw other at there in
         let old = differ_apart (g y) (flat_map g ys) h in
         let new : (i : Y) → IsAmong i (g y) → AllByRecursion (λ n. i ≢ n) (g (f x)) = λ i among.
-            each_more (IsOwn x (y ∷ ys)) (λ n. i ≢ n)
-            (λ n o. elim o [
-              | inl its ↦ all_among (λ m. i ≢ m) n (g x) (given_at (λ m. i ≢ m) k x ys found (all_among (λ j. AllByRecursion (λ m. j ≢ m) (flat_map g ys)) i (g y) old among)) its
-              | inr none ↦ λ e. all_among (λ m. n ≢ m) i (g y) (each_first (λ m. n ≢ m) (g y) (flat_map g ys) none) among (sym e)
-            ]) (g (f x)) own in
+        each_more (IsOwn x (y ∷ ys)) (λ n. i ≢ n)
+        (λ n o. elim o [
+          | inl its ↦ all_among (λ m. i ≢ m) n (g x) (given_at (λ m. i ≢ m) k x ys found (all_among (λ j. AllByRecursion (λ m. j ≢ m) (flat_map g ys)) i (g y) old among)) its
+          | inr none ↦ λ e. all_among (λ m. n ≢ m) i (g y) (each_first (λ m. n ≢ m) (g y) (flat_map g ys) none) among (sym e)
+        ]) (g (f x)) own in
         let apart : AreApart (g y) (flat_map g (change_row key k f ys)) = each_among (λ i. AllByRecursion (λ m. i ≢ m) (flat_map g (change_row key k f ys))) (g y)
-            (λ i among. given_changed (λ m. i ≢ m) k f x ys found (new i among) (all_among (λ j. AllByRecursion (λ m. j ≢ m) (flat_map g ys)) i (g y) old among)) in
+        (λ i among. given_changed (λ m. i ≢ m) k f x ys found (new i among) (all_among (λ j. AllByRecursion (λ m. j ≢ m) (flat_map g ys)) i (g y) old among)) in
         rw other (differ_join (g y) (flat_map g (change_row key k f ys)) (differ_first (g y) (flat_map g ys) h)
         (change_differs k f x ys found differ (each_more (IsOwn x (y ∷ ys)) (IsOwn x ys) (own_behind x y ys) (g (f x)) own) (differ_last (g y) (flat_map g ys) h)) apart)
   ]

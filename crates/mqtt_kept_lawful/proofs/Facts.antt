@@ -1,8 +1,7 @@
 -- What records that a broker has written have, part by part, and that such parts make them.
-use Rattle.std.proofs.Common.{◌≡◌, ℕ, suc, ◌<◌, ◌≤◌, Bool, true, false, cond, List, [], ◌∷◌, map, Option, Some, None, nat_eq, refl, sym, ap, subst, ◌∙◌, inl, inr, arith}
+use Rattle.std.proofs.Common.{◌≡◌, ℕ, suc, ◌<◌, ◌≤◌, true, List, [], ◌∷◌, map, Option, Some, None, refl, sym, ap, subst, ◌∙◌, inl, inr, arith}
 use Rattle.std.specs.Prelude.{◌≢◌, filter_map, option_map}
 use Rattle.std.specs.List.{AllByRecursion}
-use Rattle.std.proofs.lemmas.Bool.{cases_Bool}
 use Rattle.mqtt_base.specs.Values.{FitsText}
 use Rattle.mqtt_base.specs.declared.session.Cause.{Cause}
 use Rattle.mqtt_base.specs.declared.session.Cause.TheVariants.{Direct, Share, Retained}
@@ -10,17 +9,17 @@ use Rattle.mqtt_base.specs.declared.session.Phase.{Phase}
 use Rattle.mqtt_base.specs.declared.session.Phase.TheVariants.{Waiting, Sent, Released, Oversize}
 use Rattle.mqtt_base.specs.declared.session.Qos.{Qos}
 use Rattle.mqtt_base.specs.declared.session.Qos.TheVariants.{AtMostOnce, AtLeastOnce, ExactlyOnce}
-use Rattle.mqtt_flow.specs.Queue.{also, identifier_of as in_flight}
+use Rattle.mqtt_flow.specs.Queue.{identifier_of as in_flight}
 use Rattle.mqtt_lawful.specs.Lawful.{IsCause, IsLawful, IsLawfulCopy, IsLawfulQueue, IsLawfulRetained, IsLawfulSession, IsPhase, IsSubscription, AreSubscriptions, identifier_of, last_of}
 use Rattle.mqtt_message.specs.Queue.{CopyRow}
 use Rattle.mqtt_message.specs.declared.message.RetainedMessage.{RetainedMessage}
 use Rattle.mqtt_records.specs.Records.{IsNumber, kept_place, order_of}
-use Rattle.mqtt_records.specs.Session.{birth_of, copy_place, place_of}
+use Rattle.mqtt_records.specs.Session.{birth_of, copy_place}
 use Rattle.mqtt_records.specs.declared.records.Records.{Records}
 use Rattle.mqtt_records.specs.declared.session.Session.{Session}
 use Rattle.mqtt_records.specs.declared.subscription.Subscription.{Subscription}
 use Rattle.mqtt_rows.specs.Distinct.{AllDiffer}
-use Rattle.mqtt_rows.specs.Order.{IsAbove, IsAscending, IsBelow, row_at}
+use Rattle.mqtt_rows.specs.Order.{IsAscending, IsBelow, row_at}
 use Rattle.mqtt_rows.proofs.LookUps.{row_at-here}
 use Rattle.mqtt_rules.specs.Contents.{HasContentsOf, HasLawfulContentsOf, IsAskedFor, IsCopiedOf, IsPublishedOf, of_packets}
 use Rattle.mqtt_rules.specs.Flight.{HasDistinctIdentifiers, IsFlight, identifier_at, identifier_in}
@@ -211,8 +210,9 @@ module _ (r : Records) (w : IsWritten r) where
 unique_differ : {X N : Type 0} (key : X → ℕ) (name : X → N) (xs : List X) → IsAscending key xs → IsUnique (λ k. option_map name (row_at key k xs)) → AllDiffer (map name xs)
 unique_differ key name [] up h = tt
 unique_differ {X = X} {N = N} key name (x ∷ xs) up h = (
-    each_map (λ n. name x ≢ n) name xs (each_among (λ y. name x ≢ name y) xs (λ y among e. clash y among e)),
-    unique_differ key name xs up.1 (λ j k n one other. h j k n (further j n one) (further k n other)))
+  each_map (λ n. name x ≢ n) name xs (each_among (λ y. name x ≢ name y) xs (λ y among e. clash y among e)),
+  unique_differ key name xs up.1 (λ j k n one other. h j k n (further j n one) (further k n other)),
+)
   where
     here : option_map name (row_at key (key x) (x ∷ xs)) ≡ Some (name x)
     here = ap (option_map name) (row_at-here key x xs)

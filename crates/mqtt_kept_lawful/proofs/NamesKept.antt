@@ -1,6 +1,6 @@
 -- Client identifiers stay such as sessions may have, deed by deed and over a step.
-use Rattle.std.proofs.Common.{◌≡◌, ℕ, suc, ◌<◌, ◌≤◌, Bool, true, false, cond, not, ◌&&◌, List, [], ◌∷◌, ◌++◌, length, Option, Some, None, refl, sym, ap, subst, ◌∙◌, arith}
-use Rattle.std.specs.Prelude.{⊤, decimal, find, is_none, nat_eq, nat_lt, bytes_eq}
+use Rattle.std.proofs.Common.{◌≡◌, ℕ, suc, ◌≤◌, Bool, true, false, cond, ◌&&◌, List, [], ◌∷◌, ◌++◌, length, Option, Some, None, refl, sym, ap, ◌∙◌, arith}
+use Rattle.std.specs.Prelude.{⊤, decimal, is_none, nat_eq, nat_lt, bytes_eq}
 use Rattle.std.specs.List.{AllByRecursion, starts_with}
 use Rattle.std.proofs.lemmas.Bool.{ltb-false}
 use Rattle.std.proofs.lemmas.Fmt.{length-decimal-le}
@@ -14,15 +14,14 @@ use Rattle.mqtt_props.specs.Laws.{has}
 use Rattle.mqtt_props.specs.declared.table.PropName.TheVariants.{AuthenticationMethod}
 use Rattle.mqtt_records.specs.declared.change.Change.{Change}
 use Rattle.mqtt_records.specs.declared.records.Records.{Records}
-use Rattle.mqtt_records.specs.declared.session.Columns.{Columns}
 use Rattle.mqtt_records.specs.declared.session.Session.{Session}
 use Rattle.mqtt_records.specs.Session.{birth_of}
 use Rattle.mqtt_rules.specs.declared.Limits.{Limits}
 use Rattle.mqtt_rules.specs.Connect.{auto, has_bad_topic, largest_of, least_packet_size, refusal}
-use Rattle.mqtt_rules.specs.Deeds.{Whose, Part, Resume, Close, SetExpiry, DropWill, Subscribe, Unsubscribe, Open, Release, Enter, Mark, Leave, Deed, Accept, Begin, Name, Count, At, Finish, Keep, Forget, RefuseWill, Link, On, Send, Gone, after, after_all, rows_of_all, stored_after}
-use Rattle.mqtt_rules.specs.State.{Broker, Env, MemberChoice, session_at, session_named, stored}
+use Rattle.mqtt_rules.specs.Deeds.{Whose, Part, Resume, Close, SetExpiry, DropWill, Subscribe, Unsubscribe, Open, Release, Enter, Mark, Leave, Deed, Accept, Begin, Name, Count, At, Finish, Keep, Forget, RefuseWill, Link, On, Send, Gone, after, after_all, rows_of_all}
+use Rattle.mqtt_rules.specs.State.{Broker, Env, MemberChoice, session_named, stored}
 use Rattle.mqtt_rules.specs.Step.{Call, at_moment, deeds, env_of, opened, opening, stepped, unopened, with_moment}
-use Rattle.mqtt_rules.proofs.Acts.{About, Law, anyone, is_alone, leads_call, leads_opening}
+use Rattle.mqtt_rules.proofs.Acts.{About, Law, anyone, leads_call, leads_opening}
 use Rattle.mqtt_rules.proofs.ByDeeds.{DeedLaw, MarkLaw, by_deeds, by_deeds_shuts, turn_law}
 use Rattle.mqtt_rules.proofs.Copies.{each_more}
 use Rattle.mqtt_rules.proofs.FitLaw.{all_among}
@@ -196,9 +195,10 @@ admitted_name c b k e =
     let fails = third_fails (has AuthenticationMethod c.properties) (nat_lt (largest_of c) least_packet_size) (nat_lt CLIENT_LIMIT (length name))
     (starts_with nat_eq name auto && is_none (session_named name r))
     bad_authentication_method packet_too_large client_identifier_not_valid client_identifier_not_valid (cond (has_bad_topic c.will) (Some topic_name_invalid) None) e
-    in
-    ((λ rest is. given rest is (session_named name r) refl (ap (λ (t : Bool). t && is_none (session_named name r)) (sym (ap (λ (text : List ℕ). starts_with nat_eq text auto) is ∙ front_starts rest)) ∙ fails.1)),
-    ltb-false CLIENT_LIMIT (length name) fails.0)
+    in (
+      (λ rest is. given rest is (session_named name r) refl (ap (λ (t : Bool). t && is_none (session_named name r)) (sym (ap (λ (text : List ℕ). starts_with nat_eq text auto) is ∙ front_starts rest)) ∙ fails.1)),
+      ltb-false CLIENT_LIMIT (length name) fails.0,
+    )
   where
     given : (rest : List ℕ) → c.client_identifier ≡ auto ++ rest → (o : Option Session) → session_named c.client_identifier b.records ≡ o → is_none (session_named c.client_identifier b.records) ≡ false → IsNumeralUpTo b.records.autos rest
     given rest is None none isnt = let yes : true ≡ false = ap is_none (sym none) ∙ isnt in absurd cc

@@ -1,5 +1,5 @@
 -- Orders of release in a queue, after a change of it.
-use Rattle.std.proofs.Common.{◌≡◌, ℕ, suc, ◌<◌, ◌≤◌, Bool, true, false, not, ◌||◌, List, [], ◌∷◌, length, filter, map, nat_eq, nat_lt, refl, sym, ap, subst, ◌∙◌, inl, inr, arith}
+use Rattle.std.proofs.Common.{◌≡◌, ℕ, ◌<◌, ◌≤◌, Bool, ◌||◌, List, [], ◌∷◌, length, filter, map, nat_eq, nat_lt, refl, sym, ap, ◌∙◌, inl, inr, arith}
 use Rattle.std.specs.Prelude.{◌≢◌, Option, Some, None, filter_map, max}
 use Rattle.std.specs.List.{AllByRecursion}
 use Rattle.std.proofs.Math.Nat.{le-max_left, le-max_right}
@@ -11,7 +11,7 @@ use Rattle.mqtt_lawful.specs.Lawful.{order_in}
 use Rattle.mqtt_message.specs.Queue.{CopyRow}
 use Rattle.mqtt_records.specs.Session.{copy_place, in_phase}
 use Rattle.mqtt_rows.specs.Distinct.{AllDiffer}
-use Rattle.mqtt_rows.specs.Order.{has_row, insert_row, put_row, row_at, change_row}
+use Rattle.mqtt_rows.specs.Order.{has_row, insert_row, put_row, change_row}
 use Rattle.mqtt_rules.specs.State.{entry_on}
 use Rattle.mqtt_rules.proofs.Copies.{each_more}
 

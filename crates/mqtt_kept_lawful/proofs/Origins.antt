@@ -1,9 +1,9 @@
 -- What is opened and subscribed comes from a packet: identifiers from 1, and filters that fit a text; and no session begins without a name (MQTT 5.0, 2.2.1, 3.1.3.1, 3.8.3).
-use Rattle.std.proofs.Common.{◌≡◌, ℕ, suc, ◌≤◌, Bool, true, false, cond, not, ◌&&◌, ◌||◌, List, [], ◌∷◌, ◌++◌, filter, length, map, Option, Some, None, refl, sym, ap, subst, ◌∙◌, arith}
-use Rattle.std.specs.Prelude.{⊤, Err, Ok, find, flat_map, nat_eq, nat_le, nat_lt, option_map}
+use Rattle.std.proofs.Common.{◌≡◌, ℕ, suc, ◌≤◌, Bool, true, false, cond, not, ◌&&◌, ◌||◌, List, [], ◌∷◌, ◌++◌, filter, length, map, Option, Some, None, refl}
+use Rattle.std.specs.Prelude.{⊤, Err, Ok, find, flat_map, nat_le, nat_lt, option_map}
 use Rattle.std.specs.List.{AllByRecursion}
 use Rattle.std.proofs.lemmas.Bool.{ltb-true}
-use Rattle.mqtt_base.specs.Codes.{identifier_in_use, keep_alive_timeout, protocol_error, quota_exceeded, receive_maximum_exceeded, session_taken_over, success}
+use Rattle.mqtt_base.specs.Codes.{identifier_in_use, keep_alive_timeout, protocol_error, quota_exceeded, receive_maximum_exceeded, session_taken_over}
 use Rattle.mqtt_base.specs.Values.{FitsText}
 use Rattle.mqtt_base.specs.declared.limits.TheConstants.{SUBSCRIPTION_LIMIT}
 use Rattle.mqtt_base.specs.declared.session.Ending.TheVariants.{SessionEnded}
@@ -42,12 +42,12 @@ use Rattle.mqtt_topic.proofs.MatchLemmas.{and_left, and_right}
 use Rattle.mqtt_topic.specs.Filters.{is_filter}
 use Rattle.mqtt_topic.specs.Names.{is_empty}
 use Rattle.mqtt_rules.specs.Closing.{close, close_connected, close_session, drop_line, end_session, has_due_end, has_due_will, publish_or_refuse, publish_will, settle, will_deeds, will_message}
-use Rattle.mqtt_rules.specs.Connect.{begin_named, clear, connack_properties, connect_by, joins, largest_of, of_client, on_connect, prepare, refusal, refusal_size, refused, resume, take_over}
+use Rattle.mqtt_rules.specs.Connect.{begin_named, clear, connect_by, joins, largest_of, of_client, prepare, refusal, refusal_size, refused, resume, take_over}
 use Rattle.mqtt_rules.specs.Contents.{IsTaken, TakesLawful}
-use Rattle.mqtt_rules.specs.Deeds.{Whose, whose, Message, Origin, FromClient, FromWill, Part, Resume, Close, SetExpiry, DropWill, Subscribe, Unsubscribe, Open, Release, Enter, Mark, Leave, Hear, Deed, Accept, Begin, Name, Count, At, Finish, Keep, Forget, RefuseWill, Link, On, Send, Gone, Act, after_all, always, of_session, offer, only_if, series, with_line, with_session}
-use Rattle.mqtt_rules.specs.Inbound.{Meaning, Means, Wrong, answer, code_accepted, code_again, is_late_expiry, leave_by, meaning, message_of, new_expiry, on_answer, on_disconnect, on_publish, on_pubrel, opens, publish_by, publish_meant, publish_new, pump_deeds, pump_turns, release_by, sets_alias, standing, turned}
+use Rattle.mqtt_rules.specs.Deeds.{Whose, whose, Message, Origin, FromClient, FromWill, Close, DropWill, Subscribe, Open, Enter, Leave, Hear, Deed, Accept, Begin, Count, At, Finish, Forget, Link, On, Send, Gone, Act, after_all, always, of_session, offer, only_if, series, with_line, with_session}
+use Rattle.mqtt_rules.specs.Inbound.{Meaning, Means, Wrong, answer, code_accepted, code_again, leave_by, meaning, message_of, new_expiry, on_answer, opens, publish_by, publish_meant, publish_new, pump_deeds, pump_turns, release_by, sets_alias, standing}
 use Rattle.mqtt_rules.specs.Outbound.{all_turn_deeds, enter_deeds, leave_deeds, of_entry, queue_limits, since, turn_deeds}
-use Rattle.mqtt_rules.specs.Packets.{connack, disconnect, number_at, publish_of, puback, pubrec, suback, unsuback}
+use Rattle.mqtt_rules.specs.Packets.{connack, disconnect, number_at, publish_of, suback, unsuback}
 use Rattle.mqtt_rules.specs.Routing.{CopyTo, accepted_copies, deliver, deliver_by, forgets, is_queued, is_wanted, next_publication, publish, retain_by, retained_of}
 use Rattle.mqtt_rules.specs.State.{Broker, Env, Line, is_connected, line_at, line_of, queue_on, session_at, session_named}
 use Rattle.mqtt_rules.specs.Step.{Call, NewLine, Input, BadInput, Lost, Pump, Tick, can_link, close_if, deeds_of, first_packet, late_code, next_packet, on_fault, on_packet, on_pump, opening}
@@ -191,9 +191,10 @@ from_end s = from_append (map (λ e. At (whose s) (Leave e SessionEnded)) s.queu
 
 from_settle : (env : Env) (birth : ℕ) → FromAct (settle env birth)
 from_settle env birth b =
-    from_series (of_session birth (λ s. only_if (has_due_will b.now s) (publish_will env s)) ∷ of_session birth (λ s. only_if (has_due_end b.now s) (always (end_session s))) ∷ [])
-    (from_of_session birth (λ s. only_if (has_due_will b.now s) (publish_will env s)) (λ s. from_if (has_due_will b.now s) (publish_will env s) (from_publish_will env s)),
-    (from_of_session birth (λ s. only_if (has_due_end b.now s) (always (end_session s))) (λ s. from_if (has_due_end b.now s) (always (end_session s)) (λ c. from_end s)), tt)) b
+    from_series (of_session birth (λ s. only_if (has_due_will b.now s) (publish_will env s)) ∷ of_session birth (λ s. only_if (has_due_end b.now s) (always (end_session s))) ∷ []) (
+      from_of_session birth (λ s. only_if (has_due_will b.now s) (publish_will env s)) (λ s. from_if (has_due_will b.now s) (publish_will env s) (from_publish_will env s)),
+      (from_of_session birth (λ s. only_if (has_due_end b.now s) (always (end_session s))) (λ s. from_if (has_due_end b.now s) (always (end_session s)) (λ c. from_end s)), tt),
+    ) b
 
 from_close_session : (env : Env) (keeps_will : Bool) (s : Session) → FromAct (close_session env keeps_will s)
 from_close_session env keeps_will s b =
@@ -222,10 +223,13 @@ from_clear env s b =
 
 from_prepare : (env : Env) (c : Greeting) → FromAct (prepare env c)
 from_prepare env c b =
-    from_series (of_client c.client_identifier (take_over env) ∷ of_client c.client_identifier (λ s. settle env s.birth) ∷ only_if c.clean_start (of_client c.client_identifier (clear env)) ∷ [])
-    (from_of_client c.client_identifier (take_over env) (from_take_over env),
-    (from_of_client c.client_identifier (λ s. settle env s.birth) (λ s. from_settle env s.birth),
-    (from_if c.clean_start (of_client c.client_identifier (clear env)) (from_of_client c.client_identifier (clear env) (from_clear env)), tt))) b
+    from_series (of_client c.client_identifier (take_over env) ∷ of_client c.client_identifier (λ s. settle env s.birth) ∷ only_if c.clean_start (of_client c.client_identifier (clear env)) ∷ []) (
+      from_of_client c.client_identifier (take_over env) (from_take_over env),
+      (
+        from_of_client c.client_identifier (λ s. settle env s.birth) (λ s. from_settle env s.birth),
+        (from_if c.clean_start (of_client c.client_identifier (clear env)) (from_of_client c.client_identifier (clear env) (from_clear env)), tt),
+      ),
+    ) b
 
 from_refused : (l : Line) (c : Greeting) (code : ℕ) → From (refused l c code)
 from_refused l c code = from_append (cond (nat_lt (largest_of c) refusal_size) [] (Send l.number (connack false code []) ∷ [])) (Gone l.number ∷ [])
@@ -371,13 +375,20 @@ from_due env b =
     let kept = find (is_stale b.now) b.records.retained in
     let waiting = find (has_lapsed b.now) b.records.sessions in
     let acts : List (Option Act) = option_map (λ (l : Line). silence env l.session l) lines ∷ option_map (publish_will env) wills ∷ option_map (λ (s : Session). always (end_session s)) ends
-        ∷ option_map (λ (k : RetainedMessage). always (Forget k.place ∷ [])) kept ∷ option_map (λ (s : Session). always (lapse_deeds b.now s)) waiting ∷ [] in
+    ∷ option_map (λ (k : RetainedMessage). always (Forget k.place ∷ [])) kept ∷ option_map (λ (s : Session). always (lapse_deeds b.now s)) waiting ∷ [] in
     let all : AllByRecursion FromOption acts = (
-        from_mapped (λ (l : Line). silence env l.session l) lines (λ l. from_silence env l.session l),
-        (from_mapped (publish_will env) wills (from_publish_will env),
-        (from_mapped (λ (s : Session). always (end_session s)) ends (λ s c. from_end s),
-        (from_mapped (λ (k : RetainedMessage). always (Forget k.place ∷ [])) kept (λ k c. (tt, tt)),
-        (from_mapped (λ (s : Session). always (lapse_deeds b.now s)) waiting (λ s c. from_leaves s (lapses b.now s)), tt))))) in
+      from_mapped (λ (l : Line). silence env l.session l) lines (λ l. from_silence env l.session l),
+      (
+        from_mapped (publish_will env) wills (from_publish_will env),
+        (
+          from_mapped (λ (s : Session). always (end_session s)) ends (λ s c. from_end s),
+          (
+            from_mapped (λ (k : RetainedMessage). always (Forget k.place ∷ [])) kept (λ k c. (tt, tt)),
+            (from_mapped (λ (s : Session). always (lapse_deeds b.now s)) waiting (λ s c. from_leaves s (lapses b.now s)), tt),
+          ),
+        ),
+      ),
+    ) in
     from_first acts all
 
 from_tick : (o : Option Act) → FromOption o → FromAct (on_tick o)

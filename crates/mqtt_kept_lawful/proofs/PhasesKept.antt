@@ -1,5 +1,5 @@
 -- Phases of queued copies fit their QoS, and no two have the same order of release, deed by deed and over a step.
-use Rattle.std.proofs.Common.{◌≡◌, ℕ, zero, suc, ◌<◌, ◌≤◌, ◌+◌, Bool, true, false, not, List, [], ◌∷◌, ◌++◌, length, map, filter, nat_eq, refl, sym, ap, subst, ◌∙◌, inl, inr, arith}
+use Rattle.std.proofs.Common.{◌≡◌, ℕ, zero, suc, ◌<◌, ◌≤◌, Bool, true, false, not, List, [], ◌∷◌, length, map, nat_eq, refl, sym, ap, subst, ◌∙◌, inl, inr, arith}
 use Rattle.std.specs.Prelude.{⊤, Option, Some, None, Ok, Err, find}
 use Rattle.std.specs.List.{AllByRecursion}
 use Rattle.std.proofs.lemmas.Bool.{cases_Bool}
@@ -11,7 +11,6 @@ use Rattle.mqtt_base.specs.declared.session.Qos.TheVariants.{AtMostOnce, AtLeast
 use Rattle.mqtt_flow.specs.Pacing.{Pacing}
 use Rattle.mqtt_flow.specs.Queue.{greatest_order, holder, is_holder, next_order, order_of}
 use Rattle.mqtt_flow.specs.Outbound.{Answer, Verdict, pass, end, outgrow, send, resend, acknowledged, first_time, in_room, is_large, is_late, is_refusal, once_more, pace, paced, puback_at, puback_by, pubcomp_at, pubcomp_by, pubrec_at, pubrec_by, pump, pump_from, received, released_by, step_by, step_on, then_on, too_large, verdict, verdict_by}
-use Rattle.mqtt_flow.specs.Outbound as rules
 use Rattle.mqtt_flow.specs.declared.entry.Entry.{Entry as FlowEntry}
 use Rattle.mqtt_flow.specs.declared.entry.QueuedCopy.{QueuedCopy}
 use Rattle.mqtt_flow.specs.declared.entry.Turn.{Turn}
@@ -36,7 +35,7 @@ use Rattle.mqtt_rules.specs.Laws.{IsOrdered}
 use Rattle.mqtt_rules.specs.Outbound.{all_turn_deeds, of_entry, turn_deeds, way_of}
 use Rattle.mqtt_rules.specs.Packets.{publish_of}
 use Rattle.mqtt_rules.specs.Routing.{publish}
-use Rattle.mqtt_rules.specs.State.{Broker, Env, Line, MemberChoice, entry_on, queue_on, queued_copy, session_at, stored}
+use Rattle.mqtt_rules.specs.State.{Broker, Env, Line, MemberChoice, entry_on, queue_on, session_at, stored}
 use Rattle.mqtt_rules.specs.Step.{Call, at_moment, deeds, env_of, opened, opening, stepped, unopened, with_moment}
 use Rattle.mqtt_rules.specs.Subscribe.{next_number, subscription}
 use Rattle.mqtt_rules.proofs.Acts.{IsAnswer, Law, anyone, call_of_anyone, finds_anyone, is_alone, leads_call, leads_opening}
@@ -386,9 +385,9 @@ same_copies_marked place phase queue first same other e there = elim (cases_Bool
     marked here None was = same other e (sym (ap (row_at copy_place other) (none_changed queue was)) ∙ there)
     marked here (Some x) was =
         let at : row_at copy_place other (change_row copy_place other (in_phase phase) queue) ≡ Some (in_phase phase x) =
-            change_row-here copy_place other (in_phase phase) x queue (λ y. refl) (subst (λ (n : ℕ). row_at copy_place n queue ≡ Some x) (equal here) was) in
+        change_row-here copy_place other (in_phase phase) x queue (λ y. refl) (subst (λ (n : ℕ). row_at copy_place n queue ≡ Some x) (equal here) was) in
         let at_e : row_at copy_place other (change_row copy_place other (in_phase phase) queue) ≡ Some e =
-            subst (λ (n : ℕ). row_at copy_place other (change_row copy_place n (in_phase phase) queue) ≡ Some e) (equal here) there in
+        subst (λ (n : ℕ). row_at copy_place other (change_row copy_place n (in_phase phase) queue) ≡ Some e) (equal here) there in
         let both : Some (in_phase phase x) ≡ Some e = sym at ∙ at_e in
         let is : in_phase phase x ≡ e = cc in
         let from = same other x (subst (λ (n : ℕ). row_at copy_place n queue ≡ Some x) (equal here) was) in
@@ -524,17 +523,19 @@ walks_first went s b there h = record { session = s; there = there; copies = λ 
 
 pump_kept : (l : Line) (s : Session) (b : Broker) → session_at s.birth b.records ≡ Some s → Kept b → Kept (after_all (pump_deeds l b.now s) b)
 pump_kept l s b there h =
-    let its = all_at birth_of HasPhases s.birth s b.records.sessions h.1 there in
-    (ordered_all (pump_deeds l b.now s) b h.0,
-    turns_walk b.now l.number s (pump (way_of l b.now) (queue_on l.went s)) (greatest_order (queue_on l.went s)) b
-    (pump_turns_good (way_of l b.now) l.went s.queue (up_at s b there h) its.each) (walks_first l.went s b there h))
+    let its = all_at birth_of HasPhases s.birth s b.records.sessions h.1 there in (
+      ordered_all (pump_deeds l b.now s) b h.0,
+      turns_walk b.now l.number s (pump (way_of l b.now) (queue_on l.went s)) (greatest_order (queue_on l.went s)) b
+          (pump_turns_good (way_of l b.now) l.went s.queue (up_at s b there h) its.each) (walks_first l.went s b there h),
+    )
 
 turn_kept : (a : Answer) (t : Turn) (l : Line) (s : Session) (b : Broker) → session_at s.birth b.records ≡ Some s → IsAnswer a l s → a ≡ Ok (Some t) → Kept b → Kept (after_all (turn_deeds b.now l.number s t) b)
 turn_kept a t l s b there is e h =
-    let its = all_at birth_of HasPhases s.birth s b.records.sessions h.1 there in
-    (ordered_all (turn_deeds b.now l.number s t) b h.0,
-    one_walks b.now l.number s t (greatest_order (queue_on l.went s)) b
-    (subst (GoodAnswer l.went s.queue) e (answer_good a l s (up_at s b there h) its.each is)) (walks_first l.went s b there h))
+    let its = all_at birth_of HasPhases s.birth s b.records.sessions h.1 there in (
+      ordered_all (turn_deeds b.now l.number s t) b h.0,
+      one_walks b.now l.number s t (greatest_order (queue_on l.went s)) b
+          (subst (GoodAnswer l.went s.queue) e (answer_good a l s (up_at s b there h) its.each is)) (walks_first l.went s b there h),
+    )
 
 turns_kept : TurnLaw anyone Kept (λ d b. ⊤)
 turns_kept = record {

@@ -1,5 +1,5 @@
 -- No two subscriptions of any sessions have the same place, deed by deed and over a step.
-use Rattle.std.proofs.Common.{◌≡◌, ℕ, suc, ◌<◌, ◌≤◌, Bool, true, false, cond, not, List, [], ◌∷◌, ◌⊎◌, Option, Some, None, nat_eq, bytes_eq, refl, sym, ap, subst, ◌∙◌, inl, inr, arith}
+use Rattle.std.proofs.Common.{◌≡◌, ℕ, suc, ◌≤◌, Bool, true, false, cond, not, List, [], ◌∷◌, Option, Some, None, nat_eq, bytes_eq, refl, sym, ap, subst, ◌∙◌, inl, inr, arith}
 use Rattle.std.specs.Prelude.{⊤, ◌≢◌, filter, find, flat_map, map}
 use Rattle.std.specs.List.{AllByRecursion}
 use Rattle.mqtt_base.specs.declared.limits.TheConstants.{SESSION_LIMIT, SUBSCRIPTION_LIMIT}
@@ -13,7 +13,7 @@ use Rattle.mqtt_records.specs.declared.subscription.Subscription.{Subscription}
 use Rattle.mqtt_records.specs.Records.{changed, changed_all, in_session, nothing, put_session}
 use Rattle.mqtt_records.specs.Session.{birth_of, columns_of, place_of, fresh, without_filter, with_columns, with_copy, with_open, with_phase, with_subscription, with_will, without_copy, without_open, without_subscription}
 use Rattle.mqtt_rows.specs.Distinct.{AllDiffer}
-use Rattle.mqtt_rows.specs.Order.{IsAscending, change_row, has_row, put_row, row_at}
+use Rattle.mqtt_rows.specs.Order.{IsAscending, change_row, has_row, put_row}
 use Rattle.mqtt_rows.proofs.OrderLemmas.{put-ascending, filter-ascending}
 use Rattle.mqtt_rules.specs.declared.Limits.{Limits}
 use Rattle.mqtt_rules.specs.Deeds.{Whose, Part, Resume, Close, SetExpiry, DropWill, Subscribe, Unsubscribe, Open, Release, Enter, Mark, Leave, Deed, Accept, Begin, Name, Count, At, Finish, Keep, Forget, RefuseWill, Link, On, Send, Gone, after, after_all, new_entry, part_rows, part_rows_of, rows_of, rows_of_all, will_row}
@@ -30,7 +30,7 @@ use Rattle.mqtt_rules.proofs.NumberCopies.{each_put}
 use Rattle.mqtt_rules.proofs.NumberFacts.{Counts, counts, counts_after, counts_deed}
 use Rattle.mqtt_rules.proofs.Ordered.{changed_all-ordered}
 use Rattle.mqtt_kept_lawful.specs.Places.{HasPlacesUpTo, HavePlacesApart, places_in}
-use Rattle.mqtt_kept_lawful.proofs.Differ.{IsOwn, ascending_differ, change_differs, each_given, each_last, filter_differs, given_same, put_differs}
+use Rattle.mqtt_kept_lawful.proofs.Differ.{IsOwn, ascending_differ, change_differs, each_given, filter_differs, given_same, put_differs}
 use Rattle.mqtt_kept_lawful.proofs.EachSession.{Makes, deed_each, part_made}
 
 abbrev Apart : List Session → Type 0
@@ -248,11 +248,13 @@ granted_own r text s (Some x) h there is =
 granted_brings : (env : Env) (w : sub.Wish) (s : Session) (b : Broker) → Keeps b → IsGranted env w s b
     → Brings (At (record { birth = s.birth; client = s.client }) (Subscribe (sub.subscription (sub.next_number b.records) s w))) (after (Count (sub.next_number b.records)) b)
 granted_brings env w s b h granted =
-    let own = granted_own b.records w.filter s (find (sub.is_to w.filter) s.subscriptions) h granted.session refl in
-    ((λ t there.
-    let same : Some s ≡ Some t = sym granted.session ∙ there in
-    let is : s ≡ t = cc in
-    subst (λ (u : Session). IsOwnPlace (sub.subscription (sub.next_number b.records) s w).place u b.records) is own.0), own.1)
+    let own = granted_own b.records w.filter s (find (sub.is_to w.filter) s.subscriptions) h granted.session refl in (
+      (λ t there.
+          let same : Some s ≡ Some t = sym granted.session ∙ there in
+          let is : s ≡ t = cc in
+          subst (λ (u : Session). IsOwnPlace (sub.subscription (sub.next_number b.records) s w).place u b.records) is own.0),
+      own.1,
+    )
 
 places_law : (env : Env) → DeedLaw env anyone Keeps Brings
 places_law env = record {

@@ -1,5 +1,5 @@
 -- The copies of a publication: one direct copy for a session at most, and one for a group, each of another group (MQTT 5.0, 3.3.4, 4.8.2).
-use Rattle.std.proofs.Common.{◌≡◌, ◌≢◌, ℕ, zero, suc, ◌<◌, Bool, true, false, cond, ◌&&◌, ◌||◌, List, [], ◌∷◌, ◌++◌, ◌⊎◌, filter, map, Option, Some, None, nat_lt, refl, sym, ap, subst, ◌∙◌, arith, inl, inr, append-nil}
+use Rattle.std.proofs.Common.{◌≡◌, ◌≢◌, ℕ, ◌<◌, Bool, true, false, cond, ◌&&◌, List, [], ◌∷◌, ◌++◌, map, Option, Some, None, nat_lt, refl, sym, ap, subst, ◌∙◌, arith, inl, inr, append-nil}
 use Rattle.std.specs.Prelude.{bytes_eq, flat_map, option_map}
 use Rattle.std.specs.List.{AllByRecursion, list_any, list_all}
 use Rattle.std.specs.Option.{option_and_then}
@@ -19,7 +19,7 @@ use Rattle.mqtt_rules.specs.Deeds.{Message}
 use Rattle.mqtt_rules.specs.Routing.{CopyTo, copy_to, served_copies_to, copies_to}
 use Rattle.mqtt_rules.proofs.Copies.{each_append, each_map, each_more}
 use Rattle.mqtt_topic.proofs.MatchLemmas.{and_left}
-use Rattle.mqtt_kept_lawful.proofs.Differ.{AreApart, differ_join, each_first, each_last}
+use Rattle.mqtt_kept_lawful.proofs.Differ.{AreApart, differ_join}
 use Rattle.mqtt_kept_lawful.proofs.Shares.{same_group}
 
 -- ---- direct copies
@@ -214,8 +214,11 @@ module _ (number now : ℕ) (m : Message) where
 
   one_served : (s : Served) (o : Option Copy) (rest : List CopyTo) → AllByRecursion (λ d. Share s.group ≢ d.copy.id.cause) rest → AllDiffer (ids_to rest) → AllDiffer (ids_to (map (copy_to number now m (Share s.group)) (copies_in o) ++ rest))
   one_served s None rest apart h = h
-  one_served s (Some c) rest apart h = (each_map (λ i. (copy_to number now m (Share s.group) c).copy.id ≢ i) id_to rest
-      (each_more (λ d. Share s.group ≢ d.copy.id.cause) (λ d. (copy_to number now m (Share s.group) c).copy.id ≢ d.copy.id) (λ d differ e. differ (ap (λ (i : CopyId). i.cause) e)) rest apart), h)
+  one_served s (Some c) rest apart h = (
+    each_map (λ i. (copy_to number now m (Share s.group) c).copy.id ≢ i) id_to rest
+        (each_more (λ d. Share s.group ≢ d.copy.id.cause) (λ d. (copy_to number now m (Share s.group) c).copy.id ≢ d.copy.id) (λ d differ e. differ (ap (λ (i : CopyId). i.cause) e)) rest apart),
+    h,
+  )
 
   served_differ : (ss : List Served) → AllDiffer (groups_in ss) → AllDiffer (ids_to (served_to ss))
   served_differ [] h = tt
@@ -229,8 +232,11 @@ module _ (number now : ℕ) (m : Message) where
 
   direct_beside : (cs : List Copy) (ds : List CopyTo) → AllByRecursion (λ d. Direct ≢ d.copy.id.cause) ds → AreApart (ids_to (map (copy_to number now m Direct) cs)) (ids_to ds)
   direct_beside [] ds h = tt
-  direct_beside (c ∷ cs) ds h = (each_map (λ i. (copy_to number now m Direct c).copy.id ≢ i) id_to ds
-      (each_more (λ d. Direct ≢ d.copy.id.cause) (λ d. (copy_to number now m Direct c).copy.id ≢ d.copy.id) (λ d differ e. differ (ap (λ (i : CopyId). i.cause) e)) ds h), direct_beside cs ds h)
+  direct_beside (c ∷ cs) ds h = (
+    each_map (λ i. (copy_to number now m Direct c).copy.id ≢ i) id_to ds
+        (each_more (λ d. Direct ≢ d.copy.id.cause) (λ d. (copy_to number now m Direct c).copy.id ≢ d.copy.id) (λ d differ e. differ (ap (λ (i : CopyId). i.cause) e)) ds h),
+    direct_beside cs ds h,
+  )
 
   no_group : (gs : List (List ℕ)) → AllByRecursion (λ g. Direct ≢ Share g) gs
   no_group [] = tt

@@ -3,7 +3,7 @@ use Rattle.std.proofs.Common.{◌≡◌, ℕ, suc, ◌+◌, Bool, true, false, c
 use Rattle.std.specs.List.{after_first, onto_first, prefix_len}
 use Rattle.std.proofs.lemmas.Bool.{eqb-true}
 use Rattle.std.proofs.lemmas.Slice.Eq.{bytes_eq-Decides}
-use Rattle.mqtt_topic.specs.Levels.{slash, is_slash, levels, is_none_left}
+use Rattle.mqtt_topic.specs.Levels.{slash, is_slash, levels}
 use Rattle.mqtt_topic.specs.Filters.{share, begin_share, begins_share, group_of}
 use Rattle.mqtt_topic.proofs.MatchLemmas.{and_left, and_right}
 
@@ -48,4 +48,3 @@ share_whole text e = by (levels text) refl e
 
 pub same_group : (x y : List ℕ) → begins_share x ≡ true → begins_share y ≡ true → group_of x ≡ group_of y → x ≡ y
 same_group x y p q same = share_whole x p ∙ ap (λ (g : List ℕ). share ++ slash ∷ g) same ∙ sym (share_whole y q)
-

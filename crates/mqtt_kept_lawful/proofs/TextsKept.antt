@@ -1,5 +1,5 @@
 -- Names, open identifiers, filters and groups stay such as packets carry, deed by deed and over a step.
-use Rattle.std.proofs.Common.{◌≡◌, ℕ, suc, ◌≤◌, Bool, true, false, not, ◌&&◌, List, [], ◌∷◌, ◌++◌, length, map, Option, Some, None, nat_eq, bytes_eq, refl, sym, ap, subst, ◌∙◌, arith}
+use Rattle.std.proofs.Common.{◌≡◌, ℕ, ◌≤◌, true, false, not, List, [], ◌∷◌, length, nat_eq, bytes_eq, sym, subst, arith}
 use Rattle.std.specs.Prelude.{⊤, flat_map}
 use Rattle.std.specs.List.{AllByRecursion}
 use Rattle.mqtt_base.specs.Values.{FitsText}
@@ -7,21 +7,17 @@ use Rattle.mqtt_base.specs.declared.limits.TheConstants.{OPEN_LIMIT, QUEUE_LIMIT
 use Rattle.mqtt_base.specs.declared.session.Cause.{Cause}
 use Rattle.mqtt_base.specs.declared.session.Cause.TheVariants.{Direct, Share, Retained}
 use Rattle.mqtt_lawful.specs.Lawful.{IsGroup}
-use Rattle.mqtt_message.specs.Queue.{CopyRow}
-use Rattle.mqtt_message.specs.declared.message.MessageCopy.{MessageCopy}
 use Rattle.mqtt_records.specs.Session.{birth_of, copy_place, in_phase, number_of, place_of, without_filter}
 use Rattle.mqtt_records.specs.declared.change.Change.{Change}
 use Rattle.mqtt_records.specs.declared.records.Records.{Records}
 use Rattle.mqtt_records.specs.declared.session.Session.{Session}
 use Rattle.mqtt_records.specs.declared.subscription.Subscription.{Subscription}
-use Rattle.mqtt_topic.specs.Filters.{begins_share, group_of, is_filter, is_shared_filter, share}
-use Rattle.mqtt_topic.specs.Levels.{slash}
+use Rattle.mqtt_topic.specs.Filters.{begins_share, group_of, is_filter, is_shared_filter}
 use Rattle.mqtt_topic.specs.Names.{is_empty}
 use Rattle.mqtt_rules.specs.declared.Limits.{Limits}
 use Rattle.mqtt_rules.specs.Contents.{TakesLawful}
 use Rattle.mqtt_rules.specs.Deeds.{Whose, Part, Resume, Close, SetExpiry, DropWill, Subscribe, Unsubscribe, Open, Release, Enter, Mark, Leave, Deed, Accept, Begin, Name, Count, At, Finish, Keep, Forget, RefuseWill, Link, On, Send, Gone, after, after_all, new_entry, rows_of_all}
-use Rattle.mqtt_rules.specs.Laws.{IsAmong}
-use Rattle.mqtt_rules.specs.State.{Broker, MemberChoice, session_at, stored}
+use Rattle.mqtt_rules.specs.State.{Broker, MemberChoice, stored}
 use Rattle.mqtt_rules.specs.Step.{Call, at_moment, deeds, env_of, opened, opening, stepped, unopened, with_moment}
 use Rattle.mqtt_rules.proofs.Copies.{each_filter, each_map, each_more}
 use Rattle.mqtt_rules.proofs.FitLaw.{all_among}

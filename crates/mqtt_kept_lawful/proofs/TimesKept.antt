@@ -1,6 +1,6 @@
 -- Numbers from 1 and moments that have been, deed by deed, and over a step.
-use Rattle.std.proofs.Common.{◌≡◌, ℕ, suc, ◌≤◌, ◌++◌, Bool, true, false, cond, not, List, [], ◌∷◌, Option, Some, None, nat_eq, bytes_eq, refl, sym, ap, subst, ◌∙◌, inl, inr, arith}
-use Rattle.std.specs.Prelude.{⊤, find, map, filter}
+use Rattle.std.proofs.Common.{◌≡◌, ℕ, ◌≤◌, true, not, List, [], ◌∷◌, Option, Some, None, nat_eq, bytes_eq, refl, subst, inl, inr, arith}
+use Rattle.std.specs.Prelude.{⊤, find, filter}
 use Rattle.std.specs.List.{AllByRecursion}
 use Rattle.std.proofs.Math.Nat.{le-max_left, le-min}
 use Rattle.mqtt_base.specs.declared.limits.TheConstants.{LAST_NUMBER, QUEUE_LIMIT, SUBSCRIPTION_LIMIT}
@@ -10,17 +10,15 @@ use Rattle.mqtt_message.specs.declared.message.RetainedMessage.{RetainedMessage}
 use Rattle.mqtt_message.specs.Queue.{CopyRow}
 use Rattle.mqtt_records.specs.declared.change.Change.{Change}
 use Rattle.mqtt_records.specs.declared.records.Records.{Records}
-use Rattle.mqtt_records.specs.declared.session.Columns.{Columns}
 use Rattle.mqtt_records.specs.declared.session.Session.{Session}
 use Rattle.mqtt_records.specs.declared.subscription.Subscription.{Subscription}
-use Rattle.mqtt_records.specs.Records.{changed_all, kept_place, nothing, IsNumber}
+use Rattle.mqtt_records.specs.Records.{changed_all, IsNumber}
 use Rattle.mqtt_records.specs.Session.{birth_of, place_of, copy_place, without_filter, in_phase}
-use Rattle.mqtt_routes.specs.Intended.{greatest}
 use Rattle.mqtt_rules.specs.declared.Limits.{Limits}
-use Rattle.mqtt_rules.specs.Deeds.{Whose, Part, Resume, Close, SetExpiry, DropWill, Subscribe, Unsubscribe, Open, Release, Enter, Mark, Leave, Deed, Accept, Begin, Name, Count, At, Finish, Keep, Forget, RefuseWill, Link, On, Send, Gone, Message, after, after_all, rows_of_all, new_entry}
+use Rattle.mqtt_rules.specs.Deeds.{Whose, Part, Resume, Close, SetExpiry, DropWill, Subscribe, Unsubscribe, Open, Release, Enter, Mark, Leave, Deed, Accept, Begin, Name, Count, At, Finish, Keep, Forget, RefuseWill, Link, On, Send, Gone, after, after_all, rows_of_all, new_entry}
 use Rattle.mqtt_rules.specs.Numbers.{IsTimed}
-use Rattle.mqtt_rules.specs.Routing.{kept_message, place_of_kept, retained_of}
-use Rattle.mqtt_rules.specs.State.{Broker, Env, MemberChoice, capped, next_of, session_at, stored}
+use Rattle.mqtt_rules.specs.Routing.{place_of_kept, retained_of}
+use Rattle.mqtt_rules.specs.State.{Broker, Env, MemberChoice, capped, stored}
 use Rattle.mqtt_rules.specs.Step.{Call, at_moment, deeds, done, env_of, opened, opening, stepped, unopened, with_moment}
 use Rattle.mqtt_rules.specs.Subscribe as sub
 use Rattle.mqtt_rules.proofs.Acts.{anyone, finds_anyone, is_alone, IsGranted}
@@ -30,10 +28,9 @@ use Rattle.mqtt_rules.proofs.FitLaw.{all_among}
 use Rattle.mqtt_rules.proofs.FlightRows.{all_at}
 use Rattle.mqtt_rules.proofs.Leads.{found_among}
 use Rattle.mqtt_rules.proofs.NumberCopies.{each_put, each_change}
-use Rattle.mqtt_rules.proofs.NumberFacts.{moment_stays}
-use Rattle.mqtt_rules.proofs.StoredLaw.{now_stays, stored_after_all}
+use Rattle.mqtt_rules.proofs.StoredLaw.{stored_after_all}
 use Rattle.mqtt_kept_lawful.specs.Times.{AreTimely, IsTimely, IsTimelyCopy, IsTimelyKept}
-use Rattle.mqtt_kept_lawful.proofs.EachSession.{Begins, Keeps, Makes, deed_each, deed_kept, part_made}
+use Rattle.mqtt_kept_lawful.proofs.EachSession.{Keeps, Makes, deed_each, deed_kept, part_made}
 
 -- ---- what a deed brings
 

@@ -1,5 +1,5 @@
 -- Client identifiers of sessions (MQTT 5.0, 3.1.3.1).
-use Rattle.std.specs.Prelude.{ℕ, ◌≤◌, length}
+use Rattle.std.specs.Prelude.{◌≤◌, length}
 use Rattle.std.specs.List.{AllByRecursion}
 use Rattle.mqtt_base.specs.declared.limits.TheConstants.{CLIENT_LIMIT, LAST_NUMBER}
 use Rattle.mqtt_lawful.specs.Lawful.{IsAssigned}

@@ -1,5 +1,5 @@
 -- Phases of queued copies by their QoS, and orders of release (MQTT 5.0, 2.2.1, 4.3, 4.6).
-use Rattle.std.specs.Prelude.{ℕ, ◌≤◌, filter_map}
+use Rattle.std.specs.Prelude.{◌≤◌, filter_map}
 use Rattle.std.specs.List.{AllByRecursion}
 use Rattle.mqtt_base.specs.declared.session.Phase.{Phase}
 use Rattle.mqtt_base.specs.declared.session.Phase.TheVariants.{Waiting, Sent, Released, Oversize}

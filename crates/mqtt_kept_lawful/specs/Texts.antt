@@ -1,5 +1,5 @@
 -- What comes in packets and stays: names, open identifiers, filters, and the groups of copies (MQTT 5.0, 2.2.1, 3.1.3.1, 4.8.2).
-use Rattle.std.specs.Prelude.{ℕ, ◌≤◌, length, IsTrue}
+use Rattle.std.specs.Prelude.{◌≤◌, length, IsTrue}
 use Rattle.std.specs.List.{AllByRecursion}
 use Rattle.mqtt_base.specs.Values.{FitsText}
 use Rattle.mqtt_base.specs.declared.session.Cause.{Cause}

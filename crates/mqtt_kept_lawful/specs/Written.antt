@@ -1,5 +1,5 @@
 -- What a broker has written: lawful records, and what lawful ones need not have (MQTT 5.0, 4.1).
-use Rattle.std.specs.Prelude.{◌≡◌, ℕ, false, List, [], ◌∷◌, map}
+use Rattle.std.specs.Prelude.{◌≡◌, false, List, [], ◌∷◌, map}
 use Rattle.std.specs.List.{AllByRecursion}
 use Rattle.mqtt_base.specs.Values.{FitsText}
 use Rattle.mqtt_lawful.specs.Lawful.{IsLawful}
