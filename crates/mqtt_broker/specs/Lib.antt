@@ -1,0 +1,4 @@
+pub mod Serving
+pub mod Piece
+pub mod Asking
+pub mod Cut
