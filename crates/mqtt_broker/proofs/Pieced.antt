@@ -16,9 +16,9 @@ use Rattle.mqtt_rules.proofs.Acts.{found_number}
 use Rattle.mqtt_tables.specs.declared.call.EngineError.{EngineError}
 use Rattle.mqtt_tables.specs.declared.call.EngineError.TheVariants.{Memory, Stopped, Spent}
 use Rattle.mqtt_framing.specs.Framers.{HeldLine, changed_at, framing_at, given_back, line_of, taken_of}
-use Rattle.mqtt_engine.specs.declared.outcome.Outcome.{Outcome}
-use Rattle.mqtt_engine.specs.Calling.{Called, Tells}
-use Rattle.mqtt_engine.specs.Running.{Running}
+use Rattle.mqtt_opening.specs.Outcome.{Outcome}
+use Rattle.mqtt_opening.specs.Calling.{Called, Tells}
+use Rattle.mqtt_opening.specs.Running.{Running}
 use Rattle.mqtt_broker.specs.Asking.{CalledIf, Rested}
 use Rattle.mqtt_broker.specs.Piece.{IsLeftByAny, IsPieceAnswered, IsSpentBy, PieceCalled}
 use Rattle.mqtt_broker.specs.Serving.{IsOfLines, serving, without_closed}

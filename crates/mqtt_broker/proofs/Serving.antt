@@ -9,10 +9,10 @@ use Rattle.mqtt_rules.specs.Step.{Call, at_moment, nothing_told}
 use Rattle.mqtt_tables.specs.declared.call.EngineError.{EngineError}
 use Rattle.mqtt_tables.specs.declared.call.EngineError.TheVariants.{Memory, Stopped, Spent}
 use Rattle.mqtt_framing.specs.Framers.{HeldLine, line_of}
-use Rattle.mqtt_engine.specs.declared.outcome.Outcome.{Outcome}
-use Rattle.mqtt_engine.specs.Calling.{Called, IsOn, Tells}
-use Rattle.mqtt_engine.specs.Running.{Running}
-use Rattle.mqtt_engine.proofs.Linked.{passed_over}
+use Rattle.mqtt_opening.specs.Outcome.{Outcome}
+use Rattle.mqtt_opening.specs.Calling.{Called, IsOn, Tells}
+use Rattle.mqtt_opening.specs.Running.{Running}
+use Rattle.mqtt_opening.proofs.Linked.{passed_over}
 use Rattle.mqtt_broker.specs.Serving.{IsOfLines, Served, Serving, serving, without_closed}
 use Rattle.mqtt_broker.proofs.Framings.{none_ended}
 use Rattle.mqtt_broker.proofs.Left.{is_linked, of_lines_moment, of_lines_step}

@@ -4,9 +4,9 @@ use Rattle.mqtt_records.specs.declared.keep.Keep.{Ghosts}
 use Rattle.mqtt_rules.specs.Step.{Call, at_moment, nothing_told}
 use Rattle.mqtt_tables.specs.declared.call.EngineError.{EngineError}
 use Rattle.mqtt_tables.specs.declared.call.EngineError.TheVariants.{Memory}
-use Rattle.mqtt_engine.specs.declared.outcome.Outcome.{Outcome}
-use Rattle.mqtt_engine.specs.Calling.{Called, Tells}
-use Rattle.mqtt_engine.specs.Running.{Running}
+use Rattle.mqtt_opening.specs.Outcome.{Outcome}
+use Rattle.mqtt_opening.specs.Calling.{Called, Tells}
+use Rattle.mqtt_opening.specs.Running.{Running}
 
 -- nothing came about but that the moment is the greatest handed in; or, for want of memory, not even that
 pub record Rested {K : Type 0} (now : ℕ) (old : Running K) (result : Result Outcome EngineError) (new : Running K) : Type 0 where

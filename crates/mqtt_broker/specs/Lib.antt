@@ -2,3 +2,4 @@ pub mod Serving
 pub mod Piece
 pub mod Asking
 pub mod Cut
+pub mod Opening

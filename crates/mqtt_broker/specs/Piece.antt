@@ -10,8 +10,8 @@ use Rattle.mqtt_rules.specs.Step.{Call, SpentStep}
 use Rattle.mqtt_framing.specs.Framers.{changed_at, framing_at}
 use Rattle.mqtt_tables.specs.declared.call.EngineError.{EngineError}
 use Rattle.mqtt_tables.specs.declared.call.EngineError.TheVariants.{Memory, Stopped, Spent}
-use Rattle.mqtt_engine.specs.declared.outcome.Outcome.{Outcome}
-use Rattle.mqtt_engine.specs.Calling.{IsLeftBy, Tells}
+use Rattle.mqtt_opening.specs.Outcome.{Outcome}
+use Rattle.mqtt_opening.specs.Calling.{IsLeftBy, Tells}
 use Rattle.mqtt_broker.specs.Serving.{Serving, without_closed}
 
 -- what the line's bytes ask with the piece behind them, if the line is linked and something is whole

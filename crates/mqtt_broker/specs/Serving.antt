@@ -8,9 +8,9 @@ use Rattle.mqtt_rules.specs.State.{Broker, line_at}
 use Rattle.mqtt_rules.specs.Step.{Call, nothing_told}
 use Rattle.mqtt_framing.specs.Framers.{HeldLine, begun, line_of}
 use Rattle.mqtt_tables.specs.declared.call.EngineError.{EngineError}
-use Rattle.mqtt_engine.specs.declared.outcome.Outcome.{Outcome}
-use Rattle.mqtt_engine.specs.Calling.{Called, IsOn, Tells}
-use Rattle.mqtt_engine.specs.Running.{Running}
+use Rattle.mqtt_opening.specs.Outcome.{Outcome}
+use Rattle.mqtt_opening.specs.Calling.{Called, IsOn, Tells}
+use Rattle.mqtt_opening.specs.Running.{Running}
 
 -- an engine over a store, and what each line that is linked holds: the bytes that came on it and were not answered yet
 pub record Serving (K : Type 0) : Type 0 where

@@ -6,14 +6,14 @@ ghost use Rattle.mqtt_rules.specs.Piece.{first_call};
 ghost use Rattle.mqtt_rules.specs.State.{line_at};
 ghost use Rattle.mqtt_rules.specs.Step.{Call, nothing_told};
 ghost use Rattle.mqtt_framing.specs.Framers.{HeldLine, framing_at, line_of};
-ghost use Rattle.mqtt_engine.specs.Calling.{IsOn, Tells};
+ghost use Rattle.mqtt_opening.specs.Calling.{IsOn, Tells};
 ghost use Rattle.mqtt_broker.specs.Asking.{CalledIf};
 ghost use Rattle.mqtt_broker.specs.Piece.{PieceCalled};
 ghost use Rattle.mqtt_broker.specs.Serving.{IsOfLines, Served, serving};
 
 use crate::held::end_all;
-use mqtt_engine::{Engine, Outcome};
 use mqtt_framing::{Asked, Framers};
+use mqtt_opening::{Engine, Outcome};
 use mqtt_records::Keep;
 use mqtt_tables::EngineError;
 

@@ -2,8 +2,8 @@
 ghost use Rattle.std.specs.Prelude.{◌≡◌, IfOk, OnErr};
 ghost use Rattle.mqtt_broker.specs.Serving.{ended, without_closed};
 
-use mqtt_engine::Outcome;
 use mqtt_framing::Framers;
+use mqtt_opening::Outcome;
 use mqtt_tables::EngineError;
 
 /// Lines close, one after the other.

@@ -11,8 +11,8 @@ use Rattle.mqtt_rules.specs.Laws.{AreWithin}
 use Rattle.mqtt_rules.specs.State.{Broker}
 use Rattle.mqtt_rules.specs.Step.{BrokerOpening, SpentOpening}
 use Rattle.mqtt_tables.specs.Stepping.{Stepping, at_rest}
-use Rattle.mqtt_calls.specs.Sound.{IsSound}
-use Rattle.mqtt_calls.proofs.SoundLaw.{opening_sound}
+use Rattle.mqtt_engine.specs.Sound.{IsSound}
+use Rattle.mqtt_engine.proofs.SoundLaw.{opening_sound}
 use Rattle.mqtt_engine.specs.Running.{Running}
 use Rattle.mqtt_opening.specs.Closing.{IsStoredAfter, resting}
 use Rattle.mqtt_opening.specs.Opening.{IsBegun, IsDue, IsRefused, Opened}

@@ -20,14 +20,14 @@ use Rattle.mqtt_tables.specs.declared.fault.StepFault.{StepFault}
 use Rattle.mqtt_tables.specs.declared.fault.StepFault.TheVariants.{Memory, Spent}
 use Rattle.mqtt_tables.specs.Stepping.{Stepping, Did, IsLeft, did, env_in, to_session}
 use Rattle.mqtt_tables.specs.Undoing.{moment_of}
-use Rattle.mqtt_acts.specs.Choosing.{DoesSome, LeavesSome}
+use Rattle.mqtt_closing.specs.Choosing.{DoesSome, LeavesSome}
 use Rattle.mqtt_acts.specs.Delivering.{whose_at}
-use Rattle.mqtt_acts.proofs.Some.{alone, both, leaves_first, leaves_some, same_leaves, same_some, same_some_left, then_some, then_some_left}
+use Rattle.mqtt_closing.proofs.Some.{alone, both, leaves_first, leaves_some, same_leaves, same_some, same_some_left, then_some, then_some_left}
 use Rattle.mqtt_closing.specs.Wills.{will_at, will_of}
 use Rattle.mqtt_closing.proofs.Willed.{part_at}
-use Rattle.mqtt_router.specs.Following.{CanAllBeFollowed, CanBeIndexed}
-use Rattle.mqtt_router.specs.Indexing.{Serves}
-use Rattle.mqtt_router.proofs.Along.{indexed_all}
+use Rattle.mqtt_engine.specs.Following.{CanAllBeFollowed, CanBeIndexed}
+use Rattle.mqtt_engine.specs.Indexing.{Serves}
+use Rattle.mqtt_engine.proofs.Along.{indexed_all}
 use Rattle.mqtt_opening.specs.Sessions.{Face, IsThere, closes, face}
 use Rattle.mqtt_opening.proofs.Own.{IsOwn, close_own}
 use Rattle.mqtt_opening.proofs.Followed.{follow_own}

@@ -12,10 +12,10 @@ use Rattle.mqtt_tables.specs.declared.fault.StepFault.{StepFault}
 use Rattle.mqtt_tables.specs.declared.fault.StepFault.TheVariants.{Memory, Spent}
 use Rattle.mqtt_tables.specs.Stepping.{Stepping, env_in}
 use Rattle.mqtt_tables.proofs.Then.{same_act, same_left}
-use Rattle.mqtt_acts.specs.Choosing.{DoesSome, LeavesSome}
+use Rattle.mqtt_closing.specs.Choosing.{DoesSome, LeavesSome}
 use Rattle.mqtt_closing.specs.Wills.{will_at}
-use Rattle.mqtt_router.specs.Following.{CanBeIndexed}
-use Rattle.mqtt_router.specs.Indexing.{Serves}
+use Rattle.mqtt_engine.specs.Following.{CanBeIndexed}
+use Rattle.mqtt_engine.specs.Indexing.{Serves}
 use Rattle.mqtt_opening.specs.Closing.{DidSome, LeftSome}
 use Rattle.mqtt_opening.specs.Sessions.{IsThere, closes, closes_all, connected_in}
 use Rattle.mqtt_opening.proofs.Chosen.{AllApart}

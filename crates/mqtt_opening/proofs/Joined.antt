@@ -9,8 +9,8 @@ use Rattle.mqtt_tables.specs.declared.fault.StepFault.{StepFault}
 use Rattle.mqtt_tables.specs.Stepping.{Stepping, Did, IsLeft, did, env_in}
 use Rattle.mqtt_tables.proofs.Doing.{did_none}
 use Rattle.mqtt_tables.proofs.Then.{did_then, left_first, left_then, same_act, same_left}
-use Rattle.mqtt_acts.specs.Choosing.{DoesSome, LeavesSome}
-use Rattle.mqtt_acts.proofs.Some.{env_stays}
+use Rattle.mqtt_closing.specs.Choosing.{DoesSome, LeavesSome}
+use Rattle.mqtt_closing.proofs.Some.{env_stays}
 use Rattle.mqtt_opening.specs.Closing.{DidSome, LeftSome}
 use Rattle.mqtt_opening.specs.Sessions.{IsThere, closes, closes_all}
 use Rattle.mqtt_opening.proofs.Chosen.{Agree, AllApart, AreApart, same_all, same_close, still_there}

@@ -8,3 +8,4 @@ pub mod Closed
 pub mod Going
 pub mod Stamped
 pub mod Answering
+pub use Rattle.mqtt_engine.proofs.Linked

@@ -26,7 +26,7 @@ use Rattle.mqtt_tables.specs.declared.fault.StepFault.TheVariants.{Memory, Spent
 use Rattle.mqtt_tables.specs.Stepping.{Stepping, at_rest, did, env_in, with_stamp}
 use Rattle.mqtt_tables.specs.Undoing.{moment_of}
 use Rattle.mqtt_tables.proofs.Rows.{spent_append}
-use Rattle.mqtt_router.specs.Indexing.{Serves}
+use Rattle.mqtt_engine.specs.Indexing.{Serves}
 use Rattle.mqtt_opening.specs.Closing.{DidOpen, DidSome, IsLeftOpen, IsStoredAfter, LeftSome, resting}
 
 -- ---- the moment

@@ -10,16 +10,16 @@ ghost use Rattle.mqtt_rules.specs.Contents.{HasLawfulContents, IsWilled};
 ghost use Rattle.mqtt_rules.specs.Laws.{IsCoherent};
 ghost use Rattle.mqtt_rules.specs.Routing.{subscribers};
 ghost use Rattle.mqtt_rules.specs.Step.{opening};
-ghost use Rattle.mqtt_acts.specs.Choosing.{DoesSome, LeavesSome};
+ghost use Rattle.mqtt_closing.specs.Choosing.{DoesSome, LeavesSome};
 ghost use Rattle.mqtt_closing.specs.Wills.{will_at};
-ghost use Rattle.mqtt_router.specs.Following.{CanAllBeFollowed, CanBeIndexed};
-ghost use Rattle.mqtt_router.specs.Indexing.{Serves};
+ghost use Rattle.mqtt_engine.specs.Following.{CanAllBeFollowed, CanBeIndexed};
+ghost use Rattle.mqtt_engine.specs.Indexing.{Serves};
 ghost use Rattle.mqtt_opening.specs.Closing.{DidSome, LeftSome};
 ghost use Rattle.mqtt_opening.specs.Sessions.{IsThere, closes, connected_in};
 
 use mqtt_closing::settle;
+use mqtt_engine::Index;
 use mqtt_records::Change;
-use mqtt_router::Index;
 use mqtt_tables::{Step, StepFault};
 use std::alloc::Global;
 

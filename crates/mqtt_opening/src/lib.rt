@@ -4,4 +4,5 @@
 mod closing;
 mod opening;
 
+pub use mqtt_engine::{Engine, Outcome};
 pub use opening::open;

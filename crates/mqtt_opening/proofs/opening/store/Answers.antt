@@ -3,7 +3,7 @@ use Rattle.mqtt_records.specs.declared.records.Records.{Records}
 use Rattle.mqtt_rules.specs.Routing.{subscribers}
 use Rattle.mqtt_tables.specs.Stepping.{Stepping}
 use Rattle.mqtt_tables.proofs.Doing.{on_ok}
-use Rattle.mqtt_router.specs.Indexing.{Serves}
+use Rattle.mqtt_engine.specs.Indexing.{Serves}
 use Rattle.mqtt_opening.proofs.Answering.{both_ok, err_of, rest_of}
 use Rattle.mqtt_opening.proofs.Stamped.{open_limits, open_start}
 use Rattle.mqtt_opening.proofs.opening.store.Goals as goal
