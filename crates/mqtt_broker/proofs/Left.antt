@@ -111,7 +111,7 @@ pub given_all : (ds : List Deed) (b : Broker) → AreGood IsUnlinked ds b → (a
 given_all [] b un = refl
 given_all (d ∷ ds) b un = given_all ds (after d b) un.1 ∙ given_deed d b un.0
 
-moment_lines : (rows : List Change) (b : Broker) → (with_moment rows b).lines ≡ b.lines
+pub moment_lines : (rows : List Change) (b : Broker) → (with_moment rows b).lines ≡ b.lines
 moment_lines [] b = refl
 moment_lines (row ∷ rows) b = refl
 
