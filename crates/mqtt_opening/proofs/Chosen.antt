@@ -9,7 +9,7 @@ use Rattle.mqtt_topic.specs.Names.{is_empty}
 use Rattle.mqtt_routes.specs.Acceptance.{routed}
 use Rattle.mqtt_rules.specs.declared.Limits.{Limits}
 use Rattle.mqtt_rules.specs.Closing.{end_session, has_due_end, has_due_will, publish_or_refuse, publish_will, settle, will_deeds, will_message}
-use Rattle.mqtt_rules.specs.Deeds.{Whose, whose, Message, FromWill, Close, DropWill, Deed, Accept, At, Act, after, after_all, always, of_session, only_if, series, then, with_session}
+use Rattle.mqtt_rules.specs.Deeds.{Whose, whose, Message, FromWill, Close, DropWill, Deed, Accept, At, after_all, always, of_session, only_if, series, then, with_session}
 use Rattle.mqtt_rules.specs.Laws.{client_at}
 use Rattle.mqtt_rules.specs.Routing.{CopyTo, accepted_copies, accepted_if, answers, copies_to, deliver, deliver_by, finds_place, is_queued, next_publication, publication_of, publish, retain_by, subscribers}
 use Rattle.mqtt_rules.specs.State.{Broker, Env, MemberChoice, session_at}

@@ -1,14 +1,13 @@
 -- What closing a session leaves of another: whose it is, and its Will.
-use Rattle.std.proofs.Common.{◌≡◌, ℕ, false, cond, Bool, List, [], ◌∷◌, Option, Some, None, nat_eq, refl, sym, ap, subst, ◌∙◌, inl, inr}
+use Rattle.std.proofs.Common.{◌≡◌, ℕ, false, cond, Bool, List, [], ◌∷◌, Option, Some, None, nat_eq, refl, ap, ◌∙◌, inl, inr}
 use Rattle.std.specs.Prelude.{◌⊎◌, option_map}
-use Rattle.mqtt_message.specs.declared.message.Will.{Will}
 use Rattle.mqtt_records.specs.declared.session.Session.{Session}
 use Rattle.mqtt_records.specs.declared.session.Columns.{Columns}
 use Rattle.mqtt_records.specs.declared.records.Records.{Records}
 use Rattle.mqtt_records.specs.Session.{birth_of, columns_of, with_columns, with_copy, with_will, without_copy}
 use Rattle.mqtt_records.specs.Records.{changed_all, in_session}
 use Rattle.mqtt_rows.proofs.LookUps.{row_at-remove_row}
-use Rattle.mqtt_rules.specs.Deeds.{Whose, whose, Part, Close, DropWill, Enter, Leave, Deed, Accept, Begin, Name, Count, At, Finish, Keep, Forget, RefuseWill, Link, On, Send, Gone, after, after_all, new_entry, part_rows, part_rows_of, stored_after}
+use Rattle.mqtt_rules.specs.Deeds.{Whose, Part, Close, DropWill, Enter, Leave, Deed, Accept, Begin, Name, Count, At, Finish, Keep, Forget, RefuseWill, Link, On, Send, Gone, after, after_all, new_entry, part_rows, part_rows_of, stored_after}
 use Rattle.mqtt_rules.specs.State.{Broker, session_at}
 use Rattle.mqtt_rules.proofs.FlightRows.{found_key}
 use Rattle.mqtt_rules.proofs.Goods.{AreGood}

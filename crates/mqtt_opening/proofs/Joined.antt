@@ -1,12 +1,11 @@
 -- The choices of several closings make one choice, since each looks only at its own client identifier.
-use Rattle.std.proofs.Common.{◌≡◌, ℕ, Bool, true, false, cond, List, [], ◌∷◌, bytes_eq, refl, sym, ap, subst, ◌∙◌}
+use Rattle.std.proofs.Common.{◌≡◌, ℕ, Bool, cond, List, [], ◌∷◌, bytes_eq, refl, sym, ap, subst, ◌∙◌}
 use Rattle.std.specs.List.{AllByRecursion}
 use Rattle.mqtt_records.specs.declared.session.Session.{Session}
-use Rattle.mqtt_rules.specs.Deeds.{Act, after_all}
 use Rattle.mqtt_rules.specs.State.{Env, MemberChoice}
 use Rattle.mqtt_rules.proofs.FitLaw.{same_text}
 use Rattle.mqtt_tables.specs.declared.fault.StepFault.{StepFault}
-use Rattle.mqtt_tables.specs.Stepping.{Stepping, Did, IsLeft, did, env_in}
+use Rattle.mqtt_tables.specs.Stepping.{Stepping, Did, env_in}
 use Rattle.mqtt_tables.proofs.Doing.{did_none}
 use Rattle.mqtt_tables.proofs.Then.{did_then, left_first, left_then, same_act, same_left}
 use Rattle.mqtt_closing.specs.Choosing.{DoesSome, LeavesSome}

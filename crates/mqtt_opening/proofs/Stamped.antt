@@ -1,5 +1,5 @@
 -- An opening that was done, with its moment: what the store is told, and what stands then.
-use Rattle.std.proofs.Common.{◌≡◌, ℕ, Bool, true, false, ◌||◌, ◌⊎◌, List, [], ◌∷◌, refl, ap, sym, subst, ◌∙◌, inl, inr}
+use Rattle.std.proofs.Common.{◌≡◌, ℕ, true, false, ◌||◌, ◌⊎◌, List, [], ◌∷◌, refl, ap, sym, subst, ◌∙◌, inl, inr}
 use Rattle.mqtt_lawful.specs.Lawful.{IsLawful}
 use Rattle.mqtt_records.specs.declared.change.Change.{Change}
 use Rattle.mqtt_records.specs.declared.change.Change.TheVariants.{SetCounter}
@@ -10,11 +10,11 @@ use Rattle.mqtt_records.specs.Saying.{AllSayable}
 use Rattle.mqtt_routes.specs.Subscriptions.{Subscriber}
 use Rattle.mqtt_rules.specs.declared.Limits.{Limits}
 use Rattle.mqtt_rules.specs.Contents.{of_rows}
-use Rattle.mqtt_rules.specs.Deeds.{Deed, after_all, rows_of_all}
+use Rattle.mqtt_rules.specs.Deeds.{Deed, rows_of_all}
 use Rattle.mqtt_rules.specs.Laws.{AreWithin}
 use Rattle.mqtt_rules.specs.Routing.{subscribers}
-use Rattle.mqtt_rules.specs.State.{Broker, MemberChoice}
-use Rattle.mqtt_rules.specs.Step.{BrokerOpening, SpentOpening, is_opening_spent, is_spent, opened, opening, opening_deeds, rows_written, stamped, unopened, with_moment}
+use Rattle.mqtt_rules.specs.State.{Broker}
+use Rattle.mqtt_rules.specs.Step.{BrokerOpening, is_opening_spent, is_spent, opened, opening, opening_deeds, rows_written, stamped, unopened, with_moment}
 use Rattle.mqtt_rules.proofs.LawfulContents.{lawful_contents}
 use Rattle.mqtt_rules.proofs.LawfulRecords.{lawful_coherent}
 use Rattle.mqtt_rules.proofs.RowsFit.{opening_fits}
@@ -24,7 +24,6 @@ use Rattle.mqtt_rules.proofs.StoredLaw.{now_stays}
 use Rattle.mqtt_tables.specs.declared.fault.StepFault.{StepFault}
 use Rattle.mqtt_tables.specs.declared.fault.StepFault.TheVariants.{Memory, Spent}
 use Rattle.mqtt_tables.specs.Stepping.{Stepping, at_rest, did, env_in, with_stamp}
-use Rattle.mqtt_tables.specs.Undoing.{moment_of}
 use Rattle.mqtt_tables.proofs.Rows.{spent_append}
 use Rattle.mqtt_engine.specs.Indexing.{Serves}
 use Rattle.mqtt_opening.specs.Closing.{DidOpen, DidSome, IsLeftOpen, IsStoredAfter, LeftSome, resting}

@@ -1,5 +1,5 @@
-use Rattle.std.proofs.Common.{◌≡◌, refl, inl, sym, ◌∙◌}
-use Rattle.mqtt_records.specs.declared.keep.KeepError.TheVariants.{Memory, Corrupt}
+use Rattle.std.proofs.Common.{refl, inl}
+use Rattle.mqtt_records.specs.declared.keep.KeepError.TheVariants.{Memory}
 use Rattle.mqtt_engine.proofs.Followed.{indexed_lawful}
 use Rattle.mqtt_opening.proofs.Answering.{refused_first}
 use Rattle.mqtt_opening.proofs.opening.open_step.Goals as goal

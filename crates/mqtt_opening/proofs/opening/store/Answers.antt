@@ -1,4 +1,4 @@
-use Rattle.std.proofs.Common.{◌≡◌, ap, sym, subst, ◌∙◌, inl}
+use Rattle.std.proofs.Common.{ap, sym, subst, inl}
 use Rattle.mqtt_records.specs.declared.records.Records.{Records}
 use Rattle.mqtt_rules.specs.Routing.{subscribers}
 use Rattle.mqtt_tables.specs.Stepping.{Stepping}
