@@ -69,7 +69,8 @@ impl<S: Alter + Drop> SqlKeep<S> {
         ensures conn { self.new.conn ≡ record self.old.conn { step_limit = limit } }
         ensures same { (self.new.failures ≡ self.old.failures) × (self.new.alloc ≡ self.old.alloc) }
     {
-        self.conn.set_step_limit(limit);
+        let conn = &mut self.conn;
+        conn.set_step_limit(limit);
     }
 
     /// Counts a failure of the device, where an answer tells of one.
