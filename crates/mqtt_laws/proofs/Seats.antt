@@ -232,11 +232,11 @@ idle_linked n b h = by (line_at n b) refl
     by (Some l) e = ap has_session e ∙ ap is_some (none l b.lines h.lines e)
 
 -- so it is after the moment of the step is stored
-idle_done : (n : ℕ) (rows : List Change) (b : Broker) → IsIdle n b → IsIdle n (with_moment rows b)
+pub idle_done : (n : ℕ) (rows : List Change) (b : Broker) → IsIdle n b → IsIdle n (with_moment rows b)
 idle_done n [] b h = h
 idle_done n (row ∷ rows) b h = record { lines = h.lines; given = h.given }
 
-glance_done : (n : ℕ) (rows : List Change) (b : Broker) → glance_at n (with_moment rows b).lines ≡ glance_at n b.lines
+pub glance_done : (n : ℕ) (rows : List Change) (b : Broker) → glance_at n (with_moment rows b).lines ≡ glance_at n b.lines
 glance_done n rows b = ap (glance_at n) (done_lines rows b)
 
 -- ---- its own line, as it sees it
@@ -380,7 +380,7 @@ closes_old : (t : Bool) (old : List Sent) (w : Hop) → w.old ≡ filter_map sha
 closes_old true old w e = refl
 closes_old false old w e = λ i. record w { old = sym e i }
 
-run_append : (xs ys : List HopEvent) (w : Hop) → run (xs ++ ys) w ≡ run ys (run xs w)
+pub run_append : (xs ys : List HopEvent) (w : Hop) → run (xs ++ ys) w ≡ run ys (run xs w)
 run_append [] ys w = refl
 run_append (x ∷ xs) ys w = run_append xs ys (step w x)
 
