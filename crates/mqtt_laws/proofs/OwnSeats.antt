@@ -282,7 +282,7 @@ pub record IsNamed (client : List ℕ) : Type 0 where
 abbrev pub IsApart : Option ℕ → Option ℕ → Type 0
 IsApart x y = (n : ℕ) → x ≡ Some n → y ≡ Some n → ⊥
 
-not_among : (x : Option ℕ) (n : ℕ) → (x ≡ Some n → ⊥) → is_one_of x (n ∷ []) ≡ false
+pub not_among : (x : Option ℕ) (n : ℕ) → (x ≡ Some n → ⊥) → is_one_of x (n ∷ []) ≡ false
 not_among None n h = refl
 not_among (Some m) n h = elim (cases_Bool (nat_eq n m)) [
   | inl same ↦ absurd (h (ap Some (sym (eqb-true n m same))))

@@ -406,7 +406,7 @@ module _ (n : ℕ) where
   led ds b h q = (good_of ds b q, idle_deeds n ds b q h)
 
   -- a line with a session is another one
-  connected_elsewhere : (k : ℕ) (l : Line) (b : Broker) → IsIdle n b → line_of k b ≡ Some l → nat_eq l.number n ≡ false
+  pub connected_elsewhere : (k : ℕ) (l : Line) (b : Broker) → IsIdle n b → line_of k b ≡ Some l → nat_eq l.number n ≡ false
   connected_elsewhere k l b h e =
       let both = all_find (HasNobody n) (λ (x : Line). is_of x.session k) l b.lines h.lines e in
       elim (cases_Bool (nat_eq l.number n)) [
