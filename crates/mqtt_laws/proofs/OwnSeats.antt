@@ -294,15 +294,20 @@ pub connected_of : (p : Publisher) (birth k : ℕ) (b : Broker) → IsNamed p.cl
 connected_of p birth k b named his is apart on =
     let x = line_of_on k (Some birth) b on in
     let s = kept_of p.client birth k b his.0 his.1 named.short named.plain in
-    let number = x.3 in
-    (x.0, s.0, record {
-      number = is ∙ ap Some (sym number);
-      line = ap (λ (n : ℕ). line_at n b) number ∙ x.1;
-      connected = x.2 ∙ ap Some (sym s.1);
-      session = s.2.session;
-      client = s.2.name;
-      only = s.2.only;
-      no_will = s.2.no_will;
-      no_end = s.2.no_end;
-      apart = not_among p.line.old_number (x.0).number (λ e. apart (x.0).number (is ∙ ap Some (sym number)) e);
-    }, number, s.1)
+    let number = x.3 in (
+      x.0,
+      s.0,
+      record {
+        number = is ∙ ap Some (sym number);
+        line = ap (λ (n : ℕ). line_at n b) number ∙ x.1;
+        connected = x.2 ∙ ap Some (sym s.1);
+        session = s.2.session;
+        client = s.2.name;
+        only = s.2.only;
+        no_will = s.2.no_will;
+        no_end = s.2.no_end;
+        apart = not_among p.line.old_number (x.0).number (λ e. apart (x.0).number (is ∙ ap Some (sym number)) e);
+      },
+      number,
+      s.1,
+    )

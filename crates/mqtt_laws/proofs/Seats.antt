@@ -111,16 +111,19 @@ kept_of client birth k b own stands short plain = by (session_named client b.rec
     by (Some s) e t =
         let both = ours s b.records.sessions own.sessions e in
         let is : s.birth ≡ birth = both.0.named both.1 in
-        let at : session_at birth b.records ≡ Some s = sym (named_at client birth b.records.sessions own.sessions) ∙ e in
-        (s, is, record {
-          session = ap (λ (n : ℕ). session_at n b.records) is ∙ at;
-          name = both.1;
-          only = only_of s.birth (sym is) b.records.sessions own.sessions;
-          no_will = both.0.no_will is;
-          no_end = both.0.no_end is;
-          short = short;
-          plain = plain;
-        })
+        let at : session_at birth b.records ≡ Some s = sym (named_at client birth b.records.sessions own.sessions) ∙ e in (
+          s,
+          is,
+          record {
+            session = ap (λ (n : ℕ). session_at n b.records) is ∙ at;
+            name = both.1;
+            only = only_of s.birth (sym is) b.records.sessions own.sessions;
+            no_will = both.0.no_will is;
+            no_end = both.0.no_end is;
+            short = short;
+            plain = plain;
+          },
+        )
 
 -- ---- deeds of others
 
@@ -426,10 +429,13 @@ far_step limits choice now call o k p b accepted seat far =
       accepted = accepted;
     } in
     let first = closes_own t p.line.up w refl own.ups.1 in
-    let second = closes_old u p.line.old (run (own_events t) w) (old_after t w) in
-    (record { his = r.his; present = own.present; former = former },
-    (own_events t ++ old_events u,
-    same ∙ (ap (λ (x : Hop). record x { old = filter_map shaken (unless_closed u p.line.old) }) first ∙ (second ∙ sym (run_append (own_events t) (old_events u) w)))))
+    let second = closes_old u p.line.old (run (own_events t) w) (old_after t w) in (
+      record { his = r.his; present = own.present; former = former },
+      (
+        own_events t ++ old_events u,
+        same ∙ (ap (λ (x : Hop). record x { old = filter_map shaken (unless_closed u p.line.old) }) first ∙ (second ∙ sym (run_append (own_events t) (old_events u) w))),
+      ),
+    )
   where
     moved : (x : Option ℕ) → IsHis p.client x k b → IsHis p.client x k (at_moment now b)
     moved None h = h

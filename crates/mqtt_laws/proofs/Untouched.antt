@@ -517,11 +517,11 @@ module _ (n : ℕ) where
             let both = all_find (HasNobody n) (λ (y : Line). is_silent b.now y.session y) x b.lines h.lines e in
             let is = eqb-true x.number n same in
             inr (ap (λ (o : Option Line). on_tick (first_due (
-                option_map (λ l. silence env l.session l) o
-                ∷ option_map (publish_will env) (find (has_due_will b.now) b.records.sessions)
-                ∷ option_map (λ s. always (end_session s)) (find (has_due_end b.now) b.records.sessions)
-                ∷ option_map (λ k. always (Forget k.place ∷ [])) (find (is_stale b.now) b.records.retained)
-                ∷ option_map (λ s. always (lapse_deeds b.now s)) (find (has_lapsed b.now) b.records.sessions)
-                ∷ [])) b) e
+            option_map (λ l. silence env l.session l) o
+            ∷ option_map (publish_will env) (find (has_due_will b.now) b.records.sessions)
+            ∷ option_map (λ s. always (end_session s)) (find (has_due_end b.now) b.records.sessions)
+            ∷ option_map (λ k. always (Forget k.place ∷ [])) (find (is_stale b.now) b.records.retained)
+            ∷ option_map (λ s. always (lapse_deeds b.now s)) (find (has_lapsed b.now) b.records.sessions)
+            ∷ [])) b) e
             ∙ closed_is x is (both.0 is))
       ]
