@@ -24,6 +24,7 @@ use Rattle.mqtt_laws.specs.World.{taken_up}
 use Rattle.mqtt_laws.specs.Run.{each_of}
 use Rattle.mqtt_laws.specs.Seen.{shaken, is_linked, seen}
 use Rattle.mqtt_laws.specs.Hops.{IsOurLine, Own, IsInOrder, IsKept, IsConnected, IsNoConnect, IsAsking, IsTaken, IsFirst, MayBegin, lines_left, after_step, counted, numbers_of, connect_packet}
+use Rattle.mqtt_laws.specs.Seats.{Comes, Former, Glance, IsApart, IsHis, IsIdle, IsNamed, IsSound, closed, glance, glance_at, joined, late, lingers, over, waits_there}
 use Rattle.mqtt_laws.proofs.Quiet.{session_on}
 use Rattle.mqtt_laws.proofs.Publishes.{line_none}
 use Rattle.mqtt_laws.proofs.Seeing.{done_lines, among_closed, linked_of, linked_is}
@@ -34,28 +35,12 @@ use Rattle.mqtt_laws.proofs.Frame.{kept_given}
 use Rattle.mqtt_laws.proofs.Connects.{call_leaves, connect_is_hop, connect_owns}
 use Rattle.mqtt_laws.proofs.CleanConnects.{call_renews, clean_is_hop, clean_owns}
 use Rattle.mqtt_laws.proofs.FirstConnects.{hello_by, call_is, joins_by, begins_seen, refused_seen, first_owns}
-use Rattle.mqtt_laws.proofs.Untouched.{AreAway, Glance, glance, glance_at, HasNobody, IsIdle, elsewhere, IsElsewhere, connected_elsewhere}
-use Rattle.mqtt_laws.proofs.Seats.{IsHis, waits_there, Present, absent, waiting, closed, joined, Former, over, late, lingers, kept_of, AreElsewhere, Seat, idle_linked}
+use Rattle.mqtt_laws.proofs.Untouched.{AreAway, elsewhere, connected_elsewhere}
+use Rattle.mqtt_laws.proofs.Seats.{kept_of, AreElsewhere, idle_linked}
 use Rattle.mqtt_laws.proofs.HopStands.{stands_run, stands_stays}
-use Rattle.mqtt_laws.proofs.OwnSeats.{own_on, none_there, empty_stays, joined_after, lingers_after, present_after, former_after, line_of_on, not_among, IsNamed, IsApart, connected_of}
+use Rattle.mqtt_laws.proofs.OwnSeats.{own_on, none_there, empty_stays, joined_after, lingers_after, present_after, former_after, line_of_on, not_among, connected_of}
 
--- ---- what a call makes of a publisher: it is somewhere again, and what it saw is some events of its hop
-
-pub record Comes (k : ℕ) (p q : Publisher) (b c : Broker) (accepted more : List ℕ) : Type 0 where
-  pub birth : Option ℕ
-  pub line : ℕ
-  pub seat : Seat birth line q c
-  pub its_line : (line ≡ k) ⊎ ((p.line.number ≡ Some line) ⊎ (p.line.old_number ≡ Some line))
-  pub events : List HopEvent
-  pub seen_is : seen more q c ≡ run events (seen accepted p b)
-
--- what holds of the broker besides
-pub record IsSound (limits : Limits) (b : Broker) : Type 0 where
-  pub order : IsInOrder b
-  pub room : length b.records.sessions ≤ limits.sessions
-  pub within : limits.sessions ≤ SESSION_LIMIT
-
-differs : (n m : ℕ) → (n ≡ m → ⊥) → nat_eq n m ≡ false
+pub differs : (n m : ℕ) → (n ≡ m → ⊥) → nat_eq n m ≡ false
 differs n m h = elim (cases_Bool (nat_eq n m)) [ inl same ↦ absurd (h (eqb-true n m same)) | inr other ↦ other ]
 
 -- a packet on one line leaves another one alone
@@ -100,7 +85,7 @@ packet_events limits choice now p rest (plain content) l s b accepted up other c
     let x = plain_is_hop limits choice now p rest content l s b accepted up c in
     (x.0, ap (λ (ns : List ℕ). seen ns (after_step limits choice now call p b) (stepped limits choice now call b)) (append-nil accepted) ∙ x.1)
 
-packet_comes : (limits : Limits) (choice : MemberChoice) (now : ℕ) (p : Publisher) (rest : List Sent) (packet : Sent) (l : BrokerLine) (s : Session) (b : Broker) (accepted : List ℕ)
+pub packet_comes : (limits : Limits) (choice : MemberChoice) (now : ℕ) (p : Publisher) (rest : List Sent) (packet : Sent) (l : BrokerLine) (s : Session) (b : Broker) (accepted : List ℕ)
     → p.line.up ≡ packet ∷ rest → IsNoConnect packet → IsConnected p l s b → IsApart p.line.number p.line.old_number → IsHis p.client (Some s.birth) l.number b → Former (Some s.birth) l.number p.line b
     → Comes l.number p (after_step limits choice now (Input l.number (wire p.client p.contents packet)) p b) b (stepped limits choice now (Input l.number (wire p.client p.contents packet)) b)
     accepted (accepted ++ each_of (message_in packet) (deeds limits choice now (Input l.number (wire p.client p.contents packet)) b))
@@ -244,7 +229,7 @@ abbrev pub Connected : Limits → MemberChoice → ℕ → Bool → ℕ → Publ
 Connected limits choice now clean k p l b accepted =
     Comes k p (after_step limits choice now (Input l.number (connect_packet clean p)) p b) b (stepped limits choice now (Input l.number (connect_packet clean p)) b) accepted accepted
 
-hop_linked : (clean t : Bool) (w : Hop) → (on_connect t clean takes [] w).linked ≡ true
+pub hop_linked : (clean t : Bool) (w : Hop) → (on_connect t clean takes [] w).linked ≡ true
 hop_linked true true w = refl
 hop_linked false true w = refl
 hop_linked clean false w = refl
@@ -300,7 +285,7 @@ asking_of p l s k b is at waits idle kept own former = record {
   old = spared_of p.client s.birth k p.line b own former;
 }
 
-kept_connect : (limits : Limits) (choice : MemberChoice) (now : ℕ) (clean : Bool) (p : Publisher) (l : BrokerLine) (s : Session) (k : ℕ) (b : Broker) (accepted : List ℕ)
+pub kept_connect : (limits : Limits) (choice : MemberChoice) (now : ℕ) (clean : Bool) (p : Publisher) (l : BrokerLine) (s : Session) (k : ℕ) (b : Broker) (accepted : List ℕ)
     → IsNamed p.client → IsSound limits b → IsInOrder (stepped limits choice now (Input l.number (connect_packet clean p)) b)
     → p.line.up ≡ shake (CONNECT clean) ∷ [] → p.line.number ≡ Some l.number → IsApart p.line.number p.line.old_number → line_at l.number b ≡ Some l → l.session ≡ None → l.keep_alive ≡ 0 → IsIdle l.number b
     → IsKept p.client s b → IsHis p.client (Some s.birth) k b → Former (Some s.birth) k p.line b
@@ -318,11 +303,11 @@ kept_connect limits choice now true p l s k b accepted named sound order up is a
 
 -- ---- where no session of its name stands
 
-not_some : (o : Option Session) → is_some o ≡ false → o ≡ None
+pub not_some : (o : Option Session) → is_some o ≡ false → o ≡ None
 not_some None e = refl
 not_some (Some s) e = absurd cc
 
-first_connect : (limits : Limits) (choice : MemberChoice) (now : ℕ) (clean : Bool) (p : Publisher) (l : BrokerLine) (k : ℕ) (b : Broker) (accepted : List ℕ)
+pub first_connect : (limits : Limits) (choice : MemberChoice) (now : ℕ) (clean : Bool) (p : Publisher) (l : BrokerLine) (k : ℕ) (b : Broker) (accepted : List ℕ)
     → IsNamed p.client → IsSound limits b → IsInOrder (stepped limits choice now (Input l.number (connect_packet clean p)) b)
     → p.line.up ≡ shake (CONNECT clean) ∷ [] → p.line.number ≡ Some l.number → IsApart p.line.number p.line.old_number → line_at l.number b ≡ Some l → l.session ≡ None → l.keep_alive ≡ 0 → IsIdle l.number b
     → session_named p.client b.records ≡ None → Former None k p.line b

@@ -20,10 +20,11 @@ use Rattle.mqtt_laws.specs.Ends.{Sent, Publisher, wire}
 use Rattle.mqtt_laws.specs.World.{taken_up, taken_old}
 use Rattle.mqtt_laws.specs.Seen.{heard_in, seen}
 use Rattle.mqtt_laws.specs.Hops.{IsOurLine, Own, IsInOrder, IsKept, IsConnected, IsNoConnect, turned_back}
+use Rattle.mqtt_laws.specs.Seats.{Former, HasNobody, IsApart, IsHis, IsIdle, IsNamed, Present, absent, closed, glance_at, joined, late, lingers, over, waiting}
 use Rattle.mqtt_laws.proofs.Quiet.{told_to, is_closing, closes, session_on, line_gone}
 use Rattle.mqtt_laws.proofs.Seeing.{done_lines, among_closed, told_down, append_heard}
-use Rattle.mqtt_laws.proofs.Untouched.{AreAway, glance, glance_at, HasNobody, IsIdle}
-use Rattle.mqtt_laws.proofs.Seats.{IsHis, waits_there, Present, absent, waiting, closed, joined, Former, over, late, lingers, kept_of, AreElsewhere, Rests, rests, idle_done, glance_done, Seat}
+use Rattle.mqtt_laws.proofs.Untouched.{AreAway}
+use Rattle.mqtt_laws.proofs.Seats.{kept_of, AreElsewhere, Rests, rests, idle_done, glance_done}
 
 -- ---- lines that stay open
 
@@ -272,15 +273,6 @@ line_of_on n x b h = by (line_at n b) refl h
     by : (o : Option BrokerLine) → line_at n b ≡ o → option_map (λ (l : BrokerLine). l.session) o ≡ Some x → (l : BrokerLine) × (line_at n b ≡ Some l) × (l.session ≡ x) × (l.number ≡ n)
     by None e f = absurd cc
     by (Some l) e f = let on : l.session ≡ x = cc in (l, e, on, number_is l b.lines e)
-
-pub record IsNamed (client : List ℕ) : Type 0 where
-  pub some : is_empty client ≡ false
-  pub short : nat_lt CLIENT_LIMIT (length client) ≡ false
-  pub plain : starts_with nat_eq client auto ≡ false
-
--- the line isn't the one that it gave up
-abbrev pub IsApart : Option ℕ → Option ℕ → Type 0
-IsApart x y = (n : ℕ) → x ≡ Some n → y ≡ Some n → ⊥
 
 pub not_among : (x : Option ℕ) (n : ℕ) → (x ≡ Some n → ⊥) → is_one_of x (n ∷ []) ≡ false
 not_among None n h = refl

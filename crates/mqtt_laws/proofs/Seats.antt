@@ -24,37 +24,15 @@ use Rattle.mqtt_laws.specs.Ends.{Sent, shake, Publisher}
 use Rattle.mqtt_laws.specs.World.{publisher_told}
 use Rattle.mqtt_laws.specs.Seen.{qos_of_draft, shaken, heard_in, has_session, is_linked, open_in, seen}
 use Rattle.mqtt_laws.specs.Hops.{IsIts, IsOnly, IsOurs, IsOurLine, Own, IsOthers, IsFarCall, IsKept, IsNoConnect}
+use Rattle.mqtt_laws.specs.Seats.{Former, HasNobody, IsHis, IsIdle, Present, Seat, absent, closed, glance_at, joined, late, lingers, over, waiting}
 use Rattle.mqtt_laws.proofs.Rows.{Face, face, face_at}
 use Rattle.mqtt_laws.proofs.Quiet.{told_to, closes, session_on}
 use Rattle.mqtt_laws.proofs.Seeing.{done_sessions, done_lines, among_closed, told_down, append_heard, linked_of, linked_is}
 use Rattle.mqtt_laws.proofs.Far.{AreFar, apart_by, own_deeds, not_same}
 use Rattle.mqtt_laws.proofs.FarActs.{far_call}
 use Rattle.mqtt_laws.proofs.Frame.{own_done, old_events}
-use Rattle.mqtt_laws.proofs.Untouched.{AreAway, Glance, glance, glance_at, HasNobody, IsIdle, spared_by, idle_deeds, elsewhere, IsElsewhere}
+use Rattle.mqtt_laws.proofs.Untouched.{AreAway, spared_by, idle_deeds, elsewhere}
 use Rattle.mqtt_laws.proofs.Nameless.{AreStrangers, still_none, strangers_call, IsOfOthers}
-
--- ---- its session, and the number of the line that it may be connected on
-
-abbrev pub IsHis : List ℕ → Option ℕ → ℕ → Broker → Type 0
-IsHis client None k b = session_named client b.records ≡ None
-IsHis client (Some birth) k b = Own client birth k b × (is_some (session_named client b.records) ≡ true)
-
-abbrev pub waits_there : Option Glance
-waits_there = Some (record { session = None; keep_alive = 0 })
-
--- its line
-pub data Present (o : Option ℕ) (k : ℕ) (l : Line Sent) (b : Broker) : Type 0 where
-  absent : l.number ≡ None → l.up ≡ [] → Present o k l b
-  waiting : (n : ℕ) (clean : Bool) → l.number ≡ Some n → l.link ≡ asked → l.clean ≡ clean → l.up ≡ shake (CONNECT clean) ∷ [] → filter_map heard_in l.down ≡ []
-      → IsIdle n b → glance_at n b.lines ≡ waits_there → Present o k l b
-  closed : (n : ℕ) → l.number ≡ Some n → l.up ≡ [] → IsIdle n b → glance_at n b.lines ≡ None → Present o k l b
-  joined : (birth : ℕ) → o ≡ Some birth → l.number ≡ Some k → session_on k b.lines ≡ Some (Some birth) → Present o k l b
-
--- the line that it gave up
-pub data Former (o : Option ℕ) (k : ℕ) (l : Line Sent) (b : Broker) : Type 0 where
-  over : l.old ≡ [] → Former o k l b
-  late : (m : ℕ) → l.old_number ≡ Some m → l.old ≡ shake (CONNECT false) ∷ [] → IsIdle m b → glance_at m b.lines ≡ waits_there → Former o k l b
-  lingers : (birth : ℕ) → o ≡ Some birth → l.old_number ≡ Some k → AllByRecursion IsNoConnect l.old → session_on k b.lines ≡ Some (Some birth) → Former o k l b
 
 -- ---- what is found by the name is what is found by the birth
 
@@ -301,7 +279,14 @@ module _ (limits : Limits) (choice : MemberChoice) (now : ℕ) (call : Call) (cl
   unclosed true xs e = refl
   unclosed false xs e = e
 
-  pub behold : AreElsewhere l.number ds start → AreOthers client o k ds → Present o k l b → Beholds o k l b new out
+  -- where its session is connected, the deeds are far from it
+  abbrev pub AreFarIf : Type 0
+  AreFarIf = (birth : ℕ) → o ≡ Some birth → AreFar client birth k ds
+
+  pub far_if : AreOthers client o k ds → AreFarIf
+  far_if its birth is = subst (λ (x : Option ℕ). AreOthers client x k ds) is its
+
+  pub behold : AreElsewhere l.number ds start → AreFarIf → Present o k l b → Beholds o k l b new out
   behold q its (absent none up) = record {
     present = absent none (unclosed (is_one_of l.number out.closed) l.up up);
     linked = ap (λ (y : Option ℕ). is_linked y new) none ∙ sym (ap (λ (y : Option ℕ). is_linked y b) none);
@@ -329,8 +314,7 @@ module _ (limits : Limits) (choice : MemberChoice) (now : ℕ) (call : Call) (cl
             behold_idle n is h r true gone.0 (closed n is (ap (λ (t : Bool). unless_closed t l.up) shut) idle (glance_done n rows (after_all ds start) ∙ gone.1))
       ]
   behold q its (joined birth own is there) =
-      let far = subst (λ (x : Option ℕ). AreOthers client x k ds) own its in
-      let a = apart_by client birth k ds start far in
+      let a = apart_by client birth k ds start (its birth own) in
       let on : session_on k new.lines ≡ session_on k b.lines = ap (session_on k) (done_lines rows (after_all ds start)) ∙ a.line_is in
       record {
         present = joined birth own is (on ∙ there);
@@ -367,19 +351,14 @@ module _ (limits : Limits) (choice : MemberChoice) (now : ℕ) (call : Call) (cl
 
 -- ---- together: a step of others is unseen, but that lines close
 
-pub record Seat (o : Option ℕ) (k : ℕ) (p : Publisher) (b : Broker) : Type 0 where
-  pub his : IsHis p.client o k b
-  pub present : Present o k p.line b
-  pub former : Former o k p.line b
-
-closes_own : (t : Bool) (up : List Sent) (w : Hop) → w.up ≡ filter_map shaken up → (t ≡ true → w.linked ≡ false) → record w { up = filter_map shaken (unless_closed t up) } ≡ run (own_events t) w
+pub closes_own : (t : Bool) (up : List Sent) (w : Hop) → w.up ≡ filter_map shaken up → (t ≡ true → w.linked ≡ false) → record w { up = filter_map shaken (unless_closed t up) } ≡ run (own_events t) w
 closes_own false up w e h = λ i. record w { up = sym e i }
 closes_own true up w e h =
     let none = h refl in
     let downs = ap (λ (z : Bool). sent_on z w.down (DISCONNECT 0 ∷ [])) (sym none) in
     λ i. record w { up = []; linked = none i; down = downs i }
 
-closes_old : (t : Bool) (old : List Sent) (w : Hop) → w.old ≡ filter_map shaken old → record w { old = filter_map shaken (unless_closed t old) } ≡ run (old_events t) w
+pub closes_old : (t : Bool) (old : List Sent) (w : Hop) → w.old ≡ filter_map shaken old → record w { old = filter_map shaken (unless_closed t old) } ≡ run (old_events t) w
 closes_old true old w e = refl
 closes_old false old w e = λ i. record w { old = sym e i }
 
@@ -387,7 +366,7 @@ pub run_append : (xs ys : List HopEvent) (w : Hop) → run (xs ++ ys) w ≡ run 
 run_append [] ys w = refl
 run_append (x ∷ xs) ys w = run_append xs ys (step w x)
 
-old_after : (t : Bool) (w : Hop) → (run (own_events t) w).old ≡ w.old
+pub old_after : (t : Bool) (w : Hop) → (run (own_events t) w).old ≡ w.old
 old_after true w = refl
 old_after false w = refl
 
@@ -402,7 +381,7 @@ far_step limits choice now call o k p b accepted seat far =
     let out = told limits choice now call b in
     let rows = rows_of_all ds start.records in
     let r = remains_done p.client o k rows start (after_all ds start) (remains p.client o k ds start (moved o seat.his) far.its) in
-    let own = behold limits choice now call p.client o k p.line b far.own far.its seat.present in
+    let own = behold limits choice now call p.client o k p.line b far.own (far_if limits choice now call p.client o k p.line b far.its) seat.present in
     let former = former_stays limits choice now call p.client o k p.line b far.old far.its seat.former in
     let t = own.ups.0 in
     let u = is_one_of p.line.old_number out.closed in

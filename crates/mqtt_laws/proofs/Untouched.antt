@@ -29,6 +29,7 @@ use Rattle.mqtt_rules.proofs.Goods.{AreGood}
 use Rattle.mqtt_rules.proofs.Leads.{Leads}
 use Rattle.mqtt_rules.proofs.Acts.{About as Whom, closing, closing_on, closing_session, brought_to, Law, IsDue, IsCallOf, leads_call}
 use Rattle.mqtt_laws.specs.Ends.{heard}
+use Rattle.mqtt_laws.specs.Seats.{Glance, HasNobody, IsElsewhere, IsIdle, glance, glance_at}
 use Rattle.mqtt_laws.proofs.Quiet.{IsQuietOn, IsQuiet, AreQuiet, heard_by, told_to, is_closing, closes, quiet_leave, quiet_deliveries, copies_of, quiet_copies}
 use Rattle.mqtt_laws.proofs.Far.{not_same, less_differs}
 
@@ -44,25 +45,6 @@ IsAway n d = ⊤
 abbrev pub AreAway : ℕ → List Deed → Type 0
 AreAway n [] = ⊤
 AreAway n (d ∷ ds) = IsAway n d × AreAway n ds
-
--- what is seen of a line: its session, and its Keep Alive
-pub record Glance : Type 0 where
-  pub session : Option ℕ
-  pub keep_alive : ℕ
-
-abbrev pub glance : Line → Glance
-glance l = record { session = l.session; keep_alive = l.keep_alive }
-
-abbrev pub glance_at : ℕ → List Line → Option Glance
-glance_at n ls = option_map glance (find (λ (l : Line). nat_eq l.number n) ls)
-
--- nobody is connected on a line of this number, and it was given
-abbrev pub HasNobody : ℕ → Line → Type 0
-HasNobody n l = l.number ≡ n → l.session ≡ None
-
-pub record IsIdle (n : ℕ) (b : Broker) : Type 0 where
-  pub lines : AllByRecursion (HasNobody n) b.lines
-  pub given : n ≤ b.given
 
 -- ---- what they leave of it
 
@@ -451,16 +433,6 @@ module _ (n : ℕ) where
   by_law : (env : Env) (call : Call) (b : Broker) → IsIdle n b → IsCallOf others call b → Away (deeds_of env call b)
   by_law env call b h its = away_of (deeds_of env call b) b (leads_call env others (IsIdle n) IsAwayDeed (away_law env) call b h its).0
 
-  -- ---- each call but those on this line; a pump of any line
-
-  abbrev pub IsElsewhere : Call → Type 0
-  IsElsewhere NewLine = ⊤
-  IsElsewhere (Input m packet) = nat_eq m n ≡ false
-  IsElsewhere (BadInput m is_connect code) = nat_eq m n ≡ false
-  IsElsewhere (Lost m) = nat_eq m n ≡ false
-  IsElsewhere (Pump m) = ⊤
-  IsElsewhere Tick = ⊤
-
   -- it isn't this line that a tick closes
   abbrev IsOnTime : Call → Broker → Type 0
   IsOnTime Tick b = (l : Line) → find (λ (x : Line). is_silent b.now x.session x) b.lines ≡ Some l → nat_eq l.number n ≡ false
@@ -483,7 +455,7 @@ module _ (n : ℕ) where
       let none : l.session ≡ None = at.0 (eqb-true l.number m at.1 ∙ eqb-true m n same) in
       subst (λ (o : Option ℕ). Away (on_pump l o b)) (sym none) tt
 
-  on_time : (env : Env) (call : Call) (b : Broker) → IsIdle n b → IsElsewhere call → IsOnTime call b → Away (deeds_of env call b)
+  on_time : (env : Env) (call : Call) (b : Broker) → IsIdle n b → IsElsewhere n call → IsOnTime call b → Away (deeds_of env call b)
   on_time env NewLine b h q t = by_law env NewLine b h tt
   on_time env (Input m packet) b h q t = by_law env (Input m packet) b h ((λ l e. its_line m l b q e), tt)
   on_time env (BadInput m is_connect code) b h q t = by_law env (BadInput m is_connect code) b h (λ l e. its_line m l b q e)
@@ -495,7 +467,7 @@ module _ (n : ℕ) where
   on_time env Tick b h q t = by_law env Tick b h (record { silent = t; wills = λ s e. tt; ends = λ s e. tt })
 
   -- a call leaves it alone, or it is the tick that closes it
-  pub elsewhere : (env : Env) (call : Call) (b : Broker) → IsIdle n b → IsElsewhere call → Away (deeds_of env call b) ⊎ (deeds_of env call b ≡ Gone n ∷ [])
+  pub elsewhere : (env : Env) (call : Call) (b : Broker) → IsIdle n b → IsElsewhere n call → Away (deeds_of env call b) ⊎ (deeds_of env call b ≡ Gone n ∷ [])
   elsewhere env NewLine b h q = inl (on_time env NewLine b h q tt)
   elsewhere env (Input m packet) b h q = inl (on_time env (Input m packet) b h q tt)
   elsewhere env (BadInput m is_connect code) b h q = inl (on_time env (BadInput m is_connect code) b h q tt)
