@@ -5,4 +5,4 @@ pub mod Framings
 pub mod Cuts
 pub mod Serving
 pub mod Pieced
-pub mod Opening
+pub mod Opened
