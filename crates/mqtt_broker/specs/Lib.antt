@@ -3,3 +3,4 @@ pub mod Piece
 pub mod Asking
 pub mod Cut
 pub mod Opening
+pub use Rattle.mqtt_opening.specs.Outcome

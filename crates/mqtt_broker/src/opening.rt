@@ -15,6 +15,7 @@ use std::hash::RandomState;
 impl<K: Keep> Engine<K> {
     /// A broker over what a store holds, at a moment in milliseconds. Each session that stands connected is closed, in the
     /// order of births (4.1). Filters, which strangers choose, are hashed by `hasher`. A refusal gives the store back.
+    #[tactic(auto, using(crate::proofs::Opened::of_lines_begun))]
     pub fn open(
         alloc: Global,
         keep: K,
