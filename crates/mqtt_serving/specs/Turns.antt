@@ -135,7 +135,7 @@ pub record ServesLine {K : Type 0} (g : Ghosts K) (now place : ℕ) (old new : S
 -- each connection below a place has its turn, in order
 pub data ServesBelow {K : Type 0} (g : Ghosts K) (now : ℕ) : ℕ → Server (Serving K) → Server (Serving K) → Type 0 where
   no_line : {s : Server (Serving K)} → ServesBelow g now 0 s s
-  next_line : {place : ℕ} {s t u : Server (Serving K)} → ServesBelow g now place s t → ServesLine g now place t u
+  line_after : {place : ℕ} {s t u : Server (Serving K)} → ServesBelow g now place s t → ServesLine g now place t u
       → ServesBelow g now (place + 1) s u
 
 -- ---- turns of the clock
