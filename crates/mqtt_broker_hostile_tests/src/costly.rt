@@ -1,7 +1,7 @@
 //! One packet that asks for much (MQTT 5.0, 3.8).
 
 use crate::streams::opened;
-use mqtt_broker::MemKeep;
+use mqtt_records::MemKeep;
 use mqtt_stage::{Stage, StageFault};
 use std::alloc::{AllocError, Global};
 use std::hash::RandomState;

@@ -3,8 +3,8 @@
 ghost use Rattle.std.specs.Prelude.{◌<◌};
 
 use mqtt_base::Reason;
-use mqtt_broker::MemKeep;
 use mqtt_packet::{Fault, Framer};
+use mqtt_records::MemKeep;
 use mqtt_stage::{Stage, StageFault};
 use std::alloc::Global;
 use std::fmt::Write;
@@ -179,7 +179,7 @@ pub(crate) fn assert_told(
     assert!(rt; is_answered(&told), "{bytes:?}: {told}");
     match wanted(alloc, line, bytes, is_connected)? {
         Some(want) => {
-            assert!(rt; told.trim() == want, "{bytes:?}: {told}");
+            assert!(rt; told.trim() == want.as_str(), "{bytes:?}: {told}");
             drop(want);
         }
         None => {}

@@ -1,7 +1,7 @@
 //! Each known frame cut, and with one byte changed, as a line's first bytes and behind a CONNECT (MQTT 5.0, 2.1, 4.13).
 
 use crate::streams::{assert_told, opened};
-use mqtt_broker::MemKeep;
+use mqtt_records::MemKeep;
 use mqtt_stage::Stage;
 use std::alloc::Global;
 use std::hash::RandomState;

@@ -1,7 +1,7 @@
 //! Want of memory: to be run by `rt try --test --fail-alloc 1..`. A call that memory was wanting for is made again, and tells
 //! what it tells without.
 
-use mqtt_broker::MemKeep;
+use mqtt_records::MemKeep;
 use mqtt_stage::scripts::{Script, clients, filters, publishing, receiving};
 use mqtt_stage::{Stage, StageFault};
 use std::alloc::Global;

@@ -1,7 +1,7 @@
 //! A store that fails once, at each of its calls (4.1).
 
 use crate::playing::opened;
-use mqtt_broker::{KeepError, MemKeep};
+use mqtt_records::{KeepError, MemKeep};
 use mqtt_stage::scripts::{Script, clients, closing, filters, publishing, receiving};
 use mqtt_stage::{FailingKeep, Stage, StageFault};
 use std::alloc::Global;
@@ -71,7 +71,7 @@ fn assert_left(
 ) -> Result<(), Fail> {
     let kept = stage.kept()?;
     let before = kept_after(alloc, hasher, script.1, at)?;
-    let after = kept_after(alloc, hasher, script.1, at + 1)?;
+    let after = kept_after(alloc, hasher, script.1, at.saturating_add(1))?;
     let is_one = kept == before || kept == after;
     assert!(rt; is_one, "{}, line {at}: {kept}", script.0);
     drop(kept);

@@ -3,7 +3,7 @@
 ghost use Rattle.std.specs.Prelude.{◌<◌};
 
 use crate::playing::opened;
-use mqtt_broker::MemKeep;
+use mqtt_records::MemKeep;
 use mqtt_stage::{Stage, StageFault};
 use std::alloc::Global;
 use std::hash::RandomState;

@@ -1,6 +1,6 @@
 //! The scripts of all subjects, over a store in memory.
 
-use mqtt_broker::{Keep, KeepError, MemKeep};
+use mqtt_records::{Keep, KeepError, MemKeep};
 use mqtt_stage::scripts::{Script, clients, closing, filters, publishing, receiving};
 use mqtt_stage::{Stage, StageFault};
 use std::alloc::Global;

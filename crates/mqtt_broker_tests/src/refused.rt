@@ -1,7 +1,7 @@
 //! What is refused changes nothing else (MQTT 5.0, 3, 4.13).
 
 use crate::playing::opened;
-use mqtt_broker::MemKeep;
+use mqtt_records::MemKeep;
 use mqtt_stage::{Stage, StageFault};
 use std::alloc::Global;
 use std::hash::RandomState;

@@ -1,5 +1,4 @@
 //! Why a script isn't played on.
-ghost use Rattle.std.specs.Prelude.{◌≡◌};
 
 use hex::FromHexError;
 use std::alloc::AllocError;

@@ -1,10 +1,7 @@
 //! What a store has, as one text.
 
 use crate::told::write_hex;
-use mqtt_base::Text;
-use mqtt_records::{
-    Boxed, Content, CopyRow, Records, RetainedMessage, Session, Subscription, Will,
-};
+use mqtt_records::{Content, CopyRow, Records, RetainedMessage, Session, Subscription, Will};
 use std::alloc::AllocError;
 use std::fmt::Write;
 

@@ -222,5 +222,16 @@ pump 1 -> 1:32090003612f6200010021
 on 1 40020001 -> ended=1>r1:Taken
 ",
         ),
+        (
+            "a Will is retained where it says so",
+            "\
+link -> 1
+on 1 1017 00044d515454 05 24 0000 00 000177 00 0003612f62 000121 -> 1:connected
+lost 1 -> accepted=1 closed=1
+link -> 2
+connect 2 r1 -> 2:connected
+on 2 8209 0001 00 0003612f62 00 -> 2:900400010000 2:31070003612f620021
+",
+        ),
     ]
 }

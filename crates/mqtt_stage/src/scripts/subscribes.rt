@@ -150,5 +150,62 @@ connect 3 c -> 3:resumed
 pump 3
 ",
         ),
+        (
+            "No Local bars one's own retained messages",
+            "\
+link -> 1
+connect 1 c -> 1:connected
+on 1 3107 0003612f62 00 21 -> accepted=1
+on 1 8209 0001 00 0003612f62 04 -> 1:900400010000
+on 1 8209 0002 00 0003612f62 00 -> 1:900400020000 1:31070003612f620021
+",
+        ),
+        (
+            "a shared subscription gets no retained message",
+            "\
+link -> 1
+connect 1 c -> 1:connected
+on 1 3107 0003612f62 00 21 -> accepted=1
+on 1 8212 0001 00 000c2473686172652f672f612f62 00 -> 1:900400010000
+",
+        ),
+        (
+            "a filter for whose retained messages a queue has no room is refused by itself",
+            "\
+limits refuse 1 1000 1000
+link -> 1
+connect 1 p1 -> 1:connected
+on 1 3307 000161 0001 00 21 -> accepted=1 1:4003000110
+on 1 3307 000162 0001 00 21 -> accepted=2 1:4003000110
+link -> 2
+connect 2 r1 -> 2:connected
+on 2 820b 0001 00 000123 01 000161 01 -> entered=1>r1 2:90050001009701
+on 2 a206 0002 00 000123 -> 2:b00400020011
+pump 2 -> 2:330700016100010021
+",
+        ),
+        (
+            "a wildcard in front matches no topic that begins with a dollar",
+            "\
+link -> 1
+connect 1 c -> 1:connected
+on 1 8207 0001 00 000123 00 -> 1:900400010000
+on 1 320c 0006245359532f78 0001 00 21 -> accepted=1 1:4003000110
+on 1 820c 0002 00 0006245359532f23 00 -> 1:900400020000
+on 1 320c 0006245359532f78 0002 00 21 -> accepted=2 1:300a0006245359532f780021 1:40020002
+",
+        ),
+        (
+            "a copy that entered stays after UNSUBSCRIBE",
+            "\
+link -> 1
+connect 1 r1 -> 1:connected
+on 1 8209 0001 00 0003612f62 02 -> 1:900400010002
+on 1 3209 0003612f62 0001 00 21 -> accepted=1 entered=1>r1 1:40020001
+on 1 a208 0002 00 0003612f62 -> 1:b00400020000
+pump 1 -> 1:32090003612f6200010021
+on 1 40020001 -> ended=1>r1:Taken
+",
+        ),
     ]
 }
