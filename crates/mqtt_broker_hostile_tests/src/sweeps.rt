@@ -8,8 +8,8 @@ use std::hash::RandomState;
 use std::process::Abort;
 use std::test::Fail;
 
-/// Ten packets, and twelve frames that are none.
-const FRAMES: [&[u8]; 22] = [
+/// Frames that are packets.
+const PACKETS: [&[u8]; 10] = [
     b"\xc0\x00",
     b"\x30\x07\x00\x03a/b\x00!",
     b"\x40\x03\x00\x0a\x00",
@@ -20,6 +20,10 @@ const FRAMES: [&[u8]; 22] = [
     b"\xe0\x01\x93",
     b"\x50\x03\x00\x0a\x10",
     b"\x34\x0e\x00\x03a/b\x00\x01\x04\x0b\x01\x0b\x02hi",
+];
+
+/// Frames that are none.
+const FAULTS: [&[u8]; 12] = [
     b"\xf0\x02\x18\x00",
     b"\x60\x02\x00\x0a",
     b"\x36\x0a\x00\x03a/b\x00\x0a\x00hi",
@@ -34,8 +38,12 @@ const FRAMES: [&[u8]; 22] = [
     b"\x30\xfd\xff\x03",
 ];
 
-fn frames() -> &'static [&'static [u8]] {
-    &FRAMES
+fn packets() -> &'static [&'static [u8]] {
+    &PACKETS
+}
+
+fn faults() -> &'static [&'static [u8]] {
+    &FAULTS
 }
 
 /// Each front of a frame, whole and byte by byte; how many there are.
@@ -83,9 +91,10 @@ fn all_fronts(
     stage: &mut Stage<MemKeep>,
     alloc: Global,
     is_connected: bool,
+    frames: &[&[u8]],
 ) -> Result<u32, Fail> {
     let mut count: u32 = 0;
-    for frame in frames() {
+    for frame in frames {
         count = count.wrapping_add(fronts_of(rt, stage, alloc, frame, is_connected)?);
     }
     Ok(count)
@@ -107,17 +116,19 @@ fn all_changes(
     Ok(count)
 }
 
-/// There are so many fronts.
+/// There are so many fronts of these.
 fn assert_fronts(
     rt: &impl Abort,
     alloc: Global,
     hasher: RandomState,
     is_connected: bool,
+    frames: &[&[u8]],
+    want: u32,
 ) -> Result<(), Fail> {
     let mut stage = opened(alloc, hasher)?;
-    let count = all_fronts(rt, &mut stage, alloc, is_connected);
+    let count = all_fronts(rt, &mut stage, alloc, is_connected, frames);
     drop(stage);
-    assert_eq!(rt; count?, 194);
+    assert_eq!(rt; count?, want);
     Ok(())
 }
 
@@ -139,34 +150,38 @@ fn assert_changes(
 
 #[test]
 fn each_front_comes_first(rt: HostRuntime) -> Result<(), Fail> {
-    assert_fronts(&rt, rt.alloc(), RandomState::new(&rt)?, false)
+    let hasher = RandomState::new(&rt)?;
+    assert_fronts(&rt, rt.alloc(), hasher, false, packets(), 97)?;
+    assert_fronts(&rt, rt.alloc(), hasher, false, faults(), 97)
 }
 
 #[test]
 fn each_front_comes_behind_a_connect(rt: HostRuntime) -> Result<(), Fail> {
-    assert_fronts(&rt, rt.alloc(), RandomState::new(&rt)?, true)
+    let hasher = RandomState::new(&rt)?;
+    assert_fronts(&rt, rt.alloc(), hasher, true, packets(), 97)?;
+    assert_fronts(&rt, rt.alloc(), hasher, true, faults(), 97)
 }
 
 #[test]
 fn each_changed_packet_comes_first(rt: HostRuntime) -> Result<(), Fail> {
     let hasher = RandomState::new(&rt)?;
-    assert_changes(&rt, rt.alloc(), hasher, false, &frames()[..10], 24_735)
+    assert_changes(&rt, rt.alloc(), hasher, false, packets(), 24_735)
 }
 
 #[test]
 fn each_changed_fault_comes_first(rt: HostRuntime) -> Result<(), Fail> {
     let hasher = RandomState::new(&rt)?;
-    assert_changes(&rt, rt.alloc(), hasher, false, &frames()[10..], 24_735)
+    assert_changes(&rt, rt.alloc(), hasher, false, faults(), 24_735)
 }
 
 #[test]
 fn each_changed_packet_comes_behind_a_connect(rt: HostRuntime) -> Result<(), Fail> {
     let hasher = RandomState::new(&rt)?;
-    assert_changes(&rt, rt.alloc(), hasher, true, &frames()[..10], 24_735)
+    assert_changes(&rt, rt.alloc(), hasher, true, packets(), 24_735)
 }
 
 #[test]
 fn each_changed_fault_comes_behind_a_connect(rt: HostRuntime) -> Result<(), Fail> {
     let hasher = RandomState::new(&rt)?;
-    assert_changes(&rt, rt.alloc(), hasher, true, &frames()[10..], 24_735)
+    assert_changes(&rt, rt.alloc(), hasher, true, faults(), 24_735)
 }
