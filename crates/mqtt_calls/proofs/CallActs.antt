@@ -23,8 +23,8 @@ use Rattle.mqtt_tables.specs.declared.fault.StepFault.{StepFault}
 use Rattle.mqtt_tables.specs.declared.fault.StepFault.TheVariants.{Spent}
 use Rattle.mqtt_tables.specs.Stepping.{Stepping, Did, Does, IsLeft, Leaves, did, env_in}
 use Rattle.mqtt_tables.proofs.Rows.{spent_append}
-use Rattle.mqtt_acts.specs.Choosing.{DoesSome, LeavesSome}
-use Rattle.mqtt_acts.proofs.Leading.{same_env}
+use Rattle.mqtt_closing.specs.Choosing.{DoesSome, LeavesSome}
+use Rattle.mqtt_closing.proofs.Leading.{same_env}
 use Rattle.mqtt_tables.proofs.Then.{did_then, left_then, same_act, same_left}
 use Rattle.mqtt_calls.specs.Doing.{DidCall, IsCalled, begun}
 

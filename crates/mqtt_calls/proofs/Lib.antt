@@ -3,4 +3,5 @@ pub mod Kept
 pub mod SoundLaw
 pub mod CallActs
 pub mod SomeCalls
-pub mod Willed
+pub use Rattle.mqtt_closing.proofs.Some
+pub use Rattle.mqtt_closing.proofs.WilledBrokers

@@ -13,8 +13,8 @@ use Rattle.mqtt_rules.proofs.Leads.{found_passes}
 use Rattle.mqtt_tables.specs.declared.fault.StepFault.{StepFault}
 use Rattle.mqtt_tables.specs.declared.fault.StepFault.TheVariants.{Spent}
 use Rattle.mqtt_tables.specs.Stepping.{Stepping, Did, IsLeft, env_in}
-use Rattle.mqtt_acts.specs.Choosing.{DoesSome, LeavesSome}
-use Rattle.mqtt_acts.proofs.Some.{both, leaves_first, leaves_some, same_some, same_some_left, then_some, then_some_left}
+use Rattle.mqtt_closing.specs.Choosing.{DoesSome, LeavesSome}
+use Rattle.mqtt_closing.proofs.Some.{both, leaves_first, leaves_some, same_some, same_some_left, then_some, then_some_left}
 use Rattle.mqtt_calls.specs.Doing.{DidCall, IsCalled, begun}
 use Rattle.mqtt_calls.proofs.CallActs.{did_call, hears, left_call}
 

@@ -1,8 +1,8 @@
 //! What every call of the broker shares: what holds between calls, and a call done in place (MQTT 5.0, 2.2.1, 4.1). Private.
 #![tactic(auto)]
 
-mod answering;
 mod laws;
 
-pub use answering::{ping_at, release_at};
 pub use laws::{limits_stay_kept, sound_brokers_stay_sound};
+pub use mqtt_closing::{Router, close, disconnect, drop_line, lost};
+pub use mqtt_turns::pump;

@@ -4,3 +4,6 @@ pub mod Settled
 pub mod Closed
 pub mod LineClosed
 pub mod Ticked
+pub use Rattle.mqtt_acts.proofs.Leading
+pub use Rattle.mqtt_acts.proofs.Some
+pub mod WilledBrokers

@@ -12,6 +12,7 @@ mod wills;
 pub use closing::{close, drop_line};
 pub use ending::end_session;
 pub use leaving::{disconnect, lost};
+pub use mqtt_acts::Router;
 pub use settling::settle;
 pub use ticking::{close_silent, silent_line};
 pub use wills::publish_will;

@@ -11,7 +11,7 @@ use Rattle.mqtt_rules.specs.Connect.{begin_named, joins, on_connect, prepare, re
 use Rattle.mqtt_tables.specs.declared.fault.StepFault.{StepFault}
 use Rattle.mqtt_tables.specs.Stepping.{Stepping, Did, IsLeft, Leaves, env_in}
 use Rattle.mqtt_tables.proofs.Then.{same_act, same_left}
-use Rattle.mqtt_acts.proofs.Leading.{same_env}
+use Rattle.mqtt_closing.proofs.Leading.{same_env}
 use Rattle.mqtt_connecting.specs.declared.joining.Joined.{Joined}
 use Rattle.mqtt_connecting.specs.declared.joining.Joined.TheVariants.{Done, NoPlace}
 use Rattle.mqtt_connecting.specs.Joining.{ConnectedBy, IsJoined, IsPlaced, IsPrepared, JoinedBy, joins_now}

@@ -19,8 +19,8 @@ use Rattle.mqtt_rules.proofs.Leads.{found_passes}
 use Rattle.mqtt_tables.specs.declared.fault.StepFault.{StepFault}
 use Rattle.mqtt_tables.specs.Stepping.{Stepping, Did, Does, Leaves, env_in}
 use Rattle.mqtt_tables.proofs.Doing.{found_birth}
-use Rattle.mqtt_acts.specs.Choosing.{DoesSome, LeavesSome}
-use Rattle.mqtt_acts.proofs.Some.{same_does, same_leaves, same_some, same_some_left}
+use Rattle.mqtt_closing.specs.Choosing.{DoesSome, LeavesSome}
+use Rattle.mqtt_closing.proofs.Some.{same_does, same_leaves, same_some, same_some_left}
 use Rattle.mqtt_closing.specs.Ending.{ends}
 use Rattle.mqtt_closing.specs.Wills.{ChoosesOnce, will_at}
 use Rattle.mqtt_closing.proofs.Settled.{does_nothing}

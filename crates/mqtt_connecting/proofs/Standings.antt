@@ -7,7 +7,7 @@ use Rattle.mqtt_rules.specs.Numbers.{HasGivenBirths}
 use Rattle.mqtt_rules.specs.State.{Line, MemberChoice, session_named}
 use Rattle.mqtt_tables.specs.declared.fault.StepFault.{StepFault}
 use Rattle.mqtt_tables.specs.Stepping.{Stepping, Did, IsLeft, env_in}
-use Rattle.mqtt_acts.specs.Choosing.{DoesSome, LeavesSome}
+use Rattle.mqtt_closing.specs.Choosing.{DoesSome, LeavesSome}
 use Rattle.mqtt_connecting.specs.declared.joining.Joined.{Joined}
 use Rattle.mqtt_connecting.specs.Joining.{ConnectedBy, IsNamedAt, IsPrepared, joins_now}
 use Rattle.mqtt_connecting.specs.Preparing.{IsConnected}

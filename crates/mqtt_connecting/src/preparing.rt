@@ -8,14 +8,13 @@ ghost use Rattle.mqtt_rules.specs.Contents.{IsWilled};
 ghost use Rattle.mqtt_rules.specs.Routing.{subscribers};
 ghost use Rattle.mqtt_rules.specs.State.{line_of, session_at};
 ghost use Rattle.mqtt_tables.specs.Stepping.{Does, Leaves};
-ghost use Rattle.mqtt_acts.specs.Choosing.{DoesSome, LeavesSome};
+ghost use Rattle.mqtt_closing.specs.Choosing.{DoesSome, LeavesSome};
 ghost use Rattle.mqtt_closing.specs.Wills.{ChoosesOnce, will_at};
 ghost use Rattle.mqtt_connecting.specs.Joining.{IsNamedAt};
 ghost use Rattle.mqtt_connecting.specs.Preparing.{IsOnly, clears, clears_if, settles, settles_and_clears, takes_over};
 
-use mqtt_acts::Router;
 use mqtt_base::Reason;
-use mqtt_closing::{drop_line, end_session, publish_will, settle};
+use mqtt_closing::{Router, drop_line, end_session, publish_will, settle};
 use mqtt_codec::Connect;
 use mqtt_tables::{LineState, Step, StepFault};
 use std::alloc::Global;

@@ -6,14 +6,14 @@ ghost use Rattle.mqtt_rules.specs.Contents.{IsWilled};
 ghost use Rattle.mqtt_rules.specs.Numbers.{HasGivenBirths};
 ghost use Rattle.mqtt_rules.specs.Routing.{subscribers};
 ghost use Rattle.mqtt_rules.specs.State.{Line};
-ghost use Rattle.mqtt_acts.specs.Choosing.{LeavesSome};
+ghost use Rattle.mqtt_closing.specs.Choosing.{LeavesSome};
 ghost use Rattle.mqtt_closing.specs.Wills.{will_at};
 ghost use Rattle.mqtt_connecting.specs.Joining.{IsNamedAt};
 ghost use Rattle.mqtt_connecting.specs.Preparing.{IsConnected, IsOnly};
 
 use crate::joining::{Joined, join};
 use crate::preparing::prepare;
-use mqtt_acts::Router;
+use mqtt_closing::Router;
 use mqtt_codec::Connect;
 use mqtt_tables::{Step, StepFault};
 use std::alloc::Global;

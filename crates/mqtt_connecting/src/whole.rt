@@ -6,15 +6,15 @@ ghost use Rattle.mqtt_rules.specs.Contents.{IsWilled};
 ghost use Rattle.mqtt_rules.specs.Laws.{IsCoherent};
 ghost use Rattle.mqtt_rules.specs.Routing.{subscribers};
 ghost use Rattle.mqtt_rules.specs.State.{Line, session_named};
-ghost use Rattle.mqtt_acts.specs.Choosing.{LeavesSome};
+ghost use Rattle.mqtt_closing.specs.Choosing.{LeavesSome};
 ghost use Rattle.mqtt_closing.specs.Wills.{will_at};
 ghost use Rattle.mqtt_connecting.specs.Preparing.{IsConnected};
 
 use crate::connecting::{connect_new, connect_refused, refusal_of};
 use crate::joining::{Joined, birth_named};
 use crate::standing::connect_standing;
-use mqtt_acts::Router;
 use mqtt_base::Reason;
+use mqtt_closing::Router;
 use mqtt_codec::Connect;
 use mqtt_tables::{Step, StepFault};
 use std::alloc::Global;

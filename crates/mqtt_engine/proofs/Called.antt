@@ -24,9 +24,9 @@ use Rattle.mqtt_router.specs.Following.{CanAllBeFollowed, CanBeIndexed}
 use Rattle.mqtt_router.proofs.Followed.{indexed_of, step_followed}
 use Rattle.mqtt_engine.specs.declared.outcome.Outcome.{Outcome}
 use Rattle.mqtt_engine.specs.Calling.{IsAnswered, IsLeftBy}
-use Rattle.mqtt_calls.specs.Doing.{DidCall}
-use Rattle.mqtt_calls.specs.Sound.{IsSound}
-use Rattle.mqtt_calls.proofs.SoundLaw.{step_sound}
+use Rattle.mqtt_lines.specs.Doing.{DidCall}
+use Rattle.mqtt_lines.specs.Sound.{IsSound}
+use Rattle.mqtt_lines.proofs.SoundLaw.{step_sound}
 
 -- ---- what a sound broker gives
 

@@ -5,8 +5,8 @@ ghost use Rattle.mqtt_rules.specs.Lines.{session_on};
 ghost use Rattle.mqtt_rules.specs.Routing.{subscribers};
 ghost use Rattle.mqtt_rules.specs.Step.{BadInput, Input, Lost, Pump, Tick};
 ghost use Rattle.mqtt_tables.specs.Stepping.{at_rest};
-ghost use Rattle.mqtt_calls.specs.Doing.{IsCalled};
-ghost use Rattle.mqtt_calls.specs.Sound.{IsSound};
+ghost use Rattle.mqtt_lines.specs.Doing.{IsCalled};
+ghost use Rattle.mqtt_lines.specs.Sound.{IsSound};
 ghost use Rattle.mqtt_router.specs.Indexing.{Serves};
 ghost use Rattle.mqtt_engine.specs.Calling.{Called};
 

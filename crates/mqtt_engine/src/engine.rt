@@ -3,11 +3,11 @@ ghost use Rattle.std.specs.Prelude.{◌≡◌, None, false, option_copied};
 ghost use Rattle.mqtt_router.specs.Indexing.{Serves};
 ghost use Rattle.mqtt_rules.specs.Routing.{subscribers};
 ghost use Rattle.mqtt_rules.specs.State.{line_at};
-ghost use Rattle.mqtt_rules.specs.Step.{BrokerStep, Call, NewLine, copy_of, nothing_told};
+ghost use Rattle.mqtt_rules.specs.Step.{BrokerStep, Call, NewLine, at_moment, copy_of, nothing_told};
 ghost use Rattle.mqtt_tables.specs.Doing.{next_line};
 ghost use Rattle.mqtt_tables.specs.Stepping.{at_rest};
-ghost use Rattle.mqtt_calls.specs.Sound.{IsSound};
-ghost use Rattle.mqtt_engine.specs.Calling.{Called, IsOn};
+ghost use Rattle.mqtt_lines.specs.Sound.{IsSound};
+ghost use Rattle.mqtt_engine.specs.Calling.{Called, IsOn, Tells};
 
 use crate::holding::copy_of;
 use crate::outcome::{Outcome, nothing};
@@ -37,7 +37,7 @@ impl<K: Keep> Model for Engine<K> {
     ghost use Rattle.mqtt_rules.specs.Routing.{subscribers};
     ghost use Rattle.mqtt_tables.specs.Stepping.{at_rest};
     ghost use Rattle.mqtt_engine.specs.Running.{Running};
-    ghost use Rattle.mqtt_calls.specs.Sound.{IsSound};
+    ghost use Rattle.mqtt_lines.specs.Sound.{IsSound};
 
     ghost Value = { Running K };
 
@@ -109,11 +109,28 @@ impl<K: Keep> Engine<K> {
         keep
     }
 
+    /// Whether its store has failed; while it hasn't, it holds what is stored. Takes no memory.
+    pub fn is_stopped(&self) -> bool
+        ensures exact { result ≡ self.now.stopped }
+        ensures stored { self.now.stopped ≡ false → K.holds self.now.keep self.now.broker.records }
+    {
+        self.stopped
+    }
+
     /// How many failures its store has counted, modulo 2^64. Takes no memory.
     pub fn failures(&self) -> u64
         ensures { result ≡ K.counted self.now.keep }
     {
         self.keep.failures()
+    }
+
+    /// Nothing comes about but that the moment is the greatest handed in. Takes no memory.
+    pub fn rest_at(&mut self, moment: u64) -> Outcome
+        ensures told { Tells nothing_told result }
+        ensures ok { self.new ≡ record self.old { broker = at_moment moment self.old.broker } }
+    {
+        self.step.rest_at(moment);
+        nothing(self.alloc)
     }
 
     /// What comes, or is asked, on a line that isn't linked does nothing but that the moment is the greatest handed in.

@@ -11,8 +11,8 @@ ghost use Rattle.mqtt_rules.specs.Step.{Call, SpentStep, is_spent};
 ghost use Rattle.mqtt_tables.specs.Stepping.{at_rest};
 ghost use Rattle.mqtt_tables.specs.declared.fault.StepFault.TheVariants.{Spent};
 ghost use Rattle.mqtt_engine.specs.Calling.{IsAnswered, IsLeftBy};
-ghost use Rattle.mqtt_calls.specs.Doing.{DidCall, IsCalled};
-ghost use Rattle.mqtt_calls.specs.Sound.{IsSound};
+ghost use Rattle.mqtt_lines.specs.Doing.{DidCall, IsCalled};
+ghost use Rattle.mqtt_lines.specs.Sound.{IsSound};
 
 use crate::outcome::{Outcome, answered};
 use mqtt_records::Keep;

@@ -1,6 +1,6 @@
 //! The index of subscriptions, made anew where it was thrown away (MQTT 5.0, 3.8.4).
 ghost use Rattle.std.specs.Prelude.{◌≡◌, false, OnOk, IfErr};
-ghost use Rattle.mqtt_calls.specs.Sound.{IsSound};
+ghost use Rattle.mqtt_lines.specs.Sound.{IsSound};
 ghost use Rattle.mqtt_router.specs.Indexing.{Serves};
 ghost use Rattle.mqtt_rules.specs.Routing.{subscribers};
 

@@ -11,4 +11,5 @@ mod outcome;
 
 pub use engine::Engine;
 pub use finishing::finish;
+pub use mqtt_router::Index;
 pub use outcome::Outcome;

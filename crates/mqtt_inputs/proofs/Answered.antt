@@ -19,9 +19,9 @@ use Rattle.mqtt_rules.specs.State.{Broker, Env, Line}
 use Rattle.mqtt_rules.specs.Step.{next_packet, on_packet}
 use Rattle.mqtt_tables.specs.declared.fault.StepFault.{StepFault}
 use Rattle.mqtt_tables.specs.Stepping.{Stepping, Did, IsLeft, env_in}
-use Rattle.mqtt_acts.specs.Choosing.{DoesSome, LeavesSome}
-use Rattle.mqtt_acts.proofs.Some.{does_some, leaves_some, same_some, same_some_left}
-use Rattle.mqtt_closing.specs.Settling.{disconnects}
+use Rattle.mqtt_calls.specs.Choosing.{DoesSome, LeavesSome}
+use Rattle.mqtt_calls.proofs.Some.{does_some, leaves_some, same_some, same_some_left}
+use Rattle.mqtt_calls.specs.Settling.{disconnects}
 use Rattle.mqtt_publishing.specs.Publishing.{IsOver, IsWrong}
 use Rattle.mqtt_publishing.proofs.Aliased.{stored_stays}
 use Rattle.mqtt_publishing.proofs.Dropped.{over_dropped, over_left, wrong_dropped, wrong_left}

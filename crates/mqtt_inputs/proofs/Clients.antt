@@ -18,7 +18,7 @@ use Rattle.mqtt_rules.specs.Step.{at_moment}
 use Rattle.mqtt_rules.proofs.ContentPackets.{sent_content}
 use Rattle.mqtt_rules.proofs.FitLaw.{mapped_some}
 use Rattle.mqtt_tables.specs.Lines.{line_number}
-use Rattle.mqtt_acts.specs.Choosing.{IsLawfulMessage}
+use Rattle.mqtt_calls.specs.Choosing.{IsLawfulMessage}
 use Rattle.mqtt_subscribe.specs.declared.unsubscribe.Unsubscribe.{Unsubscribe}
 use Rattle.mqtt_subscribe.specs.Unsubscribe.{unsubscribe_body}
 use Rattle.mqtt_inputs.specs.Inputs.{HasClient}

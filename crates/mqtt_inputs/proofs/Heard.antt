@@ -21,8 +21,8 @@ use Rattle.mqtt_rules.specs.State.{Broker, Env, Line, queue_on, session_at}
 use Rattle.mqtt_rules.specs.Step.{Input, deeds_of, next_packet, on_packet}
 use Rattle.mqtt_tables.specs.declared.fault.StepFault.{StepFault}
 use Rattle.mqtt_tables.specs.Stepping.{Stepping, Did, IsLeft, env_in}
-use Rattle.mqtt_acts.specs.Choosing.{DoesSome, LeavesSome}
-use Rattle.mqtt_acts.proofs.Some.{both, leaves_first, leaves_some, same_some, same_some_left, then_some, then_some_left}
+use Rattle.mqtt_calls.specs.Choosing.{DoesSome, LeavesSome}
+use Rattle.mqtt_calls.proofs.Some.{both, leaves_first, leaves_some, same_some, same_some_left, then_some, then_some_left}
 use Rattle.mqtt_inputs.specs.Inputs.{takes}
 use Rattle.mqtt_inputs.proofs.Clients.{heard_broker, line_heard}
 use Rattle.mqtt_inputs.proofs.OnLine.{OnLine}

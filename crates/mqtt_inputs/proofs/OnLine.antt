@@ -13,8 +13,8 @@ use Rattle.mqtt_rules.proofs.Leads.{found_passes}
 use Rattle.mqtt_tables.specs.Lines.{line_number}
 use Rattle.mqtt_tables.specs.declared.fault.StepFault.{StepFault}
 use Rattle.mqtt_tables.specs.Stepping.{Stepping, env_in}
-use Rattle.mqtt_acts.specs.Choosing.{DoesSome, LeavesSome}
-use Rattle.mqtt_acts.proofs.Some.{same_some, same_some_left}
+use Rattle.mqtt_calls.specs.Choosing.{DoesSome, LeavesSome}
+use Rattle.mqtt_calls.proofs.Some.{same_some, same_some_left}
 use Rattle.mqtt_subscribing.proofs.Lines.{line_is}
 use Rattle.mqtt_inputs.specs.Inputs.{HasClient, takes}
 

@@ -8,7 +8,7 @@ use Rattle.mqtt_rules.specs.Lines.{closed_at, session_on}
 use Rattle.mqtt_rules.specs.State.{Broker, Env, line_at}
 use Rattle.mqtt_rules.specs.Step.{on_packet}
 use Rattle.mqtt_tables.specs.Subscribing.{HaveFiltersOnce}
-use Rattle.mqtt_turns.specs.Queues.{HasKeptOrders}
+use Rattle.mqtt_calls.specs.Queues.{HasKeptOrders}
 
 -- what a packet does on a line that was heard, by the session that is connected on it
 abbrev pub takes : ℕ → Packet → Env → Act

@@ -3,12 +3,11 @@ ghost use Rattle.std.specs.Prelude.{List, OnOk, IfErr};
 ghost use Rattle.mqtt_codec.specs.declared.packet.Packet.TheVariants as packets;
 ghost use Rattle.mqtt_routes.specs.Subscriptions.{Subscriber};
 ghost use Rattle.mqtt_rules.specs.Routing.{subscribers};
-ghost use Rattle.mqtt_acts.specs.Choosing.{DoesSome, LeavesSome};
+ghost use Rattle.mqtt_calls.specs.Choosing.{DoesSome, LeavesSome};
 ghost use Rattle.mqtt_inputs.specs.Inputs.{HasClient, takes};
 
-use mqtt_acts::Router;
 use mqtt_base::Reason;
-use mqtt_closing::drop_line;
+use mqtt_calls::{Router, drop_line};
 use mqtt_codec::Ack;
 use mqtt_tables::{Step, StepFault};
 use mqtt_turns as turns;

@@ -4,12 +4,12 @@ ghost use Rattle.mqtt_codec.specs.declared.packet.Packet.{Packet};
 ghost use Rattle.mqtt_codec.specs.declared.packet.Packet.TheVariants as packets;
 ghost use Rattle.mqtt_routes.specs.Subscriptions.{Subscriber};
 ghost use Rattle.mqtt_rules.specs.Routing.{subscribers};
-ghost use Rattle.mqtt_acts.specs.Choosing.{DoesSome, LeavesSome};
+ghost use Rattle.mqtt_calls.specs.Choosing.{DoesSome, LeavesSome};
 ghost use Rattle.mqtt_inputs.specs.Inputs.{HasClient, is_stray, takes};
 
-use mqtt_acts::Router;
 use mqtt_base::Reason;
-use mqtt_closing as closing;
+use mqtt_calls as calls;
+use mqtt_calls::Router;
 use mqtt_codec::Notice;
 use mqtt_props::PropName;
 use mqtt_tables::{Step, StepFault};
@@ -34,7 +34,7 @@ pub(crate) fn disconnect<R: Router>(
         → R.serves router.new sessions }
 {
     let expiry = number_at(&packet.properties.lend(), PropName::SessionExpiryInterval);
-    closing::disconnect(alloc, router, step, line, birth, packet.reason, expiry)
+    calls::disconnect(alloc, router, step, line, birth, packet.reason, expiry)
 }
 
 /// A packet that a connected client may not send drops its line (4.13).
@@ -55,5 +55,5 @@ pub(crate) fn stray<R: Router>(
         → R.serves router.new sessions }
 {
     let code = Reason::PROTOCOL_ERROR;
-    closing::drop_line(alloc, router, step, line, Some(birth), code)
+    calls::drop_line(alloc, router, step, line, Some(birth), code)
 }

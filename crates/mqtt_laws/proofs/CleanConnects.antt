@@ -285,7 +285,7 @@ connect_is o env l client s b e t k some none room =
 -- ---- the call
 
 -- the deeds of the call, and what they leave
-record Renews (o : Option BrokerLine) (client : List ℕ) (n : ℕ) (ds : List Deed) (b : Broker) : Type 0 where
+pub record Renews (o : Option BrokerLine) (client : List ℕ) (n : ℕ) (ds : List Deed) (b : Broker) : Type 0 where
   pub birth : ℕ
   pub shown : Face
   pub face_is : face_at birth (after_all ds b).records ≡ Some shown
@@ -334,7 +334,7 @@ renews o limits l client s b t k on births within room =
       patient = patient_append ds es (ending_patient ds given.ending) (tt, (refl, (tt, tt)));
     }
 
-call_renews : (limits : Limits) (choice : MemberChoice) (now : ℕ) (p : Publisher) (l : BrokerLine) (s : Session) (b : Broker) → IsAsking p l s b → MayBegin limits p.client b
+pub call_renews : (limits : Limits) (choice : MemberChoice) (now : ℕ) (p : Publisher) (l : BrokerLine) (s : Session) (b : Broker) → IsAsking p l s b → MayBegin limits p.client b
     → Renews (line_of s.birth b) p.client l.number (deeds limits choice now (Input l.number (connect_packet true p)) b) (at_moment now b)
 call_renews limits choice now p l s b a m =
     let n = l.number in

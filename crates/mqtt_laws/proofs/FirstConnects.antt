@@ -79,7 +79,7 @@ connect_is env l clean client b none short plain some =
     ∙ (ap (λ (z : Option Session). joins env l c b.now [] b.records z) none
     ∙ joined_by_room (nat_lt (length b.records.sessions) env.limits.sessions) (is_empty client) l c b.records some))
 
-call_is : (limits : Limits) (choice : MemberChoice) (now : ℕ) (clean : Bool) (p : Publisher) (l : BrokerLine) (b : Broker) → IsFirst limits p l b
+pub call_is : (limits : Limits) (choice : MemberChoice) (now : ℕ) (clean : Bool) (p : Publisher) (l : BrokerLine) (b : Broker) → IsFirst limits p l b
     → deeds limits choice now (Input l.number (Connect (hello_by clean p.client))) b
     ≡ On l.number Hear ∷ joins_by (nat_lt (length b.records.sessions) limits.sessions) l (hello_by clean p.client) b.records
 call_is limits choice now clean p l b a =
@@ -132,7 +132,7 @@ before_linked limits p l b a =
     ap (λ (o : Option ℕ). is_linked o b) a.number
     ∙ (linked_is l.number b ∙ ap linked_of (ap (option_map (λ (x : BrokerLine). x.session)) a.line ∙ ap Some a.waits))
 
-begins_seen : (limits : Limits) (choice : MemberChoice) (now : ℕ) (clean : Bool) (p : Publisher) (l : BrokerLine) (b : Broker) (accepted : List ℕ)
+pub begins_seen : (limits : Limits) (choice : MemberChoice) (now : ℕ) (clean : Bool) (p : Publisher) (l : BrokerLine) (b : Broker) (accepted : List ℕ)
     → p.line.up ≡ shake (CONNECT clean) ∷ [] → IsFirst limits p l b → nat_lt (length b.records.sessions) limits.sessions ≡ true → Sees limits choice now clean p l b accepted (to_broker takes)
 begins_seen limits choice now clean p l b accepted up a room =
     let c = hello_by clean p.client in
@@ -195,7 +195,7 @@ begins_seen limits choice now clean p l b accepted up a room =
     none_closed None = refl
     none_closed (Some m) = refl
 
-refused_seen : (limits : Limits) (choice : MemberChoice) (now : ℕ) (clean : Bool) (p : Publisher) (l : BrokerLine) (b : Broker) (accepted : List ℕ)
+pub refused_seen : (limits : Limits) (choice : MemberChoice) (now : ℕ) (clean : Bool) (p : Publisher) (l : BrokerLine) (b : Broker) (accepted : List ℕ)
     → p.line.up ≡ shake (CONNECT clean) ∷ [] → IsFirst limits p l b → nat_lt (length b.records.sessions) limits.sessions ≡ false → Sees limits choice now clean p l b accepted (to_broker refuses)
 refused_seen limits choice now clean p l b accepted up a full =
     let c = hello_by clean p.client in

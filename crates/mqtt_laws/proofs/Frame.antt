@@ -94,11 +94,11 @@ frame limits choice now call p l s b accepted c own plain far =
     (old_events t, same ∙ old_closed t p.line.old (seen accepted p b) refl)
 
 -- the session and the line stay the publisher's
-kept_births : (rows : List Change) (b : Broker) → (with_moment rows b).records.births ≡ b.records.births
+pub kept_births : (rows : List Change) (b : Broker) → (with_moment rows b).records.births ≡ b.records.births
 kept_births [] b = refl
 kept_births (row ∷ rows) b = refl
 
-kept_given : (rows : List Change) (b : Broker) → (with_moment rows b).given ≡ b.given
+pub kept_given : (rows : List Change) (b : Broker) → (with_moment rows b).given ≡ b.given
 kept_given [] b = refl
 kept_given (row ∷ rows) b = refl
 

@@ -32,15 +32,15 @@ use Rattle.mqtt_laws.proofs.OldLine.{further}
 
 -- ---- what the publisher's own line is told, and what is left of it
 
-abbrev late_told : Bool → List ToPublisher
+abbrev pub late_told : Bool → List ToPublisher
 late_told true = DISCONNECT session_taken_over ∷ []
 late_told false = []
 
-abbrev late_on : Bool → Option (Option ℕ) → Option (Option ℕ)
+abbrev pub late_on : Bool → Option (Option ℕ) → Option (Option ℕ)
 late_on true on = None
 late_on false on = on
 
-record IsThere (m : ℕ) (ds : List Deed) (b : Broker) (t : Bool) : Type 0 where
+pub record IsThere (m : ℕ) (ds : List Deed) (b : Broker) (t : Bool) : Type 0 where
   pub told_is : told_to m ds ≡ late_told t
   pub line_is : session_on m (after_all ds b).lines ≡ late_on t (session_on m b.lines)
 
@@ -62,7 +62,7 @@ resumed_far client m now l x beside =
     let dues = due_from [] (queue_on [] x) in
     (inl (inl (further x.birth)), (inr (beside, further x.birth), (inl (inl beside), far_quiet client (suc x.birth) m _ (repeats_quiet (suc x.birth) m now l.number x dues (λ d. d.identifier)))))
 
-call_there : (limits : Limits) (choice : MemberChoice) (now : ℕ) (client : List ℕ) (l : BrokerLine) (s : Session) (m : ℕ) (b : Broker) → line_at l.number b ≡ Some l → l.session ≡ None → IsKept client s b
+pub call_there : (limits : Limits) (choice : MemberChoice) (now : ℕ) (client : List ℕ) (l : BrokerLine) (s : Session) (m : ℕ) (b : Broker) → line_at l.number b ≡ Some l → l.session ≡ None → IsKept client s b
     → IsTaken (line_of s.birth b) s.birth l.number → nat_eq l.number m ≡ false
     → IsThere m (deeds limits choice now (Input l.number (Connect (hello client))) b) (at_moment now b) (is_one_of (Some m) (lines_left (line_of s.birth b)))
 call_there limits choice now client l s m b line waits k taken beside =

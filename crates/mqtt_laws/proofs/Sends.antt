@@ -91,13 +91,13 @@ module _ (accepted : List ℕ) (b : Broker) (t : Bool) where
       let unsents = sym e in
       λ i. record (sees p) { unsent = unsents i; up = ups i }
 
-  blocked : (ds : List Draft) (p : Publisher) → room p ≡ false → send_all t ds p ≡ p
+  pub blocked : (ds : List Draft) (p : Publisher) → room p ≡ false → send_all t ds p ≡ p
   blocked [] p h = refl
   blocked (d ∷ rest) p h =
       let same : send_one t d rest p ≡ p = ap (λ (z : Bool). if z then goes_out t d.qos d.content rest p else p) h in
       ap (send_all t rest) same ∙ blocked rest p h
 
-  hop_blocked : (qs : List Qos) (w : Hop) → nat_lt (length (in_flight w.fates)) OPEN_LIMIT ≡ false → hop.send_all qs w ≡ w
+  pub hop_blocked : (qs : List Qos) (w : Hop) → nat_lt (length (in_flight w.fates)) OPEN_LIMIT ≡ false → hop.send_all qs w ≡ w
   hop_blocked [] w h = refl
   hop_blocked (q ∷ rest) w h =
       let same : hop.send_one q rest w ≡ w = ap (λ (z : Bool). if z then one_sent q rest w else w) h in

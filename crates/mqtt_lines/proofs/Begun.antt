@@ -8,7 +8,7 @@ use Rattle.mqtt_rules.specs.Step.{at_moment}
 use Rattle.mqtt_tables.specs.declared.fault.StepFault.{StepFault}
 use Rattle.mqtt_tables.specs.declared.fault.StepFault.TheVariants.{Memory}
 use Rattle.mqtt_tables.specs.Stepping.{Stepping, IsLeft, at_rest, env_in, with_broker}
-use Rattle.mqtt_acts.specs.Choosing.{LeavesSome}
+use Rattle.mqtt_calls.specs.Choosing.{LeavesSome}
 use Rattle.mqtt_calls.specs.Doing.{begun}
 
 pub begun_is : (now : ℕ) (s s1 : Stepping) → s ≡ at_rest s.limits s.broker → s1 ≡ with_broker (at_moment now s.broker) s → s1 ≡ begun s.limits now s.broker

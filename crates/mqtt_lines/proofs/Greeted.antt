@@ -17,8 +17,8 @@ use Rattle.mqtt_tables.specs.declared.fault.StepFault.{StepFault}
 use Rattle.mqtt_tables.specs.declared.fault.StepFault.TheVariants.{Memory}
 use Rattle.mqtt_tables.specs.Stepping.{Stepping, Did, IsLeft, at_rest, env_in, with_broker}
 use Rattle.mqtt_tables.proofs.Then.{did_then, left_first, left_then, same_act, same_left}
-use Rattle.mqtt_acts.specs.Choosing.{DoesSome, LeavesSome}
-use Rattle.mqtt_acts.proofs.Some.{env_stays, same_some, same_some_left}
+use Rattle.mqtt_calls.specs.Choosing.{DoesSome, LeavesSome}
+use Rattle.mqtt_calls.proofs.Some.{env_stays, same_some, same_some_left}
 use Rattle.mqtt_connecting.specs.declared.joining.Joined.{Joined}
 use Rattle.mqtt_connecting.specs.declared.joining.Joined.TheVariants.{Done, NoPlace}
 use Rattle.mqtt_connecting.specs.Joining.{IsRefusedWhole}

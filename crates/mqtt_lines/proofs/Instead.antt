@@ -5,7 +5,7 @@ use Rattle.mqtt_rules.specs.Deeds.{Act}
 use Rattle.mqtt_tables.specs.declared.fault.StepFault.{StepFault}
 use Rattle.mqtt_tables.specs.declared.fault.StepFault.TheVariants.{Memory}
 use Rattle.mqtt_tables.specs.Stepping.{Stepping}
-use Rattle.mqtt_acts.specs.Choosing.{LeavesSome}
+use Rattle.mqtt_calls.specs.Choosing.{LeavesSome}
 use Rattle.mqtt_lines.proofs.Begun.{memory_some}
 
 -- what was refused for any reason is refused for want of memory

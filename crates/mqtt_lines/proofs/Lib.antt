@@ -2,3 +2,4 @@ pub mod Begun
 pub mod Refused
 pub mod Instead
 pub mod Greeted
+pub use Rattle.mqtt_calls.proofs.SoundLaw

@@ -8,8 +8,8 @@ use Rattle.mqtt_rules.specs.State.{Broker, Env, Line}
 use Rattle.mqtt_rules.specs.Step.{BadInput, deeds_of, late_code, on_fault}
 use Rattle.mqtt_tables.specs.declared.fault.StepFault.{StepFault}
 use Rattle.mqtt_tables.specs.Stepping.{Stepping, Did, IsLeft, env_in}
-use Rattle.mqtt_acts.specs.Choosing.{DoesSome, LeavesSome}
-use Rattle.mqtt_acts.proofs.Some.{alone, both, leaves_first, leaves_some, same_some, same_some_left, then_some, then_some_left}
+use Rattle.mqtt_calls.specs.Choosing.{DoesSome, LeavesSome}
+use Rattle.mqtt_calls.proofs.Some.{alone, both, leaves_first, leaves_some, same_some, same_some_left, then_some, then_some_left}
 use Rattle.mqtt_calls.proofs.SomeCalls.{OnLine}
 use Rattle.mqtt_lines.specs.First.{first_told}
 

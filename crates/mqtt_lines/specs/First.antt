@@ -10,7 +10,7 @@ use Rattle.mqtt_rules.specs.Packets.{connack}
 use Rattle.mqtt_rules.specs.State.{Line, MemberChoice}
 use Rattle.mqtt_rules.specs.Step.{Input, deeds_of}
 use Rattle.mqtt_tables.specs.Stepping.{Stepping, env_in}
-use Rattle.mqtt_acts.specs.Choosing.{DoesSome}
+use Rattle.mqtt_calls.specs.Choosing.{DoesSome}
 use Rattle.mqtt_connecting.specs.declared.joining.Joined.{Joined}
 use Rattle.mqtt_connecting.specs.declared.joining.Joined.TheVariants.{Done, NoPlace}
 

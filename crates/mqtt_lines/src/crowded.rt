@@ -7,13 +7,13 @@ ghost use Rattle.mqtt_rules.specs.Laws.{IsCoherent};
 ghost use Rattle.mqtt_rules.specs.Numbers.{HasGivenBirths};
 ghost use Rattle.mqtt_rules.specs.Routing.{subscribers};
 ghost use Rattle.mqtt_rules.specs.State.{Line, session_named};
-ghost use Rattle.mqtt_acts.specs.Choosing.{LeavesSome};
-ghost use Rattle.mqtt_closing.specs.Wills.{will_at};
+ghost use Rattle.mqtt_calls.specs.Choosing.{LeavesSome};
+ghost use Rattle.mqtt_calls.specs.Wills.{will_at};
 ghost use Rattle.mqtt_connecting.specs.Joining.{IsNamedAt};
 ghost use Rattle.mqtt_connecting.specs.Preparing.{IsConnected, IsOnly};
 
-use mqtt_acts::Router;
 use mqtt_base::Reason;
+use mqtt_calls::Router;
 use mqtt_codec::Connect;
 use mqtt_connecting::{Joined, connect_new, connect_refused, join, prepare, refusal_of};
 use mqtt_tables::{Step, StepFault};

@@ -6,14 +6,13 @@ ghost use Rattle.mqtt_rules.specs.Lines.{session_on};
 ghost use Rattle.mqtt_rules.specs.Routing.{subscribers};
 ghost use Rattle.mqtt_rules.specs.Step.{Input, deeds_of};
 ghost use Rattle.mqtt_tables.specs.Stepping.{at_rest};
-ghost use Rattle.mqtt_acts.specs.Choosing.{DoesSome, LeavesSome};
+ghost use Rattle.mqtt_calls.specs.Choosing.{DoesSome, LeavesSome};
 ghost use Rattle.mqtt_calls.specs.Doing.{IsCalled, begun};
 ghost use Rattle.mqtt_calls.specs.Sound.{IsSound};
 ghost use Rattle.mqtt_lines.specs.First.{IsOther};
 
 use crate::connecting::connect_at;
-use mqtt_acts::Router;
-use mqtt_closing::close;
+use mqtt_calls::{Router, close};
 use mqtt_codec::Packet;
 use mqtt_tables::{Step, StepFault};
 use std::alloc::Global;

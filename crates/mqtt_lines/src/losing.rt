@@ -7,8 +7,7 @@ ghost use Rattle.mqtt_tables.specs.Stepping.{at_rest};
 ghost use Rattle.mqtt_calls.specs.Doing.{IsCalled};
 ghost use Rattle.mqtt_calls.specs.Sound.{IsSound};
 
-use mqtt_acts::Router;
-use mqtt_closing::lost;
+use mqtt_calls::{Router, lost};
 use mqtt_tables::{Step, StepFault};
 use std::alloc::Global;
 

@@ -6,8 +6,8 @@ ghost use Rattle.mqtt_tables.specs.Stepping.{at_rest};
 ghost use Rattle.mqtt_calls.specs.Doing.{DidCall};
 ghost use Rattle.mqtt_calls.specs.Sound.{IsSound};
 
+use mqtt_calls::pump;
 use mqtt_tables::{Step, StepFault};
-use mqtt_turns::pump;
 use std::alloc::Global;
 
 /// The step of a turn of sending on a line begins at a moment, and does its deeds. Answers whether there may be more:

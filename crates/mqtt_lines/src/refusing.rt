@@ -8,15 +8,14 @@ ghost use Rattle.mqtt_rules.specs.Routing.{subscribers};
 ghost use Rattle.mqtt_rules.specs.State.{Line};
 ghost use Rattle.mqtt_rules.specs.Step.{BadInput, deeds_of, on_fault};
 ghost use Rattle.mqtt_tables.specs.Stepping.{Did, IsLeft, at_rest};
-ghost use Rattle.mqtt_acts.specs.Choosing.{DoesSome, LeavesSome};
-ghost use Rattle.mqtt_closing.specs.Wills.{will_at};
+ghost use Rattle.mqtt_calls.specs.Choosing.{DoesSome, LeavesSome};
+ghost use Rattle.mqtt_calls.specs.Wills.{will_at};
 ghost use Rattle.mqtt_calls.specs.Doing.{IsCalled};
 ghost use Rattle.mqtt_calls.specs.Sound.{IsSound};
 ghost use Rattle.mqtt_lines.specs.First.{first_told};
 
-use mqtt_acts::Router;
 use mqtt_base::Reason;
-use mqtt_closing::{close, drop_line};
+use mqtt_calls::{Router, close, drop_line};
 use mqtt_outputs::connack_refused;
 use mqtt_tables::{Step, StepFault};
 use mqtt_verdicts::fault_code;

@@ -8,7 +8,7 @@ ghost use Rattle.mqtt_tables.specs.Stepping.{at_rest};
 ghost use Rattle.mqtt_calls.specs.Doing.{DidCall};
 ghost use Rattle.mqtt_calls.specs.Sound.{IsSound};
 
-use mqtt_acts::Router;
+use mqtt_calls::Router;
 use mqtt_tables::{Step, StepFault};
 use mqtt_ticking::tick;
 use std::alloc::Global;

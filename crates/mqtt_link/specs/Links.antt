@@ -1,5 +1,5 @@
 -- What calls on a connection give, and what waits to go out on it (MQTT 5.0, 4.2).
-use Rattle.std.specs.Prelude.{◌≡◌, ℕ, ◌≤◌, ◌<◌, ◌+◌, ◌++◌, List, [], length, take, Option, option_map, ⊤}
+use Rattle.std.specs.Prelude.{◌≡◌, ℕ, ◌≤◌, ◌<◌, ◌+◌, ◌%◌, ◌^◌, ◌++◌, List, [], length, take, Option, option_map, ⊤}
 use Rattle.mqtt_link.specs.declared.link.Got.{Got}
 use Rattle.mqtt_link.specs.declared.link.Got.TheVariants.{Given, Nothing, End, Failure}
 use Rattle.mqtt_link.specs.declared.waiting.TheConstants.{WAITING_LIMIT}
@@ -23,6 +23,10 @@ handed Failure bytes = []
 -- the bytes of a connection, if they are told, and more behind them
 abbrev pub and_then : Option (List ℕ) → List ℕ → Option (List ℕ)
 and_then told more = option_map (λ bytes. bytes ++ more) told
+
+-- a count of calls, if it is told, and one call more, modulo 2^64
+abbrev pub one_more : Option ℕ → Option ℕ
+one_more told = option_map (λ count. (count + 1) % 2 ^ 64) told
 
 -- why bytes do not wait behind others; want of memory says nothing of them
 abbrev pub Refuses : List ℕ → List ℕ → WaitingFault → Type 0

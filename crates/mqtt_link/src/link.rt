@@ -1,6 +1,6 @@
 //! Connections whose calls never wait (MQTT 5.0, 4.2).
 ghost use Rattle.std.specs.Prelude.{◌≡◌, ℕ, List, Option, None, length};
-ghost use Rattle.mqtt_link.specs.Links.{GivesAtMost, handed, and_then};
+ghost use Rattle.mqtt_link.specs.Links.{GivesAtMost, handed, and_then, one_more};
 
 /// What a call on a link gives.
 #[derive(Clone, Copy, Debug, PartialEq, Eq)]
@@ -15,11 +15,17 @@ pub enum Got<T> {
     Failure,
 }
 
-/// A listener and its connections, none of whose calls waits. A link that tells its bytes has `was_read` and
-/// `written`; of another they say nothing.
+/// A listener and its connections, none of whose calls waits. A link that tells its calls and bytes has `accepts`,
+/// `reads`, `was_read` and `written`; of another they say nothing.
 pub trait Link {
     /// A connection.
     type Peer: Drop;
+
+    /// How often it was asked for a connection, modulo 2^64, if that is told.
+    ghost accepts: { Self → Option ℕ } = { λ _. None };
+
+    /// How often a connection was read, modulo 2^64, if that is told.
+    ghost reads: { Self.Peer → Option ℕ } = { λ _. None };
 
     /// The bytes that reads from a connection have given, if they are told.
     ghost was_read: { Self.Peer → Option (List ℕ) } = { λ _. None };
@@ -28,17 +34,22 @@ pub trait Link {
     ghost written: { Self.Peer → Option (List ℕ) } = { λ _. None };
 
     /// The next connection that was opened.
-    fn accept(&mut self) -> Got<Self::Peer>;
+    fn accept(&mut self) -> Got<Self::Peer>
+        ensures counted { accepts self.new ≡ one_more (accepts self.old) };
 
     /// Reads at most as many bytes as the buffer has, and puts them at its front.
     fn read(&mut self, peer: &mut Self::Peer, buffer: &mut [u8]) -> Got<usize>
         ensures bound { GivesAtMost result (length buffer.new) }
+        ensures counted { reads peer.new ≡ one_more (reads peer.old) }
         ensures bytes { was_read peer.new ≡ and_then (was_read peer.old) (handed result buffer.new) }
-        ensures kept { written peer.new ≡ written peer.old };
+        ensures kept { written peer.new ≡ written peer.old }
+        ensures same { accepts self.new ≡ accepts self.old };
 
     /// Writes a beginning of the bytes.
     fn write(&mut self, peer: &mut Self::Peer, bytes: &[u8]) -> Got<usize>
         ensures bound { GivesAtMost result (length bytes.now) }
         ensures bytes { written peer.new ≡ and_then (written peer.old) (handed result bytes.now) }
-        ensures kept { was_read peer.new ≡ was_read peer.old };
+        ensures kept { was_read peer.new ≡ was_read peer.old }
+        ensures uncounted { reads peer.new ≡ reads peer.old }
+        ensures same { accepts self.new ≡ accepts self.old };
 }

@@ -65,6 +65,13 @@ impl Waiting {
         self.bytes.is_empty()
     }
 
+    /// How many bytes wait. Takes no memory.
+    pub fn len(&self) -> usize
+        ensures { result ≡ length self.now }
+    {
+        self.bytes.len()
+    }
+
     /// Puts bytes behind those that wait. `Full` (1) comes where more than `WAITING_LIMIT` would wait, `Memory`
     /// (2) for want of memory; both change nothing.
     pub fn push(&mut self, bytes: &[u8]) -> Result<(), WaitingFault>
@@ -85,6 +92,8 @@ impl Waiting {
     pub fn write<L: Link>(&mut self, link: &mut L, peer: &mut L::Peer) -> bool
         ensures moved { and_then (L.written peer.new) self.new ≡ and_then (L.written peer.old) self.old }
         ensures kept { L.was_read peer.new ≡ L.was_read peer.old }
+        ensures uncounted { L.reads peer.new ≡ L.reads peer.old }
+        ensures same { L.accepts link.new ≡ L.accepts link.old }
     {
         if self.bytes.is_empty() {
             return true;

@@ -1,5 +1,5 @@
 -- What the rows of all tables give, and those of a new store.
-use Rattle.std.proofs.Common.{◌≡◌, ◌⊎◌, inl, inr, IfErr, IsErrOf, ℕ, zero, suc, ◌+◌, List, [], ◌∷◌, codes, ◌≤◌, IsTrue, Result, Ok, Err, IfOk, refl, sym, ap, subst, ◌∙◌, arith, IsSorted}
+use Rattle.std.proofs.Common.{◌≡◌, ◌≢◌, ◌⊎◌, inl, inr, IfErr, IsErrOf, ℕ, zero, suc, ◌+◌, List, [], ◌∷◌, codes, ◌≤◌, IsTrue, Result, Ok, Err, IfOk, refl, sym, ap, subst, ◌∙◌, arith, IsSorted}
 use Rattle.std.proofs.lemmas.List.Sorted.{IsPermutation-refl}
 use Rattle.sqlite_value.specs.declared.value.Value.TheVariants.{Text}
 use Rattle.sqlite_value.specs.Order.{Row}
@@ -16,12 +16,12 @@ use Rattle.mqtt_sql_rows.specs.Values.{number}
 use Rattle.mqtt_sql_rows.specs.Rows.{SaysNumbers}
 use Rattle.mqtt_sql_load.specs.Gives.{Rows, Gives, no_parts, counters_of}
 use Rattle.mqtt_sql_load.proofs.LawfulLemmas.{lawful_within}
+use Rattle.mqtt_sql_schema.specs.Asking.{SaysOne, SaysOther}
 use Rattle.mqtt_sql_schema.specs.Creation.{IsNewStore, first_numbers}
-use Rattle.mqtt_sql_schema.specs.Tables.{keep_schema}
 use Rattle.mqtt_sql_schema.specs.declared.schema.StoreTable.{StoreTable}
 use Rattle.mqtt_sql_schema.specs.declared.schema.StoreTable.TheVariants.{Meta, Session, Will, Subscription, Inbound, Copy, Retained}
 use Rattle.mqtt_sql_read.specs.Listing.{by_columns, tree_of, IsListing}
-use Rattle.mqtt_sql_read.specs.Kept.{AreListed, HasRecords, Refuses}
+use Rattle.mqtt_sql_read.specs.Kept.{AreListed, HasRecords, HasNone, Refuses}
 use Rattle.mqtt_sql_read.proofs.Rising.{Rise}
 use Rattle.mqtt_sql_read.proofs.Unique.{by_total, numbers_rise, listed_one}
 
@@ -103,15 +103,14 @@ new_store_has db h = record {
 
 -- ---- refusals
 
--- the device and want of memory say nothing; `Corrupt` says that there are no records
-pub tables_refused : {S : Type 0} (g : Ghosts S) (old : Held S) (res : Result Records KeepError) → (state g old).now.schema ≡ keep_schema → IfErr res (λ e. (e ≡ Memory) ⊎ ((e ≡ Disk) ⊎ (e ≡ Corrupt)))
-    → (IsErrOf res Corrupt → (r : Records) → HasRecords (state g old).now.trees r → ⊥) → IfErr res (Refuses g old)
-tables_refused g old (Ok r) schema fault none = tt
-tables_refused g old (Err Memory) schema fault none = tt
-tables_refused g old (Err Disk) schema fault none = tt
-tables_refused g old (Err Size) schema fault none = elim fault [ inl h ↦ absurd cc | inr h ↦ elim h [ inl k ↦ absurd cc | inr k ↦ absurd cc ] ]
-tables_refused g old (Err Corrupt) schema fault none = inl (schema, none refl)
-tables_refused g old (Err Schema) schema fault none = elim fault [ inl h ↦ absurd cc | inr h ↦ elim h [ inl k ↦ absurd cc | inr k ↦ absurd cc ] ]
+-- the device and want of memory say nothing; else it has no records, and was asked for its schema
+pub refusal_is : {S : Type 0} (g : Ghosts S) (old mid new : Held S) (fault : KeepError) → HasNone (state g old) → (state g mid).now ≡ (state g old).now → fault ≢ Size
+    → (fault ≡ Corrupt → SaysOne (state g mid) (state g new)) → (fault ≡ Schema → SaysOther (state g mid) (state g new)) → Refuses g old fault
+refusal_is g old mid new Memory none same only one other = tt
+refusal_is g old mid new Disk none same only one other = tt
+refusal_is g old mid new Size none same only one other = absurd (only refl)
+refusal_is g old mid new Corrupt none same only one other = (none, (mid, new, same, one refl))
+refusal_is g old mid new Schema none same only one other = (none, (mid, new, same, other refl))
 
 -- a failure of the database is not `Corrupt`
 pub fault_other : (e : KeepError) → (e ≡ Memory) ⊎ (e ≡ Disk) → ◌≡◌ {A = Result Records KeepError} (Err e) (Err Corrupt) → ⊥

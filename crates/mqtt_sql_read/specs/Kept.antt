@@ -44,16 +44,22 @@ pub record HasRecords (db : Trees) (r : Records) : Type 0 where
 abbrev pub Keeps : Database → Records → Type 0
 Keeps db r = ((db.schema ≡ keep_schema) × HasRecords db.trees r) ⊎ ((db.schema ≡ first 0) × (r ≡ nothing))
 
--- Why a database is refused: the rows of its tables give no records, or its schema says 1 and differs; or it doesn't say 1.
+-- it isn't empty, and has no records: its schema differs, or the rows of its tables give none
+abbrev pub HasNone : State → Type 0
+HasNone s = ((s.now.schema ≡ keep_schema) × ((r : Records) → HasRecords s.now.trees r → ⊥)) ⊎ Differs s
+
+-- a connection with this database was asked for its schema, and so answered
+abbrev pub IsAsked : {S : Type 0} → Ghosts S → Held S → (State → State → Type 0) → Type 0
+IsAsked {S} g old Says = (before after : Held S) × ((state g before).now ≡ (state g old).now) × Says (state g before) (state g after)
+
+-- Why a database is refused: it has no records, and says that its schema is 1; or it has none, and doesn't say so.
 -- Want of memory and the device say nothing of it.
 abbrev pub Refuses : {S : Type 0} → Ghosts S → Held S → KeepError → Type 0
 Refuses g old Memory = ⊤
 Refuses g old Disk = ⊤
 Refuses g old Size = ⊥
-Refuses {S} g old Corrupt =
-    (((state g old).now.schema ≡ keep_schema) × ((r : Records) → HasRecords (state g old).now.trees r → ⊥))
-    ⊎ (Differs (state g old) × ((new : Held S) × SaysOne (state g old) (state g new)))
-Refuses {S} g old Schema = Differs (state g old) × ((new : Held S) × SaysOther (state g old) (state g new))
+Refuses g old Corrupt = HasNone (state g old) × IsAsked g old SaysOne
+Refuses g old Schema = HasNone (state g old) × IsAsked g old SaysOther
 
 -- between two transactions it has the records in the store's tables
 pub record HasNow (s : State) (r : Records) : Type 0 where

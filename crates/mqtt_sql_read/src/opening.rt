@@ -8,7 +8,7 @@ ghost use Rattle.mqtt_sql_schema.specs.Creation.{first, IsNewStore, MakesStore};
 ghost use Rattle.mqtt_sql_schema.specs.Settled.{IsSettled, OnlyReads, Stays};
 ghost use Rattle.mqtt_sql_read.specs.Kept.{Keeps, HasNow, Refuses, BeginsStore, MakesNew, IsLeft};
 
-use crate::loading::{fault_of, records_in};
+use crate::loading::{fault_of, records_or_refusal};
 use mqtt_records::{KeepError, Records};
 use mqtt_sql_schema::{Found, create_store, found_in};
 use sqlite::{Alter, Connection, Error};
@@ -105,7 +105,7 @@ pub fn load_from<S: Alter>(alloc: Global, conn: &mut Connection<S>) -> Result<Re
     ensures crash { Survives (state S.Store conn.old) (state S.Store conn.new) (MakesNew (state S.Store conn.old)) }
 {
     match found_in(conn) {
-        Ok(Found::Ours) => records_in(alloc, conn),
+        Ok(Found::Ours) => records_or_refusal(alloc, conn),
         Ok(Found::Empty) => begin_store(alloc, conn),
         Ok(Found::Broken) => Err(KeepError::Corrupt),
         Ok(Found::Other) => Err(KeepError::Schema),

@@ -1,4 +1,5 @@
 pub mod Holding
 pub mod Ones
+pub mod Opening
 pub mod Ordered
 pub mod Props

@@ -1,5 +1,5 @@
 //! Changes of what the store has, all or none (4.1).
-ghost use Rattle.std.specs.Prelude.{◌≡◌, ◌⊎◌, false, OnOk, OnErr, IfErr, IsErrOf, IsTrue};
+ghost use Rattle.std.specs.Prelude.{◌≡◌, ◌⊎◌, ◌↔◌, false, OnOk, OnErr, IfErr, IsErrOf, IsTrue};
 ghost use Rattle.sqlite.specs.Held.{state};
 ghost use Rattle.sqlite.specs.State.{HasCleanDisk, Survives};
 ghost use Rattle.mqtt_records.specs.declared.records.Records.{Records as Kept};
@@ -17,7 +17,9 @@ use std::alloc::Global;
 
 /// What a failure of the database is to a store that is open still.
 fn fault_of(error: &Error) -> KeepError
-    ensures { (result ≡ KeepError.Memory) ⊎ ((result ≡ KeepError.Size) ⊎ (result ≡ KeepError.Disk)) }
+    ensures memory { (result ≡ KeepError.Memory) ↔ (error.now ≡ Error.SqliteFailure ErrorCode.OutOfMemory) }
+    ensures size { (result ≡ KeepError.Size) ↔ (error.now ≡ Error.SqliteFailure ErrorCode.TooBig) }
+    ensures only { (result ≡ KeepError.Memory) ⊎ ((result ≡ KeepError.Size) ⊎ (result ≡ KeepError.Disk)) }
 {
     match error {
         Error::SqliteFailure(ErrorCode::OutOfMemory) => KeepError::Memory,

@@ -1,15 +1,19 @@
 //! The store in SQL, over a connection (4.1).
-ghost use Rattle.std.specs.Prelude.{◌≡◌, ◌≢◌, ◌⊎◌, false, IfOk, IsErrOf};
+ghost use Rattle.std.specs.Prelude.{◌≡◌, ◌≢◌, ◌⊎◌, ◌+◌, ◌%◌, ◌^◌, false, IfOk, IfErr, OnOk, IsErrOf};
+ghost use Rattle.sqlite_trees.specs.View.{IsClean};
 ghost use Rattle.sqlite.specs.Held.{state};
 ghost use Rattle.sqlite.specs.State.{HasCleanDisk};
+ghost use Rattle.mqtt_records.specs.declared.records.Records.{Records as Kept};
+ghost use Rattle.mqtt_store.specs.Holding.{Holds, Leaves};
+ghost use Rattle.mqtt_store.specs.Opening.{OpensAnew, IsUnharmed, RefusesToOpen, rolled_back};
 ghost use Rattle.mqtt_store.specs.Ordered.{IsOrdered};
 ghost use Rattle.mqtt_store.specs.Props.{ordered_prop};
 
 use crate::apply::apply_all;
 use crate::load::load_records;
+use crate::opening::reopen;
 use mqtt_records::{Change, Keep, KeepError, Records, all_pass_on};
-use sqlite::{Alter, Connection, Error, ErrorCode};
-use sqlite_trees::store::Store;
+use sqlite::{Alter, Connection, Error};
 use std::alloc::Global;
 
 /// Records in the tables of a database.
@@ -27,21 +31,29 @@ impl<S: Alter + Drop> SqlKeep<S> {
     /// back. Where that fails, the database's store is handed back.
     pub fn new(alloc: Global, conn: Connection<S>) -> Result<SqlKeep<S>, (Error, S)>
         ensures counted { IfOk result (λ keep. keep.failures ≡ 0) }
+
+        // It shows what was committed: it has what the connection has once its transaction is
+        // rolled back, and a crash leaves nothing else than before.
+        ensures shows { IfOk result (λ keep. HasCleanDisk (state S.Store keep.conn)
+            → OpensAnew (state S.Store conn) (state S.Store keep.conn)) }
+        ensures same { IfOk result (λ keep. (r : Kept) → Holds (rolled_back (state S.Store conn)) r
+            → Holds (state S.Store keep.conn) r) }
+        ensures crash { IfOk result (λ keep. (r : Kept) → Leaves (state S.Store keep.conn) r
+            → Leaves (rolled_back (state S.Store conn)) r) }
         ensures sound { IfOk result (λ keep. HasCleanDisk (state S.Store keep.conn)
             → HasCleanDisk (state S.Store conn)) }
+
+        // What is handed back has what was committed, and a crash of it leaves nothing else.
+        ensures unharmed { IfErr result (λ e. IsUnharmed S.Store conn e.1) }
+        ensures refused { IfErr result (λ e. IsClean (S.Store.view e.1)
+            → RefusesToOpen S.Store conn e.1 e.0) }
     {
-        let store = conn.into_store();
-        if store.is_broken() {
-            return Err((Error::SqliteFailure(ErrorCode::Closed), store));
-        }
-        match Connection::over(alloc, store) {
-            Ok(conn) => Ok(SqlKeep {
-                conn,
-                alloc,
-                failures: 0,
-            }),
-            Err(fault) => Err(fault),
-        }
+        let conn = reopen(alloc, conn)?;
+        Ok(SqlKeep {
+            conn,
+            alloc,
+            failures: 0,
+        })
     }
 
     /// The connection.
@@ -51,11 +63,25 @@ impl<S: Alter + Drop> SqlKeep<S> {
         self.conn
     }
 
+    /// Limits the steps of each later statement, as `Connection::set_step_limit` does. A statement
+    /// that would take more is a failure of the device.
+    pub fn set_step_limit(&mut self, limit: Option<u64>)
+        ensures conn { self.new.conn ≡ record self.old.conn { step_limit = limit } }
+        ensures same { (self.new.failures ≡ self.old.failures) × (self.new.alloc ≡ self.old.alloc) }
+    {
+        let conn = &mut self.conn;
+        conn.set_step_limit(limit);
+    }
+
     /// Counts a failure of the device, where an answer tells of one.
     fn note<T>(&mut self, answer: &Result<T, KeepError>)
         ensures conn { self.new.conn ≡ self.old.conn }
+        ensures alloc { self.new.alloc ≡ self.old.alloc }
         ensures counted { IsErrOf answer.now KeepError.Disk ⊎ IsErrOf answer.now KeepError.Size
-            → self.new.failures ≢ self.old.failures }
+            → self.new.failures ≡ (self.old.failures + 1) % 2 ^ 64 }
+        ensures ok { OnOk answer.now (self.new.failures ≡ self.old.failures) }
+        ensures err { IfErr answer.now (λ fault. fault ≢ KeepError.Disk → fault ≢ KeepError.Size
+            → self.new.failures ≡ self.old.failures) }
     {
         if let Err(KeepError::Disk | KeepError::Size) = answer {
             self.failures = self.failures.wrapping_add(1);

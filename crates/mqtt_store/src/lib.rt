@@ -5,6 +5,7 @@ mod apply;
 mod keep;
 mod laws;
 mod load;
+mod opening;
 
 pub use keep::SqlKeep;
 pub use laws::{

@@ -33,20 +33,20 @@ did_leave x e ending s found = same_parts s
     tells : s.reports ++ Ended e.copy.id x.client ending ∷ [] ≡ s.reports ++ Ended e.copy.id x.client ending ∷ []
     tells = refl
 
-pub leave_ok : (birth place : ℕ) (ending : Ending) (x : Session) (e : CopyRow) (y : Report) (s d p new : Stepping)
+pub leave_ok : (birth place : ℕ) (ending : Ending) (x : Session) (e : CopyRow) (y : Report) (s t d new : Stepping)
     → session_at birth s.broker.records ≡ Some x → row_at copy_place place x.queue ≡ Some e → y ≡ Ended e.copy.id x.client ending
-    → d ≡ written (RemoveCopy birth place) s → p ≡ with_lost birth place d → new ≡ told y p → Did (leaves birth place ending) s new
-leave_ok birth place ending x e y s d p new found there tells row lost is =
+    → t ≡ told y s → d ≡ written (RemoveCopy birth place) t → new ≡ with_lost birth place d → Did (leaves birth place ending) s new
+leave_ok birth place ending x e y s t d new found there tells first row lost =
     let own : x.birth ≡ birth = found_birth birth s.broker.records.sessions x found in
     let at : e.place ≡ place = row_key copy_place place x.queue e there in
     let act : leaves birth place ending s.broker ≡ At (whose x) (Leave e ending) ∷ [] =
     ap (λ (o : Option Session). with_session o (λ z. always (at_place place z (λ k. At (whose z) (Leave k ending) ∷ []))) s.broker) found
     ∙ ap (λ (o : Option CopyRow). of_entry o (λ k. At (whose x) (Leave k ending) ∷ [])) there in
+    let told_so : t ≡ told (Ended e.copy.id x.client ending) s = first ∙ ap (λ z. told z s) tells in
     record {
-      is = is ∙ (ap (λ z. told z p) tells
-          ∙ (ap (told (Ended e.copy.id x.client ending)) (lost ∙ ap (with_lost birth place) row)
+      is = lost ∙ (ap (with_lost birth place) (row ∙ ap (written (RemoveCopy birth place)) told_so)
           ∙ (ap (λ n. told (Ended e.copy.id x.client ending) (with_lost n place (written (RemoveCopy n place) s))) (sym own)
           ∙ (ap (λ n. told (Ended e.copy.id x.client ending) (with_lost x.birth n (written (RemoveCopy x.birth n) s))) (sym at)
           ∙ (did_leave x e ending s (stands birth s.broker.records x found)
-          ∙ ap (λ ds. did ds s) (sym act))))));
+          ∙ ap (λ ds. did ds s) (sym act)))));
     }

@@ -109,6 +109,52 @@ impl Step {
 }
 
 /// Tells the store of a step that was done in place. The step's rows have to fit, and to be such as can be
+/// said in a table. Where the store refuses, the step is taken back, and the store's own refusal is answered.
+/// `Memory` (1) and `Size` (3): nothing changed, here or there. `Disk` (2): the device failed.
+pub fn commit_kept<K: Keep>(keep: &mut K, step: &mut Step) -> Result<Outcome, KeepError>
+    requires loaded { K.is_loaded keep.old }
+    requires holds { K.holds keep.old step.old.start.records }
+    requires fit { is_spent step.old.rows ≡ false
+        → FitAll step.old.rows step.old.start.records }
+    requires sayable { AllSayable step.old.rows }
+
+    // None of the rows gives a number above the last.
+    ensures unspent { is_spent step.old.rows ≡ false }
+    ensures outputs { IfOk result (λ out. out.outputs.items ≡ step.old.outputs) }
+    ensures closed { IfOk result (λ out. out.closed.items ≡ step.old.closed) }
+    ensures reports { IfOk result (λ out. out.reports.items ≡ step.old.reports) }
+    ensures done { OnOk result (step.new ≡ at_rest step.old.limits step.old.broker) }
+
+    // The store holds what is stored after the step.
+    ensures stored { OnOk result (K.is_loaded keep.new
+        × K.holds keep.new step.old.broker.records) }
+
+    // Without the store's Ok nothing changed here, and after want of memory or of room nothing there.
+    ensures same { OnErr result (step.new ≡ at_rest step.old.limits step.old.start) }
+    ensures memory { IsErrOf result KeepError.Memory ⊎ IsErrOf result KeepError.Size
+        → K.is_loaded keep.new × K.holds keep.new step.old.start.records }
+    ensures refused { (IsErrOf result KeepError.Corrupt → ⊥)
+        × (IsErrOf result KeepError.Schema → ⊥) }
+
+    // The device is at fault only where the store counted a failure.
+    ensures cause { IsErrOf result KeepError.Disk ⊎ IsErrOf result KeepError.Size
+        → K.counted keep.new ≢ K.counted keep.old }
+
+    // A crash leaves what was stored before the step or after it.
+    ensures crash { (left : Records) → K.leaves keep.new left
+        → (left ≡ step.old.start.records) ⊎ (left ≡ step.old.broker.records) }
+    ensures sound { K.is_sound keep.new → K.is_sound keep.old }
+{
+    match keep.apply(step.rows()) {
+        Ok(()) => Ok(step.settle()),
+        Err(error) => {
+            step.take_back();
+            Err(error)
+        }
+    }
+}
+
+/// Tells the store of a step that was done in place. The step's rows have to fit, and to be such as can be
 /// said in a table. Where the store refuses, the step is taken back.
 /// `Memory` (1): nothing changed, here or there. `Stopped` (2): the store failed.
 pub fn commit<K: Keep>(keep: &mut K, step: &mut Step) -> Result<Outcome, EngineError>
@@ -143,15 +189,9 @@ pub fn commit<K: Keep>(keep: &mut K, step: &mut Step) -> Result<Outcome, EngineE
     ensures crash { (left : Records) → K.leaves keep.new left
         → (left ≡ step.old.start.records) ⊎ (left ≡ step.old.broker.records) }
 {
-    match keep.apply(step.rows()) {
-        Ok(()) => Ok(step.settle()),
-        Err(KeepError::Memory) => {
-            step.take_back();
-            Err(EngineError::Memory)
-        }
-        Err(_) => {
-            step.take_back();
-            Err(EngineError::Stopped)
-        }
+    match commit_kept(keep, step) {
+        Ok(told) => Ok(told),
+        Err(KeepError::Memory) => Err(EngineError::Memory),
+        Err(_) => Err(EngineError::Stopped),
     }
 }

@@ -130,8 +130,8 @@ impl Step {
         };
         has_tables(session);
         let report = ended(session, row.get(), ending)?;
+        self.tell(report)?;
         self.drop_row(birth, place)?;
-        self.drop_places(birth, place)?;
-        self.tell(report)
+        self.drop_places(birth, place)
     }
 }

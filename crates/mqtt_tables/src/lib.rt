@@ -26,7 +26,7 @@ mod subscribing;
 mod tables;
 mod undo;
 
-pub use call::{EngineError, Outcome, commit};
+pub use call::{EngineError, Outcome, commit, commit_kept};
 pub use fault::StepFault;
 pub use line::{LineChange, LineState};
 pub use step::Step;

@@ -1,5 +1,6 @@
 //! A step under way: deeds are done in place and noted for the store, and can be taken back.
-ghost use Rattle.std.specs.Prelude.{◌≡◌, [], option_copied, IfOk, IfErr, OnOk, OnErr};
+ghost use Rattle.std.specs.Prelude.{◌≡◌, ◌≤◌, ◌<◌, [], option_copied, IfOk, IfErr, OnOk, OnErr, vec_len, vec_capacity};
+ghost use Rattle.mqtt_base.specs.declared.limits.TheConstants.{LAST_NUMBER as last_number};
 ghost use Rattle.mqtt_records.specs.Records.{changed};
 ghost use Rattle.mqtt_flow.specs.Queue.{order_of};
 ghost use Rattle.mqtt_rules.specs.State.{session_at};
@@ -89,6 +90,21 @@ fn number_given(row: &Change) -> u64
     }
 }
 
+/// A row as it is noted for the store, for which there is room then. Spent (3) where it gives a number above the last.
+fn row_noted(rows: &mut Vec<Change>, row: &Change) -> Result<Change, StepFault>
+    ensures noted { IfOk result (λ noted. noted ≡ row.now) }
+    ensures within { OnOk result (number_given row.now ≤ last_number) }
+    ensures same { rows.new.items ≡ rows.old.items }
+    ensures room { OnOk result (vec_len rows.new < vec_capacity rows.new) }
+    ensures fault { IfErr result (IsRefusedRow row.now) }
+{
+    if number_given(row) > LAST_NUMBER {
+        return Err(StepFault::Spent);
+    }
+    rows.reserve(1)?;
+    Ok(row.clone()?)
+}
+
 impl Step {
     /// A broker at rest with these records and no lines.
     pub fn new(
@@ -119,11 +135,7 @@ impl Step {
         ensures err { OnErr result (self.new ≡ self.old) }
         ensures fault { IfErr result (IsRefusedRow row) }
     {
-        if number_given(&row) > LAST_NUMBER {
-            return Err(StepFault::Spent);
-        }
-        self.rows.reserve(1)?;
-        let noted = row.clone()?;
+        let noted = row_noted(&mut self.rows, &row)?;
         self.tables.make(row, undo)?;
         self.rows.push(noted).unwrap();
         Ok(())

@@ -9,8 +9,8 @@ use Rattle.mqtt_rules.specs.Tick.{silence}
 use Rattle.mqtt_tables.specs.Lines.{line_number}
 use Rattle.mqtt_tables.specs.declared.fault.StepFault.{StepFault}
 use Rattle.mqtt_tables.specs.Stepping.{Stepping, env_in}
-use Rattle.mqtt_acts.specs.Choosing.{DoesSome, LeavesSome}
-use Rattle.mqtt_acts.proofs.Some.{does_some, same_some, same_some_left}
+use Rattle.mqtt_closing.specs.Choosing.{DoesSome, LeavesSome}
+use Rattle.mqtt_closing.proofs.Some.{does_some, same_some, same_some_left}
 use Rattle.mqtt_closing.specs.Wills.{publishes_will}
 use Rattle.mqtt_closing.proofs.Settled.{does_nothing}
 use Rattle.mqtt_ticking.specs.declared.finding.Due.{Due}

@@ -5,13 +5,12 @@ ghost use Rattle.mqtt_rules.specs.Contents.{IsWilled};
 ghost use Rattle.mqtt_rules.specs.Routing.{subscribers};
 ghost use Rattle.mqtt_rules.specs.State.{Env};
 ghost use Rattle.mqtt_rules.specs.Step.{Tick, deeds_of, is_again};
-ghost use Rattle.mqtt_acts.specs.Choosing.{DoesSome, LeavesSome};
+ghost use Rattle.mqtt_closing.specs.Choosing.{DoesSome, LeavesSome};
 ghost use Rattle.mqtt_closing.specs.Wills.{will_at};
 ghost use Rattle.mqtt_ticking.specs.Ticking.{silences, does_due};
 
 use crate::finding::{Due, next_due};
-use mqtt_acts::Router;
-use mqtt_closing::{close_silent, end_session, publish_will};
+use mqtt_closing::{Router, close_silent, end_session, publish_will};
 use mqtt_tables::{Step, StepFault};
 use mqtt_turns::expire;
 use std::alloc::Global;

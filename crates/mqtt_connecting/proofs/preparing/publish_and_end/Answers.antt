@@ -3,8 +3,8 @@ use Rattle.std.specs.Prelude.{⊤, Result, Err, IfErr}
 use Rattle.mqtt_tables.specs.declared.fault.StepFault.{StepFault}
 use Rattle.mqtt_tables.specs.Stepping.{Leaves}
 use Rattle.mqtt_tables.proofs.Doing.{on_ok, if_err}
-use Rattle.mqtt_acts.specs.Choosing.{LeavesSome}
-use Rattle.mqtt_acts.proofs.Some.{does_then, leaves_first, leaves_then, some_then, some_left_first, some_left_then}
+use Rattle.mqtt_closing.specs.Choosing.{LeavesSome}
+use Rattle.mqtt_closing.proofs.Some.{does_then, leaves_first, leaves_then, some_then, some_left_first, some_left_then}
 use Rattle.mqtt_closing.specs.Ending.{ends}
 use Rattle.mqtt_closing.specs.Wills.{publishes_will}
 use Rattle.mqtt_connecting.specs.Preparing.{clears}

@@ -2,8 +2,8 @@ use Rattle.std.proofs.Common.{◌≡◌, rules, sym, subst}
 use Rattle.std.specs.Prelude.{Result, Err, IfErr}
 use Rattle.mqtt_rules.specs.Connect.{on_connect}
 use Rattle.mqtt_tables.specs.declared.fault.StepFault.{StepFault}
-use Rattle.mqtt_acts.specs.Choosing.{LeavesSome}
-use Rattle.mqtt_acts.proofs.Some.{leaves_some}
+use Rattle.mqtt_closing.specs.Choosing.{LeavesSome}
+use Rattle.mqtt_closing.proofs.Some.{leaves_some}
 use Rattle.mqtt_connecting.specs.declared.joining.Joined.{Joined}
 use Rattle.mqtt_connecting.proofs.Once.{done_at_once}
 use Rattle.mqtt_connecting.proofs.whole.connect_first.Goals as goal

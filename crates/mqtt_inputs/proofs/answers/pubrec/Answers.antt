@@ -4,11 +4,11 @@ use Rattle.mqtt_rules.specs.Contents.{IsWilled}
 use Rattle.mqtt_rules.specs.Routing.{subscribers}
 use Rattle.mqtt_tables.specs.Stepping.{Stepping}
 use Rattle.mqtt_tables.proofs.Doing.{if_err, on_ok}
-use Rattle.mqtt_closing.specs.Wills.{will_at}
+use Rattle.mqtt_calls.specs.Wills.{will_at}
 use Rattle.mqtt_turns.specs.Answering.{Came, pubrecs}
 use Rattle.mqtt_turns.specs.declared.answering.Answered.TheVariants.{Taken, Wrong}
 use Rattle.mqtt_inputs.proofs.OnLine.{on_line}
-use Rattle.mqtt_calls.proofs.Willed.{willed}
+use Rattle.mqtt_calls.proofs.WilledBrokers.{willed}
 use Rattle.mqtt_inputs.proofs.Answered.{came_taken, came_wrong, came_wrong_left, left_packet}
 use Rattle.mqtt_inputs.proofs.answers.pubrec.Goals as goal
 

@@ -3,7 +3,7 @@ use Rattle.mqtt_props.specs.declared.table.PropName.TheVariants.{SessionExpiryIn
 use Rattle.mqtt_rules.specs.Packets.{number_at}
 use Rattle.mqtt_tables.proofs.Doing.{if_err, on_ok}
 use Rattle.mqtt_inputs.proofs.OnLine.{on_line}
-use Rattle.mqtt_calls.proofs.Willed.{willed}
+use Rattle.mqtt_calls.proofs.WilledBrokers.{willed}
 use Rattle.mqtt_inputs.proofs.Answered.{disconnect_left, disconnected}
 use Rattle.mqtt_inputs.proofs.leaving.disconnect.Goals as goal
 

@@ -4,11 +4,11 @@ use Rattle.mqtt_rules.specs.Contents.{IsWilled}
 use Rattle.mqtt_rules.specs.Inbound.{on_publish}
 use Rattle.mqtt_rules.specs.Routing.{subscribers}
 use Rattle.mqtt_tables.proofs.Doing.{if_err, on_ok}
-use Rattle.mqtt_acts.specs.Choosing.{DoesSome}
-use Rattle.mqtt_closing.specs.Wills.{will_at}
+use Rattle.mqtt_calls.specs.Choosing.{DoesSome}
+use Rattle.mqtt_calls.specs.Wills.{will_at}
 use Rattle.mqtt_publishing.specs.Publishing.{IsOver, IsWrong}
 use Rattle.mqtt_inputs.proofs.OnLine.{on_line}
-use Rattle.mqtt_calls.proofs.Willed.{willed}
+use Rattle.mqtt_calls.proofs.WilledBrokers.{willed}
 use Rattle.mqtt_inputs.proofs.Clients.{lawful_message}
 use Rattle.mqtt_inputs.proofs.Answered.{over_publish, over_publish_left, over_stays, publish_left, published, wrong_publish, wrong_publish_left, wrong_stays}
 use Rattle.mqtt_inputs.proofs.publishing.publish.Goals as goal

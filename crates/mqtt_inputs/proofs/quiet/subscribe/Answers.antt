@@ -5,7 +5,7 @@ use Rattle.mqtt_inputs.proofs.OnLine.{left_takes, on_line, some_takes}
 use Rattle.mqtt_codec.specs.declared.packet.Packet.TheVariants.{Subscribe}
 use Rattle.mqtt_rules.specs.Deeds.{of_session}
 use Rattle.mqtt_rules.specs.Subscribe.{on_subscribe}
-use Rattle.mqtt_acts.proofs.Some.{does_some, leaves_some}
+use Rattle.mqtt_calls.proofs.Some.{does_some, leaves_some}
 use Rattle.mqtt_inputs.proofs.quiet.subscribe.Goals as goal
 
 pub returns-clause-ok : goal.returns-clause-ok

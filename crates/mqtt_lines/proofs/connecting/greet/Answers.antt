@@ -4,7 +4,7 @@ use Rattle.mqtt_rules.specs.Contents.{IsWilled}
 use Rattle.mqtt_rules.specs.Laws.{IsCoherent}
 use Rattle.mqtt_rules.specs.Routing.{subscribers}
 use Rattle.mqtt_tables.proofs.Doing.{if_err, if_ok}
-use Rattle.mqtt_closing.specs.Wills.{will_at}
+use Rattle.mqtt_calls.specs.Wills.{will_at}
 use Rattle.mqtt_calls.proofs.SomeCalls.{input_some_left, on_line, unheard_left}
 use Rattle.mqtt_lines.proofs.Greeted.{at_heard, greeted_by}
 use Rattle.mqtt_lines.proofs.connecting.greet.Goals as goal

@@ -7,9 +7,9 @@ use Rattle.mqtt_rules.specs.Lines.{session_on}
 use Rattle.mqtt_rules.specs.Routing.{subscribers}
 use Rattle.mqtt_rules.specs.Step.{Input, deeds_of}
 use Rattle.mqtt_tables.specs.Stepping.{Stepping}
-use Rattle.mqtt_acts.specs.Choosing.{LeavesSome}
-use Rattle.mqtt_closing.specs.Wills.{will_at}
-use Rattle.mqtt_calls.proofs.Willed.{willed}
+use Rattle.mqtt_calls.specs.Choosing.{LeavesSome}
+use Rattle.mqtt_calls.specs.Wills.{will_at}
+use Rattle.mqtt_calls.proofs.WilledBrokers.{willed}
 use Rattle.mqtt_lines.specs.First.{GreetedBy}
 use Rattle.mqtt_lines.proofs.Begun.{at_begun, begun_is, unbegun_some}
 use Rattle.mqtt_lines.proofs.connecting.greet_at.Goals as goal

@@ -2,9 +2,9 @@ use Rattle.std.proofs.Common.{false, refl}
 use Rattle.mqtt_rules.specs.Contents.{IsWilled}
 use Rattle.mqtt_rules.specs.Routing.{subscribers}
 use Rattle.mqtt_rules.specs.Step.{Lost, deeds_of}
-use Rattle.mqtt_closing.specs.Wills.{will_at}
+use Rattle.mqtt_calls.specs.Wills.{will_at}
 use Rattle.mqtt_calls.proofs.SomeCalls.{called_some, limits_some, start_some}
-use Rattle.mqtt_calls.proofs.Willed.{willed}
+use Rattle.mqtt_calls.proofs.WilledBrokers.{willed}
 use Rattle.mqtt_lines.proofs.Begun.{at_begun, begun_is}
 use Rattle.mqtt_lines.proofs.losing.lost_at.Goals as goal
 

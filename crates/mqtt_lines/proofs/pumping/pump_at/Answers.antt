@@ -1,7 +1,7 @@
 use Rattle.mqtt_rules.specs.Step.{Pump, deeds_of}
 use Rattle.mqtt_tables.proofs.Doing.{if_err, on_ok}
-use Rattle.mqtt_acts.proofs.Some.{does_some, leaves_some}
-use Rattle.mqtt_turns.specs.Queues.{HasKeptOrders}
+use Rattle.mqtt_calls.proofs.Some.{does_some, leaves_some}
+use Rattle.mqtt_calls.specs.Queues.{HasKeptOrders}
 use Rattle.mqtt_calls.proofs.SomeCalls.{again_some, limits_some, spent_some, start_some}
 use Rattle.mqtt_lines.proofs.Begun.{at_begun, begun_is}
 use Rattle.mqtt_lines.proofs.pumping.pump_at.Goals as goal

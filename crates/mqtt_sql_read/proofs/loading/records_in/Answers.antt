@@ -9,5 +9,5 @@ returns-clause-err g c clean schema settled is r has = elim c.match-read_all.bra
   | in-Ok w ↦
       gives_none (state g.S.Store c.args.conn.now).now.trees (rows_in c.read_all.new.tables) (w.in-Ok.ensures.rows clean schema settled)
       (w.lawful_records_of-answer.ensures.err (rw w.answer-is at is)) r has
-  | in-Err w ↦ fault_other w.fault_of.result w.fault_of.ensures (rw w.answer-is at is)
+  | in-Err w ↦ fault_other w.fault_of.result w.fault_of.ensures.only (rw w.answer-is at is)
 ]

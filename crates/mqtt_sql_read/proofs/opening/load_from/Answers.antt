@@ -1,22 +1,18 @@
-use Rattle.std.proofs.Common.{◌≡◌, arith, inl, inr, IsTrue, IsErrOf}
+use Rattle.std.proofs.Common.{◌≡◌, arith, inl, inr, refl}
 use Rattle.sqlite.proofs.StateLemmas.{survives_weaker}
-use Rattle.mqtt_records.specs.declared.keep.KeepError.TheVariants.{Corrupt}
 use Rattle.mqtt_sql_schema.specs.Creation.{first}
 use Rattle.mqtt_sql_read.specs.Kept.{BeginsStore}
 use Rattle.sqlite.specs.Held.{state}
 use Rattle.sqlite.specs.State.{HasCleanDisk, Survives}
-use Rattle.mqtt_sql_read.proofs.Loaded.{tables_refused}
 use Rattle.mqtt_sql_read.proofs.opening.load_from.Goals as goal
 
 pub returns-in-Ok-Ours-clause-refused : goal.returns-in-Ok-Ours-clause-refused
 returns-in-Ok-Ours-clause-refused g c clean settled =
     let same = c.in-Ok-Ours.ensures.untouched (inl c.in-Ok-Ours.field-0-is) in
-    let less = c.records_in.ensures.reads.survives.clean in
+    let less = c.records_or_refusal.ensures.reads.survives.clean in
     let tidy : HasCleanDisk (state g.S.Store c.found_in.new.conn) = omega (arith, less, clean) in
     let schema = rw c.in-Ok-Ours.field-0-is at (c.in-Ok-Ours.ensures.found tidy) in
-    let up : IsErrOf c.records_in.result Corrupt → IsTrue (state g.S.Store c.args.conn.now).is_open =
-    λ is. (rw same at (c.records_in.ensures.reads.stays clean).was_open) ((c.records_in.ensures.is_open clean).1 is) in
-    tables_refused g.S.Store c.args.conn.now c.records_in.result schema c.records_in.ensures.fault (λ is. (rw same at (c.records_in.ensures.err clean)) schema (settled (up is)) is)
+    (rw same at (c.records_or_refusal.ensures.refused clean)) schema settled
 
 pub returns-in-Ok-Empty-clause-loaded : goal.returns-in-Ok-Empty-clause-loaded
 returns-in-Ok-Empty-clause-loaded g c clean settled =
@@ -39,9 +35,9 @@ returns-in-Ok-Empty-clause-crash g c =
 pub returns-in-Ok-Broken-clause-refused : goal.returns-in-Ok-Broken-clause-refused
 returns-in-Ok-Broken-clause-refused g c clean settled =
     let found = rw c.in-Ok-Broken.field-0-is at (c.in-Ok-Broken.ensures.found clean) in
-    inr (found.0, (c.found_in.new.conn, found.1))
+    (inr found.0, (c.args.conn.now, c.found_in.new.conn, refl, found.1))
 
 pub returns-in-Ok-Other-clause-refused : goal.returns-in-Ok-Other-clause-refused
 returns-in-Ok-Other-clause-refused g c clean settled =
     let found = rw c.in-Ok-Other.field-0-is at (c.in-Ok-Other.ensures.found clean) in
-    (found.0, (c.found_in.new.conn, found.1))
+    (inr found.0, (c.args.conn.now, c.found_in.new.conn, refl, found.1))

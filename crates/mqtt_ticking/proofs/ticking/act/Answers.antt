@@ -1,6 +1,6 @@
 use Rattle.std.proofs.Common.{sym, subst}
 use Rattle.std.specs.Prelude.{OnOk, IfErr}
-use Rattle.mqtt_acts.specs.Choosing.{DoesSome, LeavesSome}
+use Rattle.mqtt_closing.specs.Choosing.{DoesSome, LeavesSome}
 use Rattle.mqtt_tables.proofs.Doing.{on_ok, if_err}
 use Rattle.mqtt_ticking.specs.declared.finding.Due.{Due}
 use Rattle.mqtt_ticking.specs.Ticking.{does_due}

@@ -1,13 +1,20 @@
-use Rattle.std.proofs.Common.{sym, ◌∙◌}
 use Rattle.sqlite.specs.Held.{state}
-use Rattle.mqtt_store.proofs.Order.{ordered_over}
+use Rattle.mqtt_store.proofs.Opened.{opened_holds, opened_leaves}
 use Rattle.mqtt_store.proofs.keep.SqlKeep.new.Goals as goal
 
 pub invariant_of-result : goal.invariant_of-result
-invariant_of-result g c =
-    let store = c.into_store-store.result in
-    let e = c.in-Ok.ensures in
-    record {
-      autocommit = e.fresh.autocommit;
-      ordered = ordered_over (g.S.Store.view store) (state g.S.Store c.in-Ok.conn) e.opens e.clean e.trees (λ was. sym (c.is_broken.ensures was) ∙ c.if-is_broken.false) (g.met.S.Store.ordered store) (g.met.S.Alter.listed store);
-    }
+invariant_of-result g c = record { autocommit = c.in_ok-conn.ensures.autocommit; ordered = c.in_ok-conn.ensures.ordered }
+
+pub returns-clause-same : goal.returns-clause-same
+returns-clause-same g c =
+    let old = c.args.conn in
+    let new = c.in_ok-conn.conn in
+    let e = c.in_ok-conn.ensures in
+    opened_holds (state g.S.Store old) (state g.S.Store new) e.sound e.shows (λ up db. g.met.S.Store.settled new.store db up) (g.met.S.Store.stays old.store)
+
+pub returns-clause-crash : goal.returns-clause-crash
+returns-clause-crash g c =
+    let old = c.args.conn in
+    let new = c.in_ok-conn.conn in
+    let e = c.in_ok-conn.ensures in
+    opened_leaves (state g.S.Store old) (state g.S.Store new) e.sound e.shows (λ up db. g.met.S.Store.settled new.store db up) (g.met.S.Store.stays old.store)

@@ -10,7 +10,7 @@ returns-clause-ok c =
     let x = c.in-Some.session.now in
     let e : CopyRow = c.in-Some-get.row.now in
     let tells = c.in_ok-report.ensures ∙ ap (λ (k : CopyRow). Ended k.copy.id x.client c.args.ending) c.get-2.ensures in
-    on_ok c.tell.result
-    (leave_ok c.args.birth c.args.place c.args.ending x e c.in_ok-report.report c.args.self.now c.drop_row.new.self c.drop_places.new.self c.tell.new.self
-    (sym c.in-Some.ensures) (sym c.in-Some-get.ensures) tells c.in_ok-drop_row.ensures.ok c.in_ok-drop_places.ensures.ok)
-    c.tell.ensures.ok
+    on_ok c.drop_places.result
+    (leave_ok c.args.birth c.args.place c.args.ending x e c.in_ok-report.report c.args.self.now c.tell.new.self c.drop_row.new.self c.drop_places.new.self
+    (sym c.in-Some.ensures) (sym c.in-Some-get.ensures) tells c.in_ok-tell.ensures.ok c.in_ok-drop_row.ensures.ok)
+    c.drop_places.ensures.ok

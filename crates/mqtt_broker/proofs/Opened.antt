@@ -1,0 +1,31 @@
+-- A broker that is opened has no line, and no line holds bytes.
+use Rattle.std.proofs.Common.{◌≡◌, ℕ, List, [], map, sym, subst, ap, ◌∙◌}
+use Rattle.mqtt_records.specs.declared.keep.Keep.{Ghosts}
+use Rattle.mqtt_records.specs.declared.records.Records.{Records}
+use Rattle.mqtt_rules.specs.declared.Limits.{Limits}
+use Rattle.mqtt_rules.specs.Deeds.{Deed, after_all, rows_of_all}
+use Rattle.mqtt_rules.specs.Lines.{line_number}
+use Rattle.mqtt_rules.specs.State.{Broker, MemberChoice}
+use Rattle.mqtt_rules.specs.Step.{BrokerOpening, env_of, opening_deeds, unopened}
+use Rattle.mqtt_framing.specs.Framers.{HeldLine}
+use Rattle.mqtt_opening.specs.Running.{Running}
+use Rattle.mqtt_opening.specs.Opening.{IsOpened}
+use Rattle.mqtt_broker.specs.Serving.{IsOfLines}
+use Rattle.mqtt_broker.proofs.Left.{moment_lines, numbers_all}
+use Rattle.mqtt_broker.proofs.Unlinked.{un_opening}
+
+pub of_lines_opened : (limits : Limits) (now : ℕ) (r : Records) (new : Broker) → BrokerOpening limits r now new → IsOfLines [] new
+of_lines_opened limits now r new o =
+    let b = unopened now r in
+    let ds = opening_deeds limits o.choice now r in
+    record {
+      linked = sym (
+          ap (λ (x : Broker). map line_number x.lines) o.new_is
+          ∙ ap (map line_number) (moment_lines (rows_of_all ds b.records) (after_all ds b))
+          ∙ numbers_all ds b (un_opening (env_of limits o.choice b) b));
+      given = tt;
+    }
+
+-- so it is where an engine begins
+pub of_lines_begun : {K : Type 0} (g : Ghosts K) (limits : Limits) (now : ℕ) (keep : K) (engine : Running K) (held : List HeldLine) → held ≡ [] → IsOpened g limits now keep engine → IsOfLines held engine.broker
+of_lines_begun g limits now keep engine held none o = subst (λ (hs : List HeldLine). IsOfLines hs engine.broker) (sym none) (of_lines_opened limits now o.records engine.broker o.opening)

@@ -1,0 +1,412 @@
+-- What the first bytes of a line ask, done by the engine, is the step of a piece.
+use Rattle.std.proofs.Common.{◌≡◌, ℕ, ◌<◌, ◌≤◌, Bool, true, false, cond, List, [], ◌∷◌, length, Option, Some, None, refl, sym, ap, subst, ◌∙◌, inl}
+use Rattle.std.specs.Prelude.{⊤, ◌≢◌, ◌&&◌, Result, Ok, Err, IsErrOf, is_some, map, suc}
+use Rattle.mqtt_codec.specs.Faults.{answer_to}
+use Rattle.mqtt_packet.specs.Front.{first_of}
+use Rattle.mqtt_packet.specs.Stream.{Framing}
+use Rattle.mqtt_records.specs.declared.keep.Keep.{Ghosts}
+use Rattle.mqtt_records.specs.declared.records.Records.{Records}
+use Rattle.mqtt_rows.specs.Order.{IsBelow, has_row, row_at}
+use Rattle.mqtt_rules.specs.declared.Limits.{Limits}
+use Rattle.mqtt_rules.specs.Piece.{Front, begins_connect, bytes_taken, call_by, call_on, code_of, fed, first_call, held_on, is_spent_if, is_whole, pieced, stepped_if, taken_on, told_if, without_first}
+use Rattle.mqtt_rules.specs.State.{Broker, Line, MemberChoice, line_at, stored}
+use Rattle.mqtt_rules.specs.Step.{BadInput, Call, Input, at_moment, bytes_out, nothing_told}
+use Rattle.mqtt_rules.specs.Step.{Outcome as Told}
+use Rattle.mqtt_rules.proofs.Acts.{found_number}
+use Rattle.mqtt_tables.specs.declared.call.EngineError.{EngineError}
+use Rattle.mqtt_tables.specs.declared.call.EngineError.TheVariants.{Memory, Stopped, Spent}
+use Rattle.mqtt_framing.specs.Framers.{HeldLine, changed_at, framing_at, given_back, line_of, taken_of}
+use Rattle.mqtt_opening.specs.Outcome.{Outcome}
+use Rattle.mqtt_opening.specs.Calling.{Called, Tells}
+use Rattle.mqtt_opening.specs.Running.{Running}
+use Rattle.mqtt_broker.specs.Asking.{CalledIf, Rested}
+use Rattle.mqtt_broker.specs.Piece.{IsLeftByAny, IsPieceAnswered, IsSpentBy, PieceCalled}
+use Rattle.mqtt_broker.specs.Serving.{IsOfLines, serving, without_closed}
+use Rattle.mqtt_broker.proofs.Framings.{back, changed_twice, fed_long, framing_changed, none_ended, numbers_stay, taken_linked, taken_within, unchanged, whole_left}
+use Rattle.mqtt_broker.proofs.Left.{is_linked}
+use Rattle.mqtt_broker.proofs.Serving.{not_refused, of_lines_called, rested_lines}
+use Rattle.mqtt_broker.proofs.Unlinked.{IsOld}
+
+-- ---- the step, whatever is asked
+
+-- some choice of the members leads to the state, and this is told of it, but for what was taken and what is to come
+pub record IsDone (limits : Limits) (old : Broker) (now : ℕ) (call : Option Call) (out : Outcome) (new : Broker) : Type 0 where
+  pub choice : MemberChoice
+  pub unspent : is_spent_if limits choice now call old ≡ false
+  pub new_is : new ≡ stepped_if limits choice now call old
+  pub outputs : out.outputs.items ≡ bytes_out (told_if limits choice now call old)
+  pub closed : out.closed.items ≡ (told_if limits choice now call old).closed
+  pub reports : out.reports.items ≡ (told_if limits choice now call old).reports
+
+pub done_of : {K : Type 0} (g : Ghosts K) (now : ℕ) (call : Option Call) (old : Running K) (out : Outcome) (new : Running K)
+    → CalledIf g now call old (Ok out) new → IsDone old.limits old.broker now call out new.broker
+done_of g now None old out new h = record {
+  choice = λ number sender. [];
+  unspent = refl;
+  new_is = ap (λ (r : Running _). r.broker) h.told.1;
+  outputs = h.told.0.outputs;
+  closed = h.told.0.closed;
+  reports = h.told.0.reports;
+}
+done_of g now (Some call) old out new h =
+    let s = h.step.step in
+    let tells = h.step.tells in record {
+      choice = s.choice;
+      unspent = s.unspent;
+      new_is = s.new_is;
+      outputs = tells.outputs ∙ ap bytes_out s.out_is;
+      closed = tells.closed ∙ ap (λ (t : Told). t.closed) s.out_is;
+      reports = tells.reports ∙ ap (λ (t : Told). t.reports) s.out_is;
+    }
+
+-- below a number, by their numbers
+below_numbers : (n : ℕ) (xs ys : List HeldLine) → map line_of xs ≡ map line_of ys → IsBelow line_of n ys → IsBelow line_of n xs
+below_numbers n [] [] e low = tt
+below_numbers n [] (y ∷ ys) e low = tt
+below_numbers n (x ∷ xs) [] e low = absurd cc
+below_numbers n (x ∷ xs) (y ∷ ys) e low =
+    let first : y.line ≡ x.line = cc in
+    let more : map line_of xs ≡ map line_of ys = cc in
+    (subst (λ (k : ℕ). k < n) first low.0, below_numbers n xs ys more low.1)
+
+-- ---- what is asked
+
+asked_old : (line : ℕ) (bytes : List ℕ) (r : Front) (call : Call) → call_by line bytes r ≡ Some call → IsOld call
+asked_old line bytes (Ok None) call e = absurd cc
+asked_old line bytes (Ok (Some x)) call e = let is : Input line x.0 ≡ call = cc in subst IsOld is tt
+asked_old line bytes (Err fault) call e = let is : BadInput line (begins_connect bytes) (code_of (answer_to fault)) ≡ call = cc in subst IsOld is tt
+
+module _ (line : ℕ) (piece : List ℕ) (b : Broker) (held : List HeldLine) (lines : IsOfLines held b) (linked : has_row line_of line held ≡ true) where
+  abbrev its : Framing
+  its = framing_at line held
+
+  abbrev fed_held : List HeldLine
+  fed_held = changed_at line (fed piece) held
+
+  standing : (l : Line) × (line_at line b ≡ Some l)
+  standing = by (line_at line b) refl (sym (is_linked line held b lines) ∙ linked)
+    where
+      by : (o : Option Line) → line_at line b ≡ o → is_some o ≡ true → (l : Line) × (line_at line b ≡ Some l)
+      by None is e = absurd cc
+      by (Some l) is e = (l, is)
+
+  pub fed_is : framing_at line fed_held ≡ fed piece its
+  fed_is = framing_changed line (fed piece) held linked
+
+  -- what the bytes ask is what the rules say that they ask
+  pub asked_is : call_on (line_at line b) piece its ≡ first_call line (framing_at line fed_held).held
+  asked_is =
+      ap (λ (o : Option Line). call_on o piece its) standing.1
+      ∙ ap (λ (n : ℕ). first_call n (fed piece its).held) (found_number line standing.0 b.lines standing.1)
+      ∙ ap (λ (f : Framing). first_call line f.held) (sym fed_is)
+
+  -- what the line holds then
+  pub held_is : held_on (line_at line b) piece its ≡ without_first (fed piece its)
+  held_is = ap (λ (o : Option Line). held_on o piece its) standing.1
+
+  pub taken_is : taken_on (line_at line b) piece its ≡ bytes_taken its.held piece
+  taken_is = ap (λ (o : Option Line). taken_on o piece its) standing.1
+
+  -- without its first packet, with the piece behind it
+  pub rest_is : changed_at line without_first fed_held ≡ changed_at line (λ f. without_first (fed piece its)) held
+  rest_is = changed_twice line without_first (fed piece) its held refl
+
+  -- given back, all is as before
+  pub back_is : (count : ℕ) → count ≡ taken_of piece (row_at line_of line held) → changed_at line (given_back count) fed_held ≡ held
+  back_is count taken =
+      let same : count ≡ bytes_taken its.held piece = taken ∙ taken_linked line piece held linked in
+      let all : given_back count (fed piece its) ≡ its = ap (λ n. given_back n (fed piece its)) same ∙ back piece its in
+      changed_twice line (given_back count) (fed piece) its held refl ∙ unchanged line (λ f. given_back count (fed piece its)) held all
+
+  pub back_fits : (count : ℕ) → count ≡ taken_of piece (row_at line_of line held) → count ≤ length (framing_at line fed_held).held
+  back_fits count taken =
+      let same : count ≡ bytes_taken its.held piece = taken ∙ taken_linked line piece held linked in
+      subst (λ (f : Framing). count ≤ length f.held) (sym fed_is) (subst (λ (n : ℕ). n ≤ length (fed piece its).held) (sym same) (fed_long piece its))
+
+  pub fed_lines : (f : Framing → Framing) → IsOfLines (changed_at line f fed_held) b
+  fed_lines f =
+      let same : map line_of (changed_at line f fed_held) ≡ map line_of held = numbers_stay line f fed_held ∙ numbers_stay line (fed piece) held in record {
+        linked = same ∙ lines.linked;
+        given = below_numbers (suc b.given) (changed_at line f fed_held) held same lines.given;
+      }
+
+cond_and : (x y : Bool) → cond x y false ≡ (x && y)
+cond_and true y = refl
+cond_and false y = refl
+
+module _ {K : Type 0} (g : Ghosts K) (now line : ℕ) (piece : List ℕ) (old new : Running K) (held : List HeldLine)
+    (lines : IsOfLines held old.broker) (linked : has_row line_of line held ≡ true) where
+  abbrev its_framing : Framing
+  its_framing = framing_at line held
+
+  abbrev its_held : List HeldLine
+  its_held = changed_at line without_first (changed_at line (fed piece) held)
+
+  abbrev its_call : Option Call
+  its_call = call_on (line_at line old.broker) piece its_framing
+
+  -- the answer is that of the rules
+  piece_answered : (told : Outcome) (count : ℕ) (again : Bool) → IsDone old.limits old.broker now its_call told new.broker
+      → IsOfLines (without_closed told.closed.items its_held) new.broker
+      → count ≡ bytes_taken its_framing.held piece
+      → again ≡ is_whole (first_of (framing_at line (without_closed told.closed.items its_held)).held)
+      → IsPieceAnswered now line piece (serving old held) (record told { taken = count; again = again }) (serving new (without_closed told.closed.items its_held))
+  piece_answered told count again done after taken whole =
+      let rest = without_first (fed piece its_framing) in
+      let held_then : its_held ≡ changed_at line (λ f. rest) held = rest_is line piece old.broker held lines linked in
+      let framing_then : framing_at line its_held ≡ rest = ap (framing_at line) held_then ∙ framing_changed line (λ f. rest) held linked in
+      let held_by : held_on (line_at line old.broker) piece its_framing ≡ rest = held_is line piece old.broker held lines linked in
+      record {
+        after = pieced old.limits done.choice now line piece its_framing old.broker;
+        step = record { choice = done.choice; unspent = done.unspent; is = refl };
+        broker = done.new_is;
+        tells = record {
+          outputs = done.outputs;
+          closed = done.closed;
+          reports = done.reports;
+          taken = taken ∙ sym (taken_is line piece old.broker held lines linked);
+          again =
+              whole
+              ∙ whole_left told.closed.items line its_held (is_some (line_at line new.broker)) (is_linked line (without_closed told.closed.items its_held) new.broker after)
+              ∙ cond_and (is_some (line_at line new.broker)) (is_whole (first_of (framing_at line its_held).held))
+              ∙ ap (λ (b : Broker). is_some (line_at line b) && is_whole (first_of (framing_at line its_held).held)) done.new_is
+              ∙ ap (λ (f : Framing). is_some (line_at line (stepped_if old.limits done.choice now its_call old.broker)) && is_whole (first_of f.held)) (framing_then ∙ sym held_by);
+        };
+        held = ap (without_closed told.closed.items) (held_then ∙ ap (λ (f : Framing). changed_at line (λ framing. f) held) (sym held_by));
+      }
+
+  lines_if : (call : Option Call) (told : Outcome) (hs : List HeldLine) → ((c : Call) → call ≡ Some c → IsOld c) → CalledIf g now call old (Ok told) new → IsOfLines hs old.broker
+      → IsOfLines (without_closed told.closed.items hs) new.broker
+  lines_if None told hs is h up =
+      subst (λ (xs : List HeldLine). IsOfLines xs new.broker) (sym (ap (λ closed. without_closed closed hs) h.told.0.closed ∙ none_ended hs)) (rested_lines now old new hs h.told.1 up)
+  lines_if (Some c) told hs is h up =
+      of_lines_called g now c old new hs (without_closed told.closed.items hs) (Ok told) (is c refl) h refl tt up
+
+  module _ (running : old.stopped ≡ false) (holds : g.holds old.keep old.broker.records)
+      (found : (left : Records) → g.leaves old.keep left → left ≡ old.broker.records) where
+    stored_if : (call : Option Call) (told : Outcome) → CalledIf g now call old (Ok told) new → (new.stopped ≡ false) × g.holds new.keep new.broker.records
+    stored_if None told h = (
+      ap (λ (r : Running K). r.stopped) h.told.1 ∙ running,
+      subst (λ (r : Running K). g.holds r.keep r.broker.records) (sym h.told.1) holds,
+    )
+    stored_if (Some c) told h = h.stored
+
+    limits_if : (call : Option Call) (r : Result Outcome EngineError) → CalledIf g now call old r new → new.limits ≡ old.limits
+    limits_if None (Ok told) h = ap (λ (r : Running K). r.limits) h.told.1
+    limits_if None (Err e) h = ap (λ (r : Running K). r.limits) h.memory.1
+    limits_if (Some c) r h = h.limits
+
+    crash_if : (call : Option Call) (r : Result Outcome EngineError) → CalledIf g now call old r new → (left : Records) → g.leaves new.keep left → IsLeftByAny old.limits old.broker now call left
+    crash_if None (Ok told) h left may = found left (subst (λ (r : Running K). g.leaves r.keep left) h.told.1 may)
+    crash_if None (Err e) h left may = found left (subst (λ (r : Running K). g.leaves r.keep left) h.memory.1 may)
+    crash_if (Some c) r h left may = h.crash running left may
+
+    not_running : {X : Type 0} → old.stopped ≡ true → X
+    not_running s = let clash : true ≡ false = sym s ∙ running in absurd cc
+
+    -- Ok
+    pub piece_ok : (call : Option Call) (told : Outcome) (count : ℕ) (again : Bool) → its_call ≡ call → ((c : Call) → call ≡ Some c → IsOld c) → CalledIf g now call old (Ok told) new
+        → count ≡ bytes_taken its_framing.held piece
+        → again ≡ is_whole (first_of (framing_at line (without_closed told.closed.items its_held)).held)
+        → PieceCalled g now line piece (serving old held) (Ok (record told { taken = count; again = again })) (serving new (without_closed told.closed.items its_held))
+    piece_ok call told count again same is h taken whole =
+        let after = lines_if call told its_held is h (fed_lines line piece old.broker held lines linked without_first) in
+        let done = subst (λ (o : Option Call). IsDone old.limits old.broker now o told new.broker) (sym same) (done_of g now call old told new h) in
+        let out : Outcome = record told { taken = count; again = again } in
+        record {
+          step = piece_answered told count again done after taken whole;
+          stored = stored_if call told h;
+          limits = limits_if call (Ok told) h;
+          same = tt;
+          kept = tt;
+          memory = λ e. absurd (not_refused out Memory e);
+          spent = λ e. absurd (not_refused out Spent e);
+          stopped = λ e. absurd (not_refused out Stopped e);
+          cause = λ e. absurd (not_refused out Stopped e);
+          still = λ s. not_running s;
+          crash = λ run left may. subst (λ (o : Option Call). IsLeftByAny old.limits old.broker now o left) (sym same) (crash_if call (Ok told) h left may);
+        }
+
+    same_if : (call : Option Call) (error : EngineError) → CalledIf g now call old (Err error) new → new.broker ≡ old.broker
+    same_if None error h = ap (λ (r : Running K). r.broker) h.memory.1
+    same_if (Some c) error h = h.same
+
+    memory_if : (call : Option Call) (error : EngineError) → CalledIf g now call old (Err error) new → IsErrOf {T = Outcome} (Err error) Memory → (new.stopped ≡ false) × g.holds new.keep old.broker.records
+    memory_if None error h e = (
+      ap (λ (r : Running K). r.stopped) h.memory.1 ∙ running,
+      subst (λ (r : Running K). g.holds r.keep old.broker.records) (sym h.memory.1) holds,
+    )
+    memory_if (Some c) error h e = h.memory e
+
+    no_other : (error : EngineError) → error ≡ Memory → IsErrOf {T = Outcome} (Err error) Spent → ⊥
+    no_other error is e = absurd cc
+
+    no_stop : (error : EngineError) → error ≡ Memory → IsErrOf {T = Outcome} (Err error) Stopped → ⊥
+    no_stop error is e = absurd cc
+
+    spent_if : (call : Option Call) (error : EngineError) → CalledIf g now call old (Err error) new → IsErrOf {T = Outcome} (Err error) Spent → (new ≡ old) × IsSpentBy old.limits old.broker now call
+    spent_if None error h e = absurd (no_other error h.memory.0 e)
+    spent_if (Some c) error h e = h.spent e
+
+    stopped_if : (call : Option Call) (error : EngineError) → CalledIf g now call old (Err error) new → IsErrOf {T = Outcome} (Err error) Stopped → (new.stopped ≡ true) × (g.counted new.keep ≢ g.counted old.keep)
+    stopped_if None error h e = absurd (no_stop error h.memory.0 e)
+    stopped_if (Some c) error h e = (h.stopped e, h.cause e running)
+
+    -- otherwise
+    pub piece_err : (call : Option Call) (error : EngineError) (rest : List HeldLine) → its_call ≡ call → CalledIf g now call old (Err error) new → rest ≡ held
+        → PieceCalled g now line piece (serving old held) (Err error) (serving new rest)
+    piece_err call error rest same h kept = record {
+      step = tt;
+      stored = tt;
+      limits = limits_if call (Err error) h;
+      same = same_if call error h;
+      kept = kept;
+      memory = λ e. memory_if call error h e;
+      spent = λ e.
+          let is = spent_if call error h e in (
+            ap (λ (r : Running K). serving r rest) is.0 ∙ ap (λ (hs : List HeldLine). serving old hs) kept,
+            subst (λ (o : Option Call). IsSpentBy old.limits old.broker now o) (sym same) is.1,
+          );
+      stopped = λ e. (stopped_if call error h e).0;
+      cause = λ e run. (stopped_if call error h e).1;
+      still = λ s. not_running s;
+      crash = λ run left may. subst (λ (o : Option Call). IsLeftByAny old.limits old.broker now o left) (sym same) (crash_if call (Err error) h left may);
+    }
+
+    pub lines_err : (call : Option Call) (error : EngineError) (rest : List HeldLine) → CalledIf g now call old (Err error) new → rest ≡ held → IsOfLines rest new.broker
+    lines_err call error rest h kept =
+        subst (λ (hs : List HeldLine). IsOfLines hs new.broker) (sym kept) (subst (λ (b : Broker). IsOfLines held b) (sym (same_if call error h)) lines)
+
+    pub lines_ok : (call : Option Call) (told : Outcome) → ((c : Call) → call ≡ Some c → IsOld c) → CalledIf g now call old (Ok told) new → IsOfLines (without_closed told.closed.items its_held) new.broker
+    lines_ok call told is h = lines_if call told its_held is h (fed_lines line piece old.broker held lines linked without_first)
+
+-- ---- want of memory before anything was asked, and a line that isn't linked
+
+module _ {K : Type 0} (g : Ghosts K) (now : ℕ) (old : Running K) (running : old.stopped ≡ false) (holds : g.holds old.keep old.broker.records)
+    (found : (left : Records) → g.leaves old.keep left → left ≡ old.broker.records) where
+  -- whatever is asked
+  pub memory_refuses : (call : Option Call) → CalledIf g now call old (Err Memory) old
+  memory_refuses None = record { told = tt; memory = (refl, refl) }
+  memory_refuses (Some call) = record {
+    step = tt;
+    stored = tt;
+    limits = refl;
+    same = refl;
+    memory = λ e. (running, holds);
+    spent = λ e. absurd cc;
+    stopped = λ e. absurd cc;
+    cause = λ e. absurd cc;
+    still = λ s. let clash : true ≡ false = sym s ∙ running in absurd cc;
+    crash = λ run left may. inl (found left may);
+  }
+
+-- ---- a piece on a line that is linked, from what its calls ensure
+
+module _ {K : Type 0} (g : Ghosts K) (now line : ℕ) (piece : List ℕ) (old new : Running K) (held fed_all rest : List HeldLine)
+    (lines : IsOfLines held old.broker) (linked : has_row line_of line held ≡ true) (running : old.stopped ≡ false) (holds : g.holds old.keep old.broker.records)
+    (found : (left : Records) → g.leaves old.keep left → left ≡ old.broker.records)
+    (fed_as : fed_all ≡ changed_at line (fed piece) held) where
+  abbrev asked : Option Call
+  asked = first_call line (framing_at line fed_all).held
+
+  asked_as : call_on (line_at line old.broker) piece (framing_at line held) ≡ asked
+  asked_as = asked_is line piece old.broker held lines linked ∙ ap (λ (hs : List HeldLine). first_call line (framing_at line hs).held) (sym fed_as)
+
+  asked_so : (c : Call) → asked ≡ Some c → IsOld c
+  asked_so c e = asked_old line (framing_at line fed_all).held (first_of (framing_at line fed_all).held) c e
+
+  pub piece_done : (told out : Outcome) (count : ℕ) → CalledIf g now asked old (Ok told) new
+      → count ≡ taken_of piece (row_at line_of line held)
+      → rest ≡ without_closed told.closed.items (changed_at line without_first fed_all)
+      → out ≡ record told { taken = count; again = is_whole (first_of (framing_at line rest).held) }
+      → PieceCalled g now line piece (serving old held) (Ok out) (serving new rest) × IsOfLines rest new.broker
+  piece_done told out count called taken left_as out_as =
+      let its = without_closed told.closed.items (changed_at line without_first (changed_at line (fed piece) held)) in
+      let rest_as : rest ≡ its = left_as ∙ ap (λ (hs : List HeldLine). without_closed told.closed.items (changed_at line without_first hs)) fed_as in
+      let again = is_whole (first_of (framing_at line rest).held) in
+      let main = piece_ok g now line piece old new held lines linked running holds found asked told count again asked_as asked_so called
+      (taken ∙ taken_linked line piece held linked) (ap (λ (hs : List HeldLine). is_whole (first_of (framing_at line hs).held)) rest_as) in (
+        subst (λ (hs : List HeldLine). PieceCalled g now line piece (serving old held) (Ok out) (serving new hs)) (sym rest_as)
+            (subst (λ (o : Outcome). PieceCalled g now line piece (serving old held) (Ok o) (serving new its)) (sym out_as) main),
+        subst (λ (hs : List HeldLine). IsOfLines hs new.broker) (sym rest_as) (lines_ok g now line piece old new held lines linked running holds found asked told asked_so called),
+      )
+
+  pub piece_refused : (error : EngineError) (count : ℕ) → CalledIf g now asked old (Err error) new
+      → count ≡ taken_of piece (row_at line_of line held)
+      → rest ≡ changed_at line (given_back count) fed_all
+      → PieceCalled g now line piece (serving old held) (Err error) (serving new rest) × IsOfLines rest new.broker
+  piece_refused error count called taken left_as =
+      let kept : rest ≡ held = left_as ∙ ap (changed_at line (given_back count)) fed_as ∙ back_is line piece old.broker held lines linked count taken in (
+        piece_err g now line piece old new held lines linked running holds found asked error rest asked_as called kept,
+        lines_err g now line piece old new held lines linked running holds found asked error rest called kept,
+      )
+
+  pub piece_fits : (count : ℕ) → count ≡ taken_of piece (row_at line_of line held) → count ≤ length (framing_at line fed_all).held
+  piece_fits count taken =
+      subst (λ (hs : List HeldLine). count ≤ length (framing_at line hs).held) (sym fed_as) (back_fits line piece old.broker held lines linked count taken)
+
+  pub taken_fits : (count : ℕ) → count ≡ taken_of piece (row_at line_of line held) → count ≤ length piece
+  taken_fits count taken = subst (λ (n : ℕ). n ≤ length piece) (sym (taken ∙ taken_linked line piece held linked)) (taken_within (framing_at line held).held piece)
+
+-- ---- a piece on a line that isn't
+
+module _ {K : Type 0} (g : Ghosts K) (now line : ℕ) (piece : List ℕ) (old : Running K) (held : List HeldLine)
+    (running : old.stopped ≡ false) (holds : g.holds old.keep old.broker.records)
+    (found : (left : Records) → g.leaves old.keep left → left ≡ old.broker.records) (none : line_at line old.broker ≡ None) where
+  abbrev no_members : MemberChoice
+  no_members = λ number sender. []
+
+  abbrev unasked : Option Call
+  unasked = call_on (line_at line old.broker) piece (framing_at line held)
+
+  unasked_is : unasked ≡ None
+  unasked_is = ap (λ (o : Option Line). call_on o piece (framing_at line held)) none
+
+  abbrev its_rest : Running K
+  its_rest = record old { broker = at_moment now old.broker }
+
+  no_left : (o : Option Call) → o ≡ None → (left : Records) → left ≡ old.broker.records → IsLeftByAny old.limits old.broker now o left
+  no_left None e left is = is
+  no_left (Some c) e left is = absurd cc
+
+  passed_answer : (out : Outcome) → Tells nothing_told out → IsPieceAnswered now line piece (serving old held) out (serving its_rest held)
+  passed_answer out told =
+      let framing = held_on (line_at line old.broker) piece (framing_at line held) in
+      let same : framing ≡ framing_at line held = ap (λ (o : Option Line). held_on o piece (framing_at line held)) none in record {
+        after = pieced old.limits no_members now line piece (framing_at line held) old.broker;
+        step = record {
+          choice = no_members;
+          unspent = ap (λ (o : Option Call). is_spent_if old.limits no_members now o old.broker) unasked_is;
+          is = refl;
+        };
+        broker = sym (ap (λ (o : Option Call). stepped_if old.limits no_members now o old.broker) unasked_is);
+        tells = record {
+          outputs = told.outputs ∙ sym (ap (λ (o : Option Call). bytes_out (told_if old.limits no_members now o old.broker)) unasked_is);
+          closed = told.closed ∙ sym (ap (λ (o : Option Call). (told_if old.limits no_members now o old.broker).closed) unasked_is);
+          reports = told.reports ∙ sym (ap (λ (o : Option Call). (told_if old.limits no_members now o old.broker).reports) unasked_is);
+          taken = told.taken ∙ sym (ap (λ (o : Option Line). taken_on o piece (framing_at line held)) none);
+          again =
+              told.again
+              ∙ sym (ap (λ (o : Option Line). is_some o && is_whole (first_of framing.held)) none)
+              ∙ sym (ap (λ (o : Option Call). is_some (line_at line (stepped_if old.limits no_members now o old.broker)) && is_whole (first_of framing.held)) unasked_is);
+        };
+        held =
+            sym (ap (λ closed. without_closed closed (changed_at line (λ f. framing) held)) told.closed
+            ∙ none_ended (changed_at line (λ f. framing) held)
+            ∙ unchanged line (λ f. framing) held same);
+      }
+
+  pub passed_piece : (out : Outcome) (new : Running K) → Tells nothing_told out → new ≡ its_rest → PieceCalled g now line piece (serving old held) (Ok out) (serving new held)
+  passed_piece out new told is = subst (λ (r : Running K). PieceCalled g now line piece (serving old held) (Ok out) (serving r held)) (sym is) (record {
+    step = passed_answer out told;
+    stored = (running, holds);
+    limits = refl;
+    same = tt;
+    kept = tt;
+    memory = λ e. absurd (not_refused out Memory e);
+    spent = λ e. absurd (not_refused out Spent e);
+    stopped = λ e. absurd (not_refused out Stopped e);
+    cause = λ e. absurd (not_refused out Stopped e);
+    still = λ s. let clash : true ≡ false = sym s ∙ running in absurd cc;
+    crash = λ run left may. no_left unasked unasked_is left (found left may);
+  })

@@ -1,0 +1,76 @@
+-- What calls of the engine make of the lines and of what they hold.
+use Rattle.std.proofs.Common.{◌≡◌, ℕ, Bool, true, false, List, Option, Some, None, refl, sym, ap, subst, ◌∙◌, inl}
+use Rattle.std.specs.Prelude.{Result, Ok, Err, IfOk, OnErr, IsErrOf, is_some}
+use Rattle.mqtt_records.specs.declared.keep.Keep.{Ghosts}
+use Rattle.mqtt_records.specs.declared.records.Records.{Records}
+use Rattle.mqtt_rows.specs.Order.{has_row}
+use Rattle.mqtt_rules.specs.State.{Broker, Line, line_at}
+use Rattle.mqtt_rules.specs.Step.{Call, at_moment, nothing_told}
+use Rattle.mqtt_tables.specs.declared.call.EngineError.{EngineError}
+use Rattle.mqtt_tables.specs.declared.call.EngineError.TheVariants.{Memory, Stopped, Spent}
+use Rattle.mqtt_framing.specs.Framers.{HeldLine, line_of}
+use Rattle.mqtt_opening.specs.Outcome.{Outcome}
+use Rattle.mqtt_opening.specs.Calling.{Called, IsOn, Tells}
+use Rattle.mqtt_opening.specs.Running.{Running}
+use Rattle.mqtt_opening.proofs.Linked.{passed_over}
+use Rattle.mqtt_broker.specs.Serving.{IsOfLines, Served, Serving, serving, without_closed}
+use Rattle.mqtt_broker.proofs.Framings.{none_ended}
+use Rattle.mqtt_broker.proofs.Left.{is_linked, of_lines_moment, of_lines_step}
+use Rattle.mqtt_broker.proofs.Unlinked.{IsOld}
+
+-- ---- which lines are linked
+
+pub unlinked_line : (line : ℕ) (held : List HeldLine) (b : Broker) → IsOfLines held b → has_row line_of line held ≡ false → line_at line b ≡ None
+unlinked_line line held b h e = by (line_at line b) (sym (is_linked line held b h) ∙ e)
+  where
+    by : (o : Option Line) → is_some o ≡ false → o ≡ None
+    by None e = refl
+    by (Some l) e = absurd cc
+
+pub linked_line : (line : ℕ) (held : List HeldLine) (b : Broker) → IsOfLines held b → has_row line_of line held ≡ true → line_at line b ≡ None → ⊥
+linked_line line held b h e none = let clash : true ≡ false = sym e ∙ is_linked line held b h ∙ ap is_some none in absurd cc
+
+-- ---- a call on a line that isn't linked
+
+pub not_refused : (out : Outcome) (error : EngineError) → IsErrOf {T = Outcome} (Ok out) error → ⊥
+not_refused out error e = absurd cc
+
+module _ {K : Type 0} (g : Ghosts K) (now : ℕ) (old : Running K) (running : old.stopped ≡ false) (holds : g.holds old.keep old.broker.records)
+    (found : (left : Records) → g.leaves old.keep left → left ≡ old.broker.records) where
+  abbrev rested : Running K
+  rested = record old { broker = at_moment now old.broker }
+
+  passed_by : (line : ℕ) (call : Call) (out : Outcome) → line_at line old.broker ≡ None → IsOn line call → Tells nothing_told out → Called g now call old (Ok out) rested
+  passed_by line call out none on told = record {
+    step = passed_over old.limits now line old.broker (at_moment now old.broker) out none refl told call on;
+    stored = (running, holds);
+    limits = refl;
+    same = tt;
+    memory = λ e. absurd (not_refused out Memory e);
+    spent = λ e. absurd (not_refused out Spent e);
+    stopped = λ e. absurd (not_refused out Stopped e);
+    cause = λ e. absurd (not_refused out Stopped e);
+    still = λ s. let clash : true ≡ false = sym s ∙ running in absurd cc;
+    crash = λ run left may. inl (found left may);
+  }
+
+  pub passed_served : (line : ℕ) (call : Call) (held : List HeldLine) (new : Running K) (out : Outcome) → line_at line old.broker ≡ None → IsOn line call → Tells nothing_told out → new ≡ rested
+      → Served g now call (serving old held) (Ok out) (serving new held)
+  passed_served line call held new out none on told is = record {
+    called = subst (λ (r : Running K). Called g now call old (Ok out) r) (sym is) (passed_by line call out none on told);
+    held = sym (ap (λ closed. without_closed closed held) told.closed ∙ none_ended held);
+    kept = tt;
+  }
+
+pub rested_lines : {K : Type 0} (now : ℕ) (old new : Running K) (held : List HeldLine) → new ≡ record old { broker = at_moment now old.broker } → IsOfLines held old.broker → IsOfLines held new.broker
+rested_lines now old new held is h = subst (λ (b : Broker). IsOfLines held b) (sym (ap (λ (r : Running _). r.broker) is)) (of_lines_moment now held old.broker h)
+
+-- ---- any other call
+
+pub of_lines_called : {K : Type 0} (g : Ghosts K) (now : ℕ) (call : Call) (old new : Running K) (held rest : List HeldLine) (r : Result Outcome EngineError) → IsOld call → Called g now call old r new
+    → IfOk r (λ out. rest ≡ without_closed out.closed.items held) → OnErr r (rest ≡ held) → IsOfLines held old.broker → IsOfLines rest new.broker
+of_lines_called g now call old new held rest (Ok out) is h ok err lines =
+    subst (λ (hs : List HeldLine). IsOfLines hs new.broker) (sym (ok ∙ ap (λ closed. without_closed closed held) h.step.tells.closed))
+    (of_lines_step old.limits old.broker now call h.step.told new.broker held is h.step.step lines)
+of_lines_called g now call old new held rest (Err e) is h ok err lines =
+    subst (λ (hs : List HeldLine). IsOfLines hs new.broker) (sym err) (subst (λ (b : Broker). IsOfLines held b) (sym h.same) lines)

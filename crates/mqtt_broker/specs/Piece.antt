@@ -1,0 +1,61 @@
+-- A piece: bytes come on a line, and the first packet, or fault, that is whole is answered (MQTT 5.0, 2.1, 4.13).
+use Rattle.std.specs.Prelude.{◌≡◌, ◌≢◌, ◌⊎◌, ℕ, true, false, List, Option, Some, None, Result, IfOk, OnOk, OnErr, IsErrOf}
+use Rattle.mqtt_packet.specs.Stream.{Framing}
+use Rattle.mqtt_records.specs.declared.keep.Keep.{Ghosts}
+use Rattle.mqtt_records.specs.declared.records.Records.{Records}
+use Rattle.mqtt_rules.specs.declared.Limits.{Limits}
+use Rattle.mqtt_rules.specs.Piece.{PieceStep, Pieced, call_on}
+use Rattle.mqtt_rules.specs.State.{Broker, line_at, stored}
+use Rattle.mqtt_rules.specs.Step.{Call, SpentStep}
+use Rattle.mqtt_framing.specs.Framers.{changed_at, framing_at}
+use Rattle.mqtt_tables.specs.declared.call.EngineError.{EngineError}
+use Rattle.mqtt_tables.specs.declared.call.EngineError.TheVariants.{Memory, Stopped, Spent}
+use Rattle.mqtt_opening.specs.Outcome.{Outcome}
+use Rattle.mqtt_opening.specs.Calling.{IsLeftBy, Tells}
+use Rattle.mqtt_broker.specs.Serving.{Serving, without_closed}
+
+-- what the line's bytes ask with the piece behind them, if the line is linked and something is whole
+abbrev pub call_by : {K : Type 0} → ℕ → List ℕ → Serving K → Option Call
+call_by line piece old = call_on (line_at line old.running.broker) piece (framing_at line old.held)
+
+-- ---- what is answered
+
+-- a piece, at a moment, was a step of the broker on what the line's bytes ask, and this is its answer
+pub record IsPieceAnswered {K : Type 0} (now line : ℕ) (piece : List ℕ) (old : Serving K) (out : Outcome) (new : Serving K) : Type 0 where
+  pub after : Pieced
+  pub step : PieceStep old.running.limits old.running.broker now line piece (framing_at line old.held) after
+  pub broker : new.running.broker ≡ after.broker
+  pub tells : Tells after.out out
+  -- the line holds what the step leaves, each line that closed nothing, and each other what it held
+  pub held : new.held ≡ without_closed out.closed.items (changed_at line (λ framing. after.framing) old.held)
+
+-- ---- where nothing is asked, no number is spent and nothing is stored
+
+abbrev pub IsSpentBy : Limits → Broker → ℕ → Option Call → Type 0
+IsSpentBy limits old now None = ⊥
+IsSpentBy limits old now (Some call) = SpentStep limits old now call
+
+abbrev pub IsLeftByAny : Limits → Broker → ℕ → Option Call → Records → Type 0
+IsLeftByAny limits old now None r = r ≡ stored old
+IsLeftByAny limits old now (Some call) r = IsLeftBy limits old now call r
+
+-- ---- what a piece makes of an engine, and what it answers
+
+pub record PieceCalled {K : Type 0} (g : Ghosts K) (now line : ℕ) (piece : List ℕ) (old : Serving K) (result : Result Outcome EngineError) (new : Serving K)
+    : Type 0 where
+  -- Ok: it was a step of the broker, and the store holds what is stored after it
+  pub step : IfOk result (λ out. IsPieceAnswered now line piece old out new)
+  pub stored : OnOk result ((new.running.stopped ≡ false) × g.holds new.running.keep new.running.broker.records)
+  pub limits : new.running.limits ≡ old.running.limits
+  -- otherwise nothing changed here, no byte was taken, and in the store something changed only where it failed
+  pub same : OnErr result (new.running.broker ≡ old.running.broker)
+  pub kept : OnErr result (new.held ≡ old.held)
+  pub memory : IsErrOf result Memory → (new.running.stopped ≡ false) × g.holds new.running.keep old.running.broker.records
+  pub spent : IsErrOf result Spent → (new ≡ old) × IsSpentBy old.running.limits old.running.broker now (call_by line piece old)
+  -- it stops where the store counted a failure, and stays stopped
+  pub stopped : IsErrOf result Stopped → new.running.stopped ≡ true
+  pub cause : IsErrOf result Stopped → old.running.stopped ≡ false → g.counted new.running.keep ≢ g.counted old.running.keep
+  pub still : old.running.stopped ≡ true → IsErrOf result Stopped × (new ≡ old)
+  -- a crash leaves what was stored before the call or after it
+  pub crash : old.running.stopped ≡ false → (left : Records) → g.leaves new.running.keep left
+      → IsLeftByAny old.running.limits old.running.broker now (call_by line piece old) left

@@ -1,0 +1,150 @@
+//! The engine of the broker over a store, with the bytes of its lines (MQTT 5.0, 2.1, 4.1).
+ghost use Rattle.std.specs.Prelude.{◌≡◌, ◌≤◌, length, IfOk, option_copied};
+ghost use Rattle.mqtt_rules.specs.Contents.{IsTaken};
+ghost use Rattle.mqtt_rules.specs.Step.{BrokerStep, Input, Lost, NewLine, Pump, Tick, copy_of, nothing_told};
+ghost use Rattle.mqtt_tables.specs.Doing.{next_line};
+ghost use Rattle.mqtt_broker.specs.Piece.{PieceCalled};
+ghost use Rattle.mqtt_broker.specs.Serving.{IsPassedOver, Served, with_linked};
+
+use crate::asking::{pass_over, take_piece};
+use crate::held::end_closed;
+use mqtt_base::CopyId;
+use mqtt_codec::Packet;
+use mqtt_framing::Framers;
+use mqtt_opening::{Engine as Inner, Outcome};
+use mqtt_records::Keep;
+use mqtt_tables::EngineError;
+use std::marker::Model;
+
+/// A broker over a store. A line, one connection, is named by its number.
+#[derive(Drop)]
+pub struct Engine<K: Keep> {
+    pub(crate) inner: Inner<K>,
+    pub(crate) framers: Framers,
+}
+
+impl<K: Keep> Model for Engine<K> {
+    ghost use Rattle.mqtt_broker.specs.Serving.{IsOfLines, Serving};
+
+    ghost Value = { Serving K };
+
+    ghost view = { λ e. record { running = e.inner; held = e.framers } };
+
+    // The lines that hold bytes are those that are linked, and their numbers were given.
+    ghost invariant = { λ e. IsOfLines e.framers e.inner.broker };
+}
+
+impl<K: Keep> Engine<K> {
+    /// A line is linked at a moment in milliseconds, and gets the next number, from 1. None where 64 lines stand or 2^62
+    /// were linked. Works after the store has failed too. Takes no memory.
+    pub fn link(&mut self, moment: u64) -> Option<u64>
+        ensures line { result ≡ next_line self.old.running.broker }
+        ensures step { BrokerStep self.old.running.limits self.old.running.broker moment NewLine nothing_told
+            self.new.running.broker }
+        ensures same { self.new.running
+            ≡ record self.old.running { broker = self.new.running.broker } }
+        ensures held { self.new.held ≡ with_linked result self.old.held }
+    {
+        match self.inner.link(moment) {
+            Some(line) => {
+                self.framers.begin(line);
+                Some(line)
+            }
+            None => None,
+        }
+    }
+
+    /// Bytes come on a line: as many as fit are taken, and the first packet, or fault, that is whole is answered, at most
+    /// one (2.1, 3, 4.13). `taken` says how many were taken, and `again` whether more is whole: give the rest on, and
+    /// call again. On a line that isn't linked nothing is done, without memory. `Memory` (1) and `Spent` (3): nothing
+    /// changed, and no byte was taken. `Stopped` (2): the store has failed, and nothing changed here.
+    pub fn piece(&mut self, line: u64, piece: &[u8], moment: u64) -> Result<Outcome, EngineError>
+        ensures called { PieceCalled K.Keep moment line piece.now self.old result self.new }
+        ensures within { IfOk result (λ out. out.taken ≤ length piece.now) }
+        ensures unlinked { IsPassedOver line self.old result }
+    {
+        if self.inner.is_stopped() {
+            return Err(EngineError::Stopped);
+        }
+        if !self.framers.has(line) {
+            return Ok(self.inner.rest_at(moment));
+        }
+        take_piece(&mut self.inner, &mut self.framers, line, piece, moment)
+    }
+
+    /// A packet comes on a line by itself, and is answered (3, 4). On a line that isn't linked nothing is done, without
+    /// memory. Refusals are those of `piece`.
+    pub fn input(&mut self, line: u64, packet: &Packet, moment: u64) -> Result<Outcome, EngineError>
+        requires { IsTaken packet.now }
+        ensures called { Served K.Keep moment (Input line packet.now) self.old result self.new }
+        ensures unlinked { IsPassedOver line self.old result }
+    {
+        if !self.framers.has(line) {
+            return pass_over(&mut self.inner, moment);
+        }
+        let answer = self.inner.input(line, packet, moment);
+        end_closed(&mut self.framers, &answer);
+        answer
+    }
+
+    /// A line is lost: it closes, and its session with it (4.1). On a line that isn't linked nothing is done, without
+    /// memory. Refusals are those of `piece`.
+    pub fn lost(&mut self, line: u64, moment: u64) -> Result<Outcome, EngineError>
+        ensures called { Served K.Keep moment (Lost line) self.old result self.new }
+        ensures unlinked { IsPassedOver line self.old result }
+    {
+        if !self.framers.has(line) {
+            return pass_over(&mut self.inner, moment);
+        }
+        let answer = self.inner.lost(line, moment);
+        end_closed(&mut self.framers, &answer);
+        answer
+    }
+
+    /// A turn of sending: what waits for the session of a line goes out, up to 16 PUBLISH (4.6, 4.9); `again` says whether
+    /// more may be there. On a line that isn't linked nothing is done, without memory. Refusals are those of `piece`.
+    pub fn pump(&mut self, line: u64, moment: u64) -> Result<Outcome, EngineError>
+        ensures called { Served K.Keep moment (Pump line) self.old result self.new }
+        ensures unlinked { IsPassedOver line self.old result }
+    {
+        if !self.framers.has(line) {
+            return pass_over(&mut self.inner, moment);
+        }
+        let answer = self.inner.pump(line, moment);
+        end_closed(&mut self.framers, &answer);
+        answer
+    }
+
+    /// A turn of the clock: the first of what is due is done, and nothing else (3.1.2.10, 3.1.2.11.2, 3.1.3.2.2,
+    /// 3.3.2.3.3); `again` says whether one was. Refusals are those of `piece`.
+    pub fn tick(&mut self, moment: u64) -> Result<Outcome, EngineError>
+        ensures { Served K.Keep moment Tick self.old result self.new }
+    {
+        let answer = self.inner.tick(moment);
+        end_closed(&mut self.framers, &answer);
+        answer
+    }
+
+    /// The copy that has a packet identifier in the queue of a line's session. Takes no memory.
+    pub fn copy_of(&self, line: u64, identifier: u16) -> Option<&CopyId>
+        ensures { option_copied result ≡ copy_of line identifier self.now.running.broker }
+    {
+        self.inner.copy_of(line, identifier)
+    }
+
+    /// How many failures its store has counted, modulo 2^64. Takes no memory.
+    pub fn failures(&self) -> u64
+        ensures { result ≡ K.counted self.now.running.keep }
+    {
+        self.inner.failures()
+    }
+
+    /// Gives the store back. Takes no memory.
+    pub fn close(self) -> K
+        ensures { result ≡ self.running.keep }
+    {
+        let Engine { inner, framers } = self;
+        drop(framers);
+        inner.close()
+    }
+}

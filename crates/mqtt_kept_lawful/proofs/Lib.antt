@@ -1,0 +1,16 @@
+pub mod EachSession
+pub mod TimesKept
+pub mod Differ
+pub mod PlacesKept
+pub mod Orders
+pub mod PhasesKept
+pub mod Shares
+pub mod Routed
+pub mod CopiesKept
+pub mod CopiesActs
+pub mod Origins
+pub mod BoundsKept
+pub mod NamesKept
+pub mod TextsKept
+pub mod Facts
+pub mod WrittenKept

@@ -1,0 +1,14 @@
+use Rattle.mqtt_kept_lawful.proofs.WrittenKept.{nothing_written, step_written, opening_written}
+use Rattle.mqtt_kept_lawful.proofs.laws.what_a_broker_writes_is_lawful.Goals as goal
+
+pub returns-clause-lawful : goal.returns-clause-lawful
+returns-clause-lawful c = λ r w. w.lawful
+
+pub returns-clause-nothing : goal.returns-clause-nothing
+returns-clause-nothing c = nothing_written
+
+pub returns-clause-step : goal.returns-clause-step
+returns-clause-step c = step_written
+
+pub returns-clause-opening : goal.returns-clause-opening
+returns-clause-opening c = opening_written

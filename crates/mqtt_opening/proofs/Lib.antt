@@ -1,0 +1,11 @@
+pub mod Own
+pub mod Faces
+pub mod Chosen
+pub mod Opened
+pub mod Joined
+pub mod Followed
+pub mod Closed
+pub mod Going
+pub mod Stamped
+pub mod Answering
+pub use Rattle.mqtt_engine.proofs.Linked
