@@ -8,8 +8,9 @@ use Rattle.clap.specs.declared.error.kind.ErrorKind.TheVariants.{OutOfMemory}
 use Rattle.clap.specs.declared.parser.matches.ArgMatches.{ArgMatches}
 use Rattle.clap.specs.declared.parser.matches.ArgMatches.TheViews.{out-ArgMatches}
 use Rattle.clap.specs.declared.parser.matches.Found.{Found}
-use Rattle.mqtt_cli.specs.Line.{AskFor, command_of, file_in, is_vectors, program_app, rows_in}
+use Rattle.mqtt_cli.specs.Line.{AskFor, AskToServe, AsksToServe, command_of, file_in, is_vectors, program_app, rows_in, serve_rows_in}
 use Rattle.mqtt_cli.specs.declared.line.Action.{Action}
+use Rattle.mqtt_cli.specs.declared.line.Action.TheVariants.{View, Vectors, Serve}
 
 -- a pair that may be there, by its parts
 both_parts : {X : Type 0} (f : X → Text × List Row) (o : Option X) (name : Text) (rows : List Row)
@@ -53,6 +54,30 @@ pub rows_in-other : (m : ArgMatches) (name : Text) (found : Found) → Some name
     → rows_in (subcommand_rows_of m) ≡ None
 rows_in-other m name found named with_rows is_other =
     ap rows_in (met_command m name found named with_rows) ∙ no_rows_of name (rows_of found) is_other
+
+serve_rows_of : (name : Text) (rows : List Row) → true ≡ bytes_eq name (codes "serve") → serve_rows_in (Some (name, rows)) ≡ Some rows
+serve_rows_of name rows is_serve = go (bytes_eq name (codes "serve")) is_serve
+  where
+    go : (b : Bool) → true ≡ b → (if b then Some rows else None) ≡ Some rows
+    go true e = refl
+    go false e = cc
+
+-- the matches of `serve`, where that is the subcommand that was met
+pub rows_in-serve : (m : ArgMatches) (name : Text) (found : Found) → Some name ≡ subcommand_name_of m
+    → Some (rows_of found) ≡ option_map (λ p. p.1) (subcommand_rows_of m) → true ≡ bytes_eq name (codes "serve")
+    → serve_rows_in (subcommand_rows_of m) ≡ Some (rows_of found)
+rows_in-serve m name found named with_rows is_serve =
+    ap serve_rows_in (met_command m name found named with_rows) ∙ serve_rows_of name (rows_of found) is_serve
+
+-- what lawful matches of `serve` ask for, the command does
+pub asks_to_serve : (command : Option (Text × List Row)) (rows : List Row) (asked : Option Action)
+    → serve_rows_in command ≡ Some rows → file_in (rows_in command) ≡ None → is_vectors command ≡ false
+    → AskToServe rows asked → AskFor command asked
+asks_to_serve command rows None is file other asks = (file, other)
+asks_to_serve command rows (Some (Serve listen db turns)) is file other asks =
+    subst (λ (r : Option (List Row)). AsksToServe r listen db.now turns) (sym is) asks
+asks_to_serve command rows (Some Vectors) is file other asks = absurd asks
+asks_to_serve command rows (Some (View path payload)) is file other asks = absurd asks
 
 -- whether it is `vectors`
 pub is_vectors-met : (m : ArgMatches) (name : Text) (found : Found) (b : Bool) → Some name ≡ subcommand_name_of m

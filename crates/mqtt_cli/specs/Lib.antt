@@ -2,6 +2,7 @@
 pub mod Line
 pub mod Outcome
 pub mod PacketText
+pub mod Values
 pub mod Vectors
 pub mod View
 pub mod Viewing

@@ -7,6 +7,7 @@ mod outcome;
 mod packet_text;
 mod program;
 mod text;
+mod values;
 mod vectors_checker;
 mod vectors_report;
 mod vectors_table;

@@ -1,0 +1,3 @@
+pub mod Related
+pub mod Turns
+pub mod Wires

@@ -1,0 +1,175 @@
+//! A connection: its line of the broker, what waits to go out on it, and what becomes of it (MQTT 5.0, 4.2).
+ghost use Rattle.std.specs.Prelude.{◌≡◌, ◌≤◌, ◌++◌, ℕ, length, take, IsTrue, IsFalse};
+ghost use Rattle.mqtt_serving.specs.Wires.{Reads, Hears, Writes, bytes_to, closing, is_standing, is_lost, is_closed};
+
+use bytes::Bytes;
+use mqtt_link::{Got, Link, Waiting};
+use std::alloc::Global;
+use std::marker::Model;
+
+/// What becomes of a connection.
+#[derive(Clone, Copy, Debug, PartialEq, Eq)]
+pub enum Fate {
+    /// Its line is linked.
+    Stands,
+    /// It is lost, and the broker is to be told.
+    Lost,
+    /// The broker has closed its line: what waits is written once more, and it is dropped.
+    Closed,
+}
+
+/// A connection that the broker has linked.
+#[derive(Drop)]
+pub struct Connection<L: Link> {
+    number: u64,
+    peer: L::Peer,
+    waiting: Waiting,
+    fate: Fate,
+}
+
+impl<L: Link> Model for Connection<L> {
+    ghost use Rattle.mqtt_link.specs.Links.{and_then};
+    ghost use Rattle.mqtt_serving.specs.Wires.{Wire};
+
+    ghost Value = { Wire };
+
+    // What was written to it, and then what waits, is what was said to it.
+    ghost view = { λ c. record {
+      number = c.number;
+      reads = L.reads c.peer;
+      heard = L.was_read c.peer;
+      said = and_then (L.written c.peer) c.waiting;
+      fate = c.fate;
+    } };
+}
+
+/// Puts the outputs to a line behind what waits on it, up to the first for which there is no room. Whether there was room
+/// for all.
+fn push_all(waiting: &mut Waiting, number: u64, outputs: &[(u64, Bytes)]) -> bool
+    ensures all { IsTrue result → waiting.new ≡ waiting.old ++ bytes_to number outputs.now }
+    ensures cut { IsFalse result → (count : ℕ)
+        × (waiting.new ≡ waiting.old ++ bytes_to number (take count outputs.now)) }
+{
+    for (line, bytes) in outputs {
+        if *line == number && waiting.push(bytes).is_err() {
+            return false;
+        }
+    }
+    true
+}
+
+impl<L: Link> Connection<L> {
+    /// A connection that the broker has linked as a line of this number. Takes no memory.
+    pub fn new(alloc: Global, number: u64, peer: L::Peer) -> Connection<L>
+        ensures number { result.number ≡ number }
+        ensures fate { result.fate ≡ Fate.Stands }
+    {
+        Connection {
+            number,
+            peer,
+            waiting: Waiting::new(alloc),
+            fate: Fate::Stands,
+        }
+    }
+
+    /// The number of its line.
+    pub fn number(&self) -> u64
+        ensures { result ≡ self.now.number }
+    {
+        self.number
+    }
+
+    /// Whether its line is linked.
+    pub fn is_standing(&self) -> bool
+        ensures { result ≡ is_standing self.now.fate }
+    {
+        matches!(self.fate, Fate::Stands)
+    }
+
+    /// Whether it is lost, and the broker is to be told.
+    pub fn is_lost(&self) -> bool
+        ensures { result ≡ is_lost self.now.fate }
+    {
+        matches!(self.fate, Fate::Lost)
+    }
+
+    /// Whether the broker has closed its line.
+    pub fn is_closed(&self) -> bool
+        ensures { result ≡ is_closed self.now.fate }
+    {
+        matches!(self.fate, Fate::Closed)
+    }
+
+    /// Reads once, where it stands; a read that ends or fails makes it lost. How many bytes came.
+    pub fn read(&mut self, link: &mut L, buffer: &mut [u8]) -> usize
+        ensures bound { result ≤ length buffer.new }
+        ensures reads { Reads self.old.fate (take result buffer.new) self.old self.new }
+        ensures same { L.accepts link.new ≡ L.accepts link.old }
+    {
+        if !self.is_standing() {
+            return 0;
+        }
+        match link.read(&mut self.peer, buffer) {
+            Got::Given(count) => count,
+            Got::Nothing => 0,
+            Got::End | Got::Failure => {
+                self.fate = Fate::Lost;
+                0
+            }
+        }
+    }
+
+    /// Writes once what waits, unless it is lost; a write that ends or fails makes it lost. Whether bytes went out.
+    pub fn write(&mut self, link: &mut L) -> bool
+        ensures writes { Writes self.old.fate self.old self.new }
+        ensures same { L.accepts link.new ≡ L.accepts link.old }
+    {
+        if self.is_lost() {
+            return false;
+        }
+        let before = self.waiting.len();
+        if !self.waiting.write(link, &mut self.peer) && self.is_standing() {
+            self.fate = Fate::Lost;
+        }
+        self.waiting.len() < before
+    }
+
+    /// Writes once more what waits, where the broker has closed its line.
+    pub fn write_last(&mut self, link: &mut L)
+        ensures kept { self.new ≡ self.old }
+        ensures same { L.accepts link.new ≡ L.accepts link.old }
+    {
+        if self.is_closed() {
+            self.write(link);
+        }
+    }
+
+    /// Puts the outputs to its line behind what waits, where it stands. It is lost where too much would wait or memory is
+    /// wanting: then those before the one that finds no room wait, and no other.
+    pub fn tell(&mut self, outputs: &[(u64, Bytes)])
+        ensures { Hears self.old.fate outputs.now self.old self.new }
+    {
+        if !self.is_standing() {
+            return;
+        }
+        if !push_all(&mut self.waiting, self.number, outputs) {
+            self.fate = Fate::Lost;
+        }
+    }
+
+    /// It is closed, where its line is among those that the broker closed.
+    pub fn close(&mut self, closed: &[u64])
+        ensures { self.new ≡ closing closed.now self.old }
+    {
+        if closed.contains(&self.number) {
+            self.fate = Fate::Closed;
+        }
+    }
+
+    /// It is lost, and the broker is to be told.
+    pub fn lose(&mut self)
+        ensures { self.new ≡ record self.old { fate = Fate.Lost } }
+    {
+        self.fate = Fate::Lost;
+    }
+}
