@@ -2,8 +2,8 @@
 use crate::clock::moment;
 use crate::fault::ServeFault;
 use crate::poll_link::PollLink;
-use crate::store::{FileKeep, close_store, open_engine, open_store, stopped_by};
-use mqtt_broker::Engine;
+use crate::store::{close_store, open_engine, open_store, stopped_by};
+use mqtt_broker::{Engine, Keep};
 use mqtt_serving::{Links, serve_turn};
 use std::io;
 use std::io::{ErrorKind, Write};
@@ -52,10 +52,10 @@ fn flush<W: Write>(writer: &mut W) -> Result<(), ServeFault> {
 }
 
 /// Runs turns. One in which nothing was accepted, read or written waits a little.
-fn run_turns(
+fn run_turns<K: Keep>(
     rt: &impl Clock,
     links: &mut Links<PollLink>,
-    engine: &mut Engine<FileKeep>,
+    engine: &mut Engine<K>,
     turns: u32,
     begin: u64,
 ) -> Result<(), ServeFault> {
@@ -71,6 +71,24 @@ fn run_turns(
     Ok(())
 }
 
+/// Serves over any store, which it gives back, and tells where it listens.
+fn serve_over<K: Keep, W: Write>(
+    rt: &HostRuntime,
+    listen: SocketAddr,
+    keep: K,
+    turns: u32,
+    writer: &mut W,
+) -> Result<K, ServeFault> {
+    let begin = moment(rt, 0);
+    let mut engine = open_engine(rt, keep, begin)?;
+    let link = listen_at(rt, listen)?;
+    announce(&link, writer)?;
+    let mut links = Links::new(rt.alloc(), link);
+    run_turns(rt, &mut links, &mut engine, turns, begin)?;
+    drop(links);
+    Ok(engine.close())
+}
+
 /// Serves MQTT 5.0 at an address, over the database at a path, for so many turns; it writes `listening` and the address,
 /// and at the end `done`. The database is opened first, then the socket.
 pub fn serve<W: Write>(
@@ -81,15 +99,8 @@ pub fn serve<W: Write>(
     writer: &mut W,
 ) -> Result<(), ServeFault> {
     let keep = open_store(rt, db)?;
-    let begin = moment(rt, 0);
-    let mut engine = open_engine(rt, keep, begin)?;
-    let link = listen_at(rt, listen)?;
-    announce(&link, writer)?;
-    let mut links = Links::new(rt.alloc(), link);
-    let ran = run_turns(rt, &mut links, &mut engine, turns, begin);
-    drop(links);
-    close_store(engine)?;
-    ran?;
+    let keep = serve_over(rt, listen, keep, turns, writer)?;
+    close_store(keep)?;
     match writer.write_all(b"done\n") {
         Ok(()) => flush(writer),
         Err(_) => Err(ServeFault::Write),

@@ -1,6 +1,6 @@
 //! The store of the server: a database in a file (4.1).
 use crate::fault::ServeFault;
-use mqtt_broker::{Engine, EngineError, Full, KeepError, Limits};
+use mqtt_broker::{Engine, EngineError, Full, Keep, KeepError, Limits};
 use mqtt_store::SqlKeep;
 use sqlite::{Connection, Error, ErrorCode, File, FileStore};
 use std::alloc::Global;
@@ -41,11 +41,11 @@ pub(crate) fn open_store(rt: &HostRuntime, path: &str) -> Result<FileKeep, Serve
 }
 
 /// Opens the broker over what a store holds, at a moment in milliseconds.
-pub(crate) fn open_engine(
+pub(crate) fn open_engine<K: Keep>(
     rt: &HostRuntime,
-    keep: FileKeep,
+    keep: K,
     moment: u64,
-) -> Result<Engine<FileKeep>, ServeFault> {
+) -> Result<Engine<K>, ServeFault> {
     let Ok(hasher) = RandomState::new(rt) else {
         return Err(ServeFault::Memory);
     };
@@ -62,8 +62,8 @@ pub(crate) fn open_engine(
 }
 
 /// Closes the database: the log beside it goes into the file.
-pub(crate) fn close_store(engine: Engine<FileKeep>) -> Result<(), ServeFault> {
-    match engine.close().into_inner().close() {
+pub(crate) fn close_store(keep: FileKeep) -> Result<(), ServeFault> {
+    match keep.into_inner().close() {
         Ok(()) => Ok(()),
         Err(error) => Err(fault_of(&error)),
     }
