@@ -2,11 +2,14 @@
 use mqtt_link::{Got, Link};
 use std::alloc::{AllocError, Global};
 
-/// What it will give, what it has taken, and how many bytes a call moves; 0 for a connection that failed.
+/// What it will give, what it has given and taken, how often it was read, and how many bytes a call moves; 0 for a
+/// connection that failed.
 #[derive(Drop)]
 pub struct MemoryPeer {
     incoming: Vec<u8>,
+    given: Vec<u8>,
     taken: Vec<u8>,
+    reads: u64,
     chunk: usize,
 }
 
@@ -14,7 +17,9 @@ impl MemoryPeer {
     pub fn new(alloc: Global, incoming: &[u8], chunk: usize) -> Result<MemoryPeer, AllocError> {
         Ok(MemoryPeer {
             incoming: incoming.to_vec(alloc)?,
+            given: Vec::new(alloc),
             taken: Vec::new(alloc),
+            reads: 0,
             chunk,
         })
     }
@@ -22,30 +27,61 @@ impl MemoryPeer {
     pub fn taken(&self) -> &[u8] {
         &self.taken
     }
+
+    pub fn reads(&self) -> u64 {
+        self.reads
+    }
 }
 
-/// A link that accepts nobody.
+/// A link that accepts nobody, however often it is asked.
 #[derive(Drop)]
-pub struct MemoryLink {}
+pub struct MemoryLink {
+    accepts: u64,
+}
+
+impl MemoryLink {
+    pub fn new() -> MemoryLink {
+        MemoryLink { accepts: 0 }
+    }
+
+    pub fn accepts(&self) -> u64 {
+        self.accepts
+    }
+}
 
 impl Link for MemoryLink {
     ghost use Rattle.std.specs.Prelude.{Some};
 
     type Peer = MemoryPeer;
 
+    ghost accepts = { λ link. Some link.accepts };
+
+    ghost reads = { λ peer. Some peer.reads };
+
+    ghost was_read = { λ peer. Some peer.given.items };
+
     ghost written = { λ peer. Some peer.taken.items };
 
     fn accept(&mut self) -> Got<MemoryPeer> {
+        self.accepts = self.accepts.wrapping_add(1);
         Got::Nothing
     }
 
     fn read(&mut self, peer: &mut MemoryPeer, buffer: &mut [u8]) -> Got<usize> {
+        peer.reads = peer.reads.wrapping_add(1);
         if peer.chunk == 0 {
             return Got::Failure;
         }
         let count = peer.incoming.len().min(peer.chunk).min(buffer.len());
         if count == 0 {
             return Got::Nothing;
+        }
+        if peer
+            .given
+            .extend_from_slice(&peer.incoming[..count])
+            .is_err()
+        {
+            return Got::Failure;
         }
         buffer[..count].copy_from_slice(&peer.incoming[..count]);
         peer.incoming.drain(..count);

@@ -6,13 +6,13 @@ use std::test::Fail;
 #[test]
 fn what_a_short_write_left_goes_out_later(rt: HostRuntime) -> Result<(), Fail> {
     let alloc = rt.alloc();
-    let mut link = MemoryLink {};
+    let mut link = MemoryLink::new();
     let mut peer = MemoryPeer::new(alloc, b"", 2)?;
     let mut waiting = Waiting::new(alloc);
     waiting.push(b"ab")?;
     waiting.push(b"c")?;
     assert!(rt; waiting.write(&mut link, &mut peer));
-    assert!(rt; !waiting.is_empty());
+    assert!(rt; waiting.len() == 1);
     assert_eq!(rt; peer.taken(), b"ab".as_slice());
     assert!(rt; waiting.write(&mut link, &mut peer));
     assert!(rt; waiting.is_empty());
@@ -24,7 +24,7 @@ fn what_a_short_write_left_goes_out_later(rt: HostRuntime) -> Result<(), Fail> {
 #[test]
 fn a_failed_write_keeps_what_waits(rt: HostRuntime) -> Result<(), Fail> {
     let alloc = rt.alloc();
-    let mut link = MemoryLink {};
+    let mut link = MemoryLink::new();
     let mut peer = MemoryPeer::new(alloc, b"", 0)?;
     let mut waiting = Waiting::new(alloc);
     waiting.push(b"abc")?;
@@ -51,12 +51,14 @@ fn at_most_a_mebibyte_waits(rt: HostRuntime) -> Result<(), Fail> {
 #[test]
 fn a_read_gives_what_came(rt: HostRuntime) -> Result<(), Fail> {
     let alloc = rt.alloc();
-    let mut link = MemoryLink {};
+    let mut link = MemoryLink::new();
     let mut peer = MemoryPeer::new(alloc, b"abc", 2)?;
     let mut buffer = [0_u8; 4];
     assert!(rt; link.read(&mut peer, &mut buffer) == Got::Given(2));
     assert!(rt; link.read(&mut peer, &mut buffer) == Got::Given(1));
     assert!(rt; buffer[0] == b'c');
     assert!(rt; link.read(&mut peer, &mut buffer) == Got::Nothing);
+    assert!(rt; matches!(link.accept(), Got::Nothing));
+    assert!(rt; peer.reads() == 3 && link.accepts() == 1);
     Ok(())
 }
