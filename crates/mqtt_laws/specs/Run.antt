@@ -8,7 +8,8 @@ use Rattle.mqtt_base.specs.declared.session.Qos.{Qos}
 use Rattle.mqtt_rules.specs.declared.Limits.{Limits}
 use Rattle.mqtt_rules.specs.State.{Broker, Env, MemberChoice}
 use Rattle.mqtt_rules.specs.Deeds.{Message, FromClient, Enter, Leave, Deed, Accept, At, after as after_deed}
-use Rattle.mqtt_rules.specs.Step.{Call, NewLine, env_of, at_moment, deeds, opening, unopened}
+use Rattle.mqtt_rules.specs.Step.{Call, NewLine, env_of, at_moment, deeds, opening, unopened, is_step_spent}
+use Rattle.mqtt_rules.specs.Step.{is_opening_spent}
 use Rattle.mqtt_inbound.specs.Line.{Link, away, asked, live}
 use Rattle.mqtt_laws.specs.Ends.{Sent, message_in, Publisher, Receiver}
 use Rattle.mqtt_laws.specs.World.{Setting, World, start, Event, ask, stop_before, stop_after, restart, connect_end}
@@ -236,6 +237,47 @@ entered_over limits ts = filter_map entered_in (deeds_over limits ts start)
 
 abbrev pub ended_over : Limits → List Turn → List End
 ended_over limits ts = filter_map ended_in (deeds_over limits ts start)
+
+-- ---- runs in which no number is spent: no counter, place or order of a step that was committed is above the last one
+-- (ours)
+
+abbrev pub spends : Setting → Option Call → World → Bool
+spends set None w = false
+spends set (Some call) w = is_step_spent set.limits set.choice w.now call w.broker
+
+abbrev pub spends_rest : Setting → ℕ → List ℕ → World → Bool
+spends_rest set zero name w = false
+spends_rest set (suc more) name w =
+    let call = call_of_stranger (stranger_named name w) in
+    spends set call w || spends_rest set more name (calls_if set call (next_held name w))
+
+abbrev pub first_spends : Setting → Asking → World → Bool
+first_spends set a w = spends set (call_of set a w) (before set a w)
+
+abbrev pub spends_asked : Setting → Asking → World → Bool
+spends_asked set (to_broker client) w = first_spends set (to_broker client) w
+spends_asked set (old_to_broker client) w = first_spends set (old_to_broker client) w
+spends_asked set (break client) w = first_spends set (break client) w
+spends_asked set (pump client) w = first_spends set (pump client) w
+spends_asked set tick w = first_spends set tick w
+spends_asked set (stranger name bytes) w =
+    let c = comes set name bytes w in
+    spends_rest set (held_count (stranger_named name c)) name c
+
+abbrev pub opening_spends : Setting → World → Bool
+opening_spends set w = is_opening_spent set.limits set.choice w.now w.broker.records
+
+abbrev pub spends_in : Setting → Event → World → Bool
+spends_in set (ask a) w = spends_asked set a w
+spends_in set restart w = opening_spends set w
+spends_in set (stop_before a) w = opening_spends set (before set a w)
+spends_in set (stop_after a) w = first_spends set a w || opening_spends set (first_step set a w)
+spends_in set e w = false
+
+abbrev pub is_run_spent : Limits → List Turn → World → Bool
+is_run_spent limits [] w = false
+is_run_spent limits (t ∷ ts) w =
+    (not (is_bad t.event w) && spends_in (setting limits t) t.event w) || is_run_spent limits ts (turned limits t w)
 
 -- ---- runs in which a Clean Start is carried through: until the CONNACK to a CONNECT with Clean Start 1 was read, its
 -- line is not given up, and each further CONNECT has Clean Start 1 too (3.1.2.4, ours)
