@@ -13,13 +13,13 @@ four =
     ∷ record { here = []; below = 4 ∷ []; plus = None; children = [] }
     ∷ []
 
-all_four : walk_name four (codes "a/b") ≡ 3 ∷ 4 ∷ 2 ∷ 1 ∷ []
+all_four : walk_name four (codes "a/b") (Some 0) ≡ 3 ∷ 4 ∷ 2 ∷ 1 ∷ []
 all_four = refl
 
 -- `+/#` takes its parent too (4.7.1.2)
-parent_too : walk_name four (codes "b") ≡ 3 ∷ 4 ∷ []
+parent_too : walk_name four (codes "b") (Some 0) ≡ 3 ∷ 4 ∷ []
 parent_too = refl
 
 -- a name that begins with `$` is no wildcard's of the first level (4.7.2)
-none_of_ours : walk_name four (codes "$SYS/b") ≡ []
+none_of_ours : walk_name four (codes "$SYS/b") (Some 0) ≡ []
 none_of_ours = refl

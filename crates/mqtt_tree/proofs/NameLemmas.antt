@@ -1,5 +1,5 @@
 -- A walk from the root finds what matches a name.
-use Rattle.std.proofs.Common.{◌≡◌, ℕ, Bool, true, false, cond, not, ◌&&◌, ◌||◌, List, [], ◌∷◌, nat_eq, refl, sym, ap, ◌∙◌, arith, bytes_eq, Some}
+use Rattle.std.proofs.Common.{◌≡◌, ℕ, Bool, true, false, cond, not, ◌&&◌, ◌||◌, List, [], ◌∷◌, nat_eq, refl, sym, ap, ◌∙◌, arith, bytes_eq, Option, Some, None}
 use Rattle.std.specs.List.{count_by, onto_first}
 use Rattle.std.proofs.lemmas.Bool.Decides.{nat_tests}
 use Rattle.std.proofs.lemmas.Slice.Eq.{bytes_eq-Decides}
@@ -10,7 +10,7 @@ use Rattle.mqtt_topic.specs.Matching.{dollar, is_first, matches_levels, is_match
 use Rattle.mqtt_topic.proofs.LevelLemmas.{is_none_left-levels}
 use Rattle.mqtt_topic.proofs.MatchLemmas.{are_filter_levels-of}
 use Rattle.mqtt_tree.specs.Tree.{Node, Filed, planted, AreFiled, AreFilters, ArePlain, Holds, items_where, items_for, walk_first, walk_name, child, node}
-use Rattle.mqtt_tree.proofs.WalkLemmas.{worth, where_by, part, tails, count-tails, false_by, no_hash, no_plus, apart, holds_own, filters-tails, found}
+use Rattle.mqtt_tree.proofs.WalkLemmas.{worth, where_by, part, tails, count-tails, false_by, no_hash, no_plus, apart, holds_own, none_stands, filters-tails, found}
 
 or_parts : (a b : Bool) → (a || b) ≡ false → (a ≡ false) × (b ≡ false)
 or_parts true b h = cc
@@ -124,17 +124,20 @@ module _ {X : Type 0} (p : X → Bool) where
       ∙ ap (λ (b : Bool). cond (matches_levels fl (levels name) && not (is_first is_wildcard s.filter && b)) (worth p s.item) 0) (sym begins) in
       omega (arith, one, other, more, own, same)
 
-  from_root : (nodes : List (Node X)) (name : List ℕ) (ls : List (List ℕ)) (b : Bool) (ss : List (Filed X)) → is_first (nat_eq dollar) name ≡ b → levels name ≡ ls → ArePlain ls → Holds nodes (Some 0) (planted ss) → AreFiled ss →
-      count_by p (walk_first nodes b ls) ≡ count_by p (items_for name ss)
-  from_root nodes name ls false ss begins is plain holds filed =
-      found p nodes ls (Some 0) (planted ss) holds (filters_filed ss filed) plain
+  from_root : (nodes : List (Node X)) (name : List ℕ) (ls : List (List ℕ)) (b : Bool) (from : Option ℕ) (ss : List (Filed X)) → is_first (nat_eq dollar) name ≡ b → levels name ≡ ls → ArePlain ls → Holds nodes from (planted ss) → AreFiled ss →
+      count_by p (walk_first nodes b ls from) ≡ count_by p (items_for name ss)
+  from_root nodes name ls false from ss begins is plain holds filed =
+      found p nodes ls from (planted ss) holds (filters_filed ss filed) plain
       ∙ ap (λ (ns : List (List ℕ)). count_by p (items_where (λ fs. matches_levels fs ns) (planted ss))) (sym is)
       ∙ by_levels name ss begins
-  from_root nodes name [] true ss begins is plain holds filed = let some = is_none_left-levels name in let none : is_none_left (levels name) ≡ true = ap is_none_left is in cc
-  from_root nodes name (l ∷ ls) true ss begins is plain holds filed =
-      found p nodes ls (child l (node nodes 0).children) (tails p l (planted ss)) (holds_own p nodes 0 l (planted ss) plain.0 holds) (filters-tails p l (planted ss) (filters_filed ss filed)) plain.1
+  from_root nodes name ls true None [] begins is plain holds filed = refl
+  from_root nodes name ls true None (s ∷ ss) begins is plain holds filed =
+      let none : planted (s ∷ ss) ≡ [] = none_stands p nodes (planted (s ∷ ss)) holds in cc
+  from_root nodes name [] true (Some n) ss begins is plain holds filed = let some = is_none_left-levels name in let none : is_none_left (levels name) ≡ true = ap is_none_left is in cc
+  from_root nodes name (l ∷ ls) true (Some n) ss begins is plain holds filed =
+      found p nodes ls (child l (node nodes n).children) (tails p l (planted ss)) (holds_own p nodes n l (planted ss) plain.0 holds) (filters-tails p l (planted ss) (filters_filed ss filed)) plain.1
       ∙ by_own name l ls ss begins is plain.0 filed
 
-  pub name_found : (nodes : List (Node X)) (name : List ℕ) (ss : List (Filed X)) → Holds nodes (Some 0) (planted ss) → AreFiled ss → has_wildcard name ≡ false →
-      count_by p (walk_name nodes name) ≡ count_by p (items_for name ss)
-  name_found nodes name ss holds filed free = from_root nodes name (levels name) (is_first (nat_eq dollar) name) ss refl refl (plain_levels name free) holds filed
+  pub name_found : (nodes : List (Node X)) (name : List ℕ) (from : Option ℕ) (ss : List (Filed X)) → Holds nodes from (planted ss) → AreFiled ss → has_wildcard name ≡ false →
+      count_by p (walk_name nodes name from) ≡ count_by p (items_for name ss)
+  name_found nodes name from ss holds filed free = from_root nodes name (levels name) (is_first (nat_eq dollar) name) from ss refl refl (plain_levels name free) holds filed

@@ -170,7 +170,7 @@ module _ {X : Type 0} (p : X → Bool) where
   none_by true x rest is e = cc
   none_by false x rest is e = cc
 
-  none_stands : (nodes : List (Node X)) (ss : List (Planted X)) → Holds nodes None ss → ss ≡ []
+  pub none_stands : (nodes : List (Node X)) (ss : List (Planted X)) → Holds nodes None ss → ss ≡ []
   none_stands nodes [] holds = refl
   none_stands nodes (s ∷ ss) holds = absurd (none_by (are_same s.levels s.levels) s.item (items_where (λ ls. are_same ls s.levels) ss) (same_itself s.levels) (holds s.levels))
 

@@ -7,4 +7,4 @@ pub returns-clause-levels : goal.returns-clause-levels
 returns-clause-levels g c = λ nodes from planted name test holds lawful plain. found test nodes name from planted holds lawful plain
 
 pub returns-clause-names : goal.returns-clause-names
-returns-clause-names g c = λ nodes filed name test holds lawful free. name_found test nodes name filed holds lawful free
+returns-clause-names g c = λ nodes from filed name test holds lawful free. name_found test nodes name from filed holds lawful free

@@ -1,0 +1,196 @@
+//! Items at filters, in a tree of the filters' levels (MQTT 5.0, 4.7).
+ghost use Rattle.std.specs.Prelude.{◌≡◌, ◌+◌, ◌∷◌, ◌++◌, [], List, ℕ, Bool, false, true, None, Some, map, count_by, IfErr, IfOk, OnErr, OnOk};
+ghost use Rattle.mqtt_topic.specs.Names.{hash};
+ghost use Rattle.mqtt_topic.specs.Levels.{levels};
+ghost use Rattle.mqtt_topic.specs.Filters.{is_hash, are_filter_levels, matching_part_of};
+ghost use Rattle.mqtt_tree.specs.Tree.{Filed, Keeps, count_from, walk, walk_name, IsSame, ChangesAt, Leads, with_last, filed_with, items_for};
+
+use crate::fault::TreeFault;
+use crate::node::Node;
+use mqtt_topic::{Levels, SubFilter, TopicName};
+use slab::Slab;
+use std::alloc::Global;
+use std::hash::RandomState;
+use std::marker::Model;
+
+/// Items, each at a filter. The nodes stand in one table by number, so that no call goes as deep as
+/// a filter has levels.
+#[derive(Drop)]
+pub struct Tree<T> {
+    alloc: Global,
+    /// For the levels, which strangers choose.
+    hasher: RandomState,
+    nodes: Slab<Node<T>>,
+    root: Option<usize>,
+}
+
+impl<T> Model for Tree<T> {
+    ghost use Rattle.mqtt_tree.specs.Tree.{NodeTable, IsTree, nodes_of};
+
+    ghost Value = { NodeTable T };
+
+    ghost view = { λ t. record { nodes = nodes_of t.nodes.slots; root = t.root } };
+
+    ghost invariant = { λ t. IsTree t.nodes.slots t.root };
+}
+
+impl<T: Drop> Tree<T> {
+    /// A tree without items. Levels are hashed by `hasher`.
+    pub fn new(alloc: Global, hasher: RandomState) -> Tree<T>
+        ensures { Keeps result [] }
+    {
+        Tree {
+            alloc,
+            hasher,
+            nodes: Slab::new(alloc),
+            root: None,
+        }
+    }
+
+    /// The number of the root, which is made if there is none.
+    fn made_root(&mut self) -> Result<usize, TreeFault>
+        ensures same { IsSame self.old self.new }
+        ensures way { IfOk result (Leads self.new []) }
+    {
+        if let Some(root) = self.root {
+            return Ok(root);
+        }
+        let root = self.nodes.insert(Node::new(self.alloc, self.hasher))?;
+        self.root = Some(root);
+        Ok(root)
+    }
+
+    /// The number of the node behind a level of a filter, which is made if there is none.
+    fn made_behind(&mut self, at: usize, level: &str) -> Result<usize, TreeFault>
+        requires way { (ps : List (List ℕ)) × Leads self.old ps at }
+        requires plain { is_hash level.now ≡ false }
+        ensures same { IsSame self.old self.new }
+        ensures way { IfOk result (λ n. (ps : List (List ℕ)) → Leads self.old ps at
+            → Leads self.new (ps ++ level.now ∷ []) n) }
+    {
+        if let Some(number) = self.nodes[at].behind(level) {
+            return Ok(number);
+        }
+        let made = self.nodes.insert(Node::new(self.alloc, self.hasher))?;
+        if let Err(fault) = self.nodes[at].link(level, made) {
+            self.nodes.try_remove(made);
+            return Err(fault);
+        }
+        Ok(made)
+    }
+
+    /// Puts an item at the end of a way.
+    fn put_here(&mut self, at: usize, item: T) -> Result<(), TreeFault>
+        requires { (ps : List (List ℕ)) × Leads self.old ps at }
+        ensures ok { OnOk result ((ps : List (List ℕ)) → Leads self.old ps at
+            → ChangesAt self.old self.new ps (with_last item)) }
+        ensures err { OnErr result (IsSame self.old self.new) }
+    {
+        self.nodes[at].put_here(item)
+    }
+
+    /// Puts an item at `#` behind the end of a way.
+    fn put_below(&mut self, at: usize, item: T) -> Result<(), TreeFault>
+        requires { (ps : List (List ℕ)) × Leads self.old ps at }
+        ensures ok { OnOk result ((ps : List (List ℕ)) → Leads self.old ps at
+            → ChangesAt self.old self.new (ps ++ (hash ∷ []) ∷ []) (with_last item)) }
+        ensures err { OnErr result (IsSame self.old self.new) }
+    {
+        self.nodes[at].put_below(item)
+    }
+
+    /// Puts an item at a filter, behind those that it has; a shared filter counts as the one that is matched.
+    pub fn insert(&mut self, filter: &SubFilter, item: T) -> Result<(), TreeFault>
+        ensures ok { OnOk result ((filed : List (Filed T)) → Keeps self.old filed
+            → Keeps self.new (filed_with (matching_part_of filter.now) item filed)) }
+        ensures err { OnErr result ((filed : List (Filed T)) → Keeps self.old filed
+            → Keeps self.new filed) }
+    {
+        self.insert_at(filter.levels(), item)
+    }
+
+    /// Puts an item at the levels of a filter.
+    fn insert_at(&mut self, mut levels: Levels<'_>, item: T) -> Result<(), TreeFault>
+        requires { are_filter_levels levels.entry ≡ true }
+        ensures ok { OnOk result (ChangesAt self.old self.new levels.entry (with_last item)) }
+        ensures err { OnErr result (IsSame self.old self.new) }
+    {
+        let mut at = self.made_root()?;
+        while let Some(level) = levels.next() {
+            if level == "#" {
+                return self.put_below(at, item);
+            }
+            at = self.made_behind(at, level)?;
+        }
+        self.put_here(at, item)
+    }
+
+    /// Where a walk by a name begins: at the root, or behind its own first level if it begins with
+    /// `$`, so that no wildcard takes that level (4.7.2). The levels that are left are those to walk.
+    fn start(&self, name: &TopicName, levels: &mut Levels<'_>) -> Option<usize>
+        requires { levels.old ≡ levels name.now }
+        ensures { walk self.now.nodes levels.new result
+            ≡ walk_name self.now.nodes name.now self.now.root }
+    {
+        let root = self.root?;
+        if !name.as_str().starts_with('$') {
+            return Some(root);
+        }
+        let level = levels.next()?;
+        self.nodes.get(root)?.child(level)
+    }
+
+    /// Walks one level on, from several nodes.
+    fn pass<'a>(
+        &'a self,
+        level: &str,
+        from: &[usize],
+        found: &mut Vec<&'a T>,
+    ) -> Result<Vec<usize>, TreeFault>
+        ensures { IfOk result (λ next. (test : T → Bool) (ls : List (List ℕ))
+            → count_by test (map (λ x. x.now) found.new.items) + count_from test self.now.nodes ls next.items
+            ≡ count_by test (map (λ x. x.now) found.old.items)
+            + count_from test self.now.nodes (level.now ∷ ls) from.now) }
+    {
+        let mut next = Vec::new(self.alloc);
+        for number in from {
+            if let Some(node) = self.nodes.get(*number) {
+                node.pass(level, found, &mut next)?;
+            }
+        }
+        Ok(next)
+    }
+
+    /// Ends a walk at several nodes.
+    fn end<'a>(&'a self, at: &[usize], found: &mut Vec<&'a T>) -> Result<(), TreeFault>
+        ensures { OnOk result ((test : T → Bool)
+            → count_by test (map (λ x. x.now) found.new.items)
+            ≡ count_by test (map (λ x. x.now) found.old.items)
+            + count_from test self.now.nodes [] at.now) }
+    {
+        for number in at {
+            if let Some(node) = self.nodes.get(*number) {
+                node.end(found)?;
+            }
+        }
+        Ok(())
+    }
+
+    /// The items at the filters that match a topic name (4.7), each as often as it stands there.
+    pub fn matching(&self, name: &TopicName) -> Result<Vec<&T>, TreeFault>
+        ensures { IfOk result (λ found. (filed : List (Filed T)) → Keeps self.now filed → (test : T → Bool)
+            → count_by test (map (λ x. x.now) found.items) ≡ count_by test (items_for name.now filed)) }
+    {
+        let mut levels = name.levels();
+        let mut at = Vec::new(self.alloc);
+        if let Some(number) = self.start(name, &mut levels) {
+            at.push(number)?;
+        }
+        let mut found = Vec::new(self.alloc);
+        while let Some(level) = levels.next() {
+            at = self.pass(level, at.as_slice(), &mut found)?;
+        }
+        self.end(at.as_slice(), &mut found)?;
+        Ok(found)
+    }
+}
