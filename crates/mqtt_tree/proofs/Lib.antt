@@ -1,7 +1,9 @@
 pub mod ChangeLemmas
 mod Examples
+pub mod FoundLemmas
 pub mod ChildLemmas
 pub mod GrowLemmas
+pub mod KeepLemmas
 pub mod NameLemmas
 pub mod PlaceLemmas
 pub mod WalkLemmas

@@ -36,6 +36,12 @@ module _ {X : Type 0} where
   node_at (p ∷ ps) zero = refl
   node_at (p ∷ ps) (suc n) = node_at ps n
 
+  pub node_is : (places : List (Option (Node X))) (n : ℕ) (at : Node X) → at_place places n ≡ Some at → node (nodes_of places) n ≡ at
+  node_is places n at is = node_at places n ∙ ap node_or is
+
+  pub node_gone : (places : List (Option (Node X))) (n : ℕ) → at_place places n ≡ None → node (nodes_of places) n ≡ no_node
+  node_gone places n is = node_at places n ∙ ap node_or is
+
   within : (places : List (Option (Node X))) (n : ℕ) (x : Node X) → at_place places n ≡ Some x → n < length places
   within [] zero x h = cc
   within [] (suc n) x h = cc

@@ -35,13 +35,13 @@ hash_is_no_plus : (f : List ℕ) → is_hash f ≡ true → is_plus f ≡ false
 hash_is_no_plus f h = ap is_plus ((bytes_eq-Decides f (hash ∷ [])).0 h)
 
 -- `#` stands last in a filter
-last_of_filter : (f : List ℕ) (fs : List (List ℕ)) → are_filter_levels (f ∷ fs) ≡ true → is_hash f ≡ true → are_same fs [] ≡ true
+pub last_of_filter : (f : List ℕ) (fs : List (List ℕ)) → are_filter_levels (f ∷ fs) ≡ true → is_hash f ≡ true → are_same fs [] ≡ true
 last_of_filter f [] lawful h = refl
 last_of_filter f (g ∷ gs) lawful h =
     let is : f ≡ hash ∷ [] = (bytes_eq-Decides f (hash ∷ [])).0 h in
     let none : are_filter_levels ((hash ∷ []) ∷ g ∷ gs) ≡ true = subst (λ x. are_filter_levels (x ∷ g ∷ gs) ≡ true) is lawful in cc
 
-and_right : (a b : Bool) → (a && b) ≡ true → b ≡ true
+pub and_right : (a b : Bool) → (a && b) ≡ true → b ≡ true
 and_right true b h = h
 and_right false b h = cc
 
@@ -49,7 +49,7 @@ module _ {X : Type 0} (p : X → Bool) where
   abbrev pub worth : X → ℕ
   worth x = cond (p x) 1 0
 
-  count-append : (xs ys : List X) → count_by p (xs ++ ys) ≡ count_by p xs + count_by p ys
+  pub count-append : (xs ys : List X) → count_by p (xs ++ ys) ≡ count_by p xs + count_by p ys
   count-append xs ys = sum_by-append (λ x. cond (p x) 1 0) xs ys
 
   -- one item more

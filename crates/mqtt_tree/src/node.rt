@@ -125,7 +125,7 @@ impl<T: Drop> Node<T> {
 }
 
 /// Adds a number to others, if there is one.
-fn push_some(numbers: &mut Vec<usize>, number: Option<usize>) -> Result<(), TreeFault>
+pub(crate) fn push_some(numbers: &mut Vec<usize>, number: Option<usize>) -> Result<(), TreeFault>
     ensures { OnOk result (numbers.new.items ≡ numbers.old.items ++ option_to_list number) }
 {
     if let Some(number) = number {

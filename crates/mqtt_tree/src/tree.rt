@@ -1,12 +1,13 @@
 //! Items at filters, in a tree of the filters' levels (MQTT 5.0, 4.7).
-ghost use Rattle.std.specs.Prelude.{◌≡◌, ◌+◌, ◌∷◌, ◌++◌, [], List, ℕ, Bool, false, true, None, Some, map, count_by, IfErr, IfOk, OnErr, OnOk};
+ghost use Rattle.std.specs.Prelude.{◌≡◌, ◌+◌, ◌∷◌, ◌++◌, [], List, ℕ, Bool, false, true, nat_eq, None, Some, map, count_by, IfErr, IfOk, OnErr, OnOk};
 ghost use Rattle.mqtt_topic.specs.Names.{hash};
 ghost use Rattle.mqtt_topic.specs.Levels.{levels};
 ghost use Rattle.mqtt_topic.specs.Filters.{is_hash, are_filter_levels, matching_part_of};
+ghost use Rattle.mqtt_topic.specs.Matching.{dollar, is_first};
 ghost use Rattle.mqtt_tree.specs.Tree.{Filed, Keeps, count_from, walk, walk_name, IsSame, ChangesAt, Leads, with_last, filed_with, items_for};
 
 use crate::fault::TreeFault;
-use crate::node::Node;
+use crate::node::{Node, push_some};
 use mqtt_topic::{Levels, SubFilter, TopicName};
 use slab::Slab;
 use std::alloc::Global;
@@ -106,17 +107,19 @@ impl<T: Drop> Tree<T> {
         ensures err { OnErr result ((filed : List (Filed T)) → Keeps self.old filed
             → Keeps self.new filed) }
     {
+        // Shows that what is matched is a filter.
+        let _matched = filter.filter();
         self.insert_at(filter.levels(), item)
     }
 
     /// Puts an item at the levels of a filter.
-    fn insert_at(&mut self, mut levels: Levels<'_>, item: T) -> Result<(), TreeFault>
-        requires { are_filter_levels levels.entry ≡ true }
-        ensures ok { OnOk result (ChangesAt self.old self.new levels.entry (with_last item)) }
+    fn insert_at(&mut self, mut rest: Levels<'_>, item: T) -> Result<(), TreeFault>
+        requires { are_filter_levels rest ≡ true }
+        ensures ok { OnOk result (ChangesAt self.old self.new rest.entry (with_last item)) }
         ensures err { OnErr result (IsSame self.old self.new) }
     {
         let mut at = self.made_root()?;
-        while let Some(level) = levels.next() {
+        while let Some(level) = rest.next() {
             if level == "#" {
                 return self.put_below(at, item);
             }
@@ -127,16 +130,16 @@ impl<T: Drop> Tree<T> {
 
     /// Where a walk by a name begins: at the root, or behind its own first level if it begins with
     /// `$`, so that no wildcard takes that level (4.7.2). The levels that are left are those to walk.
-    fn start(&self, name: &TopicName, levels: &mut Levels<'_>) -> Option<usize>
-        requires { levels.old ≡ levels name.now }
-        ensures { walk self.now.nodes levels.new result
+    fn start(&self, name: &str, rest: &mut Levels<'_>) -> Option<usize>
+        requires { rest.old ≡ levels name.now }
+        ensures { walk self.now.nodes rest.new result
             ≡ walk_name self.now.nodes name.now self.now.root }
     {
         let root = self.root?;
-        if !name.as_str().starts_with('$') {
+        if !begins_dollar(name) {
             return Some(root);
         }
-        let level = levels.next()?;
+        let level = rest.next()?;
         self.nodes.get(root)?.child(level)
     }
 
@@ -181,16 +184,21 @@ impl<T: Drop> Tree<T> {
         ensures { IfOk result (λ found. (filed : List (Filed T)) → Keeps self.now filed → (test : T → Bool)
             → count_by test (map (λ x. x.now) found.items) ≡ count_by test (items_for name.now filed)) }
     {
-        let mut levels = name.levels();
+        let mut rest = name.levels();
         let mut at = Vec::new(self.alloc);
-        if let Some(number) = self.start(name, &mut levels) {
-            at.push(number)?;
-        }
+        push_some(&mut at, self.start(name.as_str(), &mut rest))?;
         let mut found = Vec::new(self.alloc);
-        while let Some(level) = levels.next() {
+        while let Some(level) = rest.next() {
             at = self.pass(level, at.as_slice(), &mut found)?;
         }
         self.end(at.as_slice(), &mut found)?;
         Ok(found)
     }
+}
+
+/// Whether a name begins with `$`.
+fn begins_dollar(name: &str) -> bool
+    ensures { result ≡ is_first (nat_eq dollar) name.now }
+{
+    matches!(name.as_bytes().first(), Some(b'$'))
 }
