@@ -6,4 +6,5 @@ pub mod GrowLemmas
 pub mod KeepLemmas
 pub mod NameLemmas
 pub mod PlaceLemmas
+pub mod RemoveLemmas
 pub mod WalkLemmas
