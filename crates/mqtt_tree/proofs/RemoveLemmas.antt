@@ -1,11 +1,13 @@
 -- What a tree keeps, after an item went from a filter.
-use Rattle.std.proofs.Common.{◌≡◌, ℕ, Bool, true, false, cond, ◌&&◌, ◌||◌, List, [], ◌∷◌, ◌++◌, refl, sym, ap, subst, ◌∙◌, bytes_eq, Option, Some, None}
+use Rattle.std.proofs.Common.{◌≡◌, ℕ, suc, ◌<◌, ◌≤◌, arith, length, take, drop, Bool, true, false, cond, ◌&&◌, ◌||◌, List, [], ◌∷◌, ◌++◌, refl, sym, ap, subst, ◌∙◌, bytes_eq, Option, Some, None}
 use Rattle.std.specs.List.{list_any}
 use Rattle.std.proofs.lemmas.Slice.Eq.{bytes_eq-Decides}
 use Rattle.mqtt_topic.specs.Levels.{levels}
 use Rattle.mqtt_topic.specs.Filters.{is_hash, is_filter}
-use Rattle.mqtt_tree.specs.Tree.{Node, NodeTable, ChangesAt, Keeps, Filed, Planted, AreFiled, AreWay, planted, items_where, are_same, standing, reach, behind, node, ended}
-use Rattle.mqtt_tree.specs.Removal.{without_first, is_at, filed_without, has_filed}
+use Rattle.mqtt_tree.specs.Tree.{Node, NodeTable, ChangesAt, Keeps, Filed, Planted, AreFiled, AreWay, planted, items_where, are_same, standing, reach, behind, node, nodes_of, ended, Leads}
+use Rattle.mqtt_tree.specs.Removal.{spot, without_first, is_at, filed_without, has_filed}
+use Rattle.mqtt_topic.specs.Names.{hash}
+use Rattle.mqtt_tree.proofs.PlaceLemmas.{table, at_place, node_is}
 use Rattle.mqtt_tree.proofs.GrowLemmas.{reach_none, standing_none}
 
 -- levels that are the same
@@ -19,6 +21,33 @@ same_is (f ∷ fs) (g ∷ gs) h = by_level (bytes_eq f g) refl h (same_is fs gs)
     by_level true is more rest = let first : f ≡ g = (bytes_eq-Decides f g).0 is in let others = rest more in cc
     by_level false is more rest = cc
 
+-- the first item that passes a test, if it stands
+pub spot_le : {X : Type 0} (test : X → Bool) (xs : List X) → spot test xs ≤ length xs
+spot_le test [] = omega arith
+spot_le test (x ∷ xs) = by_test (test x) (spot_le test xs)
+  where
+    by_test : (b : Bool) → spot test xs ≤ length xs → cond b 0 (suc (spot test xs)) ≤ suc (length xs)
+    by_test true more = omega arith
+    by_test false more = omega arith
+
+pub spot_none : {X : Type 0} (test : X → Bool) (xs : List X) → spot test xs ≡ length xs → (without_first test xs ≡ xs) × (list_any test xs ≡ false)
+spot_none test [] h = (refl, refl)
+spot_none {X} test (x ∷ xs) h = by_test (test x) h (spot_none test xs)
+  where
+    by_test : (b : Bool) → cond b 0 (suc (spot test xs)) ≡ suc (length xs) → (spot test xs ≡ length xs → (without_first test xs ≡ xs) × (list_any test xs ≡ false)) →
+        (cond b xs (x ∷ without_first test xs) ≡ x ∷ xs) × ((b || list_any test xs) ≡ false)
+    by_test true is more = absurd (omega arith)
+    by_test false is more = let rest = more (omega arith) in (ap (λ (ys : List X). x ∷ ys) rest.0, rest.1)
+
+pub spot_some : {X : Type 0} (test : X → Bool) (xs : List X) → spot test xs < length xs → (take (spot test xs) xs ++ drop (suc (spot test xs)) xs ≡ without_first test xs) × (list_any test xs ≡ true)
+spot_some test [] h = absurd (omega arith)
+spot_some {X} test (x ∷ xs) h = by_test (test x) h (spot_some test xs)
+  where
+    by_test : (b : Bool) → cond b 0 (suc (spot test xs)) < suc (length xs) → (spot test xs < length xs → (take (spot test xs) xs ++ drop (suc (spot test xs)) xs ≡ without_first test xs) × (list_any test xs ≡ true)) →
+        (take (cond b 0 (suc (spot test xs))) (x ∷ xs) ++ drop (suc (cond b 0 (suc (spot test xs)))) (x ∷ xs) ≡ cond b xs (x ∷ without_first test xs)) × ((b || list_any test xs) ≡ true)
+    by_test true is more = (refl, refl)
+    by_test false is more = let rest = more (omega arith) in (ap (λ (ys : List X). x ∷ ys) rest.0, rest.1)
+
 module _ {X : Type 0} where
   -- what stands behind a way stands behind its end
   pub standing-append : (nodes : List (Node X)) (ps qs : List (List ℕ)) (from : Option ℕ) → AreWay ps → standing nodes (ps ++ qs) from ≡ standing nodes qs (reach nodes ps from)
@@ -27,6 +56,19 @@ module _ {X : Type 0} where
   standing-append nodes (p ∷ ps) qs (Some n) way =
       ap (λ (b : Bool). cond b (ended (ps ++ qs) (node nodes n)) (standing nodes (ps ++ qs) (behind p (node nodes n)))) way.0
       ∙ standing-append nodes ps qs (behind p (node nodes n)) way.1
+
+  nil_last : (ps : List (List ℕ)) → ps ++ [] ≡ ps
+  nil_last [] = refl
+  nil_last (p ∷ ps) = ap (λ (qs : List (List ℕ)). p ∷ qs) (nil_last ps)
+
+  pub here_stands : (places : List (Option (Node X))) (root : Option ℕ) (at : ℕ) (was : Node X) (ps : List (List ℕ)) → at_place places at ≡ Some was → Leads (table places root) ps at → standing (nodes_of places) ps root ≡ was.here
+  here_stands places root at was ps is leads =
+      ap (λ (qs : List (List ℕ)). standing (nodes_of places) qs root) (sym (nil_last ps))
+      ∙ standing-append (nodes_of places) ps [] root leads.plain ∙ ap (standing (nodes_of places) []) leads.ends ∙ ap (λ (n : Node X). n.here) (node_is places at was is)
+
+  pub below_stands : (places : List (Option (Node X))) (root : Option ℕ) (at : ℕ) (was : Node X) (ps : List (List ℕ)) → at_place places at ≡ Some was → Leads (table places root) ps at → standing (nodes_of places) (ps ++ (hash ∷ []) ∷ []) root ≡ was.below
+  below_stands places root at was ps is leads =
+      standing-append (nodes_of places) ps ((hash ∷ []) ∷ []) root leads.plain ∙ ap (standing (nodes_of places) ((hash ∷ []) ∷ [])) leads.ends ∙ ap (λ (n : Node X). n.below) (node_is places at was is)
 
   -- where nothing stands at the levels, nothing goes
   pub unreached : (tree : NodeTable X) (fs : List (List ℕ)) (change : List X → List X) → change [] ≡ [] → standing tree.nodes fs tree.root ≡ [] → ChangesAt tree tree fs change

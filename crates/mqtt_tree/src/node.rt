@@ -1,7 +1,9 @@
 //! A node of the tree: what ends at it, and the nodes behind it (MQTT 5.0, 4.7.1).
 ghost use Rattle.std.specs.Prelude.{◌≡◌, ◌∷◌, ◌++◌, [], List, ℕ, Some, cond, bytes_eq, map, OnErr, OnOk};
+ghost use Rattle.std.specs.List.{list_any};
 ghost use Rattle.std.specs.Option.{option_to_list};
 ghost use Rattle.mqtt_tree.specs.Tree.{behind, child, no_node, with_last};
+ghost use Rattle.mqtt_tree.specs.Removal.{spot, without_first};
 
 use crate::fault::TreeFault;
 use indexmap::IndexMap;
@@ -97,6 +99,26 @@ impl<T: Drop> Node<T> {
         Ok(())
     }
 
+    /// Removes the first item that equals one from those at the node. Takes no memory.
+    pub(crate) fn take_here(&mut self, item: &T) -> bool
+    where
+        T: PartialEq,
+        ensures found { result ≡ list_any (λ x. T.eq x item.now) self.old.here }
+        ensures after { self.new ≡ record self.old { here = without_first (λ x. T.eq x item.now) self.old.here } }
+    {
+        take_first(&mut self.here, item)
+    }
+
+    /// Removes the first item that equals one from those at the node by a `#`. Takes no memory.
+    pub(crate) fn take_below(&mut self, item: &T) -> bool
+    where
+        T: PartialEq,
+        ensures found { result ≡ list_any (λ x. T.eq x item.now) self.old.below }
+        ensures after { self.new ≡ record self.old { below = without_first (λ x. T.eq x item.now) self.old.below } }
+    {
+        take_first(&mut self.below, item)
+    }
+
     /// Lends what ends at the node by a `#`, and says where a level of a name leads.
     pub(crate) fn pass<'a>(
         &'a self,
@@ -143,4 +165,29 @@ fn lend_all<'a, T>(items: &'a [T], found: &mut Vec<&'a T>) -> Result<(), TreeFau
         found.push(item)?;
     }
     Ok(())
+}
+
+/// Where the first item that equals one stands, or how many there are.
+fn spot<T: PartialEq>(items: &[T], item: &T) -> usize
+    ensures { result ≡ spot (λ x. T.eq x item.now) items.now }
+{
+    for (i, other) in items.iter().enumerate() {
+        if *other == *item {
+            return i;
+        }
+    }
+    items.len()
+}
+
+/// Removes the first item that equals one, and says whether there was one. Takes no memory.
+fn take_first<T: PartialEq + Drop>(items: &mut Vec<T>, item: &T) -> bool
+    ensures found { result ≡ list_any (λ x. T.eq x item.now) items.old.items }
+    ensures after { items.new.items ≡ without_first (λ x. T.eq x item.now) items.old.items }
+{
+    let i = spot(items.as_slice(), item);
+    if i == items.len() {
+        return false;
+    }
+    items.remove(i);
+    true
 }

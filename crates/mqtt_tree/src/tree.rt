@@ -1,10 +1,12 @@
 //! Items at filters, in a tree of the filters' levels (MQTT 5.0, 4.7).
-ghost use Rattle.std.specs.Prelude.{◌≡◌, ◌+◌, ◌∷◌, ◌++◌, [], List, ℕ, Bool, false, true, nat_eq, None, Some, map, count_by, IfErr, IfOk, OnErr, OnOk};
+ghost use Rattle.std.specs.Prelude.{◌≡◌, ◌+◌, ◌∷◌, ◌++◌, [], List, ℕ, Bool, false, true, nat_eq, None, Some, map, count_by, IfErr, IfNone, IfOk, IfSome, OnErr, OnOk};
+ghost use Rattle.std.specs.List.{list_any};
 ghost use Rattle.mqtt_topic.specs.Names.{hash};
 ghost use Rattle.mqtt_topic.specs.Levels.{levels};
 ghost use Rattle.mqtt_topic.specs.Filters.{is_hash, are_filter_levels, matching_part_of};
 ghost use Rattle.mqtt_topic.specs.Matching.{dollar, is_first};
-ghost use Rattle.mqtt_tree.specs.Tree.{Filed, Keeps, count_from, walk, walk_name, IsSame, ChangesAt, Leads, with_last, filed_with, items_for};
+ghost use Rattle.mqtt_tree.specs.Tree.{Filed, Keeps, count_from, walk, walk_name, IsSame, ChangesAt, Leads, with_last, filed_with, items_for, standing};
+ghost use Rattle.mqtt_tree.specs.Removal.{has_filed, filed_without, without_first, EndsAt};
 
 use crate::fault::TreeFault;
 use crate::node::{Node, push_some};
@@ -126,6 +128,68 @@ impl<T: Drop> Tree<T> {
             at = self.made_behind(at, level)?;
         }
         self.put_here(at, item)
+    }
+
+    /// Removes the first item at a filter that equals one, and says whether there was one; a shared
+    /// filter counts as the one that is matched. Takes no memory.
+    pub fn remove(&mut self, filter: &SubFilter, item: &T) -> bool
+    where
+        T: PartialEq,
+        ensures found { (filed : List (Filed T)) → Keeps self.old filed
+            → result ≡ has_filed (matching_part_of filter.now) (λ x. T.eq x item.now) filed }
+        ensures after { (filed : List (Filed T)) → Keeps self.old filed
+            → Keeps self.new (filed_without (matching_part_of filter.now) (λ x. T.eq x item.now) filed) }
+    {
+        // Shows that what is matched is a filter.
+        let _matched = filter.filter();
+        match self.end_of(filter.levels()) {
+            Some((at, true)) => self.take_below(at, item),
+            Some((at, false)) => self.take_here(at, item),
+            None => false,
+        }
+    }
+
+    /// The node at the end of a filter's levels, and whether they end by a `#`; none where nothing
+    /// can stand at them.
+    fn end_of(&self, mut rest: Levels<'_>) -> Option<(usize, bool)>
+        requires { are_filter_levels rest ≡ true }
+        ensures none { IfNone result (standing self.now.nodes rest.entry self.now.root ≡ []) }
+        ensures way { IfSome result (λ end. EndsAt self.now rest.entry end.0 end.1) }
+    {
+        let mut at = self.root?;
+        while let Some(level) = rest.next() {
+            if level == "#" {
+                return Some((at, true));
+            }
+            at = self.nodes[at].behind(level)?;
+        }
+        Some((at, false))
+    }
+
+    /// Removes an item at the end of a way.
+    fn take_here(&mut self, at: usize, item: &T) -> bool
+    where
+        T: PartialEq,
+        requires { (ps : List (List ℕ)) × Leads self.old ps at }
+        ensures found { (ps : List (List ℕ)) → Leads self.old ps at
+            → result ≡ list_any (λ x. T.eq x item.now) (standing self.old.nodes ps self.old.root) }
+        ensures after { (ps : List (List ℕ)) → Leads self.old ps at
+            → ChangesAt self.old self.new ps (without_first (λ x. T.eq x item.now)) }
+    {
+        self.nodes[at].take_here(item)
+    }
+
+    /// Removes an item at `#` behind the end of a way.
+    fn take_below(&mut self, at: usize, item: &T) -> bool
+    where
+        T: PartialEq,
+        requires { (ps : List (List ℕ)) × Leads self.old ps at }
+        ensures found { (ps : List (List ℕ)) → Leads self.old ps at → result
+            ≡ list_any (λ x. T.eq x item.now) (standing self.old.nodes (ps ++ (hash ∷ []) ∷ []) self.old.root) }
+        ensures after { (ps : List (List ℕ)) → Leads self.old ps at
+            → ChangesAt self.old self.new (ps ++ (hash ∷ []) ∷ []) (without_first (λ x. T.eq x item.now)) }
+    {
+        self.nodes[at].take_below(item)
     }
 
     /// Where a walk by a name begins: at the root, or behind its own first level if it begins with

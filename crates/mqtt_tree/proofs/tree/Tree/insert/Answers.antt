@@ -12,7 +12,7 @@ pub insert_at-requires : goal.insert_at-requires
 insert_at-requires g c =
     let matched = matching_part_of c.args.filter.now in
     subst (λ (ls : List (List ℕ)). are_filter_levels ls ≡ true) (sym c.levels.ensures)
-    (are_filter_levels-of false (levels matched) (subst (λ (t : List ℕ). is_filter t ≡ true) c.filter-_matched.ensures.value c.filter-_matched.ensures.lawful))
+    (are_filter_levels-of false (levels matched) (subst (λ (t : List ℕ). is_filter t ≡ true) c.filter-matched.ensures.value c.filter-matched.ensures.lawful))
 
 pub returns-clause-ok : goal.returns-clause-ok
 returns-clause-ok g c =
@@ -20,7 +20,7 @@ returns-clause-ok g c =
     let old = c.args.self.now in
     let new = c.insert_at.new.self in
     on_ok_weaker c.insert_at.result
-    (λ changes. keeps_last old new matched c.args.item (subst (λ (t : List ℕ). is_filter t ≡ true) c.filter-_matched.ensures.value c.filter-_matched.ensures.lawful)
+    (λ changes. keeps_last old new matched c.args.item (subst (λ (t : List ℕ). is_filter t ≡ true) c.filter-matched.ensures.value c.filter-matched.ensures.lawful)
       (subst (λ (ls : List (List ℕ)). ChangesAt old new ls (with_last c.args.item)) c.levels.ensures changes))
     c.insert_at.ensures.ok
 
