@@ -7,7 +7,23 @@ use std::test::Fail;
 /// The filters, each of which has its place here as its item.
 fn filters() -> &'static [&'static str] {
     &[
-        "#", "+", "+/#", "+/+", "a", "a/#", "a/+", "a/b", "a/+/b", "a//b", "/", "/#", "+/", "$SYS/#", "$SYS/+", "$share/g/a/b", "a/b",
+        "#",
+        "+",
+        "+/#",
+        "+/+",
+        "a",
+        "a/#",
+        "a/+",
+        "a/b",
+        "a/+/b",
+        "a//b",
+        "/",
+        "/#",
+        "+/",
+        "$SYS/#",
+        "$SYS/+",
+        "$share/g/a/b",
+        "a/b",
     ]
 }
 
