@@ -4,17 +4,17 @@ ghost use Rattle.mqtt_base.specs.declared.kind.Kind.TheVariants as kinds;
 ghost use Rattle.mqtt_base.specs.Reasons.{is_code};
 ghost use Rattle.mqtt_codec.specs.Packets.{HasSpelling};
 ghost use Rattle.mqtt_inbound.specs.Identifiers.{is_among};
-ghost use Rattle.mqtt_rules.specs.State.{Line};
-ghost use Rattle.mqtt_rules.specs.Packets.{pubcomp};
-ghost use Rattle.mqtt_rules.specs.Deeds.{always, of_session};
-ghost use Rattle.mqtt_rules.specs.Inbound.{on_pubrel};
-ghost use Rattle.mqtt_tables.specs.Stepping.{Did, IsLeft};
+ghost use Rattle.mqtt_turns.specs.TheRules.State.{Line};
+ghost use Rattle.mqtt_turns.specs.TheRules.Packets.{pubcomp};
+ghost use Rattle.mqtt_turns.specs.TheRules.Deeds.{always, of_session};
+ghost use Rattle.mqtt_turns.specs.TheRules.Inbound.{on_pubrel};
+ghost use Rattle.mqtt_turns.specs.TheTables.Stepping.{Did, IsLeft};
 
 use mqtt_base::Reason;
 use mqtt_codec::{Ack, Packet};
 use mqtt_props::PropList;
 use mqtt_records::Session;
-use mqtt_tables::{Step, StepFault};
+use mqtt_turns::{Step, StepFault};
 
 /// Whether an identifier of a QoS 2 publication from the client is open.
 fn is_open(session: &Session, identifier: u16) -> bool
