@@ -17,4 +17,3 @@ pub mod AliasDeeds
 pub mod NumbersBefore
 pub mod Then
 pub use Rattle.mqtt_rules.proofs as TheRules
-pub use Rattle.mqtt_rules.proofs.Turns as QueueTurns
