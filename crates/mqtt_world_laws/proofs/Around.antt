@@ -1,14 +1,13 @@
 -- One publisher in the world: where it is, and who else is there. No other end and no stranger has a line of its (MQTT
 -- 5.0, 4.2).
-use Rattle.std.proofs.Common.{◌≡◌, ℕ, ◌≤◌, Bool, true, false, cond, ◌⊎◌, List, [], ◌∷◌, ◌++◌, map, Option, Some, None, nat_eq, refl, sym, ap, subst, ◌∙◌, arith, inl, inr}
+use Rattle.std.proofs.Common.{◌≡◌, ℕ, ◌≤◌, true, false, ◌⊎◌, List, [], ◌++◌, map, Option, Some, None, nat_eq, refl, sym, ap, subst, ◌∙◌, arith, inl, inr}
 use Rattle.std.specs.Prelude.{⊤, option_map, is_some}
 use Rattle.std.specs.List.{AllByRecursion}
-use Rattle.mqtt_codec.specs.declared.packet.Packet.{Packet}
 use Rattle.mqtt_inbound.specs.InboundWorld.{Event as HopEvent, run}
 use Rattle.mqtt_rules.specs.declared.Limits.{Limits}
-use Rattle.mqtt_rules.specs.State.{MemberChoice, Broker}
+use Rattle.mqtt_rules.specs.State.{Broker}
 use Rattle.mqtt_rules.specs.Laws.{IsAmong, AreWithin}
-use Rattle.mqtt_rules.specs.Step.{Call, NewLine, Input, BadInput, Lost, Pump, Tick, stepped, told, is_step_spent}
+use Rattle.mqtt_rules.specs.Step.{Call, NewLine, Input, BadInput, Lost, Pump, Tick, stepped, told}
 use Rattle.mqtt_laws.specs.Lines.{Line}
 use Rattle.mqtt_laws.specs.Ends.{Publisher, Receiver}
 use Rattle.mqtt_laws.specs.World.{Stranger, World, Setting, publisher_named, receiver_named, publisher_told, receiver_told, calls, calls_if}

@@ -1,6 +1,6 @@
 -- What a run accepts from the messages of a publisher carries what they do.
-use Rattle.std.proofs.Common.{◌≡◌, ℕ, suc, ◌≤◌, ◌<◌, Bool, true, false, cond, ◌⊎◌, List, [], ◌∷◌, ◌++◌, map, length, Option, Some, None, unwrap_or, slice_get, nat_eq, bytes_eq, refl, sym, ap, subst, ◌∙◌, append-nil, append_assoc, arith, inl, inr}
-use Rattle.std.specs.Prelude.{option_map, find, filter_map, is_some, ◌||◌, ◌&&◌}
+use Rattle.std.proofs.Common.{◌≡◌, ℕ, ◌<◌, Bool, true, false, cond, ◌⊎◌, List, [], ◌∷◌, ◌++◌, map, length, Option, Some, None, bytes_eq, refl, sym, ap, subst, ◌∙◌, append-nil, append_assoc, arith, inl, inr}
+use Rattle.std.specs.Prelude.{option_map, find, filter_map}
 use Rattle.std.specs.List.{AllByRecursion}
 use Rattle.std.proofs.lemmas.Bool.{cases_Bool}
 use Rattle.std.proofs.lemmas.Slice.Eq.{bytes_eq-Decides}
@@ -14,24 +14,24 @@ use Rattle.mqtt_rules.specs.declared.Limits.{Limits}
 use Rattle.mqtt_rules.specs.State.{Line as BrokerLine, Broker, line_at, session_at}
 use Rattle.mqtt_rules.specs.Deeds.{Message, Deed}
 use Rattle.mqtt_rules.specs.Laws.{IsAmong}
-use Rattle.mqtt_rules.specs.Step.{Call, Input, deeds, opening, unopened, env_of}
+use Rattle.mqtt_rules.specs.Step.{Input, deeds, unopened, env_of}
 use Rattle.mqtt_rules.proofs.FlightRows.{found_key}
 use Rattle.mqtt_rules.proofs.Leads.{row_among}
 use Rattle.mqtt_laws.specs.Ends.{Content, no_content, content_at, Sent, shake, plain, Publisher, new_publisher, wire, message_in}
-use Rattle.mqtt_laws.specs.World.{World, Setting, Event, publisher, receiver, connect_end, give_up, publish, subscribe, to_end, clock, ask, restart, stop_before, stop_after, Asking, to_broker, old_to_broker, break, pump, tick, stranger, publisher_named, receiver_named, with_line, taken_up, taken_old, input_on, view_by, call_of, first_step, is_bad, is_taken, is_bad_name, happens}
+use Rattle.mqtt_laws.specs.World.{World, Setting, Event, publisher, receiver, connect_end, give_up, publish, subscribe, to_end, clock, ask, restart, stop_before, stop_after, Asking, to_broker, old_to_broker, break, pump, tick, stranger, publisher_named, receiver_named, with_line, taken_up, taken_old, input_on, view_by, first_step, is_bad, happens}
 use Rattle.mqtt_laws.specs.Run.{Turn, setting, turned, run, deeds_at, From, from_message, each_from, from_over, client_message, front_message, front_of_line, front_of_old, asked_from, message_read, accepted_at, deeds_if, first_deeds, opening_deeds, deeds_in, carries_clean, are_clean_starts_carried}
 use Rattle.mqtt_laws.specs.Laws.{Carries, contents_by}
 use Rattle.mqtt_laws.specs.Hops.{IsOurs, Own}
 use Rattle.mqtt_laws.specs.Seats.{Former, Present, absent, closed, joined, late, lingers, over, waiting, IsHis, connected_at}
-use Rattle.mqtt_world_laws.specs.Spending.{event_spends, turn_spends, run_spends}
+use Rattle.mqtt_world_laws.specs.Spending.{turn_spends, run_spends}
 use Rattle.mqtt_world_laws.specs.Fair.{IsNew, IsFair}
 use Rattle.mqtt_world_laws.specs.Once.{CarriesIn, HasCarried}
-use Rattle.mqtt_world_laws.proofs.Ends.{IsNotHim, whose_name, find_last, find_no_more, find_first, named_publisher}
-use Rattle.mqtt_world_laws.proofs.Around.{Placed, Him, Holds, Stays}
+use Rattle.mqtt_world_laws.proofs.Ends.{find_last, find_no_more, find_first, named_publisher}
+use Rattle.mqtt_world_laws.proofs.Around.{Him, Holds, Stays}
 use Rattle.mqtt_world_laws.proofs.OpeningNumbers.{AcceptsNone, opening_none}
 use Rattle.mqtt_world_laws.proofs.Said.{AreSaid, said_append, unsaid, said_messages, call_said}
-use Rattle.mqtt_world_laws.proofs.Numbered.{IsOf, AreOf, IsNumbered, Moves}
-use Rattle.mqtt_world_laws.proofs.Moves.{Moved, moved_not, event_moved}
+use Rattle.mqtt_world_laws.proofs.Numbered.{AreOf, IsNumbered, Moves}
+use Rattle.mqtt_world_laws.proofs.Moves.{Moved, event_moved}
 use Rattle.mqtt_world_laws.proofs.Runs.{either, both_true, turn_stays, new_stays}
 
 -- ---- what was accepted stays carried

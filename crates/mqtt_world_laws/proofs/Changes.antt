@@ -1,5 +1,5 @@
 -- One end is changed, in the eyes of one publisher: itself, or another.
-use Rattle.std.proofs.Common.{◌≡◌, ℕ, Bool, true, false, cond, ◌⊎◌, List, [], ◌∷◌, map, Option, Some, None, bytes_eq, refl, sym, ap, subst, ◌∙◌, inl, inr}
+use Rattle.std.proofs.Common.{◌≡◌, ℕ, Bool, true, false, cond, List, [], ◌∷◌, map, Some, None, bytes_eq, refl, sym, ap, subst, ◌∙◌, inl, inr}
 use Rattle.std.specs.Prelude.{option_map, find, is_some}
 use Rattle.std.specs.List.{AllByRecursion}
 use Rattle.std.proofs.lemmas.Bool.{cases_Bool}
@@ -7,7 +7,7 @@ use Rattle.std.proofs.lemmas.Slice.Eq.{bytes_eq-Decides}
 use Rattle.mqtt_rules.specs.declared.Limits.{Limits}
 use Rattle.mqtt_laws.specs.Lines.{Line}
 use Rattle.mqtt_laws.specs.Ends.{Sent, Publisher, Receiver, Back}
-use Rattle.mqtt_laws.specs.World.{World, publisher_named, receiver_named, with_publisher, with_receiver, with_line}
+use Rattle.mqtt_laws.specs.World.{World, publisher_named, with_publisher, with_receiver, with_line}
 use Rattle.mqtt_world_laws.proofs.Ends.{find_publisher, find_receiver, is_some_mapped, only_client, only_receiver, all_mapped, changed_not, changed_his, IsNotHim}
 use Rattle.mqtt_world_laws.proofs.Around.{HasFree, OtherPublisher, OtherReceiver, Around, Placed, Him, Holds}
 

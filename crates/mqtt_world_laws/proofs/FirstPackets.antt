@@ -1,5 +1,5 @@
 -- The first packet of a line is read: one of the publisher's own, or another end's.
-use Rattle.std.proofs.Common.{◌≡◌, ℕ, Bool, true, false, cond, List, [], ◌∷◌, ◌++◌, drop, map, Option, Some, None, bytes_eq, refl, sym, ap, subst, ◌∙◌, append-nil, ◌⊎◌, inl, inr}
+use Rattle.std.proofs.Common.{◌≡◌, ℕ, Bool, false, cond, List, [], ◌∷◌, ◌++◌, drop, map, Option, Some, None, bytes_eq, refl, sym, ap, subst, ◌∙◌, append-nil, inl, inr}
 use Rattle.std.specs.Prelude.{option_map, is_some}
 use Rattle.std.proofs.lemmas.Bool.{cases_Bool}
 use Rattle.std.proofs.lemmas.Slice.Eq.{bytes_eq-Decides}
@@ -8,7 +8,7 @@ use Rattle.mqtt_rules.specs.State.{Broker}
 use Rattle.mqtt_rules.specs.Deeds.{Deed}
 use Rattle.mqtt_rules.specs.Step.{Input, stepped, told, deeds}
 use Rattle.mqtt_laws.specs.Lines.{Line}
-use Rattle.mqtt_laws.specs.Ends.{Sent, Publisher, Receiver, Back, wire, message_in}
+use Rattle.mqtt_laws.specs.Ends.{Sent, Publisher, Back, wire, message_in}
 use Rattle.mqtt_laws.specs.World.{World, Setting, publisher_named, receiver_named, with_line, with_receiver, publisher_told, calls_if, to_broker, old_to_broker, input_on, view_by, view_of, taken_up, taken_old, call_of, first_step}
 use Rattle.mqtt_laws.specs.Run.{front_message, front_of_line, front_of_old, asked_from, each_of, deeds_if, first_deeds}
 use Rattle.mqtt_laws.specs.Seats.{Comes, Former, Present, absent, closed, joined, late, lingers, over, waiting}

@@ -1,36 +1,29 @@
 -- What ends do, in the eyes of one publisher: they come, join, give a line up, publish, subscribe and read.
-use Rattle.std.proofs.Common.{◌≡◌, ℕ, suc, ◌≤◌, Bool, true, false, cond, not, ◌||◌, ◌&&◌, ◌⊎◌, List, [], ◌∷◌, ◌++◌, length, map, Option, Some, None, nat_eq, nat_lt, bytes_eq, refl, sym, ap, subst, ◌∙◌, arith, inl, inr}
-use Rattle.std.specs.Prelude.{option_map, find, is_some}
+use Rattle.std.proofs.Common.{◌≡◌, ℕ, Bool, true, false, cond, not, ◌||◌, ◌&&◌, List, [], ◌∷◌, ◌++◌, length, Option, Some, None, nat_eq, nat_lt, bytes_eq, refl, sym, ap, subst, ◌∙◌, inl, inr}
+use Rattle.std.specs.Prelude.{option_map, is_some}
 use Rattle.std.specs.List.{AllByRecursion, starts_with}
 use Rattle.std.proofs.lemmas.Bool.{cases_Bool}
 use Rattle.std.proofs.lemmas.Slice.Eq.{bytes_eq-Decides}
 use Rattle.mqtt_base.specs.declared.limits.TheConstants.{CLIENT_LIMIT}
-use Rattle.mqtt_topic.specs.Names.{is_empty}
 use Rattle.mqtt_inbound.specs.Line.{Link, away, asked, live}
-use Rattle.mqtt_inbound.specs.Publisher.{CONNECT}
 use Rattle.mqtt_inbound.specs.InboundWorld.{World as Hop}
 use Rattle.mqtt_inbound.specs.InboundWorld as hop
-use Rattle.mqtt_flow.specs.Receiver.{connect}
 use Rattle.mqtt_records.specs.declared.session.Session.{Session}
-use Rattle.mqtt_rules.specs.declared.Limits.{Limits}
 use Rattle.mqtt_rules.specs.State.{Broker, session_named}
 use Rattle.mqtt_rules.specs.Laws.{IsAmong}
 use Rattle.mqtt_rules.specs.Connect.{auto}
-use Rattle.mqtt_rules.specs.Step.{NewLine, can_link, stepped, told}
-use Rattle.mqtt_laws.specs.Lines.{Line, gives_up, joined, stands}
-use Rattle.mqtt_laws.specs.Ends.{Draft, Sent, shake, Publisher, new_publisher, published, publisher_reads, Wish, Back, answers, Receiver, new_receiver, receiver_reads}
-use Rattle.mqtt_laws.specs.World.{World, Setting, Event, publisher, receiver, connect_end, give_up, publish, subscribe, to_end, clock, happens, is_bad, is_bad_name, is_taken, is_away, link_by, link_of, publisher_named, receiver_named, with_line, with_publisher, with_receiver, publisher_told, receiver_told, calls, links, next_line, is_open_line, asks_wish, end_reads}
+use Rattle.mqtt_laws.specs.Lines.{Line, gives_up}
+use Rattle.mqtt_laws.specs.Ends.{Draft, Sent, Publisher, new_publisher, published, publisher_reads, Wish, Back, Receiver, new_receiver, receiver_reads}
+use Rattle.mqtt_laws.specs.World.{World, Setting, publisher, receiver, give_up, publish, subscribe, to_end, clock, happens, is_bad, is_bad_name, is_taken, link_by, publisher_named, receiver_named, with_publisher, is_open_line, asks_wish}
 use Rattle.mqtt_laws.specs.Run.{is_asked, is_clean, carries_clean}
 use Rattle.mqtt_laws.specs.Seen.{open_in, seen}
-use Rattle.mqtt_laws.specs.Hops.{MayGiveUp, MayJoin, joined_by}
-use Rattle.mqtt_laws.specs.Seats.{IsNamed, Seat, absent, over, Comes}
-use Rattle.mqtt_laws.proofs.Doings.{publishes, hears, gives, joins}
-use Rattle.mqtt_world_laws.proofs.Steady.{linking_spends_none, steady_step}
-use Rattle.mqtt_world_laws.proofs.Ends.{all_mapped, all_turned, all_appended, find_last, find_no_more, find_first, IsNotHim, whose_name, named_publisher, changed_not, changed_his, find_publisher, find_receiver, is_some_mapped}
-use Rattle.mqtt_world_laws.proofs.Around.{IsFree, HasFree, OtherPublisher, OtherReceiver, OtherStranger, Around, Placed, Him, Holds, around_mapped, placed_does, longer, named_called}
-use Rattle.mqtt_world_laws.proofs.Changes.{with_end, on_line, on_back, end_others, line_others, own_around, own_holds}
-use Rattle.mqtt_world_laws.proofs.Kept.{kept_free, Remains, RemainsThere, published_remains, read_remains, read_there, gives_free}
-use Rattle.mqtt_world_laws.proofs.Strangers.{linked_given, linking_holds, next_free}
+use Rattle.mqtt_laws.specs.Hops.{MayGiveUp}
+use Rattle.mqtt_laws.specs.Seats.{IsNamed, absent, over}
+use Rattle.mqtt_laws.proofs.Doings.{publishes, hears, gives}
+use Rattle.mqtt_world_laws.proofs.Ends.{all_mapped, all_appended, find_last, find_no_more, whose_name, changed_not, changed_his, find_publisher, find_receiver, is_some_mapped}
+use Rattle.mqtt_world_laws.proofs.Around.{HasFree, OtherPublisher, OtherReceiver, Around, Placed, Him, Holds, placed_does}
+use Rattle.mqtt_world_laws.proofs.Changes.{on_line, on_back, end_others, line_others, own_holds}
+use Rattle.mqtt_world_laws.proofs.Kept.{kept_free, published_remains, read_remains, read_there, gives_free}
 
 either : (a b : Bool) → (a || b) ≡ false → (a ≡ false) × (b ≡ false)
 either true b h = absurd cc

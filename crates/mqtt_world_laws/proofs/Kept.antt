@@ -1,5 +1,5 @@
 -- What an end's doings leave of its line: its number, or it has none; and the line that it gave up.
-use Rattle.std.proofs.Common.{◌≡◌, ℕ, Bool, true, false, cond, ◌⊎◌, if◌then◌else◌, List, [], ◌∷◌, ◌++◌, map, length, Option, Some, None, nat_lt, refl, sym, ap, ◌∙◌, inl, inr}
+use Rattle.std.proofs.Common.{◌≡◌, ℕ, Bool, true, false, cond, ◌⊎◌, if◌then◌else◌, List, [], ◌∷◌, ◌++◌, map, length, Option, Some, None, nat_lt, refl, sym, ◌∙◌, inl, inr}
 use Rattle.mqtt_base.specs.declared.session.CopyId.{CopyId}
 use Rattle.mqtt_base.specs.declared.session.Qos.{Qos as Quality}
 use Rattle.mqtt_base.specs.declared.session.Qos.TheVariants.{AtMostOnce, AtLeastOnce, ExactlyOnce}
@@ -13,7 +13,7 @@ use Rattle.mqtt_inbound.specs.Line.{Link, away, asked, live}
 use Rattle.mqtt_inbound.specs.Publisher.{ToPublisher, CONNACK, CONNACK_REFUSED, PUBACK, PUBREC, PUBCOMP, DISCONNECT, in_flight, resent_from, on_new_session, on_puback, on_pubrec, on_pubcomp, pubrel_for}
 use Rattle.mqtt_laws.specs.Lines.{Down, Line, gives_up}
 use Rattle.mqtt_laws.specs.Ends.{Content, Draft, shake, Publisher, Receiver, goes, connected, goes_out, send_one, send_all, send_unsent, published, reads_connack, reads, reads_if, publisher_reads, reads_publish, receiver_connack, hears, receiver_reads}
-use Rattle.mqtt_world_laws.proofs.Around.{IsFree, HasFree}
+use Rattle.mqtt_world_laws.proofs.Around.{HasFree}
 
 pub record IsKept {U : Type 0} (x y : Line U) : Type 0 where
   pub number : (y.number ≡ x.number) ⊎ (y.number ≡ None)

@@ -1,3 +1,4 @@
+pub mod Examples
 pub mod Steady
 pub mod OpeningNumbers
 pub mod Ends

@@ -1,17 +1,14 @@
 -- What each event makes of a publisher: it keeps its name and its messages' contents, and stays numbered.
-use Rattle.std.proofs.Common.{◌≡◌, ℕ, zero, suc, Bool, true, false, cond, List, [], ◌∷◌, ◌++◌, map, Option, Some, None, bytes_eq, refl, sym, ap, subst, ◌∙◌}
+use Rattle.std.proofs.Common.{◌≡◌, ℕ, zero, suc, Bool, true, false, cond, List, map, Option, Some, None, bytes_eq, refl, sym, subst}
 use Rattle.std.specs.Prelude.{option_map, find, is_some}
-use Rattle.std.proofs.lemmas.Bool.{cases_Bool}
 use Rattle.mqtt_inbound.specs.Publisher.{CONNECT}
-use Rattle.mqtt_flow.specs.Receiver.{connect}
-use Rattle.mqtt_rules.specs.State.{Broker}
-use Rattle.mqtt_rules.specs.Step.{Call, NewLine, Outcome, can_link, stepped, told}
-use Rattle.mqtt_laws.specs.Lines.{Line, left, joined, gives_up}
-use Rattle.mqtt_laws.specs.Ends.{Draft, Sent, shake, Publisher, new_publisher, published, publisher_reads, Receiver, Back, answers, receiver_reads}
-use Rattle.mqtt_laws.specs.World.{World, Setting, Event, publisher, receiver, connect_end, give_up, publish, subscribe, to_end, clock, ask, restart, stop_before, stop_after, Asking, to_broker, old_to_broker, break, pump, tick, stranger, stranger_named, publisher_named, with_publisher, with_receiver, with_line, calls, calls_if, publisher_told, publisher_restarted, restarts, links, linked_at, comes, next_held, call_of_stranger, answers_rest, held_count, before, call_of, first_step, asks, happens, is_open_line, taken_up, taken_old}
-use Rattle.mqtt_world_laws.proofs.Ends.{find_publisher, only_client}
-use Rattle.mqtt_world_laws.proofs.Changes.{on_line, on_back}
-use Rattle.mqtt_world_laws.proofs.Numbered.{IsNumbered, Moves, unmoved, moves_then, published_moves, read_moves, given_moves, left_moves, joined_moves, restarted_moves, up_moves, old_moves, told_moves}
+use Rattle.mqtt_rules.specs.Step.{Call, NewLine, stepped, told}
+use Rattle.mqtt_laws.specs.Lines.{left, joined, gives_up}
+use Rattle.mqtt_laws.specs.Ends.{shake, Publisher, published, publisher_reads}
+use Rattle.mqtt_laws.specs.World.{World, Setting, Event, publisher, receiver, connect_end, give_up, publish, subscribe, to_end, clock, ask, restart, stop_before, stop_after, Asking, to_broker, old_to_broker, break, pump, tick, stranger, stranger_named, publisher_named, calls, calls_if, publisher_told, publisher_restarted, restarts, links, linked_at, comes, next_held, call_of_stranger, answers_rest, held_count, before, call_of, first_step, asks, happens, is_open_line, taken_up, taken_old}
+use Rattle.mqtt_world_laws.proofs.Ends.{find_publisher}
+use Rattle.mqtt_world_laws.proofs.Changes.{on_line}
+use Rattle.mqtt_world_laws.proofs.Numbered.{Moves, unmoved, moves_then, published_moves, read_moves, given_moves, left_moves, joined_moves, restarted_moves, up_moves, old_moves, told_moves}
 
 -- ---- a publisher of this name, before and after
 

@@ -1,15 +1,14 @@
 -- A publisher's messages are numbered as they go out: what is under way carries a number of one that has gone out, whose
 -- content stays as it is.
-use Rattle.std.proofs.Common.{◌≡◌, ℕ, suc, ◌≤◌, ◌<◌, ◌+◌, Bool, true, false, cond, if◌then◌else◌, List, [], ◌∷◌, ◌++◌, drop, map, length, Option, Some, None, nat_lt, refl, sym, ap, subst, ◌∙◌, arith, append-nil, append_assoc}
-use Rattle.std.specs.Prelude.{⊤, ◌&&◌}
-use Rattle.std.specs.List.{AllByRecursion, list_any}
+use Rattle.std.proofs.Common.{◌≡◌, ℕ, suc, ◌≤◌, ◌<◌, ◌+◌, Bool, true, false, if◌then◌else◌, List, [], ◌∷◌, ◌++◌, drop, map, length, Option, Some, None, nat_lt, refl, sym, ap, subst, ◌∙◌, arith, append-nil, append_assoc}
+use Rattle.std.specs.List.{AllByRecursion}
 use Rattle.std.proofs.lemmas.List.{length-append, length-map}
 use Rattle.mqtt_base.specs.declared.session.Qos.{Qos as Quality}
 use Rattle.mqtt_base.specs.declared.session.Qos.TheVariants.{AtMostOnce, AtLeastOnce, ExactlyOnce}
 use Rattle.mqtt_base.specs.declared.limits.TheConstants.{OPEN_LIMIT}
 use Rattle.mqtt_inbound.specs.Identifiers.{free_identifier}
 use Rattle.mqtt_inbound.specs.Line.{Link, away, asked, live, sent_on}
-use Rattle.mqtt_inbound.specs.Publisher.{Qos, qos_1, qos_2, Fate, sent_1, ended_1, sent, released, ended, FromPublisher, CONNECT, PUBLISH_1, PUBLISH_2, PUBREL, ToPublisher, CONNACK, CONNACK_REFUSED, PUBACK, PUBREC, PUBCOMP, DISCONNECT, first_packet, first_fate, in_flight, resent_from, on_new_session, on_puback, on_pubrec, on_pubcomp, pubrel_for, pubrel_if}
+use Rattle.mqtt_inbound.specs.Publisher.{Qos, qos_1, qos_2, Fate, sent_1, ended_1, sent, released, ended, CONNECT, ToPublisher, CONNACK, CONNACK_REFUSED, PUBACK, PUBREC, PUBCOMP, DISCONNECT, first_packet, first_fate, in_flight, resent_from, on_new_session, on_puback, on_pubrec, on_pubcomp, pubrel_for, pubrel_if}
 use Rattle.mqtt_rules.specs.State.{Broker}
 use Rattle.mqtt_rules.specs.Step.{Outcome}
 use Rattle.mqtt_laws.specs.Lines.{Down, Line, gives_up, given_up, left, joined, restarted, unless_closed, told_by}

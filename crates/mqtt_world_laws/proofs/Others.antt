@@ -1,7 +1,6 @@
 -- What other ends ask of the broker, in the eyes of one publisher: no packet of theirs is a CONNECT of its client, and
 -- none is on a line of its.
-use Rattle.std.proofs.Common.{◌≡◌, ℕ, Bool, true, false, cond, ◌⊎◌, List, [], ◌∷◌, map, Option, Some, None, bytes_eq, refl, sym, ap, subst, ◌∙◌, inl, inr}
-use Rattle.std.specs.Prelude.{⊤, is_some}
+use Rattle.std.proofs.Common.{◌≡◌, ℕ, List, [], ◌∷◌, map, Option, Some, None, bytes_eq, refl, sym, subst, ◌∙◌, inl, inr}
 use Rattle.std.specs.List.{AllByRecursion}
 use Rattle.mqtt_codec.specs.declared.packet.Packet.{Packet}
 use Rattle.mqtt_inbound.specs.Publisher.{CONNECT, PUBLISH_1, PUBLISH_2, PUBREL}

@@ -1,23 +1,22 @@
 -- The broker restarts, or stops before or after a commit and restarts (MQTT 5.0, 4.1).
-use Rattle.std.proofs.Common.{◌≡◌, ℕ, ◌≤◌, Bool, true, false, cond, ◌⊎◌, List, [], ◌∷◌, ◌++◌, map, Option, Some, None, bytes_eq, refl, sym, ap, subst, ◌∙◌, append-nil, arith, inl, inr}
+use Rattle.std.proofs.Common.{◌≡◌, ℕ, ◌≤◌, Bool, true, false, cond, List, [], ◌∷◌, ◌++◌, map, Option, Some, None, bytes_eq, refl, sym, ap, subst, ◌∙◌, append-nil, arith, inl, inr}
 use Rattle.std.specs.Prelude.{⊤, option_map, filter_map, is_some}
-use Rattle.std.specs.List.{AllByRecursion}
 use Rattle.mqtt_rules.specs.declared.Limits.{Limits}
 use Rattle.mqtt_rules.specs.State.{Broker}
 use Rattle.mqtt_rules.specs.Deeds.{Deed}
 use Rattle.mqtt_rules.specs.Laws.{IsAmong}
-use Rattle.mqtt_rules.specs.Step.{opened, opening, unopened, env_of}
+use Rattle.mqtt_rules.specs.Step.{opened, unopened, env_of}
 use Rattle.mqtt_laws.specs.Lines.{Line, left}
 use Rattle.mqtt_laws.specs.Ends.{Sent, Publisher, Receiver, Back}
-use Rattle.mqtt_laws.specs.World.{World, Setting, Stranger, Asking, to_broker, old_to_broker, break, pump, tick, stranger, publisher_named, receiver_named, with_line, publisher_restarted, receiver_restarted, unlinked, restarts, taken_up, taken_old, before, first_step, is_bad_asking, lost_on, view_of}
+use Rattle.mqtt_laws.specs.World.{World, Setting, Stranger, Asking, to_broker, old_to_broker, break, pump, tick, stranger, publisher_named, with_line, publisher_restarted, receiver_restarted, unlinked, restarts, taken_up, taken_old, before, first_step, is_bad_asking, lost_on, view_of}
 use Rattle.mqtt_laws.specs.Run.{client_number, asked_from, each_of, first_deeds, opening_deeds}
 use Rattle.mqtt_laws.specs.Seats.{IsHis, absent, over}
 use Rattle.mqtt_laws.proofs.Publishes.{numbers_append}
 use Rattle.mqtt_laws.proofs.Calls.{restarts_come}
 use Rattle.mqtt_world_laws.specs.Spending.{first_spends, opening_spends}
 use Rattle.mqtt_world_laws.proofs.Steady.{steady_again}
-use Rattle.mqtt_world_laws.proofs.Ends.{all_mapped, anything, find_publisher, find_receiver, is_some_mapped, only_client, IsNotHim, whose_name}
-use Rattle.mqtt_world_laws.proofs.Around.{HasFree, OtherPublisher, OtherReceiver, OtherStranger, Around, Placed, Him, Holds, Stays, longer, if_around}
+use Rattle.mqtt_world_laws.proofs.Ends.{all_mapped, anything, find_publisher, find_receiver, is_some_mapped, only_client, whose_name}
+use Rattle.mqtt_world_laws.proofs.Around.{OtherPublisher, OtherReceiver, OtherStranger, Around, Placed, Him, Holds, Stays, longer, if_around}
 use Rattle.mqtt_world_laws.proofs.Changes.{on_line, on_back, end_around}
 use Rattle.mqtt_world_laws.proofs.FirstPackets.{Takes, takes_up, takes_old, takes_free, reads_hold, reads_old_hold}
 use Rattle.mqtt_world_laws.proofs.Strangers.{comes_holds, stranger_first}

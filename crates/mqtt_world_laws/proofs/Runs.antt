@@ -1,17 +1,15 @@
 -- Every run of the world, in the eyes of one publisher: an event at a time it is somewhere again, and what it saw is a
 -- run of its hop (MQTT 5.0, 4.3, 4.4).
-use Rattle.std.proofs.Common.{◌≡◌, ℕ, ◌≤◌, Bool, true, false, cond, not, ◌||◌, ◌&&◌, List, [], ◌∷◌, ◌++◌, count_by, nat_eq, slice_get, Option, Some, None, bytes_eq, refl, sym, ap, subst, ◌∙◌, append-nil, append_assoc, arith, inl, inr}
-use Rattle.std.specs.Prelude.{find, is_some}
+use Rattle.std.proofs.Common.{◌≡◌, ℕ, ◌≤◌, Bool, true, false, cond, not, ◌||◌, ◌&&◌, List, [], ◌∷◌, ◌++◌, count_by, nat_eq, Option, Some, None, bytes_eq, refl, sym, ap, subst, append-nil, append_assoc, arith, inl, inr}
+use Rattle.std.specs.Prelude.{find}
 use Rattle.std.specs.List.{AllByRecursion}
-use Rattle.mqtt_inbound.specs.Publisher.{Fate, IsExactlyOnce, completed, refused, ended, ended_1}
-use Rattle.mqtt_records.specs.declared.session.Session.{Session}
+use Rattle.mqtt_inbound.specs.Publisher.{IsExactlyOnce, completed, refused, ended, ended_1}
 use Rattle.mqtt_records.specs.declared.records.Records.{Records}
 use Rattle.mqtt_rules.specs.declared.Limits.{Limits}
 use Rattle.mqtt_rules.specs.State.{Broker, MemberChoice}
-use Rattle.mqtt_rules.specs.Deeds.{Deed}
 use Rattle.mqtt_rules.specs.Laws.{AreWithin, FewOpen, HasFewOpen, HasTables}
 use Rattle.mqtt_laws.specs.Ends.{Publisher, Receiver}
-use Rattle.mqtt_laws.specs.World.{World, Setting, Stranger, Event, publisher, receiver, connect_end, give_up, publish, subscribe, to_end, clock, ask, restart, stop_before, stop_after, to_broker, old_to_broker, break, pump, tick, stranger, publisher_named, is_bad, first_step, happens, start}
+use Rattle.mqtt_laws.specs.World.{World, Setting, Event, publisher, receiver, connect_end, give_up, publish, subscribe, to_end, clock, ask, restart, stop_before, stop_after, to_broker, old_to_broker, break, pump, tick, stranger, publisher_named, is_bad, first_step, happens, start}
 use Rattle.mqtt_laws.specs.Run.{Turn, setting, turned, run, deeds_in, message_read, each_of, accepted_at, accepted_over, carries_clean, are_clean_starts_carried, first_deeds, asked_from}
 use Rattle.mqtt_laws.specs.Laws.{fate_by}
 use Rattle.mqtt_laws.proofs.Projected.{at_most_once, none_unsent, once_completed, none_refused, some_acknowledged}
@@ -20,7 +18,7 @@ use Rattle.mqtt_world_laws.specs.Fair.{IsNew, IsFair, MayOpen, opened_world}
 use Rattle.mqtt_world_laws.specs.Once.{IsAcceptedOnce}
 use Rattle.mqtt_world_laws.proofs.Steady.{steady_start, steady_opened}
 use Rattle.mqtt_world_laws.proofs.Ends.{all_turned}
-use Rattle.mqtt_world_laws.proofs.Around.{OtherPublisher, OtherReceiver, OtherStranger, Around, Placed, Him, Holds, Stays}
+use Rattle.mqtt_world_laws.proofs.Around.{OtherPublisher, OtherReceiver, OtherStranger, Him, Holds, Stays}
 use Rattle.mqtt_world_laws.proofs.FirstPackets.{reads_hold, reads_old_hold}
 use Rattle.mqtt_world_laws.proofs.Strangers.{stranger_holds}
 use Rattle.mqtt_world_laws.proofs.Breaks.{pump_holds, tick_holds, break_holds}

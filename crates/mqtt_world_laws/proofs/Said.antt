@@ -1,12 +1,11 @@
 -- What is accepted of a PUBLISH without properties: its topic, payload and RETAIN, with the name of the session that sent
 -- it (MQTT 5.0, 3.3).
-use Rattle.std.proofs.Common.{◌≡◌, ℕ, Bool, true, false, cond, List, [], ◌∷◌, ◌++◌, map, Option, Some, None, refl, sym, ap, subst, ◌∙◌}
+use Rattle.std.proofs.Common.{◌≡◌, ℕ, Bool, true, false, cond, List, [], ◌∷◌, ◌++◌, Option, Some, None, refl, sym, subst}
 use Rattle.std.specs.Prelude.{⊤, filter_map}
 use Rattle.std.specs.List.{AllByRecursion, cons_option}
 use Rattle.mqtt_codec.specs.declared.publish.Delivery.{Delivery}
 use Rattle.mqtt_codec.specs.declared.publish.Delivery.TheVariants as delivery
 use Rattle.mqtt_codec.specs.declared.publish.Publish.{Publish as Publication}
-use Rattle.mqtt_codec.specs.declared.packet.Packet.{Packet}
 use Rattle.mqtt_topic.specs.Names.{is_empty, is_topic_name}
 use Rattle.mqtt_inbound.specs.declared.inflow.Published.{Published}
 use Rattle.mqtt_inbound.specs.declared.inflow.Published.TheVariants.{New, Again, Over}
@@ -14,7 +13,7 @@ use Rattle.mqtt_base.specs.Codes.{topic_name_invalid, receive_maximum_exceeded}
 use Rattle.mqtt_records.specs.declared.session.Session.{Session}
 use Rattle.mqtt_rules.specs.State.{Line as BrokerLine, Broker, Env, MemberChoice, line_at, session_at}
 use Rattle.mqtt_rules.specs.declared.Limits.{Limits}
-use Rattle.mqtt_rules.specs.Deeds.{whose, Message, Origin, FromClient, FromWill, Close, DropWill, Hear, Deed, Accept, At, On, Send, Gone, Begin, Name, Count, Finish, Keep, Forget, RefuseWill, Link, after, after_all, Act, always, series, with_line, with_session}
+use Rattle.mqtt_rules.specs.Deeds.{whose, Message, FromClient, FromWill, Close, Hear, Deed, Accept, At, On, Send, Gone, Begin, Name, Count, Finish, Keep, Forget, RefuseWill, Link, after, after_all, always, series, with_line, with_session}
 use Rattle.mqtt_rules.specs.Routing.{CopyTo, accepted_copies, next_publication}
 use Rattle.mqtt_rules.specs.Closing.{close_session, close_connected, close, drop_line, settle}
 use Rattle.mqtt_rules.specs.Inbound.{Meaning, Means, Wrong, named, meaning, sets_alias, standing, answer, opens, publish_new, publish_by, message_of, publish_meant, on_publish}

@@ -1,13 +1,11 @@
 -- What holds of the broker after each step in which no number is spent; and the numbers of its lines never fall.
-use Rattle.std.proofs.Common.{◌≡◌, ℕ, suc, ◌≤◌, Bool, true, false, cond, List, [], ◌∷◌, refl, sym, subst, arith}
-use Rattle.std.specs.Prelude.{⊤}
+use Rattle.std.proofs.Common.{◌≡◌, ℕ, suc, ◌≤◌, Bool, true, false, cond, [], ◌∷◌, refl, sym, subst, arith}
 use Rattle.mqtt_records.specs.declared.records.Records.{Records}
-use Rattle.mqtt_records.specs.Records.{nothing}
 use Rattle.mqtt_rules.specs.declared.Limits.{Limits}
 use Rattle.mqtt_rules.specs.State.{MemberChoice, Broker, Env}
 use Rattle.mqtt_rules.specs.Deeds.{Deed, Link, given_after, after_all, rows_of_all}
-use Rattle.mqtt_rules.specs.Laws.{AreWithin, blank}
-use Rattle.mqtt_rules.specs.Step.{Call, NewLine, can_link, at_moment, env_of, deeds, stepped, opened, unopened, is_step_spent, is_opening_spent, rows_written, is_spent}
+use Rattle.mqtt_rules.specs.Laws.{AreWithin}
+use Rattle.mqtt_rules.specs.Step.{Call, NewLine, can_link, at_moment, env_of, deeds, stepped, opened, is_step_spent, is_opening_spent, rows_written, is_spent}
 use Rattle.mqtt_rules.proofs.Acts.{anyone, finds_anyone}
 use Rattle.mqtt_rules.proofs.ByDeeds.{DeedLaw, leads_deeds}
 use Rattle.mqtt_rules.proofs.LineSteps.{step_unique, opening_unique, blank_unique}

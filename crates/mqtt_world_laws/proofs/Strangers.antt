@@ -1,6 +1,6 @@
 -- Strangers: their bytes are cut into packets, none of which is a CONNECT of the publisher's client (MQTT 5.0, 3.1.3.1).
-use Rattle.std.proofs.Common.{◌≡◌, ℕ, zero, suc, ◌≤◌, Bool, true, false, cond, ◌||◌, List, [], ◌∷◌, ◌++◌, length, map, Option, Some, None, bytes_eq, refl, sym, ap, subst, ◌∙◌, arith, inl, inr}
-use Rattle.std.specs.Prelude.{⊤, option_map, find, is_some, Ok, Err}
+use Rattle.std.proofs.Common.{◌≡◌, ℕ, zero, suc, Bool, true, false, cond, ◌||◌, List, [], ◌∷◌, ◌++◌, length, map, Option, Some, None, bytes_eq, refl, sym, ap, subst, ◌∙◌, arith, inl, inr}
+use Rattle.std.specs.Prelude.{option_map, find, is_some, Ok, Err}
 use Rattle.std.specs.List.{AllByRecursion}
 use Rattle.std.proofs.lemmas.Bool.{cases_Bool}
 use Rattle.std.proofs.lemmas.Slice.Eq.{bytes_eq-Decides}
@@ -9,9 +9,8 @@ use Rattle.mqtt_codec.specs.declared.packet.Packet.TheVariants.{Connect}
 use Rattle.mqtt_packet.specs.Front.{first_of}
 use Rattle.mqtt_packet.specs.Front as fronts
 use Rattle.mqtt_rules.specs.declared.Limits.{Limits}
-use Rattle.mqtt_rules.specs.State.{MemberChoice, Broker}
+use Rattle.mqtt_rules.specs.State.{Broker}
 use Rattle.mqtt_rules.specs.Deeds.{Link, Deed, after_all, rows_of_all}
-use Rattle.mqtt_rules.specs.Laws.{IsAmong}
 use Rattle.mqtt_codec.specs.Faults.{answer_to}
 use Rattle.mqtt_rules.specs.Piece.{Front, begins_connect, code_of, call_by}
 use Rattle.mqtt_rules.specs.Step.{Call, NewLine, Input, BadInput, can_link, at_moment, deeds, stepped}
