@@ -1,0 +1,6 @@
+//! Laws of every run of the world: what is accepted, whatever is lost, restarted or stopped (MQTT 5.0, 4.3, 4.4).
+#![tactic(auto)]
+
+mod run_laws;
+
+pub use run_laws::{a_world_may_begin, every_run_accepts_once};
