@@ -6,9 +6,9 @@ use Rattle.mqtt_cli.specs.declared.outcome.TheConstants.{DONE, FAULTY, USAGE, FA
 use Rattle.mqtt_cli.specs.declared.line.LineFault.TheVariants as line
 use Rattle.mqtt_cli.specs.declared.outcome.Outcome.{Outcome}
 use Rattle.mqtt_cli.specs.declared.outcome.Outcome.TheVariants.{Done, Line, NoFile, View, Vectors}
-use Rattle.mqtt_cli.specs.declared.vectors_checker.VectorsFault.TheVariants as vectors
-use Rattle.mqtt_cli.specs.declared.viewer.Status.TheVariants.{Whole, Faulty}
-use Rattle.mqtt_cli.specs.declared.viewer.ViewFault.TheVariants.{Read, Write, Memory}
+use Rattle.mqtt_viewing.specs.declared.vectors_checker.VectorsFault.TheVariants as vectors
+use Rattle.mqtt_viewing.specs.declared.viewer.Status.TheVariants.{Whole, Faulty}
+use Rattle.mqtt_viewing.specs.declared.viewer.ViewFault.TheVariants.{Read, Write, Memory}
 
 abbrev pub exit_status : Outcome → ℕ
 exit_status (Done Whole) = DONE

@@ -4,8 +4,7 @@ ghost use Rattle.std.specs.Prelude.{◌≡◌};
 ghost use Rattle.mqtt_cli.specs.Outcome.{exit_status, error_text};
 
 use crate::line::LineFault;
-use crate::vectors_checker::VectorsFault;
-use crate::viewer::{Status, ViewFault};
+use mqtt_viewing::{Status, VectorsFault, ViewFault};
 
 /// The exit status of a command that is done.
 pub const DONE: u8 = 0;

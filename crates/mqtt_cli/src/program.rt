@@ -2,9 +2,8 @@
 
 use crate::line::{Action, LineFault};
 use crate::outcome::Outcome;
-use crate::vectors_checker::vectors;
-use crate::viewer::{ViewFault, view};
 use crate::words::action;
+use mqtt_viewing::{ViewFault, vectors, view};
 use std::alloc::{AllocError, Global};
 use std::io::{self, ErrorKind, Read};
 use std::rt::{Env, Files};
