@@ -2,7 +2,7 @@
 use Rattle.std.proofs.Common.{◌≡◌, true, List, [], ◌∷◌, None, Some, codes, refl}
 use Rattle.clap.proofs.OnLiterals.{clap_on_literals}
 use Rattle.clap.specs.Words.{Text}
-use Rattle.mqtt_cli.specs.Line.{command_of, file_in, is_vectors, payload_in, rows_in}
+use Rattle.mqtt_cli.specs.Line.{command_of, file_in, is_vectors, payload_in, rows_in, serve_rows_in, value_in}
 use Rattle.mqtt_cli.specs.declared.outcome.TheConstants.{DONE, FAULTY, USAGE, FAILED}
 
 -- ---- numbers
@@ -63,3 +63,18 @@ vectors = refl
 vectors_with_file : command_of (line_of (codes "vectors" ∷ codes "f" ∷ [])) ≡ None
 unfolding clap_on_literals
 vectors_with_file = refl
+
+abbrev served : List Text
+served = line_of (codes "serve" ∷ codes "--turns" ∷ codes "3" ∷ codes "--listen" ∷ codes "1.2.3.4:5" ∷ codes "--db" ∷ codes "a" ∷ [])
+
+served-listen : value_in (codes "listen") (serve_rows_in (command_of served)) ≡ Some (codes "1.2.3.4:5")
+unfolding clap_on_literals
+served-listen = refl
+
+served-turns : value_in (codes "turns") (serve_rows_in (command_of served)) ≡ Some (codes "3")
+unfolding clap_on_literals
+served-turns = refl
+
+no_database : command_of (line_of (codes "serve" ∷ codes "--turns" ∷ codes "3" ∷ codes "--listen" ∷ codes "1.2.3.4:5" ∷ [])) ≡ None
+unfolding clap_on_literals
+no_database = refl

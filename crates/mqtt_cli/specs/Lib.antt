@@ -1,3 +1,4 @@
 -- What a command line asks for, and how the program ends.
 pub mod Line
 pub mod Outcome
+pub mod Values

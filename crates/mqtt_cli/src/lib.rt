@@ -4,6 +4,7 @@
 mod line;
 mod outcome;
 mod program;
+mod values;
 mod words;
 
 pub use line::{Action, LineFault};

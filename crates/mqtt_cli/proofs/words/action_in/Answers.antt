@@ -1,7 +1,7 @@
-use Rattle.std.proofs.Common.{codes, sym, ◌∙◌}
+use Rattle.std.proofs.Common.{codes, rules, sym, ◌∙◌}
 use Rattle.clap.specs.Words.{found_of, subcommand_rows_of}
 use Rattle.clap.proofs.WalkLemmas.{first_value-rows, one_text-rows}
-use Rattle.mqtt_cli.proofs.Commands.{asks_nothing, is_vectors-met, rows_in-view}
+use Rattle.mqtt_cli.proofs.Commands.{asks_nothing, asks_to_serve, is_vectors-met, rows_in-serve, rows_in-view}
 use Rattle.mqtt_cli.proofs.words.action_in.Goals as goal
 
 pub returns-in_err-file : goal.returns-in_err-file
@@ -28,3 +28,11 @@ returns c =
         is_false = λ e. flag.other (value_is ∙ e);
       },
     )
+
+pub returns-then-eq-2 : goal.returns-then-eq-2
+returns-then-eq-2 c =
+    let met = c.in_ok-name.ensures in
+    let found = found_of c.in_ok-name.view.now in
+    asks_to_serve (subcommand_rows_of c.args.matches.now) _ c.serve_in.result
+    (rows_in-serve c.args.matches.now _ found met.name met.rows c.if-eq-2.ensures) (search rules)
+    (is_vectors-met c.args.matches.now _ found _ met.name met.rows c.if-eq.ensures) c.serve_in.ensures
