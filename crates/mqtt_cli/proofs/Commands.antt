@@ -111,6 +111,11 @@ pub no_server-count : (rows : Option (List Row)) (text : Text) → value_in (cod
 no_server-count rows text is none listen db turns asks =
     none turns (subst (λ (t : Text). IsCount t turns) (ap (λ o. unwrap_or o text) (sym asks.turns_is ∙ is)) asks.count)
 
+-- so nothing is answered
+pub asks_no_server : (rows : List Row) (asked : Option Action) → asked ≡ None → AsksNoServer (Some rows) → AskToServe rows asked
+asks_no_server rows None is none = none
+asks_no_server rows (Some action) is none = cc
+
 -- what lawful matches of `serve` ask for, the command does
 pub asks_to_serve : (command : Option (Text × List Row)) (rows : List Row) (asked : Option Action)
     → serve_rows_in command ≡ Some rows → file_in (rows_in command) ≡ None → is_vectors command ≡ false

@@ -1,6 +1,7 @@
 //! The values of a command line (ours).
 
-ghost use Rattle.std.specs.Prelude.{◌≡◌, ℕ, IfNone, IfSome};
+ghost use Rattle.std.specs.Prelude.{◌≡◌, ◌==◌, ℕ, IfNone, IfSome};
+ghost use Rattle.std.specs.List.{after_first};
 ghost use Rattle.std.specs.declared.net.socket_addr.SocketAddrV4.{SocketAddrV4};
 ghost use Rattle.mqtt_cli.specs.Values.{IsAddress, IsCount, is_padded};
 
@@ -13,15 +14,27 @@ fn is_padded(digits: &[u8]) -> bool
     matches!(digits, [b'0', _, ..])
 }
 
+/// Whether the digits behind the first colon of a text begin with a zero, and go on.
+fn has_padded_port(text: &str) -> bool
+    ensures { result ≡ is_padded (after_first (λ b. b == 58) text.now) }
+{
+    match text.split_once(':') {
+        Some((_, port)) => is_padded(port.as_bytes()),
+        None => false,
+    }
+}
+
 /// The address that a text is: four numbers and a port, without leading zeros.
 pub(crate) fn address_read(text: &str) -> Option<SocketAddrV4>
     ensures read { IfSome result (λ address. IsAddress text.now address) }
     ensures only { IfNone result ((address : SocketAddrV4) → ¬ (IsAddress text.now address)) }
 {
-    let address = text.parse::<SocketAddrV4>().ok()?;
-    match text.split_once(':') {
-        Some((_, port)) if is_padded(port.as_bytes()) => None,
-        _ => Some(address),
+    if has_padded_port(text) {
+        return None;
+    }
+    match text.parse::<SocketAddrV4>() {
+        Ok(address) => Some(address),
+        Err(_) => None,
     }
 }
 

@@ -1,6 +1,8 @@
 //! Command lines, and how the program ends (ours).
 
-use mqtt_cli::{Action, LineFault, Outcome, Status, VectorsFault, ViewFault, action, ending};
+use mqtt_cli::{
+    Action, LineFault, Outcome, ServeFault, Status, VectorsFault, ViewFault, action, ending,
+};
 use std::alloc::Global;
 use std::net::{Ipv4Addr, SocketAddrV4};
 use std::process::Abort;
@@ -171,6 +173,7 @@ fn each_outcome_has_its_status_and_text(rt: HostRuntime) -> Result<(), Fail> {
     assert!(rt; ends_with(Outcome::Done(Status::Whole), 0, ""));
     assert!(rt; ends_with(Outcome::Done(Status::Faulty), 1, ""));
     assert!(rt; ends_with(Outcome::NoFile, 3, "mqtt5: file\n"));
+    assert!(rt; ends_with(Outcome::Served, 0, ""));
     for (outcome, text) in [
         (Outcome::Line(LineFault::Memory), "mqtt5: memory\n"),
         (Outcome::View(ViewFault::Read), "mqtt5: file\n"),
@@ -178,6 +181,10 @@ fn each_outcome_has_its_status_and_text(rt: HostRuntime) -> Result<(), Fail> {
         (Outcome::View(ViewFault::Memory), "mqtt5: memory\n"),
         (Outcome::Vectors(VectorsFault::Write), "mqtt5: file\n"),
         (Outcome::Vectors(VectorsFault::Memory), "mqtt5: memory\n"),
+        (Outcome::Serve(ServeFault::Write), "mqtt5: file\n"),
+        (Outcome::Serve(ServeFault::Memory), "mqtt5: memory\n"),
+        (Outcome::Serve(ServeFault::Store), "mqtt5: store\n"),
+        (Outcome::Serve(ServeFault::Socket), "mqtt5: socket\n"),
     ] {
         assert!(rt; ends_with(outcome, 3, text));
     }
@@ -191,4 +198,8 @@ fn faults_have_their_numbers(rt: HostRuntime) {
     assert!(rt; ViewFault::Memory as u8 == 3);
     assert!(rt; VectorsFault::Write as u8 == 2);
     assert!(rt; VectorsFault::Memory as u8 == 3);
+    assert!(rt; ServeFault::Write as u8 == 2);
+    assert!(rt; ServeFault::Memory as u8 == 3);
+    assert!(rt; ServeFault::Store as u8 == 4);
+    assert!(rt; ServeFault::Socket as u8 == 5);
 }
