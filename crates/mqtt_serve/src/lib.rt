@@ -8,5 +8,4 @@ mod serving;
 mod store;
 
 pub use fault::ServeFault;
-pub use poll_link::PollLink;
 pub use serving::serve;

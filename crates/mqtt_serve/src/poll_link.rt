@@ -1,11 +1,7 @@
-//! Sockets that a turn may wait on, all at once (ours).
-ghost use Rattle.std.specs.Prelude.{ℕ, List, length};
-ghost use Rattle.std.specs.Io.{ReadsAtMost, WritesAtMost};
-ghost use Rattle.mqtt_link.specs.Links.{GivesAtMost};
-
+//! Sockets that a turn may wait on, all at once (MQTT 5.0, 4.2).
 use mio::net::{TcpListener, TcpStream};
 use mio::{Events, Interest, Poll, Token};
-use mqtt_link::{Got, Link};
+use mqtt_link::{Got, Link, got};
 use std::alloc::Global;
 use std::io;
 use std::io::{ErrorKind, Read, Write};
@@ -17,7 +13,7 @@ const EVENTS: usize = 64;
 
 /// A listening socket and its connections, registered with the kernel.
 #[derive(Drop)]
-pub struct PollLink {
+pub(crate) struct PollLink {
     listener: TcpListener,
     poll: Poll,
     events: Events,
@@ -46,22 +42,6 @@ impl PollLink {
     /// Waits until a socket changes or the time is up. A wait that fails is none.
     pub fn wait(&mut self, limit: Duration) {
         let _ = self.poll.poll(&mut self.events, Some(limit));
-    }
-}
-
-/// What a call that didn't wait gave: nothing where it would have waited or was interrupted, the end where it
-/// moved no byte.
-fn got(count: io::Result<usize>) -> Got<usize>
-    ensures wrote { (bytes : List ℕ) → WritesAtMost count bytes → GivesAtMost result (length bytes) }
-    ensures read { (buffer : List ℕ) → ReadsAtMost count buffer → GivesAtMost result (length buffer) }
-{
-    match count {
-        Ok(0) => Got::End,
-        Ok(count) => Got::Given(count),
-        Err(fault) => match fault.kind() {
-            ErrorKind::WouldBlock | ErrorKind::Interrupted => Got::Nothing,
-            _ => Got::Failure,
-        },
     }
 }
 

@@ -1,4 +1,6 @@
-//! The store of the server: a database in a file (4.1).
+//! The store of the server: a database in a file (MQTT 5.0, 4.1).
+ghost use Rattle.std.specs.Prelude.{◌≡◌, ◌≢◌, IfErr};
+
 use crate::fault::ServeFault;
 use mqtt_serving::{Engine, EngineError, Full, Keep, KeepError, Limits};
 use mqtt_store::SqlKeep;
@@ -18,7 +20,9 @@ const LIMITS: Limits = Limits {
 };
 
 /// What a failure of the database is to the server.
-fn fault_of(error: &Error) -> ServeFault {
+fn fault_of(error: &Error) -> ServeFault
+    ensures { result ≢ ServeFault.Socket }
+{
     match error {
         Error::SqliteFailure(ErrorCode::OutOfMemory) => ServeFault::Memory,
         _ => ServeFault::Store,
@@ -62,7 +66,9 @@ pub(crate) fn open_engine<K: Keep>(
 }
 
 /// Closes the database: the log beside it goes into the file.
-pub(crate) fn close_store(keep: FileKeep) -> Result<(), ServeFault> {
+pub(crate) fn close_store(keep: FileKeep) -> Result<(), ServeFault>
+    ensures fault { IfErr result (λ fault. fault ≢ ServeFault.Socket) }
+{
     match keep.into_inner().close() {
         Ok(()) => Ok(()),
         Err(error) => Err(fault_of(&error)),
@@ -70,7 +76,9 @@ pub(crate) fn close_store(keep: FileKeep) -> Result<(), ServeFault> {
 }
 
 /// What a refusal of the engine is to the server.
-pub(crate) fn stopped_by(error: EngineError) -> ServeFault {
+pub(crate) fn stopped_by(error: EngineError) -> ServeFault
+    ensures { error ≢ EngineError.Memory → result ≡ ServeFault.Store }
+{
     match error {
         EngineError::Memory => ServeFault::Memory,
         EngineError::Stopped | EngineError::Spent => ServeFault::Store,

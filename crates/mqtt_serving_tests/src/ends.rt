@@ -1,5 +1,5 @@
 //! Ends in memory: what they send and were sent, and which of their calls fails.
-use mqtt_broker::{Engine, Full, Limits, MemKeep};
+use mqtt_serving::{Engine, Full, Limits, MemKeep};
 use mqtt_link::{Got, Link};
 use std::alloc::{AllocError, Global};
 use std::hash::RandomState;

@@ -1,9 +1,8 @@
 //! Two clients over sockets of this machine.
 use crate::ends::broker;
 use crate::turns::{CONNACK, CONNECT};
-use mqtt_broker::{Engine, MemKeep};
 use mqtt_link::NetLink;
-use mqtt_serving::{Links, serve_turn};
+use mqtt_serving::{Engine, Links, MemKeep, serve_turn};
 use std::io::{ErrorKind, Read, Write};
 use std::net::{Ipv4Addr, OpenStream, SocketAddr, TcpStream};
 use std::test::Fail;
