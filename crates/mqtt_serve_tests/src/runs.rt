@@ -1,13 +1,10 @@
 //! Runs of the server, each over a database of its own.
+use crate::callers::any_port;
 use mqtt_link::NetLink;
 use mqtt_serve::{ServeFault, serve};
-use std::net::{Ipv4Addr, SocketAddr};
+use std::io;
+use std::io::{ErrorKind, Write};
 use std::test::Fail;
-
-/// Any port of this machine that is free.
-fn any_port() -> SocketAddr {
-    SocketAddr::from((Ipv4Addr::LOCALHOST, 0))
-}
 
 /// Whether three turns over a database write what they should.
 fn runs(rt: &HostRuntime, db: &str) -> Result<bool, ServeFault> {
@@ -22,7 +19,7 @@ fn runs(rt: &HostRuntime, db: &str) -> Result<bool, ServeFault> {
 
 #[test]
 fn three_turns_and_three_more(rt: HostRuntime) -> Result<(), Fail> {
-    assert!(rt; runs(&rt, "three_turns.db")?, "a new database");
+    assert!(rt; runs(&rt, "three_turns.db")?, "the first time");
     assert!(rt; runs(&rt, "three_turns.db")?, "the same again");
     Ok(())
 }
@@ -43,4 +40,23 @@ fn a_port_in_use_is_told(rt: HostRuntime) -> Result<(), Fail> {
     assert!(rt; ran == Err(ServeFault::Socket));
     assert!(rt; is_silent);
     Ok(())
+}
+
+/// A writer that fails.
+struct Broken;
+
+impl Write for Broken {
+    fn write(&mut self, _: &[u8]) -> io::Result<usize> {
+        Err(io::Error::from(ErrorKind::BrokenPipe))
+    }
+
+    fn flush(&mut self) -> io::Result<()> {
+        Ok(())
+    }
+}
+
+#[test]
+fn a_write_that_fails_is_told(rt: HostRuntime) {
+    let ran = serve(&rt, any_port(), "broken.db", 3, &mut Broken);
+    assert!(rt; ran == Err(ServeFault::Write));
 }
