@@ -43,6 +43,7 @@ fn a_port_in_use_is_told(rt: HostRuntime) -> Result<(), Fail> {
 }
 
 /// A writer that fails.
+#[derive(Drop)]
 struct Broken;
 
 impl Write for Broken {
