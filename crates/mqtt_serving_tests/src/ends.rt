@@ -1,9 +1,6 @@
 //! Ends in memory: what they send and were sent, and which of their calls fails.
-use mqtt_serving::{Engine, Full, Limits, MemKeep};
 use mqtt_link::{Got, Link};
 use std::alloc::{AllocError, Global};
-use std::hash::RandomState;
-use std::test::Fail;
 
 /// One end: what it will send, what it was sent, and how many bytes a call moves.
 #[derive(Drop)]
@@ -132,24 +129,6 @@ impl Link for Ends {
         match self.ends.get_mut(*peer) {
             Some(end) => end.take(bytes),
             None => Got::End,
-        }
-    }
-}
-
-/// A broker in memory.
-pub fn broker(rt: &HostRuntime) -> Result<Engine<MemKeep>, Fail> {
-    let limits = Limits {
-        full: Full::Refuse,
-        queue: 1_000,
-        sessions: 1_000,
-        retained: 1_000,
-    };
-    let hasher = RandomState::new(rt)?;
-    match Engine::open(rt.alloc(), MemKeep::new(rt.alloc())?, 0, limits, hasher) {
-        Ok(engine) => Ok(engine),
-        Err((keep, _)) => {
-            drop(keep);
-            Err("no broker".into())
         }
     }
 }

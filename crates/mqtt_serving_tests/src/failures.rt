@@ -1,12 +1,12 @@
 //! Calls that fail or end change no byte of another line.
-use crate::ends::{Ends, broker};
+use crate::ends::Ends;
+use crate::stage::Stage;
 use crate::turns::{CONNACK, CONNECT};
-use mqtt_serving::{Links, serve_turn};
+use std::alloc::{AllocError, Global};
 use std::test::Fail;
 
-/// A line of PINGREQs beside one whose reads and writes serve so often, with an accept that fails.
-fn pings_beside(rt: &HostRuntime, fails: u64, serves: u64) -> Result<bool, Fail> {
-    let alloc = rt.alloc();
+/// One that sends PINGREQs, beside one whose reads and writes serve so often, with an accept that fails.
+fn two_ends(alloc: Global, fails: u64, serves: u64) -> Result<Ends, AllocError> {
     let mut ends = Ends::new(alloc, fails);
     ends.add(alloc, &CONNECT, 99, 1_000)?;
     ends.add(
@@ -15,20 +15,26 @@ fn pings_beside(rt: &HostRuntime, fails: u64, serves: u64) -> Result<bool, Fail>
         3,
         serves,
     )?;
-    let mut links = Links::new(alloc, ends);
-    let mut engine = broker(rt)?;
+    Ok(ends)
+}
+
+/// Twelve turns with a PINGREQ each: whether the first was sent its CONNACK and twelve PINGRESPs.
+fn is_pinged(stage: &mut Stage<Ends>) -> Result<bool, Fail> {
     for turn in 0..12 {
-        serve_turn(&mut links, &mut engine, turn)?;
-        links.link_mut().send(0, b"\xc0\x00")?;
+        stage.turn(turn)?;
+        stage.link_mut().send(0, b"\xc0\x00")?;
     }
-    serve_turn(&mut links, &mut engine, 12)?;
-    let sent = links.link().sent(0);
+    stage.turn(12)?;
+    let sent = stage.link().sent(0);
     let (front, pings) = sent.split_at(CONNACK.len().min(sent.len()));
-    let is_whole = front == CONNACK
-        && pings.len() == 24
-        && pings.iter().all(|b| *b == 0xd0 || *b == 0);
-    drop(engine.close());
-    Ok(is_whole)
+    Ok(front == CONNACK && pings.len() == 24 && pings.iter().all(|b| *b == 0xd0 || *b == 0))
+}
+
+fn pings_beside(rt: &HostRuntime, fails: u64, serves: u64) -> Result<bool, Fail> {
+    let mut stage = Stage::new(rt, two_ends(rt.alloc(), fails, serves)?)?;
+    let answer = is_pinged(&mut stage);
+    drop(stage);
+    answer
 }
 
 #[test]

@@ -8,4 +8,6 @@ mod failures;
 #[cfg(test)]
 mod sockets;
 #[cfg(test)]
+mod stage;
+#[cfg(test)]
 mod turns;

@@ -1,8 +1,7 @@
 //! Two clients over sockets of this machine.
-use crate::ends::broker;
+use crate::stage::Stage;
 use crate::turns::{CONNACK, CONNECT};
 use mqtt_link::NetLink;
-use mqtt_serving::{Engine, Links, MemKeep, serve_turn};
 use std::io::{ErrorKind, Read, Write};
 use std::net::{Ipv4Addr, OpenStream, SocketAddr, TcpStream};
 use std::test::Fail;
@@ -31,10 +30,36 @@ const STEPS: [(bool, &[u8], &[u8]); 8] = [
     (true, b"\x70\x02\x00\x01\xc0\x00", b"\xd0\x00"),
 ];
 
+/// Two clients, connected but not accepted yet.
+#[derive(Drop)]
+struct Clients {
+    subscriber: TcpStream,
+    publisher: TcpStream,
+}
+
+fn connect(rt: &HostRuntime, address: SocketAddr) -> Result<Clients, Fail> {
+    let subscriber = TcpStream::connect(rt, address)?;
+    let publisher = TcpStream::connect(rt, address)?;
+    subscriber.set_nonblocking(true)?;
+    publisher.set_nonblocking(true)?;
+    Ok(Clients {
+        subscriber,
+        publisher,
+    })
+}
+
+/// What came behind so many bytes of a buffer: how many there are then.
+fn hear(client: &mut TcpStream, buffer: &mut [u8; 64], held: usize) -> Result<usize, Fail> {
+    match client.read(&mut buffer[held.min(64)..]) {
+        Ok(count) => Ok(held.saturating_add(count).min(64)),
+        Err(error) if error.kind() == ErrorKind::WouldBlock => Ok(held),
+        Err(error) => Err(error.into()),
+    }
+}
+
 /// Sends, and has turns until as many bytes came as the answer has. How many turns, if they are the answer.
 fn ask(
-    links: &mut Links<NetLink<HostRuntime>>,
-    engine: &mut Engine<MemKeep>,
+    stage: &mut Stage<NetLink<HostRuntime>>,
     client: &mut TcpStream,
     sends: &[u8],
     answer: &[u8],
@@ -43,45 +68,42 @@ fn ask(
     let mut buffer = [0_u8; 64];
     let mut held = 0;
     for turn in 0..1_000 {
-        if held == answer.len() {
-            return if &buffer[..held] == answer {
+        if held >= answer.len() {
+            let is_it = buffer.starts_with(answer) && held == answer.len();
+            return if is_it {
                 Ok(turn)
             } else {
                 Err("another answer".into())
             };
         }
-        serve_turn(links, engine, 0)?;
-        match client.read(&mut buffer[held..]) {
-            Ok(count) => held = held.saturating_add(count).min(64),
-            Err(error) if error.kind() == ErrorKind::WouldBlock => {}
-            Err(error) => return Err(error.into()),
-        }
+        stage.turn(0)?;
+        held = hear(client, &mut buffer, held)?;
     }
     Err("no answer".into())
 }
 
-#[test]
-fn both_handshakes_of_a_message_are_done(rt: HostRuntime) -> Result<(), Fail> {
-    let any = SocketAddr::from((Ipv4Addr::LOCALHOST, 0));
-    let link = NetLink::bind(&rt, any)?;
-    let address = link.address()?;
-    let mut links = Links::new(rt.alloc(), link);
-    let mut engine = broker(&rt)?;
-    let mut subscriber = TcpStream::connect(&rt, address)?;
-    let mut publisher = TcpStream::connect(&rt, address)?;
-    subscriber.set_nonblocking(true)?;
-    publisher.set_nonblocking(true)?;
+/// Both handshakes of a message: how many turns they took.
+fn handshakes(stage: &mut Stage<NetLink<HostRuntime>>, clients: &mut Clients) -> Result<u64, Fail> {
     let mut turns: u64 = 0;
     for (subscribes, sends, answer) in STEPS {
         let client = if subscribes {
-            &mut subscriber
+            &mut clients.subscriber
         } else {
-            &mut publisher
+            &mut clients.publisher
         };
-        let took = ask(&mut links, &mut engine, client, sends, answer)?;
-        turns = turns.saturating_add(took);
+        turns = turns.saturating_add(ask(stage, client, sends, answer)?);
     }
-    assert!(rt; turns <= 60, "sixty turns");
-    drop(engine.close());
+    Ok(turns)
+}
+
+#[test]
+fn both_handshakes_of_a_message_are_done(rt: HostRuntime) -> Result<(), Fail> {
+    let link = NetLink::bind(&rt, SocketAddr::from((Ipv4Addr::LOCALHOST, 0)))?;
+    let mut clients = connect(&rt, link.address()?)?;
+    let mut stage = Stage::new(&rt, link)?;
+    let turns = handshakes(&mut stage, &mut clients);
+    drop(stage);
+    drop(clients);
+    assert!(rt; turns? <= 60, "sixty turns");
     Ok(())
 }
