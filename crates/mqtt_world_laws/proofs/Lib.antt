@@ -17,3 +17,6 @@ pub mod Said
 pub mod Numbered
 pub mod Moves
 pub mod Carried
+pub mod Here
+pub mod Counting
+pub mod CopyRuns

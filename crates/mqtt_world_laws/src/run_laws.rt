@@ -1,11 +1,13 @@
 //! The law of messages: each is accepted once, in every run (4.3.2, 4.3.3, 4.9).
 ghost use Rattle.std.specs.Prelude.{◌≡◌, ℕ, List};
+ghost use Rattle.mqtt_base.specs.declared.session.CopyId.{CopyId};
 ghost use Rattle.mqtt_records.specs.declared.records.Records.{Records};
 ghost use Rattle.mqtt_rules.specs.declared.Limits.{Limits};
 ghost use Rattle.mqtt_rules.specs.State.{MemberChoice};
 ghost use Rattle.mqtt_rules.specs.Laws.{AreWithin, FewOpen};
 ghost use Rattle.mqtt_laws.specs.World.{World, start};
 ghost use Rattle.mqtt_laws.specs.Run.{Turn, run};
+ghost use Rattle.mqtt_world_laws.specs.Copies.{IsBalanced};
 ghost use Rattle.mqtt_world_laws.specs.Fair.{IsFair, IsNew, MayOpen, opened_world};
 ghost use Rattle.mqtt_world_laws.specs.Once.{HasCarried, IsAcceptedOnce};
 
@@ -21,6 +23,14 @@ pub fn every_run_accepts_once()
         → (client : List ℕ) → HasCarried client limits ts w }
     ensures within { (limits : Limits) (ts : List Turn) (w : World) → IsNew limits w → IsFair limits ts w
         → FewOpen (run limits ts w).broker.records }
+{}
+
+/// Whatever happens, with any number of publishers, receivers and strangers: each copy that entered a session's
+/// queue waits there or has ended, as often as it entered; none is lost by a restart or a stop, and none ends
+/// more often than it entered (4.3, 4.4, 4.6).
+pub fn every_copy_waits_or_has_ended()
+    ensures balance { (limits : Limits) (ts : List Turn) (w : World) → IsNew limits w → IsFair limits ts w
+        → (c : CopyId) → IsBalanced c limits ts w }
 {}
 
 /// So a world may begin: with nothing stored, or opened on tables in order, with no more sessions than the

@@ -1,0 +1,21 @@
+-- What becomes of copies in a run of the world (MQTT 5.0, 4.3, 4.4, 4.6).
+use Rattle.std.specs.Prelude.{◌≡◌, ◌+◌, List, filter_map, map}
+use Rattle.mqtt_base.specs.declared.session.CopyId.{CopyId}
+use Rattle.mqtt_rules.specs.declared.Limits.{Limits}
+use Rattle.mqtt_laws.specs.World.{World}
+use Rattle.mqtt_laws.specs.Run.{Turn, run, deeds_over, entered_in, End, ended_in}
+use Rattle.mqtt_laws.specs.Laws.{count_of, standing}
+
+-- the copies that entered a queue in a run, and those that ended, each by whatever cause
+abbrev pub entered_from : Limits → List Turn → World → List CopyId
+entered_from limits ts w = filter_map entered_in (deeds_over limits ts w)
+
+abbrev pub ended_from : Limits → List Turn → World → List CopyId
+ended_from limits ts w = map (λ (e : End). e.copy) (filter_map ended_in (deeds_over limits ts w))
+
+-- A copy waits in its session's queue or has ended, as often as it stood there at the beginning or entered: none is lost,
+-- and none ends more often than that
+abbrev pub IsBalanced : CopyId → Limits → List Turn → World → Type 0
+IsBalanced c limits ts w =
+    count_of c (standing (run limits ts w).broker) + count_of c (ended_from limits ts w)
+    ≡ count_of c (standing w.broker) + count_of c (entered_from limits ts w)
