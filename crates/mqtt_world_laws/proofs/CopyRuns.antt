@@ -1,5 +1,5 @@
 -- Over every run of the world: the copies that stood or entered are those that stand or have ended, each as often.
-use Rattle.std.proofs.Common.{◌≡◌, ℕ, zero, suc, ◌+◌, ◌≤◌, Bool, true, false, cond, not, ◌||◌, ◌&&◌, List, [], ◌∷◌, ◌++◌, length, Option, Some, None, refl, sym, ap, subst, ◌∙◌, append-nil, arith}
+use Rattle.std.proofs.Common.{◌≡◌, ℕ, zero, suc, Bool, true, false, cond, not, ◌&&◌, List, [], ◌∷◌, ◌++◌, Option, Some, None, refl, sym, ap, subst, arith}
 use Rattle.std.specs.Prelude.{is_some}
 use Rattle.std.specs.List.{AllByRecursion}
 use Rattle.mqtt_base.specs.declared.limits.TheConstants.{QUEUE_LIMIT}
@@ -7,10 +7,10 @@ use Rattle.mqtt_base.specs.declared.session.CopyId.{CopyId}
 use Rattle.mqtt_records.specs.declared.session.Session.{Session}
 use Rattle.mqtt_records.specs.declared.records.Records.{Records}
 use Rattle.mqtt_rules.specs.declared.Limits.{Limits}
-use Rattle.mqtt_rules.specs.State.{Broker, Env, MemberChoice}
+use Rattle.mqtt_rules.specs.State.{Broker}
 use Rattle.mqtt_rules.specs.Deeds.{Deed, Link, after_all, rows_of_all}
 use Rattle.mqtt_rules.specs.Laws.{AreWithin, HasTables, IsOrdered}
-use Rattle.mqtt_rules.specs.Step.{Call, NewLine, can_link, at_moment, env_of, deeds, deeds_of, stepped, opened, opening, unopened}
+use Rattle.mqtt_rules.specs.Step.{Call, NewLine, can_link, at_moment, env_of, deeds, stepped, opening, unopened}
 use Rattle.mqtt_rules.proofs.OrderedActs.{leads_all, leads_open}
 use Rattle.mqtt_rules.proofs.OrderedEnters.{ShortQueues, RoomToEnter, AreShort}
 use Rattle.mqtt_rules.proofs.OrderedFull.{queues_keeping}
