@@ -1,34 +1,31 @@
 -- Over every run of the world: the copies that stood or entered are those that stand or have ended, each as often; and
 -- publications are numbered one after the other.
-use Rattle.std.proofs.Common.{◌≡◌, ℕ, zero, suc, ◌+◌, ◌≤◌, Bool, true, false, cond, not, ◌||◌, ◌&&◌, List, [], ◌∷◌, ◌++◌, length, Option, Some, None, refl, sym, ap, subst, ◌∙◌, append-nil, arith}
-use Rattle.std.specs.Prelude.{is_some, filter_map}
+use Rattle.std.proofs.Common.{◌≡◌, ℕ, List, [], ◌∷◌, ◌++◌, Option, Some, None, refl, sym, ap, subst, arith}
+use Rattle.std.specs.Prelude.{filter_map}
 use Rattle.std.specs.List.{AllByRecursion, cons_option}
 use Rattle.mqtt_base.specs.declared.limits.TheConstants.{QUEUE_LIMIT}
 use Rattle.mqtt_base.specs.declared.session.CopyId.{CopyId}
 use Rattle.mqtt_records.specs.declared.session.Session.{Session}
 use Rattle.mqtt_records.specs.declared.records.Records.{Records}
 use Rattle.mqtt_rules.specs.declared.Limits.{Limits}
-use Rattle.mqtt_rules.specs.State.{Broker, Env, MemberChoice}
-use Rattle.mqtt_rules.specs.Deeds.{Deed, Link, after_all, rows_of_all}
+use Rattle.mqtt_rules.specs.State.{Broker, MemberChoice}
+use Rattle.mqtt_rules.specs.Deeds.{Deed, after_all, rows_of_all}
 use Rattle.mqtt_rules.specs.Laws.{AreWithin, HasTables, IsOrdered}
-use Rattle.mqtt_rules.specs.Step.{Call, NewLine, can_link, at_moment, env_of, deeds, deeds_of, stepped, opened, opening, unopened}
+use Rattle.mqtt_rules.specs.Step.{Call, at_moment, env_of, deeds, stepped, opened, opening, unopened}
 use Rattle.mqtt_rules.proofs.OrderedActs.{leads_all, leads_open}
 use Rattle.mqtt_rules.proofs.OrderedEnters.{ShortQueues, RoomToEnter, AreShort}
 use Rattle.mqtt_rules.proofs.OrderedFull.{queues_keeping}
 use Rattle.mqtt_rules.proofs.StandLaw.{stands_call, stands_opening}
-use Rattle.mqtt_laws.specs.World.{World, Setting, Event, publisher, receiver, connect_end, give_up, publish, subscribe, to_end, clock, ask, restart, stop_before, stop_after, Asking, to_broker, old_to_broker, break, pump, tick, stranger, stranger_named, calls, calls_if, restarts, links, linked_at, comes, next_held, call_of_stranger, answers_rest, held_count, before, call_of, first_step, asks, is_bad, happens}
-use Rattle.mqtt_laws.specs.Run.{Turn, setting, turned, run, deeds_if, deeds_of_rest, first_deeds, deeds_asked, opening_deeds, deeds_in, deeds_at, deeds_over}
+use Rattle.mqtt_laws.specs.World.{World}
+use Rattle.mqtt_laws.specs.Run.{Turn, run}
 use Rattle.mqtt_laws.proofs.Seeing.{done_sessions}
-use Rattle.mqtt_world_laws.specs.Spending.{spends, rest_spends, first_spends, asking_spends, opening_spends, event_spends, turn_spends, run_spends}
 use Rattle.mqtt_world_laws.specs.Fair.{IsSteady, IsNew, IsFair}
 use Rattle.mqtt_world_laws.specs.Copies.{IsBalanced, publications_from}
-use Rattle.mqtt_world_laws.proofs.Steady.{steady_step, steady_again, linking_spends_none}
 use Rattle.mqtt_world_laws.proofs.Here.{here_call, here_opening}
 use Rattle.mqtt_rules.specs.Numbers.{CountsOn, publication_given}
 use Rattle.mqtt_rules.proofs.NumberSteps.{step_counts, opening_counts}
 use Rattle.mqtt_world_laws.proofs.Counting.{N, Balances, then_balances, all_balance}
 use Rattle.mqtt_world_laws.proofs.Walks.{Walk, run_walks}
-use Rattle.mqtt_world_laws.proofs.Runs.{either}
 
 -- ---- a call, and an opening
 

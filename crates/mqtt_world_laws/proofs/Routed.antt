@@ -1,8 +1,7 @@
 -- Each publication that is accepted was routed on the state in which it was accepted, in every run whatever.
-use Rattle.std.proofs.Common.{◌≡◌, ℕ, zero, suc, Bool, true, false, cond, List, [], ◌∷◌, ◌++◌, map, filter, Option, Some, None, refl, sym, subst}
+use Rattle.std.proofs.Common.{◌≡◌, ℕ, zero, suc, Bool, true, false, cond, List, [], ◌∷◌, ◌++◌, map, filter, Option, Some, None}
 use Rattle.std.specs.Prelude.{⊤, flat_map}
-use Rattle.std.specs.List.{AllByRecursion, cons_option}
-use Rattle.mqtt_codec.specs.declared.packet.Packet.{Packet}
+use Rattle.std.specs.List.{AllByRecursion}
 use Rattle.mqtt_flow.specs.Outbound.{way_made}
 use Rattle.mqtt_topic.specs.Names.{is_empty}
 use Rattle.mqtt_message.specs.declared.message.MessageCopy.{MessageCopy}
@@ -11,7 +10,7 @@ use Rattle.mqtt_records.specs.declared.session.Session.{Session}
 use Rattle.mqtt_records.specs.declared.records.Records.{Records}
 use Rattle.mqtt_rules.specs.declared.Limits.{Limits}
 use Rattle.mqtt_rules.specs.Packets.{publish_of}
-use Rattle.mqtt_rules.specs.State.{Line, Broker, Env, session_at, line_of, queue_on}
+use Rattle.mqtt_rules.specs.State.{Broker, Env, session_at, line_of, queue_on}
 use Rattle.mqtt_rules.specs.Deeds.{Whose, whose, Message, Origin, Part, Enter, Deed, Accept, Begin, Name, Count, At, Finish, Keep, Forget, RefuseWill, Link, On, Send, Gone, after, after_all, always, series, with_session, offer}
 use Rattle.mqtt_rules.specs.Deeds as deeds
 use Rattle.mqtt_rules.specs.Outbound.{leave_deeds, since, queue_limits, enter_deeds}
@@ -22,7 +21,7 @@ use Rattle.mqtt_rules.proofs.Goods.{AreGood, good_append}
 use Rattle.mqtt_rules.proofs.Acts.{brought_to}
 use Rattle.mqtt_rules.proofs.OrderedActs.{IsPlain, ArePlain, Keeping, leads_all, leads_open, plain_flat, plain_leave, plain_offer}
 use Rattle.mqtt_laws.specs.World.{World, Setting, Event, publisher, receiver, connect_end, give_up, publish as publishes, subscribe, to_end, clock, ask, restart, stop_before, stop_after, Asking, to_broker, old_to_broker, break, pump, tick, stranger, stranger_named, calls_if, comes, next_held, call_of_stranger, held_count, before, call_of, first_step, is_bad}
-use Rattle.mqtt_laws.specs.Run.{Turn, setting, turned, Acceptance, accepted_by, acceptances_of, acceptances_if, acceptances_of_rest, first_acceptances, acceptances_asked, opening_acceptances, acceptances_in, acceptances_over}
+use Rattle.mqtt_laws.specs.Run.{Turn, setting, turned, Acceptance, acceptances_of, acceptances_if, acceptances_of_rest, first_acceptances, acceptances_asked, opening_acceptances, acceptances_in, acceptances_over}
 use Rattle.mqtt_world_laws.specs.Copies.{IsRouted, AreRouted}
 
 -- ---- of each deed

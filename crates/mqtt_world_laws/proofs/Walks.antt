@@ -1,11 +1,11 @@
 -- Every run of the world, by the deeds of its steps: what holds of the deeds of each call and opening holds of all of them.
-use Rattle.std.proofs.Common.{◌≡◌, ℕ, zero, suc, ◌+◌, ◌≤◌, Bool, true, false, cond, not, ◌||◌, ◌&&◌, List, [], ◌∷◌, ◌++◌, length, Option, Some, None, refl, sym, ap, subst, ◌∙◌, append-nil, arith}
+use Rattle.std.proofs.Common.{◌≡◌, ℕ, zero, suc, Bool, true, false, cond, not, ◌&&◌, List, [], ◌∷◌, ◌++◌, Option, Some, None, refl, sym, subst}
 use Rattle.std.specs.Prelude.{is_some}
 use Rattle.mqtt_rules.specs.declared.Limits.{Limits}
-use Rattle.mqtt_rules.specs.State.{Broker, Env, MemberChoice}
-use Rattle.mqtt_rules.specs.Deeds.{Deed, Link, after_all, rows_of_all}
-use Rattle.mqtt_rules.specs.Laws.{AreWithin, HasTables, IsOrdered}
-use Rattle.mqtt_rules.specs.Step.{Call, NewLine, can_link, at_moment, env_of, deeds, stepped, opened, opening, unopened, is_step_spent, is_opening_spent}
+use Rattle.mqtt_rules.specs.State.{Broker, MemberChoice}
+use Rattle.mqtt_rules.specs.Deeds.{Deed, Link}
+use Rattle.mqtt_rules.specs.Laws.{AreWithin}
+use Rattle.mqtt_rules.specs.Step.{Call, NewLine, can_link, env_of, deeds, stepped, opened, opening, unopened, is_step_spent, is_opening_spent}
 use Rattle.mqtt_laws.specs.World.{World, Setting, Event, publisher, receiver, connect_end, give_up, publish, subscribe, to_end, clock, ask, restart, stop_before, stop_after, Asking, to_broker, old_to_broker, break, pump, tick, stranger, stranger_named, calls, calls_if, restarts, links, linked_at, comes, next_held, call_of_stranger, answers_rest, held_count, before, call_of, first_step, asks, is_bad, happens}
 use Rattle.mqtt_laws.specs.Run.{Turn, setting, turned, run, deeds_if, deeds_of_rest, first_deeds, deeds_asked, opening_deeds, deeds_in, deeds_at, deeds_over}
 use Rattle.mqtt_world_laws.specs.Spending.{spends, rest_spends, first_spends, asking_spends, opening_spends, event_spends, turn_spends, run_spends}
