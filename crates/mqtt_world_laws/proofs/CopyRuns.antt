@@ -1,30 +1,31 @@
--- Over every run of the world: the copies that stood or entered are those that stand or have ended, each as often.
-use Rattle.std.proofs.Common.{◌≡◌, ℕ, zero, suc, ◌+◌, ◌≤◌, Bool, true, false, cond, not, ◌||◌, ◌&&◌, List, [], ◌∷◌, ◌++◌, length, Option, Some, None, refl, sym, ap, subst, ◌∙◌, append-nil, arith}
-use Rattle.std.specs.Prelude.{is_some}
-use Rattle.std.specs.List.{AllByRecursion}
+-- Over every run of the world: the copies that stood or entered are those that stand or have ended, each as often; and
+-- publications are numbered one after the other.
+use Rattle.std.proofs.Common.{◌≡◌, ℕ, List, [], ◌∷◌, ◌++◌, Option, Some, None, refl, sym, ap, subst, arith}
+use Rattle.std.specs.Prelude.{filter_map}
+use Rattle.std.specs.List.{AllByRecursion, cons_option}
 use Rattle.mqtt_base.specs.declared.limits.TheConstants.{QUEUE_LIMIT}
 use Rattle.mqtt_base.specs.declared.session.CopyId.{CopyId}
 use Rattle.mqtt_records.specs.declared.session.Session.{Session}
 use Rattle.mqtt_records.specs.declared.records.Records.{Records}
 use Rattle.mqtt_rules.specs.declared.Limits.{Limits}
-use Rattle.mqtt_rules.specs.State.{Broker, Env, MemberChoice}
-use Rattle.mqtt_rules.specs.Deeds.{Deed, Link, after_all, rows_of_all}
+use Rattle.mqtt_rules.specs.State.{Broker, MemberChoice}
+use Rattle.mqtt_rules.specs.Deeds.{Deed, after_all, rows_of_all}
 use Rattle.mqtt_rules.specs.Laws.{AreWithin, HasTables, IsOrdered}
-use Rattle.mqtt_rules.specs.Step.{Call, NewLine, can_link, at_moment, env_of, deeds, deeds_of, stepped, opened, opening, unopened}
+use Rattle.mqtt_rules.specs.Step.{Call, at_moment, env_of, deeds, stepped, opened, opening, unopened}
 use Rattle.mqtt_rules.proofs.OrderedActs.{leads_all, leads_open}
 use Rattle.mqtt_rules.proofs.OrderedEnters.{ShortQueues, RoomToEnter, AreShort}
 use Rattle.mqtt_rules.proofs.OrderedFull.{queues_keeping}
 use Rattle.mqtt_rules.proofs.StandLaw.{stands_call, stands_opening}
-use Rattle.mqtt_laws.specs.World.{World, Setting, Event, publisher, receiver, connect_end, give_up, publish, subscribe, to_end, clock, ask, restart, stop_before, stop_after, Asking, to_broker, old_to_broker, break, pump, tick, stranger, stranger_named, calls, calls_if, restarts, links, linked_at, comes, next_held, call_of_stranger, answers_rest, held_count, before, call_of, first_step, asks, is_bad, happens}
-use Rattle.mqtt_laws.specs.Run.{Turn, setting, turned, run, deeds_if, deeds_of_rest, first_deeds, deeds_asked, opening_deeds, deeds_in, deeds_at, deeds_over}
+use Rattle.mqtt_laws.specs.World.{World}
+use Rattle.mqtt_laws.specs.Run.{Turn, run}
 use Rattle.mqtt_laws.proofs.Seeing.{done_sessions}
-use Rattle.mqtt_world_laws.specs.Spending.{spends, rest_spends, first_spends, asking_spends, opening_spends, event_spends, turn_spends, run_spends}
 use Rattle.mqtt_world_laws.specs.Fair.{IsSteady, IsNew, IsFair}
-use Rattle.mqtt_world_laws.specs.Copies.{IsBalanced}
-use Rattle.mqtt_world_laws.proofs.Steady.{steady_step, steady_again, linking_spends_none}
+use Rattle.mqtt_world_laws.specs.Copies.{IsBalanced, publications_from}
 use Rattle.mqtt_world_laws.proofs.Here.{here_call, here_opening}
+use Rattle.mqtt_rules.specs.Numbers.{CountsOn, publication_given}
+use Rattle.mqtt_rules.proofs.NumberSteps.{step_counts, opening_counts}
 use Rattle.mqtt_world_laws.proofs.Counting.{N, Balances, then_balances, all_balance}
-use Rattle.mqtt_world_laws.proofs.Runs.{either}
+use Rattle.mqtt_world_laws.proofs.Walks.{Walk, run_walks}
 
 -- ---- a call, and an opening
 
@@ -35,172 +36,73 @@ short_queues (s ∷ ss) h = (h.0.queue.within, short_queues ss h.1)
 short : (r : Records) → IsOrdered r → ShortQueues QUEUE_LIMIT r
 short r h = record { ordered = h; short = short_queues r.sessions h.each }
 
--- from one world to another, by these deeds
-pub record Steps (c : CopyId) (limits : Limits) (ds : List Deed) (w v : World) : Type 0 where
-  pub steady : IsSteady limits v.broker
-  pub balance : Balances c ds w.broker v.broker
-
-module _ (c : CopyId) (set : Setting) (within : AreWithin set.limits) where
-  abbrev Goes : List Deed → World → World → Type 0
-  Goes ds w v = Steps c set.limits ds w v
-
-  still : (w v : World) → IsSteady set.limits w.broker → v.broker ≡ w.broker → Goes [] w v
-  still w v s same = subst (λ (b : Broker). Steps c set.limits [] w (record v { broker = b })) (sym same) (record { steady = s; balance = refl })
-
-  then_goes : (xs ys : List Deed) (w u v : World) → Goes xs w u → Goes ys u v → Goes (xs ++ ys) w v
-  then_goes xs ys w u v p q = record { steady = q.steady; balance = then_balances c xs ys w.broker u.broker v.broker p.balance q.balance }
-
-  call_goes : (call : Call) (w : World) → IsSteady set.limits w.broker → spends set (Some call) w ≡ false → Goes (deeds set.limits set.choice w.now call w.broker) w (calls set call w)
-  call_goes call w s unspent =
-      let env = env_of set.limits set.choice w.broker in
-      let begin = at_moment w.now w.broker in
-      let ds = deeds set.limits set.choice w.now call w.broker in
+module _ (c : CopyId) (limits : Limits) (within : AreWithin limits) where
+  call_balances : (choice : MemberChoice) (now : ℕ) (call : Call) (b : Broker) → IsSteady limits b → Balances c (deeds limits choice now call b) b (stepped limits choice now call b)
+  call_balances choice now call b s =
+      let env = env_of limits choice b in
+      let begin = at_moment now b in
+      let ds = deeds limits choice now call b in
       let ordered = s.coherent.ordered in
-      let room = (leads_all env (ShortQueues QUEUE_LIMIT) RoomToEnter (queues_keeping QUEUE_LIMIT env within.queue within.queue) call begin (short w.broker.records ordered)).0 in
+      let room = (leads_all env (ShortQueues QUEUE_LIMIT) RoomToEnter (queues_keeping QUEUE_LIMIT env within.queue within.queue) call begin (short b.records ordered)).0 in
       let all = all_balance c ds begin ordered (here_call env call begin ordered) (stands_call env call begin ordered) room in
       let rows = done_sessions (rows_of_all ds begin.records) (after_all ds begin) in
       let same = ap (N c) rows in
-      record { steady = steady_step set.limits set.choice w.now call w.broker within s unspent; balance = omega (arith, all, same) }
+      omega (arith, all, same)
 
-  if_goes : (call : Option Call) (w : World) → IsSteady set.limits w.broker → spends set call w ≡ false → Goes (deeds_if set call w) w (calls_if set call w)
-  if_goes None w s unspent = still w w s refl
-  if_goes (Some call) w s unspent = call_goes call w s unspent
-
-  opening_goes : (w : World) → IsSteady set.limits w.broker → opening_spends set w ≡ false → Goes (opening_deeds set w) w (restarts set w)
-  opening_goes w s unspent =
-      let begin = unopened w.now w.broker.records in
-      let env = env_of set.limits set.choice begin in
+  opening_balances : (choice : MemberChoice) (now : ℕ) (b : Broker) → IsSteady limits b → Balances c (opening (env_of limits choice (unopened now b.records)) (unopened now b.records)) b (opened limits choice now b.records)
+  opening_balances choice now b s =
+      let begin = unopened now b.records in
+      let env = env_of limits choice begin in
       let ds = opening env begin in
       let ordered = s.coherent.ordered in
-      let room = (leads_open env (ShortQueues QUEUE_LIMIT) RoomToEnter (queues_keeping QUEUE_LIMIT env within.queue within.queue) begin (short w.broker.records ordered)).0 in
+      let room = (leads_open env (ShortQueues QUEUE_LIMIT) RoomToEnter (queues_keeping QUEUE_LIMIT env within.queue within.queue) begin (short b.records ordered)).0 in
       let all = all_balance c ds begin ordered (here_opening env begin ordered) (stands_opening env begin ordered) room in
       let rows = done_sessions (rows_of_all ds begin.records) (after_all ds begin) in
       let same = ap (N c) rows in
-      record { steady = steady_again set.limits set.choice w.now w.broker within s unspent; balance = omega (arith, all, same) }
+      omega (arith, all, same)
 
-  -- a new line
-  linking_goes : (w : World) → IsSteady set.limits w.broker → Goes [] w (calls set NewLine w)
-  linking_goes w s =
-      let x = call_goes NewLine w s (linking_spends_none set.limits set.choice w.now w.broker) in
-      record { steady = x.steady; balance = by (can_link w.broker) refl x.balance }
-    where
-      new : Broker
-      new = stepped set.limits set.choice w.now NewLine w.broker
-
-      by : (t : Bool) → can_link w.broker ≡ t → Balances c (deeds set.limits set.choice w.now NewLine w.broker) w.broker new → Balances c [] w.broker new
-      by false can h = subst (λ (t : Bool). Balances c (cond t (Link (suc w.broker.given) ∷ []) []) w.broker new) can h
-      by true can h =
-          let one : Balances c (Link (suc w.broker.given) ∷ []) w.broker new = subst (λ (t : Bool). Balances c (cond t (Link (suc w.broker.given) ∷ []) []) w.broker new) can h in
-          one
-
-  -- ---- what is asked for
-
-  comes_goes : (name bytes : List ℕ) (w : World) → IsSteady set.limits w.broker → Goes [] w (comes set name bytes w)
-  comes_goes name bytes w s = by (is_some (stranger_named name w))
-    where
-      by : (t : Bool) → Goes [] w (linked_at set t name bytes w)
-      by true = still w (linked_at set true name bytes w) s refl
-      by false = let x = linking_goes w s in record { steady = x.steady; balance = x.balance }
-
-  before_goes : (a : Asking) (w : World) → IsSteady set.limits w.broker → Goes [] w (before set a w)
-  before_goes (to_broker d) w s = still w (before set (to_broker d) w) s refl
-  before_goes (old_to_broker d) w s = still w (before set (old_to_broker d) w) s refl
-  before_goes (break d) w s = still w w s refl
-  before_goes (pump d) w s = still w w s refl
-  before_goes tick w s = still w w s refl
-  before_goes (stranger name bytes) w s = comes_goes name bytes w s
-
-  first_goes : (a : Asking) (w : World) → IsSteady set.limits w.broker → first_spends set a w ≡ false → Goes (first_deeds set a w) w (first_step set a w)
-  first_goes a w s unspent =
-      let x = before_goes a w s in
-      then_goes [] (first_deeds set a w) w (before set a w) (first_step set a w) x (if_goes (call_of set a w) (before set a w) x.steady unspent)
-
-  same_cost : (name : List ℕ) (v : World) (x : Option Call) → spends set x v ≡ false → spends set x (next_held name v) ≡ false
-  same_cost name v None e = refl
-  same_cost name v (Some x) e = e
-
-  same_deeds : (name : List ℕ) (v : World) (x : Option Call) → Goes (deeds_if set x (next_held name v)) v (calls_if set x (next_held name v)) → Goes (deeds_if set x v) v (calls_if set x (next_held name v))
-  same_deeds name v None h = h
-  same_deeds name v (Some x) h = h
-
-  rest_goes : (more : ℕ) (name : List ℕ) (v : World) → IsSteady set.limits v.broker → rest_spends set more name v ≡ false → Goes (deeds_of_rest set more name v) v (answers_rest set more name v)
-  rest_goes zero name v s unspent = still v v s refl
-  rest_goes (suc more) name v s unspent =
-      let call = call_of_stranger (stranger_named name v) in
-      let held = next_held name v in
-      let u = calls_if set call held in
-      let costs = either (spends set call v) (rest_spends set more name u) unspent in
-      let x = if_goes call held s (same_cost name v call costs.0) in
-      let first = same_deeds name v call (record { steady = x.steady; balance = x.balance }) in
-      then_goes (deeds_if set call v) (deeds_of_rest set more name u) v u (answers_rest set more name u) first (rest_goes more name u first.steady costs.1)
-
-  asked_goes : (a : Asking) (w : World) → IsSteady set.limits w.broker → asking_spends set a w ≡ false → Goes (deeds_asked set a w) w (asks set a w)
-  asked_goes (to_broker d) w s unspent = first_goes (to_broker d) w s unspent
-  asked_goes (old_to_broker d) w s unspent = first_goes (old_to_broker d) w s unspent
-  asked_goes (break d) w s unspent = let x = first_goes (break d) w s unspent in record { steady = x.steady; balance = x.balance }
-  asked_goes (pump d) w s unspent = first_goes (pump d) w s unspent
-  asked_goes tick w s unspent = first_goes tick w s unspent
-  asked_goes (stranger name bytes) w s unspent =
-      let v = comes set name bytes w in
-      let x = comes_goes name bytes w s in
-      let n = held_count (stranger_named name v) in
-      then_goes [] (deeds_of_rest set n name v) w v (answers_rest set n name v) x (rest_goes n name v x.steady unspent)
-
-  -- ---- an event
-
-  joins_goes : (d : List ℕ) (clean : Bool) (w : World) → IsSteady set.limits w.broker → Goes (deeds_if set (Some NewLine) w) w (happens set (connect_end d clean) w)
-  joins_goes d clean w s = by (can_link w.broker) refl
-    where
-      by : (t : Bool) → can_link w.broker ≡ t → Goes (cond (can_link w.broker) (Link (suc w.broker.given) ∷ []) []) w (links set (cond (can_link w.broker) (Some (suc w.broker.given)) None) d clean w)
-      by false can = subst (λ (t : Bool). Goes (cond t (Link (suc w.broker.given) ∷ []) []) w (links set (cond t (Some (suc w.broker.given)) None) d clean w)) (sym can) (still w w s refl)
-      by true can =
-          let x = linking_goes w s in
-          subst (λ (t : Bool). Goes (cond t (Link (suc w.broker.given) ∷ []) []) w (links set (cond t (Some (suc w.broker.given)) None) d clean w)) (sym can) (record { steady = x.steady; balance = x.balance })
-
-  event_goes : (e : Event) (w : World) → IsSteady set.limits w.broker → event_spends set e w ≡ false → Goes (deeds_in set e w) w (happens set e w)
-  event_goes (publisher d) w s unspent = record { steady = s; balance = refl }
-  event_goes (receiver d window) w s unspent = record { steady = s; balance = refl }
-  event_goes (connect_end d clean) w s unspent = joins_goes d clean w s
-  event_goes (give_up d) w s unspent = record { steady = s; balance = refl }
-  event_goes (publish d x) w s unspent = record { steady = s; balance = refl }
-  event_goes (subscribe d x) w s unspent = record { steady = s; balance = refl }
-  event_goes (to_end d) w s unspent = record { steady = s; balance = refl }
-  event_goes (clock wait) w s unspent = record { steady = s; balance = refl }
-  event_goes (ask a) w s unspent = asked_goes a w s unspent
-  event_goes restart w s unspent = opening_goes w s unspent
-  event_goes (stop_before a) w s unspent =
-      let x = before_goes a w s in
-      let v = before set a w in
-      then_goes [] (opening_deeds set v) w v (restarts set v) x (opening_goes v x.steady unspent)
-  event_goes (stop_after a) w s unspent =
-      let v = first_step set a w in
-      let costs = either (first_spends set a w) (opening_spends set v) unspent in
-      let x = first_goes a w s costs.0 in
-      then_goes (first_deeds set a w) (opening_deeds set v) w v (restarts set v) x (opening_goes v x.steady costs.1)
-
--- ---- a turn, and a run
-
-turn_goes : (c : CopyId) (limits : Limits) (t : Turn) (w : World) → AreWithin limits → IsSteady limits w.broker → turn_spends limits t w ≡ false
-    → Steps c limits (deeds_at (setting limits t) t.event w) w (turned limits t w)
-turn_goes c limits t w within s unspent = by (is_bad t.event w) unspent
-  where
-    set : Setting
-    set = setting limits t
-
-    by : (bad : Bool) → (not bad && event_spends set t.event w) ≡ false → Steps c limits (cond bad [] (deeds_in set t.event w)) w (cond bad w (happens set t.event w))
-    by true u = record { steady = s; balance = refl }
-    by false u = event_goes c set within t.event w s u
-
-run_goes : (c : CopyId) (limits : Limits) (ts : List Turn) (w : World) → AreWithin limits → IsSteady limits w.broker → run_spends limits ts w ≡ false → Steps c limits (deeds_over limits ts w) w (run limits ts w)
-run_goes c limits [] w within s unspent = record { steady = s; balance = refl }
-run_goes c limits (t ∷ ts) w within s unspent =
-    let v = turned limits t w in
-    let costs = either (turn_spends limits t w) (run_spends limits ts v) unspent in
-    let first = turn_goes c limits t w within s costs.0 in
-    let rest = run_goes c limits ts v within first.steady costs.1 in
-    let xs = deeds_at (setting limits t) t.event w in
-    let ys = deeds_over limits ts v in
-    record { steady = rest.steady; balance = then_balances c xs ys w.broker v.broker (run limits ts v).broker first.balance rest.balance }
+  balances : Walk limits (Balances c)
+  balances = record {
+    none = λ b. refl;
+    next = λ xs ys a b d p q. then_balances c xs ys a b d p q;
+    unlink = λ n b d h. h;
+    link = λ n b d h. h;
+    call = λ choice now call b s unspent. call_balances choice now call b s;
+    open_again = λ choice now b s unspent. opening_balances choice now b s;
+  }
 
 pub run_balances : (limits : Limits) (ts : List Turn) (w : World) → IsNew limits w → IsFair limits ts w → (c : CopyId) → IsBalanced c limits ts w
-run_balances limits ts w new fair c = (run_goes c limits ts w fair.within new.steady fair.unspent).balance
+run_balances limits ts w new fair c = run_walks (Balances c) limits ts w (balances c limits fair.within) new fair
+
+-- ---- publications are numbered one after the other
+
+counts_append : (n m k : ℕ) (xs ys : List ℕ) → CountsOn n xs m → CountsOn m ys k → CountsOn n (xs ++ ys) k
+counts_append n m k [] ys p q = subst (λ (z : ℕ). CountsOn z ys k) p q
+counts_append n m k (x ∷ xs) ys p q = (p.0, counts_append x m k xs ys p.1 q)
+
+given_append : (xs ys : List Deed) → filter_map publication_given (xs ++ ys) ≡ filter_map publication_given xs ++ filter_map publication_given ys
+given_append [] ys = refl
+given_append (x ∷ xs) ys = first (publication_given x) (given_append xs ys)
+  where
+    first : (o : Option ℕ) → filter_map publication_given (xs ++ ys) ≡ filter_map publication_given xs ++ filter_map publication_given ys
+        → cons_option o (filter_map publication_given (xs ++ ys)) ≡ cons_option o (filter_map publication_given xs) ++ filter_map publication_given ys
+    first None rest = rest
+    first (Some k) rest = ap (λ (ks : List ℕ). k ∷ ks) rest
+
+abbrev Numbers : List Deed → Broker → Broker → Type 0
+Numbers ds b d = CountsOn b.records.publications (filter_map publication_given ds) d.records.publications
+
+numbers : (limits : Limits) → Walk limits Numbers
+numbers limits = record {
+  none = λ b. refl;
+  next = λ xs ys a b d p q. subst (λ (ns : List ℕ). CountsOn a.records.publications ns d.records.publications) (sym (given_append xs ys))
+      (counts_append a.records.publications b.records.publications d.records.publications (filter_map publication_given xs) (filter_map publication_given ys) p q);
+  unlink = λ n b d h. h;
+  link = λ n b d h. h;
+  call = λ choice now call b s unspent. (step_counts limits choice now call b).1;
+  open_again = λ choice now b s unspent. (opening_counts limits choice now b.records).1;
+}
+
+pub run_numbers : (limits : Limits) (ts : List Turn) (w : World) → IsNew limits w → IsFair limits ts w
+    → CountsOn w.broker.records.publications (publications_from limits ts w) (run limits ts w).broker.records.publications
+run_numbers limits ts w new fair = run_walks Numbers limits ts w (numbers limits) new fair

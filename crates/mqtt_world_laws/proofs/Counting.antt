@@ -1,7 +1,7 @@
 -- How often a copy stands in the queues, enters and ends, over each deed: one that enters stands once more, one that ends
 -- once less.
-use Rattle.std.proofs.Common.{◌≡◌, ℕ, zero, suc, ◌+◌, ◌≤◌, ◌<◌, Bool, true, false, cond, not, ◌||◌, ◌⊎◌, List, [], ◌∷◌, ◌++◌, map, filter, length, Option, Some, None, count_by, nat_eq, nat_lt, refl, sym, ap, subst, ◌∙◌, arith, inl, inr}
-use Rattle.std.specs.Prelude.{⊤, is_some, flat_map, filter_map}
+use Rattle.std.proofs.Common.{◌≡◌, ℕ, ◌+◌, ◌≤◌, ◌<◌, Bool, true, false, cond, not, ◌||◌, ◌⊎◌, List, [], ◌∷◌, ◌++◌, map, length, Option, Some, None, nat_eq, nat_lt, refl, sym, ap, subst, ◌∙◌, arith, inl, inr}
+use Rattle.std.specs.Prelude.{is_some, flat_map, filter_map}
 use Rattle.std.specs.List.{AllByRecursion, cons_option}
 use Rattle.std.proofs.lemmas.Bool.{cases_Bool, eqb-true, ltb-true, lt-ltb}
 use Rattle.std.proofs.lemmas.Cmp.{nat_eq_equiv}
@@ -20,7 +20,7 @@ use Rattle.mqtt_rows.specs.Order.{IsAbove, IsAscending, IsBelow, row_at, has_row
 use Rattle.mqtt_rows.proofs.OrderLemmas.{apart}
 use Rattle.mqtt_records.specs.Session.{birth_of, copy_place, columns_of, with_columns, with_will, with_subscription, without_subscription, with_open, without_open, with_copy, with_phase, in_phase, without_copy, fresh}
 use Rattle.mqtt_records.specs.Records.{changed_all, put_session, in_session}
-use Rattle.mqtt_rules.specs.State.{Broker, session_at, next_of}
+use Rattle.mqtt_rules.specs.State.{Broker, session_at}
 use Rattle.mqtt_rules.specs.Deeds.{Whose, Part, Resume, Close, SetExpiry, DropWill, Unsubscribe, Open, Release, Enter, Mark, Leave, Deed, Accept, Begin, Name, Count, At, Finish, Keep, Forget, RefuseWill, Link, On, Send, Gone, will_row, new_entry, part_rows_of, after, after_all}
 use Rattle.mqtt_rules.specs.Deeds as deeds
 use Rattle.mqtt_rules.specs.Laws.{HasTables, IsOrdered}
@@ -29,10 +29,10 @@ use Rattle.mqtt_rules.proofs.FlightRows.{found_key, all_at, all_found}
 use Rattle.mqtt_rules.proofs.OrderedEnters.{RoomToEnter}
 use Rattle.mqtt_rules.proofs.OrderedQueues.{below_own}
 use Rattle.mqtt_rules.proofs.Turns.{Stands}
-use Rattle.mqtt_rules.proofs.StandLaw.{Orders, ordered_all}
+use Rattle.mqtt_rules.proofs.StandLaw.{ordered_all}
 use Rattle.mqtt_laws.specs.Run.{entered_in, End, ended_in}
 use Rattle.mqtt_laws.specs.Laws.{is_copy, count_of, standing_in}
-use Rattle.mqtt_world_laws.proofs.Here.{Has, Here, first_left, above_left}
+use Rattle.mqtt_world_laws.proofs.Here.{Has, Here, first_left}
 
 -- ---- counts of lists
 

@@ -1,15 +1,14 @@
 -- A copy enters and leaves the queue of a session that stands, and a session that ends has an empty queue: for each deed of
 -- a step and of an opening.
-use Rattle.std.proofs.Common.{◌≡◌, ℕ, suc, ◌≤◌, ◌<◌, Bool, true, false, cond, not, ◌||◌, ◌⊎◌, List, [], ◌∷◌, ◌++◌, map, filter, length, Option, Some, None, nat_eq, nat_lt, nat_le, refl, sym, ap, subst, ◌∙◌, arith, inl, inr}
+use Rattle.std.proofs.Common.{◌≡◌, ℕ, suc, Bool, true, false, cond, ◌||◌, ◌⊎◌, List, [], ◌∷◌, ◌++◌, map, filter, length, Option, Some, None, nat_eq, nat_lt, refl, sym, ap, subst, ◌∙◌, arith, inl, inr}
 use Rattle.std.specs.Prelude.{⊤, is_some, flat_map}
 use Rattle.std.specs.List.{AllByRecursion}
 use Rattle.std.proofs.lemmas.Bool.{cases_Bool, eqb-true}
 use Rattle.std.proofs.lemmas.Cmp.{nat_eq_equiv}
 use Rattle.mqtt_rows.proofs.OrderLemmas.{apart}
 use Rattle.mqtt_base.specs.declared.limits.TheConstants.{SESSION_LIMIT}
-use Rattle.mqtt_base.specs.declared.session.Ending.{Ending}
 use Rattle.mqtt_base.specs.declared.session.Ending.TheVariants.{SessionEnded}
-use Rattle.mqtt_base.specs.declared.session.Phase.TheVariants.{Sent, Released as ReleasedPhase, Oversize}
+use Rattle.mqtt_base.specs.declared.session.Phase.TheVariants.{Sent}
 use Rattle.mqtt_codec.specs.declared.packet.Packet.{Packet}
 use Rattle.mqtt_connect.specs.declared.connect.Connect.{Connect as Greeting}
 use Rattle.mqtt_topic.specs.Names.{is_empty}
@@ -25,16 +24,16 @@ use Rattle.mqtt_records.specs.declared.session.Columns.{Columns}
 use Rattle.mqtt_records.specs.declared.records.Records.{Records}
 use Rattle.mqtt_records.specs.declared.change.Change.{Change}
 use Rattle.mqtt_records.specs.declared.change.Change.TheVariants as change
-use Rattle.mqtt_rows.specs.Order.{IsAbove, IsAscending, row_at, has_row, change_row, insert_row, put_row, remove_row}
+use Rattle.mqtt_rows.specs.Order.{IsAbove, IsAscending, row_at, has_row, change_row, insert_row, remove_row}
 use Rattle.mqtt_records.specs.Session.{birth_of, copy_place, with_columns, with_will, with_subscription, without_subscription, with_open, without_open, with_copy, with_phase, without_copy, fresh}
 use Rattle.mqtt_records.specs.declared.change.Counter.{Counter}
 use Rattle.mqtt_records.specs.declared.change.Counter.TheVariants.{Births, Publications, Subscribes, Autos, Moment}
 use Rattle.mqtt_records.specs.Records.{changed, changed_all, put_session, in_session, with_counter}
-use Rattle.mqtt_rules.specs.Packets.{publish_of, pubrel}
-use Rattle.mqtt_rules.specs.State.{Line, Broker, Env, session_at, session_named, line_of, queue_on}
+use Rattle.mqtt_rules.specs.Packets.{publish_of}
+use Rattle.mqtt_rules.specs.State.{Line, Broker, Env, session_at, line_of, queue_on}
 use Rattle.mqtt_rules.specs.Deeds.{Whose, whose, Message, Origin, FromClient, Part, Resume, Close, SetExpiry, DropWill, Unsubscribe, Open, Release, Enter, Mark, Leave, Hear, SetAlias, Went, Deed, Accept, Begin, Name, Count, At, Finish, Keep, Forget, RefuseWill, Link, On, Send, Gone, will_row, part_rows, part_rows_of, rows_of, after, after_all, always, series, offer}
 use Rattle.mqtt_rules.specs.Deeds as deeds
-use Rattle.mqtt_rules.specs.Outbound.{of_entry, leave_deeds, turn_deeds, all_turn_deeds, since, queue_limits, enter_deeds}
+use Rattle.mqtt_rules.specs.Outbound.{of_entry, leave_deeds, turn_deeds, since, queue_limits, enter_deeds}
 use Rattle.mqtt_rules.specs.Routing.{CopyTo, is_queued, deliver_by, deliver, retained_of, forgets, retain_by, next_publication, publish}
 use Rattle.mqtt_rules.specs.Closing.{end_session}
 use Rattle.mqtt_rules.specs.Connect.{expiry_of, will_of, greet, begin_named}
@@ -43,10 +42,10 @@ use Rattle.mqtt_rules.specs.Subscribe as sub
 use Rattle.mqtt_rules.specs.Step.{Call, deeds_of, opening}
 use Rattle.mqtt_rules.specs.Tick.{lapses, lapse_deeds}
 use Rattle.mqtt_rules.specs.Laws.{IsAmong, HasTables, IsOrdered}
-use Rattle.mqtt_rules.proofs.Goods.{AreGood, good_append, good_cond, good_with_session, after_append}
+use Rattle.mqtt_rules.proofs.Goods.{AreGood, good_append, good_cond, good_with_session}
 use Rattle.mqtt_rules.proofs.Leads.{Leads}
 use Rattle.mqtt_rules.proofs.Acts.{anyone, call_of_anyone, finds_anyone, is_alone, closing_session, closing_on, closing, brought_to, Law, leads_call, leads_opening}
-use Rattle.mqtt_rules.proofs.FlightRows.{found_key, all_at, all_found, change_row-other, change_row-here}
+use Rattle.mqtt_rules.proofs.FlightRows.{found_key, all_at, all_found, change_row-here}
 use Rattle.mqtt_rules.proofs.StandLaw.{Orders, ordered_all}
 
 -- ---- what is said

@@ -19,4 +19,6 @@ pub mod Moves
 pub mod Carried
 pub mod Here
 pub mod Counting
+pub mod Walks
 pub mod CopyRuns
+pub mod Routed

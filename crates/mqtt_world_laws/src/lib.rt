@@ -3,4 +3,7 @@
 
 mod run_laws;
 
-pub use run_laws::{a_world_may_begin, every_copy_waits_or_has_ended, every_run_accepts_once};
+pub use run_laws::{
+    a_world_may_begin, every_copy_waits_or_has_ended, every_publication_is_routed,
+    every_run_accepts_once,
+};

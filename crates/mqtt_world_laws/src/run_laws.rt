@@ -7,7 +7,7 @@ ghost use Rattle.mqtt_rules.specs.State.{MemberChoice};
 ghost use Rattle.mqtt_rules.specs.Laws.{AreWithin, FewOpen};
 ghost use Rattle.mqtt_laws.specs.World.{World, start};
 ghost use Rattle.mqtt_laws.specs.Run.{Turn, run};
-ghost use Rattle.mqtt_world_laws.specs.Copies.{IsBalanced};
+ghost use Rattle.mqtt_world_laws.specs.Copies.{AreCountedOn, AreRouted, IsBalanced};
 ghost use Rattle.mqtt_world_laws.specs.Fair.{IsFair, IsNew, MayOpen, opened_world};
 ghost use Rattle.mqtt_world_laws.specs.Once.{HasCarried, IsAcceptedOnce};
 
@@ -31,6 +31,15 @@ pub fn every_run_accepts_once()
 pub fn every_copy_waits_or_has_ended()
     ensures balance { (limits : Limits) (ts : List Turn) (w : World) → IsNew limits w → IsFair limits ts w
         → (c : CopyId) → IsBalanced c limits ts w }
+{}
+
+/// Each publication that is accepted, of a client or a Will, was routed to the sessions and subscriptions that
+/// stood as it was accepted, with the members that the broker chose, in every run whatever; and in a fair run
+/// publications are numbered one after the other, so that no two have one number (3.3.4, 4.8).
+pub fn every_publication_is_routed()
+    ensures routed { (limits : Limits) (ts : List Turn) (w : World) → AreRouted limits ts w }
+    ensures numbered { (limits : Limits) (ts : List Turn) (w : World) → IsNew limits w → IsFair limits ts w
+        → AreCountedOn limits ts w }
 {}
 
 /// So a world may begin: with nothing stored, or opened on tables in order, with no more sessions than the
