@@ -49,9 +49,9 @@ fn run_serve(rt: &HostRuntime, listen: SocketAddrV4, db: &str, turns: u32) -> Ou
     }
 }
 
-/// Does what the process's arguments ask for. The command line is looked at first, then the file.
-/// What files, sockets, standard input and standard output hold no contract can say; `action`, `view`, `vectors` and
-/// `serve` say the rest.
+/// Does what the process's arguments ask for. The command line is looked at first, then the file
+/// or the database, then the socket. What files, sockets, standard input and standard output hold
+/// no contract can say; `action`, `view` and `vectors` say the rest.
 pub fn run(rt: &HostRuntime) -> Outcome {
     let words = match env::args(rt) {
         Ok(words) => words.collect::<Vec<String>>(rt.alloc()),
