@@ -6,7 +6,7 @@ ghost use Rattle.mqtt_serve.specs.Announcing.{Announces, done, listening};
 use crate::clock::moment;
 use crate::fault::ServeFault;
 use crate::poll_link::PollLink;
-use crate::store::{close_store, open_engine, open_store, stopped_by};
+use crate::store::{Closing, open_engine, open_store, stopped_by};
 use mqtt_serving::{Engine, Keep, Links, serve_turn};
 use std::io;
 use std::io::{ErrorKind, Write};
@@ -121,6 +121,23 @@ fn serve_over<K: Keep, W: Write>(
     Ok(engine.close())
 }
 
+/// Serves over a store, closes it, and tells the end.
+fn serve_and_close<K: Closing, W: Write>(
+    rt: &HostRuntime,
+    listen: SocketAddr,
+    keep: K,
+    turns: u32,
+    writer: &mut W,
+) -> Result<(), ServeFault>
+    ensures ok { OnOk result (Announces (W.contents writer.old) (W.contents writer.new) done) }
+    ensures socket { IfErr result (λ fault. fault ≡ ServeFault.Socket
+        → Keeps (W.contents writer.old) (W.contents writer.new)) }
+{
+    let keep = serve_over(rt, listen, keep, turns, writer)?;
+    keep.close()?;
+    write_done(writer)
+}
+
 /// Serves MQTT 5.0 at an address, over the database at a path, for so many turns (4.1, 4.2): it writes `listening` and the
 /// address, with the port that was bound, and at the end `done`. The database is opened first, then the socket. `Write` (2),
 /// `Memory` (3), `Store` (4) and `Socket` (5); where the socket failed nothing was written.
@@ -135,8 +152,8 @@ pub fn serve<W: Write>(
     ensures socket { IfErr result (λ fault. fault ≡ ServeFault.Socket
         → Keeps (W.contents writer.old) (W.contents writer.new)) }
 {
-    let keep = open_store(rt, db)?;
-    let keep = serve_over(rt, listen, keep, turns, writer)?;
-    close_store(keep)?;
-    write_done(writer)
+    match open_store(rt, db) {
+        Ok(keep) => serve_and_close(rt, listen, keep, turns, writer),
+        Err(fault) => Err(fault),
+    }
 }

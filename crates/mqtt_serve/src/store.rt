@@ -4,12 +4,29 @@ ghost use Rattle.std.specs.Prelude.{◌≡◌, ◌≢◌, IfErr};
 use crate::fault::ServeFault;
 use mqtt_serving::{Engine, EngineError, Full, Keep, KeepError, Limits};
 use mqtt_store::SqlKeep;
-use sqlite::{Connection, Error, ErrorCode, File, FileStore};
+use sqlite::{Alter, Connection, Error, ErrorCode, File, FileStore};
 use std::alloc::Global;
 use std::hash::RandomState;
 
 /// A store in a file.
 pub(crate) type FileKeep = SqlKeep<FileStore<File>>;
+
+/// A store that is closed at the end.
+pub(crate) trait Closing: Keep {
+    /// Closes it; what it holds stays.
+    fn close(self) -> Result<(), ServeFault>
+        ensures fault { IfErr result (λ fault. fault ≢ ServeFault.Socket) };
+}
+
+impl Closing for FileKeep {
+    // The log beside the database goes into its file.
+    fn close(self) -> Result<(), ServeFault> {
+        match self.into_inner().close() {
+            Ok(()) => Ok(()),
+            Err(error) => Err(fault_of(&error)),
+        }
+    }
+}
 
 /// The limits of the server.
 const LIMITS: Limits = Limits {
@@ -29,18 +46,25 @@ fn fault_of(error: &Error) -> ServeFault
     }
 }
 
-/// Opens the database at a path, or makes it.
-pub(crate) fn open_store(rt: &HostRuntime, path: &str) -> Result<FileKeep, ServeFault> {
-    let conn = match Connection::open(rt, path) {
-        Ok(conn) => conn,
-        Err(error) => return Err(fault_of(&error)),
-    };
-    match SqlKeep::new(rt.alloc(), conn) {
+/// A store over a connection.
+fn keep_over<S: Alter + Drop>(
+    alloc: Global,
+    conn: Connection<S>,
+) -> Result<SqlKeep<S>, ServeFault> {
+    match SqlKeep::new(alloc, conn) {
         Ok(keep) => Ok(keep),
         Err((error, store)) => {
             drop(store);
             Err(fault_of(&error))
         }
+    }
+}
+
+/// Opens the database at a path, or makes it.
+pub(crate) fn open_store(rt: &HostRuntime, path: &str) -> Result<FileKeep, ServeFault> {
+    match Connection::open(rt, path) {
+        Ok(conn) => keep_over(rt.alloc(), conn),
+        Err(error) => Err(fault_of(&error)),
     }
 }
 
@@ -62,16 +86,6 @@ pub(crate) fn open_engine<K: Keep>(
                 _ => Err(ServeFault::Store),
             }
         }
-    }
-}
-
-/// Closes the database: the log beside it goes into the file.
-pub(crate) fn close_store(keep: FileKeep) -> Result<(), ServeFault>
-    ensures fault { IfErr result (λ fault. fault ≢ ServeFault.Socket) }
-{
-    match keep.into_inner().close() {
-        Ok(()) => Ok(()),
-        Err(error) => Err(fault_of(&error)),
     }
 }
 

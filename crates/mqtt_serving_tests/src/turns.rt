@@ -30,7 +30,11 @@ fn a_byte_a_read_and_a_byte_a_write(rt: HostRuntime) -> Result<(), Fail> {
 fn closes_both(stage: &mut Stage<Ends>) -> Result<bool, Fail> {
     stage.turns(5, 0)?;
     let link = stage.link();
-    Ok(link.sent(0) == b"\x20\x03\x00\x84\x00" && link.sent(1) == b"" && stage.len() == 0)
+    Ok(
+        link.sent(0) == b"\x20\x03\x00\x84\x00".as_slice()
+            && link.sent(1).is_empty()
+            && stage.len() == 0,
+    )
 }
 
 #[test]
