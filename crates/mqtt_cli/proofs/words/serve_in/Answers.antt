@@ -1,4 +1,4 @@
-use Rattle.std.proofs.Common.{codes, sym, ◌∙◌}
+use Rattle.std.proofs.Common.{Some, codes, sym, ◌∙◌}
 use Rattle.clap.specs.Words.{found_of, rows_of}
 use Rattle.clap.proofs.WalkLemmas.{first_value-rows}
 use Rattle.mqtt_cli.proofs.Commands.{asks_no_server, no_server-address, no_server-count, no_server-db, no_server-listen, no_server-turns}
