@@ -6,8 +6,9 @@ ghost use Rattle.mqtt_serve.specs.Announcing.{Announces, done, listening};
 use crate::clock::moment;
 use crate::fault::ServeFault;
 use crate::poll_link::PollLink;
-use crate::store::{Closing, open_engine, open_store, stopped_by};
+use crate::store::{close_database, open_database, open_engine, stopped_by, store_over};
 use mqtt_serving::{Engine, Keep, Links, serve_turn};
+use sqlite::{Alter, Connection};
 use std::io;
 use std::io::{ErrorKind, Write};
 use std::net::SocketAddr;
@@ -97,8 +98,27 @@ fn run_turns<K: Keep>(
     Ok(())
 }
 
-/// Serves over any store, which it gives back, and tells where it listens. A fault of the socket comes before anything is
-/// written.
+/// Listens, tells where, and runs turns. A fault of the socket comes before anything is written.
+fn serve_engine<K: Keep, W: Write>(
+    rt: &HostRuntime,
+    listen: SocketAddr,
+    engine: &mut Engine<K>,
+    turns: u32,
+    begin: u64,
+    writer: &mut W,
+) -> Result<(), ServeFault>
+    ensures ok { OnOk result (Announces (W.contents writer.old) (W.contents writer.new) []) }
+    ensures socket { IfErr result (λ fault. fault ≡ ServeFault.Socket
+        → Keeps (W.contents writer.old) (W.contents writer.new)) }
+{
+    let link = listen_at(rt, listen)?;
+    let address = address_of(&link)?;
+    write_listening(writer, address)?;
+    let mut links = Links::new(rt.alloc(), link);
+    run_turns(rt, &mut links, engine, turns, begin)
+}
+
+/// Serves over any store, which it gives back.
 fn serve_over<K: Keep, W: Write>(
     rt: &HostRuntime,
     listen: SocketAddr,
@@ -112,30 +132,29 @@ fn serve_over<K: Keep, W: Write>(
 {
     let begin = moment(rt, 0);
     let mut engine = open_engine(rt, keep, begin)?;
-    let link = listen_at(rt, listen)?;
-    let address = address_of(&link)?;
-    write_listening(writer, address)?;
-    let mut links = Links::new(rt.alloc(), link);
-    run_turns(rt, &mut links, &mut engine, turns, begin)?;
-    drop(links);
-    Ok(engine.close())
+    let ran = serve_engine(rt, listen, &mut engine, turns, begin, writer);
+    let keep = engine.close();
+    match ran {
+        Ok(()) => Ok(keep),
+        Err(fault) => Err(fault),
+    }
 }
 
-/// Serves over a store, closes it, and tells the end.
-fn serve_and_close<K: Closing, W: Write>(
+/// Serves over the database of a connection, which it gives back.
+fn serve_database<S: Alter + Drop, W: Write>(
     rt: &HostRuntime,
     listen: SocketAddr,
-    keep: K,
+    conn: Connection<S>,
     turns: u32,
     writer: &mut W,
-) -> Result<(), ServeFault>
-    ensures ok { OnOk result (Announces (W.contents writer.old) (W.contents writer.new) done) }
+) -> Result<Connection<S>, ServeFault>
+    ensures ok { OnOk result (Announces (W.contents writer.old) (W.contents writer.new) []) }
     ensures socket { IfErr result (λ fault. fault ≡ ServeFault.Socket
         → Keeps (W.contents writer.old) (W.contents writer.new)) }
 {
+    let keep = store_over(rt.alloc(), conn)?;
     let keep = serve_over(rt, listen, keep, turns, writer)?;
-    keep.close()?;
-    write_done(writer)
+    Ok(keep.into_inner())
 }
 
 /// Serves MQTT 5.0 at an address, over the database at a path, for so many turns (4.1, 4.2): it writes `listening` and the
@@ -152,8 +171,8 @@ pub fn serve<W: Write>(
     ensures socket { IfErr result (λ fault. fault ≡ ServeFault.Socket
         → Keeps (W.contents writer.old) (W.contents writer.new)) }
 {
-    match open_store(rt, db) {
-        Ok(keep) => serve_and_close(rt, listen, keep, turns, writer),
-        Err(fault) => Err(fault),
-    }
+    let conn = open_database(rt, db)?;
+    let conn = serve_database(rt, listen, conn, turns, writer)?;
+    close_database(conn)?;
+    write_done(writer)
 }

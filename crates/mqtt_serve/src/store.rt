@@ -8,25 +8,8 @@ use sqlite::{Alter, Connection, Error, ErrorCode, File, FileStore};
 use std::alloc::Global;
 use std::hash::RandomState;
 
-/// A store in a file.
-pub(crate) type FileKeep = SqlKeep<FileStore<File>>;
-
-/// A store that is closed at the end.
-pub(crate) trait Closing: Keep {
-    /// Closes it; what it holds stays.
-    fn close(self) -> Result<(), ServeFault>
-        ensures fault { IfErr result (λ fault. fault ≢ ServeFault.Socket) };
-}
-
-impl Closing for FileKeep {
-    // The log beside the database goes into its file.
-    fn close(self) -> Result<(), ServeFault> {
-        match self.into_inner().close() {
-            Ok(()) => Ok(()),
-            Err(error) => Err(fault_of(&error)),
-        }
-    }
-}
+/// A database in a file.
+pub(crate) type Database = Connection<FileStore<File>>;
 
 /// The limits of the server.
 const LIMITS: Limits = Limits {
@@ -46,8 +29,26 @@ fn fault_of(error: &Error) -> ServeFault
     }
 }
 
+/// Opens the database at a path, or makes it.
+pub(crate) fn open_database(rt: &HostRuntime, path: &str) -> Result<Database, ServeFault> {
+    match Connection::open(rt, path) {
+        Ok(conn) => Ok(conn),
+        Err(error) => Err(fault_of(&error)),
+    }
+}
+
+/// Closes the database: the log beside it goes into its file.
+pub(crate) fn close_database(conn: Database) -> Result<(), ServeFault>
+    ensures fault { IfErr result (λ fault. fault ≢ ServeFault.Socket) }
+{
+    match conn.close() {
+        Ok(()) => Ok(()),
+        Err(error) => Err(fault_of(&error)),
+    }
+}
+
 /// A store over a connection.
-fn keep_over<S: Alter + Drop>(
+pub(crate) fn store_over<S: Alter + Drop>(
     alloc: Global,
     conn: Connection<S>,
 ) -> Result<SqlKeep<S>, ServeFault> {
@@ -57,14 +58,6 @@ fn keep_over<S: Alter + Drop>(
             drop(store);
             Err(fault_of(&error))
         }
-    }
-}
-
-/// Opens the database at a path, or makes it.
-pub(crate) fn open_store(rt: &HostRuntime, path: &str) -> Result<FileKeep, ServeFault> {
-    match Connection::open(rt, path) {
-        Ok(conn) => keep_over(rt.alloc(), conn),
-        Err(error) => Err(fault_of(&error)),
     }
 }
 
