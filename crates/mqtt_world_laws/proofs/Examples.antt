@@ -1,18 +1,20 @@
--- Worked runs: the premises of the laws hold of them, and fail where a Clean Start is not carried through; and a broker
--- that has all its lines gives none (MQTT 5.0, 3.1.2.4, 4.3.3, 4.4).
+-- Worked runs: the premises of the laws hold of them, and fail where a Clean Start is not carried through; a broker that
+-- has all its lines gives none; a group's copy ends with its member (MQTT 5.0, 3.1.2.4, 4.3.3, 4.4, 4.8.2).
 use Rattle.std.proofs.Common.{◌≡◌, ℕ, zero, suc, Bool, true, false, not, ◌&&◌, List, [], ◌∷◌, ◌++◌, map, Option, Some, None, refl}
 use Rattle.std.specs.Prelude.{codes, option_map}
 use Rattle.mqtt_base.specs.Values.{varint}
 use Rattle.mqtt_base.specs.declared.session.Qos.TheVariants.{ExactlyOnce}
+use Rattle.mqtt_base.specs.declared.session.CopyId.{CopyId}
 use Rattle.mqtt_inbound.specs.Publisher.{completed, ended}
 use Rattle.mqtt_rules.specs.State.{MemberChoice}
-use Rattle.mqtt_rules.proofs.Play.{usual, topic, hi}
-use Rattle.mqtt_laws.specs.Ends.{Draft, Publisher}
-use Rattle.mqtt_laws.specs.World.{Event, publisher, connect_end, give_up, publish, to_end, ask, break, restart, stop_before, stop_after, to_broker, old_to_broker, stranger, publisher_named, start}
-use Rattle.mqtt_laws.specs.Laws.{fate_of}
+use Rattle.mqtt_rules.proofs.Play.{usual, topic, hi, options}
+use Rattle.mqtt_laws.specs.Ends.{Draft, Publisher, Wish}
+use Rattle.mqtt_laws.specs.World.{Event, publisher, receiver, connect_end, give_up, publish, subscribe, to_end, ask, break, restart, stop_before, stop_after, to_broker, old_to_broker, stranger, publisher_named, start}
+use Rattle.mqtt_laws.specs.Laws.{fate_of, standing}
 use Rattle.mqtt_laws.specs.Run.{Turn, run, are_clean_starts_carried}
 use Rattle.mqtt_world_laws.specs.Spending.{run_spends}
 use Rattle.mqtt_world_laws.specs.Once.{times_accepted}
+use Rattle.mqtt_world_laws.specs.Copies.{entered_from, ended_from}
 
 abbrev first : MemberChoice
 first n sender = []
@@ -105,3 +107,42 @@ a_full_broker_gives_no_line = refl
 pub a_last_line_is_given : line_after (strangers 63 ++ publisher p1 ∷ connect_end p1 false ∷ []) ≡ Some (Some 64)
 unfolding varint
 a_last_line_is_given = refl
+
+-- ---- a group whose member is lost: its copy ends with its session, and goes to no other (4.8.2)
+
+abbrev r1 : List ℕ
+r1 = codes "r1"
+
+abbrev r2 : List ℕ
+r2 = codes "r2"
+
+abbrev wish : Wish
+wish = record { filter = codes "$share/g/" ++ topic; options = options ExactlyOnce; identifier = None }
+
+abbrev joins : List ℕ → List Event
+joins r = connect_end r false ∷ ask (to_broker r) ∷ to_end r ∷ subscribe r wish ∷ ask (to_broker r) ∷ to_end r ∷ []
+
+abbrev grouped : List Event
+grouped = receiver r1 10 ∷ receiver r2 10 ∷ (joins r1 ++ (joins r2 ++ (asked ++ ask (to_broker p1) ∷ [])))
+
+abbrev lost : List Event
+lost = grouped ++ ask (break r1) ∷ connect_end r1 true ∷ ask (to_broker r1) ∷ []
+
+abbrev births : List CopyId → List ℕ
+births xs = map (λ (c : CopyId). c.birth) xs
+
+pub a_group_has_one_copy : births (entered_from usual (turns lost) start) ≡ 1 ∷ []
+unfolding varint
+a_group_has_one_copy = refl
+
+pub it_waits_for_its_member : births (standing (run usual (turns grouped) start).broker) ≡ 1 ∷ []
+unfolding varint
+it_waits_for_its_member = refl
+
+pub it_ends_with_its_member : births (ended_from usual (turns lost) start) ≡ 1 ∷ []
+unfolding varint
+it_ends_with_its_member = refl
+
+pub it_waits_for_no_other : births (standing (run usual (turns lost) start).broker) ≡ []
+unfolding varint
+it_waits_for_no_other = refl

@@ -1,4 +1,5 @@
-//! Laws of every run of the world: what is accepted, whatever is lost, restarted or stopped (MQTT 5.0, 4.3, 4.4).
+//! Laws of every run of the world: what is accepted and what becomes of copies, whatever is lost, restarted or
+//! stopped (MQTT 5.0, 3.3.4, 4.3, 4.4).
 #![tactic(auto)]
 
 mod run_laws;

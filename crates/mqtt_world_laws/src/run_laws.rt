@@ -1,5 +1,6 @@
-//! The law of messages: each is accepted once, in every run (4.3.2, 4.3.3, 4.9).
-ghost use Rattle.std.specs.Prelude.{◌≡◌, ℕ, List};
+//! The laws of runs: each message is accepted once, each publication routed, each copy waits or has ended (3.3.4,
+//! 4.3, 4.4, 4.9).
+ghost use Rattle.std.specs.Prelude.{ℕ, List};
 ghost use Rattle.mqtt_base.specs.declared.session.CopyId.{CopyId};
 ghost use Rattle.mqtt_records.specs.declared.records.Records.{Records};
 ghost use Rattle.mqtt_rules.specs.declared.Limits.{Limits};
