@@ -1,6 +1,6 @@
 -- What enters by the deeds of a publication and of a granted filter: the queued copies, each once.
-use Rattle.std.proofs.Common.{◌≡◌, ℕ, suc, ◌≤◌, Bool, true, false, cond, not, ◌&&◌, inl, inr, List, [], ◌∷◌, ◌++◌, map, filter, length, Option, Some, None, nat_eq, refl, sym, ap, subst, ◌∙◌, append_assoc, append-nil, arith}
-use Rattle.std.specs.Prelude.{⊤, is_some, nat_le, flat_map, filter_map}
+use Rattle.std.proofs.Common.{◌≡◌, ℕ, suc, ◌≤◌, Bool, true, false, cond, not, ◌&&◌, inl, inr, List, [], ◌∷◌, ◌++◌, map, filter, length, Option, Some, None, refl, sym, ap, subst, ◌∙◌, append_assoc, append-nil, arith}
+use Rattle.std.specs.Prelude.{is_some, nat_le, flat_map, filter_map}
 use Rattle.std.specs.List.{AllByRecursion, cons_option}
 use Rattle.std.proofs.lemmas.Bool.{cases_Bool}
 use Rattle.std.proofs.lemmas.Cmp.{nat_eq_equiv}
@@ -15,11 +15,11 @@ use Rattle.mqtt_message.specs.declared.message.RetainedMessage.{RetainedMessage}
 use Rattle.mqtt_message.specs.Queue.{CopyRow}
 use Rattle.mqtt_records.specs.declared.session.Session.{Session}
 use Rattle.mqtt_records.specs.declared.records.Records.{Records}
-use Rattle.mqtt_records.specs.Session.{birth_of, copy_place}
+use Rattle.mqtt_records.specs.Session.{copy_place}
 use Rattle.mqtt_rows.specs.Order.{row_at}
 use Rattle.mqtt_rules.specs.Packets.{publish_of, size_of}
 use Rattle.mqtt_rules.specs.State.{Line, Broker, Env, session_at, line_of, queue_on}
-use Rattle.mqtt_rules.specs.Deeds.{whose, Message, Origin, Enter, Leave, Subscribe, Deed, Accept, At, Keep, Forget, Send, after, after_all, always, series, with_session, offer}
+use Rattle.mqtt_rules.specs.Deeds.{whose, Message, Origin, Enter, Leave, Subscribe, Deed, Accept, At, Send, after, after_all, always, series, with_session, offer}
 use Rattle.mqtt_rules.specs.Outbound.{of_entry, leave_deeds, since, queue_limits, enter_deeds, room_at}
 use Rattle.mqtt_rules.specs.Routing.{CopyTo, is_queued, deliver_by, deliver, retained_of, forgets, retain_by, next_publication, accepted_copies, publish}
 use Rattle.mqtt_routes.specs.Retained.{kept_for}
@@ -29,10 +29,9 @@ use Rattle.mqtt_rules.specs.Subscribe as sub
 use Rattle.mqtt_rules.proofs.Acts.{brought_to}
 use Rattle.mqtt_rules.proofs.OrderedAccepted.{is_to, accepted_within}
 use Rattle.mqtt_rules.proofs.StandLaw.{Orders}
-use Rattle.mqtt_rules.proofs.FlightRows.{found_key}
 use Rattle.mqtt_laws.specs.Run.{entered_in}
-use Rattle.mqtt_world_laws.specs.Entries.{Moment, moment_of, moments_of, id_of, queued_ids, ids_if, retained_ids, brings, brings_at}
-use Rattle.mqtt_world_laws.proofs.Here.{Has, AreFor, for_append, for_enter, for_stays}
+use Rattle.mqtt_world_laws.specs.Entries.{moments_of, id_of, queued_ids, ids_if, retained_ids, brings, brings_at}
+use Rattle.mqtt_world_laws.proofs.Here.{Has, AreFor, for_enter, for_stays}
 
 -- ---- what enters by deeds, and what they bring
 
@@ -235,11 +234,10 @@ there env n (Some s) some few = refl
 
 all_stand : (env : Env) (ds : List CopyTo) (r : Records) → ((k : ℕ) → length (filter (is_to k) ds) ≤ room_at env (session_at k r)) → AllStand ds r
 all_stand env [] r few = tt
-all_stand env (d ∷ ds) r few =
-    (
-      (λ is. let same = one_to d ds is in there env (length (filter (is_to d.birth) (d ∷ ds))) (session_at d.birth r) (omega (arith, same)) (few d.birth)),
-      all_stand env ds r (λ k. let less = fewer k d ds in let all = few k in omega (arith, less, all)),
-    )
+all_stand env (d ∷ ds) r few = (
+  (λ is. let same = one_to d ds is in there env (length (filter (is_to d.birth) (d ∷ ds))) (session_at d.birth r) (omega (arith, same)) (few d.birth)),
+  all_stand env ds r (λ k. let less = fewer k d ds in let all = few k in omega (arith, less, all)),
+)
 
 pub accepted_stand : (env : Env) (m : Message) (b : Broker) (ds : List CopyTo) → Orders b → accepted_copies env m b ≡ Some ds → AllStand ds b.records
 accepted_stand env m b ds h e = all_stand env ds b.records (λ k. accepted_within env m b ds k e h.sessions.ascending)
