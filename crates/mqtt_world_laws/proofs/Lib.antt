@@ -1,4 +1,5 @@
 pub mod Examples
+pub mod FullQueues
 pub mod Steady
 pub mod OpeningNumbers
 pub mod Ends
