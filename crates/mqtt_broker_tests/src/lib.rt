@@ -1,0 +1,12 @@
+//! Tests of the broker over its public calls: what it tells, what it refuses, streams that are cut, changed or made to cost
+//! much, a store that fails (MQTT 5.0, 2.1, 3, 4).
+#![tactic(auto)]
+
+#[cfg(test)]
+mod costly;
+#[cfg(test)]
+mod playing;
+#[cfg(test)]
+mod streams;
+#[cfg(test)]
+mod sweeps;
