@@ -3,7 +3,7 @@ ghost use Rattle.std.specs.Prelude.{IfOk, IsTrue};
 ghost use Rattle.sqlite_disk.specs.Memory.{memory_is_usable};
 
 use crate::store::{COURSE, play_on, tell_found};
-use mqtt_stage::{Telling, is_kept_after};
+use mqtt_stage::{Part, Telling, play_in_memory};
 use sqlite::{Connection, FileStore, Files, Options};
 use sqlite_disk::{Disk, Fuse, Memory};
 use std::alloc::{AllocError, Global};
@@ -155,26 +155,31 @@ fn blame(wrong: &mut Telling, what: &str, at: usize, told: &str) {
     wrong.word("\n");
 }
 
-/// Whether a load was refused, or found what stands after some lines of the course.
-fn is_earlier(alloc: Global, hasher: RandomState, told: &str) -> bool {
-    if !told.contains("births") {
-        return true;
+/// Tells what stands after each number of lines of the course.
+fn tell_known(known: &mut Telling, alloc: Global, hasher: RandomState) {
+    for count in 0..9 {
+        let part = Part {
+            count,
+            passed_over: "-",
+        };
+        known.word("|");
+        let played = play_in_memory(alloc, hasher, COURSE, part);
+        match &played {
+            Ok(played) => known.word(played.kept.as_str()),
+            Err(_) => known.shorten(),
+        }
+        drop(played);
     }
-    (0..9).any(|count| is_kept_after(alloc, hasher, COURSE, count, told).unwrap_or(true))
+    known.word("|");
 }
 
-/// Says where a file and its log are neither refused nor have what stood after some lines of the course.
-fn judge_image(
-    wrong: &mut Telling,
-    alloc: Global,
-    hasher: RandomState,
-    log: &[u8],
-    db: &[u8],
-    at: usize,
-) {
+/// Says where a file and its log are neither refused nor have what is known.
+fn judge_image(wrong: &mut Telling, alloc: Global, known: &str, log: &[u8], db: &[u8], at: usize) {
     let mut told = Telling::new(alloc);
+    told.word("|");
     tell_image(&mut told, alloc, log, db);
-    if !is_earlier(alloc, hasher, told.as_str()) {
+    told.word("|");
+    if told.as_str().contains("births") && !known.contains(told.as_str()) {
         blame(wrong, "at ", at, told.as_str());
     }
     drop(told);
@@ -194,36 +199,42 @@ fn course(alloc: Global, hasher: RandomState, is_closed: bool) -> Option<Image> 
 }
 
 /// Cuts a file, or its log, at every 512th byte.
-fn judge_cuts(wrong: &mut Telling, alloc: Global, hasher: RandomState, image: &Image) {
+fn judge_cuts(wrong: &mut Telling, alloc: Global, known: &str, image: &Image) {
     for at in (0..image.db.len()).step_by(512) {
-        judge_image(wrong, alloc, hasher, &image.log, &image.db[..at], at);
+        judge_image(wrong, alloc, known, &image.log, &image.db[..at], at);
     }
     for at in (0..image.log.len()).step_by(512) {
-        judge_image(wrong, alloc, hasher, &image.log[..at], &image.db, at);
+        judge_image(wrong, alloc, known, &image.log[..at], &image.db, at);
     }
 }
 
 /// Changes every 512th byte of a file, or of its log.
-fn judge_changed(wrong: &mut Telling, alloc: Global, hasher: RandomState, image: &mut Image) {
+fn judge_changed(wrong: &mut Telling, alloc: Global, known: &str, image: &mut Image) {
     for at in (0..image.db.len()).step_by(512) {
         image.db[at] ^= 0x5a;
-        judge_image(wrong, alloc, hasher, &image.log, &image.db, at);
+        judge_image(wrong, alloc, known, &image.log, &image.db, at);
         image.db[at] ^= 0x5a;
     }
     for at in (0..image.log.len()).step_by(512) {
         image.log[at] ^= 0x5a;
-        judge_image(wrong, alloc, hasher, &image.log, &image.db, at);
+        judge_image(wrong, alloc, known, &image.log, &image.db, at);
         image.log[at] ^= 0x5a;
     }
 }
 
 /// Says where files of the course that are cut or changed are neither refused nor have what stood after some of its lines.
-fn judge_files(wrong: &mut Telling, alloc: Global, hasher: RandomState, is_closed: bool) {
+fn judge_files(
+    wrong: &mut Telling,
+    alloc: Global,
+    hasher: RandomState,
+    known: &str,
+    is_closed: bool,
+) {
     match course(alloc, hasher, is_closed) {
         Some(image) => {
             let mut image = image;
-            judge_cuts(wrong, alloc, hasher, &image);
-            judge_changed(wrong, alloc, hasher, &mut image);
+            judge_cuts(wrong, alloc, known, &image);
+            judge_changed(wrong, alloc, known, &mut image);
             drop(image);
         }
         None => wrong.word("the course"),
@@ -236,8 +247,11 @@ fn a_file_that_is_cut_or_changed_is_refused_or_has_a_whole_step(
 ) -> Result<(), Fail> {
     let hasher = RandomState::new(&rt)?;
     let mut wrong = Telling::new(rt.alloc());
-    judge_files(&mut wrong, rt.alloc(), hasher, true);
-    judge_files(&mut wrong, rt.alloc(), hasher, false);
+    let mut known = Telling::new(rt.alloc());
+    tell_known(&mut known, rt.alloc(), hasher);
+    judge_files(&mut wrong, rt.alloc(), hasher, known.as_str(), true);
+    judge_files(&mut wrong, rt.alloc(), hasher, known.as_str(), false);
+    drop(known);
     assert_eq!(rt; wrong.as_str(), "");
     drop(wrong);
     Ok(())
@@ -332,18 +346,19 @@ fn play_open_failing(
     is_taken.then_some(is_right)
 }
 
-/// Says after how many calls a failing device leaves part of a step.
+/// Says after how many calls a failing device leaves part of a step; how many calls the course takes.
 fn judge_devices(
     wrong: &mut Telling,
     alloc: Global,
     hasher: RandomState,
+    known: &str,
     image: &mut Image,
 ) -> u64 {
     for calls in 0..2000 {
         match play_failing(image, alloc, hasher, calls) {
             Ok(Some(true)) => return calls,
             Ok(Some(false)) => {
-                judge_image(wrong, alloc, hasher, &image.log, &image.db, calls as usize);
+                judge_image(wrong, alloc, known, &image.log, &image.db, calls as usize);
             }
             _ => wrong.shorten(),
         }
@@ -356,7 +371,10 @@ fn a_device_that_fails_leaves_whole_steps(rt: HostRuntime) -> Result<(), Fail> {
     let hasher = RandomState::new(&rt)?;
     let mut wrong = Telling::new(rt.alloc());
     let mut image = Image::new(rt.alloc());
-    let calls = judge_devices(&mut wrong, rt.alloc(), hasher, &mut image);
+    let mut known = Telling::new(rt.alloc());
+    tell_known(&mut known, rt.alloc(), hasher);
+    let calls = judge_devices(&mut wrong, rt.alloc(), hasher, known.as_str(), &mut image);
+    drop(known);
     drop(image);
     assert_eq!(rt; wrong.as_str(), "");
     assert!(rt; calls > 0 && !wrong.is_short());

@@ -1,13 +1,14 @@
 //! A store whose statements may take few steps: what is interrupted is made whole or isn't made.
 
 use crate::store::{COURSE, play_on};
-use mqtt_stage::{Played, Telling, judge, judge_failure};
+use mqtt_stage::{Played, Telling, is_kept_after, judge_failure};
 use sqlite::Connection;
 use std::alloc::{AllocError, Global};
 use std::hash::RandomState;
 use std::test::Fail;
 
-/// Says where the course is played otherwise, or leaves part of a step; answers whether no statement failed.
+/// Says where the course leaves part of a step; answers whether no statement failed. Where a load at the end alone fails,
+/// every line tells what it says.
 fn judge_played(
     wrong: &mut Telling,
     alloc: Global,
@@ -15,12 +16,25 @@ fn judge_played(
     played: &Played,
     kept: &str,
 ) -> Result<bool, AllocError> {
-    if played.failures == 0 {
-        judge(wrong, COURSE, played);
-        return Ok(true);
+    if played.is_right {
+        judge_kept(wrong, alloc, hasher, kept)?;
+    } else {
+        judge_failure(wrong, alloc, hasher, COURSE, played, kept)?;
     }
-    judge_failure(wrong, alloc, hasher, COURSE, played, kept)?;
-    Ok(false)
+    Ok(played.failures == 0)
+}
+
+/// Says where other rows than those of the whole course are kept.
+fn judge_kept(
+    wrong: &mut Telling,
+    alloc: Global,
+    hasher: RandomState,
+    kept: &str,
+) -> Result<(), AllocError> {
+    if !is_kept_after(alloc, hasher, COURSE, usize::MAX, kept)? {
+        wrong.word(kept);
+    }
+    Ok(())
 }
 
 /// Plays the course with statements of so many steps; answers whether no statement failed.
