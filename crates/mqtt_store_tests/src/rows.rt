@@ -222,7 +222,7 @@ fn a_database_at_the_edge_is_taken(rt: HostRuntime) -> Result<(), Fail> {
 /// A change of a payload of zeros, and how many of them its row takes: topic, properties and payload have at most 200,000
 /// bytes.
 const PAYLOADS: [(&str, usize); 3] = [
-    ("UPDATE will SET payload = ?1", 199_998),
+    ("UPDATE will SET payload = ?1", 199_993),
     ("UPDATE copy SET payload = ?1", 199_996),
     ("UPDATE retained SET payload = ?1", 199_996),
 ];
