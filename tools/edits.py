@@ -138,6 +138,70 @@ def functions_of(file, text):
     return functions, macros
 
 
+def provable_by_hand(folder):
+    """Returns the functions of a crate that may have a proof of their own by hand, by the folder of proofs/ for it.
+
+    These are functions and methods of the crate's own types, with no constant among them, none that calls itself and none of a cycle.
+    """
+    texts = {}
+    for at, _, names in os.walk(f"{folder}/src"):
+        for it in sorted(names):
+            if it.endswith(".rt"):
+                with open(f"{at}/{it}", encoding="utf-8") as file:
+                    texts[os.path.relpath(f"{at}/{it}", folder)] = file.read()
+    by_file = {file: functions_of(file, text)[0] for file, text in texts.items()}
+    # a method is named by the module of its type
+    homes = {}
+    for file, text in texts.items():
+        inside = re.sub(r"^src/|\.rt$", "", file).split("/")
+        way = inside[:-1] if inside[-1] in ("lib", "main", "mod") else inside
+        for it in re.finditer(rf"(?m)^{BEFORE}(?:struct|enum)\s+(\w+)", text):
+            homes[it[1]] = None if it[1] in homes else way
+    found = {}
+    for file, functions in by_file.items():
+        lines = texts[file].split("\n")
+        for it in functions:
+            kind, of = it.owner or ("", "")
+            way = homes.get(kind) if kind else it.modules
+            head = "\n".join(lines[max(it.first - 9, 0) : it.first])
+            body = "\n".join(lines[it.first : it.last])
+            is_plain = not it.outer and kind == of and way is not None and "macro" not in head
+            calls_itself = re.search(rf"(?:\b(?:Self|{kind})::|\.){it.name}\b" if kind else rf"(?<![.:\w]){it.name}\b", body)
+            if is_plain and not calls_itself and not re.search(r"#\[cycle|\bconst\s+fn\b|\btrait\b", head):
+                found["/".join(["proofs", *way, *([kind] if kind else []), it.name])] = it
+    return found
+
+
+def copy_of(function, before, after, number):
+    """Returns a copy of a function under another name, and its text for the end of the file, as an edit makes it; None where the edit changes more.
+
+    `before` and `after` are the file's text without and with the edit.
+    """
+    rows, whole = after.split("\n"), before.split("\n")
+    found = [it for it in functions_of(function.file, after)[0] if it.key == function.key]
+    if len(found) != 1 or len(rows) != len(whole):
+        return None
+    first = found[0].first - 1
+    # (as rt fmt lays it out, the body ends at the indent of its head)
+    indent = rows[first][: len(rows[first]) - len(rows[first].lstrip())]
+    last = next((at + 1 for at in range(first, found[0].last) if rows[at] in (indent + "}", indent + "{}")), None)
+    if last is None or rows[:first] != whole[:first] or rows[last:] != whole[last:]:
+        return None
+    top = first
+    while top and rows[top - 1].strip() and not rows[top - 1].rstrip().endswith(("{", "}", ";")):
+        top -= 1
+    name = f"{function.name}_tried_{number}"
+    text = re.sub(rf"\bfn\s+{function.name}\b", f"fn {name}", "\n".join(rows[top:last]), count=1)
+    if function.owner:
+        head = next((at for at in range(top - 1, -1, -1) if re.match(r"impl\b", rows[at])), None)
+        end = next((at for at in range(head, top) if rows[at].rstrip().endswith("{")), None) if head is not None else None
+        if end is None or head and rows[head - 1].rstrip().endswith("]"):
+            return None
+        text = "\n".join([*rows[head : end + 1], text, "}"])
+    copy = Function(function.file, function.modules, function.owner, name, function.outer)
+    return copy, f"\n{text}\n"
+
+
 def functions_at(file, text, line):
     """Returns the function that holds a line, or those that call the macro that does; none where neither does."""
     functions, macros = functions_of(file, text)

@@ -1,4 +1,4 @@
-//! The program `mqtt5`: it shows MQTT packets as text.
+//! The program `mqtt5`: an MQTT 5.0 broker, and a viewer of its packets.
 #![tactic(auto)]
 
 use mqtt_cli::{ending, run};

@@ -9,16 +9,16 @@ use Rattle.mqtt_message.specs.declared.message.MessageCopy.{MessageCopy}
 use Rattle.mqtt_message.specs.Queue.{IsSpelled}
 use Rattle.mqtt_records.specs.declared.session.Session.{Session}
 use Rattle.mqtt_records.specs.declared.records.Records.{Records}
-use Rattle.mqtt_rules.specs.State.{Line, Broker, Env, MemberChoice, session_at, line_of}
-use Rattle.mqtt_rules.specs.Deeds.{whose, offer, of_session, with_session, always}
-use Rattle.mqtt_rules.specs.Laws.{HasEntered, client_at, is_entering}
-use Rattle.mqtt_rules.specs.Outbound.{room, room_at, enter_deeds}
-use Rattle.mqtt_rules.specs.Routing.{CopyTo, is_queued, deliver, deliver_by}
-use Rattle.mqtt_rules.specs.Packets.{size_of, publish_of}
-use Rattle.mqtt_tables.specs.declared.fault.StepFault.{StepFault}
-use Rattle.mqtt_tables.specs.Stepping.{Stepping, did, Did, Does, IsLeft, Leaves, env_in}
-use Rattle.mqtt_tables.proofs.Doing.{found_birth}
-use Rattle.mqtt_tables.proofs.Then.{same_act, same_left}
+use Rattle.mqtt_turns.specs.TheRules.State.{Line, Broker, Env, MemberChoice, session_at, line_of}
+use Rattle.mqtt_turns.specs.TheRules.Deeds.{whose, offer, of_session, with_session, always}
+use Rattle.mqtt_turns.specs.TheRules.Laws.{HasEntered, client_at, is_entering}
+use Rattle.mqtt_turns.specs.TheRules.Outbound.{room, room_at, enter_deeds}
+use Rattle.mqtt_turns.specs.TheRules.Routing.{CopyTo, is_queued, deliver, deliver_by}
+use Rattle.mqtt_turns.specs.TheRules.Packets.{size_of, publish_of}
+use Rattle.mqtt_turns.specs.TheTables.declared.fault.StepFault.{StepFault}
+use Rattle.mqtt_turns.specs.TheTables.Stepping.{Stepping, did, Did, Does, IsLeft, Leaves, env_in}
+use Rattle.mqtt_turns.proofs.TheTables.Doing.{found_birth}
+use Rattle.mqtt_turns.proofs.TheTables.Then.{same_act, same_left}
 use Rattle.mqtt_turns.specs.Entering.{HasEnteredAt, HasRoomAt}
 use Rattle.mqtt_turns.proofs.Entered.{client_enter}
 use Rattle.mqtt_turns.proofs.Taking.{same_whose}

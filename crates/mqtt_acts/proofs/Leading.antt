@@ -1,11 +1,11 @@
 -- In the middle of an act of many parts: what is left to do leads to the same end.
 use Rattle.std.proofs.Common.{◌≡◌, ap, sym, subst, refl, ◌∙◌, List, [], ◌∷◌}
-use Rattle.mqtt_rules.specs.State.{Broker, Env, MemberChoice}
-use Rattle.mqtt_rules.specs.Deeds.{Act, series}
-use Rattle.mqtt_tables.specs.declared.fault.StepFault.{StepFault}
-use Rattle.mqtt_tables.specs.Stepping.{Stepping, Did, Does, IsLeft, Leaves, env_in}
-use Rattle.mqtt_tables.proofs.Doing.{did_none}
-use Rattle.mqtt_tables.proofs.Then.{did_then, left_first, left_then}
+use Rattle.mqtt_turns.specs.TheRules.State.{Broker, Env, MemberChoice}
+use Rattle.mqtt_turns.specs.TheRules.Deeds.{Act, series}
+use Rattle.mqtt_turns.specs.TheTables.declared.fault.StepFault.{StepFault}
+use Rattle.mqtt_turns.specs.TheTables.Stepping.{Stepping, Did, Does, IsLeft, Leaves, env_in}
+use Rattle.mqtt_turns.proofs.TheTables.Doing.{did_none}
+use Rattle.mqtt_turns.proofs.TheTables.Then.{did_then, left_first, left_then}
 
 pub record LeadsOn (rest all : Env → Act) (first s : Stepping) : Type 0 where
   pub start : s.start ≡ first.start

@@ -5,3 +5,6 @@ pub mod Offered
 pub mod Published
 pub mod Taken
 pub mod Some
+pub use Rattle.mqtt_turns.proofs.TheRules
+pub use Rattle.mqtt_turns.proofs.TheTables
+pub use Rattle.mqtt_turns.proofs.TheVerdicts

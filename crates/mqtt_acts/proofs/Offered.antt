@@ -3,14 +3,14 @@ use Rattle.std.proofs.Common.{◌≡◌, ℕ, ◌≤◌, false, cond, [], ◌∷
 use Rattle.std.specs.Prelude.{Some}
 use Rattle.std.proofs.lemmas.Bool.{le-leb}
 use Rattle.mqtt_message.specs.declared.message.MessageCopy.{MessageCopy}
-use Rattle.mqtt_rules.specs.State.{Line, line_of}
-use Rattle.mqtt_rules.specs.Deeds.{Send, always, offer}
-use Rattle.mqtt_rules.specs.Packets.{publish_of, size_of}
-use Rattle.mqtt_tables.specs.declared.fault.StepFault.{StepFault}
-use Rattle.mqtt_tables.specs.Stepping.{Stepping, Did, IsLeft}
-use Rattle.mqtt_tables.specs.Undoing.{moment_of}
+use Rattle.mqtt_turns.specs.TheRules.State.{Line, line_of}
+use Rattle.mqtt_turns.specs.TheRules.Deeds.{Send, always, offer}
+use Rattle.mqtt_turns.specs.TheRules.Packets.{publish_of, size_of}
+use Rattle.mqtt_turns.specs.TheTables.declared.fault.StepFault.{StepFault}
+use Rattle.mqtt_turns.specs.TheTables.Stepping.{Stepping, Did, IsLeft}
+use Rattle.mqtt_turns.specs.TheTables.Undoing.{moment_of}
 use Rattle.mqtt_acts.specs.Delivering.{offers}
-use Rattle.mqtt_tables.proofs.Then.{same_act, same_left}
+use Rattle.mqtt_turns.proofs.TheTables.Then.{same_act, same_left}
 
 offers_is : (birth line : ℕ) (copy : MessageCopy) (l : Line) (s : Stepping) → line_of birth s.broker ≡ Some l → line ≡ l.number
     → size_of (publish_of (moment_of s.broker) false 0 copy) ≤ l.largest → always (Send line (publish_of (moment_of s.broker) false 0 copy) ∷ []) s.broker ≡ offers birth copy s.broker

@@ -7,16 +7,16 @@ use Rattle.mqtt_records.specs.declared.session.Session.{Session}
 use Rattle.mqtt_rows.specs.Order.{row_at}
 use Rattle.mqtt_records.specs.Session.{birth_of}
 use Rattle.mqtt_records.specs.Records.{kept_place}
-use Rattle.mqtt_rules.specs.State.{Broker, Env, next_of, session_at}
-use Rattle.mqtt_rules.specs.Deeds.{Act, Message, Origin, then, whose}
-use Rattle.mqtt_rules.specs.Laws.{is_entering}
-use Rattle.mqtt_rules.specs.Outbound.{room_at}
-use Rattle.mqtt_rules.specs.Routing.{CopyTo, forgets, next_publication, publish, retain_by, retained_of}
-use Rattle.mqtt_tables.specs.Doing.{accepts}
-use Rattle.mqtt_tables.specs.declared.fault.StepFault.{StepFault}
-use Rattle.mqtt_tables.specs.Stepping.{Stepping, did, Did, Does, IsLeft, Leaves, env_in}
+use Rattle.mqtt_turns.specs.TheRules.State.{Broker, Env, next_of, session_at}
+use Rattle.mqtt_turns.specs.TheRules.Deeds.{Act, Message, Origin, then, whose}
+use Rattle.mqtt_turns.specs.TheRules.Laws.{is_entering}
+use Rattle.mqtt_turns.specs.TheRules.Outbound.{room_at}
+use Rattle.mqtt_turns.specs.TheRules.Routing.{CopyTo, forgets, next_publication, publish, retain_by, retained_of}
+use Rattle.mqtt_turns.specs.TheTables.Doing.{accepts}
+use Rattle.mqtt_turns.specs.TheTables.declared.fault.StepFault.{StepFault}
+use Rattle.mqtt_turns.specs.TheTables.Stepping.{Stepping, did, Did, Does, IsLeft, Leaves, env_in}
 use Rattle.mqtt_acts.specs.Delivering.{delivers_all, HasRoomIn, SameSessions}
-use Rattle.mqtt_tables.proofs.Then.{same_act, same_left, did_then, left_first, left_then}
+use Rattle.mqtt_turns.proofs.TheTables.Then.{same_act, same_left, did_then, left_first, left_then}
 use Rattle.mqtt_acts.proofs.Leading.{same_env}
 
 -- ---- what is left alone

@@ -1,11 +1,11 @@
 -- Acts in which something may be chosen, after others and before others.
 use Rattle.std.proofs.Common.{◌≡◌, [], ◌∷◌, ap, sym, subst, append-nil}
-use Rattle.mqtt_rules.specs.Deeds.{Act, then, series}
-use Rattle.mqtt_rules.specs.State.{Broker, Env, MemberChoice}
-use Rattle.mqtt_tables.specs.declared.fault.StepFault.{StepFault}
-use Rattle.mqtt_tables.specs.Stepping.{Stepping, Did, Does, IsLeft, Leaves, env_in}
+use Rattle.mqtt_turns.specs.TheRules.Deeds.{Act, then, series}
+use Rattle.mqtt_turns.specs.TheRules.State.{Broker, Env, MemberChoice}
+use Rattle.mqtt_turns.specs.TheTables.declared.fault.StepFault.{StepFault}
+use Rattle.mqtt_turns.specs.TheTables.Stepping.{Stepping, Did, Does, IsLeft, Leaves, env_in}
 use Rattle.mqtt_acts.specs.Choosing.{DoesSome, LeavesSome}
-use Rattle.mqtt_tables.proofs.Then.{same_act, same_left, did_then, left_first, left_then}
+use Rattle.mqtt_turns.proofs.TheTables.Then.{same_act, same_left, did_then, left_first, left_then}
 use Rattle.mqtt_acts.proofs.Leading.{same_env}
 
 -- one, then the other

@@ -5,15 +5,15 @@ use Rattle.mqtt_codec.specs.declared.publish.Delivery.{Delivery}
 use Rattle.mqtt_codec.specs.declared.publish.Delivery.TheVariants as delivery
 use Rattle.mqtt_codec.specs.declared.publish.Publish.{Publish}
 use Rattle.mqtt_records.specs.declared.session.Session.{Session}
-use Rattle.mqtt_rules.specs.State.{Line, Broker, MemberChoice, session_at}
-use Rattle.mqtt_rules.specs.Deeds.{Act, At, Open, whose, Message, FromClient, then, always, series, of_session, with_session}
-use Rattle.mqtt_rules.specs.Inbound.{publish_new, answer, opens, code_accepted}
-use Rattle.mqtt_rules.specs.Routing.{CopyTo, publish, is_wanted}
-use Rattle.mqtt_tables.specs.declared.fault.StepFault.{StepFault}
-use Rattle.mqtt_tables.specs.Stepping.{Stepping, Did, Does, IsLeft, Leaves, env_in}
-use Rattle.mqtt_tables.proofs.Doing.{did_none}
+use Rattle.mqtt_turns.specs.TheRules.State.{Line, Broker, MemberChoice, session_at}
+use Rattle.mqtt_turns.specs.TheRules.Deeds.{Act, At, Open, whose, Message, FromClient, then, always, series, of_session, with_session}
+use Rattle.mqtt_turns.specs.TheRules.Inbound.{publish_new, answer, opens, code_accepted}
+use Rattle.mqtt_turns.specs.TheRules.Routing.{CopyTo, publish, is_wanted}
+use Rattle.mqtt_turns.specs.TheTables.declared.fault.StepFault.{StepFault}
+use Rattle.mqtt_turns.specs.TheTables.Stepping.{Stepping, Did, Does, IsLeft, Leaves, env_in}
+use Rattle.mqtt_turns.proofs.TheTables.Doing.{did_none}
 use Rattle.mqtt_acts.specs.Delivering.{SameSessions}
-use Rattle.mqtt_tables.proofs.Then.{same_act, same_left, did_then, left_first, left_then}
+use Rattle.mqtt_turns.proofs.TheTables.Then.{same_act, same_left, did_then, left_first, left_then}
 
 some_is : {X : Type 0} (x y : X) → Some x ≡ Some y → x ≡ y
 some_is x y e = cc

@@ -4,12 +4,12 @@ use Rattle.std.specs.List.{AllByRecursion}
 use Rattle.mqtt_message.specs.Queue.{IsSpelled}
 use Rattle.mqtt_message.specs.declared.message.MessageCopy.{MessageCopy}
 use Rattle.mqtt_props.specs.declared.place.Place.TheVariants as places
-use Rattle.mqtt_rules.specs.Contents.{IsContent}
-use Rattle.mqtt_rules.specs.Deeds.{Act, Message}
-use Rattle.mqtt_rules.specs.Routing.{accepted_copies, is_wanted, next_publication}
-use Rattle.mqtt_rules.specs.State.{Env, MemberChoice}
-use Rattle.mqtt_tables.specs.declared.fault.StepFault.{StepFault}
-use Rattle.mqtt_tables.specs.Stepping.{Stepping, Did, IsLeft, env_in}
+use Rattle.mqtt_turns.specs.TheRules.Contents.{IsContent}
+use Rattle.mqtt_turns.specs.TheRules.Deeds.{Act, Message}
+use Rattle.mqtt_turns.specs.TheRules.Routing.{accepted_copies, is_wanted, next_publication}
+use Rattle.mqtt_turns.specs.TheRules.State.{Env, MemberChoice}
+use Rattle.mqtt_turns.specs.TheTables.declared.fault.StepFault.{StepFault}
+use Rattle.mqtt_turns.specs.TheTables.Stepping.{Stepping, Did, IsLeft, env_in}
 use Rattle.mqtt_acts.specs.declared.router.Routing.{Routing}
 use Rattle.mqtt_acts.specs.declared.router.Routing.TheVariants.{Refused, Accepted}
 use Rattle.mqtt_acts.specs.Delivering.{addressed_all, HasRoomIn}

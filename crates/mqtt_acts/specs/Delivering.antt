@@ -3,13 +3,13 @@ use Rattle.std.specs.Prelude.{◌≡◌, ℕ, ◌≤◌, false, List, length, fi
 use Rattle.mqtt_message.specs.declared.message.MessageCopy.{MessageCopy}
 use Rattle.mqtt_records.specs.declared.session.Session.{Session}
 use Rattle.mqtt_records.specs.declared.records.Records.{Records}
-use Rattle.mqtt_rules.specs.Packets.{publish_of}
-use Rattle.mqtt_rules.specs.State.{Env, MemberChoice, session_at, line_of}
-use Rattle.mqtt_rules.specs.Deeds.{Act, Whose, whose, offer, series}
-use Rattle.mqtt_rules.specs.Laws.{is_entering}
-use Rattle.mqtt_rules.specs.Outbound.{room_at}
-use Rattle.mqtt_rules.specs.Routing.{CopyTo, deliver}
-use Rattle.mqtt_tables.specs.Stepping.{Stepping, env_in}
+use Rattle.mqtt_turns.specs.TheRules.Packets.{publish_of}
+use Rattle.mqtt_turns.specs.TheRules.State.{Env, MemberChoice, session_at, line_of}
+use Rattle.mqtt_turns.specs.TheRules.Deeds.{Act, Whose, whose, offer, series}
+use Rattle.mqtt_turns.specs.TheRules.Laws.{is_entering}
+use Rattle.mqtt_turns.specs.TheRules.Outbound.{room_at}
+use Rattle.mqtt_turns.specs.TheRules.Routing.{CopyTo, deliver}
+use Rattle.mqtt_turns.specs.TheTables.Stepping.{Stepping, env_in}
 
 -- a copy goes to the session that its own name has
 abbrev pub addressed : MessageCopy → CopyTo

@@ -1,7 +1,7 @@
 -- Deeds of retained messages, by their places (MQTT 5.0, 3.3.1.3).
 use Rattle.std.specs.Prelude.{ℕ, List, [], ◌∷◌, Option, Some, None}
-use Rattle.mqtt_rules.specs.Deeds.{Act, Deed, Message, Keep, Forget}
-use Rattle.mqtt_rules.specs.Routing.{kept_message}
+use Rattle.mqtt_turns.specs.TheRules.Deeds.{Act, Deed, Message, Keep, Forget}
+use Rattle.mqtt_turns.specs.TheRules.Routing.{kept_message}
 
 -- a message is retained at a place
 abbrev pub keeps : ℕ → Message → ℕ → Act

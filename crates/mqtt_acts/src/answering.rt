@@ -3,16 +3,15 @@ ghost use Rattle.std.specs.Prelude.{◌≡◌, OnOk, IfErr};
 ghost use Rattle.mqtt_codec.specs.declared.publish.Publish.{Publish};
 ghost use Rattle.mqtt_inbound.specs.declared.inflow.Published.TheVariants.{Again};
 ghost use Rattle.mqtt_records.specs.declared.session.Session.{Session};
-ghost use Rattle.mqtt_rules.specs.State.{Line};
-ghost use Rattle.mqtt_rules.specs.Deeds.{Message, always, of_session};
-ghost use Rattle.mqtt_rules.specs.Inbound.{answer, opens, publish_by};
-ghost use Rattle.mqtt_tables.specs.Stepping.{Did, Does, IsLeft, Leaves};
+ghost use Rattle.mqtt_turns.specs.TheRules.State.{Line};
+ghost use Rattle.mqtt_turns.specs.TheRules.Deeds.{Message, always, of_session};
+ghost use Rattle.mqtt_turns.specs.TheRules.Inbound.{answer, opens, publish_by};
+ghost use Rattle.mqtt_turns.specs.TheTables.Stepping.{Did, Does, IsLeft, Leaves};
 
 use mqtt_base::Reason;
 use mqtt_codec::Delivery;
 use mqtt_outputs::{puback, pubrec};
-use mqtt_tables::{Step, StepFault};
-use mqtt_verdicts::again_code;
+use mqtt_turns::{Step, StepFault, again_code};
 use std::alloc::Global;
 
 /// PUBACK answers a PUBLISH of QoS 1, PUBREC one of QoS 2, and nothing one of QoS 0 (4.3).

@@ -2,16 +2,15 @@
 ghost use Rattle.std.specs.Prelude.{◌≡◌, true, OnOk, IfErr};
 ghost use Rattle.std.specs.List.{AllByRecursion};
 ghost use Rattle.mqtt_message.specs.Queue.{IsSpelled};
-ghost use Rattle.mqtt_rules.specs.Routing.{deliver, is_queued, is_queued_at};
-ghost use Rattle.mqtt_tables.specs.Stepping.{Does, Leaves};
+ghost use Rattle.mqtt_turns.specs.TheRules.Routing.{deliver, is_queued, is_queued_at};
+ghost use Rattle.mqtt_turns.specs.TheTables.Stepping.{Does, Leaves};
 ghost use Rattle.mqtt_turns.specs.Entering.{HasEnteredAt, HasRoomAt};
 ghost use Rattle.mqtt_acts.specs.Delivering.{addressed, addressed_all, delivers_all, HasRoomIn, SameSessions};
 
 use crate::offering::offer_copy;
 use mqtt_base::Qos;
 use mqtt_records::MessageCopy;
-use mqtt_tables::{Step, StepFault};
-use mqtt_turns::enter;
+use mqtt_turns::{Step, StepFault, enter};
 use std::alloc::Global;
 
 /// Whether a copy of this quality of service is queued.

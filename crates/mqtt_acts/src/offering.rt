@@ -1,13 +1,13 @@
 //! A copy of QoS 0 goes out at once (MQTT 5.0, 3.1.2.11.4, 4.3.1).
 ghost use Rattle.std.specs.Prelude.{◌≡◌, option_copied, OnOk, IfErr};
 ghost use Rattle.mqtt_message.specs.Queue.{IsSpelled};
-ghost use Rattle.mqtt_rules.specs.State.{is_of, line_of};
-ghost use Rattle.mqtt_tables.specs.Stepping.{Did, IsLeft};
+ghost use Rattle.mqtt_turns.specs.TheRules.State.{is_of, line_of};
+ghost use Rattle.mqtt_turns.specs.TheTables.Stepping.{Did, IsLeft};
 ghost use Rattle.mqtt_acts.specs.Delivering.{offers};
 
 use mqtt_outputs::{publish, publish_len};
 use mqtt_records::MessageCopy;
-use mqtt_tables::{LineState, Step, StepFault};
+use mqtt_turns::{LineState, Step, StepFault};
 use std::alloc::Global;
 
 /// Whether the session with a birth is connected on a line.

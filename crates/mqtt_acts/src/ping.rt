@@ -1,13 +1,13 @@
 //! PINGREQ (MQTT 5.0, 3.12).
 ghost use Rattle.std.specs.Prelude.{◌≡◌, ◌∷◌, [], OnOk, IfErr};
 ghost use Rattle.mqtt_codec.specs.declared.packet.Packet.TheVariants.{Pingreq};
-ghost use Rattle.mqtt_rules.specs.State.{Line};
+ghost use Rattle.mqtt_turns.specs.TheRules.State.{Line};
 ghost use Rattle.mqtt_records.specs.declared.session.Session.{Session};
-ghost use Rattle.mqtt_rules.specs.Step.{next_packet};
-ghost use Rattle.mqtt_tables.specs.Stepping.{Does, Leaves};
+ghost use Rattle.mqtt_turns.specs.TheRules.Step.{next_packet};
+ghost use Rattle.mqtt_turns.specs.TheTables.Stepping.{Does, Leaves};
 
 use mqtt_codec::Packet;
-use mqtt_tables::{Step, StepFault};
+use mqtt_turns::{Step, StepFault};
 
 /// A PINGREQ is answered with PINGRESP (3.12.4).
 pub fn pingreq(step: &mut Step, line: u64) -> Result<(), StepFault>

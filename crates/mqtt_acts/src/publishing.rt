@@ -3,16 +3,15 @@
 ghost use Rattle.std.specs.Prelude.{◌≡◌, OnOk, IfErr};
 ghost use Rattle.std.specs.List.{AllByRecursion};
 ghost use Rattle.mqtt_message.specs.Queue.{IsSpelled};
-ghost use Rattle.mqtt_rules.specs.Deeds.{Origin};
-ghost use Rattle.mqtt_rules.specs.Routing.{publish};
-ghost use Rattle.mqtt_tables.specs.Stepping.{Does, Leaves};
+ghost use Rattle.mqtt_turns.specs.TheRules.Deeds.{Origin};
+ghost use Rattle.mqtt_turns.specs.TheRules.Routing.{publish};
+ghost use Rattle.mqtt_turns.specs.TheTables.Stepping.{Does, Leaves};
 ghost use Rattle.mqtt_acts.specs.Delivering.{addressed_all, HasRoomIn, SameSessions};
 
 use crate::delivering::deliver_all;
 use crate::retaining::retain;
 use mqtt_records::MessageCopy;
-use mqtt_tables::{Step, StepFault};
-use mqtt_verdicts::Message;
+use mqtt_turns::{Message, Step, StepFault};
 use std::alloc::Global;
 
 /// A publication is accepted, retained where it is to be, and handed over in these copies, whose PUBLISH

@@ -1,20 +1,20 @@
 //! PUBREL (MQTT 5.0, 3.6, 4.3.3).
-ghost use Rattle.std.specs.Prelude.{◌≡◌, ◌<◌, true, OnOk, IfErr};
+ghost use Rattle.std.specs.Prelude.{◌≡◌, ◌<◌, true, OnOk, IfErr, [], ◌∷◌};
 ghost use Rattle.mqtt_base.specs.declared.kind.Kind.TheVariants as kinds;
 ghost use Rattle.mqtt_base.specs.Reasons.{is_code};
 ghost use Rattle.mqtt_codec.specs.Packets.{HasSpelling};
 ghost use Rattle.mqtt_inbound.specs.Identifiers.{is_among};
-ghost use Rattle.mqtt_rules.specs.State.{Line};
-ghost use Rattle.mqtt_rules.specs.Packets.{pubcomp};
-ghost use Rattle.mqtt_rules.specs.Deeds.{always, of_session};
-ghost use Rattle.mqtt_rules.specs.Inbound.{on_pubrel};
-ghost use Rattle.mqtt_tables.specs.Stepping.{Did, IsLeft};
+ghost use Rattle.mqtt_turns.specs.TheRules.State.{Line};
+ghost use Rattle.mqtt_turns.specs.TheRules.Packets.{pubcomp};
+ghost use Rattle.mqtt_turns.specs.TheRules.Deeds.{Send, always, of_session};
+ghost use Rattle.mqtt_turns.specs.TheRules.Inbound.{on_pubrel};
+ghost use Rattle.mqtt_turns.specs.TheTables.Stepping.{Did, IsLeft};
 
 use mqtt_base::Reason;
 use mqtt_codec::{Ack, Packet};
 use mqtt_props::PropList;
 use mqtt_records::Session;
-use mqtt_tables::{Step, StepFault};
+use mqtt_turns::{Step, StepFault};
 
 /// Whether an identifier of a QoS 2 publication from the client is open.
 fn is_open(session: &Session, identifier: u16) -> bool
@@ -37,6 +37,21 @@ fn completed(identifier: u16, reason: Reason) -> Packet
     })
 }
 
+/// PUBCOMP answers a PUBREL.
+fn complete(step: &mut Step, line: u64, identifier: u16, reason: Reason) -> Result<(), StepFault>
+    requires identifier { 0 < identifier }
+    requires reason { is_code kinds.Pubcomp reason.0 ≡ true }
+    ensures ok { OnOk result (Did (always (Send line (pubcomp identifier reason.0) ∷ []))
+        step.old step.new) }
+    ensures left { IfErr result (λ fault. IsLeft
+        (always (Send line (pubcomp identifier reason.0) ∷ [])) fault step.old step.new) }
+{
+    let packet = completed(identifier, reason);
+    let sent = step.send(line, &packet);
+    drop(packet);
+    sent
+}
+
 /// The identifier of a PUBREL is closed, and PUBCOMP answers it, with Packet Identifier not found where it
 /// wasn't open (4.3.3).
 pub fn pubrel(step: &mut Step, line: u64, birth: u64, identifier: u16) -> Result<(), StepFault>
@@ -51,9 +66,8 @@ pub fn pubrel(step: &mut Step, line: u64, birth: u64, identifier: u16) -> Result
     };
     if is_open(session, identifier) {
         step.release(birth, identifier)?;
-        step.send(line, &completed(identifier, Reason::SUCCESS))
+        complete(step, line, identifier, Reason::SUCCESS)
     } else {
-        let code = Reason::PACKET_IDENTIFIER_NOT_FOUND;
-        step.send(line, &completed(identifier, code))
+        complete(step, line, identifier, Reason::PACKET_IDENTIFIER_NOT_FOUND)
     }
 }

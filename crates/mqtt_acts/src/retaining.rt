@@ -1,14 +1,13 @@
 //! What RETAIN of an accepted publication does (MQTT 5.0, 3.3.1.3).
 ghost use Rattle.std.specs.Prelude.{◌≡◌, ◌∷◌, [], ℕ, true, false, OnOk, IfErr};
 ghost use Rattle.mqtt_topic.specs.Names.{is_empty};
-ghost use Rattle.mqtt_rules.specs.Deeds.{always};
-ghost use Rattle.mqtt_rules.specs.Routing.{retain_by};
-ghost use Rattle.mqtt_tables.specs.Stepping.{Did, IsLeft};
+ghost use Rattle.mqtt_turns.specs.TheRules.Deeds.{always};
+ghost use Rattle.mqtt_turns.specs.TheRules.Routing.{retain_by};
+ghost use Rattle.mqtt_turns.specs.TheTables.Stepping.{Did, IsLeft};
 ghost use Rattle.mqtt_acts.specs.Retaining.{keeps, forgets_place};
 
 use mqtt_records::Boxed;
-use mqtt_tables::{Step, StepFault};
-use mqtt_verdicts::Message;
+use mqtt_turns::{Message, Step, StepFault};
 use std::alloc::Global;
 
 /// A message is retained at a place (3.3.1.3).

@@ -1,12 +1,11 @@
 //! Who gets a copy of a publication (MQTT 5.0, 3.3.4, 4.8).
 ghost use Rattle.std.specs.Prelude.{◌≡◌, List, IfOk, IfErr};
 ghost use Rattle.mqtt_routes.specs.Subscriptions.{Subscriber};
-ghost use Rattle.mqtt_rules.specs.Routing.{subscribers};
+ghost use Rattle.mqtt_turns.specs.TheRules.Routing.{subscribers};
 ghost use Rattle.mqtt_acts.specs.Choosing.{IsLawfulMessage, IsRouted};
 
 use mqtt_records::MessageCopy;
-use mqtt_tables::{Step, StepFault};
-use mqtt_verdicts::Message;
+use mqtt_turns::{Message, Step, StepFault};
 use std::alloc::Global;
 
 /// Where a publication goes.

@@ -4,11 +4,11 @@ ghost use Rattle.std.specs.List.{AllByRecursion};
 ghost use Rattle.mqtt_codec.specs.declared.publish.Publish.{Publish};
 ghost use Rattle.mqtt_message.specs.Queue.{IsSpelled};
 ghost use Rattle.mqtt_records.specs.declared.session.Session.{Session};
-ghost use Rattle.mqtt_rules.specs.State.{Line, MemberChoice, session_at};
-ghost use Rattle.mqtt_rules.specs.Deeds.{Message};
-ghost use Rattle.mqtt_rules.specs.Inbound.{publish_new};
-ghost use Rattle.mqtt_rules.specs.Routing.{is_wanted};
-ghost use Rattle.mqtt_tables.specs.Stepping.{Did, Does, env_in, IsLeft, Leaves};
+ghost use Rattle.mqtt_turns.specs.TheRules.State.{Line, MemberChoice, session_at};
+ghost use Rattle.mqtt_turns.specs.TheRules.Deeds.{Message};
+ghost use Rattle.mqtt_turns.specs.TheRules.Inbound.{publish_new};
+ghost use Rattle.mqtt_turns.specs.TheRules.Routing.{is_wanted};
+ghost use Rattle.mqtt_turns.specs.TheTables.Stepping.{Did, Does, env_in, IsLeft, Leaves};
 ghost use Rattle.mqtt_acts.specs.Delivering.{addressed_all, HasRoomIn};
 
 use crate::answering::{answer, open_by};
@@ -16,8 +16,7 @@ use crate::publishing::publish;
 use mqtt_base::Reason;
 use mqtt_codec::Delivery;
 use mqtt_records::MessageCopy;
-use mqtt_tables::{Step, StepFault};
-use mqtt_verdicts::{Message, accepted_code};
+use mqtt_turns::{Message, Step, StepFault, accepted_code};
 use std::alloc::Global;
 
 /// A PUBLISH that isn't accepted is answered with Quota exceeded (3.4.2.1, 3.5.2.1).

@@ -4,10 +4,10 @@ use Rattle.std.specs.Prelude.{Result, Ok, Err, IfOk, OnErr, IsErrOf, is_some}
 use Rattle.mqtt_records.specs.declared.keep.Keep.{Ghosts}
 use Rattle.mqtt_records.specs.declared.records.Records.{Records}
 use Rattle.mqtt_rows.specs.Order.{has_row}
-use Rattle.mqtt_rules.specs.State.{Broker, Line, line_at}
-use Rattle.mqtt_rules.specs.Step.{Call, at_moment, nothing_told}
-use Rattle.mqtt_tables.specs.declared.call.EngineError.{EngineError}
-use Rattle.mqtt_tables.specs.declared.call.EngineError.TheVariants.{Memory, Stopped, Spent}
+use Rattle.mqtt_opening.specs.TheRules.State.{Broker, Line, line_at}
+use Rattle.mqtt_opening.specs.TheRules.Step.{Call, at_moment, nothing_told}
+use Rattle.mqtt_opening.specs.TheTables.declared.call.EngineError.{EngineError}
+use Rattle.mqtt_opening.specs.TheTables.declared.call.EngineError.TheVariants.{Memory, Stopped, Spent}
 use Rattle.mqtt_framing.specs.Framers.{HeldLine, line_of}
 use Rattle.mqtt_opening.specs.Outcome.{Outcome}
 use Rattle.mqtt_opening.specs.Calling.{Called, IsOn, Tells}

@@ -32,19 +32,19 @@ use Rattle.mqtt_records.specs.declared.records.Records.{Records}
 use Rattle.mqtt_records.specs.Session.{copy_place}
 use Rattle.mqtt_rows.specs.Order.{row_at}
 use Rattle.mqtt_topic.specs.Names.{is_empty}
-use Rattle.mqtt_rules.specs.Packets.{number_at, publish_of, suback, unsuback, connack, disconnect}
-use Rattle.mqtt_rules.specs.State.{Line, Broker, Env, session_at, session_named, line_at, line_of, is_connected, queue_on}
-use Rattle.mqtt_rules.specs.Deeds.{Whose, whose, Message, Origin, FromClient, FromWill, Resume, Close, DropWill, Enter, Leave, Hear, Deed, Accept, Begin, Name, Count, At, Finish, Forget, RefuseWill, Link, On, Send, Gone, Act, after_all, always, series, only_if, of_session, with_line, offer}
-use Rattle.mqtt_rules.specs.Deeds as deeds
-use Rattle.mqtt_rules.specs.Outbound.{leave_deeds, turn_deeds, all_turn_deeds, enter_deeds, queue_limits, since}
-use Rattle.mqtt_rules.specs.Routing.{CopyTo, accepted_copies, is_queued, deliver_by, deliver, retained_of, forgets, retain_by, next_publication, publish, is_wanted}
-use Rattle.mqtt_rules.specs.Closing.{has_due_will, has_due_end, will_message, publish_or_refuse, will_deeds, publish_will, end_session, settle, close_session, close_connected, close, drop_line}
-use Rattle.mqtt_rules.specs.Connect.{largest_of, refusal, refusal_size, refused, of_client, take_over, clear, prepare, resume, begin_named, joins, joins_after, connect_by, on_connect, expiry_of, will_of, greet, connack_properties}
-use Rattle.mqtt_rules.specs.Inbound.{Meaning, Means, Wrong, meaning, sets_alias, standing, answer, opens, code_again, code_accepted, publish_new, publish_by, message_of, publish_meant, release_by, on_answer, pump_turns, new_expiry, is_late_expiry, leave_by}
-use Rattle.mqtt_rules.specs.Subscribe as sub
-use Rattle.mqtt_rules.specs.Tick.{is_silent, silence, lapses, has_lapsed, lapse_deeds, is_stale, first_due, due, on_tick}
-use Rattle.mqtt_rules.specs.Step.{Call, NewLine, Input, BadInput, Lost, Pump, Tick, first_packet, next_packet, on_packet, on_fault, late_code, on_pump, deeds_of, close_if, opening}
-use Rattle.mqtt_rules.proofs.Goods.{AreGood, GoodAct, GoodActs, good_append, good_series, good_two, good_map, good_flat, good_acts, good_cond, good_if, good_with_session, good_of_session, good_of_client, good_with_line, good_of_entry}
+use Rattle.mqtt_opening.specs.TheRules.Packets.{number_at, publish_of, suback, unsuback, connack, disconnect}
+use Rattle.mqtt_opening.specs.TheRules.State.{Line, Broker, Env, session_at, session_named, line_at, line_of, is_connected, queue_on}
+use Rattle.mqtt_opening.specs.TheRules.Deeds.{Whose, whose, Message, Origin, FromClient, FromWill, Resume, Close, DropWill, Enter, Leave, Hear, Deed, Accept, Begin, Name, Count, At, Finish, Forget, RefuseWill, Link, On, Send, Gone, Act, after_all, always, series, only_if, of_session, with_line, offer}
+use Rattle.mqtt_opening.specs.TheRules.Deeds as deeds
+use Rattle.mqtt_opening.specs.TheRules.Outbound.{leave_deeds, turn_deeds, all_turn_deeds, enter_deeds, queue_limits, since}
+use Rattle.mqtt_opening.specs.TheRules.Routing.{CopyTo, accepted_copies, is_queued, deliver_by, deliver, retained_of, forgets, retain_by, next_publication, publish, is_wanted}
+use Rattle.mqtt_opening.specs.TheRules.Closing.{has_due_will, has_due_end, will_message, publish_or_refuse, will_deeds, publish_will, end_session, settle, close_session, close_connected, close, drop_line}
+use Rattle.mqtt_opening.specs.TheRules.Connect.{largest_of, refusal, refusal_size, refused, of_client, take_over, clear, prepare, resume, begin_named, joins, joins_after, connect_by, on_connect, expiry_of, will_of, greet, connack_properties}
+use Rattle.mqtt_opening.specs.TheRules.Inbound.{Meaning, Means, Wrong, meaning, sets_alias, standing, answer, opens, code_again, code_accepted, publish_new, publish_by, message_of, publish_meant, release_by, on_answer, pump_turns, new_expiry, is_late_expiry, leave_by}
+use Rattle.mqtt_opening.specs.TheRules.Subscribe as sub
+use Rattle.mqtt_opening.specs.TheRules.Tick.{is_silent, silence, lapses, has_lapsed, lapse_deeds, is_stale, first_due, due, on_tick}
+use Rattle.mqtt_opening.specs.TheRules.Step.{Call, NewLine, Input, BadInput, Lost, Pump, Tick, first_packet, next_packet, on_packet, on_fault, late_code, on_pump, deeds_of, close_if, opening}
+use Rattle.mqtt_opening.proofs.TheRules.Goods.{AreGood, GoodAct, GoodActs, good_append, good_series, good_two, good_map, good_flat, good_acts, good_cond, good_if, good_with_session, good_of_session, good_of_client, good_with_line, good_of_entry}
 
 abbrev pub IsUnlinked : Deed → Broker → Type 0
 IsUnlinked (Link n) b = ⊥

@@ -4,10 +4,10 @@ use Rattle.mqtt_fields.specs.declared.fault.Fault.{Fault}
 use Rattle.mqtt_codec.specs.declared.packet.Packet.{Packet}
 use Rattle.mqtt_packet.specs.Front.{first_of}
 use Rattle.mqtt_packet.specs.Stream.{Ending, Framing, Item, empty, fault_at, short_at}
-use Rattle.mqtt_rules.specs.declared.Limits.{Limits}
-use Rattle.mqtt_rules.specs.Piece.{Front, Pieced, fed, pieced}
-use Rattle.mqtt_rules.specs.State.{Broker, MemberChoice, line_at}
-use Rattle.mqtt_rules.specs.Step.{Call, stepped}
+use Rattle.mqtt_opening.specs.TheRules.declared.Limits.{Limits}
+use Rattle.mqtt_opening.specs.TheRules.Piece.{Front, Pieced, fed, pieced}
+use Rattle.mqtt_opening.specs.TheRules.State.{Broker, MemberChoice, line_at}
+use Rattle.mqtt_opening.specs.TheRules.Step.{Call, stepped}
 
 -- ---- what comes
 

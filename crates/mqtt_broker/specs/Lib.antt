@@ -4,3 +4,5 @@ pub mod Asking
 pub mod Cut
 pub mod Opening
 pub use Rattle.mqtt_opening.specs.Outcome
+pub use Rattle.mqtt_opening.specs.TheRules
+pub use Rattle.mqtt_opening.specs.TheTables

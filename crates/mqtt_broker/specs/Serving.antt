@@ -3,11 +3,11 @@ use Rattle.std.specs.Prelude.{◌≡◌, ℕ, suc, Bool, false, not, nat_eq, Lis
 use Rattle.std.specs.List.{list_any}
 use Rattle.mqtt_records.specs.declared.keep.Keep.{Ghosts}
 use Rattle.mqtt_rows.specs.Order.{IsBelow, remove_row}
-use Rattle.mqtt_rules.specs.Lines.{line_number}
-use Rattle.mqtt_rules.specs.State.{Broker, line_at}
-use Rattle.mqtt_rules.specs.Step.{Call, nothing_told}
+use Rattle.mqtt_opening.specs.TheRules.Lines.{line_number}
+use Rattle.mqtt_opening.specs.TheRules.State.{Broker, line_at}
+use Rattle.mqtt_opening.specs.TheRules.Step.{Call, nothing_told}
 use Rattle.mqtt_framing.specs.Framers.{HeldLine, begun, line_of}
-use Rattle.mqtt_tables.specs.declared.call.EngineError.{EngineError}
+use Rattle.mqtt_opening.specs.TheTables.declared.call.EngineError.{EngineError}
 use Rattle.mqtt_opening.specs.Outcome.{Outcome}
 use Rattle.mqtt_opening.specs.Calling.{Called, IsOn, Tells}
 use Rattle.mqtt_opening.specs.Running.{Running}

@@ -2,9 +2,9 @@
 //! 5.0, 2.1, 4.13).
 ghost use Rattle.std.specs.Prelude.{◌≡◌, ◌≤◌, ℕ, List, None, false, true, length, IfOk, IsOkAnd};
 ghost use Rattle.mqtt_rows.specs.Order.{has_row};
-ghost use Rattle.mqtt_rules.specs.Piece.{first_call};
-ghost use Rattle.mqtt_rules.specs.State.{line_at};
-ghost use Rattle.mqtt_rules.specs.Step.{Call, nothing_told};
+ghost use Rattle.mqtt_opening.specs.TheRules.Piece.{first_call};
+ghost use Rattle.mqtt_opening.specs.TheRules.State.{line_at};
+ghost use Rattle.mqtt_opening.specs.TheRules.Step.{Call, nothing_told};
 ghost use Rattle.mqtt_framing.specs.Framers.{HeldLine, framing_at, line_of};
 ghost use Rattle.mqtt_opening.specs.Calling.{IsOn, Tells};
 ghost use Rattle.mqtt_broker.specs.Asking.{CalledIf};
@@ -13,9 +13,8 @@ ghost use Rattle.mqtt_broker.specs.Serving.{IsOfLines, Served, serving};
 
 use crate::held::end_all;
 use mqtt_framing::{Asked, Framers};
-use mqtt_opening::{Engine, Outcome};
+use mqtt_opening::{Engine, EngineError, Outcome};
 use mqtt_records::Keep;
-use mqtt_tables::EngineError;
 
 /// What comes, or is asked, on a line that isn't linked does nothing but that the moment is the greatest handed in.
 /// Takes no memory.

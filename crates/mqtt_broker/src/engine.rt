@@ -1,8 +1,8 @@
 //! The engine of the broker over a store, with the bytes of its lines (MQTT 5.0, 2.1, 4.1).
 ghost use Rattle.std.specs.Prelude.{◌≡◌, ◌≤◌, length, IfOk, option_copied};
-ghost use Rattle.mqtt_rules.specs.Contents.{IsTaken};
-ghost use Rattle.mqtt_rules.specs.Step.{BrokerStep, Input, Lost, NewLine, Pump, Tick, copy_of, nothing_told};
-ghost use Rattle.mqtt_tables.specs.Doing.{next_line};
+ghost use Rattle.mqtt_opening.specs.TheRules.Contents.{IsTaken};
+ghost use Rattle.mqtt_opening.specs.TheRules.Step.{BrokerStep, Input, Lost, NewLine, Pump, Tick, copy_of, nothing_told};
+ghost use Rattle.mqtt_opening.specs.TheTables.Doing.{next_line};
 ghost use Rattle.mqtt_broker.specs.Piece.{PieceCalled};
 ghost use Rattle.mqtt_broker.specs.Serving.{IsPassedOver, Served, with_linked};
 
@@ -11,9 +11,8 @@ use crate::held::end_closed;
 use mqtt_base::CopyId;
 use mqtt_codec::Packet;
 use mqtt_framing::Framers;
-use mqtt_opening::{Engine as Inner, Outcome};
+use mqtt_opening::{Engine as Inner, EngineError, Outcome};
 use mqtt_records::Keep;
-use mqtt_tables::EngineError;
 use std::marker::Model;
 
 /// A broker over a store. A line, one connection, is named by its number.

@@ -3,8 +3,7 @@ ghost use Rattle.std.specs.Prelude.{◌≡◌, IfOk, OnErr};
 ghost use Rattle.mqtt_broker.specs.Serving.{ended, without_closed};
 
 use mqtt_framing::Framers;
-use mqtt_opening::Outcome;
-use mqtt_tables::EngineError;
+use mqtt_opening::{EngineError, Outcome};
 
 /// Lines close, one after the other.
 fn end_each(framers: &mut Framers, closed: &[u64])

@@ -13,7 +13,5 @@ pub use laws::streams_may_come_in_any_pieces;
 pub use mqtt_base::{CopyId, Ending, Qos};
 pub use mqtt_codec::Packet;
 pub use mqtt_flow::Full;
-pub use mqtt_opening::Outcome;
+pub use mqtt_opening::{EngineError, Limits, Outcome, Report};
 pub use mqtt_records::{Keep, KeepError, MemKeep};
-pub use mqtt_rules::{Limits, Report};
-pub use mqtt_tables::EngineError;

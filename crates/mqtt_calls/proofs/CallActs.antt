@@ -10,22 +10,22 @@ use Rattle.mqtt_records.specs.declared.change.Change.{Change}
 use Rattle.mqtt_records.specs.declared.change.Change.TheVariants.{SetCounter}
 use Rattle.mqtt_records.specs.declared.change.Counter.TheVariants.{Moment}
 use Rattle.mqtt_records.specs.declared.session.Session.{Session}
-use Rattle.mqtt_rules.specs.declared.Limits.{Limits}
-use Rattle.mqtt_rules.specs.Contents.{IsTaken}
-use Rattle.mqtt_rules.specs.Deeds.{Act, Hear, On, after_all, always, of_session, rows_of_all, series, then, with_line, with_session}
-use Rattle.mqtt_rules.specs.Lines.{session_on}
-use Rattle.mqtt_rules.specs.Packets.{size_of}
-use Rattle.mqtt_rules.specs.State.{Broker, Env, Line, MemberChoice, line_at, session_at}
-use Rattle.mqtt_rules.specs.Step.{Call, Input, SpentStep, at_moment, deeds, deeds_of, env_of, is_again, is_spent, is_step_spent, on_packet, stamped}
-use Rattle.mqtt_rules.proofs.FitLaw.{mapped_some}
-use Rattle.mqtt_rules.proofs.Leads.{found_passes}
-use Rattle.mqtt_tables.specs.declared.fault.StepFault.{StepFault}
-use Rattle.mqtt_tables.specs.declared.fault.StepFault.TheVariants.{Spent}
-use Rattle.mqtt_tables.specs.Stepping.{Stepping, Did, Does, IsLeft, Leaves, did, env_in}
-use Rattle.mqtt_tables.proofs.Rows.{spent_append}
+use Rattle.mqtt_closing.specs.TheRules.declared.Limits.{Limits}
+use Rattle.mqtt_closing.specs.TheRules.Contents.{IsTaken}
+use Rattle.mqtt_closing.specs.TheRules.Deeds.{Act, Hear, On, after_all, always, of_session, rows_of_all, series, then, with_line, with_session}
+use Rattle.mqtt_closing.specs.TheRules.Lines.{session_on}
+use Rattle.mqtt_closing.specs.TheRules.Packets.{size_of}
+use Rattle.mqtt_closing.specs.TheRules.State.{Broker, Env, Line, MemberChoice, line_at, session_at}
+use Rattle.mqtt_closing.specs.TheRules.Step.{Call, Input, SpentStep, at_moment, deeds, deeds_of, env_of, is_again, is_spent, is_step_spent, on_packet, stamped}
+use Rattle.mqtt_closing.proofs.TheRules.FitLaw.{mapped_some}
+use Rattle.mqtt_closing.proofs.TheRules.Leads.{found_passes}
+use Rattle.mqtt_closing.specs.TheTables.declared.fault.StepFault.{StepFault}
+use Rattle.mqtt_closing.specs.TheTables.declared.fault.StepFault.TheVariants.{Spent}
+use Rattle.mqtt_closing.specs.TheTables.Stepping.{Stepping, Did, Does, IsLeft, Leaves, did, env_in}
+use Rattle.mqtt_closing.proofs.TheTables.Rows.{spent_append}
 use Rattle.mqtt_closing.specs.Choosing.{DoesSome, LeavesSome}
 use Rattle.mqtt_closing.proofs.Leading.{same_env}
-use Rattle.mqtt_tables.proofs.Then.{did_then, left_then, same_act, same_left}
+use Rattle.mqtt_closing.proofs.TheTables.Then.{did_then, left_then, same_act, same_left}
 use Rattle.mqtt_calls.specs.Doing.{DidCall, IsCalled, begun}
 
 -- ---- the acts of a call, from its beginning

@@ -13,8 +13,8 @@ use Rattle.mqtt_records.specs.declared.session.Session.{Session}
 use Rattle.mqtt_records.specs.Session.{copy_place}
 use Rattle.mqtt_rows.specs.Distinct.{AllDiffer}
 use Rattle.mqtt_rows.specs.Order.{row_at}
-use Rattle.mqtt_rules.specs.Flight.{HasDistinctIdentifiers, IsFlight, identifier_at, identifier_in}
-use Rattle.mqtt_rules.proofs.Copies.{each_more}
+use Rattle.mqtt_closing.specs.TheRules.Flight.{HasDistinctIdentifiers, IsFlight, identifier_at, identifier_in}
+use Rattle.mqtt_closing.proofs.TheRules.Copies.{each_more}
 
 same_identifier : (phase : Phase) → in_flight phase ≡ identifier_of phase
 same_identifier Waiting = refl

@@ -22,19 +22,19 @@ use Rattle.mqtt_records.specs.Records.{Fits, FitAll, IsNumber, changed, changed_
 use Rattle.mqtt_records.specs.Session.{birth_of, copy_place, fresh, in_phase, with_columns, with_will, with_subscription, without_subscription, with_open, without_open, with_copy, with_phase, without_copy}
 use Rattle.mqtt_rows.specs.Order.{IsAscending, has_row, put_row, change_row, row_at}
 use Rattle.mqtt_rows.proofs.LookUps.{row_at-here}
-use Rattle.mqtt_rules.specs.declared.Limits.{Limits}
-use Rattle.mqtt_rules.specs.Laws.{AreWithin, IsCoherent}
-use Rattle.mqtt_rules.specs.Numbers.{IsTimed}
-use Rattle.mqtt_rules.specs.State.{Broker, MemberChoice, entry_on}
-use Rattle.mqtt_rules.specs.Step.{Call, at_moment, deeds, is_opening_spent, is_step_spent, opened, opening_deeds, rows_written, stepped, unopened}
-use Rattle.mqtt_rules.proofs.Copies.{each_filter, each_more}
-use Rattle.mqtt_rules.proofs.FlightRows.{all_at, found_behind}
-use Rattle.mqtt_rules.proofs.NumberCopies.{each_put, each_change}
-use Rattle.mqtt_rules.proofs.RowsFit.{step_fits, opening_fits}
-use Rattle.mqtt_rules.proofs.StoredLaw.{rows_store}
-use Rattle.mqtt_tables.specs.Subscribing.{HasEachFilterOnce, HaveFiltersOnce}
-use Rattle.mqtt_tables.proofs.FiltersKept.{once_all}
-use Rattle.mqtt_turns.specs.Queues.{HasKeptOrders}
+use Rattle.mqtt_closing.specs.TheRules.declared.Limits.{Limits}
+use Rattle.mqtt_closing.specs.TheRules.Laws.{AreWithin, IsCoherent}
+use Rattle.mqtt_closing.specs.TheRules.Numbers.{IsTimed}
+use Rattle.mqtt_closing.specs.TheRules.State.{Broker, MemberChoice, entry_on}
+use Rattle.mqtt_closing.specs.TheRules.Step.{Call, at_moment, deeds, is_opening_spent, is_step_spent, opened, opening_deeds, rows_written, stepped, unopened}
+use Rattle.mqtt_closing.proofs.TheRules.Copies.{each_filter, each_more}
+use Rattle.mqtt_closing.proofs.TheRules.FlightRows.{all_at, found_behind}
+use Rattle.mqtt_closing.proofs.TheRules.NumberCopies.{each_put, each_change}
+use Rattle.mqtt_closing.proofs.TheRules.RowsFit.{step_fits, opening_fits}
+use Rattle.mqtt_closing.proofs.TheRules.StoredLaw.{rows_store}
+use Rattle.mqtt_closing.specs.TheTables.Subscribing.{HasEachFilterOnce, HaveFiltersOnce}
+use Rattle.mqtt_closing.proofs.TheTables.FiltersKept.{once_all}
+use Rattle.mqtt_closing.specs.TheTurns.Queues.{HasKeptOrders}
 
 -- ---- orders, copy by copy
 

@@ -5,3 +5,6 @@ pub mod CallActs
 pub mod SomeCalls
 pub use Rattle.mqtt_closing.proofs.Some
 pub use Rattle.mqtt_closing.proofs.WilledBrokers
+pub use Rattle.mqtt_closing.proofs.TheRules
+pub use Rattle.mqtt_closing.proofs.TheTables
+pub use Rattle.mqtt_closing.proofs as TheClosing

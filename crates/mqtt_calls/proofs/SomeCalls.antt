@@ -3,16 +3,16 @@ use Rattle.std.proofs.Common.{◌≡◌, ℕ, Bool, [], ◌∷◌, ◌++◌, ref
 use Rattle.std.specs.Prelude.{⊤, Option, Some, Result, Ok, Err, IfErr, IfOk, OnOk, nat_eq}
 use Rattle.std.proofs.lemmas.Bool.{eqb-true}
 use Rattle.mqtt_codec.specs.declared.packet.Packet.{Packet}
-use Rattle.mqtt_rules.specs.declared.Limits.{Limits}
-use Rattle.mqtt_rules.specs.Deeds.{Act, after_all, series, with_line}
-use Rattle.mqtt_rules.specs.Lines.{session_on}
-use Rattle.mqtt_rules.specs.State.{Broker, Env, Line, MemberChoice, line_at}
-use Rattle.mqtt_rules.specs.Step.{Call, Input, SpentStep, deeds, deeds_of, env_of, is_again, on_packet}
-use Rattle.mqtt_rules.proofs.FitLaw.{mapped_some}
-use Rattle.mqtt_rules.proofs.Leads.{found_passes}
-use Rattle.mqtt_tables.specs.declared.fault.StepFault.{StepFault}
-use Rattle.mqtt_tables.specs.declared.fault.StepFault.TheVariants.{Spent}
-use Rattle.mqtt_tables.specs.Stepping.{Stepping, Did, IsLeft, env_in}
+use Rattle.mqtt_closing.specs.TheRules.declared.Limits.{Limits}
+use Rattle.mqtt_closing.specs.TheRules.Deeds.{Act, after_all, series, with_line}
+use Rattle.mqtt_closing.specs.TheRules.Lines.{session_on}
+use Rattle.mqtt_closing.specs.TheRules.State.{Broker, Env, Line, MemberChoice, line_at}
+use Rattle.mqtt_closing.specs.TheRules.Step.{Call, Input, SpentStep, deeds, deeds_of, env_of, is_again, on_packet}
+use Rattle.mqtt_closing.proofs.TheRules.FitLaw.{mapped_some}
+use Rattle.mqtt_closing.proofs.TheRules.Leads.{found_passes}
+use Rattle.mqtt_closing.specs.TheTables.declared.fault.StepFault.{StepFault}
+use Rattle.mqtt_closing.specs.TheTables.declared.fault.StepFault.TheVariants.{Spent}
+use Rattle.mqtt_closing.specs.TheTables.Stepping.{Stepping, Did, IsLeft, env_in}
 use Rattle.mqtt_closing.specs.Choosing.{DoesSome, LeavesSome}
 use Rattle.mqtt_closing.proofs.Some.{both, leaves_first, leaves_some, same_some, same_some_left, then_some, then_some_left}
 use Rattle.mqtt_calls.specs.Doing.{DidCall, IsCalled, begun}

@@ -2,22 +2,22 @@
 use Rattle.std.proofs.Common.{◌≡◌, ℕ, false}
 use Rattle.mqtt_lawful.specs.Lawful.{IsLawful}
 use Rattle.mqtt_records.specs.declared.records.Records.{Records}
-use Rattle.mqtt_rules.specs.declared.Limits.{Limits}
-use Rattle.mqtt_rules.specs.Contents.{TakesLawful, of_rows}
-use Rattle.mqtt_rules.specs.Laws.{AreWithin}
-use Rattle.mqtt_rules.specs.State.{Broker, MemberChoice, stored}
-use Rattle.mqtt_rules.specs.Step.{Call, is_opening_spent, is_step_spent, opened, stepped}
-use Rattle.mqtt_rules.proofs.ContentLaw.{step_contents, opening_contents}
-use Rattle.mqtt_rules.proofs.FlightStep.{step_keeps, opening_keeps}
-use Rattle.mqtt_rules.proofs.LawfulContents.{lawful_contents}
-use Rattle.mqtt_rules.proofs.SpelledContents.{rows_are}
-use Rattle.mqtt_rules.proofs.LawfulRecords.{lawful_coherent, lawful_accepted}
-use Rattle.mqtt_rules.proofs.LineSteps.{step_unique, opening_unique}
-use Rattle.mqtt_rules.proofs.NumberCopies.{step_accepted, opening_accepted}
-use Rattle.mqtt_rules.proofs.NumberSteps.{step_timed, opening_timed}
-use Rattle.mqtt_rules.proofs.OrderedFull.{step_queues, opening_queues}
-use Rattle.mqtt_rules.proofs.OrderedLimits.{step_sessions, opening_sessions, step_retained, opening_retained}
-use Rattle.mqtt_rules.proofs.RowsFit.{step_coherent, step_last, opening_coherent, opened_last}
+use Rattle.mqtt_closing.specs.TheRules.declared.Limits.{Limits}
+use Rattle.mqtt_closing.specs.TheRules.Contents.{TakesLawful, of_rows}
+use Rattle.mqtt_closing.specs.TheRules.Laws.{AreWithin}
+use Rattle.mqtt_closing.specs.TheRules.State.{Broker, MemberChoice, stored}
+use Rattle.mqtt_closing.specs.TheRules.Step.{Call, is_opening_spent, is_step_spent, opened, stepped}
+use Rattle.mqtt_closing.proofs.TheRules.ContentLaw.{step_contents, opening_contents}
+use Rattle.mqtt_closing.proofs.TheRules.FlightStep.{step_keeps, opening_keeps}
+use Rattle.mqtt_closing.proofs.TheRules.LawfulContents.{lawful_contents}
+use Rattle.mqtt_closing.proofs.TheRules.SpelledContents.{rows_are}
+use Rattle.mqtt_closing.proofs.TheRules.LawfulRecords.{lawful_coherent, lawful_accepted}
+use Rattle.mqtt_closing.proofs.TheRules.LineSteps.{step_unique, opening_unique}
+use Rattle.mqtt_closing.proofs.TheRules.NumberCopies.{step_accepted, opening_accepted}
+use Rattle.mqtt_closing.proofs.TheRules.NumberSteps.{step_timed, opening_timed}
+use Rattle.mqtt_closing.proofs.TheRules.OrderedFull.{step_queues, opening_queues}
+use Rattle.mqtt_closing.proofs.TheRules.OrderedLimits.{step_sessions, opening_sessions, step_retained, opening_retained}
+use Rattle.mqtt_closing.proofs.TheRules.RowsFit.{step_coherent, step_last, opening_coherent, opened_last}
 use Rattle.mqtt_calls.specs.Sound.{IsSound, IsWithin}
 use Rattle.mqtt_calls.proofs.Flights.{lawful_flight}
 use Rattle.mqtt_calls.proofs.Kept.{step_orders, step_filters, opening_orders, opening_filters}

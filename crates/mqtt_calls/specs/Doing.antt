@@ -1,11 +1,11 @@
 -- A call done in place: what it made of a step that began where none was under way (MQTT 5.0, 4.1).
 use Rattle.std.specs.Prelude.{◌≡◌, ⊤, ℕ, Bool, Result, Ok, Err}
-use Rattle.mqtt_rules.specs.declared.Limits.{Limits}
-use Rattle.mqtt_rules.specs.State.{Broker, MemberChoice}
-use Rattle.mqtt_rules.specs.Step.{Call, SpentStep, at_moment, deeds, is_again}
-use Rattle.mqtt_tables.specs.declared.fault.StepFault.{StepFault}
-use Rattle.mqtt_tables.specs.declared.fault.StepFault.TheVariants.{Spent}
-use Rattle.mqtt_tables.specs.Stepping.{Stepping, at_rest, did, with_broker}
+use Rattle.mqtt_closing.specs.TheRules.declared.Limits.{Limits}
+use Rattle.mqtt_closing.specs.TheRules.State.{Broker, MemberChoice}
+use Rattle.mqtt_closing.specs.TheRules.Step.{Call, SpentStep, at_moment, deeds, is_again}
+use Rattle.mqtt_closing.specs.TheTables.declared.fault.StepFault.{StepFault}
+use Rattle.mqtt_closing.specs.TheTables.declared.fault.StepFault.TheVariants.{Spent}
+use Rattle.mqtt_closing.specs.TheTables.Stepping.{Stepping, at_rest, did, with_broker}
 
 -- a step that has begun at a moment, where none was under way
 abbrev pub begun : Limits → ℕ → Broker → Stepping

@@ -2,15 +2,15 @@
 use Rattle.std.specs.Prelude.{ℕ, ◌≤◌, length}
 use Rattle.mqtt_records.specs.declared.records.Records.{Records}
 use Rattle.mqtt_records.specs.Records.{IsNumber}
-use Rattle.mqtt_rules.specs.declared.Limits.{Limits}
-use Rattle.mqtt_rules.specs.State.{Broker}
-use Rattle.mqtt_rules.specs.Contents.{AreContentsLawful}
-use Rattle.mqtt_rules.specs.Flight.{HasDistinctIdentifiers}
-use Rattle.mqtt_rules.specs.Laws.{AreWithin, IsCoherent, QueuesWithin}
-use Rattle.mqtt_rules.specs.Lines.{HasUniqueLines}
-use Rattle.mqtt_rules.specs.Numbers.{HasAcceptedNumbers, IsTimed}
-use Rattle.mqtt_tables.specs.Subscribing.{HaveFiltersOnce}
-use Rattle.mqtt_turns.specs.Queues.{HasKeptOrders}
+use Rattle.mqtt_closing.specs.TheRules.declared.Limits.{Limits}
+use Rattle.mqtt_closing.specs.TheRules.State.{Broker}
+use Rattle.mqtt_closing.specs.TheRules.Contents.{AreContentsLawful}
+use Rattle.mqtt_closing.specs.TheRules.Flight.{HasDistinctIdentifiers}
+use Rattle.mqtt_closing.specs.TheRules.Laws.{AreWithin, IsCoherent, QueuesWithin}
+use Rattle.mqtt_closing.specs.TheRules.Lines.{HasUniqueLines}
+use Rattle.mqtt_closing.specs.TheRules.Numbers.{HasAcceptedNumbers, IsTimed}
+use Rattle.mqtt_closing.specs.TheTables.Subscribing.{HaveFiltersOnce}
+use Rattle.mqtt_closing.specs.TheTurns.Queues.{HasKeptOrders}
 
 -- limits within those of the tables; coherent records, of which the stored moment and the moment are such as are kept;
 -- copies and retained messages of accepted publications; packet identifiers in flight that differ; orders of release that

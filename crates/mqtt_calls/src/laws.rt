@@ -2,11 +2,11 @@
 ghost use Rattle.std.specs.Prelude.{◌≡◌, ℕ, false};
 ghost use Rattle.mqtt_lawful.specs.Lawful.{IsLawful};
 ghost use Rattle.mqtt_records.specs.declared.records.Records.{Records};
-ghost use Rattle.mqtt_rules.specs.Contents.{TakesLawful};
-ghost use Rattle.mqtt_rules.specs.Laws.{AreWithin};
-ghost use Rattle.mqtt_rules.specs.State.{Broker, MemberChoice, stored};
-ghost use Rattle.mqtt_rules.specs.Step.{Call, is_opening_spent, is_step_spent, opened, stepped};
-ghost use Rattle.mqtt_rules.specs.declared.Limits.{Limits as TheLimits};
+ghost use Rattle.mqtt_closing.specs.TheRules.Contents.{TakesLawful};
+ghost use Rattle.mqtt_closing.specs.TheRules.Laws.{AreWithin};
+ghost use Rattle.mqtt_closing.specs.TheRules.State.{Broker, MemberChoice, stored};
+ghost use Rattle.mqtt_closing.specs.TheRules.Step.{Call, is_opening_spent, is_step_spent, opened, stepped};
+ghost use Rattle.mqtt_closing.specs.TheRules.declared.Limits.{Limits as TheLimits};
 ghost use Rattle.mqtt_calls.specs.Sound.{IsSound, IsWithin};
 
 /// Each step of a sound broker on a packet that is lawful and no longer than a packet may be leaves a

@@ -4,5 +4,8 @@
 mod laws;
 
 pub use laws::{limits_stay_kept, sound_brokers_stay_sound};
-pub use mqtt_closing::{Router, close, disconnect, drop_line, lost};
-pub use mqtt_turns::pump;
+pub use mqtt_closing::{
+    Answered, EngineError, Limits, Outcome, Report, Router, Step, StepFault, close, commit,
+    commit_kept, disconnect, drop_line, fault_code, lost, number_at, puback, pubcomp, pubrec, pump,
+    settle,
+};

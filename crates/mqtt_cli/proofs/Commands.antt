@@ -1,6 +1,7 @@
 -- The subcommand of a command line, and what it asks for.
-use Rattle.std.proofs.Common.{◌≡◌, ◌∙◌, Bool, true, false, not, if◌then◌else◌, ap, sym, refl, List, [], ◌∷◌, Option, None, Some, codes, unwrap_or, option_map, subst, inl, inr, rules}
+use Rattle.std.proofs.Common.{◌≡◌, ◌∙◌, ℕ, Bool, true, false, not, if◌then◌else◌, ap, sym, refl, List, [], ◌∷◌, Option, None, Some, codes, unwrap_or, option_map, subst, inl, inr, rules}
 use Rattle.std.specs.Str.{bytes_eq}
+use Rattle.std.specs.declared.net.socket_addr.SocketAddrV4.{SocketAddrV4}
 use Rattle.clap.specs.Walk.{is_empty}
 use Rattle.clap.specs.Words.{App, HasKind, HasMatchesOf, Kinds, Row, Text, fault_of, kind_of, is_simple, is_simple_and_free, rows_of, subcommand_name_of, subcommand_of, subcommand_rows_of}
 use Rattle.clap.specs.declared.error.Error.{Error}
@@ -8,8 +9,10 @@ use Rattle.clap.specs.declared.error.kind.ErrorKind.TheVariants.{OutOfMemory}
 use Rattle.clap.specs.declared.parser.matches.ArgMatches.{ArgMatches}
 use Rattle.clap.specs.declared.parser.matches.ArgMatches.TheViews.{out-ArgMatches}
 use Rattle.clap.specs.declared.parser.matches.Found.{Found}
-use Rattle.mqtt_cli.specs.Line.{AskFor, command_of, file_in, is_vectors, program_app, rows_in}
+use Rattle.mqtt_cli.specs.Line.{AskFor, AskToServe, AsksNoServer, AsksToServe, command_of, file_in, is_vectors, program_app, rows_in, serve_rows_in, value_in}
+use Rattle.mqtt_cli.specs.Values.{IsAddress, IsCount}
 use Rattle.mqtt_cli.specs.declared.line.Action.{Action}
+use Rattle.mqtt_cli.specs.declared.line.Action.TheVariants.{View, Vectors, Serve}
 
 -- a pair that may be there, by its parts
 both_parts : {X : Type 0} (f : X → Text × List Row) (o : Option X) (name : Text) (rows : List Row)
@@ -54,6 +57,75 @@ pub rows_in-other : (m : ArgMatches) (name : Text) (found : Found) → Some name
 rows_in-other m name found named with_rows is_other =
     ap rows_in (met_command m name found named with_rows) ∙ no_rows_of name (rows_of found) is_other
 
+serve_rows_of : (name : Text) (rows : List Row) → true ≡ bytes_eq name (codes "serve") → serve_rows_in (Some (name, rows)) ≡ Some rows
+serve_rows_of name rows is_serve = go (bytes_eq name (codes "serve")) is_serve
+  where
+    go : (b : Bool) → true ≡ b → (if b then Some rows else None) ≡ Some rows
+    go true e = refl
+    go false e = cc
+
+-- the matches of `serve`, where that is the subcommand that was met
+pub rows_in-serve : (m : ArgMatches) (name : Text) (found : Found) → Some name ≡ subcommand_name_of m
+    → Some (rows_of found) ≡ option_map (λ p. p.1) (subcommand_rows_of m) → true ≡ bytes_eq name (codes "serve")
+    → serve_rows_in (subcommand_rows_of m) ≡ Some (rows_of found)
+rows_in-serve m name found named with_rows is_serve =
+    ap serve_rows_in (met_command m name found named with_rows) ∙ serve_rows_of name (rows_of found) is_serve
+
+no_rows_of_serve : (name : Text) (rows : List Row) → false ≡ bytes_eq name (codes "serve") → serve_rows_in (Some (name, rows)) ≡ None
+no_rows_of_serve name rows is_other = go (bytes_eq name (codes "serve")) is_other
+  where
+    go : (b : Bool) → false ≡ b → (if b then Some rows else None) ≡ None
+    go true e = cc
+    go false e = refl
+
+-- none, where that is another
+pub serve_rows_in-other : (m : ArgMatches) (name : Text) (found : Found) → Some name ≡ subcommand_name_of m
+    → Some (rows_of found) ≡ option_map (λ p. p.1) (subcommand_rows_of m) → false ≡ bytes_eq name (codes "serve")
+    → serve_rows_in (subcommand_rows_of m) ≡ None
+serve_rows_in-other m name found named with_rows is_other =
+    ap serve_rows_in (met_command m name found named with_rows) ∙ no_rows_of_serve name (rows_of found) is_other
+
+-- matches that aren't there ask for no server
+pub no_server : AsksNoServer None
+no_server listen db turns asks = cc asks.db_is
+
+-- without an address, or with one that isn't of its form, no server is asked for
+pub no_server-listen : (rows : Option (List Row)) → value_in (codes "listen") rows ≡ None → AsksNoServer rows
+no_server-listen rows none listen db turns asks = cc (sym none ∙ asks.listen_is)
+
+pub no_server-address : (rows : Option (List Row)) (text : Text) → value_in (codes "listen") rows ≡ Some text
+    → ((address : SocketAddrV4) → ¬ (IsAddress text address)) → AsksNoServer rows
+no_server-address rows text is none listen db turns asks =
+    none listen (subst (λ (t : Text). IsAddress t listen) (ap (λ o. unwrap_or o text) (sym asks.listen_is ∙ is)) asks.address)
+
+-- without a database
+pub no_server-db : (rows : Option (List Row)) → value_in (codes "db") rows ≡ None → AsksNoServer rows
+no_server-db rows none listen db turns asks = cc (sym none ∙ asks.db_is)
+
+-- without a number of turns, or with one that isn't of its form
+pub no_server-turns : (rows : Option (List Row)) → value_in (codes "turns") rows ≡ None → AsksNoServer rows
+no_server-turns rows none listen db turns asks = cc (sym none ∙ asks.turns_is)
+
+pub no_server-count : (rows : Option (List Row)) (text : Text) → value_in (codes "turns") rows ≡ Some text
+    → ((count : ℕ) → ¬ (IsCount text count)) → AsksNoServer rows
+no_server-count rows text is none listen db turns asks =
+    none turns (subst (λ (t : Text). IsCount t turns) (ap (λ o. unwrap_or o text) (sym asks.turns_is ∙ is)) asks.count)
+
+-- so nothing is answered
+pub asks_no_server : (rows : List Row) (asked : Option Action) → asked ≡ None → AsksNoServer (Some rows) → AskToServe rows asked
+asks_no_server rows None is none = none
+asks_no_server rows (Some action) is none = cc
+
+-- what lawful matches of `serve` ask for, the command does
+pub asks_to_serve : (command : Option (Text × List Row)) (rows : List Row) (asked : Option Action)
+    → serve_rows_in command ≡ Some rows → file_in (rows_in command) ≡ None → is_vectors command ≡ false
+    → AskToServe rows asked → AskFor command asked
+asks_to_serve command rows None is file other asks = (file, other, subst AsksNoServer (sym is) asks)
+asks_to_serve command rows (Some (Serve listen db turns)) is file other asks =
+    subst (λ (r : Option (List Row)). AsksToServe r listen db.now turns) (sym is) asks
+asks_to_serve command rows (Some Vectors) is file other asks = absurd asks
+asks_to_serve command rows (Some (View path payload)) is file other asks = absurd asks
+
 -- whether it is `vectors`
 pub is_vectors-met : (m : ArgMatches) (name : Text) (found : Found) (b : Bool) → Some name ≡ subcommand_name_of m
     → Some (rows_of found) ≡ option_map (λ p. p.1) (subcommand_rows_of m) → b ≡ bytes_eq name (codes "vectors")
@@ -76,14 +148,14 @@ pub refused_ask : (app : App) (words : List Text) (e : Error) → app ≡ progra
 refused_ask app words e is fails other =
     let has : HasKind (fault_of program_app words) e =
     subst (λ (a : App). HasKind (fault_of a words) e) is (fails (ap is_simple_and_free is)) in
-    rw (go (fault_of program_app words) has) (refl, refl)
+    rw (go (fault_of program_app words) has) (refl, refl, no_server)
   where
     go : (ks : Kinds) → HasKind ks e → is_empty ks ≡ false
     go [] h = elim h [ inl out ↦ absurd (other out) | inr wrong ↦ absurd wrong ]
     go (k ∷ ks) h = search rules
 
--- a command without FILE that is not `vectors` asks for nothing
+-- a command without FILE that is neither `vectors` nor `serve` asks for nothing
 pub asks_nothing : (command : Option (Text × List Row)) (asked : Option Action) → asked ≡ None
-    → file_in (rows_in command) ≡ None → is_vectors command ≡ false → AskFor command asked
-asks_nothing command None is file other = (file, other)
-asks_nothing command (Some action) is file other = cc
+    → file_in (rows_in command) ≡ None → is_vectors command ≡ false → serve_rows_in command ≡ None → AskFor command asked
+asks_nothing command None is file other no_rows = (file, other, subst AsksNoServer (sym no_rows) no_server)
+asks_nothing command (Some action) is file other no_rows = cc

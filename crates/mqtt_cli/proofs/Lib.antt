@@ -1,7 +1,3 @@
--- Lemmas on views and command lines.
+-- Lemmas on command lines.
 pub mod Commands
-pub mod Escapes
 pub mod Examples
-pub mod Lines
-pub mod OneView
-pub mod Texts

@@ -1,7 +1,4 @@
--- The text of the viewer, what a command line asks for, and how the program ends.
+-- What a command line asks for, and how the program ends.
 pub mod Line
 pub mod Outcome
-pub mod PacketText
-pub mod Vectors
-pub mod View
-pub mod Viewing
+pub mod Values

@@ -1,11 +1,13 @@
 -- What a command line asks for, by `clap`'s meaning of its words (ours).
-use Rattle.std.specs.Prelude.{◌≡◌, Bool, true, false, List, Option, None, Some, codes, if◌then◌else◌, option_and_then}
+use Rattle.std.specs.Prelude.{◌≡◌, ℕ, Bool, true, false, List, Option, None, Some, codes, if◌then◌else◌, option_and_then}
 use Rattle.std.specs.Str.{bytes_eq}
 use Rattle.clap.specs.declared.builder.ArgAction.TheVariants.{SetTrue}
 use Rattle.clap.specs.Walk.{is_empty}
 use Rattle.clap.specs.Words.{App, Row, Rule, Text, fault_of, first_of, new_app, new_rule, one_of, subcommand_of, with_rule, with_subcommand}
 use Rattle.mqtt_cli.specs.declared.line.Action.{Action}
-use Rattle.mqtt_cli.specs.declared.line.Action.TheVariants.{View, Vectors}
+use Rattle.mqtt_cli.specs.declared.line.Action.TheVariants.{View, Vectors, Serve}
+use Rattle.mqtt_cli.specs.Values.{IsAddress, IsCount}
+use Rattle.std.specs.declared.net.socket_addr.SocketAddrV4.{SocketAddrV4}
 
 -- `--payload`, a flag
 abbrev pub payload_rule : Rule
@@ -24,12 +26,22 @@ view_app = with_rule (with_rule (new_app (codes "view")) payload_rule) file_rule
 abbrev pub vectors_app : App
 vectors_app = new_app (codes "vectors")
 
+-- `--NAME VALUE`, which has to be there
+abbrev pub option_rule : Text → Rule
+option_rule name = record (new_rule name) { long = Some name; value_names = 1; required = true }
+
+-- `serve --listen ADDR --db FILE --turns N`
+abbrev pub serve_app : App
+serve_app =
+    with_rule (with_rule (with_rule (new_app (codes "serve")) (option_rule (codes "listen"))) (option_rule (codes "db")))
+    (option_rule (codes "turns"))
+
 -- the program, which has to be given a command
 abbrev pub program_app : App
 program_app =
     let alone = new_app (codes "mqtt5") in
     let required = record alone { top = record alone.top { subcommand_required = true } } in
-    with_subcommand (with_subcommand required view_app.top) vectors_app.top
+    with_subcommand (with_subcommand (with_subcommand required view_app.top) vectors_app.top) serve_app.top
 
 -- the command and its matches, where the words are a lawful command line
 abbrev pub command_of : List Text → Option (Text × List Row)
@@ -46,6 +58,11 @@ abbrev pub rows_in : Option (Text × List Row) → Option (List Row)
 rows_in None = None
 rows_in (Some command) = if bytes_eq command.0 (codes "view") then Some command.1 else None
 
+-- the matches of `serve`, where that is the command
+abbrev pub serve_rows_in : Option (Text × List Row) → Option (List Row)
+serve_rows_in None = None
+serve_rows_in (Some command) = if bytes_eq command.0 (codes "serve") then Some command.1 else None
+
 -- FILE
 abbrev pub file_in : Option (List Row) → Option Text
 file_in rows = option_and_then (first_of (codes "file")) rows
@@ -60,9 +77,36 @@ pub record IsFlag (value : Option Text) (flag : Bool) : Type 0 where
   pub is_true : value ≡ Some (codes "true") → flag ≡ true
   pub is_false : value ≡ Some (codes "false") → flag ≡ false
 
+-- the value of an option
+abbrev pub value_in : Text → Option (List Row) → Option Text
+value_in name rows = option_and_then (first_of name) rows
+
+-- `serve` is asked for at this address, over this database, for so many turns
+pub record AsksToServe (rows : Option (List Row)) (listen : SocketAddrV4) (db : Text) (turns : ℕ) : Type 0 where
+  pub listen_text : Text
+  pub turns_text : Text
+  pub listen_is : value_in (codes "listen") rows ≡ Some listen_text
+  pub address : IsAddress listen_text listen
+  pub db_is : value_in (codes "db") rows ≡ Some db
+  pub turns_is : value_in (codes "turns") rows ≡ Some turns_text
+  pub count : IsCount turns_text turns
+
+-- nothing that `serve` may be given is asked for
+abbrev pub AsksNoServer : Option (List Row) → Type 0
+AsksNoServer rows = (listen : SocketAddrV4) (db : Text) (turns : ℕ) → ¬ (AsksToServe rows listen db turns)
+
+-- these matches of `serve` ask for this, or for nothing
+abbrev pub AskToServe : List Row → Option Action → Type 0
+AskToServe rows None = AsksNoServer (Some rows)
+AskToServe rows (Some (Serve listen db turns)) = AsksToServe (Some rows) listen db.now turns
+AskToServe rows (Some Vectors) = ⊥
+AskToServe rows (Some (View file payload)) = ⊥
+
 -- this command asks for this, or for nothing
 abbrev pub AskFor : Option (Text × List Row) → Option Action → Type 0
-AskFor command None = (file_in (rows_in command) ≡ None) × (is_vectors command ≡ false)
+AskFor command None =
+    (file_in (rows_in command) ≡ None) × (is_vectors command ≡ false) × AsksNoServer (serve_rows_in command)
 AskFor command (Some Vectors) = is_vectors command ≡ true
 AskFor command (Some (View file payload)) =
     (file_in (rows_in command) ≡ Some file.now) × IsFlag (payload_in (rows_in command)) payload
+AskFor command (Some (Serve listen db turns)) = AsksToServe (serve_rows_in command) listen db.now turns

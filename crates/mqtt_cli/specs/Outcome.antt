@@ -1,14 +1,15 @@
--- How the program ends (ours): 0 done, 1 a fault in the input, 2 a wrong command line, 3 a file or
+-- How the program ends (ours): 0 done, 1 a fault in the input, 2 a wrong command line, 3 a file, a socket, the store or
 -- memory that failed.
 use Rattle.std.specs.Prelude.{ℕ, List, [], ◌++◌, ◌∷◌, codes}
 use Rattle.std.specs.String.{string_bytes}
 use Rattle.mqtt_cli.specs.declared.outcome.TheConstants.{DONE, FAULTY, USAGE, FAILED}
 use Rattle.mqtt_cli.specs.declared.line.LineFault.TheVariants as line
 use Rattle.mqtt_cli.specs.declared.outcome.Outcome.{Outcome}
-use Rattle.mqtt_cli.specs.declared.outcome.Outcome.TheVariants.{Done, Line, NoFile, View, Vectors}
-use Rattle.mqtt_cli.specs.declared.vectors_checker.VectorsFault.TheVariants as vectors
-use Rattle.mqtt_cli.specs.declared.viewer.Status.TheVariants.{Whole, Faulty}
-use Rattle.mqtt_cli.specs.declared.viewer.ViewFault.TheVariants.{Read, Write, Memory}
+use Rattle.mqtt_cli.specs.declared.outcome.Outcome.TheVariants.{Done, Line, NoFile, View, Vectors, Served, Serve}
+use Rattle.mqtt_serve.specs.declared.fault.ServeFault.TheVariants as serve
+use Rattle.mqtt_viewing.specs.declared.vectors_checker.VectorsFault.TheVariants as vectors
+use Rattle.mqtt_viewing.specs.declared.viewer.Status.TheVariants.{Whole, Faulty}
+use Rattle.mqtt_viewing.specs.declared.viewer.ViewFault.TheVariants.{Read, Write, Memory}
 
 abbrev pub exit_status : Outcome → ℕ
 exit_status (Done Whole) = DONE
@@ -21,6 +22,8 @@ exit_status (View Write) = FAILED
 exit_status (View Memory) = FAILED
 exit_status (Vectors vectors.Write) = FAILED
 exit_status (Vectors vectors.Memory) = FAILED
+exit_status Served = DONE
+exit_status (Serve fault) = FAILED
 
 -- `mqtt5: ` and why, and a line feed
 abbrev pub failure_line : List ℕ → List ℕ
@@ -36,3 +39,8 @@ error_text (View Write) = failure_line (codes "file")
 error_text (View Memory) = failure_line (codes "memory")
 error_text (Vectors vectors.Write) = failure_line (codes "file")
 error_text (Vectors vectors.Memory) = failure_line (codes "memory")
+error_text Served = []
+error_text (Serve serve.Write) = failure_line (codes "file")
+error_text (Serve serve.Memory) = failure_line (codes "memory")
+error_text (Serve serve.Store) = failure_line (codes "store")
+error_text (Serve serve.Socket) = failure_line (codes "socket")

@@ -1,22 +1,15 @@
 //! The command line of `mqtt5`, and what its commands do over any reader and writer.
 #![tactic(auto)]
 
-mod laws;
 mod line;
 mod outcome;
-mod packet_text;
 mod program;
-mod text;
-mod vectors_checker;
-mod vectors_report;
-mod vectors_table;
-mod viewer;
+mod values;
 mod words;
 
-pub use laws::{one_view, one_word};
 pub use line::{Action, LineFault};
+pub use mqtt_serve::{ServeFault, serve};
+pub use mqtt_viewing::{Status, VectorsFault, ViewFault, one_view, one_word, vectors, view};
 pub use outcome::{DONE, FAILED, FAULTY, Outcome, USAGE, ending};
 pub use program::run;
-pub use vectors_checker::{VectorsFault, vectors};
-pub use viewer::{Status, ViewFault, view};
 pub use words::action;

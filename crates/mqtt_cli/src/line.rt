@@ -3,6 +3,7 @@
 ghost use Rattle.std.specs.Prelude.{◌≡◌};
 
 use std::alloc::AllocError;
+use std::net::SocketAddrV4;
 use thiserror::Error;
 
 /// What a command line asks for. Its texts lie in the words.
@@ -17,6 +18,15 @@ pub enum Action<'a> {
     },
     /// `vectors`
     Vectors,
+    /// `serve --listen ADDR --db FILE --turns N`
+    Serve {
+        /// Where to listen.
+        listen: SocketAddrV4,
+        /// The path of the database.
+        db: &'a str,
+        /// How many turns, at least 1.
+        turns: u32,
+    },
 }
 
 /// Why a command line asks for nothing.

@@ -4,8 +4,8 @@ ghost use Rattle.std.specs.Prelude.{◌≡◌};
 ghost use Rattle.mqtt_cli.specs.Outcome.{exit_status, error_text};
 
 use crate::line::LineFault;
-use crate::vectors_checker::VectorsFault;
-use crate::viewer::{Status, ViewFault};
+use mqtt_serve::ServeFault;
+use mqtt_viewing::{Status, VectorsFault, ViewFault};
 
 /// The exit status of a command that is done.
 pub const DONE: u8 = 0;
@@ -16,7 +16,7 @@ pub const FAULTY: u8 = 1;
 /// The exit status of a wrong command line.
 pub const USAGE: u8 = 2;
 
-/// The exit status where a file failed or memory was wanting.
+/// The exit status where a file, a socket or the store failed or memory was wanting.
 pub const FAILED: u8 = 3;
 
 /// What came of the program's work.
@@ -32,6 +32,10 @@ pub enum Outcome {
     View(ViewFault),
     /// The report on the vectors stopped early.
     Vectors(VectorsFault),
+    /// The server ended after its turns.
+    Served,
+    /// The server ended early.
+    Serve(ServeFault),
 }
 
 /// The exit status, and the text for standard error. Takes no memory.
@@ -40,15 +44,19 @@ pub fn ending(outcome: &Outcome) -> (u8, &str)
     ensures text { result.1.now ≡ error_text outcome.now }
 {
     match outcome {
-        Outcome::Done(Status::Whole) => (DONE, ""),
+        Outcome::Done(Status::Whole) | Outcome::Served => (DONE, ""),
         Outcome::Done(Status::Faulty) => (FAULTY, ""),
         Outcome::Line(LineFault::Usage(text)) => (USAGE, text.as_str()),
         Outcome::Line(LineFault::Memory)
         | Outcome::View(ViewFault::Memory)
-        | Outcome::Vectors(VectorsFault::Memory) => { (FAILED, "mqtt5: memory\n") }
+        | Outcome::Vectors(VectorsFault::Memory)
+        | Outcome::Serve(ServeFault::Memory) => { (FAILED, "mqtt5: memory\n") }
         Outcome::NoFile
         | Outcome::View(ViewFault::Read)
         | Outcome::View(ViewFault::Write)
-        | Outcome::Vectors(VectorsFault::Write) => { (FAILED, "mqtt5: file\n") }
+        | Outcome::Vectors(VectorsFault::Write)
+        | Outcome::Serve(ServeFault::Write) => { (FAILED, "mqtt5: file\n") }
+        Outcome::Serve(ServeFault::Store) => (FAILED, "mqtt5: store\n"),
+        Outcome::Serve(ServeFault::Socket) => (FAILED, "mqtt5: socket\n"),
     }
 }

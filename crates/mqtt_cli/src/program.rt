@@ -2,12 +2,12 @@
 
 use crate::line::{Action, LineFault};
 use crate::outcome::Outcome;
-use crate::vectors_checker::vectors;
-use crate::viewer::{ViewFault, view};
 use crate::words::action;
+use mqtt_serve::serve;
+use mqtt_viewing::{ViewFault, vectors, view};
 use std::alloc::{AllocError, Global};
 use std::io::{self, ErrorKind, Read};
-use std::rt::{Env, Files};
+use std::net::{SocketAddr, SocketAddrV4};
 use std::{env, fs};
 
 /// Why the process's arguments cannot be had: memory is wanting, or one of them is no text.
@@ -41,10 +41,18 @@ fn run_vectors<R: Print + AllocGlobal>(rt: &R) -> Outcome {
     }
 }
 
-/// Does what the process's arguments ask for. The command line is looked at first, then the file.
-/// What files, standard input and standard output hold no contract can say; `action`, `view`
-/// and `vectors` say the rest.
-pub fn run<R: Print + Input + Files + Env + AllocGlobal>(rt: &R) -> Outcome {
+/// Serves for so many turns, and writes to standard output.
+fn run_serve(rt: &HostRuntime, listen: SocketAddrV4, db: &str, turns: u32) -> Outcome {
+    match serve(rt, SocketAddr::V4(listen), db, turns, &mut io::writer(rt)) {
+        Ok(()) => Outcome::Served,
+        Err(fault) => Outcome::Serve(fault),
+    }
+}
+
+/// Does what the process's arguments ask for. The command line is looked at first, then the file
+/// or the database, then the socket. What files, sockets, standard input and standard output hold
+/// no contract can say; `action`, `view` and `vectors` say the rest.
+pub fn run(rt: &HostRuntime) -> Outcome {
     let words = match env::args(rt) {
         Ok(words) => words.collect::<Vec<String>>(rt.alloc()),
         Err(error) => return Outcome::Line(no_words(rt.alloc(), error)),
@@ -55,6 +63,7 @@ pub fn run<R: Print + Input + Files + Env + AllocGlobal>(rt: &R) -> Outcome {
     match action(rt.alloc(), words.as_slice()) {
         Err(fault) => Outcome::Line(fault),
         Ok(Action::Vectors) => run_vectors(rt),
+        Ok(Action::Serve { listen, db, turns }) => run_serve(rt, listen, db, turns),
         Ok(Action::View { file: "-", payload }) => run_view(rt, rt.reader(), payload),
         Ok(Action::View { file, payload }) => match fs::open(rt, file) {
             Ok(file) => run_view(rt, file, payload),

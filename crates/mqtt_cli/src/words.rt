@@ -1,11 +1,12 @@
 //! The words of a command line, as `clap` reads them (ours).
 
 ghost use Rattle.std.specs.Prelude.{◌≡◌, ◌≢◌, None, Some, IfErr, IfOk, false, map};
-ghost use Rattle.clap.specs.Words.{app_of, kind_of, rule_of, subcommand_rows_of};
+ghost use Rattle.clap.specs.Words.{app_of, found_of, kind_of, rows_of, rule_of, subcommand_rows_of};
 ghost use Rattle.clap.specs.declared.builder.command.Command.TheViews.{out-Command as fields_of};
-ghost use Rattle.mqtt_cli.specs.Line.{AskFor, command_of, file_rule, payload_rule, program_app, vectors_app, view_app};
+ghost use Rattle.mqtt_cli.specs.Line.{AskFor, AskToServe, command_of, file_rule, option_rule, payload_rule, program_app, serve_app, vectors_app, view_app};
 
 use crate::line::{Action, LineFault};
+use crate::values::{address_read, count_read};
 use clap::error::ErrorKind;
 use clap::{Arg, ArgAction, ArgMatches, Command};
 use std::alloc::{AllocError, Global};
@@ -36,13 +37,15 @@ fn asked<'a>(alloc: Global, matches: ArgMatches<'a>) -> Result<Action<'a>, LineF
     drop(matches);
     match asked {
         Some(action) => Ok(action),
-        None => Err(no_file(alloc)),
+        None => Err(bad_value(alloc)),
     }
 }
 
-/// The fault of a command line without FILE.
-fn no_file(alloc: Global) -> LineFault {
-    match String::from_str(alloc, "mqtt5: no FILE\n") {
+/// The fault of a command line whose values aren't of their form.
+fn bad_value(alloc: Global) -> LineFault {
+    let text =
+        "mqtt5: ADDR is as 127.0.0.1:1883, without leading zeros; N is from 1 to 4294967295\n";
+    match String::from_str(alloc, text) {
         Ok(text) => LineFault::Usage(text),
         Err(_) => LineFault::Memory,
     }
@@ -56,6 +59,9 @@ fn action_in<'a>(matches: &ArgMatches<'a>) -> Option<Action<'a>>
     if name == "vectors" {
         return Some(Action::Vectors);
     }
+    if name == "serve" {
+        return serve_in(view);
+    }
     if name != "view" {
         return None;
     }
@@ -64,16 +70,30 @@ fn action_in<'a>(matches: &ArgMatches<'a>) -> Option<Action<'a>>
     Some(Action::View { file, payload })
 }
 
+/// What the matches of `serve` ask for: nothing, where a value isn't of its form.
+fn serve_in<'a>(matches: &ArgMatches<'a>) -> Option<Action<'a>>
+    ensures { AskToServe (rows_of (found_of matches.now)) result }
+{
+    let listen = matches.get_str("listen")?;
+    let db = matches.get_str("db")?;
+    let turns = matches.get_str("turns")?;
+    let listen = address_read(listen)?;
+    let turns = count_read(turns)?;
+    Some(Action::Serve { listen, db, turns })
+}
+
 /// The program with its commands.
 fn program<'a>(alloc: Global) -> Result<Command<'a>, AllocError>
     ensures { IfOk result (λ command. app_of command ≡ program_app) }
 {
     let view = view_command(alloc)?;
+    let serve = serve_command(alloc)?;
     Command::new(alloc, "mqtt5")
-        .about("Shows MQTT 5.0 packets as text")
+        .about("An MQTT 5.0 broker, and a viewer of its packets")
         .subcommand_required(true)
         .subcommand(view)?
-        .subcommand(vectors_command(alloc))
+        .subcommand(vectors_command(alloc))?
+        .subcommand(serve)
 }
 
 /// `view [--payload] FILE`
@@ -115,6 +135,42 @@ fn vectors_command<'a>(alloc: Global) -> Command<'a>
     ensures local { (fields_of result).has_globals ≡ false }
 {
     Command::new(alloc, "vectors").about("Checks frames whose meaning is known")
+}
+
+/// `serve --listen ADDR --db FILE --turns N`
+fn serve_command<'a>(alloc: Global) -> Result<Command<'a>, AllocError>
+    ensures app { IfOk result (λ command. app_of command ≡ serve_app) }
+    ensures local { IfOk result (λ command. (fields_of command).has_globals ≡ false) }
+{
+    Command::new(alloc, "serve")
+        .about("Serves MQTT 5.0 clients over a database on disk")
+        .arg(option_arg(
+            alloc,
+            "listen",
+            "ADDR",
+            "An IPv4 address and a port, as 127.0.0.1:1883",
+        ))?
+        .arg(option_arg(
+            alloc,
+            "db",
+            "FILE",
+            "The database, made where there is none",
+        ))?
+        .arg(option_arg(
+            alloc,
+            "turns",
+            "N",
+            "How many turns to run, from 1 to 4294967295",
+        ))
+}
+
+/// `--NAME VALUE`, which has to be there.
+fn option_arg<'a>(alloc: Global, name: &'a str, value: &'a str, help: &'a str) -> Arg<'a>
+    ensures rule { rule_of result ≡ option_rule name.entry.now }
+    ensures local { result.global ≡ false }
+{
+    let arg = Arg::new(alloc, name).long(name).value_name(value);
+    arg.help(help).required(true)
 }
 
 /// The fault of a command line, with the text that `clap` gives it.

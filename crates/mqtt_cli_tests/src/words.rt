@@ -1,7 +1,10 @@
 //! Command lines, and how the program ends (ours).
 
-use mqtt_cli::{Action, LineFault, Outcome, Status, VectorsFault, ViewFault, action, ending};
+use mqtt_cli::{
+    Action, LineFault, Outcome, ServeFault, Status, VectorsFault, ViewFault, action, ending,
+};
 use std::alloc::Global;
+use std::net::{Ipv4Addr, SocketAddrV4};
 use std::process::Abort;
 use std::test::Fail;
 
@@ -47,6 +50,57 @@ fn a_lawful_command_line_is_its_action(rt: HostRuntime) -> Result<(), Fail> {
     Ok(())
 }
 
+#[test]
+fn a_server_is_asked_for(rt: HostRuntime) -> Result<(), Fail> {
+    for (listen, turns, address, count) in SERVED {
+        let (ip, port) = address;
+        let wanted = Action::Serve {
+            listen: SocketAddrV4::new(Ipv4Addr::from(ip), port),
+            db: "a.db",
+            turns: count,
+        };
+        let words = [
+            "mqtt5", "serve", "--listen", listen, "--db", "a.db", "--turns", turns,
+        ];
+        assert_asks(&rt, rt.alloc(), &words, wanted)?;
+    }
+    Ok(())
+}
+
+/// Addresses and numbers of turns, and what they are.
+const SERVED: [(&str, &str, ([u8; 4], u16), u32); 3] = [
+    ("127.0.0.1:1883", "1", ([127, 0, 0, 1], 1883), 1),
+    ("0.0.0.0:0", "4294967295", ([0, 0, 0, 0], 0), 4_294_967_295),
+    ("255.10.0.9:65535", "60", ([255, 10, 0, 9], 65_535), 60),
+];
+
+#[test]
+fn a_value_that_is_out_of_range_is_usage(rt: HostRuntime) -> Result<(), Fail> {
+    for (listen, turns) in UNSERVED {
+        let words = [
+            "mqtt5", "serve", "--listen", listen, "--db", "a.db", "--turns", turns,
+        ];
+        assert!(rt; is_usage(rt.alloc(), &words)?, "{listen} {turns}");
+    }
+    Ok(())
+}
+
+/// Addresses and numbers of turns of which one isn't of its form.
+const UNSERVED: [(&str, &str); 12] = [
+    ("127.0.0.1:1883", "0"),
+    ("127.0.0.1:1883", "4294967296"),
+    ("127.0.0.1:1883", "-1"),
+    ("127.0.0.1:1883", "many"),
+    ("127.0.0.1:1883", ""),
+    ("x", "1"),
+    ("127.0.0.1", "1"),
+    ("127.0.0.1:65536", "1"),
+    ("127.0.0.1:01883", "1"),
+    ("01.2.3.4:1", "1"),
+    ("256.2.3.4:1", "1"),
+    ("localhost:1883", "1"),
+];
+
 /// Command lines that ask for nothing, each with what is wrong.
 fn other_words() -> &'static [(&'static [&'static str], &'static str)] {
     &[
@@ -64,6 +118,19 @@ fn other_words() -> &'static [(&'static [&'static str], &'static str)] {
         (&["mqtt5", "view", "-p", "a"], "an unknown option"),
         (&["mqtt5", "watch", "a"], "an unknown command"),
         (&["mqtt5", "a"], "FILE without a command"),
+        (
+            &["mqtt5", "serve", "--listen", "1.2.3.4:5", "--turns", "1"],
+            "no --db",
+        ),
+        (
+            &["mqtt5", "serve", "--db", "a", "--turns", "1"],
+            "no --listen",
+        ),
+        (
+            &["mqtt5", "serve", "--db", "a", "--listen", "1.2.3.4:5"],
+            "no --turns",
+        ),
+        (&["mqtt5", "serve", "--help"], "a call for help with serve"),
         (&["mqtt5", "--help"], "a call for help"),
         (&["mqtt5", "help"], "the command for help"),
         (&["mqtt5", "view", "--help"], "a call for help with view"),
@@ -106,6 +173,7 @@ fn each_outcome_has_its_status_and_text(rt: HostRuntime) -> Result<(), Fail> {
     assert!(rt; ends_with(Outcome::Done(Status::Whole), 0, ""));
     assert!(rt; ends_with(Outcome::Done(Status::Faulty), 1, ""));
     assert!(rt; ends_with(Outcome::NoFile, 3, "mqtt5: file\n"));
+    assert!(rt; ends_with(Outcome::Served, 0, ""));
     for (outcome, text) in [
         (Outcome::Line(LineFault::Memory), "mqtt5: memory\n"),
         (Outcome::View(ViewFault::Read), "mqtt5: file\n"),
@@ -113,6 +181,10 @@ fn each_outcome_has_its_status_and_text(rt: HostRuntime) -> Result<(), Fail> {
         (Outcome::View(ViewFault::Memory), "mqtt5: memory\n"),
         (Outcome::Vectors(VectorsFault::Write), "mqtt5: file\n"),
         (Outcome::Vectors(VectorsFault::Memory), "mqtt5: memory\n"),
+        (Outcome::Serve(ServeFault::Write), "mqtt5: file\n"),
+        (Outcome::Serve(ServeFault::Memory), "mqtt5: memory\n"),
+        (Outcome::Serve(ServeFault::Store), "mqtt5: store\n"),
+        (Outcome::Serve(ServeFault::Socket), "mqtt5: socket\n"),
     ] {
         assert!(rt; ends_with(outcome, 3, text));
     }
@@ -126,4 +198,8 @@ fn faults_have_their_numbers(rt: HostRuntime) {
     assert!(rt; ViewFault::Memory as u8 == 3);
     assert!(rt; VectorsFault::Write as u8 == 2);
     assert!(rt; VectorsFault::Memory as u8 == 3);
+    assert!(rt; ServeFault::Write as u8 == 2);
+    assert!(rt; ServeFault::Memory as u8 == 3);
+    assert!(rt; ServeFault::Store as u8 == 4);
+    assert!(rt; ServeFault::Socket as u8 == 5);
 }

@@ -13,19 +13,19 @@ use Rattle.mqtt_records.specs.Session.{birth_of, columns_of, with_columns, with_
 use Rattle.mqtt_records.specs.Records.{changed_all, in_session}
 use Rattle.mqtt_rows.specs.Order.{change_row, remove_row, row_at}
 use Rattle.mqtt_rows.proofs.LookUps.{row_at-remove_row}
-use Rattle.mqtt_rules.specs.Closing.{close_session, end_session, has_due_will, has_due_end, publish_will, settle}
-use Rattle.mqtt_rules.specs.Contents.{IsWilled}
-use Rattle.mqtt_rules.specs.Deeds.{Act, At, Close, Deed, DropWill, Finish, Leave, Part, SetExpiry, whose, after, after_all, always, only_if, part_rows, part_rows_of, series, then, with_session}
-use Rattle.mqtt_rules.specs.Routing.{subscriber_of, subscribers}
-use Rattle.mqtt_rules.specs.State.{Broker, Env, session_at}
-use Rattle.mqtt_rules.proofs.LookedUp.{row_at-change_row, field_kept}
-use Rattle.mqtt_tables.specs.Undoing.{moment_of}
-use Rattle.mqtt_tables.specs.declared.fault.StepFault.{StepFault}
-use Rattle.mqtt_tables.specs.Stepping.{Stepping, did, Did, Does, IsLeft, Leaves, env_in, to_session}
-use Rattle.mqtt_tables.proofs.Doing.{did_none, found_birth, stands}
+use Rattle.mqtt_acts.specs.TheRules.Closing.{close_session, end_session, has_due_will, has_due_end, publish_will, settle}
+use Rattle.mqtt_acts.specs.TheRules.Contents.{IsWilled}
+use Rattle.mqtt_acts.specs.TheRules.Deeds.{Act, At, Close, Deed, DropWill, Finish, Leave, Part, SetExpiry, whose, after, after_all, always, only_if, part_rows, part_rows_of, series, then, with_session}
+use Rattle.mqtt_acts.specs.TheRules.Routing.{subscriber_of, subscribers}
+use Rattle.mqtt_acts.specs.TheRules.State.{Broker, Env, session_at}
+use Rattle.mqtt_acts.proofs.TheRules.LookedUp.{row_at-change_row, field_kept}
+use Rattle.mqtt_acts.specs.TheTables.Undoing.{moment_of}
+use Rattle.mqtt_acts.specs.TheTables.declared.fault.StepFault.{StepFault}
+use Rattle.mqtt_acts.specs.TheTables.Stepping.{Stepping, did, Did, Does, IsLeft, Leaves, env_in, to_session}
+use Rattle.mqtt_acts.proofs.TheTables.Doing.{did_none, found_birth, stands}
 use Rattle.mqtt_acts.specs.Choosing.{DoesSome, LeavesSome}
 use Rattle.mqtt_acts.specs.Delivering.{whose_at}
-use Rattle.mqtt_tables.proofs.Then.{same_act, same_left}
+use Rattle.mqtt_acts.proofs.TheTables.Then.{same_act, same_left}
 use Rattle.mqtt_acts.proofs.Some.{both, does_then, leaves_first, leaves_then, then_some, then_some_left, same_does, same_leaves, same_some, same_some_left, leaves_some, alone}
 use Rattle.mqtt_closing.specs.Settling.{settles_will, settles_end, drops_will, closes}
 use Rattle.mqtt_closing.specs.Wills.{ChoosesOnce, publishes_will, will_of, will_at}

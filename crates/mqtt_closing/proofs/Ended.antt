@@ -8,16 +8,16 @@ use Rattle.mqtt_records.specs.declared.session.Session.{Session}
 use Rattle.mqtt_records.specs.Session.{birth_of, copy_place, without_copy}
 use Rattle.mqtt_rows.specs.Order.{IsAscending, row_at, remove_row}
 use Rattle.mqtt_rows.proofs.OrderLemmas.{above_none, remove-none}
-use Rattle.mqtt_rules.specs.Closing.{end_session}
-use Rattle.mqtt_rules.specs.Deeds.{Deed, At, Leave, Finish, whose, after, after_all, always, then, with_session}
-use Rattle.mqtt_rules.specs.Outbound.{at_place, of_entry}
-use Rattle.mqtt_rules.specs.State.{Broker, session_at}
-use Rattle.mqtt_rules.proofs.LookedUp.{row_at-change_row}
-use Rattle.mqtt_tables.specs.Doing.{leaves}
-use Rattle.mqtt_tables.specs.declared.fault.StepFault.{StepFault}
-use Rattle.mqtt_tables.specs.Stepping.{Stepping, did, Did, IsLeft}
-use Rattle.mqtt_tables.proofs.Doing.{did_none, found_birth, stands}
-use Rattle.mqtt_tables.proofs.Then.{same_act, same_left, did_then, left_first, left_then}
+use Rattle.mqtt_acts.specs.TheRules.Closing.{end_session}
+use Rattle.mqtt_acts.specs.TheRules.Deeds.{Deed, At, Leave, Finish, whose, after, after_all, always, then, with_session}
+use Rattle.mqtt_acts.specs.TheRules.Outbound.{at_place, of_entry}
+use Rattle.mqtt_acts.specs.TheRules.State.{Broker, session_at}
+use Rattle.mqtt_acts.proofs.TheRules.LookedUp.{row_at-change_row}
+use Rattle.mqtt_acts.specs.TheTables.Doing.{leaves}
+use Rattle.mqtt_acts.specs.TheTables.declared.fault.StepFault.{StepFault}
+use Rattle.mqtt_acts.specs.TheTables.Stepping.{Stepping, did, Did, IsLeft}
+use Rattle.mqtt_acts.proofs.TheTables.Doing.{did_none, found_birth, stands}
+use Rattle.mqtt_acts.proofs.TheTables.Then.{same_act, same_left, did_then, left_first, left_then}
 use Rattle.mqtt_closing.specs.Ending.{ends, first_ends, ends_first, finishes, queue_of, queue_at}
 
 -- ---- the queue after its first copy left

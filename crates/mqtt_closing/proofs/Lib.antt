@@ -7,3 +7,5 @@ pub mod Ticked
 pub use Rattle.mqtt_acts.proofs.Leading
 pub use Rattle.mqtt_acts.proofs.Some
 pub mod WilledBrokers
+pub use Rattle.mqtt_acts.proofs.TheRules
+pub use Rattle.mqtt_acts.proofs.TheTables

@@ -6,19 +6,19 @@ use Rattle.mqtt_base.specs.Codes.{normal_disconnection, protocol_error}
 use Rattle.mqtt_records.specs.declared.session.Session.{Session}
 use Rattle.mqtt_records.specs.declared.records.Records.{Records}
 use Rattle.mqtt_rows.specs.Order.{row_at}
-use Rattle.mqtt_rules.specs.Closing.{close, close_connected, drop_line}
-use Rattle.mqtt_rules.specs.Contents.{IsWilled}
-use Rattle.mqtt_rules.specs.Deeds.{Act, Gone, Send, SetExpiry, after_all, always, series, then, with_line, with_session}
-use Rattle.mqtt_rules.specs.Inbound.{is_late_expiry, leave_by, new_expiry, on_disconnect}
-use Rattle.mqtt_rules.specs.Packets.{disconnect}
-use Rattle.mqtt_rules.specs.State.{Broker, Env, Line, line_at, session_at}
-use Rattle.mqtt_rules.specs.Step.{deeds_of, Lost}
-use Rattle.mqtt_tables.specs.Lines.{line_number}
-use Rattle.mqtt_tables.specs.declared.fault.StepFault.{StepFault}
-use Rattle.mqtt_tables.specs.Stepping.{Stepping, did, Did, IsLeft, env_in, to_session}
-use Rattle.mqtt_tables.proofs.Doing.{did_none}
+use Rattle.mqtt_acts.specs.TheRules.Closing.{close, close_connected, drop_line}
+use Rattle.mqtt_acts.specs.TheRules.Contents.{IsWilled}
+use Rattle.mqtt_acts.specs.TheRules.Deeds.{Act, Gone, Send, SetExpiry, after_all, always, series, then, with_line, with_session}
+use Rattle.mqtt_acts.specs.TheRules.Inbound.{is_late_expiry, leave_by, new_expiry, on_disconnect}
+use Rattle.mqtt_acts.specs.TheRules.Packets.{disconnect}
+use Rattle.mqtt_acts.specs.TheRules.State.{Broker, Env, Line, line_at, session_at}
+use Rattle.mqtt_acts.specs.TheRules.Step.{deeds_of, Lost}
+use Rattle.mqtt_acts.specs.TheTables.Lines.{line_number}
+use Rattle.mqtt_acts.specs.TheTables.declared.fault.StepFault.{StepFault}
+use Rattle.mqtt_acts.specs.TheTables.Stepping.{Stepping, did, Did, IsLeft, env_in, to_session}
+use Rattle.mqtt_acts.proofs.TheTables.Doing.{did_none}
 use Rattle.mqtt_acts.specs.Choosing.{DoesSome, LeavesSome}
-use Rattle.mqtt_tables.proofs.Then.{same_act}
+use Rattle.mqtt_acts.proofs.TheTables.Then.{same_act}
 use Rattle.mqtt_acts.proofs.Some.{both, does_then, does_some, leaves_first, leaves_some, then_some, then_some_left, same_does, same_some, same_some_left, alone}
 use Rattle.mqtt_closing.specs.Settling.{closes, disconnects, leaves_by, sets_expiry}
 use Rattle.mqtt_closing.specs.Wills.{ChoosesOnce, will_at}

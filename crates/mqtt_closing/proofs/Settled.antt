@@ -2,15 +2,15 @@
 use Rattle.std.proofs.Common.{◌≡◌, ℕ, Bool, true, false, [], ◌∷◌, ◌++◌, refl, ap, sym, ◌∙◌}
 use Rattle.std.specs.Prelude.{Option, Some, None}
 use Rattle.mqtt_records.specs.declared.session.Session.{Session}
-use Rattle.mqtt_rules.specs.Closing.{has_due_will, has_due_end, publish_will, end_session, settle}
-use Rattle.mqtt_rules.specs.Deeds.{Act, after_all, always, only_if, series, with_session}
-use Rattle.mqtt_rules.specs.State.{Broker, Env, session_at}
-use Rattle.mqtt_tables.specs.Undoing.{moment_of}
-use Rattle.mqtt_tables.specs.declared.fault.StepFault.{StepFault}
-use Rattle.mqtt_tables.specs.Stepping.{Stepping, did, Did, Does, IsLeft, Leaves, env_in}
-use Rattle.mqtt_tables.proofs.Doing.{did_none}
+use Rattle.mqtt_acts.specs.TheRules.Closing.{has_due_will, has_due_end, publish_will, end_session, settle}
+use Rattle.mqtt_acts.specs.TheRules.Deeds.{Act, after_all, always, only_if, series, with_session}
+use Rattle.mqtt_acts.specs.TheRules.State.{Broker, Env, session_at}
+use Rattle.mqtt_acts.specs.TheTables.Undoing.{moment_of}
+use Rattle.mqtt_acts.specs.TheTables.declared.fault.StepFault.{StepFault}
+use Rattle.mqtt_acts.specs.TheTables.Stepping.{Stepping, did, Did, Does, IsLeft, Leaves, env_in}
+use Rattle.mqtt_acts.proofs.TheTables.Doing.{did_none}
 use Rattle.mqtt_acts.specs.Choosing.{DoesSome, LeavesSome}
-use Rattle.mqtt_tables.proofs.Then.{same_act, same_left}
+use Rattle.mqtt_acts.proofs.TheTables.Then.{same_act, same_left}
 use Rattle.mqtt_acts.proofs.Some.{both, does_then, leaves_first, leaves_then, some_then, some_left_first, some_left_then, same_does, same_leaves, same_some, same_some_left, does_some, alone}
 use Rattle.mqtt_closing.specs.Ending.{ends}
 use Rattle.mqtt_closing.specs.Settling.{settles_will, settles_end}

@@ -1,12 +1,12 @@
 -- What is due, and what is done of it.
 use Rattle.std.proofs.Common.{◌≡◌, ℕ, true, ap, sym}
 use Rattle.std.specs.Prelude.{Some, None}
-use Rattle.mqtt_rules.specs.Closing.{close, drop_line}
-use Rattle.mqtt_rules.specs.State.{Broker, Env, Line}
-use Rattle.mqtt_rules.specs.Tick.{silence}
+use Rattle.mqtt_acts.specs.TheRules.Closing.{close, drop_line}
+use Rattle.mqtt_acts.specs.TheRules.State.{Broker, Env, Line}
+use Rattle.mqtt_acts.specs.TheRules.Tick.{silence}
 use Rattle.mqtt_base.specs.Codes.{keep_alive_timeout}
-use Rattle.mqtt_tables.specs.declared.fault.StepFault.{StepFault}
-use Rattle.mqtt_tables.specs.Stepping.{Stepping, env_in}
+use Rattle.mqtt_acts.specs.TheTables.declared.fault.StepFault.{StepFault}
+use Rattle.mqtt_acts.specs.TheTables.Stepping.{Stepping, env_in}
 use Rattle.mqtt_acts.specs.Choosing.{DoesSome, LeavesSome}
 use Rattle.mqtt_acts.proofs.Some.{same_some, same_some_left}
 

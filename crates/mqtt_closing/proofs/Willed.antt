@@ -7,19 +7,19 @@ use Rattle.mqtt_message.specs.declared.message.MessageCopy.{MessageCopy}
 use Rattle.mqtt_message.specs.declared.message.Will.{Will}
 use Rattle.mqtt_records.specs.declared.session.Session.{Session}
 use Rattle.mqtt_records.specs.declared.records.Records.{Records}
-use Rattle.mqtt_rules.specs.Closing.{will_message, publish_or_refuse, will_deeds, publish_will}
-use Rattle.mqtt_rules.specs.Contents.{IsWilled, of_rows}
-use Rattle.mqtt_rules.specs.Deeds.{Act, At, DropWill, FromWill, Message, Part, RefuseWill, Whose, whose, always, with_session}
-use Rattle.mqtt_rules.specs.Routing.{CopyTo, publish, next_publication}
-use Rattle.mqtt_rules.specs.State.{Broker, Env, MemberChoice, session_at}
-use Rattle.mqtt_rules.proofs.ContentPackets.{published}
-use Rattle.mqtt_tables.specs.declared.fault.StepFault.{StepFault}
-use Rattle.mqtt_tables.specs.declared.fault.StepFault.TheVariants.{Memory}
-use Rattle.mqtt_tables.specs.Stepping.{Stepping, did, Did, Does, IsLeft, Leaves, env_in, to_session}
-use Rattle.mqtt_tables.proofs.Doing.{did_none, found_birth}
+use Rattle.mqtt_acts.specs.TheRules.Closing.{will_message, publish_or_refuse, will_deeds, publish_will}
+use Rattle.mqtt_acts.specs.TheRules.Contents.{IsWilled, of_rows}
+use Rattle.mqtt_acts.specs.TheRules.Deeds.{Act, At, DropWill, FromWill, Message, Part, RefuseWill, Whose, whose, always, with_session}
+use Rattle.mqtt_acts.specs.TheRules.Routing.{CopyTo, publish, next_publication}
+use Rattle.mqtt_acts.specs.TheRules.State.{Broker, Env, MemberChoice, session_at}
+use Rattle.mqtt_acts.proofs.TheRules.ContentPackets.{published}
+use Rattle.mqtt_acts.specs.TheTables.declared.fault.StepFault.{StepFault}
+use Rattle.mqtt_acts.specs.TheTables.declared.fault.StepFault.TheVariants.{Memory}
+use Rattle.mqtt_acts.specs.TheTables.Stepping.{Stepping, did, Did, Does, IsLeft, Leaves, env_in, to_session}
+use Rattle.mqtt_acts.proofs.TheTables.Doing.{did_none, found_birth}
 use Rattle.mqtt_acts.specs.Choosing.{DoesSome, LeavesSome, IsLawfulMessage, IsRefused, IsAccepted}
 use Rattle.mqtt_acts.specs.Delivering.{addressed_all, whose_at, SameSessions}
-use Rattle.mqtt_tables.proofs.Then.{same_act, same_left}
+use Rattle.mqtt_acts.proofs.TheTables.Then.{same_act, same_left}
 use Rattle.mqtt_acts.proofs.Some.{both, some_then, some_left_first, some_left_then, same_some, same_some_left, does_some}
 use Rattle.mqtt_closing.specs.Wills.{will_of, will_at, message_of, message_at, publishes, publishes_will}
 

@@ -5,9 +5,9 @@ use Rattle.std.specs.List.{AllByRecursion}
 use Rattle.mqtt_records.specs.declared.records.Records.{Records}
 use Rattle.mqtt_records.specs.declared.session.Session.{Session}
 use Rattle.mqtt_records.specs.Session.{birth_of}
-use Rattle.mqtt_rules.specs.Contents.{AreContentsLawful, HasContents, IsWilled}
-use Rattle.mqtt_rules.specs.State.{Broker, session_at}
-use Rattle.mqtt_rules.proofs.FlightRows.{all_at}
+use Rattle.mqtt_acts.specs.TheRules.Contents.{AreContentsLawful, HasContents, IsWilled}
+use Rattle.mqtt_acts.specs.TheRules.State.{Broker, session_at}
+use Rattle.mqtt_acts.proofs.TheRules.FlightRows.{all_at}
 use Rattle.mqtt_closing.specs.Wills.{will_at, will_of}
 
 willed_by : (birth : ℕ) (r : Records) (o : Option Session) → session_at birth r ≡ o → AllByRecursion HasContents r.sessions → IsWilled (will_of o)

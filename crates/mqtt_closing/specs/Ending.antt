@@ -4,9 +4,9 @@ use Rattle.mqtt_base.specs.declared.session.Ending.TheVariants.{SessionEnded}
 use Rattle.mqtt_message.specs.Queue.{CopyRow}
 use Rattle.mqtt_records.specs.declared.session.Session.{Session}
 use Rattle.mqtt_records.specs.declared.records.Records.{Records}
-use Rattle.mqtt_rules.specs.Closing.{end_session}
-use Rattle.mqtt_rules.specs.Deeds.{Act, Deed, At, Leave, Finish, whose, always, of_session}
-use Rattle.mqtt_rules.specs.State.{session_at}
+use Rattle.mqtt_acts.specs.TheRules.Closing.{end_session}
+use Rattle.mqtt_acts.specs.TheRules.Deeds.{Act, Deed, At, Leave, Finish, whose, always, of_session}
+use Rattle.mqtt_acts.specs.TheRules.State.{session_at}
 
 -- the session with a birth ends, if it stands
 abbrev pub ends : ℕ → Act

@@ -1,10 +1,10 @@
 -- Parts of settling a session, and of closing it (MQTT 5.0, 3.1.2.11.2, 3.1.3.2.2, 3.14.4).
 use Rattle.std.specs.Prelude.{ℕ, Bool, not, nat_eq, [], ◌∷◌, Option}
 use Rattle.mqtt_base.specs.Codes.{normal_disconnection}
-use Rattle.mqtt_rules.specs.Closing.{has_due_will, has_due_end, publish_will, end_session, close, close_session}
-use Rattle.mqtt_rules.specs.Deeds.{Act, At, DropWill, whose, always, only_if, of_session, then}
-use Rattle.mqtt_rules.specs.Inbound.{new_expiry, on_disconnect}
-use Rattle.mqtt_rules.specs.State.{Env, Line}
+use Rattle.mqtt_acts.specs.TheRules.Closing.{has_due_will, has_due_end, publish_will, end_session, close, close_session}
+use Rattle.mqtt_acts.specs.TheRules.Deeds.{Act, At, DropWill, whose, always, only_if, of_session, then}
+use Rattle.mqtt_acts.specs.TheRules.Inbound.{new_expiry, on_disconnect}
+use Rattle.mqtt_acts.specs.TheRules.State.{Env, Line}
 
 -- the Will of the session with a birth is published, if it is due at a moment
 abbrev pub settles_will : ℕ → ℕ → Env → Act

@@ -3,9 +3,9 @@ use Rattle.std.specs.Prelude.{ℕ, List, find, Option, option_map}
 use Rattle.mqtt_records.specs.declared.records.Records.{Records}
 use Rattle.mqtt_records.specs.Records.{kept_place}
 use Rattle.mqtt_records.specs.Session.{birth_of}
-use Rattle.mqtt_rules.specs.Closing.{has_due_will, has_due_end}
-use Rattle.mqtt_rules.specs.State.{Line}
-use Rattle.mqtt_rules.specs.Tick.{is_silent, is_stale, has_lapsed}
+use Rattle.mqtt_acts.specs.TheRules.Closing.{has_due_will, has_due_end}
+use Rattle.mqtt_acts.specs.TheRules.State.{Line}
+use Rattle.mqtt_acts.specs.TheRules.Tick.{is_silent, is_stale, has_lapsed}
 
 -- the first line that is silent for too long
 abbrev pub silent_in : ℕ → List Line → Option Line

@@ -3,11 +3,11 @@ use Rattle.std.specs.Prelude.{◌≡◌, ◌⊎◌, ℕ, Option, Some, None, opt
 use Rattle.mqtt_message.specs.declared.message.Will.{Will}
 use Rattle.mqtt_records.specs.declared.session.Session.{Session}
 use Rattle.mqtt_records.specs.declared.records.Records.{Records}
-use Rattle.mqtt_rules.specs.Closing.{will_message, publish_or_refuse, publish_will}
-use Rattle.mqtt_rules.specs.Deeds.{Act, Whose, Message, of_session}
-use Rattle.mqtt_rules.specs.Routing.{accepted_copies}
-use Rattle.mqtt_rules.specs.State.{Env, session_at}
-use Rattle.mqtt_tables.specs.Stepping.{Stepping, Does}
+use Rattle.mqtt_acts.specs.TheRules.Closing.{will_message, publish_or_refuse, publish_will}
+use Rattle.mqtt_acts.specs.TheRules.Deeds.{Act, Whose, Message, of_session}
+use Rattle.mqtt_acts.specs.TheRules.Routing.{accepted_copies}
+use Rattle.mqtt_acts.specs.TheRules.State.{Env, session_at}
+use Rattle.mqtt_acts.specs.TheTables.Stepping.{Stepping, Does}
 
 abbrev pub will_of : Option Session → Option Will
 will_of None = None

@@ -1,22 +1,21 @@
 //! A line closes, and its session with it (MQTT 5.0, 3.14.4, 4.13).
 ghost use Rattle.std.specs.Prelude.{◌≡◌, ◌∷◌, [], ℕ, List, Some, None, OnOk, IfErr};
 ghost use Rattle.mqtt_routes.specs.Subscriptions.{Subscriber};
-ghost use Rattle.mqtt_rules.specs.Closing.{close, drop_line};
-ghost use Rattle.mqtt_rules.specs.Contents.{IsWilled};
-ghost use Rattle.mqtt_rules.specs.Deeds.{Send, always};
-ghost use Rattle.mqtt_rules.specs.Packets.{disconnect};
-ghost use Rattle.mqtt_rules.specs.Routing.{subscribers};
-ghost use Rattle.mqtt_rules.specs.State.{Line};
-ghost use Rattle.mqtt_tables.specs.Stepping.{Did, Does, IsLeft, Leaves};
+ghost use Rattle.mqtt_acts.specs.TheRules.Closing.{close, drop_line};
+ghost use Rattle.mqtt_acts.specs.TheRules.Contents.{IsWilled};
+ghost use Rattle.mqtt_acts.specs.TheRules.Deeds.{Send, always};
+ghost use Rattle.mqtt_acts.specs.TheRules.Packets.{disconnect};
+ghost use Rattle.mqtt_acts.specs.TheRules.Routing.{subscribers};
+ghost use Rattle.mqtt_acts.specs.TheRules.State.{Line};
+ghost use Rattle.mqtt_acts.specs.TheTables.Stepping.{Did, Does, IsLeft, Leaves};
 ghost use Rattle.mqtt_acts.specs.Choosing.{DoesSome, LeavesSome};
 ghost use Rattle.mqtt_closing.specs.Settling.{drops_will, closes};
 ghost use Rattle.mqtt_closing.specs.Wills.{ChoosesOnce, will_at};
 
 use crate::settling::settle;
-use mqtt_acts::Router;
+use mqtt_acts::{Router, Step, StepFault};
 use mqtt_base::Reason;
 use mqtt_outputs::disconnect;
-use mqtt_tables::{Step, StepFault};
 use std::alloc::Global;
 
 /// A session's Will is dropped, unless it keeps it (3.14.4).

@@ -2,11 +2,11 @@
 ghost use Rattle.std.specs.Prelude.{◌≡◌, length, slice_get, option_copied, OnOk, IfErr};
 ghost use Rattle.mqtt_rows.specs.Order.{IsAscending};
 ghost use Rattle.mqtt_records.specs.Session.{copy_place};
-ghost use Rattle.mqtt_tables.specs.Stepping.{Did, IsLeft};
+ghost use Rattle.mqtt_acts.specs.TheTables.Stepping.{Did, IsLeft};
 ghost use Rattle.mqtt_closing.specs.Ending.{ends, ends_first, finishes, queue_at};
 
+use mqtt_acts::{Step, StepFault};
 use mqtt_base::Ending;
-use mqtt_tables::{Step, StepFault};
 
 /// How many copies a session's queue has; 0 where none stands.
 fn copies(step: &Step, birth: u64) -> usize

@@ -2,20 +2,18 @@
 ghost use Rattle.std.specs.Prelude.{◌≡◌, ℕ, List, not, nat_eq, Some, OnOk, IfErr};
 ghost use Rattle.mqtt_base.specs.Codes.{normal_disconnection};
 ghost use Rattle.mqtt_routes.specs.Subscriptions.{Subscriber};
-ghost use Rattle.mqtt_rules.specs.Contents.{IsWilled};
-ghost use Rattle.mqtt_rules.specs.Routing.{subscribers};
-ghost use Rattle.mqtt_rules.specs.State.{Line};
-ghost use Rattle.mqtt_rules.specs.Step.{deeds_of, Lost};
-ghost use Rattle.mqtt_tables.specs.Stepping.{Did, IsLeft};
+ghost use Rattle.mqtt_acts.specs.TheRules.Contents.{IsWilled};
+ghost use Rattle.mqtt_acts.specs.TheRules.Routing.{subscribers};
+ghost use Rattle.mqtt_acts.specs.TheRules.State.{Line};
+ghost use Rattle.mqtt_acts.specs.TheRules.Step.{deeds_of, Lost};
+ghost use Rattle.mqtt_acts.specs.TheTables.Stepping.{Did, IsLeft};
 ghost use Rattle.mqtt_acts.specs.Choosing.{DoesSome, LeavesSome};
 ghost use Rattle.mqtt_closing.specs.Settling.{sets_expiry, leaves_by, disconnects};
 ghost use Rattle.mqtt_closing.specs.Wills.{will_at};
 
 use crate::closing::{close, drop_line};
-use mqtt_acts::Router;
+use mqtt_acts::{Router, Step, StepFault, is_late_expiry};
 use mqtt_base::Reason;
-use mqtt_tables::{Step, StepFault};
-use mqtt_verdicts::is_late_expiry;
 use std::alloc::Global;
 
 /// Whether a client that disconnects with a code keeps its Will (3.14.4).

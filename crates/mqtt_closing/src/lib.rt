@@ -12,7 +12,12 @@ mod wills;
 pub use closing::{close, drop_line};
 pub use ending::end_session;
 pub use leaving::{disconnect, lost};
-pub use mqtt_acts::Router;
+pub use mqtt_acts::{
+    Answered, EngineError, Limits, LineState, Outcome, Report, Router, Step, StepFault,
+    assigned_name, commit, commit_kept, expire, expiry_of, fault_code, has_due_end, has_due_will,
+    has_lapsed, is_stale, largest_of, number_at, puback, pubcomp, pubrec, pump, refusal,
+    takes_refusal, will_of, window_of,
+};
 pub use settling::settle;
 pub use ticking::{close_silent, silent_line};
 pub use wills::publish_will;

@@ -2,19 +2,17 @@
 //! 3.1.2.11.2, 3.1.3.2.2).
 ghost use Rattle.std.specs.Prelude.{◌≡◌, List, None, OnOk, IfErr};
 ghost use Rattle.mqtt_routes.specs.Subscriptions.{Subscriber};
-ghost use Rattle.mqtt_rules.specs.Closing.{settle};
-ghost use Rattle.mqtt_rules.specs.Contents.{IsWilled};
-ghost use Rattle.mqtt_rules.specs.Routing.{subscribers};
-ghost use Rattle.mqtt_tables.specs.Stepping.{Did, Does, IsLeft, Leaves};
+ghost use Rattle.mqtt_acts.specs.TheRules.Closing.{settle};
+ghost use Rattle.mqtt_acts.specs.TheRules.Contents.{IsWilled};
+ghost use Rattle.mqtt_acts.specs.TheRules.Routing.{subscribers};
+ghost use Rattle.mqtt_acts.specs.TheTables.Stepping.{Did, Does, IsLeft, Leaves};
 ghost use Rattle.mqtt_acts.specs.Choosing.{DoesSome, LeavesSome};
 ghost use Rattle.mqtt_closing.specs.Settling.{settles_will, settles_end};
 ghost use Rattle.mqtt_closing.specs.Wills.{ChoosesOnce, will_at};
 
 use crate::ending::end_session;
 use crate::wills::publish_will;
-use mqtt_acts::Router;
-use mqtt_tables::{Step, StepFault};
-use mqtt_verdicts::{has_due_end, has_due_will};
+use mqtt_acts::{Router, Step, StepFault, has_due_end, has_due_will};
 use std::alloc::Global;
 
 /// A session's Will is published, if it is due at a moment (3.1.3.2.2).

@@ -2,20 +2,18 @@
 //! 3.3.2.3.3).
 ghost use Rattle.std.specs.Prelude.{◌≡◌, ℕ, List, Some, option_copied, OnOk, IfErr};
 ghost use Rattle.mqtt_routes.specs.Subscriptions.{Subscriber};
-ghost use Rattle.mqtt_rules.specs.Contents.{IsWilled};
-ghost use Rattle.mqtt_rules.specs.Routing.{subscribers};
-ghost use Rattle.mqtt_rules.specs.State.{Line};
-ghost use Rattle.mqtt_rules.specs.Tick.{is_silent, silence};
+ghost use Rattle.mqtt_acts.specs.TheRules.Contents.{IsWilled};
+ghost use Rattle.mqtt_acts.specs.TheRules.Routing.{subscribers};
+ghost use Rattle.mqtt_acts.specs.TheRules.State.{Line};
+ghost use Rattle.mqtt_acts.specs.TheRules.Tick.{is_silent, silence};
 ghost use Rattle.mqtt_acts.specs.Choosing.{DoesSome, LeavesSome};
 ghost use Rattle.mqtt_closing.specs.Ticking.{silent_in};
 ghost use Rattle.mqtt_closing.specs.Wills.{will_at};
-ghost use Rattle.mqtt_tables.specs.Undoing.{moment_of};
+ghost use Rattle.mqtt_acts.specs.TheTables.Undoing.{moment_of};
 
 use crate::closing::{close, drop_line};
-use mqtt_acts::Router;
+use mqtt_acts::{LineState, Router, Step, StepFault, is_silent};
 use mqtt_base::Reason;
-use mqtt_tables::{LineState, Step, StepFault};
-use mqtt_verdicts::is_silent;
 use std::alloc::Global;
 
 /// Whether a line is silent for too long (3.1.2.10).

@@ -1,17 +1,15 @@
 //! A session's Will is published or refused, and then there is none (MQTT 5.0, 3.1.2.5).
 ghost use Rattle.std.specs.Prelude.{◌≡◌, ◌∷◌, [], List, Some, None, IfOk, OnOk, IfErr};
 ghost use Rattle.mqtt_routes.specs.Subscriptions.{Subscriber};
-ghost use Rattle.mqtt_rules.specs.Contents.{IsWilled};
-ghost use Rattle.mqtt_rules.specs.Deeds.{Whose, RefuseWill, always};
-ghost use Rattle.mqtt_rules.specs.Routing.{subscribers};
-ghost use Rattle.mqtt_tables.specs.Stepping.{Did, Does, IsLeft, Leaves};
+ghost use Rattle.mqtt_acts.specs.TheRules.Contents.{IsWilled};
+ghost use Rattle.mqtt_acts.specs.TheRules.Deeds.{Whose, RefuseWill, always};
+ghost use Rattle.mqtt_acts.specs.TheRules.Routing.{subscribers};
+ghost use Rattle.mqtt_acts.specs.TheTables.Stepping.{Did, Does, IsLeft, Leaves};
 ghost use Rattle.mqtt_acts.specs.Choosing.{DoesSome, LeavesSome, IsLawfulMessage, IsRouted};
 ghost use Rattle.mqtt_acts.specs.Delivering.{SameSessions};
 ghost use Rattle.mqtt_closing.specs.Wills.{message_at, will_at, publishes, publishes_will, ChoosesOnce};
 
-use mqtt_acts::{Router, Routing, publish};
-use mqtt_tables::{Step, StepFault};
-use mqtt_verdicts::Message;
+use mqtt_acts::{Message, Router, Routing, Step, StepFault, publish};
 use std::alloc::Global;
 
 /// The message of a session's Will, if it stands and has one.

@@ -5,12 +5,12 @@ use Rattle.mqtt_base.specs.Codes.{quota_exceeded}
 use Rattle.mqtt_connect.specs.declared.connect.Connect.{Connect}
 use Rattle.mqtt_records.specs.declared.session.Session.{Session}
 use Rattle.mqtt_topic.specs.Names.{is_empty}
-use Rattle.mqtt_rules.specs.State.{Line, Env, MemberChoice, session_named}
-use Rattle.mqtt_rules.specs.Deeds.{Act}
-use Rattle.mqtt_rules.specs.Connect.{begin_named, joins, on_connect, prepare, refused, resume}
-use Rattle.mqtt_tables.specs.declared.fault.StepFault.{StepFault}
-use Rattle.mqtt_tables.specs.Stepping.{Stepping, Did, IsLeft, Leaves, env_in}
-use Rattle.mqtt_tables.proofs.Then.{same_act, same_left}
+use Rattle.mqtt_closing.specs.TheRules.State.{Line, Env, MemberChoice, session_named}
+use Rattle.mqtt_closing.specs.TheRules.Deeds.{Act}
+use Rattle.mqtt_closing.specs.TheRules.Connect.{begin_named, joins, on_connect, prepare, refused, resume}
+use Rattle.mqtt_closing.specs.TheTables.declared.fault.StepFault.{StepFault}
+use Rattle.mqtt_closing.specs.TheTables.Stepping.{Stepping, Did, IsLeft, Leaves, env_in}
+use Rattle.mqtt_closing.proofs.TheTables.Then.{same_act, same_left}
 use Rattle.mqtt_closing.proofs.Leading.{same_env}
 use Rattle.mqtt_connecting.specs.declared.joining.Joined.{Joined}
 use Rattle.mqtt_connecting.specs.declared.joining.Joined.TheVariants.{Done, NoPlace}

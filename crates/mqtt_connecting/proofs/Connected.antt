@@ -6,12 +6,12 @@ use Rattle.mqtt_connect.specs.declared.connect.Connect.{Connect}
 use Rattle.mqtt_records.specs.declared.session.Session.{Session}
 use Rattle.mqtt_records.specs.declared.records.Records.{Records}
 use Rattle.mqtt_topic.specs.Names.{is_empty}
-use Rattle.mqtt_rules.specs.State.{Line, Broker, Env, MemberChoice, session_named}
-use Rattle.mqtt_rules.specs.Deeds.{Act, Deed, after_all, always, only_if, series, then, with_session}
-use Rattle.mqtt_rules.specs.Closing.{settle}
-use Rattle.mqtt_rules.specs.Connect.{begin_named, clear, connect_by, joins, joins_after, of_client, on_connect, prepare, refusal, refused, take_over}
-use Rattle.mqtt_tables.specs.Stepping.{Stepping, env_in}
-use Rattle.mqtt_rules.proofs.NumberFacts.{now_stays}
+use Rattle.mqtt_closing.specs.TheRules.State.{Line, Broker, Env, MemberChoice, session_named}
+use Rattle.mqtt_closing.specs.TheRules.Deeds.{Act, Deed, after_all, always, only_if, series, then, with_session}
+use Rattle.mqtt_closing.specs.TheRules.Closing.{settle}
+use Rattle.mqtt_closing.specs.TheRules.Connect.{begin_named, clear, connect_by, joins, joins_after, of_client, on_connect, prepare, refusal, refused, take_over}
+use Rattle.mqtt_closing.specs.TheTables.Stepping.{Stepping, env_in}
+use Rattle.mqtt_closing.proofs.TheRules.NumberFacts.{now_stays}
 use Rattle.mqtt_connecting.specs.Joining.{has_place, joins_now}
 use Rattle.mqtt_connecting.proofs.Wholes.{begins_named}
 

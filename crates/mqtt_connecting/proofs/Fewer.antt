@@ -10,21 +10,21 @@ use Rattle.mqtt_records.specs.declared.records.Records.{Records}
 use Rattle.mqtt_records.specs.Records.{changed_all}
 use Rattle.mqtt_records.specs.Session.{birth_of, columns_of, with_columns, with_will, with_subscription, without_subscription, with_open, without_open, with_copy, with_phase, without_copy}
 use Rattle.mqtt_base.specs.Codes.{session_taken_over}
-use Rattle.mqtt_rules.specs.Packets.{disconnect}
-use Rattle.mqtt_rules.specs.State.{Line, Broker, Env, session_at, session_named, line_of}
-use Rattle.mqtt_rules.specs.Deeds.{Part, Deed, after, after_all, stored_after, part_rows, part_rows_of, new_entry, whose, always, only_if, of_session}
-use Rattle.mqtt_rules.specs.Deeds as deeds
-use Rattle.mqtt_rules.specs.Closing.{settle, close, close_session, close_connected, drop_line}
-use Rattle.mqtt_rules.specs.Connect.{of_client, take_over, clear, prepare}
-use Rattle.mqtt_rules.proofs.Goods.{AreGood, GoodAct, good_series, good_of_session, good_of_client, good_with_line, good_if}
-use Rattle.mqtt_rules.proofs.LineRows.{IsStill, IsStillPart}
-use Rattle.mqtt_rules.proofs.LineActs.{still_settle, still_clear}
-use Rattle.mqtt_rules.specs.Numbers.{HasGivenBirths}
-use Rattle.mqtt_rules.proofs.Acts.{anyone, leads_prepare}
-use Rattle.mqtt_rules.proofs.ByDeeds.{by_deeds, turn_law}
-use Rattle.mqtt_rules.proofs.NumberBirths.{given_all}
-use Rattle.mqtt_rules.proofs.NumberFacts.{GivesNext, next_law, next_mark}
-use Rattle.mqtt_tables.proofs.Doing.{stands}
+use Rattle.mqtt_closing.specs.TheRules.Packets.{disconnect}
+use Rattle.mqtt_closing.specs.TheRules.State.{Line, Broker, Env, session_at, session_named, line_of}
+use Rattle.mqtt_closing.specs.TheRules.Deeds.{Part, Deed, after, after_all, stored_after, part_rows, part_rows_of, new_entry, whose, always, only_if, of_session}
+use Rattle.mqtt_closing.specs.TheRules.Deeds as deeds
+use Rattle.mqtt_closing.specs.TheRules.Closing.{settle, close, close_session, close_connected, drop_line}
+use Rattle.mqtt_closing.specs.TheRules.Connect.{of_client, take_over, clear, prepare}
+use Rattle.mqtt_closing.proofs.TheRules.Goods.{AreGood, GoodAct, good_series, good_of_session, good_of_client, good_with_line, good_if}
+use Rattle.mqtt_closing.proofs.TheRules.LineRows.{IsStill, IsStillPart}
+use Rattle.mqtt_closing.proofs.TheRules.LineActs.{still_settle, still_clear}
+use Rattle.mqtt_closing.specs.TheRules.Numbers.{HasGivenBirths}
+use Rattle.mqtt_closing.proofs.TheRules.Acts.{anyone, leads_prepare}
+use Rattle.mqtt_closing.proofs.TheRules.ByDeeds.{by_deeds, turn_law}
+use Rattle.mqtt_closing.proofs.TheRules.NumberBirths.{given_all}
+use Rattle.mqtt_closing.proofs.TheRules.NumberFacts.{GivesNext, next_law, next_mark}
+use Rattle.mqtt_closing.proofs.TheTables.Doing.{stands}
 use Rattle.mqtt_connecting.specs.Joining.{has_place}
 
 abbrev pub clients : List Session → List (List ℕ)

@@ -1,10 +1,10 @@
 -- In the middle of PUBRELs that go out again: who sends the rest has sent all.
 use Rattle.std.proofs.Common.{◌≡◌, ℕ, refl, sym, subst, List, [], ◌∷◌, ◌++◌, length, arith}
 use Rattle.mqtt_flow.specs.declared.entry.Turn.{Turn}
-use Rattle.mqtt_rules.specs.Deeds.{Deed, always}
-use Rattle.mqtt_tables.specs.declared.fault.StepFault.{StepFault}
-use Rattle.mqtt_tables.specs.Stepping.{Stepping, Did, IsLeft}
-use Rattle.mqtt_tables.proofs.Doing.{did_none}
+use Rattle.mqtt_closing.specs.TheRules.Deeds.{Deed, always}
+use Rattle.mqtt_closing.specs.TheTables.declared.fault.StepFault.{StepFault}
+use Rattle.mqtt_closing.specs.TheTables.Stepping.{Stepping, Did, IsLeft}
+use Rattle.mqtt_closing.proofs.TheTables.Doing.{did_none}
 use Rattle.mqtt_connecting.specs.Connecting.{repeat, repeats}
 use Rattle.mqtt_connecting.proofs.Parts.{both_done, first_left, second_left}
 

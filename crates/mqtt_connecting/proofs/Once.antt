@@ -8,12 +8,12 @@ use Rattle.std.proofs.lemmas.Slice.Eq.{bytes_eq-Decides}
 use Rattle.mqtt_connect.specs.declared.connect.Connect.{Connect}
 use Rattle.mqtt_records.specs.declared.session.Session.{Session}
 use Rattle.mqtt_records.specs.declared.records.Records.{Records}
-use Rattle.mqtt_rules.specs.Connect.{on_connect}
-use Rattle.mqtt_rules.specs.Laws.{IsAmong, IsCoherent}
-use Rattle.mqtt_rules.specs.State.{Line, session_at}
-use Rattle.mqtt_rules.proofs.Leads.{found_passes}
-use Rattle.mqtt_rules.proofs.LineLaw.{here}
-use Rattle.mqtt_tables.specs.Stepping.{Stepping, Does}
+use Rattle.mqtt_closing.specs.TheRules.Connect.{on_connect}
+use Rattle.mqtt_closing.specs.TheRules.Laws.{IsAmong, IsCoherent}
+use Rattle.mqtt_closing.specs.TheRules.State.{Line, session_at}
+use Rattle.mqtt_closing.proofs.TheRules.Leads.{found_passes}
+use Rattle.mqtt_closing.proofs.TheRules.LineLaw.{here}
+use Rattle.mqtt_closing.specs.TheTables.Stepping.{Stepping, Does}
 use Rattle.mqtt_connecting.specs.declared.joining.Joined.TheVariants.{Done}
 use Rattle.mqtt_connecting.specs.Joining.{IsNamedAt}
 use Rattle.mqtt_connecting.specs.Preparing.{IsConnected, IsOnly}

@@ -1,9 +1,9 @@
 -- An act of two parts, of which the first or the second may be refused.
 use Rattle.std.proofs.Common.{◌≡◌}
-use Rattle.mqtt_rules.specs.Deeds.{Act, then}
-use Rattle.mqtt_tables.specs.declared.fault.StepFault.{StepFault}
-use Rattle.mqtt_tables.specs.Stepping.{Stepping, Did, IsLeft}
-use Rattle.mqtt_tables.proofs.Then.{same_act, same_left, did_then, left_first, left_then}
+use Rattle.mqtt_closing.specs.TheRules.Deeds.{Act, then}
+use Rattle.mqtt_closing.specs.TheTables.declared.fault.StepFault.{StepFault}
+use Rattle.mqtt_closing.specs.TheTables.Stepping.{Stepping, Did, IsLeft}
+use Rattle.mqtt_closing.proofs.TheTables.Then.{same_act, same_left, did_then, left_first, left_then}
 
 -- the two parts are the whole
 abbrev pub AreWhole : Act → Act → Act → Stepping → Type 0

@@ -8,17 +8,17 @@ use Rattle.mqtt_records.specs.Session.{birth_of}
 use Rattle.mqtt_routes.specs.Subscriptions.{Subscriber}
 use Rattle.mqtt_rows.specs.Order.{row_at}
 use Rattle.mqtt_base.specs.Codes.{session_taken_over}
-use Rattle.mqtt_rules.specs.Closing.{drop_line, end_session, has_due_end, has_due_will, publish_will, settle}
-use Rattle.mqtt_rules.specs.Connect.{clear, of_client, prepare, take_over}
-use Rattle.mqtt_rules.specs.Contents.{IsWilled}
-use Rattle.mqtt_rules.specs.Deeds.{Act, Deed, after_all, always, only_if, series, then, with_line, with_session}
-use Rattle.mqtt_rules.specs.Routing.{subscribers}
-use Rattle.mqtt_rules.specs.State.{Broker, Env, Line, MemberChoice, line_of, session_at}
-use Rattle.mqtt_rules.proofs.Goods.{AreGood, GoodAct}
-use Rattle.mqtt_rules.proofs.Leads.{found_passes}
-use Rattle.mqtt_tables.specs.declared.fault.StepFault.{StepFault}
-use Rattle.mqtt_tables.specs.Stepping.{Stepping, Did, Does, Leaves, env_in}
-use Rattle.mqtt_tables.proofs.Doing.{found_birth}
+use Rattle.mqtt_closing.specs.TheRules.Closing.{drop_line, end_session, has_due_end, has_due_will, publish_will, settle}
+use Rattle.mqtt_closing.specs.TheRules.Connect.{clear, of_client, prepare, take_over}
+use Rattle.mqtt_closing.specs.TheRules.Contents.{IsWilled}
+use Rattle.mqtt_closing.specs.TheRules.Deeds.{Act, Deed, after_all, always, only_if, series, then, with_line, with_session}
+use Rattle.mqtt_closing.specs.TheRules.Routing.{subscribers}
+use Rattle.mqtt_closing.specs.TheRules.State.{Broker, Env, Line, MemberChoice, line_of, session_at}
+use Rattle.mqtt_closing.proofs.TheRules.Goods.{AreGood, GoodAct}
+use Rattle.mqtt_closing.proofs.TheRules.Leads.{found_passes}
+use Rattle.mqtt_closing.specs.TheTables.declared.fault.StepFault.{StepFault}
+use Rattle.mqtt_closing.specs.TheTables.Stepping.{Stepping, Did, Does, Leaves, env_in}
+use Rattle.mqtt_closing.proofs.TheTables.Doing.{found_birth}
 use Rattle.mqtt_closing.specs.Choosing.{DoesSome, LeavesSome}
 use Rattle.mqtt_closing.proofs.Some.{same_does, same_leaves, same_some, same_some_left}
 use Rattle.mqtt_closing.specs.Ending.{ends}

@@ -2,11 +2,11 @@
 use Rattle.std.proofs.Common.{◌≡◌, ℕ, ◌≤◌, true, length, refl, ap, sym, subst, ◌∙◌}
 use Rattle.std.specs.Prelude.{Result, Ok, Err, IfErr, IfOk, None, is_some}
 use Rattle.mqtt_connect.specs.declared.connect.Connect.{Connect}
-use Rattle.mqtt_rules.specs.Connect.{on_connect, prepare, refusal}
-use Rattle.mqtt_rules.specs.Numbers.{HasGivenBirths}
-use Rattle.mqtt_rules.specs.State.{Line, MemberChoice, session_named}
-use Rattle.mqtt_tables.specs.declared.fault.StepFault.{StepFault}
-use Rattle.mqtt_tables.specs.Stepping.{Stepping, Did, IsLeft, env_in}
+use Rattle.mqtt_closing.specs.TheRules.Connect.{on_connect, prepare, refusal}
+use Rattle.mqtt_closing.specs.TheRules.Numbers.{HasGivenBirths}
+use Rattle.mqtt_closing.specs.TheRules.State.{Line, MemberChoice, session_named}
+use Rattle.mqtt_closing.specs.TheTables.declared.fault.StepFault.{StepFault}
+use Rattle.mqtt_closing.specs.TheTables.Stepping.{Stepping, Did, IsLeft, env_in}
 use Rattle.mqtt_closing.specs.Choosing.{DoesSome, LeavesSome}
 use Rattle.mqtt_connecting.specs.declared.joining.Joined.{Joined}
 use Rattle.mqtt_connecting.specs.Joining.{ConnectedBy, IsNamedAt, IsPrepared, joins_now}

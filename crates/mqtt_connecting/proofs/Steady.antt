@@ -21,17 +21,17 @@ use Rattle.mqtt_routes.specs.Subscriptions.{Subscriber}
 use Rattle.mqtt_rows.specs.Order.{row_at, change_row, remove_row}
 use Rattle.mqtt_rows.proofs.LookUps.{row_at-remove_row}
 use Rattle.mqtt_topic.specs.Names.{is_empty}
-use Rattle.mqtt_rules.specs.Closing.{has_due_will, has_due_end, will_message, publish_or_refuse, will_deeds, publish_will, end_session, settle, close, close_session, close_connected, drop_line}
-use Rattle.mqtt_rules.specs.Deeds.{Whose, whose, Message, Origin, DropWill, Enter, Leave, Part, Deed, Accept, At, Finish, after, after_all, Act, series, always, only_if, of_session, with_line, offer, part_rows, part_rows_of, new_entry}
-use Rattle.mqtt_rules.specs.Deeds as deeds
-use Rattle.mqtt_rules.specs.Outbound.{leave_deeds, since, queue_limits, enter_deeds}
-use Rattle.mqtt_rules.specs.Packets.{disconnect, publish_of}
-use Rattle.mqtt_rules.specs.Routing.{CopyTo, is_queued, deliver_by, deliver, retained_of, forgets, retain_by, next_publication, publish, accepted_copies, subscriber_of}
-use Rattle.mqtt_rules.specs.State.{Line, Broker, Env, is_of, line_of, queue_on, session_at}
-use Rattle.mqtt_rules.proofs.Goods.{AreGood, GoodAct, good_append, good_then, good_series, good_two, good_map, good_flat, good_acts, good_cond, good_if, good_with_session, good_with_line, good_of_entry}
-use Rattle.mqtt_rules.proofs.Leads.{found_passes}
-use Rattle.mqtt_rules.proofs.LookedUp.{row_at-change_row}
-use Rattle.mqtt_tables.proofs.Doing.{found_birth, stands}
+use Rattle.mqtt_closing.specs.TheRules.Closing.{has_due_will, has_due_end, will_message, publish_or_refuse, will_deeds, publish_will, end_session, settle, close, close_session, close_connected, drop_line}
+use Rattle.mqtt_closing.specs.TheRules.Deeds.{Whose, whose, Message, Origin, DropWill, Enter, Leave, Part, Deed, Accept, At, Finish, after, after_all, Act, series, always, only_if, of_session, with_line, offer, part_rows, part_rows_of, new_entry}
+use Rattle.mqtt_closing.specs.TheRules.Deeds as deeds
+use Rattle.mqtt_closing.specs.TheRules.Outbound.{leave_deeds, since, queue_limits, enter_deeds}
+use Rattle.mqtt_closing.specs.TheRules.Packets.{disconnect, publish_of}
+use Rattle.mqtt_closing.specs.TheRules.Routing.{CopyTo, is_queued, deliver_by, deliver, retained_of, forgets, retain_by, next_publication, publish, accepted_copies, subscriber_of}
+use Rattle.mqtt_closing.specs.TheRules.State.{Line, Broker, Env, is_of, line_of, queue_on, session_at}
+use Rattle.mqtt_closing.proofs.TheRules.Goods.{AreGood, GoodAct, good_append, good_then, good_series, good_two, good_map, good_flat, good_acts, good_cond, good_if, good_with_session, good_with_line, good_of_entry}
+use Rattle.mqtt_closing.proofs.TheRules.Leads.{found_passes}
+use Rattle.mqtt_closing.proofs.TheRules.LookedUp.{row_at-change_row}
+use Rattle.mqtt_closing.proofs.TheTables.Doing.{found_birth, stands}
 use Rattle.mqtt_closing.specs.Ending.{ends}
 use Rattle.mqtt_closing.specs.Wills.{publishes_will, will_of}
 use Rattle.mqtt_connecting.specs.Preparing.{takes_over, clears, clears_if}

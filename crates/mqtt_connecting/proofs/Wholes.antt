@@ -6,14 +6,14 @@ use Rattle.mqtt_flow.specs.declared.entry.Turn.{Turn}
 use Rattle.mqtt_flow.specs.declared.entry.Turn.TheVariants.{Repeat}
 use Rattle.mqtt_flow.specs.Outbound.{resumed_with, due_from}
 use Rattle.mqtt_records.specs.declared.session.Session.{Session}
-use Rattle.mqtt_rules.specs.Numbers.{HasGivenBirths}
-use Rattle.mqtt_rules.specs.State.{Line, session_at, queue_on}
-use Rattle.mqtt_rules.specs.Deeds.{Act, Begin, Name, Resume, At, Gone, always, whose, with_session}
-use Rattle.mqtt_rules.specs.Connect.{auto, begin, begin_named, expiry_of, fresh_row, greet, refused, resume, will_of}
-use Rattle.mqtt_rules.specs.Outbound.{all_turn_deeds}
-use Rattle.mqtt_tables.specs.Doing.{begins, names}
-use Rattle.mqtt_tables.specs.Stepping.{Stepping, Did, to_session}
-use Rattle.mqtt_tables.proofs.Doing.{found_birth}
+use Rattle.mqtt_closing.specs.TheRules.Numbers.{HasGivenBirths}
+use Rattle.mqtt_closing.specs.TheRules.State.{Line, session_at, queue_on}
+use Rattle.mqtt_closing.specs.TheRules.Deeds.{Act, Begin, Name, Resume, At, Gone, always, whose, with_session}
+use Rattle.mqtt_closing.specs.TheRules.Connect.{auto, begin, begin_named, expiry_of, fresh_row, greet, refused, resume, will_of}
+use Rattle.mqtt_closing.specs.TheRules.Outbound.{all_turn_deeds}
+use Rattle.mqtt_closing.specs.TheTables.Doing.{begins, names}
+use Rattle.mqtt_closing.specs.TheTables.Stepping.{Stepping, Did, to_session}
+use Rattle.mqtt_closing.proofs.TheTables.Doing.{found_birth}
 use Rattle.mqtt_connecting.specs.Connecting.{begins_greeted, begun_told, resumption_told, refusal_told, repeats, resumed_greeted, resumed_told}
 use Rattle.mqtt_connecting.proofs.Parts.{AreWhole}
 

@@ -5,10 +5,10 @@ use Rattle.mqtt_connect.specs.declared.connect.Connect.{Connect}
 use Rattle.mqtt_flow.specs.declared.entry.Turn.{Turn}
 use Rattle.mqtt_flow.specs.declared.entry.Turn.TheVariants.{Repeat}
 use Rattle.mqtt_records.specs.declared.session.Session.{Session}
-use Rattle.mqtt_rules.specs.Packets.{connack, pubrel}
-use Rattle.mqtt_rules.specs.State.{Line}
-use Rattle.mqtt_rules.specs.Deeds.{Deed, Act, Begin, Resume, At, Send, whose}
-use Rattle.mqtt_rules.specs.Connect.{connack_properties, expiry_of, fresh_row, greet, largest_of, refusal_size, will_of}
+use Rattle.mqtt_closing.specs.TheRules.Packets.{connack, pubrel}
+use Rattle.mqtt_closing.specs.TheRules.State.{Line}
+use Rattle.mqtt_closing.specs.TheRules.Deeds.{Deed, Act, Begin, Resume, At, Send, whose}
+use Rattle.mqtt_closing.specs.TheRules.Connect.{connack_properties, expiry_of, fresh_row, greet, largest_of, refusal_size, will_of}
 
 -- CONNACK that refuses, where the client takes so many bytes
 abbrev pub refusal_told : ℕ → Connect → ℕ → List Deed

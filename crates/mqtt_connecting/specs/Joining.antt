@@ -3,11 +3,11 @@ use Rattle.std.specs.Prelude.{◌≡◌, ℕ, Bool, true, false, ◌||◌, nat_l
 use Rattle.mqtt_connect.specs.declared.connect.Connect.{Connect}
 use Rattle.mqtt_records.specs.declared.session.Session.{Session}
 use Rattle.mqtt_records.specs.declared.records.Records.{Records}
-use Rattle.mqtt_rules.specs.State.{Line, Env, session_at, session_named}
-use Rattle.mqtt_rules.specs.Deeds.{Act}
+use Rattle.mqtt_closing.specs.TheRules.State.{Line, Env, session_at, session_named}
+use Rattle.mqtt_closing.specs.TheRules.Deeds.{Act}
 use Rattle.mqtt_base.specs.Codes.{quota_exceeded}
-use Rattle.mqtt_rules.specs.Connect.{joins_after, on_connect, prepare, refusal, refused}
-use Rattle.mqtt_tables.specs.Stepping.{Stepping, Did, Does}
+use Rattle.mqtt_closing.specs.TheRules.Connect.{joins_after, on_connect, prepare, refusal, refused}
+use Rattle.mqtt_closing.specs.TheTables.Stepping.{Stepping, Did, Does}
 use Rattle.mqtt_connecting.specs.declared.joining.Joined.{Joined}
 use Rattle.mqtt_connecting.specs.declared.joining.Joined.TheVariants.{Done, NoPlace}
 

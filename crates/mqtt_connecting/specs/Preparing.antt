@@ -4,10 +4,10 @@ use Rattle.std.specs.List.{AllByRecursion}
 use Rattle.mqtt_base.specs.Codes.{session_taken_over}
 use Rattle.mqtt_connect.specs.declared.connect.Connect.{Connect}
 use Rattle.mqtt_records.specs.declared.records.Records.{Records}
-use Rattle.mqtt_rules.specs.Closing.{drop_line, settle}
-use Rattle.mqtt_rules.specs.Deeds.{Act, only_if, then, with_line}
-use Rattle.mqtt_rules.specs.State.{Env, Line, MemberChoice, line_of}
-use Rattle.mqtt_tables.specs.Stepping.{Stepping, env_in}
+use Rattle.mqtt_closing.specs.TheRules.Closing.{drop_line, settle}
+use Rattle.mqtt_closing.specs.TheRules.Deeds.{Act, only_if, then, with_line}
+use Rattle.mqtt_closing.specs.TheRules.State.{Env, Line, MemberChoice, line_of}
+use Rattle.mqtt_closing.specs.TheTables.Stepping.{Stepping, env_in}
 use Rattle.mqtt_closing.specs.Ending.{ends}
 use Rattle.mqtt_closing.specs.Wills.{publishes_will}
 use Rattle.mqtt_connecting.specs.declared.joining.Joined.{Joined}

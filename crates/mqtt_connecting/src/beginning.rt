@@ -3,22 +3,21 @@ ghost use Rattle.std.specs.Prelude.{◌≡◌, ◌++◌, suc, true, false, decim
 ghost use Rattle.mqtt_codec.specs.Packets.{shortest_of};
 ghost use Rattle.mqtt_base.specs.Codes.{success};
 ghost use Rattle.mqtt_topic.specs.Names.{is_empty};
-ghost use Rattle.mqtt_rules.specs.Packets.{connack};
-ghost use Rattle.mqtt_rules.specs.State.{Line};
-ghost use Rattle.mqtt_rules.specs.Numbers.{HasGivenBirths};
-ghost use Rattle.mqtt_rules.specs.Connect.{auto, begin, begin_named, connack_properties, expiry_of, will_of};
-ghost use Rattle.mqtt_rules.specs.Deeds.{always};
-ghost use Rattle.mqtt_tables.specs.Doing.{begins};
-ghost use Rattle.mqtt_tables.specs.Stepping.{Did, IsLeft};
+ghost use Rattle.mqtt_closing.specs.TheRules.Packets.{connack};
+ghost use Rattle.mqtt_closing.specs.TheRules.State.{Line};
+ghost use Rattle.mqtt_closing.specs.TheRules.Numbers.{HasGivenBirths};
+ghost use Rattle.mqtt_closing.specs.TheRules.Connect.{auto, begin, begin_named, connack_properties, expiry_of, will_of};
+ghost use Rattle.mqtt_closing.specs.TheRules.Deeds.{always};
+ghost use Rattle.mqtt_closing.specs.TheTables.Doing.{begins};
+ghost use Rattle.mqtt_closing.specs.TheTables.Stepping.{Did, IsLeft};
 ghost use Rattle.mqtt_connecting.specs.Connecting.{begins_greeted, begun_told};
 
 use crate::greeting::greet;
 use bytes::Bytes;
 use mqtt_base::Text;
+use mqtt_closing::{Step, StepFault, assigned_name, expiry_of, will_of};
 use mqtt_codec::Connect;
 use mqtt_outputs::{connack_assigned, connack_granted};
-use mqtt_tables::{Step, StepFault};
-use mqtt_verdicts::{assigned_name, expiry_of, will_of};
 use std::alloc::{AllocError, Global};
 
 /// A session begins, with what a CONNECT says of it (3.1.2.4, 3.1.2.5).

@@ -1,16 +1,15 @@
 //! CONNECT: whether it is refused at once, and that of a client that has no session (MQTT 5.0, 3.1.4, 3.2.2.2).
 ghost use Rattle.std.specs.Prelude.{◌≡◌, Some, None, option_map, is_some, OnOk, IfErr};
-ghost use Rattle.mqtt_rules.specs.Connect.{connect_by, on_connect, refusal};
-ghost use Rattle.mqtt_rules.specs.Numbers.{HasGivenBirths};
-ghost use Rattle.mqtt_rules.specs.State.{Line, session_named};
-ghost use Rattle.mqtt_tables.specs.Stepping.{Does, Leaves};
+ghost use Rattle.mqtt_closing.specs.TheRules.Connect.{connect_by, on_connect, refusal};
+ghost use Rattle.mqtt_closing.specs.TheRules.Numbers.{HasGivenBirths};
+ghost use Rattle.mqtt_closing.specs.TheRules.State.{Line, session_named};
+ghost use Rattle.mqtt_closing.specs.TheTables.Stepping.{Does, Leaves};
 
 use crate::beginning::begin_named;
 use crate::refusing::refuse;
 use mqtt_base::Reason;
+use mqtt_closing::{Step, StepFault, refusal};
 use mqtt_codec::Connect;
-use mqtt_tables::{Step, StepFault};
-use mqtt_verdicts::refusal;
 use std::alloc::Global;
 
 /// Whether a session has a client identifier.

@@ -1,13 +1,12 @@
 //! A session is connected on a line, with what the client says of it (MQTT 5.0, 3.1.2.10, 3.1.2.11).
 ghost use Rattle.std.specs.Prelude.{◌≡◌, ◌∷◌, [], OnOk, IfErr};
-ghost use Rattle.mqtt_rules.specs.State.{Line};
-ghost use Rattle.mqtt_rules.specs.Deeds.{always};
-ghost use Rattle.mqtt_rules.specs.Connect.{greet};
-ghost use Rattle.mqtt_tables.specs.Stepping.{Did, IsLeft};
+ghost use Rattle.mqtt_closing.specs.TheRules.State.{Line};
+ghost use Rattle.mqtt_closing.specs.TheRules.Deeds.{always};
+ghost use Rattle.mqtt_closing.specs.TheRules.Connect.{greet};
+ghost use Rattle.mqtt_closing.specs.TheTables.Stepping.{Did, IsLeft};
 
+use mqtt_closing::{Step, StepFault, largest_of, window_of};
 use mqtt_codec::Connect;
-use mqtt_tables::{Step, StepFault};
-use mqtt_verdicts::{largest_of, window_of};
 
 /// A session is connected on a line, with the Keep Alive, the Receive Maximum and the Maximum Packet Size of
 /// a CONNECT (3.1.2.10, 3.1.2.11.3, 3.1.2.11.4).

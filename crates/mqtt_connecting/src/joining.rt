@@ -1,16 +1,16 @@
 //! A CONNECT that isn't refused: its session is resumed, or begins where there is a place for it (MQTT 5.0,
 //! 3.1.2.4, 3.2.2.2).
 ghost use Rattle.std.specs.Prelude.{◌≡◌, None, IfSome, IfNone, IfOk, IfErr, OnErr};
-ghost use Rattle.mqtt_rules.specs.Connect.{on_connect};
-ghost use Rattle.mqtt_rules.specs.Numbers.{HasGivenBirths};
-ghost use Rattle.mqtt_rules.specs.State.{Line, MemberChoice, session_named};
-ghost use Rattle.mqtt_tables.specs.Stepping.{env_in, IsLeft, Leaves, Stepping};
+ghost use Rattle.mqtt_closing.specs.TheRules.Connect.{on_connect};
+ghost use Rattle.mqtt_closing.specs.TheRules.Numbers.{HasGivenBirths};
+ghost use Rattle.mqtt_closing.specs.TheRules.State.{Line, MemberChoice, session_named};
+ghost use Rattle.mqtt_closing.specs.TheTables.Stepping.{env_in, IsLeft, Leaves, Stepping};
 ghost use Rattle.mqtt_connecting.specs.Joining.{ConnectedBy, IsNamedAt, IsPlaced, IsPrepared, JoinedBy, joins_now};
 
 use crate::beginning::begin_named;
 use crate::resuming::resume;
+use mqtt_closing::{Step, StepFault};
 use mqtt_codec::Connect;
-use mqtt_tables::{Step, StepFault};
 use std::alloc::Global;
 
 /// What became of a CONNECT.

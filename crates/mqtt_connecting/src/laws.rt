@@ -1,10 +1,10 @@
 //! Laws of what comes before a new connection: the places for sessions (ours), and births.
 ghost use Rattle.std.specs.Prelude.{◌≡◌, ◌≤◌, true, length, is_some};
 ghost use Rattle.mqtt_connect.specs.declared.connect.Connect.{Connect};
-ghost use Rattle.mqtt_rules.specs.Connect.{prepare};
-ghost use Rattle.mqtt_rules.specs.Deeds.{after_all};
-ghost use Rattle.mqtt_rules.specs.Numbers.{HasGivenBirths};
-ghost use Rattle.mqtt_rules.specs.State.{Broker, Env, session_named};
+ghost use Rattle.mqtt_closing.specs.TheRules.Connect.{prepare};
+ghost use Rattle.mqtt_closing.specs.TheRules.Deeds.{after_all};
+ghost use Rattle.mqtt_closing.specs.TheRules.Numbers.{HasGivenBirths};
+ghost use Rattle.mqtt_closing.specs.TheRules.State.{Broker, Env, session_named};
 ghost use Rattle.mqtt_connecting.specs.Joining.{has_place};
 
 /// A client whose session stands finds a place for its new connection, where the sessions are within their limit: what

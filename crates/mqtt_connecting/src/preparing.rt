@@ -3,20 +3,21 @@
 ghost use Rattle.std.specs.Prelude.{◌≡◌, List, Some, None, option_copied, OnOk, IfErr};
 ghost use Rattle.mqtt_records.specs.declared.session.Session.{Session as TheSession};
 ghost use Rattle.mqtt_routes.specs.Subscriptions.{Subscriber};
-ghost use Rattle.mqtt_rules.specs.Connect.{prepare};
-ghost use Rattle.mqtt_rules.specs.Contents.{IsWilled};
-ghost use Rattle.mqtt_rules.specs.Routing.{subscribers};
-ghost use Rattle.mqtt_rules.specs.State.{line_of, session_at};
-ghost use Rattle.mqtt_tables.specs.Stepping.{Does, Leaves};
+ghost use Rattle.mqtt_closing.specs.TheRules.Connect.{prepare};
+ghost use Rattle.mqtt_closing.specs.TheRules.Contents.{IsWilled};
+ghost use Rattle.mqtt_closing.specs.TheRules.Routing.{subscribers};
+ghost use Rattle.mqtt_closing.specs.TheRules.State.{line_of, session_at};
+ghost use Rattle.mqtt_closing.specs.TheTables.Stepping.{Does, Leaves};
 ghost use Rattle.mqtt_closing.specs.Choosing.{DoesSome, LeavesSome};
 ghost use Rattle.mqtt_closing.specs.Wills.{ChoosesOnce, will_at};
 ghost use Rattle.mqtt_connecting.specs.Joining.{IsNamedAt};
 ghost use Rattle.mqtt_connecting.specs.Preparing.{IsOnly, clears, clears_if, settles, settles_and_clears, takes_over};
 
 use mqtt_base::Reason;
-use mqtt_closing::{Router, drop_line, end_session, publish_will, settle};
+use mqtt_closing::{
+    LineState, Router, Step, StepFault, drop_line, end_session, publish_will, settle,
+};
 use mqtt_codec::Connect;
-use mqtt_tables::{LineState, Step, StepFault};
 use std::alloc::Global;
 
 /// The line that a session is connected on.

@@ -2,15 +2,14 @@
 ghost use Rattle.std.specs.Prelude.{◌≡◌, ◌++◌, [], Some, IfOk, IfErr, OnOk};
 ghost use Rattle.mqtt_flow.specs.Outbound.{resumed_with};
 ghost use Rattle.mqtt_records.specs.declared.session.Session.{Session as TheSession};
-ghost use Rattle.mqtt_rules.specs.State.{queue_on, session_at};
+ghost use Rattle.mqtt_closing.specs.TheRules.State.{queue_on, session_at};
 
 use mqtt_base::{Phase, Qos};
+use mqtt_closing::{Step, StepFault, number_at};
 use mqtt_flow::{QueueRow, Turn, look_resume};
 use mqtt_outputs::row_len;
 use mqtt_props::PropName;
 use mqtt_records::{Boxed, CopyRow};
-use mqtt_tables::{Step, StepFault};
-use mqtt_verdicts::number_at;
 use std::alloc::{AllocError, Global};
 use std::marker::Model;
 
@@ -32,7 +31,7 @@ impl<'a> QueueRow for Stored<'a> {
     type Went = ();
 
     ghost use Rattle.std.specs.Prelude.{[]};
-    ghost use Rattle.mqtt_rules.specs.State.{entry_on};
+    ghost use Rattle.mqtt_closing.specs.TheRules.State.{entry_on};
 
     ghost entry = { λ went row. entry_on [] row };
 

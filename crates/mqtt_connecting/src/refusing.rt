@@ -1,16 +1,15 @@
 //! A CONNECT that is refused (MQTT 5.0, 3.1.4, 3.2.2.2).
 ghost use Rattle.std.specs.Prelude.{◌≡◌, OnOk, IfErr};
-ghost use Rattle.mqtt_rules.specs.State.{Line};
-ghost use Rattle.mqtt_rules.specs.Deeds.{always};
-ghost use Rattle.mqtt_rules.specs.Connect.{refused};
-ghost use Rattle.mqtt_tables.specs.Stepping.{Did, IsLeft};
+ghost use Rattle.mqtt_closing.specs.TheRules.State.{Line};
+ghost use Rattle.mqtt_closing.specs.TheRules.Deeds.{always};
+ghost use Rattle.mqtt_closing.specs.TheRules.Connect.{refused};
+ghost use Rattle.mqtt_closing.specs.TheTables.Stepping.{Did, IsLeft};
 ghost use Rattle.mqtt_connecting.specs.Connecting.{refusal_told};
 
 use mqtt_base::Reason;
+use mqtt_closing::{Step, StepFault, takes_refusal};
 use mqtt_codec::Connect;
 use mqtt_outputs::connack_refused;
-use mqtt_tables::{Step, StepFault};
-use mqtt_verdicts::takes_refusal;
 use std::alloc::Global;
 
 /// CONNACK with the code, where the client takes so many bytes (3.1.2.11.4).

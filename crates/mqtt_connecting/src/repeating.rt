@@ -1,13 +1,13 @@
 //! PUBREL for each released copy, with which a resumption begins (MQTT 5.0, 4.4).
 ghost use Rattle.std.specs.Prelude.{OnOk, IfErr};
-ghost use Rattle.mqtt_rules.specs.Deeds.{always};
-ghost use Rattle.mqtt_tables.specs.Stepping.{Did, IsLeft};
+ghost use Rattle.mqtt_closing.specs.TheRules.Deeds.{always};
+ghost use Rattle.mqtt_closing.specs.TheTables.Stepping.{Did, IsLeft};
 ghost use Rattle.mqtt_connecting.specs.Connecting.{repeat, repeats};
 
 use mqtt_base::Reason;
+use mqtt_closing::{Step, StepFault};
 use mqtt_flow::Turn;
 use mqtt_outputs::pubrel;
-use mqtt_tables::{Step, StepFault};
 use std::alloc::Global;
 
 /// A PUBREL goes out again.

@@ -1,20 +1,19 @@
 //! A session is resumed by a CONNECT (MQTT 5.0, 3.1.2.4, 3.2.2.1.1, 4.4).
 ghost use Rattle.std.specs.Prelude.{◌≡◌, ◌++◌, Some, OnOk, IfErr};
 ghost use Rattle.mqtt_records.specs.declared.session.Session.{Session};
-ghost use Rattle.mqtt_rules.specs.State.{Line, session_at};
-ghost use Rattle.mqtt_rules.specs.Deeds.{Resume, always};
-ghost use Rattle.mqtt_rules.specs.Connect.{expiry_of, resume, will_of};
-ghost use Rattle.mqtt_tables.specs.Stepping.{Did, IsLeft, to_session};
+ghost use Rattle.mqtt_closing.specs.TheRules.State.{Line, session_at};
+ghost use Rattle.mqtt_closing.specs.TheRules.Deeds.{Resume, always};
+ghost use Rattle.mqtt_closing.specs.TheRules.Connect.{expiry_of, resume, will_of};
+ghost use Rattle.mqtt_closing.specs.TheTables.Stepping.{Did, IsLeft, to_session};
 ghost use Rattle.mqtt_connecting.specs.Connecting.{repeats, resumed_greeted, resumed_told, resumption_told};
 
 use crate::greeting::greet;
 use crate::queue::repeats_of;
 use crate::repeating::repeat_all;
+use mqtt_closing::{Step, StepFault, expiry_of, will_of};
 use mqtt_codec::Connect;
 use mqtt_flow::Turn;
 use mqtt_outputs::connack_granted;
-use mqtt_tables::{Step, StepFault};
-use mqtt_verdicts::{expiry_of, will_of};
 use std::alloc::Global;
 
 /// A session that stands is connected again, with the Session Expiry Interval and the Will of a CONNECT, or

@@ -1,11 +1,11 @@
 //! CONNECT of a client whose session stands (MQTT 5.0, 3.1.2.4, 3.1.4, 3.2.2.2).
 ghost use Rattle.std.specs.Prelude.{◌≡◌, ◌≤◌, List, None, length, IfOk, IfErr};
 ghost use Rattle.mqtt_routes.specs.Subscriptions.{Subscriber};
-ghost use Rattle.mqtt_rules.specs.Connect.{on_connect, refusal};
-ghost use Rattle.mqtt_rules.specs.Contents.{IsWilled};
-ghost use Rattle.mqtt_rules.specs.Numbers.{HasGivenBirths};
-ghost use Rattle.mqtt_rules.specs.Routing.{subscribers};
-ghost use Rattle.mqtt_rules.specs.State.{Line};
+ghost use Rattle.mqtt_closing.specs.TheRules.Connect.{on_connect, refusal};
+ghost use Rattle.mqtt_closing.specs.TheRules.Contents.{IsWilled};
+ghost use Rattle.mqtt_closing.specs.TheRules.Numbers.{HasGivenBirths};
+ghost use Rattle.mqtt_closing.specs.TheRules.Routing.{subscribers};
+ghost use Rattle.mqtt_closing.specs.TheRules.State.{Line};
 ghost use Rattle.mqtt_closing.specs.Choosing.{LeavesSome};
 ghost use Rattle.mqtt_closing.specs.Wills.{will_at};
 ghost use Rattle.mqtt_connecting.specs.Joining.{IsNamedAt};
@@ -13,9 +13,8 @@ ghost use Rattle.mqtt_connecting.specs.Preparing.{IsConnected, IsOnly};
 
 use crate::joining::{Joined, join};
 use crate::preparing::prepare;
-use mqtt_closing::Router;
+use mqtt_closing::{Router, Step, StepFault};
 use mqtt_codec::Connect;
-use mqtt_tables::{Step, StepFault};
 use std::alloc::Global;
 
 /// A CONNECT that isn't refused at once, of a client whose session stands and is the only one of its client identifier:

@@ -1,11 +1,11 @@
 //! CONNECT, whether its client has a session or not (MQTT 5.0, 3.1.4, 3.2.2.2).
 ghost use Rattle.std.specs.Prelude.{◌≡◌, ◌≤◌, ℕ, List, None, Some, length, IfOk, IfErr};
 ghost use Rattle.mqtt_routes.specs.Subscriptions.{Subscriber};
-ghost use Rattle.mqtt_rules.specs.Connect.{on_connect, refusal};
-ghost use Rattle.mqtt_rules.specs.Contents.{IsWilled};
-ghost use Rattle.mqtt_rules.specs.Laws.{IsCoherent};
-ghost use Rattle.mqtt_rules.specs.Routing.{subscribers};
-ghost use Rattle.mqtt_rules.specs.State.{Line, session_named};
+ghost use Rattle.mqtt_closing.specs.TheRules.Connect.{on_connect, refusal};
+ghost use Rattle.mqtt_closing.specs.TheRules.Contents.{IsWilled};
+ghost use Rattle.mqtt_closing.specs.TheRules.Laws.{IsCoherent};
+ghost use Rattle.mqtt_closing.specs.TheRules.Routing.{subscribers};
+ghost use Rattle.mqtt_closing.specs.TheRules.State.{Line, session_named};
 ghost use Rattle.mqtt_closing.specs.Choosing.{LeavesSome};
 ghost use Rattle.mqtt_closing.specs.Wills.{will_at};
 ghost use Rattle.mqtt_connecting.specs.Preparing.{IsConnected};
@@ -14,9 +14,8 @@ use crate::connecting::{connect_new, connect_refused, refusal_of};
 use crate::joining::{Joined, birth_named};
 use crate::standing::connect_standing;
 use mqtt_base::Reason;
-use mqtt_closing::Router;
+use mqtt_closing::{Router, Step, StepFault};
 use mqtt_codec::Connect;
-use mqtt_tables::{Step, StepFault};
 use std::alloc::Global;
 
 /// A CONNECT that is refused at once, by the code of that.

@@ -4,22 +4,22 @@ use Rattle.std.specs.Prelude.{Result, Ok, Err, IfOk, OnErr, IsErrOf}
 use Rattle.mqtt_records.specs.declared.change.Change.{Change}
 use Rattle.mqtt_records.specs.declared.records.Records.{Records}
 use Rattle.mqtt_records.specs.Records.{FitAll}
-use Rattle.mqtt_rules.specs.declared.Limits.{Limits}
+use Rattle.mqtt_lines.specs.TheRules.declared.Limits.{Limits}
 use Rattle.mqtt_records.specs.Saying.{AllSayable}
-use Rattle.mqtt_rules.specs.Contents.{TakesLawful, of_rows}
-use Rattle.mqtt_rules.specs.Deeds.{Deed, rows_of_all}
-use Rattle.mqtt_rules.specs.State.{Broker}
-use Rattle.mqtt_rules.specs.Step.{Call, at_moment, deeds, is_spent, is_step_spent, rows_written, stamped, stepped, told, with_moment}
-use Rattle.mqtt_rules.proofs.RowsFit.{step_fits}
-use Rattle.mqtt_rules.proofs.SayableRows.{step_said}
-use Rattle.mqtt_rules.proofs.SpelledContents.{rows_are as row_sizes}
-use Rattle.mqtt_rules.proofs.StoredLaw.{now_stays}
-use Rattle.mqtt_tables.specs.declared.fault.StepFault.{StepFault}
-use Rattle.mqtt_tables.specs.declared.fault.StepFault.TheVariants.{Memory, Spent}
-use Rattle.mqtt_tables.specs.declared.call.EngineError.{EngineError}
-use Rattle.mqtt_tables.specs.declared.call.EngineError.TheVariants as errors
-use Rattle.mqtt_tables.specs.Stepping.{Stepping, at_rest, with_stamp}
-use Rattle.mqtt_tables.specs.Undoing.{moment_of}
+use Rattle.mqtt_lines.specs.TheRules.Contents.{TakesLawful, of_rows}
+use Rattle.mqtt_lines.specs.TheRules.Deeds.{Deed, rows_of_all}
+use Rattle.mqtt_lines.specs.TheRules.State.{Broker}
+use Rattle.mqtt_lines.specs.TheRules.Step.{Call, at_moment, deeds, is_spent, is_step_spent, rows_written, stamped, stepped, told, with_moment}
+use Rattle.mqtt_lines.proofs.TheRules.RowsFit.{step_fits}
+use Rattle.mqtt_lines.proofs.TheRules.SayableRows.{step_said}
+use Rattle.mqtt_lines.proofs.TheRules.SpelledContents.{rows_are as row_sizes}
+use Rattle.mqtt_lines.proofs.TheRules.StoredLaw.{now_stays}
+use Rattle.mqtt_lines.specs.TheTables.declared.fault.StepFault.{StepFault}
+use Rattle.mqtt_lines.specs.TheTables.declared.fault.StepFault.TheVariants.{Memory, Spent}
+use Rattle.mqtt_lines.specs.TheTables.declared.call.EngineError.{EngineError}
+use Rattle.mqtt_lines.specs.TheTables.declared.call.EngineError.TheVariants as errors
+use Rattle.mqtt_lines.specs.TheTables.Stepping.{Stepping, at_rest, with_stamp}
+use Rattle.mqtt_lines.specs.TheTables.Undoing.{moment_of}
 use Rattle.mqtt_router.specs.Following.{CanAllBeFollowed, CanBeIndexed}
 use Rattle.mqtt_router.proofs.Followed.{indexed_of, step_followed}
 use Rattle.mqtt_engine.specs.declared.outcome.Outcome.{Outcome}

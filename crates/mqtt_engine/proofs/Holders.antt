@@ -5,8 +5,8 @@ use Rattle.std.proofs.lemmas.Bool.{cases_Bool}
 use Rattle.mqtt_flow.specs.Queue.{holder, is_holder}
 use Rattle.mqtt_message.specs.Queue.{CopyRow}
 use Rattle.mqtt_rows.specs.Order.{row_at}
-use Rattle.mqtt_rules.specs.State.{Line, entry_on}
-use Rattle.mqtt_tables.specs.Lines.{line_number}
+use Rattle.mqtt_lines.specs.TheRules.State.{Line, entry_on}
+use Rattle.mqtt_lines.specs.TheTables.Lines.{line_number}
 
 pub held_on : (id : ℕ) (went : List ℕ) (xs : List CopyRow)
     → option_map (λ e. e.copy.id) (find (λ e. is_holder id e.phase) xs) ≡ option_map (λ e. e.copy.id) (holder id (map (entry_on went) xs))

@@ -2,12 +2,12 @@
 use Rattle.std.proofs.Common.{◌≡◌, ℕ, suc, Bool, true, false, cond, List, [], ◌∷◌, refl, ap, sym, ◌∙◌}
 use Rattle.std.specs.Prelude.{None}
 use Rattle.mqtt_records.specs.declared.records.Records.{Records}
-use Rattle.mqtt_rules.specs.declared.Limits.{Limits}
-use Rattle.mqtt_rules.specs.Deeds.{Deed, Link, after_all, rows_of_all}
-use Rattle.mqtt_rules.specs.State.{Broker, MemberChoice, line_at}
-use Rattle.mqtt_rules.specs.Step.{BrokerStep, Call, NewLine, Input, BadInput, Lost, Pump, Tick, at_moment, can_link, deeds, done, is_again, is_spent, is_step_spent, nothing_told, outcome_of, rows_written, stamped, stepped}
-use Rattle.mqtt_rules.specs.Step.{Outcome as Told}
-use Rattle.mqtt_tables.specs.Doing.{after_act, links}
+use Rattle.mqtt_lines.specs.TheRules.declared.Limits.{Limits}
+use Rattle.mqtt_lines.specs.TheRules.Deeds.{Deed, Link, after_all, rows_of_all}
+use Rattle.mqtt_lines.specs.TheRules.State.{Broker, MemberChoice, line_at}
+use Rattle.mqtt_lines.specs.TheRules.Step.{BrokerStep, Call, NewLine, Input, BadInput, Lost, Pump, Tick, at_moment, can_link, deeds, done, is_again, is_spent, is_step_spent, nothing_told, outcome_of, rows_written, stamped, stepped}
+use Rattle.mqtt_lines.specs.TheRules.Step.{Outcome as Told}
+use Rattle.mqtt_lines.specs.TheTables.Doing.{after_act, links}
 use Rattle.mqtt_engine.specs.declared.outcome.Outcome.{Outcome}
 use Rattle.mqtt_engine.specs.Calling.{IsAnswered, IsOn, Tells}
 

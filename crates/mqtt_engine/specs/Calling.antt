@@ -2,12 +2,12 @@
 use Rattle.std.specs.Prelude.{◌≡◌, ◌≢◌, ◌⊎◌, ℕ, true, false, Result, IfOk, OnOk, OnErr, IsErrOf}
 use Rattle.mqtt_records.specs.declared.keep.Keep.{Ghosts}
 use Rattle.mqtt_records.specs.declared.records.Records.{Records}
-use Rattle.mqtt_rules.specs.declared.Limits.{Limits}
-use Rattle.mqtt_rules.specs.State.{Broker, MemberChoice, stored}
-use Rattle.mqtt_rules.specs.Step.{Call, NewLine, Input, BadInput, Lost, Pump, Tick, BrokerStep, SpentStep, bytes_out, is_step_spent, stepped}
-use Rattle.mqtt_rules.specs.Step.{Outcome as Told}
-use Rattle.mqtt_tables.specs.declared.call.EngineError.{EngineError}
-use Rattle.mqtt_tables.specs.declared.call.EngineError.TheVariants.{Memory, Stopped, Spent}
+use Rattle.mqtt_lines.specs.TheRules.declared.Limits.{Limits}
+use Rattle.mqtt_lines.specs.TheRules.State.{Broker, MemberChoice, stored}
+use Rattle.mqtt_lines.specs.TheRules.Step.{Call, NewLine, Input, BadInput, Lost, Pump, Tick, BrokerStep, SpentStep, bytes_out, is_step_spent, stepped}
+use Rattle.mqtt_lines.specs.TheRules.Step.{Outcome as Told}
+use Rattle.mqtt_lines.specs.TheTables.declared.call.EngineError.{EngineError}
+use Rattle.mqtt_lines.specs.TheTables.declared.call.EngineError.TheVariants.{Memory, Stopped, Spent}
 use Rattle.mqtt_engine.specs.declared.outcome.Outcome.{Outcome}
 use Rattle.mqtt_engine.specs.Running.{Running}
 

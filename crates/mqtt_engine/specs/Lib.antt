@@ -3,3 +3,7 @@ pub mod Running
 pub use Rattle.mqtt_lines.specs.Sound
 pub use Rattle.mqtt_router.specs.Following
 pub use Rattle.mqtt_router.specs.Indexing
+pub use Rattle.mqtt_lines.specs.TheRules
+pub use Rattle.mqtt_lines.specs.TheTables
+pub use Rattle.mqtt_lines.specs.TheActs
+pub use Rattle.mqtt_lines.specs.TheClosing

@@ -1,7 +1,7 @@
 -- An engine over a store.
 use Rattle.std.specs.Prelude.{Bool}
-use Rattle.mqtt_rules.specs.declared.Limits.{Limits}
-use Rattle.mqtt_rules.specs.State.{Broker}
+use Rattle.mqtt_lines.specs.TheRules.declared.Limits.{Limits}
+use Rattle.mqtt_lines.specs.TheRules.State.{Broker}
 
 -- its store, its limits, its state, and whether the store has failed
 pub record Running (K : Type 0) : Type 0 where

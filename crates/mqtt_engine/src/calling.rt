@@ -1,10 +1,10 @@
 //! What is asked of the engine: a packet, a fault, a loss, a turn of sending, a turn of the clock (MQTT 5.0, 3, 4).
 ghost use Rattle.std.specs.Prelude.{◌≡◌, ◌↔◌, Some, false, IsErrOf, IsTrue};
-ghost use Rattle.mqtt_rules.specs.Contents.{IsTaken};
-ghost use Rattle.mqtt_rules.specs.Lines.{session_on};
-ghost use Rattle.mqtt_rules.specs.Routing.{subscribers};
-ghost use Rattle.mqtt_rules.specs.Step.{BadInput, Input, Lost, Pump, Tick};
-ghost use Rattle.mqtt_tables.specs.Stepping.{at_rest};
+ghost use Rattle.mqtt_lines.specs.TheRules.Contents.{IsTaken};
+ghost use Rattle.mqtt_lines.specs.TheRules.Lines.{session_on};
+ghost use Rattle.mqtt_lines.specs.TheRules.Routing.{subscribers};
+ghost use Rattle.mqtt_lines.specs.TheRules.Step.{BadInput, Input, Lost, Pump, Tick};
+ghost use Rattle.mqtt_lines.specs.TheTables.Stepping.{at_rest};
 ghost use Rattle.mqtt_lines.specs.Doing.{IsCalled};
 ghost use Rattle.mqtt_lines.specs.Sound.{IsSound};
 ghost use Rattle.mqtt_router.specs.Indexing.{Serves};
@@ -17,10 +17,9 @@ use crate::outcome::Outcome;
 use mqtt_base::Reason;
 use mqtt_codec::Packet;
 use mqtt_inputs::input;
-use mqtt_lines::{fault_at, first_at, lost_at, pump_at, tick_at};
+use mqtt_lines::{EngineError, Step, StepFault, fault_at, first_at, lost_at, pump_at, tick_at};
 use mqtt_records::Keep;
 use mqtt_router::Index;
-use mqtt_tables::{EngineError, Step, StepFault};
 use std::alloc::Global;
 
 /// Whether the store has failed.

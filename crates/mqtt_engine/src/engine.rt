@@ -1,20 +1,20 @@
 //! The engine: a broker over a store, one call after the other (MQTT 5.0, 4.1).
 ghost use Rattle.std.specs.Prelude.{◌≡◌, None, false, option_copied};
 ghost use Rattle.mqtt_router.specs.Indexing.{Serves};
-ghost use Rattle.mqtt_rules.specs.Routing.{subscribers};
-ghost use Rattle.mqtt_rules.specs.State.{line_at};
-ghost use Rattle.mqtt_rules.specs.Step.{BrokerStep, Call, NewLine, at_moment, copy_of, nothing_told};
-ghost use Rattle.mqtt_tables.specs.Doing.{next_line};
-ghost use Rattle.mqtt_tables.specs.Stepping.{at_rest};
+ghost use Rattle.mqtt_lines.specs.TheRules.Routing.{subscribers};
+ghost use Rattle.mqtt_lines.specs.TheRules.State.{line_at};
+ghost use Rattle.mqtt_lines.specs.TheRules.Step.{BrokerStep, Call, NewLine, at_moment, copy_of, nothing_told};
+ghost use Rattle.mqtt_lines.specs.TheTables.Doing.{next_line};
+ghost use Rattle.mqtt_lines.specs.TheTables.Stepping.{at_rest};
 ghost use Rattle.mqtt_lines.specs.Sound.{IsSound};
 ghost use Rattle.mqtt_engine.specs.Calling.{Called, IsOn, Tells};
 
 use crate::holding::copy_of;
 use crate::outcome::{Outcome, nothing};
 use mqtt_base::CopyId;
+use mqtt_lines::{EngineError, Step};
 use mqtt_records::Keep;
 use mqtt_router::Index;
-use mqtt_tables::{EngineError, Step};
 use std::alloc::Global;
 use std::hash::RandomState;
 use std::marker::Model;
@@ -34,8 +34,8 @@ pub struct Engine<K: Keep> {
 impl<K: Keep> Model for Engine<K> {
     ghost use Rattle.std.specs.Prelude.{◌≡◌, false};
     ghost use Rattle.mqtt_router.specs.Indexing.{Serves};
-    ghost use Rattle.mqtt_rules.specs.Routing.{subscribers};
-    ghost use Rattle.mqtt_tables.specs.Stepping.{at_rest};
+    ghost use Rattle.mqtt_lines.specs.TheRules.Routing.{subscribers};
+    ghost use Rattle.mqtt_lines.specs.TheTables.Stepping.{at_rest};
     ghost use Rattle.mqtt_engine.specs.Running.{Running};
     ghost use Rattle.mqtt_lines.specs.Sound.{IsSound};
 

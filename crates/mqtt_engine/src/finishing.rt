@@ -5,19 +5,19 @@ ghost use Rattle.mqtt_records.specs.Records.{FitAll};
 ghost use Rattle.mqtt_records.specs.Saying.{AllSayable};
 ghost use Rattle.mqtt_router.specs.Following.{CanAllBeFollowed, CanBeIndexed};
 ghost use Rattle.mqtt_router.specs.Indexing.{Serves};
-ghost use Rattle.mqtt_rules.specs.Contents.{TakesLawful};
-ghost use Rattle.mqtt_rules.specs.Routing.{subscribers};
-ghost use Rattle.mqtt_rules.specs.Step.{Call, SpentStep, is_spent};
-ghost use Rattle.mqtt_tables.specs.Stepping.{at_rest};
-ghost use Rattle.mqtt_tables.specs.declared.fault.StepFault.TheVariants.{Spent};
+ghost use Rattle.mqtt_lines.specs.TheRules.Contents.{TakesLawful};
+ghost use Rattle.mqtt_lines.specs.TheRules.Routing.{subscribers};
+ghost use Rattle.mqtt_lines.specs.TheRules.Step.{Call, SpentStep, is_spent};
+ghost use Rattle.mqtt_lines.specs.TheTables.Stepping.{at_rest};
+ghost use Rattle.mqtt_lines.specs.TheTables.declared.fault.StepFault.TheVariants.{Spent};
 ghost use Rattle.mqtt_engine.specs.Calling.{IsAnswered, IsLeftBy};
 ghost use Rattle.mqtt_lines.specs.Doing.{DidCall, IsCalled};
 ghost use Rattle.mqtt_lines.specs.Sound.{IsSound};
 
 use crate::outcome::{Outcome, answered};
+use mqtt_lines::{EngineError, Outcome as StepOutcome, Step, StepFault, commit};
 use mqtt_records::Keep;
 use mqtt_router::Index;
-use mqtt_tables::{EngineError, Outcome as StepOutcome, Step, StepFault, commit};
 
 /// The number of a fault stays.
 fn refusal(fault: StepFault) -> EngineError

@@ -1,11 +1,11 @@
 //! Which copy of a queue has a packet identifier (MQTT 5.0, 2.2.1, 4.3).
 ghost use Rattle.std.specs.Prelude.{◌≡◌, ℕ, List, find, option_copied, option_map};
 ghost use Rattle.mqtt_flow.specs.Queue.{is_holder};
-ghost use Rattle.mqtt_rules.specs.Step.{copy_in, copy_of};
+ghost use Rattle.mqtt_lines.specs.TheRules.Step.{copy_in, copy_of};
 
 use mqtt_base::{CopyId, Phase};
+use mqtt_lines::Step;
 use mqtt_records::{Boxed, CopyRow};
-use mqtt_tables::Step;
 
 /// Whether a copy that has come so far has a packet identifier.
 fn holds(phase: Phase, identifier: u16) -> bool

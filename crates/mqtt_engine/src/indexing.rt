@@ -2,10 +2,10 @@
 ghost use Rattle.std.specs.Prelude.{◌≡◌, false, OnOk, IfErr};
 ghost use Rattle.mqtt_lines.specs.Sound.{IsSound};
 ghost use Rattle.mqtt_router.specs.Indexing.{Serves};
-ghost use Rattle.mqtt_rules.specs.Routing.{subscribers};
+ghost use Rattle.mqtt_lines.specs.TheRules.Routing.{subscribers};
 
+use mqtt_lines::{EngineError, Step};
 use mqtt_router::Index;
-use mqtt_tables::{EngineError, Step};
 use std::alloc::Global;
 use std::hash::RandomState;
 

@@ -11,5 +11,6 @@ mod outcome;
 
 pub use engine::Engine;
 pub use finishing::finish;
+pub use mqtt_lines::{EngineError, Limits, Report, Step, StepFault, commit_kept, settle};
 pub use mqtt_router::Index;
 pub use outcome::Outcome;

@@ -1,11 +1,10 @@
 //! What a call answers (MQTT 5.0, 4.1).
 ghost use Rattle.std.specs.Prelude.{◌≡◌};
-ghost use Rattle.mqtt_rules.specs.Step.{nothing_told};
+ghost use Rattle.mqtt_lines.specs.TheRules.Step.{nothing_told};
 ghost use Rattle.mqtt_engine.specs.Calling.{Tells};
 
 use bytes::Bytes;
-use mqtt_rules::Report;
-use mqtt_tables::Outcome as StepOutcome;
+use mqtt_lines::{Outcome as StepOutcome, Report};
 use std::alloc::Global;
 
 /// What a call answers, each list in the order in which it came about.

@@ -4,7 +4,7 @@ use Rattle.std.specs.Prelude.{Err}
 use Rattle.mqtt_fields.specs.declared.fault.Fault.{Fault}
 use Rattle.mqtt_packet.specs.Front.{first_of}
 use Rattle.mqtt_packet.specs.Stream.{Framing}
-use Rattle.mqtt_rules.specs.Piece.{Front, bytes_taken, fed, is_whole, without_by, without_first}
+use Rattle.mqtt_tables.specs.TheRules.Piece.{Front, bytes_taken, fed, is_whole, without_by, without_first}
 
 pub none_taken : (held piece : List ℕ) (fault : Fault) → first_of held ≡ Err fault → 0 ≡ bytes_taken held piece
 none_taken held piece fault e = rw e refl

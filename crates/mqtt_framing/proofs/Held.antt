@@ -13,8 +13,8 @@ use Rattle.mqtt_packet.proofs.Fronts.{first_within}
 use Rattle.mqtt_packet.proofs.Wholes.{first_spells}
 use Rattle.mqtt_rows.specs.Order.{IsAscending, row_at, put_row, remove_row}
 use Rattle.mqtt_rows.proofs.OrderLemmas.{change-none, remove-none}
-use Rattle.mqtt_rules.specs.Contents.{IsTaken}
-use Rattle.mqtt_rules.specs.Piece.{Front, bytes_taken, fed, first_call, is_whole, without_by, without_first}
+use Rattle.mqtt_tables.specs.TheRules.Contents.{IsTaken}
+use Rattle.mqtt_tables.specs.TheRules.Piece.{Front, bytes_taken, fed, first_call, is_whole, without_by, without_first}
 use Rattle.mqtt_tables.proofs.AliasDeeds.{changed_put}
 use Rattle.mqtt_tables.proofs.Inverse.{removed_back}
 use Rattle.mqtt_framing.specs.Framers.{AreBytes, HeldLine, changed_at, framing_at, framing_of, given_back, in_framing, line_of}

@@ -2,9 +2,9 @@
 use Rattle.std.specs.Prelude.{◌≡◌, ℕ, ◌<◌, ◌≤◌, List, length, Option, Some, None, slice_index}
 use Rattle.mqtt_packet.specs.Stream.{Framing, empty, without_last}
 use Rattle.mqtt_rows.specs.Order.{row_at, change_row}
-use Rattle.mqtt_rules.specs.Contents.{IsTaken}
-use Rattle.mqtt_rules.specs.Piece.{bytes_taken}
-use Rattle.mqtt_rules.specs.Step.{Call, Input, BadInput}
+use Rattle.mqtt_tables.specs.TheRules.Contents.{IsTaken}
+use Rattle.mqtt_tables.specs.TheRules.Piece.{bytes_taken}
+use Rattle.mqtt_tables.specs.TheRules.Step.{Call, Input, BadInput}
 use Rattle.mqtt_framing.specs.declared.asked.Asked.{Asked}
 use Rattle.mqtt_framing.specs.declared.asked.Asked.TheVariants as asked
 

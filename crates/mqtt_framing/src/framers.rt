@@ -4,7 +4,7 @@ ghost use Rattle.mqtt_base.specs.declared.limits.TheConstants.{LINE_LIMIT};
 ghost use Rattle.mqtt_packet.specs.Front.{first_of};
 ghost use Rattle.mqtt_rows.specs.Order.{has_row, row_at, put_row, remove_row};
 ghost use Rattle.mqtt_fields.specs.Faults.{answer_to};
-ghost use Rattle.mqtt_rules.specs.Piece.{begins_connect, code_of, fed, first_call, is_whole, without_first};
+ghost use Rattle.mqtt_tables.specs.TheRules.Piece.{begins_connect, code_of, fed, first_call, is_whole, without_first};
 ghost use Rattle.mqtt_framing.specs.Framers.{AreBytes, HeldLine, IsLawfulAsked, begun, call_asked, changed_at, framing_at, given_back, line_of, taken_of};
 
 use crate::asked::Asked;

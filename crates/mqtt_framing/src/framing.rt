@@ -2,7 +2,7 @@
 ghost use Rattle.std.specs.Prelude.{◌≡◌, ◌≤◌, length, IfOk, IfSome, IfNone, OnOk, OnErr};
 ghost use Rattle.mqtt_packet.specs.Front.{first_of};
 ghost use Rattle.mqtt_packet.specs.Stream.{after};
-ghost use Rattle.mqtt_rules.specs.Piece.{bytes_taken, fed, is_whole, without_first};
+ghost use Rattle.mqtt_tables.specs.TheRules.Piece.{bytes_taken, fed, is_whole, without_first};
 
 use mqtt_codec::Fault;
 use mqtt_packet::Framer;

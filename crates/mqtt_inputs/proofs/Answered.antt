@@ -11,22 +11,22 @@ use Rattle.mqtt_subscribe.specs.declared.subscribe.Subscribe.{Subscribe as Askin
 use Rattle.mqtt_subscribe.specs.declared.unsubscribe.Unsubscribe.{Unsubscribe as Giving}
 use Rattle.mqtt_props.specs.declared.table.PropName.TheVariants.{SessionExpiryInterval}
 use Rattle.mqtt_records.specs.declared.session.Session.{Session}
-use Rattle.mqtt_rules.specs.Closing.{drop_line}
-use Rattle.mqtt_rules.specs.Deeds.{Act}
-use Rattle.mqtt_rules.specs.Inbound.{on_publish}
-use Rattle.mqtt_rules.specs.Packets.{number_at}
-use Rattle.mqtt_rules.specs.State.{Broker, Env, Line}
-use Rattle.mqtt_rules.specs.Step.{next_packet, on_packet}
-use Rattle.mqtt_tables.specs.declared.fault.StepFault.{StepFault}
-use Rattle.mqtt_tables.specs.Stepping.{Stepping, Did, IsLeft, env_in}
+use Rattle.mqtt_calls.specs.TheRules.Closing.{drop_line}
+use Rattle.mqtt_calls.specs.TheRules.Deeds.{Act}
+use Rattle.mqtt_calls.specs.TheRules.Inbound.{on_publish}
+use Rattle.mqtt_calls.specs.TheRules.Packets.{number_at}
+use Rattle.mqtt_calls.specs.TheRules.State.{Broker, Env, Line}
+use Rattle.mqtt_calls.specs.TheRules.Step.{next_packet, on_packet}
+use Rattle.mqtt_calls.specs.TheTables.declared.fault.StepFault.{StepFault}
+use Rattle.mqtt_calls.specs.TheTables.Stepping.{Stepping, Did, IsLeft, env_in}
 use Rattle.mqtt_calls.specs.Choosing.{DoesSome, LeavesSome}
 use Rattle.mqtt_calls.proofs.Some.{does_some, leaves_some, same_some, same_some_left}
 use Rattle.mqtt_calls.specs.Settling.{disconnects}
 use Rattle.mqtt_publishing.specs.Publishing.{IsOver, IsWrong}
 use Rattle.mqtt_publishing.proofs.Aliased.{stored_stays}
 use Rattle.mqtt_publishing.proofs.Dropped.{over_dropped, over_left, wrong_dropped, wrong_left}
-use Rattle.mqtt_turns.specs.Answering.{Came}
-use Rattle.mqtt_turns.specs.declared.answering.Answered.TheVariants.{Taken, Wrong}
+use Rattle.mqtt_calls.specs.TheTurns.Answering.{Came}
+use Rattle.mqtt_calls.specs.TheTurns.declared.answering.Answered.TheVariants.{Taken, Wrong}
 use Rattle.mqtt_inputs.specs.Inputs.{is_stray, takes}
 use Rattle.mqtt_inputs.proofs.OnLine.{OnLine, left_next, left_takes, some_next, some_takes}
 

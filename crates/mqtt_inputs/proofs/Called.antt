@@ -1,10 +1,10 @@
 -- What holds between calls is what a packet of a connected client finds.
 use Rattle.std.proofs.Common.{◌≡◌, ℕ}
 use Rattle.std.specs.Prelude.{Some}
-use Rattle.mqtt_rules.specs.declared.Limits.{Limits}
-use Rattle.mqtt_rules.specs.Lines.{session_on}
-use Rattle.mqtt_rules.specs.State.{Broker}
-use Rattle.mqtt_rules.specs.Step.{at_moment}
+use Rattle.mqtt_calls.specs.TheRules.declared.Limits.{Limits}
+use Rattle.mqtt_calls.specs.TheRules.Lines.{session_on}
+use Rattle.mqtt_calls.specs.TheRules.State.{Broker}
+use Rattle.mqtt_calls.specs.TheRules.Step.{at_moment}
 use Rattle.mqtt_calls.specs.Sound.{IsSound}
 use Rattle.mqtt_inputs.specs.Inputs.{HasClient}
 use Rattle.mqtt_inputs.proofs.Clients.{client_begun}

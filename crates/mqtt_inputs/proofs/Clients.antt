@@ -10,14 +10,14 @@ use Rattle.mqtt_codec.specs.declared.publish.Publish.{Publish}
 use Rattle.mqtt_props.specs.Properties.{block}
 use Rattle.mqtt_records.specs.declared.session.Session.{Session}
 use Rattle.mqtt_rows.specs.Order.{row_at}
-use Rattle.mqtt_rules.specs.Contents.{AreContentsLawful, AreSizes, HasTopics, IsTaken, of_rows}
-use Rattle.mqtt_rules.specs.Deeds.{Hear, On, after_all, on_line}
-use Rattle.mqtt_rules.specs.Inbound.{Means, meaning, message_of}
-use Rattle.mqtt_rules.specs.State.{Broker, Line, line_at}
-use Rattle.mqtt_rules.specs.Step.{at_moment}
-use Rattle.mqtt_rules.proofs.ContentPackets.{sent_content}
-use Rattle.mqtt_rules.proofs.FitLaw.{mapped_some}
-use Rattle.mqtt_tables.specs.Lines.{line_number}
+use Rattle.mqtt_calls.specs.TheRules.Contents.{AreContentsLawful, AreSizes, HasTopics, IsTaken, of_rows}
+use Rattle.mqtt_calls.specs.TheRules.Deeds.{Hear, On, after_all, on_line}
+use Rattle.mqtt_calls.specs.TheRules.Inbound.{Means, meaning, message_of}
+use Rattle.mqtt_calls.specs.TheRules.State.{Broker, Line, line_at}
+use Rattle.mqtt_calls.specs.TheRules.Step.{at_moment}
+use Rattle.mqtt_calls.proofs.TheRules.ContentPackets.{sent_content}
+use Rattle.mqtt_calls.proofs.TheRules.FitLaw.{mapped_some}
+use Rattle.mqtt_calls.specs.TheTables.Lines.{line_number}
 use Rattle.mqtt_calls.specs.Choosing.{IsLawfulMessage}
 use Rattle.mqtt_subscribe.specs.declared.unsubscribe.Unsubscribe.{Unsubscribe}
 use Rattle.mqtt_subscribe.specs.Unsubscribe.{unsubscribe_body}

@@ -13,14 +13,14 @@ use Rattle.mqtt_flow.specs.Outbound.{Answer, puback, pubcomp, pubrec}
 use Rattle.mqtt_props.specs.declared.table.PropName.TheVariants.{SessionExpiryInterval, TopicAlias}
 use Rattle.mqtt_records.specs.declared.session.Session.{Session}
 use Rattle.mqtt_topic.specs.Names.{is_empty}
-use Rattle.mqtt_rules.specs.Deeds.{Act, Hear, Message, On, after_all, always, series, with_line, with_session}
-use Rattle.mqtt_rules.specs.Inbound.{Meaning, Means, Wrong, is_late_expiry, leave_by, meaning, message_of, on_answer, publish_by, publish_meant, publish_new, release_by, sets_alias, standing}
-use Rattle.mqtt_rules.specs.Packets.{number_at}
-use Rattle.mqtt_rules.specs.Routing.{CopyTo, accepted_copies}
-use Rattle.mqtt_rules.specs.State.{Broker, Env, Line, queue_on, session_at}
-use Rattle.mqtt_rules.specs.Step.{Input, deeds_of, next_packet, on_packet}
-use Rattle.mqtt_tables.specs.declared.fault.StepFault.{StepFault}
-use Rattle.mqtt_tables.specs.Stepping.{Stepping, Did, IsLeft, env_in}
+use Rattle.mqtt_calls.specs.TheRules.Deeds.{Act, Hear, Message, On, after_all, always, series, with_line, with_session}
+use Rattle.mqtt_calls.specs.TheRules.Inbound.{Meaning, Means, Wrong, is_late_expiry, leave_by, meaning, message_of, on_answer, publish_by, publish_meant, publish_new, release_by, sets_alias, standing}
+use Rattle.mqtt_calls.specs.TheRules.Packets.{number_at}
+use Rattle.mqtt_calls.specs.TheRules.Routing.{CopyTo, accepted_copies}
+use Rattle.mqtt_calls.specs.TheRules.State.{Broker, Env, Line, queue_on, session_at}
+use Rattle.mqtt_calls.specs.TheRules.Step.{Input, deeds_of, next_packet, on_packet}
+use Rattle.mqtt_calls.specs.TheTables.declared.fault.StepFault.{StepFault}
+use Rattle.mqtt_calls.specs.TheTables.Stepping.{Stepping, Did, IsLeft, env_in}
 use Rattle.mqtt_calls.specs.Choosing.{DoesSome, LeavesSome}
 use Rattle.mqtt_calls.proofs.Some.{both, leaves_first, leaves_some, same_some, same_some_left, then_some, then_some_left}
 use Rattle.mqtt_inputs.specs.Inputs.{takes}

@@ -5,14 +5,14 @@ use Rattle.std.proofs.lemmas.Bool.{eqb-true}
 use Rattle.mqtt_codec.specs.declared.packet.Packet.{Packet}
 use Rattle.mqtt_records.specs.declared.session.Session.{Session}
 use Rattle.mqtt_rows.specs.Order.{row_at}
-use Rattle.mqtt_rules.specs.Deeds.{with_line, with_session}
-use Rattle.mqtt_rules.specs.State.{Broker, Env, Line, line_at, session_at}
-use Rattle.mqtt_rules.specs.Step.{next_packet, on_packet}
-use Rattle.mqtt_rules.proofs.FitLaw.{mapped_some}
-use Rattle.mqtt_rules.proofs.Leads.{found_passes}
-use Rattle.mqtt_tables.specs.Lines.{line_number}
-use Rattle.mqtt_tables.specs.declared.fault.StepFault.{StepFault}
-use Rattle.mqtt_tables.specs.Stepping.{Stepping, env_in}
+use Rattle.mqtt_calls.specs.TheRules.Deeds.{with_line, with_session}
+use Rattle.mqtt_calls.specs.TheRules.State.{Broker, Env, Line, line_at, session_at}
+use Rattle.mqtt_calls.specs.TheRules.Step.{next_packet, on_packet}
+use Rattle.mqtt_calls.proofs.TheRules.FitLaw.{mapped_some}
+use Rattle.mqtt_calls.proofs.TheRules.Leads.{found_passes}
+use Rattle.mqtt_calls.specs.TheTables.Lines.{line_number}
+use Rattle.mqtt_calls.specs.TheTables.declared.fault.StepFault.{StepFault}
+use Rattle.mqtt_calls.specs.TheTables.Stepping.{Stepping, env_in}
 use Rattle.mqtt_calls.specs.Choosing.{DoesSome, LeavesSome}
 use Rattle.mqtt_calls.proofs.Some.{same_some, same_some_left}
 use Rattle.mqtt_subscribing.proofs.Lines.{line_is}

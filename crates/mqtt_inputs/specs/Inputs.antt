@@ -2,12 +2,12 @@
 use Rattle.std.specs.Prelude.{◌≡◌, ℕ, Bool, true, false, Some, None}
 use Rattle.mqtt_codec.specs.declared.packet.Packet.{Packet}
 use Rattle.mqtt_codec.specs.declared.packet.Packet.TheVariants.{Publish, Puback, Pubrec, Pubrel, Pubcomp, Subscribe, Unsubscribe, Pingreq, Disconnect}
-use Rattle.mqtt_rules.specs.Contents.{AreContentsLawful}
-use Rattle.mqtt_rules.specs.Deeds.{Act, with_line}
-use Rattle.mqtt_rules.specs.Lines.{closed_at, session_on}
-use Rattle.mqtt_rules.specs.State.{Broker, Env, line_at}
-use Rattle.mqtt_rules.specs.Step.{on_packet}
-use Rattle.mqtt_tables.specs.Subscribing.{HaveFiltersOnce}
+use Rattle.mqtt_calls.specs.TheRules.Contents.{AreContentsLawful}
+use Rattle.mqtt_calls.specs.TheRules.Deeds.{Act, with_line}
+use Rattle.mqtt_calls.specs.TheRules.Lines.{closed_at, session_on}
+use Rattle.mqtt_calls.specs.TheRules.State.{Broker, Env, line_at}
+use Rattle.mqtt_calls.specs.TheRules.Step.{on_packet}
+use Rattle.mqtt_calls.specs.TheTables.Subscribing.{HaveFiltersOnce}
 use Rattle.mqtt_calls.specs.Queues.{HasKeptOrders}
 
 -- what a packet does on a line that was heard, by the session that is connected on it

@@ -2,16 +2,14 @@
 ghost use Rattle.std.specs.Prelude.{List, OnOk, IfErr};
 ghost use Rattle.mqtt_codec.specs.declared.packet.Packet.TheVariants as packets;
 ghost use Rattle.mqtt_routes.specs.Subscriptions.{Subscriber};
-ghost use Rattle.mqtt_rules.specs.Routing.{subscribers};
+ghost use Rattle.mqtt_calls.specs.TheRules.Routing.{subscribers};
 ghost use Rattle.mqtt_calls.specs.Choosing.{DoesSome, LeavesSome};
 ghost use Rattle.mqtt_inputs.specs.Inputs.{HasClient, takes};
 
 use mqtt_base::Reason;
-use mqtt_calls::{Router, drop_line};
+use mqtt_calls as calls;
+use mqtt_calls::{Answered, Router, Step, StepFault, drop_line};
 use mqtt_codec::Ack;
-use mqtt_tables::{Step, StepFault};
-use mqtt_turns as turns;
-use mqtt_turns::Answered;
 use std::alloc::Global;
 
 /// A PUBACK ends a sent copy of QoS 1; one in a wrong phase drops its line (4.3.2).
@@ -31,7 +29,7 @@ pub(crate) fn puback<R: Router>(
     ensures serves { (sessions : List Subscriber) → R.serves router.old sessions
         → R.serves router.new sessions }
 {
-    match turns::puback(alloc, step, line, birth, packet.identifier, packet.reason) {
+    match calls::puback(alloc, step, line, birth, packet.identifier, packet.reason) {
         Ok(Answered::Taken) => Ok(()),
         Ok(Answered::Wrong) => {
             let code = Reason::PROTOCOL_ERROR;
@@ -58,7 +56,7 @@ pub(crate) fn pubrec<R: Router>(
     ensures serves { (sessions : List Subscriber) → R.serves router.old sessions
         → R.serves router.new sessions }
 {
-    match turns::pubrec(alloc, step, line, birth, packet.identifier, packet.reason) {
+    match calls::pubrec(alloc, step, line, birth, packet.identifier, packet.reason) {
         Ok(Answered::Taken) => Ok(()),
         Ok(Answered::Wrong) => {
             let code = Reason::PROTOCOL_ERROR;
@@ -85,7 +83,7 @@ pub(crate) fn pubcomp<R: Router>(
     ensures serves { (sessions : List Subscriber) → R.serves router.old sessions
         → R.serves router.new sessions }
 {
-    match turns::pubcomp(alloc, step, line, birth, packet.identifier) {
+    match calls::pubcomp(alloc, step, line, birth, packet.identifier) {
         Ok(Answered::Taken) => Ok(()),
         Ok(Answered::Wrong) => {
             let code = Reason::PROTOCOL_ERROR;

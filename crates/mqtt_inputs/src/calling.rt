@@ -1,11 +1,11 @@
 //! A packet of a connected client, from the beginning of its call (MQTT 5.0, 3.1.2.10, 3.3 to 3.14).
 ghost use Rattle.std.specs.Prelude.{◌≡◌, Some, false, List, OnOk, IfErr};
 ghost use Rattle.mqtt_routes.specs.Subscriptions.{Subscriber};
-ghost use Rattle.mqtt_rules.specs.Contents.{IsTaken};
-ghost use Rattle.mqtt_rules.specs.Lines.{session_on};
-ghost use Rattle.mqtt_rules.specs.Routing.{subscribers};
-ghost use Rattle.mqtt_rules.specs.Step.{Input, deeds_of};
-ghost use Rattle.mqtt_tables.specs.Stepping.{at_rest};
+ghost use Rattle.mqtt_calls.specs.TheRules.Contents.{IsTaken};
+ghost use Rattle.mqtt_calls.specs.TheRules.Lines.{session_on};
+ghost use Rattle.mqtt_calls.specs.TheRules.Routing.{subscribers};
+ghost use Rattle.mqtt_calls.specs.TheRules.Step.{Input, deeds_of};
+ghost use Rattle.mqtt_calls.specs.TheTables.Stepping.{at_rest};
 ghost use Rattle.mqtt_calls.specs.Choosing.{DoesSome, LeavesSome};
 ghost use Rattle.mqtt_calls.specs.Doing.{IsCalled};
 ghost use Rattle.mqtt_calls.specs.Sound.{IsSound};
@@ -15,9 +15,8 @@ use crate::answers::{puback, pubcomp, pubrec};
 use crate::leaving::{disconnect, stray};
 use crate::publishing::publish;
 use crate::quiet::{pingreq, pubrel, subscribe, unsubscribe};
-use mqtt_calls::Router;
+use mqtt_calls::{Router, Step, StepFault};
 use mqtt_codec::Packet;
-use mqtt_tables::{Step, StepFault};
 use std::alloc::Global;
 
 /// A packet does what the rules have for the session that is connected on its line.

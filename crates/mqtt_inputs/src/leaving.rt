@@ -3,17 +3,15 @@ ghost use Rattle.std.specs.Prelude.{◌≡◌, true, List, OnOk, IfErr};
 ghost use Rattle.mqtt_codec.specs.declared.packet.Packet.{Packet};
 ghost use Rattle.mqtt_codec.specs.declared.packet.Packet.TheVariants as packets;
 ghost use Rattle.mqtt_routes.specs.Subscriptions.{Subscriber};
-ghost use Rattle.mqtt_rules.specs.Routing.{subscribers};
+ghost use Rattle.mqtt_calls.specs.TheRules.Routing.{subscribers};
 ghost use Rattle.mqtt_calls.specs.Choosing.{DoesSome, LeavesSome};
 ghost use Rattle.mqtt_inputs.specs.Inputs.{HasClient, is_stray, takes};
 
 use mqtt_base::Reason;
 use mqtt_calls as calls;
-use mqtt_calls::Router;
+use mqtt_calls::{Router, Step, StepFault, number_at};
 use mqtt_codec::Notice;
 use mqtt_props::PropName;
-use mqtt_tables::{Step, StepFault};
-use mqtt_verdicts::number_at;
 use std::alloc::Global;
 
 /// A DISCONNECT closes its line; its code says whether the Will is kept (3.14.4).

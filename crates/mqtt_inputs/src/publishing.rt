@@ -2,16 +2,15 @@
 ghost use Rattle.std.specs.Prelude.{List, OnOk, IfErr};
 ghost use Rattle.mqtt_codec.specs.declared.packet.Packet.TheVariants as packets;
 ghost use Rattle.mqtt_routes.specs.Subscriptions.{Subscriber};
-ghost use Rattle.mqtt_rules.specs.Contents.{IsTaken};
-ghost use Rattle.mqtt_rules.specs.Routing.{subscribers};
+ghost use Rattle.mqtt_calls.specs.TheRules.Contents.{IsTaken};
+ghost use Rattle.mqtt_calls.specs.TheRules.Routing.{subscribers};
 ghost use Rattle.mqtt_calls.specs.Choosing.{DoesSome, LeavesSome};
 ghost use Rattle.mqtt_inputs.specs.Inputs.{HasClient, takes};
 
 use mqtt_base::Reason;
-use mqtt_calls::{Router, drop_line};
+use mqtt_calls::{Router, Step, StepFault, drop_line};
 use mqtt_codec::Publish;
 use mqtt_publishing::{Published, on_publish};
-use mqtt_tables::{Step, StepFault};
 use std::alloc::Global;
 
 /// A PUBLISH is taken, refused or answered; one that means no topic, or is above the Receive Maximum, drops its line

@@ -2,14 +2,14 @@
 //! 3.10, 3.12).
 ghost use Rattle.std.specs.Prelude.{OnOk, IfErr};
 ghost use Rattle.mqtt_codec.specs.declared.packet.Packet.TheVariants as packets;
-ghost use Rattle.mqtt_rules.specs.Contents.{IsTaken};
+ghost use Rattle.mqtt_calls.specs.TheRules.Contents.{IsTaken};
 ghost use Rattle.mqtt_calls.specs.Choosing.{DoesSome, LeavesSome};
 ghost use Rattle.mqtt_inputs.specs.Inputs.{HasClient, takes};
 
-use mqtt_acts as acts;
+use mqtt_calls::{Step, StepFault};
 use mqtt_codec::{Ack, Subscribe, Unsubscribe};
+use mqtt_publishing as publishing;
 use mqtt_subscribing as subscribing;
-use mqtt_tables::{Step, StepFault};
 use std::alloc::Global;
 
 /// A PUBREL closes an open identifier, and PUBCOMP answers it (4.3.3).
@@ -20,7 +20,7 @@ pub(crate) fn pubrel(step: &mut Step, line: u64, birth: u64, packet: &Ack) -> Re
     ensures left { IfErr result (λ fault.
         LeavesSome (takes line (packets.Pubrel packet.now)) fault step.old step.new) }
 {
-    acts::pubrel(step, line, birth, packet.identifier)
+    publishing::pubrel(step, line, birth, packet.identifier)
 }
 
 /// A PINGREQ is answered by PINGRESP (3.12.4).
@@ -30,7 +30,7 @@ pub(crate) fn pingreq(step: &mut Step, line: u64, birth: u64) -> Result<(), Step
     ensures left { IfErr result (λ fault.
         LeavesSome (takes line (packets.Pingreq)) fault step.old step.new) }
 {
-    acts::pingreq(step, line)
+    publishing::pingreq(step, line)
 }
 
 /// An UNSUBSCRIBE removes filters, and UNSUBACK tells of each (3.10.4).

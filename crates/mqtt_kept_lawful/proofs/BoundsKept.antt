@@ -13,16 +13,16 @@ use Rattle.mqtt_records.specs.declared.records.Records.{Records}
 use Rattle.mqtt_records.specs.declared.session.Columns.{Columns}
 use Rattle.mqtt_records.specs.declared.session.Session.{Session}
 use Rattle.mqtt_rows.specs.Order.{change_row, has_row, put_row}
-use Rattle.mqtt_rules.specs.declared.Limits.{Limits}
-use Rattle.mqtt_rules.specs.Laws.{AreWithin, IsCoherent}
-use Rattle.mqtt_rules.specs.Numbers.{IsTimed}
-use Rattle.mqtt_rules.specs.State.{Broker, MemberChoice, stored}
-use Rattle.mqtt_rules.specs.Step.{Call, at_moment, deeds, is_opening_spent, is_step_spent, opened, opening_deeds, rows_written, stepped, unopened}
-use Rattle.mqtt_rules.proofs.Copies.{each_filter}
-use Rattle.mqtt_rules.proofs.FlightRows.{all_put}
-use Rattle.mqtt_rules.proofs.NumberCopies.{each_change, each_put}
-use Rattle.mqtt_rules.proofs.RowsFit.{opening_fits, step_fits}
-use Rattle.mqtt_rules.proofs.StoredLaw.{rows_store}
+use Rattle.mqtt_calls.specs.TheRules.declared.Limits.{Limits}
+use Rattle.mqtt_calls.specs.TheRules.Laws.{AreWithin, IsCoherent}
+use Rattle.mqtt_calls.specs.TheRules.Numbers.{IsTimed}
+use Rattle.mqtt_calls.specs.TheRules.State.{Broker, MemberChoice, stored}
+use Rattle.mqtt_calls.specs.TheRules.Step.{Call, at_moment, deeds, is_opening_spent, is_step_spent, opened, opening_deeds, rows_written, stepped, unopened}
+use Rattle.mqtt_calls.proofs.TheRules.Copies.{each_filter}
+use Rattle.mqtt_calls.proofs.TheRules.FlightRows.{all_put}
+use Rattle.mqtt_calls.proofs.TheRules.NumberCopies.{each_change, each_put}
+use Rattle.mqtt_calls.proofs.TheRules.RowsFit.{opening_fits, step_fits}
+use Rattle.mqtt_calls.proofs.TheRules.StoredLaw.{rows_store}
 use Rattle.mqtt_kept_lawful.specs.Bounds.{HasBounds, HaveBounds, IsBoundCopy}
 use Rattle.mqtt_kept_lawful.proofs.EachSession.{change_each}
 

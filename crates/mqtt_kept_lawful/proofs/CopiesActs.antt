@@ -24,20 +24,20 @@ use Rattle.mqtt_rows.specs.Distinct.{AllDiffer}
 use Rattle.mqtt_rows.specs.Order.{IsAbove, IsAscending, row_at}
 use Rattle.mqtt_topic.specs.Filters.{begins_share}
 use Rattle.mqtt_topic.specs.Names.{is_empty}
-use Rattle.mqtt_rules.specs.declared.Limits.{Limits}
-use Rattle.mqtt_rules.specs.Deeds.{whose, Message, Origin, Resume, Close, SetExpiry, DropWill, Subscribe, Unsubscribe, Open, Release, Enter, Mark, Leave, Deed, Accept, Begin, Name, Count, At, Finish, Keep, Forget, RefuseWill, Link, On, Send, Gone, after, after_all, always, offer, rows_of_all, series}
-use Rattle.mqtt_rules.specs.Laws.{IsAmong, IsOrdered}
-use Rattle.mqtt_rules.specs.Outbound.{enter_deeds, leave_deeds, queue_limits, since}
-use Rattle.mqtt_rules.specs.Packets.{publish_of}
-use Rattle.mqtt_rules.specs.Routing.{CopyTo, accepted_copies, accepted_if, answers, copies_to, deliver, deliver_by, finds_place, forgets, is_queued, is_queued_at, next_publication, publication_of, publish, retain_by, retained_of, routed_subscription, routing_of, subscriber_of, subscribers}
-use Rattle.mqtt_rules.specs.State.{Broker, Env, Line, MemberChoice, line_of, queue_on, session_at, stored}
-use Rattle.mqtt_rules.specs.Step.{Call, at_moment, deeds, deeds_of, env_of, opened, opening, stepped, unopened, with_moment}
-use Rattle.mqtt_rules.specs.Subscribe as sub
-use Rattle.mqtt_rules.proofs.Acts.{brought_to}
-use Rattle.mqtt_rules.proofs.Copies.{IsNumbered, Kinds, kinds_at, each_filter, each_map, each_more, routed_numbered}
-use Rattle.mqtt_rules.proofs.Goods.{AreGood}
-use Rattle.mqtt_rules.proofs.Leads.{leads_append, leads_cond, leads_flat, leads_of_entry, leads_with_session}
-use Rattle.mqtt_rules.proofs.OrderedActs.{IsPlain, Keeping, leads_all, leads_open}
+use Rattle.mqtt_calls.specs.TheRules.declared.Limits.{Limits}
+use Rattle.mqtt_calls.specs.TheRules.Deeds.{whose, Message, Origin, Resume, Close, SetExpiry, DropWill, Subscribe, Unsubscribe, Open, Release, Enter, Mark, Leave, Deed, Accept, Begin, Name, Count, At, Finish, Keep, Forget, RefuseWill, Link, On, Send, Gone, after, after_all, always, offer, rows_of_all, series}
+use Rattle.mqtt_calls.specs.TheRules.Laws.{IsAmong, IsOrdered}
+use Rattle.mqtt_calls.specs.TheRules.Outbound.{enter_deeds, leave_deeds, queue_limits, since}
+use Rattle.mqtt_calls.specs.TheRules.Packets.{publish_of}
+use Rattle.mqtt_calls.specs.TheRules.Routing.{CopyTo, accepted_copies, accepted_if, answers, copies_to, deliver, deliver_by, finds_place, forgets, is_queued, is_queued_at, next_publication, publication_of, publish, retain_by, retained_of, routed_subscription, routing_of, subscriber_of, subscribers}
+use Rattle.mqtt_calls.specs.TheRules.State.{Broker, Env, Line, MemberChoice, line_of, queue_on, session_at, stored}
+use Rattle.mqtt_calls.specs.TheRules.Step.{Call, at_moment, deeds, deeds_of, env_of, opened, opening, stepped, unopened, with_moment}
+use Rattle.mqtt_calls.specs.TheRules.Subscribe as sub
+use Rattle.mqtt_calls.proofs.TheRules.Acts.{brought_to}
+use Rattle.mqtt_calls.proofs.TheRules.Copies.{IsNumbered, Kinds, kinds_at, each_filter, each_map, each_more, routed_numbered}
+use Rattle.mqtt_calls.proofs.TheRules.Goods.{AreGood}
+use Rattle.mqtt_calls.proofs.TheRules.Leads.{leads_append, leads_cond, leads_flat, leads_of_entry, leads_with_session}
+use Rattle.mqtt_calls.proofs.TheRules.OrderedActs.{IsPlain, Keeping, leads_all, leads_open}
 use Rattle.mqtt_kept_lawful.specs.Identities.{HasIdentities, HaveIdentities, IsGivenCause, IsGivenCopy}
 use Rattle.mqtt_kept_lawful.proofs.CopiesKept.{Good, IsAbsent, IsAbsentIn, IsNewCopy, IsOfGroup, Keeps, Led, Stays, filters_in, filters_of, id_in, kept, more, one, quiet_deeds, quiet_deliver, quiet_leaves}
 use Rattle.mqtt_kept_lawful.proofs.Differ.{differ_filtered}

@@ -22,20 +22,20 @@ use Rattle.mqtt_records.specs.declared.session.Session.{Session}
 use Rattle.mqtt_rows.specs.Distinct.{AllDiffer}
 use Rattle.mqtt_rows.specs.Order.{change_row, has_row, insert_row, put_row, row_at}
 use Rattle.mqtt_topic.specs.Filters.{begins_share, group_of}
-use Rattle.mqtt_rules.specs.Deeds.{Whose, whose, Part, Resume, Close, SetExpiry, DropWill, Subscribe, Unsubscribe, Open, Release, Enter, Mark, Leave, Deed, Accept, Begin, Name, Count, At, Finish, Keep, Forget, RefuseWill, Link, On, Send, Gone, after, after_all, always, new_entry, offer, part_rows_of, rows_of}
-use Rattle.mqtt_rules.specs.Laws.{IsAmong}
-use Rattle.mqtt_rules.specs.Outbound.{enter_deeds, leave_deeds, queue_limits, room, since}
-use Rattle.mqtt_rules.specs.Packets.{publish_of}
-use Rattle.mqtt_rules.specs.Routing.{CopyTo, deliver, deliver_by, is_queued}
-use Rattle.mqtt_rules.specs.State.{Broker, Env, Line, line_of, queue_on, session_at}
-use Rattle.mqtt_rules.proofs.Copies.{Kinds, each_filter, each_map, each_more, kinds_at}
-use Rattle.mqtt_rules.proofs.Goods.{AreGood, good_append, good_cond, good_flat, good_of_entry, good_with_session}
-use Rattle.mqtt_rules.proofs.Leads.{Leads, leads_append}
-use Rattle.mqtt_rules.proofs.NumberCopies.{each_put, each_change}
-use Rattle.mqtt_rules.proofs.NumberFacts.{Counts, counts, counts_after, counts_deed}
-use Rattle.mqtt_rules.proofs.Ordered.{changed_all-ordered}
-use Rattle.mqtt_rules.proofs.OrderedActs.{IsPlain, IsPlainPart}
-use Rattle.mqtt_rules.proofs.OrderedRoom.{at_retained, begin_retained}
+use Rattle.mqtt_calls.specs.TheRules.Deeds.{Whose, whose, Part, Resume, Close, SetExpiry, DropWill, Subscribe, Unsubscribe, Open, Release, Enter, Mark, Leave, Deed, Accept, Begin, Name, Count, At, Finish, Keep, Forget, RefuseWill, Link, On, Send, Gone, after, after_all, always, new_entry, offer, part_rows_of, rows_of}
+use Rattle.mqtt_calls.specs.TheRules.Laws.{IsAmong}
+use Rattle.mqtt_calls.specs.TheRules.Outbound.{enter_deeds, leave_deeds, queue_limits, room, since}
+use Rattle.mqtt_calls.specs.TheRules.Packets.{publish_of}
+use Rattle.mqtt_calls.specs.TheRules.Routing.{CopyTo, deliver, deliver_by, is_queued}
+use Rattle.mqtt_calls.specs.TheRules.State.{Broker, Env, Line, line_of, queue_on, session_at}
+use Rattle.mqtt_calls.proofs.TheRules.Copies.{Kinds, each_filter, each_map, each_more, kinds_at}
+use Rattle.mqtt_calls.proofs.TheRules.Goods.{AreGood, good_append, good_cond, good_flat, good_of_entry, good_with_session}
+use Rattle.mqtt_calls.proofs.TheRules.Leads.{Leads, leads_append}
+use Rattle.mqtt_calls.proofs.TheRules.NumberCopies.{each_put, each_change}
+use Rattle.mqtt_calls.proofs.TheRules.NumberFacts.{Counts, counts, counts_after, counts_deed}
+use Rattle.mqtt_calls.proofs.TheRules.Ordered.{changed_all-ordered}
+use Rattle.mqtt_calls.proofs.TheRules.OrderedActs.{IsPlain, IsPlainPart}
+use Rattle.mqtt_calls.proofs.TheRules.OrderedRoom.{at_retained, begin_retained}
 use Rattle.mqtt_kept_lawful.specs.Identities.{HasIdentities, HaveIdentities, IsGivenCause, IsGivenCopy}
 use Rattle.mqtt_kept_lawful.proofs.Differ.{differ_filtered, given_same}
 use Rattle.mqtt_kept_lawful.proofs.EachSession.{Makes, deed_each, part_made}

@@ -12,12 +12,12 @@ use Rattle.mqtt_records.specs.declared.session.Session.{Session}
 use Rattle.mqtt_records.specs.Records.{changed_all, kept_place, put_session}
 use Rattle.mqtt_records.specs.Session.{birth_of, columns_of, fresh, with_columns, with_will, with_subscription, without_subscription, with_open, without_open, with_copy, with_phase, without_copy}
 use Rattle.mqtt_rows.specs.Order.{has_row, put_row, change_row}
-use Rattle.mqtt_rules.specs.State.{Broker, session_at}
-use Rattle.mqtt_rules.specs.Deeds.{Part, Resume, Close, SetExpiry, DropWill, Subscribe, Unsubscribe, Open, Release, Enter, Mark, Leave, Deed, Accept, Begin, Name, Count, At, Finish, Keep, Forget, RefuseWill, Link, On, Send, Gone, new_entry, part_rows, part_rows_of, after}
-use Rattle.mqtt_rules.proofs.Copies.{each_filter, each_more}
-use Rattle.mqtt_rules.proofs.FlightRows.{all_put}
-use Rattle.mqtt_rules.proofs.NumberCopies.{each_put, each_change}
-use Rattle.mqtt_rules.proofs.OrderedRoom.{at_retained, begin_retained}
+use Rattle.mqtt_calls.specs.TheRules.State.{Broker, session_at}
+use Rattle.mqtt_calls.specs.TheRules.Deeds.{Part, Resume, Close, SetExpiry, DropWill, Subscribe, Unsubscribe, Open, Release, Enter, Mark, Leave, Deed, Accept, Begin, Name, Count, At, Finish, Keep, Forget, RefuseWill, Link, On, Send, Gone, new_entry, part_rows, part_rows_of, after}
+use Rattle.mqtt_calls.proofs.TheRules.Copies.{each_filter, each_more}
+use Rattle.mqtt_calls.proofs.TheRules.FlightRows.{all_put}
+use Rattle.mqtt_calls.proofs.TheRules.NumberCopies.{each_put, each_change}
+use Rattle.mqtt_calls.proofs.TheRules.OrderedRoom.{at_retained, begin_retained}
 
 -- what a part makes of a session; s is the one that was found
 abbrev pub part_made : Part → Session → Session → Session

@@ -21,16 +21,16 @@ use Rattle.mqtt_records.specs.declared.subscription.Subscription.{Subscription}
 use Rattle.mqtt_rows.specs.Distinct.{AllDiffer}
 use Rattle.mqtt_rows.specs.Order.{IsAscending, IsBelow, row_at}
 use Rattle.mqtt_rows.proofs.LookUps.{row_at-here}
-use Rattle.mqtt_rules.specs.Contents.{HasContentsOf, HasLawfulContentsOf, IsAskedFor, IsCopiedOf, IsPublishedOf, of_packets}
-use Rattle.mqtt_rules.specs.Flight.{HasDistinctIdentifiers, IsFlight, identifier_at, identifier_in}
-use Rattle.mqtt_rules.specs.Laws.{HasTables, IsAmong, IsCoherent, IsUnique}
-use Rattle.mqtt_rules.specs.Routing.{is_queued_at}
-use Rattle.mqtt_rules.proofs.Copies.{each_map, each_more}
-use Rattle.mqtt_rules.proofs.FitLaw.{all_among}
-use Rattle.mqtt_rules.proofs.FlightRows.{above_found, all_found, found_behind}
-use Rattle.mqtt_rules.proofs.LawfulRecords.{lawful_coherent}
-use Rattle.mqtt_rules.proofs.SpelledContents.{copy_message, retained_message, will_message}
-use Rattle.mqtt_tables.specs.Subscribing.{HasEachFilterOnce, HaveFiltersOnce}
+use Rattle.mqtt_calls.specs.TheRules.Contents.{HasContentsOf, HasLawfulContentsOf, IsAskedFor, IsCopiedOf, IsPublishedOf, of_packets}
+use Rattle.mqtt_calls.specs.TheRules.Flight.{HasDistinctIdentifiers, IsFlight, identifier_at, identifier_in}
+use Rattle.mqtt_calls.specs.TheRules.Laws.{HasTables, IsAmong, IsCoherent, IsUnique}
+use Rattle.mqtt_calls.specs.TheRules.Routing.{is_queued_at}
+use Rattle.mqtt_calls.proofs.TheRules.Copies.{each_map, each_more}
+use Rattle.mqtt_calls.proofs.TheRules.FitLaw.{all_among}
+use Rattle.mqtt_calls.proofs.TheRules.FlightRows.{above_found, all_found, found_behind}
+use Rattle.mqtt_calls.proofs.TheRules.LawfulRecords.{lawful_coherent}
+use Rattle.mqtt_calls.proofs.TheRules.SpelledContents.{copy_message, retained_message, will_message}
+use Rattle.mqtt_calls.specs.TheTables.Subscribing.{HasEachFilterOnce, HaveFiltersOnce}
 use Rattle.mqtt_calls.proofs.Flights.{lawful_flight}
 use Rattle.mqtt_kept_lawful.specs.Bounds.{HasBounds, HaveBounds, IsBoundCopy}
 use Rattle.mqtt_kept_lawful.specs.Identities.{HasIdentities, HaveIdentities, IsGivenCause, IsGivenCopy}

@@ -16,20 +16,20 @@ use Rattle.mqtt_records.specs.declared.change.Change.{Change}
 use Rattle.mqtt_records.specs.declared.records.Records.{Records}
 use Rattle.mqtt_records.specs.declared.session.Session.{Session}
 use Rattle.mqtt_records.specs.Session.{birth_of}
-use Rattle.mqtt_rules.specs.declared.Limits.{Limits}
-use Rattle.mqtt_rules.specs.Connect.{auto, has_bad_topic, largest_of, least_packet_size, refusal}
-use Rattle.mqtt_rules.specs.Deeds.{Whose, Part, Resume, Close, SetExpiry, DropWill, Subscribe, Unsubscribe, Open, Release, Enter, Mark, Leave, Deed, Accept, Begin, Name, Count, At, Finish, Keep, Forget, RefuseWill, Link, On, Send, Gone, after, after_all, rows_of_all}
-use Rattle.mqtt_rules.specs.State.{Broker, Env, MemberChoice, session_named, stored}
-use Rattle.mqtt_rules.specs.Step.{Call, at_moment, deeds, env_of, opened, opening, stepped, unopened, with_moment}
-use Rattle.mqtt_rules.proofs.Acts.{About, Law, anyone, leads_call, leads_opening}
-use Rattle.mqtt_rules.proofs.ByDeeds.{DeedLaw, MarkLaw, by_deeds, by_deeds_shuts, turn_law}
-use Rattle.mqtt_rules.proofs.Copies.{each_more}
-use Rattle.mqtt_rules.proofs.FitLaw.{all_among}
-use Rattle.mqtt_rules.proofs.FlightRows.{all_at}
-use Rattle.mqtt_rules.proofs.Leads.{found_among, found_passes}
-use Rattle.mqtt_rules.proofs.NumberFacts.{Counts, counts, counts_after, counts_deed}
-use Rattle.mqtt_rules.proofs.Acts.{IsCallOf}
-use Rattle.mqtt_rules.specs.Step.{NewLine, Input, BadInput, Lost, Pump, Tick}
+use Rattle.mqtt_calls.specs.TheRules.declared.Limits.{Limits}
+use Rattle.mqtt_calls.specs.TheRules.Connect.{auto, has_bad_topic, largest_of, least_packet_size, refusal}
+use Rattle.mqtt_calls.specs.TheRules.Deeds.{Whose, Part, Resume, Close, SetExpiry, DropWill, Subscribe, Unsubscribe, Open, Release, Enter, Mark, Leave, Deed, Accept, Begin, Name, Count, At, Finish, Keep, Forget, RefuseWill, Link, On, Send, Gone, after, after_all, rows_of_all}
+use Rattle.mqtt_calls.specs.TheRules.State.{Broker, Env, MemberChoice, session_named, stored}
+use Rattle.mqtt_calls.specs.TheRules.Step.{Call, at_moment, deeds, env_of, opened, opening, stepped, unopened, with_moment}
+use Rattle.mqtt_calls.proofs.TheRules.Acts.{About, Law, anyone, leads_call, leads_opening}
+use Rattle.mqtt_calls.proofs.TheRules.ByDeeds.{DeedLaw, MarkLaw, by_deeds, by_deeds_shuts, turn_law}
+use Rattle.mqtt_calls.proofs.TheRules.Copies.{each_more}
+use Rattle.mqtt_calls.proofs.TheRules.FitLaw.{all_among}
+use Rattle.mqtt_calls.proofs.TheRules.FlightRows.{all_at}
+use Rattle.mqtt_calls.proofs.TheRules.Leads.{found_among, found_passes}
+use Rattle.mqtt_calls.proofs.TheRules.NumberFacts.{Counts, counts, counts_after, counts_deed}
+use Rattle.mqtt_calls.proofs.TheRules.Acts.{IsCallOf}
+use Rattle.mqtt_calls.specs.TheRules.Step.{NewLine, Input, BadInput, Lost, Pump, Tick}
 use Rattle.mqtt_kept_lawful.specs.Names.{AreNamed}
 use Rattle.mqtt_kept_lawful.proofs.EachSession.{Makes, deed_each, part_made}
 

@@ -41,20 +41,20 @@ use Rattle.mqtt_subscribe.specs.declared.unsubscribe.Unsubscribe.{Unsubscribe as
 use Rattle.mqtt_topic.proofs.MatchLemmas.{and_left, and_right}
 use Rattle.mqtt_topic.specs.Filters.{is_filter}
 use Rattle.mqtt_topic.specs.Names.{is_empty}
-use Rattle.mqtt_rules.specs.Closing.{close, close_connected, close_session, drop_line, end_session, has_due_end, has_due_will, publish_or_refuse, publish_will, settle, will_deeds, will_message}
-use Rattle.mqtt_rules.specs.Connect.{begin_named, clear, connect_by, joins, largest_of, of_client, prepare, refusal, refusal_size, refused, resume, take_over}
-use Rattle.mqtt_rules.specs.Contents.{IsTaken, TakesLawful}
-use Rattle.mqtt_rules.specs.Deeds.{Whose, whose, Message, Origin, FromClient, FromWill, Close, DropWill, Subscribe, Open, Enter, Leave, Hear, Deed, Accept, Begin, Count, At, Finish, Forget, Link, On, Send, Gone, Act, after_all, always, of_session, offer, only_if, series, with_line, with_session}
-use Rattle.mqtt_rules.specs.Inbound.{Meaning, Means, Wrong, answer, code_accepted, code_again, leave_by, meaning, message_of, new_expiry, on_answer, opens, publish_by, publish_meant, publish_new, pump_deeds, pump_turns, release_by, sets_alias, standing}
-use Rattle.mqtt_rules.specs.Outbound.{all_turn_deeds, enter_deeds, leave_deeds, of_entry, queue_limits, since, turn_deeds}
-use Rattle.mqtt_rules.specs.Packets.{connack, disconnect, number_at, publish_of, suback, unsuback}
-use Rattle.mqtt_rules.specs.Routing.{CopyTo, accepted_copies, deliver, deliver_by, forgets, is_queued, is_wanted, next_publication, publish, retain_by, retained_of}
-use Rattle.mqtt_rules.specs.State.{Broker, Env, Line, is_connected, line_at, line_of, queue_on, session_at, session_named}
-use Rattle.mqtt_rules.specs.Step.{Call, NewLine, Input, BadInput, Lost, Pump, Tick, can_link, close_if, deeds_of, first_packet, late_code, next_packet, on_fault, on_packet, on_pump, opening}
-use Rattle.mqtt_rules.specs.Subscribe as sub
-use Rattle.mqtt_rules.specs.Tick.{due, first_due, has_lapsed, is_silent, is_stale, lapse_deeds, lapses, on_tick, silence}
-use Rattle.mqtt_rules.proofs.Copies.{each_all, each_append, each_flat, each_map}
-use Rattle.mqtt_rules.proofs.Goods.{AreGood}
+use Rattle.mqtt_calls.specs.TheRules.Closing.{close, close_connected, close_session, drop_line, end_session, has_due_end, has_due_will, publish_or_refuse, publish_will, settle, will_deeds, will_message}
+use Rattle.mqtt_calls.specs.TheRules.Connect.{begin_named, clear, connect_by, joins, largest_of, of_client, prepare, refusal, refusal_size, refused, resume, take_over}
+use Rattle.mqtt_calls.specs.TheRules.Contents.{IsTaken, TakesLawful}
+use Rattle.mqtt_calls.specs.TheRules.Deeds.{Whose, whose, Message, Origin, FromClient, FromWill, Close, DropWill, Subscribe, Open, Enter, Leave, Hear, Deed, Accept, Begin, Count, At, Finish, Forget, Link, On, Send, Gone, Act, after_all, always, of_session, offer, only_if, series, with_line, with_session}
+use Rattle.mqtt_calls.specs.TheRules.Inbound.{Meaning, Means, Wrong, answer, code_accepted, code_again, leave_by, meaning, message_of, new_expiry, on_answer, opens, publish_by, publish_meant, publish_new, pump_deeds, pump_turns, release_by, sets_alias, standing}
+use Rattle.mqtt_calls.specs.TheRules.Outbound.{all_turn_deeds, enter_deeds, leave_deeds, of_entry, queue_limits, since, turn_deeds}
+use Rattle.mqtt_calls.specs.TheRules.Packets.{connack, disconnect, number_at, publish_of, suback, unsuback}
+use Rattle.mqtt_calls.specs.TheRules.Routing.{CopyTo, accepted_copies, deliver, deliver_by, forgets, is_queued, is_wanted, next_publication, publish, retain_by, retained_of}
+use Rattle.mqtt_calls.specs.TheRules.State.{Broker, Env, Line, is_connected, line_at, line_of, queue_on, session_at, session_named}
+use Rattle.mqtt_calls.specs.TheRules.Step.{Call, NewLine, Input, BadInput, Lost, Pump, Tick, can_link, close_if, deeds_of, first_packet, late_code, next_packet, on_fault, on_packet, on_pump, opening}
+use Rattle.mqtt_calls.specs.TheRules.Subscribe as sub
+use Rattle.mqtt_calls.specs.TheRules.Tick.{due, first_due, has_lapsed, is_silent, is_stale, lapse_deeds, lapses, on_tick, silence}
+use Rattle.mqtt_calls.proofs.TheRules.Copies.{each_all, each_append, each_flat, each_map}
+use Rattle.mqtt_calls.proofs.TheRules.Goods.{AreGood}
 
 -- what is opened, what is subscribed, and who begins
 abbrev pub IsFrom : Deed → Type 0

@@ -28,24 +28,24 @@ use Rattle.mqtt_records.specs.Session.{birth_of, copy_place, in_phase, with_phas
 use Rattle.mqtt_rows.specs.Distinct.{AllDiffer}
 use Rattle.mqtt_rows.specs.Order.{IsAscending, change_row, remove_row, row_at}
 use Rattle.mqtt_rows.proofs.LookUps.{row_at-here, row_at-remove_row}
-use Rattle.mqtt_rules.specs.declared.Limits.{Limits}
-use Rattle.mqtt_rules.specs.Deeds.{Whose, whose, FromClient, Part, Resume, Close, SetExpiry, DropWill, Subscribe, Unsubscribe, Open, Release, Enter, Mark, Leave, Went, Deed, Accept, Begin, Name, Count, At, Finish, Keep, Forget, RefuseWill, Link, On, Send, Gone, after, after_all, new_entry, part_rows, part_rows_of, rows_of, rows_of_all}
-use Rattle.mqtt_rules.specs.Inbound.{pump_deeds}
-use Rattle.mqtt_rules.specs.Laws.{IsOrdered}
-use Rattle.mqtt_rules.specs.Outbound.{all_turn_deeds, of_entry, turn_deeds, way_of}
-use Rattle.mqtt_rules.specs.Packets.{publish_of}
-use Rattle.mqtt_rules.specs.Routing.{publish}
-use Rattle.mqtt_rules.specs.State.{Broker, Env, Line, MemberChoice, entry_on, queue_on, session_at, stored}
-use Rattle.mqtt_rules.specs.Step.{Call, at_moment, deeds, env_of, opened, opening, stepped, unopened, with_moment}
-use Rattle.mqtt_rules.specs.Subscribe.{next_number, subscription}
-use Rattle.mqtt_rules.proofs.Acts.{IsAnswer, Law, anyone, call_of_anyone, finds_anyone, is_alone, leads_call, leads_opening}
-use Rattle.mqtt_rules.proofs.ByDeeds.{DeedLaw, TurnLaw, by_ends}
-use Rattle.mqtt_rules.proofs.Copies.{each_filter, each_more}
-use Rattle.mqtt_rules.proofs.FlightRows.{all_at, all_changed_at, all_found, change_row-here, change_row-other, found_behind, found_key}
-use Rattle.mqtt_rules.proofs.Goods.{after_append}
-use Rattle.mqtt_rules.proofs.Leads.{leads_end}
-use Rattle.mqtt_rules.proofs.NumberCopies.{each_put}
-use Rattle.mqtt_rules.proofs.Ordered.{changed_all-ordered}
+use Rattle.mqtt_calls.specs.TheRules.declared.Limits.{Limits}
+use Rattle.mqtt_calls.specs.TheRules.Deeds.{Whose, whose, FromClient, Part, Resume, Close, SetExpiry, DropWill, Subscribe, Unsubscribe, Open, Release, Enter, Mark, Leave, Went, Deed, Accept, Begin, Name, Count, At, Finish, Keep, Forget, RefuseWill, Link, On, Send, Gone, after, after_all, new_entry, part_rows, part_rows_of, rows_of, rows_of_all}
+use Rattle.mqtt_calls.specs.TheRules.Inbound.{pump_deeds}
+use Rattle.mqtt_calls.specs.TheRules.Laws.{IsOrdered}
+use Rattle.mqtt_calls.specs.TheRules.Outbound.{all_turn_deeds, of_entry, turn_deeds, way_of}
+use Rattle.mqtt_calls.specs.TheRules.Packets.{publish_of}
+use Rattle.mqtt_calls.specs.TheRules.Routing.{publish}
+use Rattle.mqtt_calls.specs.TheRules.State.{Broker, Env, Line, MemberChoice, entry_on, queue_on, session_at, stored}
+use Rattle.mqtt_calls.specs.TheRules.Step.{Call, at_moment, deeds, env_of, opened, opening, stepped, unopened, with_moment}
+use Rattle.mqtt_calls.specs.TheRules.Subscribe.{next_number, subscription}
+use Rattle.mqtt_calls.proofs.TheRules.Acts.{IsAnswer, Law, anyone, call_of_anyone, finds_anyone, is_alone, leads_call, leads_opening}
+use Rattle.mqtt_calls.proofs.TheRules.ByDeeds.{DeedLaw, TurnLaw, by_ends}
+use Rattle.mqtt_calls.proofs.TheRules.Copies.{each_filter, each_more}
+use Rattle.mqtt_calls.proofs.TheRules.FlightRows.{all_at, all_changed_at, all_found, change_row-here, change_row-other, found_behind, found_key}
+use Rattle.mqtt_calls.proofs.TheRules.Goods.{after_append}
+use Rattle.mqtt_calls.proofs.TheRules.Leads.{leads_end}
+use Rattle.mqtt_calls.proofs.TheRules.NumberCopies.{each_put}
+use Rattle.mqtt_calls.proofs.TheRules.Ordered.{changed_all-ordered}
 use Rattle.mqtt_kept_lawful.specs.Phases.{HasItsPhase, HasPhases, HavePhases, IsPhaseOf}
 use Rattle.mqtt_kept_lawful.proofs.EachSession.{Makes, deed_each, part_made}
 use Rattle.mqtt_kept_lawful.proofs.Orders.{HasOrdersUpTo, left_differ, marked_differ, orders, orders_are, orders_known, phase_fresh, put_differ}

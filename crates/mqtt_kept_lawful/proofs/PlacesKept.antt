@@ -15,20 +15,20 @@ use Rattle.mqtt_records.specs.Session.{birth_of, columns_of, place_of, fresh, wi
 use Rattle.mqtt_rows.specs.Distinct.{AllDiffer}
 use Rattle.mqtt_rows.specs.Order.{IsAscending, change_row, has_row, put_row}
 use Rattle.mqtt_rows.proofs.OrderLemmas.{put-ascending, filter-ascending}
-use Rattle.mqtt_rules.specs.declared.Limits.{Limits}
-use Rattle.mqtt_rules.specs.Deeds.{Whose, Part, Resume, Close, SetExpiry, DropWill, Subscribe, Unsubscribe, Open, Release, Enter, Mark, Leave, Deed, Accept, Begin, Name, Count, At, Finish, Keep, Forget, RefuseWill, Link, On, Send, Gone, after, after_all, new_entry, part_rows, part_rows_of, rows_of, rows_of_all, will_row}
-use Rattle.mqtt_rules.specs.Laws.{IsAmong}
-use Rattle.mqtt_rules.specs.State.{Broker, Env, MemberChoice, session_at, stored}
-use Rattle.mqtt_rules.specs.Step.{Call, at_moment, deeds, done, env_of, opened, opening, stepped, unopened, with_moment}
-use Rattle.mqtt_rules.specs.Subscribe as sub
-use Rattle.mqtt_rules.proofs.Acts.{anyone, finds_anyone, is_alone, IsGranted}
-use Rattle.mqtt_rules.proofs.ByDeeds.{DeedLaw, MarkLaw, leads_deeds, leads_opened}
-use Rattle.mqtt_rules.proofs.Copies.{each_filter, each_map, each_more}
-use Rattle.mqtt_rules.proofs.FlightRows.{all_at, found_key}
-use Rattle.mqtt_rules.proofs.Leads.{found_among}
-use Rattle.mqtt_rules.proofs.NumberCopies.{each_put}
-use Rattle.mqtt_rules.proofs.NumberFacts.{Counts, counts, counts_after, counts_deed}
-use Rattle.mqtt_rules.proofs.Ordered.{changed_all-ordered}
+use Rattle.mqtt_calls.specs.TheRules.declared.Limits.{Limits}
+use Rattle.mqtt_calls.specs.TheRules.Deeds.{Whose, Part, Resume, Close, SetExpiry, DropWill, Subscribe, Unsubscribe, Open, Release, Enter, Mark, Leave, Deed, Accept, Begin, Name, Count, At, Finish, Keep, Forget, RefuseWill, Link, On, Send, Gone, after, after_all, new_entry, part_rows, part_rows_of, rows_of, rows_of_all, will_row}
+use Rattle.mqtt_calls.specs.TheRules.Laws.{IsAmong}
+use Rattle.mqtt_calls.specs.TheRules.State.{Broker, Env, MemberChoice, session_at, stored}
+use Rattle.mqtt_calls.specs.TheRules.Step.{Call, at_moment, deeds, done, env_of, opened, opening, stepped, unopened, with_moment}
+use Rattle.mqtt_calls.specs.TheRules.Subscribe as sub
+use Rattle.mqtt_calls.proofs.TheRules.Acts.{anyone, finds_anyone, is_alone, IsGranted}
+use Rattle.mqtt_calls.proofs.TheRules.ByDeeds.{DeedLaw, MarkLaw, leads_deeds, leads_opened}
+use Rattle.mqtt_calls.proofs.TheRules.Copies.{each_filter, each_map, each_more}
+use Rattle.mqtt_calls.proofs.TheRules.FlightRows.{all_at, found_key}
+use Rattle.mqtt_calls.proofs.TheRules.Leads.{found_among}
+use Rattle.mqtt_calls.proofs.TheRules.NumberCopies.{each_put}
+use Rattle.mqtt_calls.proofs.TheRules.NumberFacts.{Counts, counts, counts_after, counts_deed}
+use Rattle.mqtt_calls.proofs.TheRules.Ordered.{changed_all-ordered}
 use Rattle.mqtt_kept_lawful.specs.Places.{HasPlacesUpTo, HavePlacesApart, places_in}
 use Rattle.mqtt_kept_lawful.proofs.Differ.{IsOwn, ascending_differ, change_differs, each_given, filter_differs, given_same, put_differs}
 use Rattle.mqtt_kept_lawful.proofs.EachSession.{Makes, deed_each, part_made}

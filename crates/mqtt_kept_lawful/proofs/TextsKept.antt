@@ -14,16 +14,16 @@ use Rattle.mqtt_records.specs.declared.session.Session.{Session}
 use Rattle.mqtt_records.specs.declared.subscription.Subscription.{Subscription}
 use Rattle.mqtt_topic.specs.Filters.{begins_share, group_of, is_filter, is_shared_filter}
 use Rattle.mqtt_topic.specs.Names.{is_empty}
-use Rattle.mqtt_rules.specs.declared.Limits.{Limits}
-use Rattle.mqtt_rules.specs.Contents.{TakesLawful}
-use Rattle.mqtt_rules.specs.Deeds.{Whose, Part, Resume, Close, SetExpiry, DropWill, Subscribe, Unsubscribe, Open, Release, Enter, Mark, Leave, Deed, Accept, Begin, Name, Count, At, Finish, Keep, Forget, RefuseWill, Link, On, Send, Gone, after, after_all, new_entry, rows_of_all}
-use Rattle.mqtt_rules.specs.State.{Broker, MemberChoice, stored}
-use Rattle.mqtt_rules.specs.Step.{Call, at_moment, deeds, env_of, opened, opening, stepped, unopened, with_moment}
-use Rattle.mqtt_rules.proofs.Copies.{each_filter, each_map, each_more}
-use Rattle.mqtt_rules.proofs.FitLaw.{all_among}
-use Rattle.mqtt_rules.proofs.FlightRows.{all_at}
-use Rattle.mqtt_rules.proofs.Goods.{AreGood}
-use Rattle.mqtt_rules.proofs.NumberCopies.{each_change, each_put}
+use Rattle.mqtt_calls.specs.TheRules.declared.Limits.{Limits}
+use Rattle.mqtt_calls.specs.TheRules.Contents.{TakesLawful}
+use Rattle.mqtt_calls.specs.TheRules.Deeds.{Whose, Part, Resume, Close, SetExpiry, DropWill, Subscribe, Unsubscribe, Open, Release, Enter, Mark, Leave, Deed, Accept, Begin, Name, Count, At, Finish, Keep, Forget, RefuseWill, Link, On, Send, Gone, after, after_all, new_entry, rows_of_all}
+use Rattle.mqtt_calls.specs.TheRules.State.{Broker, MemberChoice, stored}
+use Rattle.mqtt_calls.specs.TheRules.Step.{Call, at_moment, deeds, env_of, opened, opening, stepped, unopened, with_moment}
+use Rattle.mqtt_calls.proofs.TheRules.Copies.{each_filter, each_map, each_more}
+use Rattle.mqtt_calls.proofs.TheRules.FitLaw.{all_among}
+use Rattle.mqtt_calls.proofs.TheRules.FlightRows.{all_at}
+use Rattle.mqtt_calls.proofs.TheRules.Goods.{AreGood}
+use Rattle.mqtt_calls.proofs.TheRules.NumberCopies.{each_change, each_put}
 use Rattle.mqtt_topic.proofs.MatchLemmas.{and_both}
 use Rattle.mqtt_kept_lawful.specs.Identities.{HaveIdentities}
 use Rattle.mqtt_kept_lawful.specs.Texts.{HasFilter, HasTexts, HaveTexts, IsGroupOf}

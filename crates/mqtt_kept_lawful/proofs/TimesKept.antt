@@ -14,21 +14,21 @@ use Rattle.mqtt_records.specs.declared.session.Session.{Session}
 use Rattle.mqtt_records.specs.declared.subscription.Subscription.{Subscription}
 use Rattle.mqtt_records.specs.Records.{changed_all, IsNumber}
 use Rattle.mqtt_records.specs.Session.{birth_of, place_of, copy_place, without_filter, in_phase}
-use Rattle.mqtt_rules.specs.declared.Limits.{Limits}
-use Rattle.mqtt_rules.specs.Deeds.{Whose, Part, Resume, Close, SetExpiry, DropWill, Subscribe, Unsubscribe, Open, Release, Enter, Mark, Leave, Deed, Accept, Begin, Name, Count, At, Finish, Keep, Forget, RefuseWill, Link, On, Send, Gone, after, after_all, rows_of_all, new_entry}
-use Rattle.mqtt_rules.specs.Numbers.{IsTimed}
-use Rattle.mqtt_rules.specs.Routing.{place_of_kept, retained_of}
-use Rattle.mqtt_rules.specs.State.{Broker, Env, MemberChoice, capped, stored}
-use Rattle.mqtt_rules.specs.Step.{Call, at_moment, deeds, done, env_of, opened, opening, stepped, unopened, with_moment}
-use Rattle.mqtt_rules.specs.Subscribe as sub
-use Rattle.mqtt_rules.proofs.Acts.{anyone, finds_anyone, is_alone, IsGranted}
-use Rattle.mqtt_rules.proofs.ByDeeds.{DeedLaw, MarkLaw, leads_deeds, leads_opened}
-use Rattle.mqtt_rules.proofs.Copies.{IsMade, IsOf, each_filter, each_more}
-use Rattle.mqtt_rules.proofs.FitLaw.{all_among}
-use Rattle.mqtt_rules.proofs.FlightRows.{all_at}
-use Rattle.mqtt_rules.proofs.Leads.{found_among}
-use Rattle.mqtt_rules.proofs.NumberCopies.{each_put, each_change}
-use Rattle.mqtt_rules.proofs.StoredLaw.{stored_after_all}
+use Rattle.mqtt_calls.specs.TheRules.declared.Limits.{Limits}
+use Rattle.mqtt_calls.specs.TheRules.Deeds.{Whose, Part, Resume, Close, SetExpiry, DropWill, Subscribe, Unsubscribe, Open, Release, Enter, Mark, Leave, Deed, Accept, Begin, Name, Count, At, Finish, Keep, Forget, RefuseWill, Link, On, Send, Gone, after, after_all, rows_of_all, new_entry}
+use Rattle.mqtt_calls.specs.TheRules.Numbers.{IsTimed}
+use Rattle.mqtt_calls.specs.TheRules.Routing.{place_of_kept, retained_of}
+use Rattle.mqtt_calls.specs.TheRules.State.{Broker, Env, MemberChoice, capped, stored}
+use Rattle.mqtt_calls.specs.TheRules.Step.{Call, at_moment, deeds, done, env_of, opened, opening, stepped, unopened, with_moment}
+use Rattle.mqtt_calls.specs.TheRules.Subscribe as sub
+use Rattle.mqtt_calls.proofs.TheRules.Acts.{anyone, finds_anyone, is_alone, IsGranted}
+use Rattle.mqtt_calls.proofs.TheRules.ByDeeds.{DeedLaw, MarkLaw, leads_deeds, leads_opened}
+use Rattle.mqtt_calls.proofs.TheRules.Copies.{IsMade, IsOf, each_filter, each_more}
+use Rattle.mqtt_calls.proofs.TheRules.FitLaw.{all_among}
+use Rattle.mqtt_calls.proofs.TheRules.FlightRows.{all_at}
+use Rattle.mqtt_calls.proofs.TheRules.Leads.{found_among}
+use Rattle.mqtt_calls.proofs.TheRules.NumberCopies.{each_put, each_change}
+use Rattle.mqtt_calls.proofs.TheRules.StoredLaw.{stored_after_all}
 use Rattle.mqtt_kept_lawful.specs.Times.{AreTimely, IsTimely, IsTimelyCopy, IsTimelyKept}
 use Rattle.mqtt_kept_lawful.proofs.EachSession.{Keeps, Makes, deed_each, deed_kept, part_made}
 

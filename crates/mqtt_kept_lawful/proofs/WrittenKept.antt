@@ -3,17 +3,17 @@ use Rattle.std.proofs.Common.{◌≡◌, ℕ, false, List, [], ◌∷◌, arith}
 use Rattle.std.specs.List.{AllByRecursion}
 use Rattle.mqtt_records.specs.Records.{IsNumber, nothing}
 use Rattle.mqtt_records.specs.declared.records.Records.{Records}
-use Rattle.mqtt_rules.specs.declared.Limits.{Limits}
-use Rattle.mqtt_rules.specs.Contents.{AreContentsOf, HasTopics, TakesLawful, of_packets}
-use Rattle.mqtt_rules.specs.Laws.{AreWithin, Event, Asked, Reopened, after_event, after_events, blank}
-use Rattle.mqtt_rules.specs.Numbers.{IsTimed}
-use Rattle.mqtt_rules.specs.State.{Broker, MemberChoice, stored}
-use Rattle.mqtt_rules.specs.Step.{Call, is_opening_spent, is_step_spent, opened, stepped}
-use Rattle.mqtt_rules.proofs.ContentLaw.{step_contents, opening_contents}
-use Rattle.mqtt_rules.proofs.FlightStep.{step_keeps, opening_keeps}
-use Rattle.mqtt_rules.proofs.NumberSteps.{step_timed, opening_timed}
-use Rattle.mqtt_rules.proofs.RowsFit.{opened_last, opening_coherent, step_coherent, step_last}
-use Rattle.mqtt_rules.proofs.SpelledContents.{packets_are}
+use Rattle.mqtt_calls.specs.TheRules.declared.Limits.{Limits}
+use Rattle.mqtt_calls.specs.TheRules.Contents.{AreContentsOf, HasTopics, TakesLawful, of_packets}
+use Rattle.mqtt_calls.specs.TheRules.Laws.{AreWithin, Event, Asked, Reopened, after_event, after_events, blank}
+use Rattle.mqtt_calls.specs.TheRules.Numbers.{IsTimed}
+use Rattle.mqtt_calls.specs.TheRules.State.{Broker, MemberChoice, stored}
+use Rattle.mqtt_calls.specs.TheRules.Step.{Call, is_opening_spent, is_step_spent, opened, stepped}
+use Rattle.mqtt_calls.proofs.TheRules.ContentLaw.{step_contents, opening_contents}
+use Rattle.mqtt_calls.proofs.TheRules.FlightStep.{step_keeps, opening_keeps}
+use Rattle.mqtt_calls.proofs.TheRules.NumberSteps.{step_timed, opening_timed}
+use Rattle.mqtt_calls.proofs.TheRules.RowsFit.{opened_last, opening_coherent, step_coherent, step_last}
+use Rattle.mqtt_calls.proofs.TheRules.SpelledContents.{packets_are}
 use Rattle.mqtt_calls.specs.Sound.{IsSound}
 use Rattle.mqtt_calls.proofs.Kept.{opening_filters, step_filters}
 use Rattle.mqtt_kept_lawful.specs.Written.{AreFair, IsFair, IsWritten}

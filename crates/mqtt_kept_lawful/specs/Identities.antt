@@ -8,8 +8,8 @@ use Rattle.mqtt_message.specs.declared.message.MessageCopy.{MessageCopy}
 use Rattle.mqtt_records.specs.declared.records.Records.{Records}
 use Rattle.mqtt_records.specs.declared.session.Session.{Session}
 use Rattle.mqtt_rows.specs.Distinct.{AllDiffer}
-use Rattle.mqtt_rules.specs.Laws.{IsOrdered}
-use Rattle.mqtt_rules.specs.Routing.{is_queued_at}
+use Rattle.mqtt_calls.specs.TheRules.Laws.{IsOrdered}
+use Rattle.mqtt_calls.specs.TheRules.Routing.{is_queued_at}
 
 -- a copy of a retained message is for a subscribe that was granted
 abbrev pub IsGivenCause : ℕ → Cause → Type 0

@@ -5,7 +5,7 @@ use Rattle.mqtt_records.specs.declared.records.Records.{Records}
 use Rattle.mqtt_records.specs.declared.session.Session.{Session}
 use Rattle.mqtt_records.specs.Session.{place_of}
 use Rattle.mqtt_rows.specs.Distinct.{AllDiffer}
-use Rattle.mqtt_rules.specs.Laws.{IsOrdered}
+use Rattle.mqtt_calls.specs.TheRules.Laws.{IsOrdered}
 
 abbrev pub places_in : Session → List ℕ
 places_in s = map place_of s.subscriptions

@@ -5,10 +5,10 @@ use Rattle.mqtt_base.specs.Values.{FitsText}
 use Rattle.mqtt_lawful.specs.Lawful.{IsLawful}
 use Rattle.mqtt_records.specs.declared.records.Records.{Records}
 use Rattle.mqtt_rows.specs.Distinct.{AllDiffer}
-use Rattle.mqtt_rules.specs.Contents.{HasLawfulContentsOf, TakesLawful, of_packets}
-use Rattle.mqtt_rules.specs.Laws.{AreWithin, Event, Asked, Reopened, after_event}
-use Rattle.mqtt_rules.specs.State.{Broker, stored}
-use Rattle.mqtt_rules.specs.Step.{is_opening_spent, is_step_spent}
+use Rattle.mqtt_calls.specs.TheRules.Contents.{HasLawfulContentsOf, TakesLawful, of_packets}
+use Rattle.mqtt_calls.specs.TheRules.Laws.{AreWithin, Event, Asked, Reopened, after_event}
+use Rattle.mqtt_calls.specs.TheRules.State.{Broker, stored}
+use Rattle.mqtt_calls.specs.TheRules.Step.{is_opening_spent, is_step_spent}
 
 -- messages as short as those of packets, filters that packets can carry, and retained messages of different publications
 pub record IsWritten (r : Records) : Type 0 where

@@ -1,29 +1,24 @@
 -- Each call of the broker, as a publisher sees it, wherever it is: a call of others, a packet of its own, the loss of its line,
 -- and a restart.
-use Rattle.std.proofs.Common.{◌≡◌, ℕ, suc, ◌≤◌, Bool, true, false, ◌⊎◌, List, [], ◌∷◌, ◌++◌, length, Option, Some, None, nat_eq, nat_lt, bytes_eq, refl, sym, ap, subst, ◌∙◌, append-nil, arith, inl, inr}
-use Rattle.std.specs.Prelude.{⊤, option_map, find, filter_map, is_some}
+use Rattle.std.proofs.Common.{◌≡◌, ℕ, Bool, true, false, ◌⊎◌, List, [], ◌∷◌, ◌++◌, Option, Some, None, nat_eq, refl, sym, ap, subst, ◌∙◌, append-nil, inl, inr}
+use Rattle.std.specs.Prelude.{option_map, filter_map, is_some}
 use Rattle.std.specs.List.{AllByRecursion, starts_with}
-use Rattle.std.proofs.lemmas.Bool.{cases_Bool}
-use Rattle.std.proofs.lemmas.Cmp.{nat_eq_equiv}
-use Rattle.mqtt_codec.specs.declared.packet.Packet.{Packet}
-use Rattle.mqtt_codec.specs.declared.packet.Packet.TheVariants.{Connect}
-use Rattle.mqtt_inbound.specs.Line.{Link, away}
-use Rattle.mqtt_inbound.specs.Publisher.{FromPublisher, CONNECT, PUBLISH_1, PUBLISH_2, PUBREL, IsHeard, HasNoConnect, IsConnectAlone}
-use Rattle.mqtt_inbound.specs.InboundWorld.{World as Hop, Event as HopEvent, break, restart, step, run, after, Heard, ConnectsAlone}
-use Rattle.mqtt_inbound.proofs.inbound.Heard.{alone_run, heard_run}
+use Rattle.mqtt_inbound.specs.Publisher.{FromPublisher, CONNECT, PUBLISH_1, PUBLISH_2, PUBREL, IsHeard}
+use Rattle.mqtt_inbound.specs.InboundWorld.{World as Hop, break, restart, step, Heard}
+use Rattle.mqtt_inbound.proofs.inbound.Heard.{heard_run}
 use Rattle.mqtt_records.specs.declared.session.Session.{Session}
 use Rattle.mqtt_rules.specs.declared.Limits.{Limits}
 use Rattle.mqtt_rules.specs.State.{MemberChoice, Line as BrokerLine, Broker, session_named, line_at}
-use Rattle.mqtt_rules.specs.Deeds.{Deed, Gone, after_all, rows_of_all, with_line}
+use Rattle.mqtt_rules.specs.Deeds.{Deed, after_all, rows_of_all, with_line}
 use Rattle.mqtt_rules.specs.Closing.{close}
 use Rattle.mqtt_rules.specs.Connect.{auto}
-use Rattle.mqtt_rules.specs.Step.{Call, NewLine, Input, BadInput, Lost, Pump, Tick, Outcome, at_moment, env_of, deeds, stepped, told, opened, unopened, opening}
-use Rattle.mqtt_laws.specs.Lines.{Line, is_one_of, unless_closed, told_by, left, restarted}
+use Rattle.mqtt_rules.specs.Step.{Call, NewLine, Input, BadInput, Lost, Pump, Tick, at_moment, env_of, deeds, stepped, told, opened}
+use Rattle.mqtt_laws.specs.Lines.{is_one_of, unless_closed, told_by, left}
 use Rattle.mqtt_laws.specs.Ends.{Sent, shake, plain, Publisher, wire, message_in}
 use Rattle.mqtt_laws.specs.World.{publisher_told, publisher_restarted}
 use Rattle.mqtt_laws.specs.Run.{each_of}
-use Rattle.mqtt_laws.specs.Seen.{qos_of_draft, shaken, heard_in, is_linked, open_in, seen}
-use Rattle.mqtt_laws.specs.Hops.{IsOurLine, Own, IsOthers, IsFarCall, IsInOrder, IsKept, IsNoConnect, IsRun, lost_by, turned_back, after_step, after_old_step, connect_packet}
+use Rattle.mqtt_laws.specs.Seen.{shaken, is_linked, seen}
+use Rattle.mqtt_laws.specs.Hops.{Own, IsFarCall, IsInOrder, IsNoConnect, IsRun, lost_by, turned_back, after_step, after_old_step, connect_packet}
 use Rattle.mqtt_laws.specs.Seats.{Comes, Former, IsApart, IsHis, IsIdle, IsNamed, IsOff, IsSound, Present, Seat, absent, closed, glance, glance_at, joined, late, lingers, over, waiting, waits_there}
 use Rattle.mqtt_laws.proofs.Quiet.{session_on}
 use Rattle.mqtt_laws.proofs.Seeing.{linked_of, linked_is}
@@ -33,11 +28,11 @@ use Rattle.mqtt_laws.proofs.Frame.{old_events}
 use Rattle.mqtt_laws.proofs.Breaks.{break_is_hop, break_owns}
 use Rattle.mqtt_laws.proofs.Restarts.{restart_is_hop, restart_owns}
 use Rattle.mqtt_laws.proofs.EmptyRestarts.{empty_restart_is_hop}
-use Rattle.mqtt_laws.proofs.Untouched.{AreAway, elsewhere}
+use Rattle.mqtt_laws.proofs.Untouched.{elsewhere}
 use Rattle.mqtt_laws.proofs.Nameless.{AreStrangers, strangers_call, IsOfOthers}
-use Rattle.mqtt_laws.proofs.Seats.{kept_of, AreOthers, AreElsewhere, AreFarFrom, remains, remains_done, former_stays, closes_old, far_step}
+use Rattle.mqtt_laws.proofs.Seats.{kept_of, AreOthers, AreElsewhere, remains, remains_done, former_stays, closes_old, far_step}
 use Rattle.mqtt_laws.proofs.HopStands.{stands_stays}
-use Rattle.mqtt_laws.proofs.OwnSeats.{own_on, none_there, empty_stays, former_after, connected_of}
+use Rattle.mqtt_laws.proofs.OwnSeats.{own_on, former_after, connected_of}
 use Rattle.mqtt_laws.proofs.OwnCalls.{differs, packet_comes, waiting_line, kept_connect, first_connect}
 use Rattle.mqtt_laws.proofs.OldCalls.{old_packet_comes, late_comes, late_first}
 

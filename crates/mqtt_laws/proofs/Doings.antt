@@ -1,6 +1,6 @@
 -- Where a publisher is after its own doings: it publishes, reads a packet, gives its line up, or joins by a new one.
-use Rattle.std.proofs.Common.{◌≡◌, ℕ, suc, ◌≤◌, Bool, true, false, cond, ◌⊎◌, if◌then◌else◌, List, [], ◌∷◌, ◌++◌, map, length, Option, Some, None, nat_eq, nat_lt, refl, sym, ap, subst, ◌∙◌, append-nil, arith, inl, inr}
-use Rattle.std.specs.Prelude.{⊤, option_map, find, filter_map, is_some}
+use Rattle.std.proofs.Common.{◌≡◌, ℕ, suc, ◌≤◌, Bool, true, false, cond, ◌⊎◌, if◌then◌else◌, List, [], ◌∷◌, ◌++◌, map, length, Option, Some, None, nat_lt, refl, sym, ap, subst, ◌∙◌, arith, inl, inr}
+use Rattle.std.specs.Prelude.{option_map, filter_map, is_some}
 use Rattle.std.specs.List.{AllByRecursion, cons_option}
 use Rattle.std.proofs.lemmas.Bool.{cases_Bool}
 use Rattle.std.proofs.lemmas.Cmp.{nat_eq_equiv}
@@ -11,26 +11,26 @@ use Rattle.mqtt_rows.specs.Order.{IsBelow}
 use Rattle.mqtt_rows.proofs.OrderLemmas.{apart}
 use Rattle.mqtt_inbound.specs.Identifiers.{free_identifier}
 use Rattle.mqtt_inbound.specs.Line.{Link, away, asked, live, sent_on}
-use Rattle.mqtt_inbound.specs.Publisher.{Qos, qos_1, qos_2, first_packet, FromPublisher, CONNECT, PUBLISH_1, PUBLISH_2, PUBREL, ToPublisher, CONNACK, CONNACK_REFUSED, PUBACK, PUBREC, PUBCOMP, DISCONNECT, in_flight, resent_from, on_new_session, on_puback, on_pubrec, on_pubcomp, pubrel_for, IsHeard, HasNoConnect, IsConnectAlone}
+use Rattle.mqtt_inbound.specs.Publisher.{Qos, qos_1, qos_2, first_packet, CONNECT, PUBLISH_1, PUBLISH_2, PUBREL, ToPublisher, CONNACK, CONNACK_REFUSED, PUBACK, PUBREC, PUBCOMP, DISCONNECT, in_flight, resent_from, on_new_session, on_puback, on_pubrec, on_pubcomp, pubrel_for, IsHeard, HasNoConnect, IsConnectAlone}
 use Rattle.mqtt_inbound.specs.InboundWorld.{World as Hop, Event as HopEvent, publish, connect, give_up, step, run, Heard, ConnectsAlone}
 use Rattle.mqtt_inbound.specs.InboundWorld as hop
 use Rattle.mqtt_inbound.proofs.inbound.Heard.{alone_run, heard_run}
 use Rattle.mqtt_rules.specs.declared.Limits.{Limits}
 use Rattle.mqtt_rules.specs.State.{MemberChoice, Line as BrokerLine, Broker, line_at}
-use Rattle.mqtt_rules.specs.Deeds.{Link as Linked, Deed, fresh_line, after, after_all, rows_of_all}
+use Rattle.mqtt_rules.specs.Deeds.{Link as Linked, Deed, fresh_line, after_all, rows_of_all}
 use Rattle.mqtt_rules.specs.Lines.{line_number}
-use Rattle.mqtt_rules.specs.Step.{NewLine, can_link, at_moment, env_of, deeds, stepped, told}
-use Rattle.mqtt_laws.specs.Lines.{Line, Down, stands, left, given_up, gives_up, joined as joined_line, is_one_of, unless_closed, told_by}
-use Rattle.mqtt_laws.specs.Ends.{Content, Draft, Sent, shake, plain, Publisher, goes, numbered, goes_out, send_one, send_all, send_unsent, published, heard, reads_connack, reads, reads_if, publisher_reads, connected}
+use Rattle.mqtt_rules.specs.Step.{NewLine, at_moment, deeds, stepped, told}
+use Rattle.mqtt_laws.specs.Lines.{Line, Down, stands, given_up, gives_up, told_by}
+use Rattle.mqtt_laws.specs.Ends.{Content, Draft, Sent, shake, plain, Publisher, goes, goes_out, send_one, send_all, send_unsent, published, heard, reads_connack, reads, reads_if, publisher_reads, connected}
 use Rattle.mqtt_laws.specs.Seen.{qos_of_draft, shaken, heard_in, is_linked, seen}
-use Rattle.mqtt_laws.specs.Hops.{IsInOrder, IsNoConnect, IsRun, MayGiveUp, MayJoin, joined_by}
+use Rattle.mqtt_laws.specs.Hops.{IsNoConnect, IsRun, MayGiveUp, MayJoin, joined_by}
 use Rattle.mqtt_laws.specs.Seats.{Comes, Does, Former, HasNobody, IsFull, IsHis, IsNamed, IsOff, IsSettled, Present, Seat, absent, closed, glance, glance_at, joined, late, lingers, over, waiting, waits_there}
 use Rattle.mqtt_laws.proofs.Quiet.{session_on}
 use Rattle.mqtt_laws.proofs.Seeing.{done_lines, linked_of, linked_is}
 use Rattle.mqtt_laws.proofs.Frame.{kept_given}
-use Rattle.mqtt_laws.proofs.Sends.{publish_seen, give_up_seen, to_end_seen, send_unsent_seen, blocked, hop_blocked, room}
+use Rattle.mqtt_laws.proofs.Sends.{publish_seen, give_up_seen, to_end_seen, send_unsent_seen, blocked, hop_blocked}
 use Rattle.mqtt_laws.proofs.Joins.{join_is_hop}
-use Rattle.mqtt_laws.proofs.Seats.{AreElsewhere, remains, remains_done, former_stays, idle_linked}
+use Rattle.mqtt_laws.proofs.Seats.{remains, remains_done, former_stays, idle_linked}
 use Rattle.mqtt_laws.proofs.Calls.{others_of, off_line, moved}
 
 -- ---- what stays of its line

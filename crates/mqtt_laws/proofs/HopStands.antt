@@ -1,8 +1,8 @@
 -- A session of the hop that stands stands after every event.
-use Rattle.std.proofs.Common.{◌≡◌, ℕ, Bool, true, false, List, [], ◌∷◌, ◌++◌, map, refl, ◌∙◌, if◌then◌else◌}
+use Rattle.std.proofs.Common.{◌≡◌, Bool, true, false, List, [], ◌∷◌, ◌++◌, map, refl, ◌∙◌, if◌then◌else◌}
 use Rattle.mqtt_inbound.specs.Line.{Link, away, asked, live, sent_on}
 use Rattle.mqtt_inbound.specs.Publisher.{Qos, FromPublisher, CONNECT, PUBLISH_1, PUBLISH_2, PUBREL, ToPublisher, CONNACK, CONNACK_REFUSED, PUBACK, PUBREC, PUBCOMP, DISCONNECT, resent_from, on_new_session, on_puback, on_pubrec, on_pubcomp, pubrel_for}
-use Rattle.mqtt_inbound.specs.InboundWorld.{World as Hop, Event as HopEvent, Choice, takes, takes_unheard, refuses, publish, to_broker, old_to_broker, to_end, give_up, break, connect, close, close_old, restart, send_one, send_all, send_unsent, on_connack, on_packet, publisher_reads, on_connect, taken_over, on_old_connect, broker_reads, broker_reads_old, on_give_up, on_join, step, run}
+use Rattle.mqtt_inbound.specs.InboundWorld.{World as Hop, Event as HopEvent, Choice, publish, to_broker, old_to_broker, to_end, give_up, break, connect, close, close_old, restart, send_one, send_all, send_unsent, on_connack, on_packet, publisher_reads, on_connect, taken_over, on_old_connect, broker_reads, broker_reads_old, on_give_up, on_join, step, run}
 
 one_stands : (t : Bool) (v w : Hop) → v.stands ≡ w.stands → (if t then v else w).stands ≡ w.stands
 one_stands true v w e = e

@@ -1,21 +1,18 @@
 -- While no session of a client stands, a step that brings no CONNECT of this client begins none.
-use Rattle.std.proofs.Common.{◌≡◌, ℕ, Bool, true, false, List, [], ◌∷◌, ◌++◌, Option, Some, None, nat_eq, bytes_eq, refl, sym, ap, ◌∙◌, arith, inl, inr}
+use Rattle.std.proofs.Common.{◌≡◌, ℕ, true, false, List, [], ◌∷◌, ◌++◌, None, nat_eq, bytes_eq, refl, sym, ap, ◌∙◌, arith, inl, inr}
 use Rattle.std.specs.Prelude.{⊤, suc, find, decimal}
 use Rattle.std.specs.List.{AllByRecursion, starts_with}
 use Rattle.std.proofs.lemmas.Bool.{cases_Bool}
 use Rattle.std.proofs.lemmas.Slice.Eq.{bytes_eq-Decides}
-use Rattle.mqtt_connect.specs.declared.connect.Connect.{Connect as Greeting}
 use Rattle.mqtt_records.specs.declared.session.Session.{Session}
-use Rattle.mqtt_records.specs.declared.records.Records.{Records}
 use Rattle.mqtt_rules.specs.State.{Broker, Env, session_named}
 use Rattle.mqtt_rules.specs.Deeds.{Deed, Accept, Begin, Name, Count, At, Finish, Keep, Forget, RefuseWill, Link, On, Send, Gone, after, after_all}
 use Rattle.mqtt_rules.specs.Connect.{auto}
-use Rattle.mqtt_rules.specs.Step.{Call, NewLine, Input, BadInput, Lost, Pump, Tick, deeds_of, opening}
+use Rattle.mqtt_rules.specs.Step.{Call, NewLine, Input, BadInput, Lost, Pump, Tick, deeds_of}
 use Rattle.mqtt_rules.proofs.Goods.{AreGood}
-use Rattle.mqtt_rules.proofs.Leads.{Leads}
-use Rattle.mqtt_rules.proofs.Acts.{About as Whom, Law, IsCallOf, IsDue, leads_call, leads_opening}
+use Rattle.mqtt_rules.proofs.Acts.{About as Whom, Law, IsCallOf, leads_call}
 use Rattle.mqtt_rules.proofs.ByDeeds.{DeedLaw, by_deeds, turn_law}
-use Rattle.mqtt_laws.specs.Hops.{IsIts, IsOnly, IsOthers}
+use Rattle.mqtt_laws.specs.Hops.{IsIts, IsOthers}
 use Rattle.mqtt_laws.proofs.Names.{BeginNone, only_deeds}
 use Rattle.mqtt_laws.proofs.FirstConnects.{only_none}
 

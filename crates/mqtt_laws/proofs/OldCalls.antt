@@ -1,32 +1,32 @@
 -- What the broker reads of the line that a publisher gave up: a packet of its session, or a late CONNECT.
-use Rattle.std.proofs.Common.{◌≡◌, ℕ, suc, ◌≤◌, Bool, true, false, ◌⊎◌, List, [], ◌∷◌, ◌++◌, drop, length, Option, Some, None, nat_eq, nat_lt, refl, sym, ap, subst, ◌∙◌, append-nil, arith, inl, inr}
-use Rattle.std.specs.Prelude.{⊤, option_map, find, filter_map, is_some}
+use Rattle.std.proofs.Common.{◌≡◌, ℕ, suc, ◌≤◌, Bool, true, false, List, [], ◌∷◌, ◌++◌, drop, length, Option, Some, None, nat_lt, refl, sym, ap, subst, ◌∙◌, append-nil, inl, inr}
+use Rattle.std.specs.Prelude.{option_map, filter_map, is_some}
 use Rattle.std.specs.List.{AllByRecursion}
 use Rattle.std.proofs.lemmas.Bool.{cases_Bool}
 use Rattle.mqtt_inbound.specs.Publisher.{FromPublisher, CONNECT, PUBLISH_1, PUBLISH_2, PUBREL}
-use Rattle.mqtt_inbound.specs.InboundWorld.{World as Hop, Event as HopEvent, takes, refuses, to_broker, old_to_broker, broker_reads, broker_reads_old, on_connect, on_old_connect, step, run}
+use Rattle.mqtt_inbound.specs.InboundWorld.{World as Hop, Event as HopEvent, takes, refuses, old_to_broker, broker_reads_old, on_connect, on_old_connect, step, run}
 use Rattle.mqtt_records.specs.declared.session.Session.{Session}
 use Rattle.mqtt_rules.specs.declared.Limits.{Limits}
 use Rattle.mqtt_rules.specs.State.{MemberChoice, Line as BrokerLine, Broker, session_named, line_at, line_of}
-use Rattle.mqtt_rules.specs.Deeds.{Part, LinePart, Hear, Greet, SetAlias, Went, Deed, Accept, Begin, Name, Count, At, Finish, Keep, Forget, RefuseWill, Link, On, Send, Gone, closing, after, after_all, rows_of_all}
-use Rattle.mqtt_rules.specs.Step.{Call, Input, Outcome, at_moment, env_of, deeds, stepped, told}
+use Rattle.mqtt_rules.specs.Deeds.{Deed, Accept, Begin, Name, Count, At, Finish, Keep, Forget, RefuseWill, Link, On, Send, Gone, after, after_all, rows_of_all}
+use Rattle.mqtt_rules.specs.Step.{Input, at_moment, deeds, stepped, told}
 use Rattle.mqtt_laws.specs.Lines.{Line, is_one_of, unless_closed, told_by}
-use Rattle.mqtt_laws.specs.Ends.{Content, Sent, shake, plain, Publisher, wire, message_in}
+use Rattle.mqtt_laws.specs.Ends.{Sent, shake, plain, Publisher, wire, message_in}
 use Rattle.mqtt_laws.specs.World.{taken_old}
 use Rattle.mqtt_laws.specs.Run.{each_of}
 use Rattle.mqtt_laws.specs.Seen.{qos_of_draft, shaken, is_linked, open_in, seen}
-use Rattle.mqtt_laws.specs.Hops.{Own, IsInOrder, IsKept, IsConnected, IsNoConnect, IsAsking, IsFirst, IsLate, lines_left, after_step, after_old_step, turned_back, counted, numbers_of, connect_packet}
+use Rattle.mqtt_laws.specs.Hops.{Own, IsInOrder, IsKept, IsConnected, IsNoConnect, IsAsking, IsFirst, IsLate, lines_left, after_old_step, turned_back, counted, numbers_of, connect_packet}
 use Rattle.mqtt_laws.specs.Seats.{Comes, IsApart, IsHis, IsIdle, IsNamed, IsSound, Present, absent, closed, joined, over, waiting}
 use Rattle.mqtt_laws.proofs.Quiet.{session_on}
 use Rattle.mqtt_laws.proofs.Seeing.{done_lines, linked_of, linked_is}
 use Rattle.mqtt_laws.proofs.OldLine.{old_publish_is_hop, old_pubrel_is_hop, old_publish_1_is_hop, old_plain_is_hop}
 use Rattle.mqtt_laws.proofs.Mine.{sent_stays}
 use Rattle.mqtt_laws.proofs.Frame.{kept_given}
-use Rattle.mqtt_laws.proofs.Owned.{IsPatient, ArePatient}
+use Rattle.mqtt_laws.proofs.Owned.{ArePatient}
 use Rattle.mqtt_laws.proofs.Connects.{call_leaves, connect_owns}
-use Rattle.mqtt_laws.proofs.LateConnects.{IsThere, call_there, late_on, late_is_hop}
+use Rattle.mqtt_laws.proofs.LateConnects.{call_there, late_on, late_is_hop}
 use Rattle.mqtt_laws.proofs.FirstConnects.{begins_seen, refused_seen, first_owns}
-use Rattle.mqtt_laws.proofs.Seats.{AreElsewhere, idle_linked, own_events, Beholds, behold, closes_own, run_append, old_after}
+use Rattle.mqtt_laws.proofs.Seats.{idle_linked, own_events, behold, closes_own, run_append, old_after}
 use Rattle.mqtt_laws.proofs.HopStands.{stands_run, stands_stays}
 use Rattle.mqtt_laws.proofs.OwnSeats.{none_there, empty_stays, lingers_after, present_after, not_among}
 use Rattle.mqtt_laws.proofs.OwnCalls.{differs, input_elsewhere, taken_of, left_idle, left_own, not_some}

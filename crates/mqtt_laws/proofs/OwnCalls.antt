@@ -1,25 +1,19 @@
 -- What the broker reads of a publisher's own line: a packet of its session, or the CONNECT that the line waits for.
-use Rattle.std.proofs.Common.{◌≡◌, ℕ, suc, ◌≤◌, Bool, true, false, ◌||◌, ◌⊎◌, List, [], ◌∷◌, ◌++◌, drop, filter, map, length, Option, Some, None, nat_eq, nat_lt, refl, sym, ap, subst, ◌∙◌, append-nil, inl, inr}
-use Rattle.std.specs.Prelude.{⊤, option_map, find, filter_map, is_some}
-use Rattle.std.specs.List.{AllByRecursion, starts_with}
+use Rattle.std.proofs.Common.{◌≡◌, ℕ, suc, ◌≤◌, Bool, true, false, List, [], ◌∷◌, ◌++◌, drop, length, Option, Some, None, nat_eq, nat_lt, refl, sym, ap, subst, ◌∙◌, append-nil, inl, inr}
+use Rattle.std.specs.Prelude.{option_map, find, filter_map, is_some}
+use Rattle.std.specs.List.{AllByRecursion}
 use Rattle.std.proofs.lemmas.Bool.{eqb-true, cases_Bool}
 use Rattle.std.proofs.lemmas.Cmp.{nat_eq_equiv}
-use Rattle.mqtt_base.specs.declared.limits.TheConstants.{SESSION_LIMIT}
-use Rattle.mqtt_base.specs.Codes.{quota_exceeded}
 use Rattle.mqtt_codec.specs.declared.packet.Packet.{Packet}
-use Rattle.mqtt_inbound.specs.Line.{Link, asked}
 use Rattle.mqtt_inbound.specs.Publisher.{FromPublisher, CONNECT, PUBLISH_1, PUBLISH_2, PUBREL}
 use Rattle.mqtt_inbound.specs.InboundWorld.{World as Hop, Event as HopEvent, takes, refuses, to_broker, spared, broker_reads, on_connect, step, run}
 use Rattle.mqtt_records.specs.declared.session.Session.{Session}
-use Rattle.mqtt_records.specs.declared.change.Change.{Change}
 use Rattle.mqtt_rules.specs.declared.Limits.{Limits}
 use Rattle.mqtt_rules.specs.State.{MemberChoice, Line as BrokerLine, Broker, session_named, line_at, line_of, is_of}
-use Rattle.mqtt_rules.specs.Deeds.{Hear, Deed, On, Gone, closing, after_all, rows_of_all}
-use Rattle.mqtt_rules.specs.Numbers.{HasGivenBirths}
-use Rattle.mqtt_rules.specs.Step.{Call, Input, Lost, Outcome, at_moment, env_of, deeds, stepped, told}
-use Rattle.mqtt_rules.proofs.Leads.{found_passes}
+use Rattle.mqtt_rules.specs.Deeds.{Hear, Deed, On, closing, after_all, rows_of_all}
+use Rattle.mqtt_rules.specs.Step.{Input, at_moment, env_of, deeds, stepped, told}
 use Rattle.mqtt_laws.specs.Lines.{Line, is_one_of, unless_closed, told_by}
-use Rattle.mqtt_laws.specs.Ends.{Content, Sent, shake, plain, Publisher, wire, message_in}
+use Rattle.mqtt_laws.specs.Ends.{Sent, shake, plain, Publisher, wire, message_in}
 use Rattle.mqtt_laws.specs.World.{taken_up}
 use Rattle.mqtt_laws.specs.Run.{each_of}
 use Rattle.mqtt_laws.specs.Seen.{shaken, is_linked, seen}
@@ -27,7 +21,7 @@ use Rattle.mqtt_laws.specs.Hops.{IsOurLine, Own, IsInOrder, IsKept, IsConnected,
 use Rattle.mqtt_laws.specs.Seats.{Comes, Former, Glance, IsApart, IsHis, IsIdle, IsNamed, IsSound, closed, glance, glance_at, joined, late, lingers, over, waits_there}
 use Rattle.mqtt_laws.proofs.Quiet.{session_on}
 use Rattle.mqtt_laws.proofs.Publishes.{line_none}
-use Rattle.mqtt_laws.proofs.Seeing.{done_lines, among_closed, linked_of, linked_is}
+use Rattle.mqtt_laws.proofs.Seeing.{done_lines, linked_of, linked_is}
 use Rattle.mqtt_laws.proofs.OwnStep.{publish_is_hop, pubrel_is_hop}
 use Rattle.mqtt_laws.proofs.LightPublishes.{publish_1_is_hop, plain_is_hop}
 use Rattle.mqtt_laws.proofs.Mine.{sent_stays}
@@ -35,10 +29,10 @@ use Rattle.mqtt_laws.proofs.Frame.{kept_given}
 use Rattle.mqtt_laws.proofs.Connects.{call_leaves, connect_is_hop, connect_owns}
 use Rattle.mqtt_laws.proofs.CleanConnects.{call_renews, clean_is_hop, clean_owns}
 use Rattle.mqtt_laws.proofs.FirstConnects.{hello_by, call_is, joins_by, begins_seen, refused_seen, first_owns}
-use Rattle.mqtt_laws.proofs.Untouched.{AreAway, elsewhere, connected_elsewhere}
-use Rattle.mqtt_laws.proofs.Seats.{kept_of, AreElsewhere, idle_linked}
+use Rattle.mqtt_laws.proofs.Untouched.{elsewhere, connected_elsewhere}
+use Rattle.mqtt_laws.proofs.Seats.{AreElsewhere}
 use Rattle.mqtt_laws.proofs.HopStands.{stands_run, stands_stays}
-use Rattle.mqtt_laws.proofs.OwnSeats.{own_on, none_there, empty_stays, joined_after, lingers_after, present_after, former_after, line_of_on, not_among, connected_of}
+use Rattle.mqtt_laws.proofs.OwnSeats.{own_on, none_there, empty_stays, joined_after, former_after, not_among}
 
 pub differs : (n m : ℕ) → (n ≡ m → ⊥) → nat_eq n m ≡ false
 differs n m h = elim (cases_Bool (nat_eq n m)) [ inl same ↦ absurd (h (eqb-true n m same)) | inr other ↦ other ]

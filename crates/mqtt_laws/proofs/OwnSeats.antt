@@ -1,30 +1,25 @@
 -- Where a publisher is after the broker has read a packet of its own, on its line or on the one that it gave up.
-use Rattle.std.proofs.Common.{◌≡◌, ℕ, ◌≤◌, Bool, true, false, not, ◌||◌, ◌⊎◌, List, [], ◌∷◌, ◌++◌, drop, filter, map, Option, Some, None, nat_eq, nat_lt, length, refl, sym, ap, subst, ◌∙◌, append-nil, inl, inr}
-use Rattle.std.specs.Prelude.{⊤, option_map, find, filter_map, is_some}
-use Rattle.std.specs.List.{AllByRecursion, starts_with}
+use Rattle.std.proofs.Common.{◌≡◌, ℕ, Bool, true, false, ◌||◌, ◌⊎◌, List, [], ◌∷◌, ◌++◌, map, Option, Some, None, nat_eq, refl, sym, ap, subst, ◌∙◌, append-nil, inl, inr}
+use Rattle.std.specs.Prelude.{option_map, find, filter_map, is_some}
+use Rattle.std.specs.List.{AllByRecursion}
 use Rattle.std.proofs.lemmas.Bool.{eqb-true, cases_Bool}
 use Rattle.std.proofs.lemmas.Cmp.{nat_eq_equiv}
-use Rattle.mqtt_base.specs.declared.limits.TheConstants.{CLIENT_LIMIT, SESSION_LIMIT}
-use Rattle.mqtt_topic.specs.Names.{is_empty}
 use Rattle.mqtt_inbound.specs.Publisher.{ToPublisher}
-use Rattle.mqtt_inbound.specs.InboundWorld.{Event as HopEvent, run}
 use Rattle.mqtt_records.specs.declared.session.Session.{Session}
 use Rattle.mqtt_records.specs.declared.change.Change.{Change}
 use Rattle.mqtt_rules.specs.declared.Limits.{Limits}
-use Rattle.mqtt_rules.specs.State.{MemberChoice, Line as BrokerLine, Broker, session_named, line_at, is_of}
+use Rattle.mqtt_rules.specs.State.{MemberChoice, Line as BrokerLine, Broker, line_at, is_of}
 use Rattle.mqtt_rules.specs.Deeds.{Part, Resume, Close, SetExpiry, DropWill, Subscribe, Unsubscribe, Open, Release, Enter, Mark, Leave, LinePart, Hear, Greet, SetAlias, Went, Deed, Accept, Begin, Name, Count, At, Finish, Keep, Forget, RefuseWill, Link, On, Send, Gone, closing, line_after, on_line, without_place, lines_at, lines_after, fresh_line, after, after_all, rows_of_all}
-use Rattle.mqtt_rules.specs.Connect.{auto}
-use Rattle.mqtt_rules.specs.Step.{Call, Input, Outcome, with_moment, at_moment, env_of, deeds, stepped, told}
+use Rattle.mqtt_rules.specs.Step.{Call, Outcome, at_moment, deeds, stepped, told}
 use Rattle.mqtt_laws.specs.Lines.{Line, sent_to, is_one_of, unless_closed, told_by}
-use Rattle.mqtt_laws.specs.Ends.{Sent, Publisher, wire}
-use Rattle.mqtt_laws.specs.World.{taken_up, taken_old}
-use Rattle.mqtt_laws.specs.Seen.{heard_in, seen}
-use Rattle.mqtt_laws.specs.Hops.{IsOurLine, Own, IsInOrder, IsKept, IsConnected, IsNoConnect, turned_back}
+use Rattle.mqtt_laws.specs.Ends.{Sent, Publisher}
+use Rattle.mqtt_laws.specs.Seen.{heard_in}
+use Rattle.mqtt_laws.specs.Hops.{IsOurLine, Own, IsConnected, IsNoConnect}
 use Rattle.mqtt_laws.specs.Seats.{Former, HasNobody, IsApart, IsHis, IsIdle, IsNamed, Present, absent, closed, glance_at, joined, late, lingers, over, waiting}
-use Rattle.mqtt_laws.proofs.Quiet.{told_to, is_closing, closes, session_on, line_gone}
+use Rattle.mqtt_laws.proofs.Quiet.{is_closing, closes, session_on, line_gone}
 use Rattle.mqtt_laws.proofs.Seeing.{done_lines, among_closed, told_down, append_heard}
 use Rattle.mqtt_laws.proofs.Untouched.{AreAway}
-use Rattle.mqtt_laws.proofs.Seats.{kept_of, AreElsewhere, Rests, rests, idle_done, glance_done}
+use Rattle.mqtt_laws.proofs.Seats.{kept_of, AreElsewhere, rests, idle_done, glance_done}
 
 -- ---- lines that stay open
 

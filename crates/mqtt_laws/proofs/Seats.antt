@@ -1,38 +1,36 @@
 -- Where a publisher is: its session, its line and the line that it gave up; and what deeds of others leave of that (MQTT 5.0,
 -- 3.1.4, 4.1).
-use Rattle.std.proofs.Common.{◌≡◌, ℕ, ◌≤◌, Bool, true, false, not, ◌⊎◌, List, [], ◌∷◌, ◌++◌, filter, Option, Some, None, nat_eq, nat_lt, bytes_eq, length, refl, sym, ap, subst, ◌∙◌, append-nil, inl, inr}
+use Rattle.std.proofs.Common.{◌≡◌, ℕ, Bool, true, false, not, ◌⊎◌, List, [], ◌∷◌, ◌++◌, filter, Option, Some, None, nat_eq, nat_lt, bytes_eq, length, refl, sym, ap, subst, ◌∙◌, append-nil, inl, inr}
 use Rattle.std.specs.Prelude.{⊤, option_map, find, filter_map, is_some}
 use Rattle.std.specs.List.{AllByRecursion, starts_with}
 use Rattle.std.proofs.lemmas.Bool.{eqb-true, cases_Bool}
 use Rattle.std.proofs.lemmas.Cmp.{nat_eq_equiv}
 use Rattle.std.proofs.lemmas.Slice.Eq.{bytes_eq-Decides}
-use Rattle.mqtt_inbound.specs.Line.{Link, asked, sent_on}
-use Rattle.mqtt_inbound.specs.Publisher.{CONNECT, ToPublisher, DISCONNECT}
-use Rattle.mqtt_inbound.specs.InboundWorld.{World as Hop, Event as HopEvent, close, close_old, step, run}
+use Rattle.mqtt_inbound.specs.Line.{sent_on}
+use Rattle.mqtt_inbound.specs.Publisher.{ToPublisher, DISCONNECT}
+use Rattle.mqtt_inbound.specs.InboundWorld.{World as Hop, Event as HopEvent, close, step, run}
 use Rattle.mqtt_records.specs.declared.session.Session.{Session}
-use Rattle.mqtt_records.specs.declared.records.Records.{Records}
 use Rattle.mqtt_records.specs.declared.change.Change.{Change}
 use Rattle.mqtt_rows.specs.Order.{row_at}
 use Rattle.mqtt_records.specs.Session.{birth_of}
 use Rattle.mqtt_rules.specs.declared.Limits.{Limits}
 use Rattle.mqtt_rules.specs.State.{MemberChoice, Line as BrokerLine, Broker, session_at, session_named, line_at}
-use Rattle.mqtt_rules.specs.Deeds.{Deed, Gone, output, closing, after, after_all, rows_of_all}
+use Rattle.mqtt_rules.specs.Deeds.{Deed, Gone, after_all, rows_of_all}
 use Rattle.mqtt_rules.specs.Connect.{auto}
-use Rattle.mqtt_rules.specs.Step.{Call, NewLine, Input, BadInput, Lost, Pump, Tick, Outcome, with_moment, at_moment, env_of, deeds, stepped, told}
-use Rattle.mqtt_laws.specs.Lines.{Line, Down, sent_to, is_one_of, unless_closed, told_by}
-use Rattle.mqtt_laws.specs.Ends.{Sent, shake, Publisher}
+use Rattle.mqtt_rules.specs.Step.{Call, Outcome, with_moment, at_moment, deeds, stepped, told}
+use Rattle.mqtt_laws.specs.Lines.{Line, sent_to, is_one_of, unless_closed, told_by}
+use Rattle.mqtt_laws.specs.Ends.{Sent, Publisher}
 use Rattle.mqtt_laws.specs.World.{publisher_told}
 use Rattle.mqtt_laws.specs.Seen.{qos_of_draft, shaken, heard_in, has_session, is_linked, open_in, seen}
-use Rattle.mqtt_laws.specs.Hops.{IsIts, IsOnly, IsOurs, IsOurLine, Own, IsOthers, IsFarCall, IsKept, IsNoConnect}
+use Rattle.mqtt_laws.specs.Hops.{IsIts, IsOurs, Own, IsKept, IsNoConnect}
 use Rattle.mqtt_laws.specs.Seats.{Former, HasNobody, IsHis, IsIdle, Present, Seat, absent, closed, glance_at, joined, late, lingers, over, waiting}
-use Rattle.mqtt_laws.proofs.Rows.{Face, face, face_at}
+use Rattle.mqtt_laws.proofs.Rows.{Face, face}
 use Rattle.mqtt_laws.proofs.Quiet.{told_to, closes, session_on}
 use Rattle.mqtt_laws.proofs.Seeing.{done_sessions, done_lines, among_closed, told_down, append_heard, linked_of, linked_is}
-use Rattle.mqtt_laws.proofs.Far.{AreFar, apart_by, own_deeds, not_same}
-use Rattle.mqtt_laws.proofs.FarActs.{far_call}
+use Rattle.mqtt_laws.proofs.Far.{AreFar, apart_by, own_deeds}
 use Rattle.mqtt_laws.proofs.Frame.{own_done, old_events}
-use Rattle.mqtt_laws.proofs.Untouched.{AreAway, spared_by, idle_deeds, elsewhere}
-use Rattle.mqtt_laws.proofs.Nameless.{AreStrangers, still_none, strangers_call, IsOfOthers}
+use Rattle.mqtt_laws.proofs.Untouched.{AreAway, spared_by, idle_deeds}
+use Rattle.mqtt_laws.proofs.Nameless.{AreStrangers, still_none}
 
 -- ---- what is found by the name is what is found by the birth
 

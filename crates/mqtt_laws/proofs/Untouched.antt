@@ -15,11 +15,11 @@ use Rattle.mqtt_records.specs.declared.records.Records.{Records}
 use Rattle.mqtt_rows.specs.Order.{row_at}
 use Rattle.mqtt_records.specs.Session.{copy_place}
 use Rattle.mqtt_rules.specs.State.{Line, Broker, Env, session_at, line_at, line_of, is_of}
-use Rattle.mqtt_rules.specs.Deeds.{whose, Origin, FromClient, Message, Part, Resume, Close, SetExpiry, DropWill, Subscribe, Unsubscribe, Open, Release, Enter, Mark, Leave, LinePart, Hear, Greet, SetAlias, Went, Deed, Accept, Begin, Name, Count, At, Finish, Keep, Forget, RefuseWill, Link, On, Send, Gone, line_after, on_line, without_place, lines_at, lines_after, given_after, after, after_all, series, always, with_session, with_line, fresh_line, output}
+use Rattle.mqtt_rules.specs.Deeds.{whose, FromClient, Part, Resume, Close, SetExpiry, DropWill, Subscribe, Unsubscribe, Open, Release, Enter, Mark, Leave, LinePart, Hear, Greet, SetAlias, Went, Deed, Accept, Begin, Name, Count, At, Finish, Keep, Forget, RefuseWill, Link, On, Send, Gone, line_after, on_line, without_place, lines_at, lines_after, given_after, after, after_all, series, always, with_line, fresh_line, output}
 use Rattle.mqtt_rules.specs.Deeds.{closing as closing_deed}
 use Rattle.mqtt_rules.specs.Outbound.{of_entry, leave_deeds, turn_deeds}
-use Rattle.mqtt_rules.specs.Routing.{CopyTo, is_queued, deliver, publish}
-use Rattle.mqtt_rules.specs.Closing.{has_due_will, has_due_end, end_session, publish_will, close, close_connected}
+use Rattle.mqtt_rules.specs.Routing.{is_queued, deliver, publish}
+use Rattle.mqtt_rules.specs.Closing.{has_due_will, has_due_end, end_session, publish_will, close_connected}
 use Rattle.mqtt_rules.specs.Connect.{expiry_of, will_of, greet, begin_named}
 use Rattle.mqtt_rules.specs.Inbound.{pump_turns, pump_deeds}
 use Rattle.mqtt_rules.specs.Subscribe as sub
@@ -27,7 +27,7 @@ use Rattle.mqtt_rules.specs.Tick.{is_silent, silence, lapses, lapse_deeds, has_l
 use Rattle.mqtt_rules.specs.Step.{Call, NewLine, Input, BadInput, Lost, Pump, Tick, on_pump, deeds_of}
 use Rattle.mqtt_rules.proofs.Goods.{AreGood}
 use Rattle.mqtt_rules.proofs.Leads.{Leads}
-use Rattle.mqtt_rules.proofs.Acts.{About as Whom, closing, closing_on, closing_session, brought_to, Law, IsDue, IsCallOf, leads_call}
+use Rattle.mqtt_rules.proofs.Acts.{About as Whom, closing, closing_on, closing_session, brought_to, Law, IsCallOf, leads_call}
 use Rattle.mqtt_laws.specs.Ends.{heard}
 use Rattle.mqtt_laws.specs.Seats.{Glance, HasNobody, IsElsewhere, IsIdle, glance, glance_at}
 use Rattle.mqtt_laws.proofs.Quiet.{IsQuietOn, IsQuiet, AreQuiet, heard_by, told_to, is_closing, closes, quiet_leave, quiet_deliveries, copies_of, quiet_copies}

@@ -1,13 +1,13 @@
 -- A step that has begun, and one that hasn't.
 use Rattle.std.proofs.Common.{◌≡◌, ℕ, [], ap, sym, subst, ◌∙◌}
 use Rattle.mqtt_records.specs.declared.records.Records.{Records}
-use Rattle.mqtt_rules.specs.declared.Limits.{Limits}
-use Rattle.mqtt_rules.specs.State.{Broker, Env}
-use Rattle.mqtt_rules.specs.Deeds.{Act}
-use Rattle.mqtt_rules.specs.Step.{at_moment}
-use Rattle.mqtt_tables.specs.declared.fault.StepFault.{StepFault}
-use Rattle.mqtt_tables.specs.declared.fault.StepFault.TheVariants.{Memory}
-use Rattle.mqtt_tables.specs.Stepping.{Stepping, IsLeft, at_rest, env_in, with_broker}
+use Rattle.mqtt_calls.specs.TheRules.declared.Limits.{Limits}
+use Rattle.mqtt_calls.specs.TheRules.State.{Broker, Env}
+use Rattle.mqtt_calls.specs.TheRules.Deeds.{Act}
+use Rattle.mqtt_calls.specs.TheRules.Step.{at_moment}
+use Rattle.mqtt_calls.specs.TheTables.declared.fault.StepFault.{StepFault}
+use Rattle.mqtt_calls.specs.TheTables.declared.fault.StepFault.TheVariants.{Memory}
+use Rattle.mqtt_calls.specs.TheTables.Stepping.{Stepping, IsLeft, at_rest, env_in, with_broker}
 use Rattle.mqtt_calls.specs.Choosing.{LeavesSome}
 use Rattle.mqtt_calls.specs.Doing.{begun}
 

@@ -6,17 +6,17 @@ use Rattle.mqtt_codec.specs.declared.packet.Packet.{Packet}
 use Rattle.mqtt_codec.specs.declared.packet.Packet.TheVariants as packets
 use Rattle.mqtt_connect.specs.declared.connect.Connect.{Connect}
 use Rattle.mqtt_records.specs.declared.records.Records.{Records}
-use Rattle.mqtt_rules.specs.declared.Limits.{Limits}
-use Rattle.mqtt_rules.specs.Closing.{close}
-use Rattle.mqtt_rules.specs.Connect.{largest_of, on_connect, refusal_size, refused}
-use Rattle.mqtt_rules.specs.Deeds.{Deed, Gone, Hear, On, Send, after_all, always}
-use Rattle.mqtt_rules.specs.Packets.{connack}
-use Rattle.mqtt_rules.specs.State.{Broker, Env, Line, MemberChoice}
-use Rattle.mqtt_rules.specs.Step.{Input, at_moment, deeds_of, first_packet, on_packet}
-use Rattle.mqtt_tables.specs.declared.fault.StepFault.{StepFault}
-use Rattle.mqtt_tables.specs.declared.fault.StepFault.TheVariants.{Memory}
-use Rattle.mqtt_tables.specs.Stepping.{Stepping, Did, IsLeft, at_rest, env_in, with_broker}
-use Rattle.mqtt_tables.proofs.Then.{did_then, left_first, left_then, same_act, same_left}
+use Rattle.mqtt_calls.specs.TheRules.declared.Limits.{Limits}
+use Rattle.mqtt_calls.specs.TheRules.Closing.{close}
+use Rattle.mqtt_calls.specs.TheRules.Connect.{largest_of, on_connect, refusal_size, refused}
+use Rattle.mqtt_calls.specs.TheRules.Deeds.{Deed, Gone, Hear, On, Send, after_all, always}
+use Rattle.mqtt_calls.specs.TheRules.Packets.{connack}
+use Rattle.mqtt_calls.specs.TheRules.State.{Broker, Env, Line, MemberChoice}
+use Rattle.mqtt_calls.specs.TheRules.Step.{Input, at_moment, deeds_of, first_packet, on_packet}
+use Rattle.mqtt_calls.specs.TheTables.declared.fault.StepFault.{StepFault}
+use Rattle.mqtt_calls.specs.TheTables.declared.fault.StepFault.TheVariants.{Memory}
+use Rattle.mqtt_calls.specs.TheTables.Stepping.{Stepping, Did, IsLeft, at_rest, env_in, with_broker}
+use Rattle.mqtt_calls.proofs.TheTables.Then.{did_then, left_first, left_then, same_act, same_left}
 use Rattle.mqtt_calls.specs.Choosing.{DoesSome, LeavesSome}
 use Rattle.mqtt_calls.proofs.Some.{env_stays, same_some, same_some_left}
 use Rattle.mqtt_connecting.specs.declared.joining.Joined.{Joined}

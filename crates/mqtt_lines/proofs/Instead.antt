@@ -1,10 +1,10 @@
 -- A CONNECT where more sessions stand than may.
 use Rattle.std.proofs.Common.{refl}
-use Rattle.mqtt_rules.specs.State.{Env}
-use Rattle.mqtt_rules.specs.Deeds.{Act}
-use Rattle.mqtt_tables.specs.declared.fault.StepFault.{StepFault}
-use Rattle.mqtt_tables.specs.declared.fault.StepFault.TheVariants.{Memory}
-use Rattle.mqtt_tables.specs.Stepping.{Stepping}
+use Rattle.mqtt_calls.specs.TheRules.State.{Env}
+use Rattle.mqtt_calls.specs.TheRules.Deeds.{Act}
+use Rattle.mqtt_calls.specs.TheTables.declared.fault.StepFault.{StepFault}
+use Rattle.mqtt_calls.specs.TheTables.declared.fault.StepFault.TheVariants.{Memory}
+use Rattle.mqtt_calls.specs.TheTables.Stepping.{Stepping}
 use Rattle.mqtt_calls.specs.Choosing.{LeavesSome}
 use Rattle.mqtt_lines.proofs.Begun.{memory_some}
 

@@ -1,13 +1,13 @@
 -- A fault in what came on a line: the first packet, or a later one (MQTT 5.0, 3.1, 4.13).
 use Rattle.std.proofs.Common.{◌≡◌, ℕ, Bool, true, false, [], ◌∷◌, ◌++◌, refl, ap, sym, ◌∙◌}
 use Rattle.std.specs.Prelude.{Option, Some, None}
-use Rattle.mqtt_rules.specs.Closing.{close, drop_line}
-use Rattle.mqtt_rules.specs.Deeds.{Act, Send, after_all, always, series, with_line}
-use Rattle.mqtt_rules.specs.Packets.{connack}
-use Rattle.mqtt_rules.specs.State.{Broker, Env, Line}
-use Rattle.mqtt_rules.specs.Step.{BadInput, deeds_of, late_code, on_fault}
-use Rattle.mqtt_tables.specs.declared.fault.StepFault.{StepFault}
-use Rattle.mqtt_tables.specs.Stepping.{Stepping, Did, IsLeft, env_in}
+use Rattle.mqtt_calls.specs.TheRules.Closing.{close, drop_line}
+use Rattle.mqtt_calls.specs.TheRules.Deeds.{Act, Send, after_all, always, series, with_line}
+use Rattle.mqtt_calls.specs.TheRules.Packets.{connack}
+use Rattle.mqtt_calls.specs.TheRules.State.{Broker, Env, Line}
+use Rattle.mqtt_calls.specs.TheRules.Step.{BadInput, deeds_of, late_code, on_fault}
+use Rattle.mqtt_calls.specs.TheTables.declared.fault.StepFault.{StepFault}
+use Rattle.mqtt_calls.specs.TheTables.Stepping.{Stepping, Did, IsLeft, env_in}
 use Rattle.mqtt_calls.specs.Choosing.{DoesSome, LeavesSome}
 use Rattle.mqtt_calls.proofs.Some.{alone, both, leaves_first, leaves_some, same_some, same_some_left, then_some, then_some_left}
 use Rattle.mqtt_calls.proofs.SomeCalls.{OnLine}

@@ -4,12 +4,12 @@ use Rattle.mqtt_base.specs.Codes.{quota_exceeded}
 use Rattle.mqtt_codec.specs.declared.packet.Packet.{Packet}
 use Rattle.mqtt_codec.specs.declared.packet.Packet.TheVariants as packets
 use Rattle.mqtt_connect.specs.declared.connect.Connect.{Connect}
-use Rattle.mqtt_rules.specs.Connect.{refused}
-use Rattle.mqtt_rules.specs.Deeds.{Act, Deed, Hear, On, Send, always}
-use Rattle.mqtt_rules.specs.Packets.{connack}
-use Rattle.mqtt_rules.specs.State.{Line, MemberChoice}
-use Rattle.mqtt_rules.specs.Step.{Input, deeds_of}
-use Rattle.mqtt_tables.specs.Stepping.{Stepping, env_in}
+use Rattle.mqtt_calls.specs.TheRules.Connect.{refused}
+use Rattle.mqtt_calls.specs.TheRules.Deeds.{Act, Deed, Hear, On, Send, always}
+use Rattle.mqtt_calls.specs.TheRules.Packets.{connack}
+use Rattle.mqtt_calls.specs.TheRules.State.{Line, MemberChoice}
+use Rattle.mqtt_calls.specs.TheRules.Step.{Input, deeds_of}
+use Rattle.mqtt_calls.specs.TheTables.Stepping.{Stepping, env_in}
 use Rattle.mqtt_calls.specs.Choosing.{DoesSome}
 use Rattle.mqtt_connecting.specs.declared.joining.Joined.{Joined}
 use Rattle.mqtt_connecting.specs.declared.joining.Joined.TheVariants.{Done, NoPlace}

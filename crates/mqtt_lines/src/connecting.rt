@@ -2,14 +2,14 @@
 ghost use Rattle.std.specs.Prelude.{◌≡◌, ℕ, List, None, Some, IfOk, OnOk, IfErr};
 ghost use Rattle.mqtt_codec.specs.declared.packet.Packet.TheVariants as packets;
 ghost use Rattle.mqtt_routes.specs.Subscriptions.{Subscriber};
-ghost use Rattle.mqtt_rules.specs.Connect.{on_connect};
-ghost use Rattle.mqtt_rules.specs.Contents.{IsWilled};
-ghost use Rattle.mqtt_rules.specs.Laws.{IsCoherent};
-ghost use Rattle.mqtt_rules.specs.Lines.{session_on};
-ghost use Rattle.mqtt_rules.specs.Routing.{subscribers};
-ghost use Rattle.mqtt_rules.specs.State.{Line};
-ghost use Rattle.mqtt_rules.specs.Step.{Input, deeds_of};
-ghost use Rattle.mqtt_tables.specs.Stepping.{Did, IsLeft, at_rest};
+ghost use Rattle.mqtt_calls.specs.TheRules.Connect.{on_connect};
+ghost use Rattle.mqtt_calls.specs.TheRules.Contents.{IsWilled};
+ghost use Rattle.mqtt_calls.specs.TheRules.Laws.{IsCoherent};
+ghost use Rattle.mqtt_calls.specs.TheRules.Lines.{session_on};
+ghost use Rattle.mqtt_calls.specs.TheRules.Routing.{subscribers};
+ghost use Rattle.mqtt_calls.specs.TheRules.State.{Line};
+ghost use Rattle.mqtt_calls.specs.TheRules.Step.{Input, deeds_of};
+ghost use Rattle.mqtt_calls.specs.TheTables.Stepping.{Did, IsLeft, at_rest};
 ghost use Rattle.mqtt_calls.specs.Choosing.{DoesSome, LeavesSome};
 ghost use Rattle.mqtt_calls.specs.Wills.{will_at};
 ghost use Rattle.mqtt_connecting.specs.Preparing.{IsConnected};
@@ -19,10 +19,9 @@ ghost use Rattle.mqtt_lines.specs.First.{GreetedBy, turns_away};
 
 use crate::crowded::connect_crowded;
 use mqtt_base::Reason;
-use mqtt_calls::Router;
+use mqtt_calls::{Router, Step, StepFault};
 use mqtt_codec::Connect;
 use mqtt_connecting::{Joined, on_connect, refuse};
-use mqtt_tables::{Step, StepFault};
 use std::alloc::Global;
 
 /// A CONNECT, however many sessions stand (3.1.4, 3.2.2.2).

@@ -1,22 +1,21 @@
 //! CONNECT where more sessions stand than may, as after an opening under lower limits (MQTT 5.0, 3.1.4, 3.2.2.2).
 ghost use Rattle.std.specs.Prelude.{◌≡◌, ℕ, List, None, Some, IfOk, IfErr, IfSome, IfNone};
 ghost use Rattle.mqtt_routes.specs.Subscriptions.{Subscriber};
-ghost use Rattle.mqtt_rules.specs.Connect.{on_connect, refusal};
-ghost use Rattle.mqtt_rules.specs.Contents.{IsWilled};
-ghost use Rattle.mqtt_rules.specs.Laws.{IsCoherent};
-ghost use Rattle.mqtt_rules.specs.Numbers.{HasGivenBirths};
-ghost use Rattle.mqtt_rules.specs.Routing.{subscribers};
-ghost use Rattle.mqtt_rules.specs.State.{Line, session_named};
+ghost use Rattle.mqtt_calls.specs.TheRules.Connect.{on_connect, refusal};
+ghost use Rattle.mqtt_calls.specs.TheRules.Contents.{IsWilled};
+ghost use Rattle.mqtt_calls.specs.TheRules.Laws.{IsCoherent};
+ghost use Rattle.mqtt_calls.specs.TheRules.Numbers.{HasGivenBirths};
+ghost use Rattle.mqtt_calls.specs.TheRules.Routing.{subscribers};
+ghost use Rattle.mqtt_calls.specs.TheRules.State.{Line, session_named};
 ghost use Rattle.mqtt_calls.specs.Choosing.{LeavesSome};
 ghost use Rattle.mqtt_calls.specs.Wills.{will_at};
 ghost use Rattle.mqtt_connecting.specs.Joining.{IsNamedAt};
 ghost use Rattle.mqtt_connecting.specs.Preparing.{IsConnected, IsOnly};
 
 use mqtt_base::Reason;
-use mqtt_calls::Router;
+use mqtt_calls::{Router, Step, StepFault};
 use mqtt_codec::Connect;
 use mqtt_connecting::{Joined, connect_new, connect_refused, join, prepare, refusal_of};
-use mqtt_tables::{Step, StepFault};
 use std::alloc::Global;
 
 /// The birth of the session of a client identifier, if it stands.

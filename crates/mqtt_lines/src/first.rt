@@ -2,19 +2,18 @@
 ghost use Rattle.std.specs.Prelude.{◌≡◌, List, None, Some, false, OnOk, IfErr};
 ghost use Rattle.mqtt_codec.specs.declared.packet.Packet.{Packet as ThePacket};
 ghost use Rattle.mqtt_routes.specs.Subscriptions.{Subscriber};
-ghost use Rattle.mqtt_rules.specs.Lines.{session_on};
-ghost use Rattle.mqtt_rules.specs.Routing.{subscribers};
-ghost use Rattle.mqtt_rules.specs.Step.{Input, deeds_of};
-ghost use Rattle.mqtt_tables.specs.Stepping.{at_rest};
+ghost use Rattle.mqtt_calls.specs.TheRules.Lines.{session_on};
+ghost use Rattle.mqtt_calls.specs.TheRules.Routing.{subscribers};
+ghost use Rattle.mqtt_calls.specs.TheRules.Step.{Input, deeds_of};
+ghost use Rattle.mqtt_calls.specs.TheTables.Stepping.{at_rest};
 ghost use Rattle.mqtt_calls.specs.Choosing.{DoesSome, LeavesSome};
 ghost use Rattle.mqtt_calls.specs.Doing.{IsCalled, begun};
 ghost use Rattle.mqtt_calls.specs.Sound.{IsSound};
 ghost use Rattle.mqtt_lines.specs.First.{IsOther};
 
 use crate::connecting::connect_at;
-use mqtt_calls::{Router, close};
+use mqtt_calls::{Router, Step, StepFault, close};
 use mqtt_codec::Packet;
-use mqtt_tables::{Step, StepFault};
 use std::alloc::Global;
 
 /// A packet that is no CONNECT comes on a line that has no session.

@@ -12,6 +12,9 @@ mod ticking;
 
 pub use first::first_at;
 pub use losing::lost_at;
+pub use mqtt_calls::{
+    EngineError, Limits, Outcome, Report, Step, StepFault, commit, commit_kept, settle,
+};
 pub use pumping::pump_at;
 pub use refusing::fault_at;
 pub use ticking::tick_at;

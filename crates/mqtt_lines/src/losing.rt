@@ -1,14 +1,13 @@
 //! A line that is lost, as the acts of its call (MQTT 5.0, 4.1).
 ghost use Rattle.std.specs.Prelude.{◌≡◌, List, false};
 ghost use Rattle.mqtt_routes.specs.Subscriptions.{Subscriber};
-ghost use Rattle.mqtt_rules.specs.Routing.{subscribers};
-ghost use Rattle.mqtt_rules.specs.Step.{Lost};
-ghost use Rattle.mqtt_tables.specs.Stepping.{at_rest};
+ghost use Rattle.mqtt_calls.specs.TheRules.Routing.{subscribers};
+ghost use Rattle.mqtt_calls.specs.TheRules.Step.{Lost};
+ghost use Rattle.mqtt_calls.specs.TheTables.Stepping.{at_rest};
 ghost use Rattle.mqtt_calls.specs.Doing.{IsCalled};
 ghost use Rattle.mqtt_calls.specs.Sound.{IsSound};
 
-use mqtt_calls::{Router, lost};
-use mqtt_tables::{Step, StepFault};
+use mqtt_calls::{Router, Step, StepFault, lost};
 use std::alloc::Global;
 
 /// The step of a line that is lost begins at a moment, and does its deeds: the line closes, and its session with it.

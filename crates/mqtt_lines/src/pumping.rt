@@ -1,13 +1,12 @@
 //! A turn of sending, as the acts of its call (MQTT 5.0, 4.6, 4.9).
 ghost use Rattle.std.specs.Prelude.{◌≡◌, IfOk, IfErr};
-ghost use Rattle.mqtt_rules.specs.Step.{Pump, SpentStep};
-ghost use Rattle.mqtt_tables.specs.declared.fault.StepFault.TheVariants.{Spent};
-ghost use Rattle.mqtt_tables.specs.Stepping.{at_rest};
+ghost use Rattle.mqtt_calls.specs.TheRules.Step.{Pump, SpentStep};
+ghost use Rattle.mqtt_calls.specs.TheTables.declared.fault.StepFault.TheVariants.{Spent};
+ghost use Rattle.mqtt_calls.specs.TheTables.Stepping.{at_rest};
 ghost use Rattle.mqtt_calls.specs.Doing.{DidCall};
 ghost use Rattle.mqtt_calls.specs.Sound.{IsSound};
 
-use mqtt_calls::pump;
-use mqtt_tables::{Step, StepFault};
+use mqtt_calls::{Step, StepFault, pump};
 use std::alloc::Global;
 
 /// The step of a turn of sending on a line begins at a moment, and does its deeds. Answers whether there may be more:

@@ -1,13 +1,13 @@
 //! A fault in what came on a line, as the acts of its call (MQTT 5.0, 3.1, 4.13).
 ghost use Rattle.std.specs.Prelude.{◌≡◌, ℕ, List, None, Some, false, OnOk, IfErr};
 ghost use Rattle.mqtt_routes.specs.Subscriptions.{Subscriber};
-ghost use Rattle.mqtt_rules.specs.Contents.{IsWilled};
-ghost use Rattle.mqtt_rules.specs.Deeds.{always};
-ghost use Rattle.mqtt_rules.specs.Lines.{session_on};
-ghost use Rattle.mqtt_rules.specs.Routing.{subscribers};
-ghost use Rattle.mqtt_rules.specs.State.{Line};
-ghost use Rattle.mqtt_rules.specs.Step.{BadInput, deeds_of, on_fault};
-ghost use Rattle.mqtt_tables.specs.Stepping.{Did, IsLeft, at_rest};
+ghost use Rattle.mqtt_calls.specs.TheRules.Contents.{IsWilled};
+ghost use Rattle.mqtt_calls.specs.TheRules.Deeds.{always};
+ghost use Rattle.mqtt_calls.specs.TheRules.Lines.{session_on};
+ghost use Rattle.mqtt_calls.specs.TheRules.Routing.{subscribers};
+ghost use Rattle.mqtt_calls.specs.TheRules.State.{Line};
+ghost use Rattle.mqtt_calls.specs.TheRules.Step.{BadInput, deeds_of, on_fault};
+ghost use Rattle.mqtt_calls.specs.TheTables.Stepping.{Did, IsLeft, at_rest};
 ghost use Rattle.mqtt_calls.specs.Choosing.{DoesSome, LeavesSome};
 ghost use Rattle.mqtt_calls.specs.Wills.{will_at};
 ghost use Rattle.mqtt_calls.specs.Doing.{IsCalled};
@@ -15,10 +15,8 @@ ghost use Rattle.mqtt_calls.specs.Sound.{IsSound};
 ghost use Rattle.mqtt_lines.specs.First.{first_told};
 
 use mqtt_base::Reason;
-use mqtt_calls::{Router, close, drop_line};
+use mqtt_calls::{Router, Step, StepFault, close, drop_line, fault_code};
 use mqtt_outputs::connack_refused;
-use mqtt_tables::{Step, StepFault};
-use mqtt_verdicts::fault_code;
 use std::alloc::Global;
 
 /// What is told of a fault in the first packet of a line: CONNACK with the code, where that is of the type of CONNECT

@@ -1,15 +1,14 @@
 //! A turn of the clock, as the acts of its call (MQTT 5.0, 3.1.2.10, 3.1.2.11.2, 3.1.3.2.2, 3.3.2.3.3).
 ghost use Rattle.std.specs.Prelude.{◌≡◌, List, IfOk, IfErr};
 ghost use Rattle.mqtt_routes.specs.Subscriptions.{Subscriber};
-ghost use Rattle.mqtt_rules.specs.Routing.{subscribers};
-ghost use Rattle.mqtt_rules.specs.Step.{SpentStep, Tick};
-ghost use Rattle.mqtt_tables.specs.declared.fault.StepFault.TheVariants.{Spent};
-ghost use Rattle.mqtt_tables.specs.Stepping.{at_rest};
+ghost use Rattle.mqtt_calls.specs.TheRules.Routing.{subscribers};
+ghost use Rattle.mqtt_calls.specs.TheRules.Step.{SpentStep, Tick};
+ghost use Rattle.mqtt_calls.specs.TheTables.declared.fault.StepFault.TheVariants.{Spent};
+ghost use Rattle.mqtt_calls.specs.TheTables.Stepping.{at_rest};
 ghost use Rattle.mqtt_calls.specs.Doing.{DidCall};
 ghost use Rattle.mqtt_calls.specs.Sound.{IsSound};
 
-use mqtt_calls::Router;
-use mqtt_tables::{Step, StepFault};
+use mqtt_calls::{Router, Step, StepFault};
 use mqtt_ticking::tick;
 use std::alloc::Global;
 

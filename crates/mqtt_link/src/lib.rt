@@ -6,5 +6,5 @@ mod sockets;
 mod waiting;
 
 pub use link::{Got, Link};
-pub use sockets::NetLink;
+pub use sockets::{NetLink, got};
 pub use waiting::{WAITING_LIMIT, Waiting, WaitingFault};

@@ -28,9 +28,9 @@ impl<R: Net> NetLink<R> {
     }
 }
 
-/// What a call that didn't wait gave: nothing where it would have waited or was interrupted, the end where it
-/// moved no byte.
-fn got(count: io::Result<usize>) -> Got<usize>
+/// What a call of a socket that didn't wait gave: nothing where it would have waited or was interrupted, the end where
+/// it moved no byte. Takes no memory.
+pub fn got(count: io::Result<usize>) -> Got<usize>
     ensures wrote { (bytes : List ℕ) → WritesAtMost count bytes → GivesAtMost result (length bytes) }
     ensures read { (buffer : List ℕ) → ReadsAtMost count buffer → GivesAtMost result (length buffer) }
 {

@@ -6,11 +6,11 @@ use Rattle.mqtt_records.specs.declared.keep.Keep.{Ghosts}
 use Rattle.mqtt_records.specs.declared.keep.KeepError.{KeepError}
 use Rattle.mqtt_records.specs.declared.keep.KeepError.TheVariants.{Memory, Disk, Size, Corrupt, Schema}
 use Rattle.mqtt_records.specs.declared.records.Records.{Records}
-use Rattle.mqtt_rules.specs.declared.Limits.{Limits}
-use Rattle.mqtt_rules.specs.Laws.{AreWithin}
-use Rattle.mqtt_rules.specs.State.{Broker}
-use Rattle.mqtt_rules.specs.Step.{BrokerOpening, SpentOpening}
-use Rattle.mqtt_tables.specs.Stepping.{Stepping, at_rest}
+use Rattle.mqtt_engine.specs.TheRules.declared.Limits.{Limits}
+use Rattle.mqtt_engine.specs.TheRules.Laws.{AreWithin}
+use Rattle.mqtt_engine.specs.TheRules.State.{Broker}
+use Rattle.mqtt_engine.specs.TheRules.Step.{BrokerOpening, SpentOpening}
+use Rattle.mqtt_engine.specs.TheTables.Stepping.{Stepping, at_rest}
 use Rattle.mqtt_engine.specs.Sound.{IsSound}
 use Rattle.mqtt_engine.proofs.SoundLaw.{opening_sound}
 use Rattle.mqtt_engine.specs.Running.{Running}

@@ -7,13 +7,13 @@ use Rattle.mqtt_records.specs.declared.session.Session.{Session}
 use Rattle.mqtt_records.specs.declared.records.Records.{Records}
 use Rattle.mqtt_topic.specs.Names.{is_empty}
 use Rattle.mqtt_routes.specs.Acceptance.{routed}
-use Rattle.mqtt_rules.specs.declared.Limits.{Limits}
-use Rattle.mqtt_rules.specs.Closing.{end_session, has_due_end, has_due_will, publish_or_refuse, publish_will, settle, will_deeds, will_message}
-use Rattle.mqtt_rules.specs.Deeds.{Whose, whose, Message, FromWill, Close, DropWill, Deed, Accept, At, after_all, always, of_session, only_if, series, then, with_session}
-use Rattle.mqtt_rules.specs.Laws.{client_at}
-use Rattle.mqtt_rules.specs.Routing.{CopyTo, accepted_copies, accepted_if, answers, copies_to, deliver, deliver_by, finds_place, is_queued, next_publication, publication_of, publish, retain_by, subscribers}
-use Rattle.mqtt_rules.specs.State.{Broker, Env, MemberChoice, session_at}
-use Rattle.mqtt_rules.proofs.LookedUp.{client_at_part}
+use Rattle.mqtt_engine.specs.TheRules.declared.Limits.{Limits}
+use Rattle.mqtt_engine.specs.TheRules.Closing.{end_session, has_due_end, has_due_will, publish_or_refuse, publish_will, settle, will_deeds, will_message}
+use Rattle.mqtt_engine.specs.TheRules.Deeds.{Whose, whose, Message, FromWill, Close, DropWill, Deed, Accept, At, after_all, always, of_session, only_if, series, then, with_session}
+use Rattle.mqtt_engine.specs.TheRules.Laws.{client_at}
+use Rattle.mqtt_engine.specs.TheRules.Routing.{CopyTo, accepted_copies, accepted_if, answers, copies_to, deliver, deliver_by, finds_place, is_queued, next_publication, publication_of, publish, retain_by, subscribers}
+use Rattle.mqtt_engine.specs.TheRules.State.{Broker, Env, MemberChoice, session_at}
+use Rattle.mqtt_engine.proofs.TheRules.LookedUp.{client_at_part}
 use Rattle.mqtt_opening.specs.Sessions.{Face, IsThere, closes, closes_all, face}
 use Rattle.mqtt_opening.proofs.Own.{close_own}
 use Rattle.mqtt_opening.proofs.Faces.{deeds_kept}

@@ -8,21 +8,21 @@ use Rattle.mqtt_records.specs.declared.records.Records.{Records}
 use Rattle.mqtt_records.specs.declared.session.Session.{Session}
 use Rattle.mqtt_records.specs.Records.{changed_all}
 use Rattle.mqtt_routes.specs.Subscriptions.{Subscriber}
-use Rattle.mqtt_rules.specs.Closing.{settle}
-use Rattle.mqtt_rules.specs.Deeds.{Act, At, Close, Deed, whose, after_all, rows_of_all, then}
-use Rattle.mqtt_rules.specs.Routing.{subscribers}
-use Rattle.mqtt_rules.specs.State.{Env, session_at}
-use Rattle.mqtt_rules.proofs.Goods.{AreGood}
-use Rattle.mqtt_rules.proofs.StoredLaw.{stored_after_all}
-use Rattle.mqtt_tables.specs.declared.fault.StepFault.{StepFault}
-use Rattle.mqtt_tables.specs.declared.fault.StepFault.TheVariants.{Memory, Spent}
-use Rattle.mqtt_tables.specs.Stepping.{Stepping, Did, IsLeft, did, env_in, to_session}
-use Rattle.mqtt_tables.specs.Undoing.{moment_of}
-use Rattle.mqtt_closing.specs.Choosing.{DoesSome, LeavesSome}
-use Rattle.mqtt_acts.specs.Delivering.{whose_at}
-use Rattle.mqtt_closing.proofs.Some.{alone, both, leaves_first, leaves_some, same_leaves, same_some, same_some_left, then_some, then_some_left}
-use Rattle.mqtt_closing.specs.Wills.{will_at, will_of}
-use Rattle.mqtt_closing.proofs.Willed.{part_at}
+use Rattle.mqtt_engine.specs.TheRules.Closing.{settle}
+use Rattle.mqtt_engine.specs.TheRules.Deeds.{Act, At, Close, Deed, whose, after_all, rows_of_all, then}
+use Rattle.mqtt_engine.specs.TheRules.Routing.{subscribers}
+use Rattle.mqtt_engine.specs.TheRules.State.{Env, session_at}
+use Rattle.mqtt_engine.proofs.TheRules.Goods.{AreGood}
+use Rattle.mqtt_engine.proofs.TheRules.StoredLaw.{stored_after_all}
+use Rattle.mqtt_engine.specs.TheTables.declared.fault.StepFault.{StepFault}
+use Rattle.mqtt_engine.specs.TheTables.declared.fault.StepFault.TheVariants.{Memory, Spent}
+use Rattle.mqtt_engine.specs.TheTables.Stepping.{Stepping, Did, IsLeft, did, env_in, to_session}
+use Rattle.mqtt_engine.specs.TheTables.Undoing.{moment_of}
+use Rattle.mqtt_engine.specs.TheClosing.Choosing.{DoesSome, LeavesSome}
+use Rattle.mqtt_engine.specs.TheActs.Delivering.{whose_at}
+use Rattle.mqtt_engine.proofs.TheClosing.Some.{alone, both, leaves_first, leaves_some, same_leaves, same_some, same_some_left, then_some, then_some_left}
+use Rattle.mqtt_engine.specs.TheClosing.Wills.{will_at, will_of}
+use Rattle.mqtt_engine.proofs.TheClosing.Willed.{part_at}
 use Rattle.mqtt_engine.specs.Following.{CanAllBeFollowed, CanBeIndexed}
 use Rattle.mqtt_engine.specs.Indexing.{Serves}
 use Rattle.mqtt_engine.proofs.Along.{indexed_all}

@@ -5,9 +5,9 @@ use Rattle.mqtt_records.specs.declared.change.Change.{Change}
 use Rattle.mqtt_records.specs.declared.records.Records.{Records}
 use Rattle.mqtt_records.specs.declared.session.Session.{Session}
 use Rattle.mqtt_records.specs.Records.{changed, changed_all}
-use Rattle.mqtt_rules.specs.Deeds.{Whose, Part, Close, DropWill, Enter, Leave, Deed, Accept, Begin, Name, Count, At, Finish, Keep, Forget, RefuseWill, Link, On, Send, Gone, part_rows, part_rows_of, rows_of, rows_of_all, stored_after, after}
-use Rattle.mqtt_rules.specs.State.{Broker, session_at}
-use Rattle.mqtt_rules.proofs.Goods.{AreGood}
+use Rattle.mqtt_engine.specs.TheRules.Deeds.{Whose, Part, Close, DropWill, Enter, Leave, Deed, Accept, Begin, Name, Count, At, Finish, Keep, Forget, RefuseWill, Link, On, Send, Gone, part_rows, part_rows_of, rows_of, rows_of_all, stored_after, after}
+use Rattle.mqtt_engine.specs.TheRules.State.{Broker, session_at}
+use Rattle.mqtt_engine.proofs.TheRules.Goods.{AreGood}
 use Rattle.mqtt_engine.specs.Following.{CanAllBeFollowed}
 use Rattle.mqtt_opening.proofs.Own.{IsClosing, IsOwn, IsQueued}
 

@@ -4,16 +4,16 @@ use Rattle.std.specs.List.{AllByRecursion}
 use Rattle.mqtt_records.specs.declared.session.Session.{Session}
 use Rattle.mqtt_records.specs.Session.{birth_of}
 use Rattle.mqtt_routes.specs.Subscriptions.{Subscriber}
-use Rattle.mqtt_rules.specs.Contents.{HasLawfulContents, IsWilled}
-use Rattle.mqtt_rules.specs.Laws.{IsCoherent}
-use Rattle.mqtt_rules.specs.Routing.{subscribers}
-use Rattle.mqtt_rules.specs.Step.{opening}
-use Rattle.mqtt_tables.specs.declared.fault.StepFault.{StepFault}
-use Rattle.mqtt_tables.specs.declared.fault.StepFault.TheVariants.{Memory, Spent}
-use Rattle.mqtt_tables.specs.Stepping.{Stepping, env_in}
-use Rattle.mqtt_tables.proofs.Then.{same_act, same_left}
-use Rattle.mqtt_closing.specs.Choosing.{DoesSome, LeavesSome}
-use Rattle.mqtt_closing.specs.Wills.{will_at}
+use Rattle.mqtt_engine.specs.TheRules.Contents.{HasLawfulContents, IsWilled}
+use Rattle.mqtt_engine.specs.TheRules.Laws.{IsCoherent}
+use Rattle.mqtt_engine.specs.TheRules.Routing.{subscribers}
+use Rattle.mqtt_engine.specs.TheRules.Step.{opening}
+use Rattle.mqtt_engine.specs.TheTables.declared.fault.StepFault.{StepFault}
+use Rattle.mqtt_engine.specs.TheTables.declared.fault.StepFault.TheVariants.{Memory, Spent}
+use Rattle.mqtt_engine.specs.TheTables.Stepping.{Stepping, env_in}
+use Rattle.mqtt_engine.proofs.TheTables.Then.{same_act, same_left}
+use Rattle.mqtt_engine.specs.TheClosing.Choosing.{DoesSome, LeavesSome}
+use Rattle.mqtt_engine.specs.TheClosing.Wills.{will_at}
 use Rattle.mqtt_engine.specs.Following.{CanBeIndexed}
 use Rattle.mqtt_engine.specs.Indexing.{Serves}
 use Rattle.mqtt_opening.specs.Closing.{DidSome, LeftSome}

@@ -2,14 +2,14 @@
 use Rattle.std.proofs.Common.{◌≡◌, ℕ, Bool, cond, List, [], ◌∷◌, bytes_eq, refl, sym, ap, subst, ◌∙◌}
 use Rattle.std.specs.List.{AllByRecursion}
 use Rattle.mqtt_records.specs.declared.session.Session.{Session}
-use Rattle.mqtt_rules.specs.State.{Env, MemberChoice}
-use Rattle.mqtt_rules.proofs.FitLaw.{same_text}
-use Rattle.mqtt_tables.specs.declared.fault.StepFault.{StepFault}
-use Rattle.mqtt_tables.specs.Stepping.{Stepping, Did, env_in}
-use Rattle.mqtt_tables.proofs.Doing.{did_none}
-use Rattle.mqtt_tables.proofs.Then.{did_then, left_first, left_then, same_act, same_left}
-use Rattle.mqtt_closing.specs.Choosing.{DoesSome, LeavesSome}
-use Rattle.mqtt_closing.proofs.Some.{env_stays}
+use Rattle.mqtt_engine.specs.TheRules.State.{Env, MemberChoice}
+use Rattle.mqtt_engine.proofs.TheRules.FitLaw.{same_text}
+use Rattle.mqtt_engine.specs.TheTables.declared.fault.StepFault.{StepFault}
+use Rattle.mqtt_engine.specs.TheTables.Stepping.{Stepping, Did, env_in}
+use Rattle.mqtt_engine.proofs.TheTables.Doing.{did_none}
+use Rattle.mqtt_engine.proofs.TheTables.Then.{did_then, left_first, left_then, same_act, same_left}
+use Rattle.mqtt_engine.specs.TheClosing.Choosing.{DoesSome, LeavesSome}
+use Rattle.mqtt_engine.proofs.TheClosing.Some.{env_stays}
 use Rattle.mqtt_opening.specs.Closing.{DidSome, LeftSome}
 use Rattle.mqtt_opening.specs.Sessions.{IsThere, closes, closes_all}
 use Rattle.mqtt_opening.proofs.Chosen.{Agree, AllApart, AreApart, same_all, same_close, still_there}

@@ -9,3 +9,4 @@ pub mod Going
 pub mod Stamped
 pub mod Answering
 pub use Rattle.mqtt_engine.proofs.Linked
+pub use Rattle.mqtt_engine.proofs.TheRules

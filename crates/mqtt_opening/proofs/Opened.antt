@@ -8,13 +8,13 @@ use Rattle.mqtt_records.specs.declared.session.Session.{Session}
 use Rattle.mqtt_records.specs.declared.records.Records.{Records}
 use Rattle.mqtt_records.specs.Session.{birth_of}
 use Rattle.mqtt_rows.specs.Order.{IsAbove, IsAscending, row_at}
-use Rattle.mqtt_rules.specs.Contents.{HasContents, HasLawfulContents, IsWilled}
-use Rattle.mqtt_rules.specs.Deeds.{after_all, series}
-use Rattle.mqtt_rules.specs.Laws.{IsCoherent, IsUnique, client_at}
-use Rattle.mqtt_rules.specs.State.{Broker, Env, is_connected, session_at}
-use Rattle.mqtt_rules.specs.Step.{close_if, opening}
-use Rattle.mqtt_rules.proofs.Copies.{each_more}
-use Rattle.mqtt_rules.proofs.FlightRows.{all_found}
+use Rattle.mqtt_engine.specs.TheRules.Contents.{HasContents, HasLawfulContents, IsWilled}
+use Rattle.mqtt_engine.specs.TheRules.Deeds.{after_all, series}
+use Rattle.mqtt_engine.specs.TheRules.Laws.{IsCoherent, IsUnique, client_at}
+use Rattle.mqtt_engine.specs.TheRules.State.{Broker, Env, is_connected, session_at}
+use Rattle.mqtt_engine.specs.TheRules.Step.{close_if, opening}
+use Rattle.mqtt_engine.proofs.TheRules.Copies.{each_more}
+use Rattle.mqtt_engine.proofs.TheRules.FlightRows.{all_found}
 use Rattle.mqtt_opening.specs.Sessions.{IsThere, closes, closes_all, connected_in, face}
 use Rattle.mqtt_opening.proofs.Chosen.{AllApart, AreApart}
 

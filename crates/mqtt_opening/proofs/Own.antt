@@ -14,14 +14,14 @@ use Rattle.mqtt_records.specs.declared.session.Session.{Session}
 use Rattle.mqtt_records.specs.Session.{birth_of, copy_place}
 use Rattle.mqtt_rows.specs.Order.{row_at}
 use Rattle.mqtt_codec.specs.declared.packet.Packet.{Packet}
-use Rattle.mqtt_rules.specs.Closing.{end_session, has_due_end, has_due_will, publish_or_refuse, publish_will, settle, will_deeds, will_message}
-use Rattle.mqtt_rules.specs.Deeds.{Whose, whose, Message, Origin, FromWill, Part, Close, DropWill, Enter, Leave, Deed, Accept, Begin, Name, Count, At, Finish, Keep, Forget, RefuseWill, Link, On, Send, Gone, Act, after, after_all, always, offer, of_session, only_if, series}
-use Rattle.mqtt_rules.specs.Outbound.{enter_deeds, leave_deeds, queue_limits, since}
-use Rattle.mqtt_rules.specs.Packets.{publish_of}
-use Rattle.mqtt_rules.specs.Routing.{CopyTo, accepted_copies, deliver, deliver_by, forgets, is_queued, next_publication, publish, retain_by, retained_of}
-use Rattle.mqtt_rules.specs.State.{Line, Broker, Env, line_of, queue_on, session_at}
-use Rattle.mqtt_rules.proofs.FlightRows.{found_key}
-use Rattle.mqtt_rules.proofs.Goods.{AreGood, good_append, good_cond, good_flat, good_of_entry, good_two, good_with_session}
+use Rattle.mqtt_engine.specs.TheRules.Closing.{end_session, has_due_end, has_due_will, publish_or_refuse, publish_will, settle, will_deeds, will_message}
+use Rattle.mqtt_engine.specs.TheRules.Deeds.{Whose, whose, Message, Origin, FromWill, Part, Close, DropWill, Enter, Leave, Deed, Accept, Begin, Name, Count, At, Finish, Keep, Forget, RefuseWill, Link, On, Send, Gone, Act, after, after_all, always, offer, of_session, only_if, series}
+use Rattle.mqtt_engine.specs.TheRules.Outbound.{enter_deeds, leave_deeds, queue_limits, since}
+use Rattle.mqtt_engine.specs.TheRules.Packets.{publish_of}
+use Rattle.mqtt_engine.specs.TheRules.Routing.{CopyTo, accepted_copies, deliver, deliver_by, forgets, is_queued, next_publication, publish, retain_by, retained_of}
+use Rattle.mqtt_engine.specs.TheRules.State.{Line, Broker, Env, line_of, queue_on, session_at}
+use Rattle.mqtt_engine.proofs.TheRules.FlightRows.{found_key}
+use Rattle.mqtt_engine.proofs.TheRules.Goods.{AreGood, good_append, good_cond, good_flat, good_of_entry, good_two, good_with_session}
 use Rattle.mqtt_opening.specs.Sessions.{closes}
 
 -- a copy enters a queue, or leaves it

@@ -8,23 +8,23 @@ use Rattle.mqtt_records.specs.declared.records.Records.{Records}
 use Rattle.mqtt_records.specs.Records.{FitAll}
 use Rattle.mqtt_records.specs.Saying.{AllSayable}
 use Rattle.mqtt_routes.specs.Subscriptions.{Subscriber}
-use Rattle.mqtt_rules.specs.declared.Limits.{Limits}
-use Rattle.mqtt_rules.specs.Contents.{of_rows}
-use Rattle.mqtt_rules.specs.Deeds.{Deed, rows_of_all}
-use Rattle.mqtt_rules.specs.Laws.{AreWithin}
-use Rattle.mqtt_rules.specs.Routing.{subscribers}
-use Rattle.mqtt_rules.specs.State.{Broker}
-use Rattle.mqtt_rules.specs.Step.{BrokerOpening, is_opening_spent, is_spent, opened, opening, opening_deeds, rows_written, stamped, unopened, with_moment}
-use Rattle.mqtt_rules.proofs.LawfulContents.{lawful_contents}
-use Rattle.mqtt_rules.proofs.LawfulRecords.{lawful_coherent}
-use Rattle.mqtt_rules.proofs.RowsFit.{opening_fits}
-use Rattle.mqtt_rules.proofs.SayableRows.{opening_said}
-use Rattle.mqtt_rules.proofs.SpelledContents.{rows_are as row_sizes}
-use Rattle.mqtt_rules.proofs.StoredLaw.{now_stays}
-use Rattle.mqtt_tables.specs.declared.fault.StepFault.{StepFault}
-use Rattle.mqtt_tables.specs.declared.fault.StepFault.TheVariants.{Memory, Spent}
-use Rattle.mqtt_tables.specs.Stepping.{Stepping, at_rest, did, env_in, with_stamp}
-use Rattle.mqtt_tables.proofs.Rows.{spent_append}
+use Rattle.mqtt_engine.specs.TheRules.declared.Limits.{Limits}
+use Rattle.mqtt_engine.specs.TheRules.Contents.{of_rows}
+use Rattle.mqtt_engine.specs.TheRules.Deeds.{Deed, rows_of_all}
+use Rattle.mqtt_engine.specs.TheRules.Laws.{AreWithin}
+use Rattle.mqtt_engine.specs.TheRules.Routing.{subscribers}
+use Rattle.mqtt_engine.specs.TheRules.State.{Broker}
+use Rattle.mqtt_engine.specs.TheRules.Step.{BrokerOpening, is_opening_spent, is_spent, opened, opening, opening_deeds, rows_written, stamped, unopened, with_moment}
+use Rattle.mqtt_engine.proofs.TheRules.LawfulContents.{lawful_contents}
+use Rattle.mqtt_engine.proofs.TheRules.LawfulRecords.{lawful_coherent}
+use Rattle.mqtt_engine.proofs.TheRules.RowsFit.{opening_fits}
+use Rattle.mqtt_engine.proofs.TheRules.SayableRows.{opening_said}
+use Rattle.mqtt_engine.proofs.TheRules.SpelledContents.{rows_are as row_sizes}
+use Rattle.mqtt_engine.proofs.TheRules.StoredLaw.{now_stays}
+use Rattle.mqtt_engine.specs.TheTables.declared.fault.StepFault.{StepFault}
+use Rattle.mqtt_engine.specs.TheTables.declared.fault.StepFault.TheVariants.{Memory, Spent}
+use Rattle.mqtt_engine.specs.TheTables.Stepping.{Stepping, at_rest, did, env_in, with_stamp}
+use Rattle.mqtt_engine.proofs.TheTables.Rows.{spent_append}
 use Rattle.mqtt_engine.specs.Indexing.{Serves}
 use Rattle.mqtt_opening.specs.Closing.{DidOpen, DidSome, IsLeftOpen, IsStoredAfter, LeftSome, resting}
 

@@ -1,13 +1,13 @@
 -- What the closing of sessions made of a step, for some choice of members (MQTT 5.0, 4.1).
 use Rattle.std.specs.Prelude.{◌≡◌, ℕ, false}
 use Rattle.mqtt_records.specs.declared.records.Records.{Records}
-use Rattle.mqtt_rules.specs.declared.Limits.{Limits}
-use Rattle.mqtt_rules.specs.Deeds.{Act}
-use Rattle.mqtt_rules.specs.State.{Env, MemberChoice, stored}
-use Rattle.mqtt_rules.specs.Step.{SpentOpening, is_opening_spent, opened, opening_deeds, unopened}
-use Rattle.mqtt_tables.specs.declared.fault.StepFault.{StepFault}
-use Rattle.mqtt_tables.specs.declared.fault.StepFault.TheVariants.{Spent}
-use Rattle.mqtt_tables.specs.Stepping.{Stepping, Did, IsLeft, at_rest, did, env_in, with_stamp}
+use Rattle.mqtt_engine.specs.TheRules.declared.Limits.{Limits}
+use Rattle.mqtt_engine.specs.TheRules.Deeds.{Act}
+use Rattle.mqtt_engine.specs.TheRules.State.{Env, MemberChoice, stored}
+use Rattle.mqtt_engine.specs.TheRules.Step.{SpentOpening, is_opening_spent, opened, opening_deeds, unopened}
+use Rattle.mqtt_engine.specs.TheTables.declared.fault.StepFault.{StepFault}
+use Rattle.mqtt_engine.specs.TheTables.declared.fault.StepFault.TheVariants.{Spent}
+use Rattle.mqtt_engine.specs.TheTables.Stepping.{Stepping, Did, IsLeft, at_rest, did, env_in, with_stamp}
 
 -- it did an act, for some choice
 pub record DidSome (act : Env → Act) (old new : Stepping) : Type 0 where

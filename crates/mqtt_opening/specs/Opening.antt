@@ -5,8 +5,8 @@ use Rattle.mqtt_records.specs.declared.keep.Keep.{Ghosts}
 use Rattle.mqtt_records.specs.declared.keep.KeepError.{KeepError}
 use Rattle.mqtt_records.specs.declared.keep.KeepError.TheVariants.{Memory, Disk, Size, Corrupt, Schema}
 use Rattle.mqtt_records.specs.declared.records.Records.{Records}
-use Rattle.mqtt_rules.specs.declared.Limits.{Limits}
-use Rattle.mqtt_rules.specs.Step.{BrokerOpening, SpentOpening}
+use Rattle.mqtt_engine.specs.TheRules.declared.Limits.{Limits}
+use Rattle.mqtt_engine.specs.TheRules.Step.{BrokerOpening, SpentOpening}
 use Rattle.mqtt_engine.specs.Running.{Running}
 use Rattle.mqtt_opening.specs.Closing.{IsStoredAfter}
 

@@ -3,9 +3,9 @@ use Rattle.std.specs.Prelude.{◌≡◌, ℕ, true, List, filter, map, Option, S
 use Rattle.mqtt_message.specs.declared.message.Will.{Will}
 use Rattle.mqtt_records.specs.declared.session.Session.{Session}
 use Rattle.mqtt_records.specs.declared.records.Records.{Records}
-use Rattle.mqtt_rules.specs.Deeds.{Act, Whose, series, whose}
-use Rattle.mqtt_rules.specs.State.{Env, is_connected, session_at}
-use Rattle.mqtt_rules.specs.Step.{close_if}
+use Rattle.mqtt_engine.specs.TheRules.Deeds.{Act, Whose, series, whose}
+use Rattle.mqtt_engine.specs.TheRules.State.{Env, is_connected, session_at}
+use Rattle.mqtt_engine.specs.TheRules.Step.{close_if}
 
 -- those that the records show as connected, in the order of births
 abbrev pub connected_in : Records → List Session

@@ -6,21 +6,19 @@ ghost use Rattle.mqtt_records.specs.declared.records.Records.{Records as TheReco
 ghost use Rattle.mqtt_records.specs.Session.{birth_of};
 ghost use Rattle.mqtt_records.specs.declared.session.Session.{Session as TheSession};
 ghost use Rattle.mqtt_routes.specs.Subscriptions.{Subscriber};
-ghost use Rattle.mqtt_rules.specs.Contents.{HasLawfulContents, IsWilled};
-ghost use Rattle.mqtt_rules.specs.Laws.{IsCoherent};
-ghost use Rattle.mqtt_rules.specs.Routing.{subscribers};
-ghost use Rattle.mqtt_rules.specs.Step.{opening};
-ghost use Rattle.mqtt_closing.specs.Choosing.{DoesSome, LeavesSome};
-ghost use Rattle.mqtt_closing.specs.Wills.{will_at};
+ghost use Rattle.mqtt_engine.specs.TheRules.Contents.{HasLawfulContents, IsWilled};
+ghost use Rattle.mqtt_engine.specs.TheRules.Laws.{IsCoherent};
+ghost use Rattle.mqtt_engine.specs.TheRules.Routing.{subscribers};
+ghost use Rattle.mqtt_engine.specs.TheRules.Step.{opening};
+ghost use Rattle.mqtt_engine.specs.TheClosing.Choosing.{DoesSome, LeavesSome};
+ghost use Rattle.mqtt_engine.specs.TheClosing.Wills.{will_at};
 ghost use Rattle.mqtt_engine.specs.Following.{CanAllBeFollowed, CanBeIndexed};
 ghost use Rattle.mqtt_engine.specs.Indexing.{Serves};
 ghost use Rattle.mqtt_opening.specs.Closing.{DidSome, LeftSome};
 ghost use Rattle.mqtt_opening.specs.Sessions.{IsThere, closes, connected_in};
 
-use mqtt_closing::settle;
-use mqtt_engine::Index;
+use mqtt_engine::{Index, Step, StepFault, settle};
 use mqtt_records::Change;
-use mqtt_tables::{Step, StepFault};
 use std::alloc::Global;
 
 /// Adds the births of the sessions that the records show as connected, in order.

@@ -4,5 +4,5 @@
 mod closing;
 mod opening;
 
-pub use mqtt_engine::{Engine, Outcome};
+pub use mqtt_engine::{Engine, EngineError, Limits, Outcome, Report};
 pub use opening::open;

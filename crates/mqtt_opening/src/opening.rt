@@ -2,11 +2,11 @@
 ghost use Rattle.std.specs.Prelude.{◌≡◌, ◌≢◌, ◌⊎◌, ℕ, IfOk, IfErr, OnOk, OnErr, IsErrOf};
 ghost use Rattle.mqtt_lawful.specs.Lawful.{IsLawful};
 ghost use Rattle.mqtt_records.specs.declared.records.Records.{Records as TheRecords};
-ghost use Rattle.mqtt_rules.specs.Laws.{AreWithin};
-ghost use Rattle.mqtt_rules.specs.Routing.{subscribers};
-ghost use Rattle.mqtt_rules.specs.Step.{BrokerOpening, SpentOpening};
-ghost use Rattle.mqtt_rules.specs.declared.Limits.{Limits as TheLimits};
-ghost use Rattle.mqtt_tables.specs.Stepping.{at_rest};
+ghost use Rattle.mqtt_engine.specs.TheRules.Laws.{AreWithin};
+ghost use Rattle.mqtt_engine.specs.TheRules.Routing.{subscribers};
+ghost use Rattle.mqtt_engine.specs.TheRules.Step.{BrokerOpening, SpentOpening};
+ghost use Rattle.mqtt_engine.specs.TheRules.declared.Limits.{Limits as TheLimits};
+ghost use Rattle.mqtt_engine.specs.TheTables.Stepping.{at_rest};
 ghost use Rattle.mqtt_engine.specs.Sound.{IsSound};
 ghost use Rattle.mqtt_engine.specs.Indexing.{Serves};
 ghost use Rattle.mqtt_opening.specs.Closing.{DidOpen, IsLeftOpen, IsStoredAfter, resting};
@@ -14,11 +14,9 @@ ghost use Rattle.mqtt_opening.specs.Opening.{IsBegun, Opened};
 
 use crate::closing::close_all;
 use mqtt_base::LAST_NUMBER;
-use mqtt_engine::{Engine, Index};
+use mqtt_engine::{Engine, Index, Limits, Step, StepFault, commit_kept};
 use mqtt_lawful::is_lawful;
 use mqtt_records::{Keep, KeepError, Records};
-use mqtt_rules::Limits;
-use mqtt_tables::{Step, StepFault, commit_kept};
 use std::alloc::Global;
 use std::hash::RandomState;
 

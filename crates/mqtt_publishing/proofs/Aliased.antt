@@ -8,15 +8,15 @@ use Rattle.mqtt_topic.specs.Aliases.{AliasTable, IsInRange, Resolves}
 use Rattle.mqtt_topic.specs.Names.{is_empty}
 use Rattle.mqtt_message.specs.PassedOn.{number_at}
 use Rattle.mqtt_records.specs.declared.session.Session.{Session}
-use Rattle.mqtt_rules.specs.State.{Broker, Line, Env, MemberChoice}
-use Rattle.mqtt_rules.specs.Deeds.{Act, always, series, then}
-use Rattle.mqtt_rules.specs.Inbound.{Means, meaning, message_of, on_publish, publish_by, publish_meant, resolved, sets_alias, standing}
-use Rattle.mqtt_rules.proofs.Meanings.{identified_only, resolved_only}
-use Rattle.mqtt_tables.specs.declared.fault.StepFault.{StepFault}
-use Rattle.mqtt_tables.specs.Stepping.{Stepping, did, Did, IsLeft, env_in}
-use Rattle.mqtt_tables.proofs.Doing.{did_none}
+use Rattle.mqtt_acts.specs.TheRules.State.{Broker, Line, Env, MemberChoice}
+use Rattle.mqtt_acts.specs.TheRules.Deeds.{Act, always, series, then}
+use Rattle.mqtt_acts.specs.TheRules.Inbound.{Means, meaning, message_of, on_publish, publish_by, publish_meant, resolved, sets_alias, standing}
+use Rattle.mqtt_acts.proofs.TheRules.Meanings.{identified_only, resolved_only}
+use Rattle.mqtt_acts.specs.TheTables.declared.fault.StepFault.{StepFault}
+use Rattle.mqtt_acts.specs.TheTables.Stepping.{Stepping, did, Did, IsLeft, env_in}
+use Rattle.mqtt_acts.proofs.TheTables.Doing.{did_none}
 use Rattle.mqtt_acts.specs.Choosing.{DoesSome, LeavesSome}
-use Rattle.mqtt_tables.proofs.Then.{same_act, same_left, did_then, left_first, left_then}
+use Rattle.mqtt_acts.proofs.TheTables.Then.{same_act, same_left, did_then, left_first, left_then}
 use Rattle.mqtt_acts.proofs.Leading.{same_env}
 use Rattle.mqtt_publishing.specs.declared.publish.Published.{Published}
 use Rattle.mqtt_publishing.specs.declared.publish.Published.TheVariants as published

@@ -5,11 +5,11 @@ use Rattle.mqtt_codec.specs.declared.publish.Publish.{Publish}
 use Rattle.mqtt_inbound.specs.declared.inflow.Published.{Published as Standing}
 use Rattle.mqtt_inbound.specs.declared.inflow.Published.TheVariants.{Again}
 use Rattle.mqtt_records.specs.declared.session.Session.{Session}
-use Rattle.mqtt_rules.specs.State.{Line}
-use Rattle.mqtt_rules.specs.Deeds.{Message}
-use Rattle.mqtt_rules.specs.Inbound.{message_of, publish_by, standing}
-use Rattle.mqtt_tables.specs.declared.fault.StepFault.{StepFault}
-use Rattle.mqtt_tables.specs.Stepping.{Stepping, Does, Leaves}
+use Rattle.mqtt_acts.specs.TheRules.State.{Line}
+use Rattle.mqtt_acts.specs.TheRules.Deeds.{Message}
+use Rattle.mqtt_acts.specs.TheRules.Inbound.{message_of, publish_by, standing}
+use Rattle.mqtt_acts.specs.TheTables.declared.fault.StepFault.{StepFault}
+use Rattle.mqtt_acts.specs.TheTables.Stepping.{Stepping, Does, Leaves}
 use Rattle.mqtt_acts.specs.Choosing.{DoesSome, IsLawfulMessage, LeavesSome}
 
 -- one was found, and it is this one

@@ -10,15 +10,15 @@ use Rattle.mqtt_props.specs.declared.table.PropName.TheVariants.{TopicAlias}
 use Rattle.mqtt_records.specs.declared.session.Session.{Session}
 use Rattle.mqtt_rows.specs.Order.{row_at}
 use Rattle.mqtt_topic.specs.Names.{is_empty}
-use Rattle.mqtt_rules.specs.State.{Broker, Env, Line}
-use Rattle.mqtt_rules.specs.Closing.{close_connected, drop_line}
-use Rattle.mqtt_rules.specs.Deeds.{Act, Gone, Send, SetAlias, always, line_after, on_line, series}
-use Rattle.mqtt_rules.specs.Inbound.{Meaning, message_of, on_publish, publish_meant, sets_alias}
-use Rattle.mqtt_rules.specs.Packets.{disconnect}
-use Rattle.mqtt_tables.specs.Lines.{line_number}
-use Rattle.mqtt_tables.specs.declared.fault.StepFault.{StepFault}
-use Rattle.mqtt_tables.specs.Stepping.{Stepping, did, Did, env_in}
-use Rattle.mqtt_tables.proofs.Then.{same_act, same_left}
+use Rattle.mqtt_acts.specs.TheRules.State.{Broker, Env, Line}
+use Rattle.mqtt_acts.specs.TheRules.Closing.{close_connected, drop_line}
+use Rattle.mqtt_acts.specs.TheRules.Deeds.{Act, Gone, Send, SetAlias, always, line_after, on_line, series}
+use Rattle.mqtt_acts.specs.TheRules.Inbound.{Meaning, message_of, on_publish, publish_meant, sets_alias}
+use Rattle.mqtt_acts.specs.TheRules.Packets.{disconnect}
+use Rattle.mqtt_acts.specs.TheTables.Lines.{line_number}
+use Rattle.mqtt_acts.specs.TheTables.declared.fault.StepFault.{StepFault}
+use Rattle.mqtt_acts.specs.TheTables.Stepping.{Stepping, did, Did, env_in}
+use Rattle.mqtt_acts.proofs.TheTables.Then.{same_act, same_left}
 use Rattle.mqtt_acts.specs.Choosing.{DoesSome, LeavesSome}
 use Rattle.mqtt_publishing.specs.Publishing.{IsOver, IsWrong, alias_set}
 use Rattle.mqtt_publishing.proofs.Aliased.{alias_does, alias_leaves}

@@ -5,16 +5,16 @@ use Rattle.mqtt_codec.specs.declared.publish.Publish.{Publish}
 use Rattle.mqtt_inbound.specs.declared.inflow.Published.TheVariants.{New}
 use Rattle.mqtt_message.specs.declared.message.MessageCopy.{MessageCopy}
 use Rattle.mqtt_records.specs.declared.session.Session.{Session}
-use Rattle.mqtt_rules.specs.State.{Env, Line, MemberChoice}
-use Rattle.mqtt_rules.specs.Deeds.{Act, Message}
-use Rattle.mqtt_rules.specs.Inbound.{publish_by, publish_new}
-use Rattle.mqtt_rules.specs.Routing.{CopyTo, accepted_copies, is_wanted, next_publication}
-use Rattle.mqtt_tables.specs.declared.fault.StepFault.{StepFault}
-use Rattle.mqtt_tables.specs.declared.fault.StepFault.TheVariants.{Memory, Spent}
-use Rattle.mqtt_tables.specs.Stepping.{Stepping, Did, Does, IsLeft, Leaves, env_in}
+use Rattle.mqtt_acts.specs.TheRules.State.{Env, Line, MemberChoice}
+use Rattle.mqtt_acts.specs.TheRules.Deeds.{Act, Message}
+use Rattle.mqtt_acts.specs.TheRules.Inbound.{publish_by, publish_new}
+use Rattle.mqtt_acts.specs.TheRules.Routing.{CopyTo, accepted_copies, is_wanted, next_publication}
+use Rattle.mqtt_acts.specs.TheTables.declared.fault.StepFault.{StepFault}
+use Rattle.mqtt_acts.specs.TheTables.declared.fault.StepFault.TheVariants.{Memory, Spent}
+use Rattle.mqtt_acts.specs.TheTables.Stepping.{Stepping, Did, Does, IsLeft, Leaves, env_in}
 use Rattle.mqtt_acts.specs.Choosing.{DoesSome, IsAccepted, IsRefused, LeavesSome}
 use Rattle.mqtt_acts.specs.Delivering.{addressed_all}
-use Rattle.mqtt_tables.proofs.Then.{same_act, same_left}
+use Rattle.mqtt_acts.proofs.TheTables.Then.{same_act, same_left}
 
 module _ (l : Line) (x : Session) (p : Publish) (m : Message) where
   by_copies : (s : Stepping) (choice : MemberChoice) (o : Option (List CopyTo)) → accepted_copies (env_in choice s) m s.broker ≡ o

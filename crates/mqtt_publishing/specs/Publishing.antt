@@ -6,10 +6,10 @@ use Rattle.mqtt_topic.specs.Names.{is_empty}
 use Rattle.mqtt_inbound.specs.declared.inflow.Published.TheVariants as standings
 use Rattle.mqtt_message.specs.PassedOn.{number_at}
 use Rattle.mqtt_records.specs.declared.session.Session.{Session}
-use Rattle.mqtt_rules.specs.State.{Line}
-use Rattle.mqtt_rules.specs.Deeds.{Act, always}
-use Rattle.mqtt_rules.specs.Inbound.{Means, Wrong, meaning, message_of, on_publish, publish_by, sets_alias, standing}
-use Rattle.mqtt_tables.specs.Stepping.{Stepping, Did}
+use Rattle.mqtt_acts.specs.TheRules.State.{Line}
+use Rattle.mqtt_acts.specs.TheRules.Deeds.{Act, always}
+use Rattle.mqtt_acts.specs.TheRules.Inbound.{Means, Wrong, meaning, message_of, on_publish, publish_by, sets_alias, standing}
+use Rattle.mqtt_acts.specs.TheTables.Stepping.{Stepping, Did}
 use Rattle.mqtt_acts.specs.Choosing.{DoesSome}
 use Rattle.mqtt_publishing.specs.declared.publish.Published.{Published}
 use Rattle.mqtt_publishing.specs.declared.publish.Published.TheVariants as published

@@ -4,15 +4,15 @@ ghost use Rattle.mqtt_topic.specs.Names.{is_empty};
 ghost use Rattle.mqtt_props.specs.declared.table.PropName.TheVariants.{TopicAlias};
 ghost use Rattle.mqtt_message.specs.PassedOn.{number_at};
 ghost use Rattle.mqtt_rows.specs.Order.{row_at};
-ghost use Rattle.mqtt_rules.specs.State.{Line};
-ghost use Rattle.mqtt_rules.specs.Deeds.{always};
-ghost use Rattle.mqtt_rules.specs.Inbound.{Means, meaning, sets_alias};
-ghost use Rattle.mqtt_tables.specs.Lines.{line_number};
-ghost use Rattle.mqtt_tables.specs.Stepping.{Did, IsLeft};
+ghost use Rattle.mqtt_acts.specs.TheRules.State.{Line};
+ghost use Rattle.mqtt_acts.specs.TheRules.Deeds.{always};
+ghost use Rattle.mqtt_acts.specs.TheRules.Inbound.{Means, meaning, sets_alias};
+ghost use Rattle.mqtt_acts.specs.TheTables.Lines.{line_number};
+ghost use Rattle.mqtt_acts.specs.TheTables.Stepping.{Did, IsLeft};
 
+use mqtt_acts::{Step, StepFault};
 use mqtt_codec::Publish;
 use mqtt_props::{PropName, PropsRef, ValueRef};
-use mqtt_tables::{Step, StepFault};
 use mqtt_topic::TopicName;
 
 /// The Topic Alias among properties, if there is one.

@@ -4,15 +4,13 @@ ghost use Rattle.mqtt_codec.specs.declared.publish.Publish.{Publish};
 ghost use Rattle.mqtt_inbound.specs.declared.inflow.Published.TheVariants.{New};
 ghost use Rattle.mqtt_records.specs.declared.session.Session.{Session};
 ghost use Rattle.mqtt_routes.specs.Subscriptions.{Subscriber};
-ghost use Rattle.mqtt_rules.specs.State.{Line, session_at};
-ghost use Rattle.mqtt_rules.specs.Inbound.{publish_by};
-ghost use Rattle.mqtt_rules.specs.Routing.{subscribers};
+ghost use Rattle.mqtt_acts.specs.TheRules.State.{Line, session_at};
+ghost use Rattle.mqtt_acts.specs.TheRules.Inbound.{publish_by};
+ghost use Rattle.mqtt_acts.specs.TheRules.Routing.{subscribers};
 ghost use Rattle.mqtt_acts.specs.Choosing.{DoesSome, IsLawfulMessage, LeavesSome};
 
-use mqtt_acts::{Router, Routing, publish_refused, publish_taken};
+use mqtt_acts::{Message, Router, Routing, Step, StepFault, publish_refused, publish_taken};
 use mqtt_codec::Delivery;
-use mqtt_tables::{Step, StepFault};
-use mqtt_verdicts::Message;
 use std::alloc::Global;
 
 /// A publication of a client is routed, and with the members of groups that were chosen it is taken or

@@ -8,4 +8,5 @@ mod meant;
 mod publish;
 mod standing;
 
+pub use mqtt_acts::{pingreq, pubrel};
 pub use publish::{Published, on_publish};

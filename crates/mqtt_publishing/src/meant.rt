@@ -3,21 +3,19 @@ ghost use Rattle.std.specs.Prelude.{◌≡◌, Some, List, OnOk, IfOk, IfErr, op
 ghost use Rattle.mqtt_inbound.specs.declared.inflow.Published.TheVariants.{New};
 ghost use Rattle.mqtt_records.specs.declared.session.Session.{Session};
 ghost use Rattle.mqtt_routes.specs.Subscriptions.{Subscriber};
-ghost use Rattle.mqtt_rules.specs.State.{Line, session_at};
-ghost use Rattle.mqtt_rules.specs.Inbound.{message_of, publish_by, standing};
-ghost use Rattle.mqtt_rules.specs.Routing.{subscribers};
+ghost use Rattle.mqtt_acts.specs.TheRules.State.{Line, session_at};
+ghost use Rattle.mqtt_acts.specs.TheRules.Inbound.{message_of, publish_by, standing};
+ghost use Rattle.mqtt_acts.specs.TheRules.Routing.{subscribers};
 ghost use Rattle.mqtt_acts.specs.Choosing.{DoesSome, IsLawfulMessage, LeavesSome};
 ghost use Rattle.mqtt_publishing.specs.Publishing.{HasAnswered};
 
 use crate::fresh::publish_fresh;
 use crate::publish::Published;
 use crate::standing::standing;
-use mqtt_acts::{Router, publish_again};
+use mqtt_acts::{Message, Router, Step, StepFault, publish_again};
 use mqtt_codec::Publish;
 use mqtt_inbound::Published as Standing;
-use mqtt_tables::{Step, StepFault};
 use mqtt_topic::TopicName;
-use mqtt_verdicts::Message;
 use std::alloc::Global;
 
 /// What a session publishes, and what the identifier of its PUBLISH is.

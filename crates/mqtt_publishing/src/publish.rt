@@ -3,21 +3,19 @@ ghost use Rattle.std.specs.Prelude.{◌≡◌, ℕ, Some, List, IfOk, IfErr};
 ghost use Rattle.mqtt_records.specs.declared.session.Session.{Session};
 ghost use Rattle.mqtt_routes.specs.Subscriptions.{Subscriber};
 ghost use Rattle.mqtt_rows.specs.Order.{row_at};
-ghost use Rattle.mqtt_rules.specs.State.{Line, session_at};
-ghost use Rattle.mqtt_rules.specs.Inbound.{Means, meaning, message_of, on_publish};
-ghost use Rattle.mqtt_rules.specs.Routing.{subscribers};
+ghost use Rattle.mqtt_acts.specs.TheRules.State.{Line, session_at};
+ghost use Rattle.mqtt_acts.specs.TheRules.Inbound.{Means, meaning, message_of, on_publish};
+ghost use Rattle.mqtt_acts.specs.TheRules.Routing.{subscribers};
 ghost use Rattle.mqtt_acts.specs.Choosing.{IsLawfulMessage, LeavesSome};
-ghost use Rattle.mqtt_tables.specs.Lines.{line_number};
+ghost use Rattle.mqtt_acts.specs.TheTables.Lines.{line_number};
 ghost use Rattle.mqtt_publishing.specs.Publishing.{HasPublished};
 
 use crate::aliasing::set_alias;
 use crate::meant::publish_by;
-use mqtt_acts::Router;
+use mqtt_acts::{Router, Step, StepFault, Unmeant, meaning};
 use mqtt_base::Reason;
 use mqtt_codec::Publish;
-use mqtt_tables::{Step, StepFault};
 use mqtt_topic::TopicName;
-use mqtt_verdicts::{Unmeant, meaning};
 use std::alloc::Global;
 
 /// What became of a PUBLISH.

@@ -1,7 +1,7 @@
 //! What the identifier of a PUBLISH is (MQTT 5.0, 4.3.3, 4.9).
 ghost use Rattle.std.specs.Prelude.{◌≡◌};
 ghost use Rattle.mqtt_inbound.specs.Inbound.{IsOpenList, answer_to};
-ghost use Rattle.mqtt_rules.specs.Inbound.{standing};
+ghost use Rattle.mqtt_acts.specs.TheRules.Inbound.{standing};
 
 use mqtt_base::OPEN_LIMIT;
 use mqtt_codec::Delivery;

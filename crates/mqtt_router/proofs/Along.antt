@@ -20,14 +20,14 @@ use Rattle.mqtt_routes.specs.Subscriptions.{Subscriber, AreInOrder, beside, put,
 use Rattle.mqtt_routes.proofs.SomeLemmas.{some_dropped}
 use Rattle.mqtt_routes.proofs.SpotLemmas.{order-with_subs, order-unsubscribed, order-without_session}
 use Rattle.mqtt_rows.specs.Order.{row_at, has_row, put_row, change_row}
-use Rattle.mqtt_rules.specs.Laws.{HasTables}
-use Rattle.mqtt_rules.specs.Routing.{routed_subscription, subscribers}
-use Rattle.mqtt_rules.proofs.Copies.{each_filter}
-use Rattle.mqtt_rules.proofs.FlightRows.{all_at}
-use Rattle.mqtt_rules.proofs.NumberCopies.{each_put, each_change}
-use Rattle.mqtt_rules.proofs.Ordered.{changed-ordered}
-use Rattle.mqtt_tables.specs.Subscribing.{HasEachFilterOnce}
-use Rattle.mqtt_tables.proofs.FiltersKept.{once_all}
+use Rattle.mqtt_acts.specs.TheRules.Laws.{HasTables}
+use Rattle.mqtt_acts.specs.TheRules.Routing.{routed_subscription, subscribers}
+use Rattle.mqtt_acts.proofs.TheRules.Copies.{each_filter}
+use Rattle.mqtt_acts.proofs.TheRules.FlightRows.{all_at}
+use Rattle.mqtt_acts.proofs.TheRules.NumberCopies.{each_put, each_change}
+use Rattle.mqtt_acts.proofs.TheRules.Ordered.{changed-ordered}
+use Rattle.mqtt_acts.specs.TheTables.Subscribing.{HasEachFilterOnce}
+use Rattle.mqtt_acts.proofs.TheTables.FiltersKept.{once_all}
 use Rattle.mqtt_router.specs.Following.{HasIdentifiers, CanBeIndexed, IsGranted, CanBeFollowed, CanAllBeFollowed, followed, followed_all}
 use Rattle.mqtt_router.specs.Indexing.{IsLawful, Serves}
 use Rattle.mqtt_router.proofs.Granting.{routed_all, same_put}

@@ -12,10 +12,10 @@ use Rattle.mqtt_routes.specs.declared.subscription.Subscription.{Subscription as
 use Rattle.mqtt_routes.specs.Subscriptions.{Subscriber, subscriber, beside, has_filter, put, subs_of, subscribed, with_some, with_subs}
 use Rattle.mqtt_rows.specs.Distinct.{AllDiffer}
 use Rattle.mqtt_rows.specs.Order.{IsAbove, IsAscending}
-use Rattle.mqtt_rules.specs.Routing.{routed_subscription, subscriber_of, subscribers}
-use Rattle.mqtt_rules.proofs.Copies.{each_append, each_more}
-use Rattle.mqtt_tables.specs.Subscribing.{filter_of, HasEachFilterOnce}
-use Rattle.mqtt_tables.proofs.Filters.{text_is}
+use Rattle.mqtt_acts.specs.TheRules.Routing.{routed_subscription, subscriber_of, subscribers}
+use Rattle.mqtt_acts.proofs.TheRules.Copies.{each_append, each_more}
+use Rattle.mqtt_acts.specs.TheTables.Subscribing.{filter_of, HasEachFilterOnce}
+use Rattle.mqtt_acts.proofs.TheTables.Filters.{text_is}
 use Rattle.mqtt_router.specs.Following.{CanBeIndexed, given, given_all}
 use Rattle.mqtt_router.specs.Indexing.{Serves}
 use Rattle.mqtt_router.proofs.Along.{serves_of}

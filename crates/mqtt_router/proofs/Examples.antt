@@ -8,7 +8,7 @@ use Rattle.mqtt_records.specs.declared.change.Change.TheVariants.{PutSession, Pu
 use Rattle.mqtt_records.specs.declared.subscription.Subscription.{Subscription}
 use Rattle.mqtt_records.specs.Records.{changed_all, nothing}
 use Rattle.mqtt_routes.specs.Subscriptions.{Subscriber, subscriber, with_some}
-use Rattle.mqtt_rules.specs.Routing.{routed_subscription, subscribers}
+use Rattle.mqtt_acts.specs.TheRules.Routing.{routed_subscription, subscribers}
 use Rattle.mqtt_router.specs.Following.{CanAllBeFollowed, followed_all}
 
 abbrev begun : ℕ → List ℕ → Change

@@ -12,18 +12,18 @@ use Rattle.mqtt_records.specs.declared.records.Records.{Records}
 use Rattle.mqtt_records.specs.declared.session.Session.{Session}
 use Rattle.mqtt_records.specs.declared.subscription.Subscription.{Subscription}
 use Rattle.mqtt_records.specs.Session.{birth_of}
-use Rattle.mqtt_rules.specs.Contents.{HasContents, HasLawfulContents, IsAskedFor, TakesLawful}
-use Rattle.mqtt_rules.specs.declared.Limits.{Limits}
-use Rattle.mqtt_rules.specs.Deeds.{Whose, Part, Resume, Close, SetExpiry, DropWill, Subscribe, Unsubscribe, Open, Release, Enter, Mark, Leave, Deed, Accept, Begin, Name, Count, At, Finish, Keep, Forget, RefuseWill, Link, On, Send, Gone, will_row, part_rows, part_rows_of, rows_of, rows_of_all, stored_after, after}
-use Rattle.mqtt_rules.specs.Laws.{AreWithin, IsCoherent, IsOrdered}
-use Rattle.mqtt_rules.specs.State.{Broker, MemberChoice, session_at, stored}
-use Rattle.mqtt_rules.specs.Step.{Call, at_moment, deeds, env_of, opening_deeds, rows_written, stamped, unopened}
-use Rattle.mqtt_rules.proofs.Copies.{each_more}
-use Rattle.mqtt_rules.proofs.FlightRows.{found_key}
-use Rattle.mqtt_rules.proofs.LawfulContents.{lawful_contents}
-use Rattle.mqtt_rules.proofs.LawfulRecords.{lawful_coherent}
-use Rattle.mqtt_rules.proofs.RowsFit.{made_of, moment_last}
-use Rattle.mqtt_tables.specs.Subscribing.{HasEachFilterOnce, HaveFiltersOnce}
+use Rattle.mqtt_acts.specs.TheRules.Contents.{HasContents, HasLawfulContents, IsAskedFor, TakesLawful}
+use Rattle.mqtt_acts.specs.TheRules.declared.Limits.{Limits}
+use Rattle.mqtt_acts.specs.TheRules.Deeds.{Whose, Part, Resume, Close, SetExpiry, DropWill, Subscribe, Unsubscribe, Open, Release, Enter, Mark, Leave, Deed, Accept, Begin, Name, Count, At, Finish, Keep, Forget, RefuseWill, Link, On, Send, Gone, will_row, part_rows, part_rows_of, rows_of, rows_of_all, stored_after, after}
+use Rattle.mqtt_acts.specs.TheRules.Laws.{AreWithin, IsCoherent, IsOrdered}
+use Rattle.mqtt_acts.specs.TheRules.State.{Broker, MemberChoice, session_at, stored}
+use Rattle.mqtt_acts.specs.TheRules.Step.{Call, at_moment, deeds, env_of, opening_deeds, rows_written, stamped, unopened}
+use Rattle.mqtt_acts.proofs.TheRules.Copies.{each_more}
+use Rattle.mqtt_acts.proofs.TheRules.FlightRows.{found_key}
+use Rattle.mqtt_acts.proofs.TheRules.LawfulContents.{lawful_contents}
+use Rattle.mqtt_acts.proofs.TheRules.LawfulRecords.{lawful_coherent}
+use Rattle.mqtt_acts.proofs.TheRules.RowsFit.{made_of, moment_last}
+use Rattle.mqtt_acts.specs.TheTables.Subscribing.{HasEachFilterOnce, HaveFiltersOnce}
 use Rattle.mqtt_router.specs.Following.{HasIdentifiers, CanBeIndexed, IsGranted, CanAllBeFollowed}
 use Rattle.mqtt_router.proofs.Granted.{IsWell, AreWell, well_call, well_opening}
 

@@ -19,29 +19,29 @@ use Rattle.mqtt_records.specs.declared.subscription.Subscription.{Subscription}
 use Rattle.mqtt_records.specs.declared.records.Records.{Records}
 use Rattle.mqtt_records.specs.Session.{birth_of, place_of, copy_place, without_filter}
 use Rattle.mqtt_rows.specs.Order.{IsBelow, row_at}
-use Rattle.mqtt_rules.specs.Packets.{publish_of}
-use Rattle.mqtt_rules.specs.State.{Line, Broker, Env, session_at, line_of, queue_on}
-use Rattle.mqtt_rules.specs.Deeds.{Whose, whose, Message, Origin, FromClient, Part, Resume, Close, Open, Enter, Leave, LinePart, Hear, SetAlias, Deed, Accept, Count, At, Finish, Forget, RefuseWill, Link, On, Send, after, after_all, series, always, offer}
-use Rattle.mqtt_rules.specs.Deeds as told
-use Rattle.mqtt_rules.specs.Outbound.{leave_deeds, turn_deeds, since, queue_limits, enter_deeds}
-use Rattle.mqtt_rules.specs.Routing.{CopyTo, is_queued, deliver_by, deliver, retained_of, forgets, retain_by, next_publication, publish}
-use Rattle.mqtt_rules.specs.Closing.{end_session}
-use Rattle.mqtt_rules.specs.Connect.{expiry_of, will_of, greet, begin_named}
-use Rattle.mqtt_rules.specs.Contents.{IsTaken, TakesLawful}
-use Rattle.mqtt_rules.specs.Inbound.{pump_turns, pump_deeds}
-use Rattle.mqtt_rules.specs.Laws.{AreWithin, IsCoherentSession}
-use Rattle.mqtt_rules.specs.Step.{Call, NewLine, Input, BadInput, Lost, Pump, Tick, deeds_of, opening}
-use Rattle.mqtt_rules.specs.Subscribe as sub
-use Rattle.mqtt_rules.specs.Tick.{lapses, lapse_deeds}
-use Rattle.mqtt_rules.proofs.Acts.{About, closing_session, closing_on, closing, is_alone, brought_to, Finds, Law, IsCallOf, leads_call, leads_opening}
-use Rattle.mqtt_rules.proofs.ByDeeds.{by_deeds, turn_law, by_deeds_shuts}
-use Rattle.mqtt_rules.proofs.Coherent.{IsFit}
-use Rattle.mqtt_rules.proofs.ContentPackets.{asked_identifier}
-use Rattle.mqtt_rules.proofs.FitLaw.{Keeps, naming, fit_law, fit_mark}
-use Rattle.mqtt_rules.proofs.FlightRows.{all_at}
-use Rattle.mqtt_rules.proofs.Goods.{AreGood, good_append, good_cond, good_flat, good_of_entry, good_with_session}
-use Rattle.mqtt_rules.proofs.Leads.{Leads}
-use Rattle.mqtt_rules.proofs.NumberPlaces.{grants_place}
+use Rattle.mqtt_acts.specs.TheRules.Packets.{publish_of}
+use Rattle.mqtt_acts.specs.TheRules.State.{Line, Broker, Env, session_at, line_of, queue_on}
+use Rattle.mqtt_acts.specs.TheRules.Deeds.{Whose, whose, Message, Origin, FromClient, Part, Resume, Close, Open, Enter, Leave, LinePart, Hear, SetAlias, Deed, Accept, Count, At, Finish, Forget, RefuseWill, Link, On, Send, after, after_all, series, always, offer}
+use Rattle.mqtt_acts.specs.TheRules.Deeds as told
+use Rattle.mqtt_acts.specs.TheRules.Outbound.{leave_deeds, turn_deeds, since, queue_limits, enter_deeds}
+use Rattle.mqtt_acts.specs.TheRules.Routing.{CopyTo, is_queued, deliver_by, deliver, retained_of, forgets, retain_by, next_publication, publish}
+use Rattle.mqtt_acts.specs.TheRules.Closing.{end_session}
+use Rattle.mqtt_acts.specs.TheRules.Connect.{expiry_of, will_of, greet, begin_named}
+use Rattle.mqtt_acts.specs.TheRules.Contents.{IsTaken, TakesLawful}
+use Rattle.mqtt_acts.specs.TheRules.Inbound.{pump_turns, pump_deeds}
+use Rattle.mqtt_acts.specs.TheRules.Laws.{AreWithin, IsCoherentSession}
+use Rattle.mqtt_acts.specs.TheRules.Step.{Call, NewLine, Input, BadInput, Lost, Pump, Tick, deeds_of, opening}
+use Rattle.mqtt_acts.specs.TheRules.Subscribe as sub
+use Rattle.mqtt_acts.specs.TheRules.Tick.{lapses, lapse_deeds}
+use Rattle.mqtt_acts.proofs.TheRules.Acts.{About, closing_session, closing_on, closing, is_alone, brought_to, Finds, Law, IsCallOf, leads_call, leads_opening}
+use Rattle.mqtt_acts.proofs.TheRules.ByDeeds.{by_deeds, turn_law, by_deeds_shuts}
+use Rattle.mqtt_acts.proofs.TheRules.Coherent.{IsFit}
+use Rattle.mqtt_acts.proofs.TheRules.ContentPackets.{asked_identifier}
+use Rattle.mqtt_acts.proofs.TheRules.FitLaw.{Keeps, naming, fit_law, fit_mark}
+use Rattle.mqtt_acts.proofs.TheRules.FlightRows.{all_at}
+use Rattle.mqtt_acts.proofs.TheRules.Goods.{AreGood, good_append, good_cond, good_flat, good_of_entry, good_with_session}
+use Rattle.mqtt_acts.proofs.TheRules.Leads.{Leads}
+use Rattle.mqtt_acts.proofs.TheRules.NumberPlaces.{grants_place}
 use Rattle.mqtt_router.specs.Following.{IsGranted}
 
 -- ---- deeds that don't subscribe

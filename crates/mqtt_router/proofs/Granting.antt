@@ -12,12 +12,12 @@ use Rattle.mqtt_routes.specs.Subscriptions.{put, without}
 use Rattle.mqtt_rows.specs.Distinct.{AllDiffer}
 use Rattle.mqtt_rows.specs.Order.{IsAbove, IsAscending, IsBelow, has_row, insert_row}
 use Rattle.mqtt_rows.proofs.OrderLemmas.{apart}
-use Rattle.mqtt_rules.specs.Routing.{routed_subscription}
-use Rattle.mqtt_rules.specs.Subscribe.{is_to, place_among}
-use Rattle.mqtt_rules.specs.Subscribe as sub
-use Rattle.mqtt_rules.proofs.FlightRows.{above_found}
-use Rattle.mqtt_tables.specs.Subscribing.{filter_of}
-use Rattle.mqtt_tables.proofs.Filters.{text_is, found_row}
+use Rattle.mqtt_acts.specs.TheRules.Routing.{routed_subscription}
+use Rattle.mqtt_acts.specs.TheRules.Subscribe.{is_to, place_among}
+use Rattle.mqtt_acts.specs.TheRules.Subscribe as sub
+use Rattle.mqtt_acts.proofs.TheRules.FlightRows.{above_found}
+use Rattle.mqtt_acts.specs.TheTables.Subscribing.{filter_of}
+use Rattle.mqtt_acts.proofs.TheTables.Filters.{text_is, found_row}
 use Rattle.mqtt_router.specs.Following.{IsGranted}
 
 abbrev pub routed_all : List Subscription → List RoutedSubscription

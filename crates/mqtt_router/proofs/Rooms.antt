@@ -12,9 +12,9 @@ use Rattle.mqtt_message.specs.Queue.{CopyRow}
 use Rattle.mqtt_records.specs.Session.{copy_place}
 use Rattle.mqtt_routes.specs.Intended.{greatest}
 use Rattle.mqtt_records.specs.declared.session.Session.{Session}
-use Rattle.mqtt_rules.specs.Outbound.{first_given, is_new, since}
-use Rattle.mqtt_rules.specs.State.{entry_on, next_of, queue_on}
-use Rattle.mqtt_tables.specs.Stepping.{Stepping, env_in}
+use Rattle.mqtt_acts.specs.TheRules.Outbound.{first_given, is_new, since}
+use Rattle.mqtt_acts.specs.TheRules.State.{entry_on, next_of, queue_on}
+use Rattle.mqtt_acts.specs.TheTables.Stepping.{Stepping, env_in}
 use Rattle.mqtt_router.specs.Indexing.{gives_way_to, staying_of}
 
 abbrev stays : ℕ → List CopyRow → ℕ

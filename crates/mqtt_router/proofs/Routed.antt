@@ -15,11 +15,11 @@ use Rattle.mqtt_routes.specs.Acceptance.{Routed, Served, copies_in, has_takers}
 use Rattle.mqtt_routes.proofs.SomeLemmas.{alike}
 use Rattle.mqtt_routes.proofs.TakerLemmas.{routed_wanted}
 use Rattle.mqtt_rows.specs.Order.{IsAscending}
-use Rattle.mqtt_rules.specs.State.{MemberChoice}
-use Rattle.mqtt_rules.specs.Deeds.{Message}
-use Rattle.mqtt_rules.specs.Routing.{CopyTo, accepted_copies, accepted_if, copies_to, copy_to, finds_place, next_publication, publication_of, routing_of, served_copies_to, subscribers}
-use Rattle.mqtt_rules.proofs.OrderedAccepted.{accepted_within}
-use Rattle.mqtt_tables.specs.Stepping.{Stepping, env_in}
+use Rattle.mqtt_acts.specs.TheRules.State.{MemberChoice}
+use Rattle.mqtt_acts.specs.TheRules.Deeds.{Message}
+use Rattle.mqtt_acts.specs.TheRules.Routing.{CopyTo, accepted_copies, accepted_if, copies_to, copy_to, finds_place, next_publication, publication_of, routing_of, served_copies_to, subscribers}
+use Rattle.mqtt_acts.proofs.TheRules.OrderedAccepted.{accepted_within}
+use Rattle.mqtt_acts.specs.TheTables.Stepping.{Stepping, env_in}
 use Rattle.mqtt_acts.specs.Choosing.{IsAccepted, IsLawfulMessage, IsRefused, IsRouted}
 use Rattle.mqtt_acts.specs.declared.router.Routing.{Routing}
 use Rattle.mqtt_acts.specs.declared.router.Routing.TheVariants.{Refused, Accepted}

@@ -8,12 +8,12 @@ use Rattle.mqtt_message.specs.Queue.{IsSpelled}
 use Rattle.mqtt_routes.specs.Subscriptions.{Subscriber}
 use Rattle.mqtt_routes.specs.Intended.{Answers, Copy, Publication}
 use Rattle.mqtt_routes.specs.Acceptance.{Routed, Served, copies_in, routed}
-use Rattle.mqtt_rules.specs.Deeds.{Message}
-use Rattle.mqtt_rules.specs.Contents.{of_rows}
-use Rattle.mqtt_rules.proofs.ContentCopies.{routed_identified}
-use Rattle.mqtt_rules.proofs.ContentCopies as copies
-use Rattle.mqtt_rules.proofs.Copies.{each_append}
-use Rattle.mqtt_rules.proofs.SpelledContents.{copy_spelled, rows_are}
+use Rattle.mqtt_acts.specs.TheRules.Deeds.{Message}
+use Rattle.mqtt_acts.specs.TheRules.Contents.{of_rows}
+use Rattle.mqtt_acts.proofs.TheRules.ContentCopies.{routed_identified}
+use Rattle.mqtt_acts.proofs.TheRules.ContentCopies as copies
+use Rattle.mqtt_acts.proofs.TheRules.Copies.{each_append}
+use Rattle.mqtt_acts.proofs.TheRules.SpelledContents.{copy_spelled, rows_are}
 use Rattle.mqtt_acts.specs.Choosing.{IsLawfulMessage}
 use Rattle.mqtt_router.specs.Indexing.{IsLawful, all_copied, copied, served_copied}
 

@@ -9,9 +9,9 @@ use Rattle.mqtt_records.specs.Session.{birth_of, fresh, without_subscription}
 use Rattle.mqtt_routes.specs.Subscriptions.{Subscriber, subscriber, AreAfter, AreInOrder, beside, subs_of, with_subs, with_some, without, unsubscribed, without_session}
 use Rattle.mqtt_rows.specs.Order.{IsAbove, IsAscending, row_at, has_row, insert_row, put_row, remove_row, change_row}
 use Rattle.mqtt_rows.proofs.OrderLemmas.{apart, above_less, above_none, remove-none, change-none}
-use Rattle.mqtt_rules.specs.Routing.{subscriber_of}
-use Rattle.mqtt_rules.proofs.FlightRows.{above_found}
-use Rattle.mqtt_tables.specs.Subscribing.{HasEachFilterOnce}
+use Rattle.mqtt_acts.specs.TheRules.Routing.{subscriber_of}
+use Rattle.mqtt_acts.proofs.TheRules.FlightRows.{above_found}
+use Rattle.mqtt_acts.specs.TheTables.Subscribing.{HasEachFilterOnce}
 use Rattle.mqtt_router.proofs.Granting.{routed_all, same_without}
 
 abbrev pub subscribers_of : List Session → List Subscriber

@@ -12,10 +12,10 @@ use Rattle.mqtt_records.specs.declared.session.Session.{Session}
 use Rattle.mqtt_records.specs.declared.subscription.Subscription.{Subscription}
 use Rattle.mqtt_routes.specs.Subscriptions.{Subscriber, subscribed, unsubscribed, without_session}
 use Rattle.mqtt_rows.specs.Order.{IsBelow}
-use Rattle.mqtt_rules.specs.Laws.{IsOrdered}
-use Rattle.mqtt_rules.specs.Routing.{routed_subscription}
-use Rattle.mqtt_rules.specs.Subscribe.{has_filter, place_among}
-use Rattle.mqtt_tables.specs.Subscribing.{HaveFiltersOnce}
+use Rattle.mqtt_acts.specs.TheRules.Laws.{IsOrdered}
+use Rattle.mqtt_acts.specs.TheRules.Routing.{routed_subscription}
+use Rattle.mqtt_acts.specs.TheRules.Subscribe.{has_filter, place_among}
+use Rattle.mqtt_acts.specs.TheTables.Subscribing.{HaveFiltersOnce}
 
 -- ---- what is asked of records
 

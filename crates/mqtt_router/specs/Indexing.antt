@@ -13,11 +13,11 @@ use Rattle.mqtt_records.specs.declared.session.Session.{Session}
 use Rattle.mqtt_routes.specs.Subscriptions.{Subscriber, AreInOrder, with_some}
 use Rattle.mqtt_routes.specs.Intended.{Answers, Copy}
 use Rattle.mqtt_routes.specs.Acceptance.{Routed, Served, copies_in, has_takers, routed}
-use Rattle.mqtt_rules.specs.Deeds.{Message}
-use Rattle.mqtt_rules.specs.Outbound.{since}
-use Rattle.mqtt_rules.specs.Routing.{answers, copy_to, next_publication, publication_of}
-use Rattle.mqtt_rules.specs.State.{queue_on}
-use Rattle.mqtt_tables.specs.Stepping.{Stepping, env_in}
+use Rattle.mqtt_acts.specs.TheRules.Deeds.{Message}
+use Rattle.mqtt_acts.specs.TheRules.Outbound.{since}
+use Rattle.mqtt_acts.specs.TheRules.Routing.{answers, copy_to, next_publication, publication_of}
+use Rattle.mqtt_acts.specs.TheRules.State.{queue_on}
+use Rattle.mqtt_acts.specs.TheTables.Stepping.{Stepping, env_in}
 use Rattle.mqtt_acts.specs.declared.router.Routing.{Routing}
 use Rattle.mqtt_acts.specs.declared.router.Routing.TheVariants.{Refused, Accepted}
 use Rattle.mqtt_router.specs.declared.room.Before.{Before}

@@ -3,11 +3,10 @@ ghost use Rattle.std.specs.Prelude.{◌≡◌, ◌++◌, ◌∷◌, [], map, fla
 ghost use Rattle.mqtt_base.specs.declared.session.Cause.TheVariants.{Direct};
 ghost use Rattle.mqtt_router.specs.Indexing.{copied, served_copied, all_copied};
 
+use mqtt_acts::{Message, StepFault};
 use mqtt_base::Cause;
 use mqtt_records::MessageCopy;
 use mqtt_routes::{Routed, RoutedCopy, Served};
-use mqtt_tables::StepFault;
-use mqtt_verdicts::Message;
 use std::alloc::Global;
 
 /// Adds a copy.

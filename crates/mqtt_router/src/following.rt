@@ -4,14 +4,14 @@ ghost use Rattle.std.specs.Prelude.{◌≡◌, OnOk, OnErr, IfOk, IfErr};
 ghost use Rattle.mqtt_records.specs.Records.{changed, changed_all};
 ghost use Rattle.mqtt_records.specs.declared.records.Records.{Records};
 ghost use Rattle.mqtt_routes.specs.Subscriptions.{subscribed};
-ghost use Rattle.mqtt_rules.specs.Routing.{routed_subscription, subscribers};
+ghost use Rattle.mqtt_acts.specs.TheRules.Routing.{routed_subscription, subscribers};
 ghost use Rattle.mqtt_router.specs.Indexing.{Serves};
 ghost use Rattle.mqtt_router.specs.Following.{CanBeIndexed, CanBeFollowed, CanAllBeFollowed, followed, followed_all, given, given_all};
 
 use crate::index::Index;
+use mqtt_acts::{Step, StepFault};
 use mqtt_records::{Boxed, Change, Session, Subscription};
 use mqtt_routes::Subscription as RoutedSubscription;
-use mqtt_tables::{Step, StepFault};
 use mqtt_topic::SubFilter;
 use std::alloc::Global;
 use std::hash::RandomState;

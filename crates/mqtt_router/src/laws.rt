@@ -4,13 +4,13 @@ ghost use Rattle.mqtt_lawful.specs.Lawful.{IsLawful};
 ghost use Rattle.mqtt_records.specs.Records.{IsNumber, changed_all};
 ghost use Rattle.mqtt_records.specs.declared.change.Change.{Change};
 ghost use Rattle.mqtt_records.specs.declared.records.Records.{Records};
-ghost use Rattle.mqtt_rules.specs.Contents.{HasLawfulContents, TakesLawful};
-ghost use Rattle.mqtt_rules.specs.Deeds.{rows_of_all};
-ghost use Rattle.mqtt_rules.specs.Laws.{AreWithin, IsCoherent, IsOrdered};
-ghost use Rattle.mqtt_rules.specs.State.{Broker, MemberChoice, stored};
-ghost use Rattle.mqtt_rules.specs.Step.{Call, at_moment, deeds, opening_deeds, rows_written, unopened};
-ghost use Rattle.mqtt_rules.specs.declared.Limits.{Limits};
-ghost use Rattle.mqtt_tables.specs.Subscribing.{HaveFiltersOnce};
+ghost use Rattle.mqtt_acts.specs.TheRules.Contents.{HasLawfulContents, TakesLawful};
+ghost use Rattle.mqtt_acts.specs.TheRules.Deeds.{rows_of_all};
+ghost use Rattle.mqtt_acts.specs.TheRules.Laws.{AreWithin, IsCoherent, IsOrdered};
+ghost use Rattle.mqtt_acts.specs.TheRules.State.{Broker, MemberChoice, stored};
+ghost use Rattle.mqtt_acts.specs.TheRules.Step.{Call, at_moment, deeds, opening_deeds, rows_written, unopened};
+ghost use Rattle.mqtt_acts.specs.TheRules.declared.Limits.{Limits};
+ghost use Rattle.mqtt_acts.specs.TheTables.Subscribing.{HaveFiltersOnce};
 ghost use Rattle.mqtt_router.specs.Following.{CanAllBeFollowed, CanBeIndexed};
 
 /// An index can follow the rows of every step on a packet that is lawful, and those of every opening: a

@@ -1,7 +1,7 @@
 //! What routing asks of the sessions of a step (MQTT 5.0, 3.8.3.1, 4.8.2, 4.9).
 use crate::room::room_in;
+use mqtt_acts::Step;
 use mqtt_routes::Sessions;
-use mqtt_tables::Step;
 use std::marker::Model;
 
 /// The sessions of a step.
@@ -11,7 +11,7 @@ pub(crate) struct Look<'a> {
 }
 
 impl<'a> Model for Look<'a> {
-    ghost use Rattle.mqtt_tables.specs.Stepping.{Stepping};
+    ghost use Rattle.mqtt_acts.specs.TheTables.Stepping.{Stepping};
 
     ghost Value = { Stepping };
 

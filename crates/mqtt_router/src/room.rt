@@ -4,15 +4,15 @@ ghost use Rattle.std.specs.List.{count_by};
 ghost use Rattle.mqtt_flow.specs.Outbound.{is_waiting};
 ghost use Rattle.mqtt_records.specs.Session.{copy_place};
 ghost use Rattle.mqtt_records.specs.declared.records.Records.{Records};
-ghost use Rattle.mqtt_rules.specs.State.{MemberChoice};
-ghost use Rattle.mqtt_rules.specs.Outbound.{is_new, is_new_cause, room};
-ghost use Rattle.mqtt_tables.specs.Stepping.{env_in};
+ghost use Rattle.mqtt_acts.specs.TheRules.State.{MemberChoice};
+ghost use Rattle.mqtt_acts.specs.TheRules.Outbound.{is_new, is_new_cause, room};
+ghost use Rattle.mqtt_acts.specs.TheTables.Stepping.{env_in};
 ghost use Rattle.mqtt_router.specs.Indexing.{IsBefore, gives_way_to, staying_of};
 
+use mqtt_acts::Step;
 use mqtt_base::{Cause, Phase};
 use mqtt_flow::Full;
 use mqtt_records::{Boxed, CopyRow, MessageCopy, Session};
-use mqtt_tables::Step;
 
 /// The numbers that were given before a step.
 #[derive(Clone, Copy)]

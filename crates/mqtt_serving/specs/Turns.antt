@@ -1,11 +1,11 @@
 -- A turn of the server: what is asked of the broker, in order, and what its answers make of the connections (MQTT 5.0, 4.2).
 use Rattle.std.specs.Prelude.{◌≡◌, ◌≢◌, ◌⊎◌, ℕ, suc, ◌+◌, ◌<◌, Bool, true, false, not, List, [], ◌∷◌, ◌++◌, length, take, drop, filter, slice_get, Option, Some, None, option_map, Result, Ok, Err}
 use Rattle.mqtt_records.specs.declared.keep.Keep.{Ghosts}
-use Rattle.mqtt_tables.specs.declared.call.EngineError.{EngineError}
-use Rattle.mqtt_tables.specs.declared.call.EngineError.TheVariants.{Memory, Stopped, Spent}
+use Rattle.mqtt_broker.specs.TheTables.declared.call.EngineError.{EngineError}
+use Rattle.mqtt_broker.specs.TheTables.declared.call.EngineError.TheVariants.{Memory, Stopped, Spent}
 use Rattle.mqtt_broker.specs.Outcome.{Outcome}
-use Rattle.mqtt_rules.specs.Step.{BrokerStep, NewLine, Lost, Pump, Tick, nothing_told}
-use Rattle.mqtt_tables.specs.Doing.{next_line}
+use Rattle.mqtt_broker.specs.TheRules.Step.{BrokerStep, NewLine, Lost, Pump, Tick, nothing_told}
+use Rattle.mqtt_broker.specs.TheTables.Doing.{next_line}
 use Rattle.mqtt_broker.specs.Piece.{PieceCalled}
 use Rattle.mqtt_broker.specs.Serving.{Serving, Served, with_linked}
 use Rattle.mqtt_serving.specs.declared.connection.Fate.TheVariants.{Stands, Lost as IsLost}

@@ -10,4 +10,5 @@ mod line;
 mod telling;
 mod turn;
 
+pub use mqtt_broker::{Engine, EngineError, Full, Keep, KeepError, Limits, MemKeep};
 pub use turn::{Links, READ_LIMIT, TICK_LIMIT, serve_turn};

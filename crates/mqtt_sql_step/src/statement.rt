@@ -13,7 +13,7 @@ use mqtt_sql_write::{
 use sqlite::{Alter, Error, Transaction};
 
 /// What is put, set or removed.
-#[derive(Debug, Drop)]
+#[derive(Drop)]
 pub enum Statement<'a> {
     SetNumber {
         name: &'a str,

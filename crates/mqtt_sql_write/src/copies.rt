@@ -14,7 +14,7 @@ use sqlite::{Alter, Error, Transaction, params};
 use std::marker::Model;
 
 /// What a copy's row has behind its birth and place.
-#[derive(Debug, Drop)]
+#[derive(Drop)]
 pub struct CopyColumns<'a> {
     /// The publication's number.
     pub publication: u64,

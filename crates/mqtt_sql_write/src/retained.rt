@@ -12,7 +12,7 @@ use sqlite::{Alter, Error, Transaction, params};
 use std::marker::Model;
 
 /// What a retained message's row has behind its place.
-#[derive(Debug, Drop)]
+#[derive(Drop)]
 pub struct RetainedColumns<'a> {
     /// The topic name.
     pub topic: &'a str,

@@ -11,7 +11,7 @@ use sqlite::{Alter, Error, Transaction, params};
 use std::marker::Model;
 
 /// What a session's row has behind its birth.
-#[derive(Debug, Drop)]
+#[derive(Drop)]
 pub struct SessionColumns<'a> {
     /// The client identifier.
     pub client: &'a str,

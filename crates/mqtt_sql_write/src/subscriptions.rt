@@ -11,7 +11,7 @@ use crate::sessions::whole;
 use sqlite::{Alter, Error, Transaction, params};
 
 /// What a subscription's row has behind its birth and filter.
-#[derive(Clone, Copy, Debug)]
+#[derive(Clone, Copy)]
 pub struct SubscriptionColumns {
     /// The number of the subscribe.
     pub place: u64,

@@ -12,7 +12,7 @@ use sqlite::{Alter, Error, Transaction, params};
 use std::marker::Model;
 
 /// What a Will's row has behind its birth.
-#[derive(Debug, Drop)]
+#[derive(Drop)]
 pub struct WillColumns<'a> {
     /// Will Delay Interval, in seconds.
     pub delay: u32,

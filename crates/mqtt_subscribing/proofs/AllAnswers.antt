@@ -12,16 +12,16 @@ use Rattle.mqtt_message.specs.declared.message.MessageCopy.{MessageCopy}
 use Rattle.mqtt_message.specs.declared.message.RetainedMessage.{RetainedMessage}
 use Rattle.mqtt_records.specs.declared.session.Session.{Session}
 use Rattle.mqtt_subscribe.proofs.OptionLemmas.{options_is, options_again}
-use Rattle.mqtt_rules.specs.Contents.{IsPublished}
-use Rattle.mqtt_rules.specs.State.{Broker, Env, MemberChoice, session_at}
-use Rattle.mqtt_rules.specs.Deeds.{Act, Deed, series, after_all}
-use Rattle.mqtt_rules.specs.Routing.{CopyTo}
-use Rattle.mqtt_rules.specs.Subscribe.{FilterAnswer, refused_filter, filter_answer_of, wish_by, wish_of}
-use Rattle.mqtt_tables.specs.declared.fault.StepFault.{StepFault}
-use Rattle.mqtt_tables.specs.Stepping.{Stepping, did, Does, Leaves, env_in}
-use Rattle.mqtt_tables.specs.Subscribing.{HaveFiltersOnce}
-use Rattle.mqtt_tables.proofs.Doing.{did_none}
-use Rattle.mqtt_tables.proofs.Then.{same_act, same_left}
+use Rattle.mqtt_acts.specs.TheRules.Contents.{IsPublished}
+use Rattle.mqtt_acts.specs.TheRules.State.{Broker, Env, MemberChoice, session_at}
+use Rattle.mqtt_acts.specs.TheRules.Deeds.{Act, Deed, series, after_all}
+use Rattle.mqtt_acts.specs.TheRules.Routing.{CopyTo}
+use Rattle.mqtt_acts.specs.TheRules.Subscribe.{FilterAnswer, refused_filter, filter_answer_of, wish_by, wish_of}
+use Rattle.mqtt_acts.specs.TheTables.declared.fault.StepFault.{StepFault}
+use Rattle.mqtt_acts.specs.TheTables.Stepping.{Stepping, did, Does, Leaves, env_in}
+use Rattle.mqtt_acts.specs.TheTables.Subscribing.{HaveFiltersOnce}
+use Rattle.mqtt_acts.proofs.TheTables.Doing.{did_none}
+use Rattle.mqtt_acts.proofs.TheTables.Then.{same_act, same_left}
 use Rattle.mqtt_acts.specs.Delivering.{addressed_all}
 use Rattle.mqtt_acts.proofs.Leading.{LeadsOn, leads_first, leads_next, leads_left, leads_last, same_env}
 use Rattle.mqtt_subscribing.specs.Answering.{asking, answer_to, answers_to, all_answers, answers_all}

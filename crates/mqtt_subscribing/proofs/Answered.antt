@@ -7,17 +7,17 @@ use Rattle.mqtt_message.specs.declared.message.MessageCopy.{MessageCopy}
 use Rattle.mqtt_message.specs.declared.message.RetainedMessage.{RetainedMessage}
 use Rattle.mqtt_records.specs.declared.session.Session.{Session}
 use Rattle.mqtt_topic.specs.Filters.{is_filter}
-use Rattle.mqtt_rules.specs.Contents.{IsPublished}
-use Rattle.mqtt_rules.specs.State.{MemberChoice, session_at}
-use Rattle.mqtt_rules.specs.Outbound.{room}
-use Rattle.mqtt_rules.specs.Routing.{CopyTo, is_queued}
-use Rattle.mqtt_rules.specs.Subscribe.{Wish, FilterAnswer, retained_copy_to, next_number, answer_by}
-use Rattle.mqtt_tables.specs.declared.fault.StepFault.{StepFault}
-use Rattle.mqtt_tables.specs.Stepping.{Stepping, did, Does, Leaves, env_in}
-use Rattle.mqtt_tables.specs.Undoing.{moment_of}
-use Rattle.mqtt_tables.proofs.Doing.{did_none, found_birth}
+use Rattle.mqtt_acts.specs.TheRules.Contents.{IsPublished}
+use Rattle.mqtt_acts.specs.TheRules.State.{MemberChoice, session_at}
+use Rattle.mqtt_acts.specs.TheRules.Outbound.{room}
+use Rattle.mqtt_acts.specs.TheRules.Routing.{CopyTo, is_queued}
+use Rattle.mqtt_acts.specs.TheRules.Subscribe.{Wish, FilterAnswer, retained_copy_to, next_number, answer_by}
+use Rattle.mqtt_acts.specs.TheTables.declared.fault.StepFault.{StepFault}
+use Rattle.mqtt_acts.specs.TheTables.Stepping.{Stepping, did, Does, Leaves, env_in}
+use Rattle.mqtt_acts.specs.TheTables.Undoing.{moment_of}
+use Rattle.mqtt_acts.proofs.TheTables.Doing.{did_none, found_birth}
 use Rattle.mqtt_acts.specs.Delivering.{addressed, addressed_all}
-use Rattle.mqtt_tables.proofs.Then.{same_act, same_left}
+use Rattle.mqtt_acts.proofs.TheTables.Then.{same_act, same_left}
 use Rattle.mqtt_subscribing.specs.Bringing.{brings}
 use Rattle.mqtt_subscribing.specs.Granting.{FindsRoom, asks_retained, messages, chosen, has_room, grants, answer_at, answers}
 use Rattle.mqtt_subscribing.proofs.BroughtMessages.{brings_is}

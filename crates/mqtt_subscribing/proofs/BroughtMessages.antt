@@ -8,8 +8,8 @@ use Rattle.mqtt_topic.specs.Matching.{is_match}
 use Rattle.mqtt_message.specs.declared.message.RetainedMessage.{RetainedMessage}
 use Rattle.mqtt_routes.specs.Retained.{kept_for}
 use Rattle.mqtt_records.specs.declared.session.Session.{Session}
-use Rattle.mqtt_rules.specs.Contents.{IsPublished}
-use Rattle.mqtt_rules.specs.Subscribe.{Wish, is_brought, kept_of, message_in}
+use Rattle.mqtt_acts.specs.TheRules.Contents.{IsPublished}
+use Rattle.mqtt_acts.specs.TheRules.Subscribe.{Wish, is_brought, kept_of, message_in}
 use Rattle.mqtt_subscribing.specs.Bringing.{brings}
 
 pub brings_is : (now : ℕ) (s : Session) (w : Wish) (ks : List RetainedMessage)

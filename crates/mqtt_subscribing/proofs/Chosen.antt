@@ -7,9 +7,9 @@ use Rattle.mqtt_base.specs.declared.session.SubscriptionOptions.{SubscriptionOpt
 use Rattle.mqtt_codec.specs.Heads.{qos_number}
 use Rattle.mqtt_message.specs.declared.message.MessageCopy.{MessageCopy}
 use Rattle.mqtt_message.specs.declared.message.RetainedMessage.{RetainedMessage}
-use Rattle.mqtt_rules.specs.Packets.{quality}
-use Rattle.mqtt_rules.specs.Routing.{is_queued_at}
-use Rattle.mqtt_rules.specs.Subscribe.{Wish, retained_copy}
+use Rattle.mqtt_acts.specs.TheRules.Packets.{quality}
+use Rattle.mqtt_acts.specs.TheRules.Routing.{is_queued_at}
+use Rattle.mqtt_acts.specs.TheRules.Subscribe.{Wish, retained_copy}
 use Rattle.mqtt_subscribing.specs.Granting.{is_chosen, chosen}
 
 -- ---- the room

@@ -6,8 +6,8 @@ use Rattle.std.proofs.lemmas.Bool.{cases_Bool}
 use Rattle.mqtt_topic.specs.Filters.{is_filter}
 use Rattle.mqtt_records.specs.declared.session.Session.{Session}
 use Rattle.mqtt_records.specs.declared.subscription.Subscription.{Subscription}
-use Rattle.mqtt_rules.specs.Subscribe.{is_to, has_filter, drop_code, drop_codes}
-use Rattle.mqtt_tables.proofs.Filters.{found_filter, text_is}
+use Rattle.mqtt_acts.specs.TheRules.Subscribe.{is_to, has_filter, drop_code, drop_codes}
+use Rattle.mqtt_acts.proofs.TheTables.Filters.{found_filter, text_is}
 use Rattle.mqtt_subscribing.specs.Dropping.{is_left, gone_after, held}
 
 -- ---- what is found

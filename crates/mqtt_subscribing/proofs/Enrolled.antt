@@ -4,13 +4,13 @@ use Rattle.mqtt_base.specs.declared.session.SubscriptionOptions.{SubscriptionOpt
 use Rattle.mqtt_records.specs.declared.session.Session.{Session}
 use Rattle.mqtt_records.specs.declared.subscription.Subscription.{Subscription}
 use Rattle.mqtt_records.specs.Session.{birth_of}
-use Rattle.mqtt_rules.specs.State.{session_at}
-use Rattle.mqtt_rules.specs.Subscribe.{Wish, subscription}
-use Rattle.mqtt_rules.proofs.FlightRows.{all_at}
-use Rattle.mqtt_tables.specs.Stepping.{Stepping, Did}
-use Rattle.mqtt_tables.specs.Doing.{counts}
-use Rattle.mqtt_tables.specs.Subscribing.{HasEachFilterOnce, HaveFiltersOnce, MaySubscribe}
-use Rattle.mqtt_tables.proofs.FiltersKept.{may_wish}
+use Rattle.mqtt_acts.specs.TheRules.State.{session_at}
+use Rattle.mqtt_acts.specs.TheRules.Subscribe.{Wish, subscription}
+use Rattle.mqtt_acts.proofs.TheRules.FlightRows.{all_at}
+use Rattle.mqtt_acts.specs.TheTables.Stepping.{Stepping, Did}
+use Rattle.mqtt_acts.specs.TheTables.Doing.{counts}
+use Rattle.mqtt_acts.specs.TheTables.Subscribing.{HasEachFilterOnce, HaveFiltersOnce, MaySubscribe}
+use Rattle.mqtt_acts.proofs.TheTables.FiltersKept.{may_wish}
 use Rattle.mqtt_subscribing.proofs.Removed.{once_kept}
 
 abbrev pub made : List ℕ → SubscriptionOptions → Option ℕ → Wish

@@ -12,22 +12,22 @@ use Rattle.mqtt_records.specs.declared.subscription.Subscription.{Subscription}
 use Rattle.mqtt_records.specs.Session.{birth_of, with_subscription}
 use Rattle.mqtt_routes.specs.Retained.{kept_for}
 use Rattle.mqtt_topic.specs.Filters.{is_filter, begins_share}
-use Rattle.mqtt_rules.specs.Contents.{IsPublished, AreIdentifiers, of_rows}
-use Rattle.mqtt_rules.specs.State.{Broker, Env, MemberChoice, session_at}
-use Rattle.mqtt_rules.specs.Deeds.{Act, whose, At, Count, Subscribe, series, after_all}
-use Rattle.mqtt_rules.specs.Laws.{is_entering}
-use Rattle.mqtt_rules.specs.Outbound.{room, room_at}
-use Rattle.mqtt_rules.specs.Routing.{CopyTo, is_queued, deliver}
-use Rattle.mqtt_rules.specs.Subscribe.{Wish, subscription, retained_copy, retained_copy_to, identifiers_of, next_number, answer_by, filter_answer_of, brought, has_filter, wants_retained, is_brought, kept_of, message_in}
-use Rattle.mqtt_rules.proofs.FlightRows.{change_row-here}
-use Rattle.mqtt_rules.proofs.Ordered.{length-filter_le}
-use Rattle.mqtt_rules.proofs.SpelledContents.{copy_spelled, rows_are}
-use Rattle.mqtt_tables.specs.declared.fault.StepFault.{StepFault}
-use Rattle.mqtt_tables.specs.declared.fault.StepFault.TheVariants.{Memory, Spent}
-use Rattle.mqtt_tables.specs.Stepping.{Stepping, did, Did, Does, IsLeft, Leaves, env_in}
-use Rattle.mqtt_tables.proofs.Doing.{found_birth, stands}
+use Rattle.mqtt_acts.specs.TheRules.Contents.{IsPublished, AreIdentifiers, of_rows}
+use Rattle.mqtt_acts.specs.TheRules.State.{Broker, Env, MemberChoice, session_at}
+use Rattle.mqtt_acts.specs.TheRules.Deeds.{Act, whose, At, Count, Subscribe, series, after_all}
+use Rattle.mqtt_acts.specs.TheRules.Laws.{is_entering}
+use Rattle.mqtt_acts.specs.TheRules.Outbound.{room, room_at}
+use Rattle.mqtt_acts.specs.TheRules.Routing.{CopyTo, is_queued, deliver}
+use Rattle.mqtt_acts.specs.TheRules.Subscribe.{Wish, subscription, retained_copy, retained_copy_to, identifiers_of, next_number, answer_by, filter_answer_of, brought, has_filter, wants_retained, is_brought, kept_of, message_in}
+use Rattle.mqtt_acts.proofs.TheRules.FlightRows.{change_row-here}
+use Rattle.mqtt_acts.proofs.TheRules.Ordered.{length-filter_le}
+use Rattle.mqtt_acts.proofs.TheRules.SpelledContents.{copy_spelled, rows_are}
+use Rattle.mqtt_acts.specs.TheTables.declared.fault.StepFault.{StepFault}
+use Rattle.mqtt_acts.specs.TheTables.declared.fault.StepFault.TheVariants.{Memory, Spent}
+use Rattle.mqtt_acts.specs.TheTables.Stepping.{Stepping, did, Did, Does, IsLeft, Leaves, env_in}
+use Rattle.mqtt_acts.proofs.TheTables.Doing.{found_birth, stands}
 use Rattle.mqtt_acts.specs.Delivering.{addressed_all, delivers_all, HasRoomIn}
-use Rattle.mqtt_tables.proofs.Then.{same_act, same_left, did_then, left_first, left_then}
+use Rattle.mqtt_acts.proofs.TheTables.Then.{same_act, same_left, did_then, left_first, left_then}
 use Rattle.mqtt_acts.proofs.Leading.{same_env}
 use Rattle.mqtt_subscribing.specs.Enrolling.{enrolls}
 use Rattle.mqtt_subscribing.specs.Granting.{asks_retained, messages, is_chosen, chosen, has_place, has_room, grants, answer_at}

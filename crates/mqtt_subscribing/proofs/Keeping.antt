@@ -9,14 +9,14 @@ use Rattle.mqtt_message.specs.declared.message.MessageCopy.{MessageCopy}
 use Rattle.mqtt_records.specs.declared.session.Session.{Session}
 use Rattle.mqtt_records.specs.Session.{copy_place}
 use Rattle.mqtt_rows.specs.Order.{row_at}
-use Rattle.mqtt_rules.specs.State.{Line, Broker, Env, session_at, line_of, queue_on}
-use Rattle.mqtt_rules.specs.Deeds.{Act, Deed, Whose, whose, Part, At, Count, Send, Subscribe, Enter, Leave, after, after_all, stored_after, always, offer}
-use Rattle.mqtt_rules.specs.Outbound.{leave_deeds, enter_deeds, queue_limits, since}
-use Rattle.mqtt_rules.specs.Packets.{size_of, publish_of}
-use Rattle.mqtt_rules.specs.Routing.{CopyTo, is_queued, deliver, deliver_by}
-use Rattle.mqtt_rules.specs.Subscribe.{Wish, answer_by, subscription, filter_answer_of}
-use Rattle.mqtt_rules.proofs.Goods.{AreGood, GoodAct, good_append, good_flat, good_series, good_acts, good_cond, good_of_session, good_of_entry}
-use Rattle.mqtt_rules.proofs.OrderedRoom.{at_retained}
+use Rattle.mqtt_acts.specs.TheRules.State.{Line, Broker, Env, session_at, line_of, queue_on}
+use Rattle.mqtt_acts.specs.TheRules.Deeds.{Act, Deed, Whose, whose, Part, At, Count, Send, Subscribe, Enter, Leave, after, after_all, stored_after, always, offer}
+use Rattle.mqtt_acts.specs.TheRules.Outbound.{leave_deeds, enter_deeds, queue_limits, since}
+use Rattle.mqtt_acts.specs.TheRules.Packets.{size_of, publish_of}
+use Rattle.mqtt_acts.specs.TheRules.Routing.{CopyTo, is_queued, deliver, deliver_by}
+use Rattle.mqtt_acts.specs.TheRules.Subscribe.{Wish, answer_by, subscription, filter_answer_of}
+use Rattle.mqtt_acts.proofs.TheRules.Goods.{AreGood, GoodAct, good_append, good_flat, good_series, good_acts, good_cond, good_of_session, good_of_entry}
+use Rattle.mqtt_acts.proofs.TheRules.OrderedRoom.{at_retained}
 
 -- the deed leaves the retained messages as they are
 pub record Keeps (d : Deed) (b : Broker) : Type 0 where

@@ -4,12 +4,12 @@ use Rattle.std.specs.Prelude.{map}
 use Rattle.std.specs.List.{AllByRecursion}
 use Rattle.mqtt_message.specs.declared.message.MessageCopy.{MessageCopy}
 use Rattle.mqtt_message.specs.Queue.{IsSpelled}
-use Rattle.mqtt_rules.specs.State.{Broker}
-use Rattle.mqtt_rules.specs.Deeds.{Act, Deed, always, series, after_all}
-use Rattle.mqtt_rules.specs.Packets.{publish_of}
-use Rattle.mqtt_tables.specs.declared.fault.StepFault.{StepFault}
-use Rattle.mqtt_tables.specs.Stepping.{Stepping, Did, IsLeft}
-use Rattle.mqtt_tables.proofs.Then.{same_act, same_left}
+use Rattle.mqtt_acts.specs.TheRules.State.{Broker}
+use Rattle.mqtt_acts.specs.TheRules.Deeds.{Act, Deed, always, series, after_all}
+use Rattle.mqtt_acts.specs.TheRules.Packets.{publish_of}
+use Rattle.mqtt_acts.specs.TheTables.declared.fault.StepFault.{StepFault}
+use Rattle.mqtt_acts.specs.TheTables.Stepping.{Stepping, Did, IsLeft}
+use Rattle.mqtt_acts.proofs.TheTables.Then.{same_act, same_left}
 use Rattle.mqtt_acts.proofs.Leading.{LeadsOn, leads_first, leads_next, leads_left, leads_last}
 use Rattle.mqtt_subscribing.specs.Offering.{offer_within}
 use Rattle.mqtt_subscribing.specs.Bringing.{late_within}

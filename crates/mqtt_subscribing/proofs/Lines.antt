@@ -4,10 +4,10 @@ use Rattle.std.specs.Prelude.{find, option_map}
 use Rattle.std.proofs.lemmas.Bool.{cases_Bool, eqb-true}
 use Rattle.mqtt_codec.specs.declared.packet.Packet.{Packet}
 use Rattle.mqtt_rows.specs.Order.{row_at}
-use Rattle.mqtt_rules.specs.State.{Line, Broker, line_at}
-use Rattle.mqtt_rules.specs.Deeds.{Send, offer}
-use Rattle.mqtt_rules.specs.Packets.{size_of}
-use Rattle.mqtt_tables.specs.Lines.{line_number}
+use Rattle.mqtt_acts.specs.TheRules.State.{Line, Broker, line_at}
+use Rattle.mqtt_acts.specs.TheRules.Deeds.{Send, offer}
+use Rattle.mqtt_acts.specs.TheRules.Packets.{size_of}
+use Rattle.mqtt_acts.specs.TheTables.Lines.{line_number}
 use Rattle.mqtt_subscribing.specs.Offering.{largest_on, offer_within}
 
 found_is : (n : ℕ) (ls : List Line) → row_at line_number n ls ≡ find (λ l. nat_eq l.number n) ls

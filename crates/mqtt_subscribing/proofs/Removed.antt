@@ -3,16 +3,16 @@ use Rattle.std.proofs.Common.{◌≡◌, ℕ, List, [], ◌∷◌, ◌++◌, Som
 use Rattle.std.specs.Prelude.{map, flat_map, length}
 use Rattle.mqtt_records.specs.declared.session.Session.{Session}
 use Rattle.mqtt_records.specs.Session.{birth_of, without_subscription}
-use Rattle.mqtt_rules.specs.State.{Broker, session_at}
-use Rattle.mqtt_rules.specs.Deeds.{Act, Deed, whose, Part, At, Unsubscribe, after, after_all, with_session, always, series, rows_of_all}
-use Rattle.mqtt_rules.specs.Subscribe.{unsubscribes}
-use Rattle.mqtt_rules.proofs.FlightRows.{change_row-here}
-use Rattle.mqtt_rules.proofs.StoredLaw.{stored_after_all}
-use Rattle.mqtt_tables.specs.declared.fault.StepFault.{StepFault}
-use Rattle.mqtt_tables.specs.Stepping.{Stepping, Did, IsLeft, to_session}
-use Rattle.mqtt_tables.specs.Subscribing.{HaveFiltersOnce}
-use Rattle.mqtt_tables.proofs.Doing.{found_birth, stands}
-use Rattle.mqtt_tables.proofs.FiltersKept.{once_all}
+use Rattle.mqtt_acts.specs.TheRules.State.{Broker, session_at}
+use Rattle.mqtt_acts.specs.TheRules.Deeds.{Act, Deed, whose, Part, At, Unsubscribe, after, after_all, with_session, always, series, rows_of_all}
+use Rattle.mqtt_acts.specs.TheRules.Subscribe.{unsubscribes}
+use Rattle.mqtt_acts.proofs.TheRules.FlightRows.{change_row-here}
+use Rattle.mqtt_acts.proofs.TheRules.StoredLaw.{stored_after_all}
+use Rattle.mqtt_acts.specs.TheTables.declared.fault.StepFault.{StepFault}
+use Rattle.mqtt_acts.specs.TheTables.Stepping.{Stepping, Did, IsLeft, to_session}
+use Rattle.mqtt_acts.specs.TheTables.Subscribing.{HaveFiltersOnce}
+use Rattle.mqtt_acts.proofs.TheTables.Doing.{found_birth, stands}
+use Rattle.mqtt_acts.proofs.TheTables.FiltersKept.{once_all}
 use Rattle.mqtt_acts.proofs.Leading.{LeadsOn, leads_first, leads_next, leads_left, leads_last}
 use Rattle.mqtt_subscribing.specs.Dropping.{held, removes_all, drops}
 

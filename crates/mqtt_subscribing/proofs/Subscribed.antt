@@ -14,17 +14,17 @@ use Rattle.mqtt_subscribe.specs.declared.subscribe.Subscribe.{Subscribe}
 use Rattle.mqtt_inbound.specs.Identifiers.{is_among}
 use Rattle.mqtt_message.specs.declared.message.MessageCopy.{MessageCopy}
 use Rattle.mqtt_records.specs.declared.session.Session.{Session}
-use Rattle.mqtt_rules.specs.Contents.{IsTaken}
-use Rattle.mqtt_rules.specs.State.{Broker, Env, MemberChoice, session_at, line_at}
-use Rattle.mqtt_rules.specs.Deeds.{Act, Deed, always, of_session, offer}
-use Rattle.mqtt_rules.specs.Packets.{number_at, publish_of, suback}
-use Rattle.mqtt_rules.specs.Routing.{CopyTo}
-use Rattle.mqtt_rules.specs.Subscribe.{FilterAnswers, late_sends, subscribe_by, on_subscribe}
-use Rattle.mqtt_tables.specs.declared.fault.StepFault.{StepFault}
-use Rattle.mqtt_tables.specs.Stepping.{Stepping, Did, Does, IsLeft, Leaves, env_in}
-use Rattle.mqtt_tables.specs.Undoing.{moment_of}
-use Rattle.mqtt_tables.proofs.Doing.{found_birth}
-use Rattle.mqtt_tables.proofs.Then.{same_act, same_left, did_then, left_first, left_then}
+use Rattle.mqtt_acts.specs.TheRules.Contents.{IsTaken}
+use Rattle.mqtt_acts.specs.TheRules.State.{Broker, Env, MemberChoice, session_at, line_at}
+use Rattle.mqtt_acts.specs.TheRules.Deeds.{Act, Deed, always, of_session, offer}
+use Rattle.mqtt_acts.specs.TheRules.Packets.{number_at, publish_of, suback}
+use Rattle.mqtt_acts.specs.TheRules.Routing.{CopyTo}
+use Rattle.mqtt_acts.specs.TheRules.Subscribe.{FilterAnswers, late_sends, subscribe_by, on_subscribe}
+use Rattle.mqtt_acts.specs.TheTables.declared.fault.StepFault.{StepFault}
+use Rattle.mqtt_acts.specs.TheTables.Stepping.{Stepping, Did, Does, IsLeft, Leaves, env_in}
+use Rattle.mqtt_acts.specs.TheTables.Undoing.{moment_of}
+use Rattle.mqtt_acts.proofs.TheTables.Doing.{found_birth}
+use Rattle.mqtt_acts.proofs.TheTables.Then.{same_act, same_left, did_then, left_first, left_then}
 use Rattle.mqtt_acts.specs.Delivering.{addressed, addressed_all}
 use Rattle.mqtt_subscribing.specs.Offering.{largest_on, offer_within}
 use Rattle.mqtt_subscribing.specs.Bringing.{late_within}

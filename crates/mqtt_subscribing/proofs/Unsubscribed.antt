@@ -5,15 +5,15 @@ use Rattle.mqtt_base.specs.Codes.{identifier_in_use}
 use Rattle.mqtt_inbound.specs.Identifiers.{is_among}
 use Rattle.mqtt_subscribe.specs.declared.unsubscribe.Unsubscribe.{Unsubscribe}
 use Rattle.mqtt_records.specs.declared.session.Session.{Session}
-use Rattle.mqtt_rules.specs.State.{Broker, session_at}
-use Rattle.mqtt_rules.specs.Deeds.{Act, Deed, always, of_session, with_session}
-use Rattle.mqtt_rules.specs.Packets.{unsuback}
-use Rattle.mqtt_rules.specs.Subscribe.{drop_codes, unsubscribes, unsubscribe_by, on_unsubscribe}
-use Rattle.mqtt_tables.specs.declared.fault.StepFault.{StepFault}
-use Rattle.mqtt_tables.specs.declared.fault.StepFault.TheVariants.{Memory, Spent}
-use Rattle.mqtt_tables.specs.Stepping.{Stepping, did, Did, IsLeft}
-use Rattle.mqtt_tables.proofs.Doing.{did_none}
-use Rattle.mqtt_tables.proofs.Then.{same_act, same_left, did_then, left_first, left_then}
+use Rattle.mqtt_acts.specs.TheRules.State.{Broker, session_at}
+use Rattle.mqtt_acts.specs.TheRules.Deeds.{Act, Deed, always, of_session, with_session}
+use Rattle.mqtt_acts.specs.TheRules.Packets.{unsuback}
+use Rattle.mqtt_acts.specs.TheRules.Subscribe.{drop_codes, unsubscribes, unsubscribe_by, on_unsubscribe}
+use Rattle.mqtt_acts.specs.TheTables.declared.fault.StepFault.{StepFault}
+use Rattle.mqtt_acts.specs.TheTables.declared.fault.StepFault.TheVariants.{Memory, Spent}
+use Rattle.mqtt_acts.specs.TheTables.Stepping.{Stepping, did, Did, IsLeft}
+use Rattle.mqtt_acts.proofs.TheTables.Doing.{did_none}
+use Rattle.mqtt_acts.proofs.TheTables.Then.{same_act, same_left, did_then, left_first, left_then}
 use Rattle.mqtt_subscribing.specs.Offering.{largest_on, offer_within}
 use Rattle.mqtt_subscribing.specs.Dropping.{held, drops}
 use Rattle.mqtt_subscribing.proofs.Lines.{offer_is}

@@ -2,10 +2,10 @@
 use Rattle.std.specs.Prelude.{ℕ, List, ◌++◌, Option}
 use Rattle.mqtt_message.specs.declared.message.MessageCopy.{MessageCopy}
 use Rattle.mqtt_codec.specs.Subscriptions.{Subscription as Asked}
-use Rattle.mqtt_rules.specs.State.{Broker, Env, session_at}
-use Rattle.mqtt_rules.specs.Deeds.{Act, Deed}
-use Rattle.mqtt_rules.specs.Packets.{suback}
-use Rattle.mqtt_rules.specs.Subscribe.{FilterAnswer, FilterAnswers, wish_of, filter_answer_of, filter_answers}
+use Rattle.mqtt_acts.specs.TheRules.State.{Broker, Env, session_at}
+use Rattle.mqtt_acts.specs.TheRules.Deeds.{Act, Deed}
+use Rattle.mqtt_acts.specs.TheRules.Packets.{suback}
+use Rattle.mqtt_acts.specs.TheRules.Subscribe.{FilterAnswer, FilterAnswers, wish_of, filter_answer_of, filter_answers}
 use Rattle.mqtt_subscribing.specs.Bringing.{late_within}
 use Rattle.mqtt_subscribing.specs.Offering.{offer_within}
 

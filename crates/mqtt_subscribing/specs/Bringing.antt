@@ -4,9 +4,9 @@ use Rattle.mqtt_topic.specs.Matching.{is_match}
 use Rattle.mqtt_message.specs.declared.message.MessageCopy.{MessageCopy}
 use Rattle.mqtt_message.specs.declared.message.RetainedMessage.{RetainedMessage}
 use Rattle.mqtt_records.specs.declared.session.Session.{Session}
-use Rattle.mqtt_rules.specs.Deeds.{Deed}
-use Rattle.mqtt_rules.specs.Packets.{publish_of}
-use Rattle.mqtt_rules.specs.Subscribe.{Wish, is_brought}
+use Rattle.mqtt_acts.specs.TheRules.Deeds.{Deed}
+use Rattle.mqtt_acts.specs.TheRules.Packets.{publish_of}
+use Rattle.mqtt_acts.specs.TheRules.Subscribe.{Wish, is_brought}
 use Rattle.mqtt_subscribing.specs.Offering.{offer_within}
 
 -- the filter matches the message's topic, and the message is sent to the session

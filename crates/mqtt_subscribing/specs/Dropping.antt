@@ -2,9 +2,9 @@
 use Rattle.std.specs.Prelude.{ℕ, Bool, cond, not, ◌&&◌, List, [], ◌∷◌, ◌++◌, filter, map, flat_map, bytes_eq}
 use Rattle.std.specs.List.{list_any}
 use Rattle.mqtt_records.specs.declared.session.Session.{Session}
-use Rattle.mqtt_rules.specs.Deeds.{Act, Unsubscribe, series, of_session, always}
-use Rattle.mqtt_rules.specs.Subscribe.{has_filter, unsubscribes}
-use Rattle.mqtt_tables.specs.Stepping.{to_session}
+use Rattle.mqtt_acts.specs.TheRules.Deeds.{Act, Unsubscribe, series, of_session, always}
+use Rattle.mqtt_acts.specs.TheRules.Subscribe.{has_filter, unsubscribes}
+use Rattle.mqtt_acts.specs.TheTables.Stepping.{to_session}
 
 -- the session has the filter, and it isn't among those that are gone
 abbrev pub is_left : List ℕ → List (List ℕ) → Session → Bool

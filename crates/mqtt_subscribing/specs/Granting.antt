@@ -7,12 +7,12 @@ use Rattle.mqtt_message.specs.declared.message.RetainedMessage.{RetainedMessage}
 use Rattle.mqtt_records.specs.declared.session.Session.{Session}
 use Rattle.mqtt_routes.specs.Retained.{kept_for}
 use Rattle.mqtt_topic.specs.Filters.{begins_share}
-use Rattle.mqtt_rules.specs.State.{Broker, Env, MemberChoice, session_at}
-use Rattle.mqtt_rules.specs.Deeds.{Act}
-use Rattle.mqtt_rules.specs.Outbound.{room}
-use Rattle.mqtt_rules.specs.Routing.{is_queued_at}
-use Rattle.mqtt_rules.specs.Subscribe.{Wish, FilterAnswer, has_filter, is_brought, kept_of, message_in, wants_retained, retained_copy, retained_copy_to, next_number, granted_filter, filter_answer_of}
-use Rattle.mqtt_tables.specs.Stepping.{Stepping, env_in}
+use Rattle.mqtt_acts.specs.TheRules.State.{Broker, Env, MemberChoice, session_at}
+use Rattle.mqtt_acts.specs.TheRules.Deeds.{Act}
+use Rattle.mqtt_acts.specs.TheRules.Outbound.{room}
+use Rattle.mqtt_acts.specs.TheRules.Routing.{is_queued_at}
+use Rattle.mqtt_acts.specs.TheRules.Subscribe.{Wish, FilterAnswer, has_filter, is_brought, kept_of, message_in, wants_retained, retained_copy, retained_copy_to, next_number, granted_filter, filter_answer_of}
+use Rattle.mqtt_acts.specs.TheTables.Stepping.{Stepping, env_in}
 
 -- a filter with its options and its Subscription Identifier
 abbrev pub asked_for : List ℕ → SubscriptionOptions → Option ℕ → Wish

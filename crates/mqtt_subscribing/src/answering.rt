@@ -6,18 +6,18 @@ ghost use Rattle.mqtt_codec.specs.Subscriptions.{IsSubscription};
 ghost use Rattle.mqtt_lawful.specs.Lawful.{IsIdentifier};
 ghost use Rattle.mqtt_message.specs.Queue.{IsSpelled};
 ghost use Rattle.mqtt_message.specs.declared.message.RetainedMessage.{RetainedMessage as Retained};
-ghost use Rattle.mqtt_rules.specs.Contents.{IsPublished};
-ghost use Rattle.mqtt_rules.specs.State.{MemberChoice};
-ghost use Rattle.mqtt_tables.specs.Stepping.{Does, Leaves, env_in};
-ghost use Rattle.mqtt_tables.specs.Subscribing.{HaveFiltersOnce};
+ghost use Rattle.mqtt_acts.specs.TheRules.Contents.{IsPublished};
+ghost use Rattle.mqtt_acts.specs.TheRules.State.{MemberChoice};
+ghost use Rattle.mqtt_acts.specs.TheTables.Stepping.{Does, Leaves, env_in};
+ghost use Rattle.mqtt_acts.specs.TheTables.Subscribing.{HaveFiltersOnce};
 ghost use Rattle.mqtt_acts.specs.Delivering.{addressed_all};
 ghost use Rattle.mqtt_subscribing.specs.Answering.{all_answers, answer_to, answers_all, answers_to, asking};
 
 use crate::granting::answer_filter;
+use mqtt_acts::{Step, StepFault};
 use mqtt_base::{Reason, Text};
 use mqtt_codec::{Subscriptions, options_read};
 use mqtt_records::MessageCopy;
-use mqtt_tables::{Step, StepFault};
 use std::alloc::Global;
 
 /// What becomes of a filter with its options byte; one with a byte that says no options is refused as no filter.

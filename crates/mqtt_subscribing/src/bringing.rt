@@ -3,18 +3,17 @@ ghost use Rattle.std.specs.Prelude.{◌≡◌, ◌∷◌, ◌++◌, [], false, f
 ghost use Rattle.std.specs.List.{AllByRecursion};
 ghost use Rattle.mqtt_message.specs.declared.message.RetainedMessage.{RetainedMessage as Retained};
 ghost use Rattle.mqtt_routes.specs.Retained.{kept_for};
-ghost use Rattle.mqtt_rules.specs.Contents.{IsPublished};
-ghost use Rattle.mqtt_rules.specs.Subscribe.{Wish, is_brought, kept_of, message_in};
-ghost use Rattle.mqtt_tables.specs.Undoing.{moment_of};
+ghost use Rattle.mqtt_acts.specs.TheRules.Contents.{IsPublished};
+ghost use Rattle.mqtt_acts.specs.TheRules.Subscribe.{Wish, is_brought, kept_of, message_in};
+ghost use Rattle.mqtt_acts.specs.TheTables.Undoing.{moment_of};
 ghost use Rattle.mqtt_topic.specs.Filters.{begins_share};
 ghost use Rattle.mqtt_topic.specs.Names.{IsTopicName};
 ghost use Rattle.mqtt_subscribing.specs.Bringing.{brings};
 
+use mqtt_acts::{Step, StepFault, is_brought};
 use mqtt_base::{SubscriptionOptions, Text};
 use mqtt_records::{RetainedMessage, Session};
-use mqtt_tables::{Step, StepFault};
 use mqtt_topic::{SubFilter, TopicName};
-use mqtt_verdicts::is_brought;
 use std::alloc::{AllocError, Global};
 
 /// A text that is a topic name, as one; it shares its bytes.

@@ -2,14 +2,14 @@
 //! the SUBACK (MQTT 5.0, 3.3.1.3, 3.8.4).
 ghost use Rattle.std.specs.Prelude.{◌≡◌, ℕ, true, ◌∷◌, ◌++◌, [], length, min, nat_le, suc, cond, IfNone, IfOk, IfSome, OnOk};
 ghost use Rattle.mqtt_codec.specs.Heads.{qos_number};
-ghost use Rattle.mqtt_rules.specs.Packets.{quality};
-ghost use Rattle.mqtt_rules.specs.Routing.{is_queued_at};
-ghost use Rattle.mqtt_rules.specs.Subscribe.{Wish};
+ghost use Rattle.mqtt_acts.specs.TheRules.Packets.{quality};
+ghost use Rattle.mqtt_acts.specs.TheRules.Routing.{is_queued_at};
+ghost use Rattle.mqtt_acts.specs.TheRules.Subscribe.{Wish};
 ghost use Rattle.mqtt_subscribing.specs.Granting.{chosen};
 
+use mqtt_acts::retained_copy;
 use mqtt_base::{Qos, SubscriptionOptions};
 use mqtt_records::{MessageCopy, RetainedMessage};
-use mqtt_verdicts::retained_copy;
 use std::alloc::{AllocError, Global};
 
 /// Whether a copy is queued of a message of that quality of service, for a subscription of this one (3.8.4).

@@ -2,17 +2,16 @@
 ghost use Rattle.std.specs.Prelude.{◌≡◌, [], ◌∷◌, ◌++◌, IfOk, IfErr, OnOk, bytes_eq};
 ghost use Rattle.std.specs.List.{list_any};
 ghost use Rattle.mqtt_topic.specs.Filters.{is_filter};
-ghost use Rattle.mqtt_rules.specs.Subscribe.{drop_code, drop_codes};
-ghost use Rattle.mqtt_tables.specs.Stepping.{Did, IsLeft};
-ghost use Rattle.mqtt_tables.specs.Subscribing.{HaveFiltersOnce};
+ghost use Rattle.mqtt_acts.specs.TheRules.Subscribe.{drop_code, drop_codes};
+ghost use Rattle.mqtt_acts.specs.TheTables.Stepping.{Did, IsLeft};
+ghost use Rattle.mqtt_acts.specs.TheTables.Subscribing.{HaveFiltersOnce};
 ghost use Rattle.mqtt_subscribing.specs.Dropping.{drops, gone_after, held, is_left, removes_all};
 
+use mqtt_acts::{Step, StepFault, drop_code, subscription_to};
 use mqtt_base::Text;
 use mqtt_codec::Filters;
 use mqtt_records::Session;
-use mqtt_tables::{Step, StepFault, subscription_to};
 use mqtt_topic::{SubFilter, TopicFault};
-use mqtt_verdicts::drop_code;
 use std::alloc::{AllocError, Global};
 
 /// Whether a text is a filter (4.7.1, 4.7.3, 4.8.2).

@@ -1,15 +1,14 @@
 //! A filter is granted: it gets its number, and the session has its subscription (MQTT 5.0, 3.8.4).
 ghost use Rattle.std.specs.Prelude.{◌≡◌, Some, IfOk, IfErr, OnOk};
 ghost use Rattle.mqtt_records.specs.declared.session.Session.{Session};
-ghost use Rattle.mqtt_rules.specs.State.{session_at};
-ghost use Rattle.mqtt_rules.specs.Subscribe.{Wish, next_number};
-ghost use Rattle.mqtt_tables.specs.Stepping.{Did, IsLeft};
-ghost use Rattle.mqtt_tables.specs.Subscribing.{HaveFiltersOnce};
+ghost use Rattle.mqtt_acts.specs.TheRules.State.{session_at};
+ghost use Rattle.mqtt_acts.specs.TheRules.Subscribe.{Wish, next_number};
+ghost use Rattle.mqtt_acts.specs.TheTables.Stepping.{Did, IsLeft};
+ghost use Rattle.mqtt_acts.specs.TheTables.Subscribing.{HaveFiltersOnce};
 ghost use Rattle.mqtt_subscribing.specs.Enrolling.{enrolls};
 
+use mqtt_acts::{Step, StepFault, subscription_of};
 use mqtt_base::{SubscriptionOptions, Text};
-use mqtt_tables::{Step, StepFault};
-use mqtt_verdicts::subscription_of;
 
 /// Gives a filter its number, and the session its subscription, instead of one to the same filter, whose place
 /// it keeps (3.8.4). The number is answered.

@@ -6,12 +6,12 @@ ghost use Rattle.mqtt_lawful.specs.Lawful.{IsIdentifier};
 ghost use Rattle.mqtt_message.specs.Queue.{IsSpelled};
 ghost use Rattle.mqtt_message.specs.declared.message.RetainedMessage.{RetainedMessage as Retained};
 ghost use Rattle.mqtt_records.specs.declared.session.Session.{Session as TheSession};
-ghost use Rattle.mqtt_rules.specs.Contents.{IsPublished};
-ghost use Rattle.mqtt_rules.specs.State.{MemberChoice, session_at};
-ghost use Rattle.mqtt_rules.specs.Subscribe.{next_number};
-ghost use Rattle.mqtt_tables.specs.Stepping.{Does, Leaves, env_in};
-ghost use Rattle.mqtt_tables.specs.Subscribing.{HaveFiltersOnce};
-ghost use Rattle.mqtt_tables.specs.Undoing.{moment_of};
+ghost use Rattle.mqtt_acts.specs.TheRules.Contents.{IsPublished};
+ghost use Rattle.mqtt_acts.specs.TheRules.State.{MemberChoice, session_at};
+ghost use Rattle.mqtt_acts.specs.TheRules.Subscribe.{next_number};
+ghost use Rattle.mqtt_acts.specs.TheTables.Stepping.{Does, Leaves, env_in};
+ghost use Rattle.mqtt_acts.specs.TheTables.Subscribing.{HaveFiltersOnce};
+ghost use Rattle.mqtt_acts.specs.TheTables.Undoing.{moment_of};
 ghost use Rattle.mqtt_acts.specs.Delivering.{addressed_all};
 ghost use Rattle.mqtt_topic.specs.Filters.{is_filter};
 ghost use Rattle.mqtt_subscribing.specs.Granting.{FindsRoom, answer_at, answers, asked_for, chosen, grants, has_room, messages};
@@ -19,13 +19,10 @@ ghost use Rattle.mqtt_subscribing.specs.Granting.{FindsRoom, answer_at, answers,
 use crate::bringing::brought;
 use crate::copying::{fit, push_all, queued};
 use crate::enrolling::enroll;
-use mqtt_acts::deliver_all;
+use mqtt_acts::{Step, StepFault, deliver_all, filter_code, has_filter, room, wants_retained};
 use mqtt_base::{Reason, SUBSCRIPTION_LIMIT, SubscriptionOptions, Text};
 use mqtt_records::{MessageCopy, RetainedMessage, Session};
-use mqtt_tables::{Step, StepFault};
 use mqtt_topic::SubFilter;
-use mqtt_turns::room;
-use mqtt_verdicts::{filter_code, has_filter, wants_retained};
 use std::alloc::{AllocError, Global};
 
 /// The retained messages of which a filter brings copies; a shared one brings none (3.8.3.1, 4.8.2).

@@ -2,15 +2,15 @@
 ghost use Rattle.std.specs.Prelude.{◌≡◌, false, OnOk, IfErr};
 ghost use Rattle.std.specs.List.{AllByRecursion};
 ghost use Rattle.mqtt_message.specs.Queue.{IsSpelled};
-ghost use Rattle.mqtt_rules.specs.Deeds.{always};
-ghost use Rattle.mqtt_rules.specs.Packets.{publish_of};
-ghost use Rattle.mqtt_tables.specs.Stepping.{Did, IsLeft};
+ghost use Rattle.mqtt_acts.specs.TheRules.Deeds.{always};
+ghost use Rattle.mqtt_acts.specs.TheRules.Packets.{publish_of};
+ghost use Rattle.mqtt_acts.specs.TheTables.Stepping.{Did, IsLeft};
 ghost use Rattle.mqtt_subscribing.specs.Offering.{offer_within};
 ghost use Rattle.mqtt_subscribing.specs.Bringing.{late_within};
 
+use mqtt_acts::{Step, StepFault};
 use mqtt_outputs::{publish, publish_len};
 use mqtt_records::MessageCopy;
-use mqtt_tables::{Step, StepFault};
 use std::alloc::Global;
 
 /// A copy of QoS 0, whose PUBLISH has a spelling, goes out on a line whose client takes so many bytes.

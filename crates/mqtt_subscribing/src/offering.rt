@@ -1,12 +1,12 @@
 //! Answers go out where the client takes so many bytes (MQTT 5.0, 3.1.2.11.4, 3.9, 3.11).
 ghost use Rattle.std.specs.Prelude.{◌≡◌, ◌<◌, ◌+◌, ◌^◌, length, IfErr, OnOk};
-ghost use Rattle.mqtt_rules.specs.Deeds.{always};
-ghost use Rattle.mqtt_rules.specs.Packets.{suback, unsuback};
-ghost use Rattle.mqtt_tables.specs.Stepping.{Did, IsLeft};
+ghost use Rattle.mqtt_acts.specs.TheRules.Deeds.{always};
+ghost use Rattle.mqtt_acts.specs.TheRules.Packets.{suback, unsuback};
+ghost use Rattle.mqtt_acts.specs.TheTables.Stepping.{Did, IsLeft};
 ghost use Rattle.mqtt_subscribing.specs.Offering.{largest_on, offer_within};
 
+use mqtt_acts::{Step, StepFault};
 use mqtt_outputs::{suback, suback_len, unsuback};
-use mqtt_tables::{Step, StepFault};
 use std::alloc::Global;
 
 /// The client's Maximum Packet Size on a line, in bytes, if the line stands.

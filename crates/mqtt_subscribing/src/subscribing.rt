@@ -7,24 +7,23 @@ ghost use Rattle.mqtt_codec.specs.declared.packet.Packet.TheVariants as packets;
 ghost use Rattle.mqtt_message.specs.Queue.{IsSpelled};
 ghost use Rattle.mqtt_message.specs.declared.message.RetainedMessage.{RetainedMessage as Retained};
 ghost use Rattle.mqtt_records.specs.declared.session.Session.{Session as TheSession};
-ghost use Rattle.mqtt_rules.specs.Contents.{IsPublished, IsTaken};
-ghost use Rattle.mqtt_rules.specs.Deeds.{always, of_session};
-ghost use Rattle.mqtt_rules.specs.State.{session_at};
-ghost use Rattle.mqtt_rules.specs.Subscribe.{on_subscribe, subscribe_by};
-ghost use Rattle.mqtt_tables.specs.Stepping.{Did, Does, IsLeft, Leaves};
-ghost use Rattle.mqtt_tables.specs.Subscribing.{HaveFiltersOnce};
+ghost use Rattle.mqtt_acts.specs.TheRules.Contents.{IsPublished, IsTaken};
+ghost use Rattle.mqtt_acts.specs.TheRules.Deeds.{always, of_session};
+ghost use Rattle.mqtt_acts.specs.TheRules.State.{session_at};
+ghost use Rattle.mqtt_acts.specs.TheRules.Subscribe.{on_subscribe, subscribe_by};
+ghost use Rattle.mqtt_acts.specs.TheTables.Stepping.{Did, Does, IsLeft, Leaves};
+ghost use Rattle.mqtt_acts.specs.TheTables.Subscribing.{HaveFiltersOnce};
 ghost use Rattle.mqtt_subscribing.specs.Answering.{tells};
 
 use crate::answering::answer_all;
 use crate::late::send_late;
 use crate::offering::{largest_on, offer_suback};
 use crate::unsubscribing::is_open;
+use mqtt_acts::{Step, StepFault, number_at};
 use mqtt_base::Reason;
 use mqtt_codec::{Subscribe, Subscriptions};
 use mqtt_props::PropName;
 use mqtt_records::MessageCopy;
-use mqtt_tables::{Step, StepFault};
-use mqtt_verdicts::number_at;
 use std::alloc::{AllocError, Global};
 
 /// Packet Identifier in use, for each filter (3.9.3).

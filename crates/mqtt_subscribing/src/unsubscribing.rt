@@ -3,18 +3,18 @@ ghost use Rattle.std.specs.Prelude.{◌≡◌, ◌<◌, ◌+◌, ◌^◌, ℕ, L
 ghost use Rattle.mqtt_base.specs.Codes.{identifier_in_use};
 ghost use Rattle.mqtt_inbound.specs.Identifiers.{is_among};
 ghost use Rattle.mqtt_records.specs.declared.session.Session.{Session as TheSession};
-ghost use Rattle.mqtt_rules.specs.Deeds.{of_session};
-ghost use Rattle.mqtt_rules.specs.State.{session_at};
-ghost use Rattle.mqtt_rules.specs.Subscribe.{on_unsubscribe, unsubscribe_by};
-ghost use Rattle.mqtt_tables.specs.Stepping.{Did, IsLeft};
-ghost use Rattle.mqtt_tables.specs.Subscribing.{HaveFiltersOnce};
+ghost use Rattle.mqtt_acts.specs.TheRules.Deeds.{of_session};
+ghost use Rattle.mqtt_acts.specs.TheRules.State.{session_at};
+ghost use Rattle.mqtt_acts.specs.TheRules.Subscribe.{on_unsubscribe, unsubscribe_by};
+ghost use Rattle.mqtt_acts.specs.TheTables.Stepping.{Did, IsLeft};
+ghost use Rattle.mqtt_acts.specs.TheTables.Subscribing.{HaveFiltersOnce};
 
 use crate::dropping::{drop_codes, drop_held};
 use crate::offering::{largest_on, offer_unsuback};
+use mqtt_acts::{Step, StepFault};
 use mqtt_base::Reason;
 use mqtt_codec::{Filters, Unsubscribe};
 use mqtt_records::Session;
-use mqtt_tables::{Step, StepFault};
 use std::alloc::{AllocError, Global};
 
 /// Whether an identifier is open for a QoS 2 PUBLISH from the client (2.2.1).

@@ -4,3 +4,4 @@ pub mod Stepping
 pub mod Doing
 pub mod Backs
 pub mod Subscribing
+pub use Rattle.mqtt_rules.specs as TheRules

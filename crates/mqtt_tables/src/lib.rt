@@ -29,6 +29,7 @@ mod undo;
 pub use call::{EngineError, Outcome, commit, commit_kept};
 pub use fault::StepFault;
 pub use line::{LineChange, LineState};
+pub use mqtt_rules::{Limits, Report};
 pub use step::Step;
 pub use subscribing::{filters_stay_apart, subscription_to};
 pub use undo::Undo;

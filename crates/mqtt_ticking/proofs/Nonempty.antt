@@ -10,13 +10,13 @@ use Rattle.mqtt_message.specs.Queue.{CopyRow}
 use Rattle.mqtt_records.specs.declared.session.Session.{Session}
 use Rattle.mqtt_records.specs.Session.{copy_place}
 use Rattle.mqtt_rows.specs.Order.{row_at, has_row}
-use Rattle.mqtt_rules.specs.Closing.{will_due, is_due, will_deeds, publish_will, end_session, has_due_will, will_message, publish_or_refuse}
-use Rattle.mqtt_rules.specs.Deeds.{Deed, At, DropWill, Finish, Leave, Whose, whose}
-use Rattle.mqtt_rules.specs.Outbound.{leave_deeds, of_entry}
-use Rattle.mqtt_rules.specs.Routing.{accepted_copies}
-use Rattle.mqtt_rules.specs.State.{Broker, Env, Line, entry_on}
-use Rattle.mqtt_rules.specs.Step.{is_none_done}
-use Rattle.mqtt_rules.specs.Tick.{silence, are_some, has_lapsed, lapse_deeds}
+use Rattle.mqtt_closing.specs.TheRules.Closing.{will_due, is_due, will_deeds, publish_will, end_session, has_due_will, will_message, publish_or_refuse}
+use Rattle.mqtt_closing.specs.TheRules.Deeds.{Deed, At, DropWill, Finish, Leave, Whose, whose}
+use Rattle.mqtt_closing.specs.TheRules.Outbound.{leave_deeds, of_entry}
+use Rattle.mqtt_closing.specs.TheRules.Routing.{accepted_copies}
+use Rattle.mqtt_closing.specs.TheRules.State.{Broker, Env, Line, entry_on}
+use Rattle.mqtt_closing.specs.TheRules.Step.{is_none_done}
+use Rattle.mqtt_closing.specs.TheRules.Tick.{silence, are_some, has_lapsed, lapse_deeds}
 
 -- a deed behind others
 behind : (ds : List Deed) (d : Deed) (es : List Deed) → is_none_done (ds ++ d ∷ es) ≡ false

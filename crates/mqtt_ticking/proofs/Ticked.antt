@@ -2,13 +2,13 @@
 use Rattle.std.proofs.Common.{◌≡◌, ℕ, refl, ap, sym, ◌∙◌}
 use Rattle.std.specs.Prelude.{Option, Some, None}
 use Rattle.mqtt_rows.specs.Order.{row_at}
-use Rattle.mqtt_rules.specs.Deeds.{with_line}
-use Rattle.mqtt_rules.specs.State.{Broker, Env, Line}
-use Rattle.mqtt_rules.specs.Step.{Tick, deeds_of}
-use Rattle.mqtt_rules.specs.Tick.{silence}
-use Rattle.mqtt_tables.specs.Lines.{line_number}
-use Rattle.mqtt_tables.specs.declared.fault.StepFault.{StepFault}
-use Rattle.mqtt_tables.specs.Stepping.{Stepping, env_in}
+use Rattle.mqtt_closing.specs.TheRules.Deeds.{with_line}
+use Rattle.mqtt_closing.specs.TheRules.State.{Broker, Env, Line}
+use Rattle.mqtt_closing.specs.TheRules.Step.{Tick, deeds_of}
+use Rattle.mqtt_closing.specs.TheRules.Tick.{silence}
+use Rattle.mqtt_closing.specs.TheTables.Lines.{line_number}
+use Rattle.mqtt_closing.specs.TheTables.declared.fault.StepFault.{StepFault}
+use Rattle.mqtt_closing.specs.TheTables.Stepping.{Stepping, env_in}
 use Rattle.mqtt_closing.specs.Choosing.{DoesSome, LeavesSome}
 use Rattle.mqtt_closing.proofs.Some.{does_some, same_some, same_some_left}
 use Rattle.mqtt_closing.specs.Wills.{publishes_will}

@@ -7,13 +7,13 @@ use Rattle.mqtt_records.specs.declared.session.Session.{Session}
 use Rattle.mqtt_records.specs.Records.{kept_place}
 use Rattle.mqtt_records.specs.Session.{birth_of}
 use Rattle.mqtt_rows.specs.Order.{IsAscending, row_at}
-use Rattle.mqtt_rules.specs.Closing.{publish_will, end_session, has_due_will, has_due_end}
-use Rattle.mqtt_rules.specs.Deeds.{Act, Forget, always, with_line, with_session}
-use Rattle.mqtt_rules.specs.State.{Broker, Env, Line}
-use Rattle.mqtt_rules.specs.Step.{Tick, deeds_of, is_again, is_none_done}
-use Rattle.mqtt_rules.specs.Tick.{silence, is_silent, is_stale, has_lapsed, lapse_deeds, first_due, due, on_tick}
-use Rattle.mqtt_rules.proofs.Leads.{found_passes}
-use Rattle.mqtt_tables.specs.Lines.{line_number}
+use Rattle.mqtt_closing.specs.TheRules.Closing.{publish_will, end_session, has_due_will, has_due_end}
+use Rattle.mqtt_closing.specs.TheRules.Deeds.{Act, Forget, always, with_line, with_session}
+use Rattle.mqtt_closing.specs.TheRules.State.{Broker, Env, Line}
+use Rattle.mqtt_closing.specs.TheRules.Step.{Tick, deeds_of, is_again, is_none_done}
+use Rattle.mqtt_closing.specs.TheRules.Tick.{silence, is_silent, is_stale, has_lapsed, lapse_deeds, first_due, due, on_tick}
+use Rattle.mqtt_closing.proofs.TheRules.Leads.{found_passes}
+use Rattle.mqtt_closing.specs.TheTables.Lines.{line_number}
 use Rattle.mqtt_ticking.specs.declared.finding.Due.{Due}
 use Rattle.mqtt_ticking.specs.declared.finding.Due.TheVariants.{Silence, Will, End, Stale, Lapse}
 use Rattle.mqtt_ticking.specs.Ticking.{first_of, due_in, does_due, does_first}

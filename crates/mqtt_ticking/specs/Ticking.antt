@@ -1,11 +1,11 @@
 -- What is due, and what is done of it, by numbers of lines, births and places (MQTT 5.0, 3.1.2.10, 3.1.2.11.2,
 -- 3.1.3.2.2, 3.3.2.3.3).
 use Rattle.std.specs.Prelude.{ℕ, List, [], ◌∷◌, Option, Some, None, option_map}
-use Rattle.mqtt_rules.specs.Deeds.{Act, Forget, with_line}
-use Rattle.mqtt_rules.specs.State.{Broker, Env, line_at}
-use Rattle.mqtt_rules.specs.Tick.{silence}
-use Rattle.mqtt_tables.specs.Lines.{line_number}
-use Rattle.mqtt_turns.specs.Turning.{lapses_of}
+use Rattle.mqtt_closing.specs.TheRules.Deeds.{Act, Forget, with_line}
+use Rattle.mqtt_closing.specs.TheRules.State.{Broker, Env, line_at}
+use Rattle.mqtt_closing.specs.TheRules.Tick.{silence}
+use Rattle.mqtt_closing.specs.TheTables.Lines.{line_number}
+use Rattle.mqtt_closing.specs.TheTurns.Turning.{lapses_of}
 use Rattle.mqtt_closing.specs.Ending.{ends}
 use Rattle.mqtt_closing.specs.Ticking.{silent_in, will_due_in, end_due_in, stale_in, lapsed_in}
 use Rattle.mqtt_closing.specs.Wills.{publishes_will}

@@ -2,17 +2,15 @@
 ghost use Rattle.std.specs.Prelude.{◌≡◌, is_some, option_map, option_copied};
 ghost use Rattle.mqtt_rows.specs.Order.{IsAscending};
 ghost use Rattle.mqtt_records.specs.Session.{birth_of};
-ghost use Rattle.mqtt_rules.specs.State.{Env};
-ghost use Rattle.mqtt_rules.specs.Step.{Tick, deeds_of, is_again};
-ghost use Rattle.mqtt_tables.specs.Lines.{line_number};
-ghost use Rattle.mqtt_tables.specs.Undoing.{moment_of};
+ghost use Rattle.mqtt_closing.specs.TheRules.State.{Env};
+ghost use Rattle.mqtt_closing.specs.TheRules.Step.{Tick, deeds_of, is_again};
+ghost use Rattle.mqtt_closing.specs.TheTables.Lines.{line_number};
+ghost use Rattle.mqtt_closing.specs.TheTables.Undoing.{moment_of};
 ghost use Rattle.mqtt_closing.specs.Ticking.{will_due_in, end_due_in, lapsed_in, stale_in};
 ghost use Rattle.mqtt_ticking.specs.Ticking.{silent_number_in, due_in, does_first};
 
-use mqtt_closing::silent_line;
+use mqtt_closing::{Step, has_due_end, has_due_will, has_lapsed, is_stale, silent_line};
 use mqtt_records::{Boxed, Session};
-use mqtt_tables::Step;
-use mqtt_verdicts::{has_due_end, has_due_will, has_lapsed, is_stale};
 
 /// What is due.
 #[derive(Clone, Copy, Debug, PartialEq, Eq)]

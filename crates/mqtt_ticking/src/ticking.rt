@@ -1,18 +1,16 @@
 //! A turn of the clock (MQTT 5.0, 3.1.2.10, 3.1.2.11.2, 3.1.3.2.2, 3.3.2.3.3).
 ghost use Rattle.std.specs.Prelude.{◌≡◌, ℕ, List, IfOk, OnOk, IfErr};
 ghost use Rattle.mqtt_routes.specs.Subscriptions.{Subscriber};
-ghost use Rattle.mqtt_rules.specs.Contents.{IsWilled};
-ghost use Rattle.mqtt_rules.specs.Routing.{subscribers};
-ghost use Rattle.mqtt_rules.specs.State.{Env};
-ghost use Rattle.mqtt_rules.specs.Step.{Tick, deeds_of, is_again};
+ghost use Rattle.mqtt_closing.specs.TheRules.Contents.{IsWilled};
+ghost use Rattle.mqtt_closing.specs.TheRules.Routing.{subscribers};
+ghost use Rattle.mqtt_closing.specs.TheRules.State.{Env};
+ghost use Rattle.mqtt_closing.specs.TheRules.Step.{Tick, deeds_of, is_again};
 ghost use Rattle.mqtt_closing.specs.Choosing.{DoesSome, LeavesSome};
 ghost use Rattle.mqtt_closing.specs.Wills.{will_at};
 ghost use Rattle.mqtt_ticking.specs.Ticking.{silences, does_due};
 
 use crate::finding::{Due, next_due};
-use mqtt_closing::{Router, close_silent, end_session, publish_will};
-use mqtt_tables::{Step, StepFault};
-use mqtt_turns::expire;
+use mqtt_closing::{Router, Step, StepFault, close_silent, end_session, expire, publish_will};
 use std::alloc::Global;
 
 /// A line that is silent for too long closes, if it stands (3.1.2.10).

@@ -7,9 +7,9 @@ use Rattle.mqtt_flow.specs.Queue.{is_holder, holder, greatest_order, next_order,
 use Rattle.mqtt_flow.specs.Outbound.{Answer, puback, pubrec, pubcomp, puback_at, pubrec_at, pubcomp_at}
 use Rattle.mqtt_message.specs.Queue.{CopyRow}
 use Rattle.mqtt_records.specs.declared.session.Session.{Session}
-use Rattle.mqtt_rules.specs.Deeds.{Act, of_session, with_session}
-use Rattle.mqtt_rules.specs.Inbound.{on_answer}
-use Rattle.mqtt_rules.specs.State.{Line, Broker, Env, session_at, entry_on, queue_on}
+use Rattle.mqtt_tables.specs.TheRules.Deeds.{Act, of_session, with_session}
+use Rattle.mqtt_tables.specs.TheRules.Inbound.{on_answer}
+use Rattle.mqtt_tables.specs.TheRules.State.{Line, Broker, Env, session_at, entry_on, queue_on}
 use Rattle.mqtt_tables.specs.declared.fault.StepFault.{StepFault}
 use Rattle.mqtt_tables.specs.Stepping.{Stepping, IsLeft}
 use Rattle.mqtt_turns.specs.declared.answering.Answered.{Answered}

@@ -17,14 +17,14 @@ use Rattle.mqtt_records.specs.declared.records.Records.{Records}
 use Rattle.mqtt_records.specs.declared.session.Session.{Session}
 use Rattle.mqtt_records.specs.Session.{copy_place}
 use Rattle.mqtt_routes.specs.Intended.{greatest}
-use Rattle.mqtt_rules.specs.Laws.{HasEntered, client_at}
-use Rattle.mqtt_rules.specs.declared.Limits.{Limits}
-use Rattle.mqtt_rules.specs.State.{Broker, Env, entry_on, session_at, queue_on}
-use Rattle.mqtt_rules.specs.Deeds.{Act, Deed, At, Enter, Leave, whose, then, always, of_session, with_session, after_all}
-use Rattle.mqtt_rules.specs.Outbound.{of_entry, leave_deeds, all_turn_deeds, enter_deeds, first_given, queue_limits, room, since}
-use Rattle.mqtt_rules.proofs.Goods.{after_append}
-use Rattle.mqtt_rules.proofs.LookedUp.{client_at_part}
-use Rattle.mqtt_rules.proofs.OrderedQueues.{length-mapped}
+use Rattle.mqtt_tables.specs.TheRules.Laws.{HasEntered, client_at}
+use Rattle.mqtt_tables.specs.TheRules.declared.Limits.{Limits}
+use Rattle.mqtt_tables.specs.TheRules.State.{Broker, Env, entry_on, session_at, queue_on}
+use Rattle.mqtt_tables.specs.TheRules.Deeds.{Act, Deed, At, Enter, Leave, whose, then, always, of_session, with_session, after_all}
+use Rattle.mqtt_tables.specs.TheRules.Outbound.{of_entry, leave_deeds, all_turn_deeds, enter_deeds, first_given, queue_limits, room, since}
+use Rattle.mqtt_tables.proofs.TheRules.Goods.{after_append}
+use Rattle.mqtt_tables.proofs.TheRules.LookedUp.{client_at_part}
+use Rattle.mqtt_tables.proofs.TheRules.OrderedQueues.{length-mapped}
 use Rattle.mqtt_tables.specs.declared.fault.StepFault.{StepFault}
 use Rattle.mqtt_tables.specs.Stepping.{Stepping, Did, Does, IsLeft, Leaves, env_in, to_session}
 use Rattle.mqtt_tables.proofs.Doing.{found_birth}

@@ -7,3 +7,6 @@ pub mod RoomLeft
 pub mod Stayings
 pub mod Entered
 pub mod Sending
+pub use Rattle.mqtt_tables.proofs.TheRules
+pub use Rattle.mqtt_tables.proofs as TheTables
+pub use Rattle.mqtt_verdicts.proofs as TheVerdicts

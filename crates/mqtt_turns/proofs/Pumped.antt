@@ -11,13 +11,13 @@ use Rattle.mqtt_flow.specs.Outbound.{pump, expired, expired_at, dropped, dropped
 use Rattle.mqtt_message.specs.Queue.{CopyRow}
 use Rattle.mqtt_rows.specs.Order.{row_at}
 use Rattle.mqtt_records.specs.declared.session.Session.{Session}
-use Rattle.mqtt_rules.specs.Deeds.{always, with_session, with_line}
-use Rattle.mqtt_rules.specs.Outbound.{turn_deeds, all_turn_deeds, leave_deeds, way_of}
-use Rattle.mqtt_rules.specs.Inbound.{pump_deeds}
-use Rattle.mqtt_rules.specs.State.{Line, Broker, session_at, line_at, queue_on}
-use Rattle.mqtt_rules.specs.Step.{on_pump}
-use Rattle.mqtt_rules.specs.Tick.{lapse_deeds}
-use Rattle.mqtt_rules.proofs.Turns.{Rises}
+use Rattle.mqtt_tables.specs.TheRules.Deeds.{always, with_session, with_line}
+use Rattle.mqtt_tables.specs.TheRules.Outbound.{turn_deeds, all_turn_deeds, leave_deeds, way_of}
+use Rattle.mqtt_tables.specs.TheRules.Inbound.{pump_deeds}
+use Rattle.mqtt_tables.specs.TheRules.State.{Line, Broker, session_at, line_at, queue_on}
+use Rattle.mqtt_tables.specs.TheRules.Step.{on_pump}
+use Rattle.mqtt_tables.specs.TheRules.Tick.{lapse_deeds}
+use Rattle.mqtt_tables.proofs.TheRules.Turns.{Rises}
 use Rattle.mqtt_tables.specs.Lines.{line_number}
 use Rattle.mqtt_turns.specs.Turning.{takes_turns, pumps, lapses_of, resumes_on}
 

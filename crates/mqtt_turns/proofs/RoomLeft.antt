@@ -18,15 +18,15 @@ use Rattle.mqtt_rows.specs.Order.{IsAbove, IsAscending, row_at, has_row, put_row
 use Rattle.mqtt_rows.proofs.LookUps.{put_row-last}
 use Rattle.mqtt_records.specs.Session.{birth_of, copy_place, with_copy, without_copy}
 use Rattle.mqtt_records.specs.Records.{changed_all}
-use Rattle.mqtt_rules.specs.State.{Broker, Env, session_at, entry_on, queue_on, next_of}
-use Rattle.mqtt_rules.specs.Deeds.{At, Enter, Leave, whose, after, after_all, part_rows_of, new_entry}
-use Rattle.mqtt_rules.specs.Laws.{HasEntered}
-use Rattle.mqtt_rules.specs.Outbound.{of_entry, leave_deeds, enter_deeds, first_given, queue_limits, room, since}
-use Rattle.mqtt_rules.proofs.FlightRows.{found_key}
-use Rattle.mqtt_rules.proofs.Goods.{after_append}
-use Rattle.mqtt_rules.proofs.NumberBirths.{below_none}
-use Rattle.mqtt_rules.proofs.OrderedEnters.{change_here, change_other, new_of}
-use Rattle.mqtt_rules.proofs.OrderedQueues.{GivesWay, below_own, dropped_gives, first_place, leaving, leaving_flow, length-append_one, length-mapped, stay, stay_is, stay_more}
+use Rattle.mqtt_tables.specs.TheRules.State.{Broker, Env, session_at, entry_on, queue_on, next_of}
+use Rattle.mqtt_tables.specs.TheRules.Deeds.{At, Enter, Leave, whose, after, after_all, part_rows_of, new_entry}
+use Rattle.mqtt_tables.specs.TheRules.Laws.{HasEntered}
+use Rattle.mqtt_tables.specs.TheRules.Outbound.{of_entry, leave_deeds, enter_deeds, first_given, queue_limits, room, since}
+use Rattle.mqtt_tables.proofs.TheRules.FlightRows.{found_key}
+use Rattle.mqtt_tables.proofs.TheRules.Goods.{after_append}
+use Rattle.mqtt_tables.proofs.TheRules.NumberBirths.{below_none}
+use Rattle.mqtt_tables.proofs.TheRules.OrderedEnters.{change_here, change_other, new_of}
+use Rattle.mqtt_tables.proofs.TheRules.OrderedQueues.{GivesWay, below_own, dropped_gives, first_place, leaving, leaving_flow, length-append_one, length-mapped, stay, stay_is, stay_more}
 
 -- ---- the copies that make way leave
 

@@ -1,7 +1,7 @@
 -- Rows as a look sees them stand for the queue of the rules.
 use Rattle.std.proofs.Common.{◌≡◌, ℕ, suc, List, [], ◌∷◌, map, length, refl, ap}
 use Rattle.mqtt_message.specs.Queue.{CopyRow}
-use Rattle.mqtt_rules.specs.State.{entry_on}
+use Rattle.mqtt_tables.specs.TheRules.State.{entry_on}
 use Rattle.mqtt_turns.specs.Queues.{seen_on, entry_of}
 
 pub entries_seen : (went : List ℕ) (es : List CopyRow) → map entry_of (map (seen_on went) es) ≡ map (entry_on went) es

@@ -15,12 +15,12 @@ use Rattle.mqtt_message.specs.Queue.{CopyRow}
 use Rattle.mqtt_rows.specs.Order.{IsAscending, row_at}
 use Rattle.mqtt_records.specs.declared.session.Session.{Session}
 use Rattle.mqtt_records.specs.Session.{copy_place}
-use Rattle.mqtt_rules.specs.Deeds.{Deed, At, Mark, Leave, On, Went, Send, whose}
-use Rattle.mqtt_rules.specs.Outbound.{of_entry, turn_deeds, all_turn_deeds}
-use Rattle.mqtt_rules.specs.Packets.{publish_of}
-use Rattle.mqtt_rules.specs.State.{entry_on, queue_on}
-use Rattle.mqtt_rules.specs.Step.{publish_out}
-use Rattle.mqtt_rules.proofs.FlightRows.{all_found}
+use Rattle.mqtt_tables.specs.TheRules.Deeds.{Deed, At, Mark, Leave, On, Went, Send, whose}
+use Rattle.mqtt_tables.specs.TheRules.Outbound.{of_entry, turn_deeds, all_turn_deeds}
+use Rattle.mqtt_tables.specs.TheRules.Packets.{publish_of}
+use Rattle.mqtt_tables.specs.TheRules.State.{entry_on, queue_on}
+use Rattle.mqtt_tables.specs.TheRules.Step.{publish_out}
+use Rattle.mqtt_tables.proofs.TheRules.FlightRows.{all_found}
 use Rattle.mqtt_turns.specs.Turning.{is_sending}
 
 -- a PUBLISH goes out of a copy that stands

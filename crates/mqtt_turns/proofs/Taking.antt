@@ -9,13 +9,13 @@ use Rattle.mqtt_rows.specs.Order.{row_at}
 use Rattle.mqtt_base.specs.Codes.{success}
 use Rattle.mqtt_records.specs.declared.session.Session.{Session}
 use Rattle.mqtt_records.specs.Session.{copy_place}
-use Rattle.mqtt_rules.specs.Laws.{client_at}
-use Rattle.mqtt_rules.specs.State.{Broker, session_at}
-use Rattle.mqtt_rules.specs.Deeds.{Deed, Whose, At, Mark, Leave, On, Went, Send, whose, always, with_session, after, after_all}
-use Rattle.mqtt_rules.specs.Outbound.{of_entry, turn_deeds, all_turn_deeds}
-use Rattle.mqtt_rules.specs.Packets.{publish_of, pubrel}
-use Rattle.mqtt_rules.proofs.LookedUp.{client_at_part}
-use Rattle.mqtt_rules.proofs.Turns.{IsStill, Rises, still_now, stands_turn}
+use Rattle.mqtt_tables.specs.TheRules.Laws.{client_at}
+use Rattle.mqtt_tables.specs.TheRules.State.{Broker, session_at}
+use Rattle.mqtt_tables.specs.TheRules.Deeds.{Deed, Whose, At, Mark, Leave, On, Went, Send, whose, always, with_session, after, after_all}
+use Rattle.mqtt_tables.specs.TheRules.Outbound.{of_entry, turn_deeds, all_turn_deeds}
+use Rattle.mqtt_tables.specs.TheRules.Packets.{publish_of, pubrel}
+use Rattle.mqtt_tables.proofs.TheRules.LookedUp.{client_at_part}
+use Rattle.mqtt_tables.proofs.TheRules.Turns.{IsStill, Rises, still_now, stands_turn}
 use Rattle.mqtt_tables.specs.declared.fault.StepFault.{StepFault}
 use Rattle.mqtt_tables.specs.Stepping.{Stepping, did, Did, IsLeft}
 use Rattle.mqtt_tables.proofs.Doing.{did_none, found_birth}

@@ -9,10 +9,10 @@ use Rattle.mqtt_rows.specs.Order.{row_at}
 use Rattle.mqtt_records.specs.declared.session.Session.{Session}
 use Rattle.mqtt_records.specs.Records.{copy_at}
 use Rattle.mqtt_records.specs.Session.{copy_place}
-use Rattle.mqtt_rules.specs.State.{Broker, session_at}
-use Rattle.mqtt_rules.specs.Deeds.{Act, At, Mark, On, Went, Send, whose, then, always, with_session}
-use Rattle.mqtt_rules.specs.Outbound.{at_place, of_entry}
-use Rattle.mqtt_rules.specs.Packets.{publish_of}
+use Rattle.mqtt_tables.specs.TheRules.State.{Broker, session_at}
+use Rattle.mqtt_tables.specs.TheRules.Deeds.{Act, At, Mark, On, Went, Send, whose, then, always, with_session}
+use Rattle.mqtt_tables.specs.TheRules.Outbound.{at_place, of_entry}
+use Rattle.mqtt_tables.specs.TheRules.Packets.{publish_of}
 use Rattle.mqtt_tables.specs.declared.fault.StepFault.{StepFault}
 use Rattle.mqtt_tables.specs.Stepping.{Stepping, Did, IsLeft, to_session}
 use Rattle.mqtt_turns.specs.Turning.{takes_turn}

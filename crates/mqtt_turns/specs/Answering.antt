@@ -2,10 +2,10 @@
 use Rattle.std.specs.Prelude.{◌≡◌, ℕ}
 use Rattle.mqtt_base.specs.Codes.{protocol_error}
 use Rattle.mqtt_flow.specs.Outbound.{Answer}
-use Rattle.mqtt_rules.specs.Closing.{drop_line}
-use Rattle.mqtt_rules.specs.Deeds.{Act, of_session}
-use Rattle.mqtt_rules.specs.Inbound.{on_answer, on_puback, on_pubrec, on_pubcomp}
-use Rattle.mqtt_rules.specs.State.{Line, Env}
+use Rattle.mqtt_tables.specs.TheRules.Closing.{drop_line}
+use Rattle.mqtt_tables.specs.TheRules.Deeds.{Act, of_session}
+use Rattle.mqtt_tables.specs.TheRules.Inbound.{on_answer, on_puback, on_pubrec, on_pubcomp}
+use Rattle.mqtt_tables.specs.TheRules.State.{Line, Env}
 use Rattle.mqtt_tables.specs.Stepping.{Stepping, Did}
 use Rattle.mqtt_turns.specs.declared.answering.Answered.{Answered}
 use Rattle.mqtt_turns.specs.declared.answering.Answered.TheVariants.{Taken, Wrong}

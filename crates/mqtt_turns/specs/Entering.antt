@@ -4,10 +4,10 @@ use Rattle.mqtt_flow.specs.Outbound.{is_waiting, staying, way_made}
 use Rattle.mqtt_message.specs.Queue.{CopyRow}
 use Rattle.mqtt_records.specs.declared.records.Records.{Records}
 use Rattle.mqtt_records.specs.declared.session.Session.{Session}
-use Rattle.mqtt_rules.specs.Deeds.{Act, always, of_session}
-use Rattle.mqtt_rules.specs.Laws.{HasEntered}
-use Rattle.mqtt_rules.specs.Outbound.{leave_deeds, queue_limits, room, since}
-use Rattle.mqtt_rules.specs.State.{Env, MemberChoice, queue_on, session_at}
+use Rattle.mqtt_tables.specs.TheRules.Deeds.{Act, always, of_session}
+use Rattle.mqtt_tables.specs.TheRules.Laws.{HasEntered}
+use Rattle.mqtt_tables.specs.TheRules.Outbound.{leave_deeds, queue_limits, room, since}
+use Rattle.mqtt_tables.specs.TheRules.State.{Env, MemberChoice, queue_on, session_at}
 use Rattle.mqtt_tables.specs.Stepping.{Stepping, env_in}
 use Rattle.mqtt_turns.specs.declared.entering.Began.{Began}
 

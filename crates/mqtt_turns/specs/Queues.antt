@@ -7,7 +7,7 @@ use Rattle.mqtt_flow.specs.Queue.{greatest_order}
 use Rattle.mqtt_message.specs.Queue.{CopyRow}
 use Rattle.mqtt_records.specs.declared.session.Session.{Session}
 use Rattle.mqtt_records.specs.declared.records.Records.{Records}
-use Rattle.mqtt_rules.specs.State.{queued_copy, queue_on, session_at}
+use Rattle.mqtt_tables.specs.TheRules.State.{queued_copy, queue_on, session_at}
 
 -- a row, and whether its copy's PUBLISH went out on the line
 pub record Seen : Type 0 where

@@ -3,11 +3,11 @@ use Rattle.std.specs.Prelude.{ℕ, Bool, true, false, List, []}
 use Rattle.mqtt_flow.specs.declared.entry.Turn.{Turn}
 use Rattle.mqtt_flow.specs.declared.entry.Turn.TheVariants.{Send, Resend, Release, Outgrow, Repeat, Unknown, Leave}
 use Rattle.mqtt_flow.specs.Outbound.{resumed_with}
-use Rattle.mqtt_rules.specs.Deeds.{Act, always, of_session, with_line}
-use Rattle.mqtt_rules.specs.Outbound.{turn_deeds, all_turn_deeds}
-use Rattle.mqtt_rules.specs.State.{line_at, queue_on}
-use Rattle.mqtt_rules.specs.Step.{on_pump}
-use Rattle.mqtt_rules.specs.Tick.{lapse_deeds}
+use Rattle.mqtt_tables.specs.TheRules.Deeds.{Act, always, of_session, with_line}
+use Rattle.mqtt_tables.specs.TheRules.Outbound.{turn_deeds, all_turn_deeds}
+use Rattle.mqtt_tables.specs.TheRules.State.{line_at, queue_on}
+use Rattle.mqtt_tables.specs.TheRules.Step.{on_pump}
+use Rattle.mqtt_tables.specs.TheRules.Tick.{lapse_deeds}
 
 -- a turn of the session that is connected on a line, if it stands
 abbrev pub takes_turn : ℕ → ℕ → Turn → Act

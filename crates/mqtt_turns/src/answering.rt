@@ -2,7 +2,7 @@
 ghost use Rattle.std.specs.Prelude.{◌≡◌, ◌≤◌, ℕ, List, [], is_some, true, IfOk, IfErr};
 ghost use Rattle.mqtt_flow.specs.Outbound.{puback, pubrec, pubcomp};
 ghost use Rattle.mqtt_flow.specs.Queue.{greatest_order};
-ghost use Rattle.mqtt_rules.specs.State.{Env, Line, queue_on, session_at};
+ghost use Rattle.mqtt_tables.specs.TheRules.State.{Env, Line, queue_on, session_at};
 ghost use Rattle.mqtt_tables.specs.Stepping.{IsLeft};
 ghost use Rattle.mqtt_turns.specs.Answering.{Came, asks, pubacks, pubrecs, pubcomps};
 ghost use Rattle.mqtt_turns.specs.Queues.{HasKeptOrders};

@@ -8,9 +8,9 @@ ghost use Rattle.mqtt_records.specs.Session.{copy_place};
 ghost use Rattle.mqtt_routes.specs.Intended.{greatest};
 ghost use Rattle.mqtt_rows.specs.Order.{IsTable};
 ghost use Rattle.mqtt_rules.proofs.Turns.{Rises};
-ghost use Rattle.mqtt_rules.specs.Deeds.{always, of_session};
-ghost use Rattle.mqtt_rules.specs.Outbound.{enter_deeds, is_new, queue_limits, room, since};
-ghost use Rattle.mqtt_rules.specs.State.{Env, MemberChoice, queue_on, session_at};
+ghost use Rattle.mqtt_tables.specs.TheRules.Deeds.{always, of_session};
+ghost use Rattle.mqtt_tables.specs.TheRules.Outbound.{enter_deeds, is_new, queue_limits, room, since};
+ghost use Rattle.mqtt_tables.specs.TheRules.State.{Env, MemberChoice, queue_on, session_at};
 ghost use Rattle.mqtt_tables.specs.Stepping.{Does, Leaves, env_in};
 ghost use Rattle.mqtt_turns.specs.Entering.{HasEnteredAt, HasRoomAt, IsBegun, makes_way};
 

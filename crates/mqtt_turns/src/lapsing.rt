@@ -2,7 +2,7 @@
 ghost use Rattle.std.specs.Prelude.{◌≡◌, [], IfOk, OnOk, IfErr};
 ghost use Rattle.mqtt_flow.specs.Outbound.{expired, resumed_with};
 ghost use Rattle.mqtt_rules.proofs.Turns.{Rises};
-ghost use Rattle.mqtt_rules.specs.State.{queue_on};
+ghost use Rattle.mqtt_tables.specs.TheRules.State.{queue_on};
 ghost use Rattle.mqtt_tables.specs.Stepping.{Did, IsLeft};
 ghost use Rattle.mqtt_turns.specs.Turning.{lapses_of, resumes_on};
 

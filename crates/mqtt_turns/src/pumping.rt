@@ -3,9 +3,9 @@ ghost use Rattle.std.specs.Prelude.{◌≡◌, ◌≤◌, ℕ, [], length, count
 ghost use Rattle.mqtt_flow.specs.Outbound.{pump};
 ghost use Rattle.mqtt_flow.specs.Queue.{greatest_order};
 ghost use Rattle.mqtt_rules.proofs.Turns.{Rises};
-ghost use Rattle.mqtt_rules.specs.Outbound.{all_turn_deeds};
-ghost use Rattle.mqtt_rules.specs.State.{queue_on};
-ghost use Rattle.mqtt_rules.specs.Step.{Pump, is_again, publish_out};
+ghost use Rattle.mqtt_tables.specs.TheRules.Outbound.{all_turn_deeds};
+ghost use Rattle.mqtt_tables.specs.TheRules.State.{queue_on};
+ghost use Rattle.mqtt_tables.specs.TheRules.Step.{Pump, is_again, publish_out};
 ghost use Rattle.mqtt_tables.specs.Stepping.{Did, IsLeft};
 ghost use Rattle.mqtt_turns.specs.Queues.{HasKeptOrders};
 ghost use Rattle.mqtt_turns.specs.Turning.{is_sending, pumps};

@@ -3,7 +3,7 @@ ghost use Rattle.std.specs.Prelude.{◌≡◌, ◌≤◌, ◌++◌, length, map,
 ghost use Rattle.mqtt_inbound.specs.Identifiers.{is_among};
 ghost use Rattle.mqtt_records.specs.Session.{copy_place};
 ghost use Rattle.mqtt_rows.specs.Order.{IsAscending};
-ghost use Rattle.mqtt_rules.specs.State.{queue_on};
+ghost use Rattle.mqtt_tables.specs.TheRules.State.{queue_on};
 ghost use Rattle.mqtt_turns.specs.Queues.{entry_of, seen_on};
 
 use mqtt_base::{Phase, QUEUE_LIMIT, Qos};

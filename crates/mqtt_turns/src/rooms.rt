@@ -2,8 +2,8 @@
 ghost use Rattle.std.specs.Prelude.{◌≡◌, not};
 ghost use Rattle.std.specs.List.{count_by};
 ghost use Rattle.mqtt_flow.specs.Outbound.{is_waiting};
-ghost use Rattle.mqtt_rules.specs.State.{MemberChoice};
-ghost use Rattle.mqtt_rules.specs.Outbound.{room};
+ghost use Rattle.mqtt_tables.specs.TheRules.State.{MemberChoice};
+ghost use Rattle.mqtt_tables.specs.TheRules.Outbound.{room};
 ghost use Rattle.mqtt_tables.specs.Stepping.{env_in};
 ghost use Rattle.mqtt_turns.specs.Entering.{gives_way_to, staying_of};
 

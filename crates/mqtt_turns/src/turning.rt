@@ -3,9 +3,9 @@ ghost use Rattle.std.specs.Prelude.{◌≡◌, ◌∷◌, [], is_some, option_co
 ghost use Rattle.mqtt_base.specs.declared.session.Phase.TheVariants.{Sent};
 ghost use Rattle.mqtt_flow.specs.declared.entry.Turn.TheVariants as turns;
 ghost use Rattle.mqtt_records.specs.Records.{copy_at};
-ghost use Rattle.mqtt_rules.specs.Deeds.{At, Mark, On, Send, Went, always, of_session, then, whose};
-ghost use Rattle.mqtt_rules.specs.Packets.{pubrel};
-ghost use Rattle.mqtt_rules.specs.State.{session_at};
+ghost use Rattle.mqtt_tables.specs.TheRules.Deeds.{At, Mark, On, Send, Went, always, of_session, then, whose};
+ghost use Rattle.mqtt_tables.specs.TheRules.Packets.{pubrel};
+ghost use Rattle.mqtt_tables.specs.TheRules.State.{session_at};
 ghost use Rattle.mqtt_tables.specs.Stepping.{Did, IsLeft, to_session};
 ghost use Rattle.mqtt_turns.specs.Turning.{takes_turn};
 

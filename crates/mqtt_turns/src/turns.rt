@@ -2,7 +2,7 @@
 ghost use Rattle.std.specs.Prelude.{◌≡◌, Some, OnOk, IfErr};
 ghost use Rattle.mqtt_records.specs.declared.session.Session.{Session};
 ghost use Rattle.mqtt_rules.proofs.Turns.{Rises};
-ghost use Rattle.mqtt_rules.specs.State.{session_at};
+ghost use Rattle.mqtt_tables.specs.TheRules.State.{session_at};
 ghost use Rattle.mqtt_tables.specs.Stepping.{Did, IsLeft};
 ghost use Rattle.mqtt_turns.specs.Turning.{takes_turns};
 

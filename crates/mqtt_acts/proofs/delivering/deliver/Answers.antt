@@ -1,6 +1,6 @@
 use Rattle.std.proofs.Common.{◌≡◌, true, false, sym, ◌∙◌}
-use Rattle.mqtt_rules.specs.Routing.{is_queued}
-use Rattle.mqtt_tables.proofs.Doing.{on_ok, if_err}
+use Rattle.mqtt_turns.specs.TheRules.Routing.{is_queued}
+use Rattle.mqtt_turns.proofs.TheTables.Doing.{on_ok, if_err}
 use Rattle.mqtt_acts.specs.Delivering.{addressed}
 use Rattle.mqtt_acts.proofs.Delivered.{queued_is, queued_left, offered_is, offered_left}
 use Rattle.mqtt_acts.proofs.delivering.deliver.Goals as goal

@@ -1,5 +1,5 @@
 use Rattle.std.proofs.Common.{◌≡◌, ◌∷◌, length, rules, arith}
-use Rattle.mqtt_tables.specs.Stepping.{Leaves}
+use Rattle.mqtt_turns.specs.TheTables.Stepping.{Leaves}
 use Rattle.mqtt_acts.specs.Delivering.{addressed_all, delivers_all}
 use Rattle.mqtt_acts.proofs.Delivered.{hands_room, hands_step, hands_left, hands_last}
 use Rattle.mqtt_acts.proofs.delivering.deliver_all.Goals as goal

@@ -1,8 +1,8 @@
 use Rattle.std.proofs.Common.{◌≡◌, ◌≤◌, false, arith, ap, sym, ◌∙◌}
 use Rattle.mqtt_codec.specs.Packets.{shortest_of}
-use Rattle.mqtt_rules.specs.Packets.{publish_of, size_of}
-use Rattle.mqtt_tables.specs.Undoing.{moment_of}
-use Rattle.mqtt_tables.proofs.Doing.{on_ok, if_err}
+use Rattle.mqtt_turns.specs.TheRules.Packets.{publish_of, size_of}
+use Rattle.mqtt_turns.specs.TheTables.Undoing.{moment_of}
+use Rattle.mqtt_turns.proofs.TheTables.Doing.{on_ok, if_err}
 use Rattle.mqtt_acts.proofs.Offered.{offered, offer_left}
 use Rattle.mqtt_acts.proofs.offering.offer_copy.Goals as goal
 

@@ -1,10 +1,10 @@
 use Rattle.std.proofs.Common.{◌≡◌, rules, ap, sym, subst, ◌∙◌}
 use Rattle.std.specs.Prelude.{⊤, Result, Err, IfErr}
-use Rattle.mqtt_tables.specs.declared.fault.StepFault.{StepFault}
-use Rattle.mqtt_rules.specs.Deeds.{FromClient}
-use Rattle.mqtt_rules.specs.Routing.{publish}
-use Rattle.mqtt_tables.specs.Stepping.{Leaves}
-use Rattle.mqtt_tables.proofs.Doing.{on_ok, if_err}
+use Rattle.mqtt_turns.specs.TheTables.declared.fault.StepFault.{StepFault}
+use Rattle.mqtt_turns.specs.TheRules.Deeds.{FromClient}
+use Rattle.mqtt_turns.specs.TheRules.Routing.{publish}
+use Rattle.mqtt_turns.specs.TheTables.Stepping.{Leaves}
+use Rattle.mqtt_turns.proofs.TheTables.Doing.{on_ok, if_err}
 use Rattle.mqtt_acts.specs.Delivering.{addressed_all}
 use Rattle.mqtt_acts.proofs.Published.{room_stays, whose_stay, published_is, accept_left, retain_left, deliver_left}
 use Rattle.mqtt_acts.proofs.publishing.publish.Goals as goal

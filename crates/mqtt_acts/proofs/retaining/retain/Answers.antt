@@ -1,8 +1,8 @@
 use Rattle.std.proofs.Common.{◌≡◌, Bool, true, rules, subst}
 use Rattle.std.specs.Prelude.{IfErr}
 use Rattle.mqtt_topic.specs.Names.{is_empty}
-use Rattle.mqtt_rules.specs.Routing.{retain_by}
-use Rattle.mqtt_tables.specs.Stepping.{IsLeft}
+use Rattle.mqtt_turns.specs.TheRules.Routing.{retain_by}
+use Rattle.mqtt_turns.specs.TheTables.Stepping.{IsLeft}
 use Rattle.mqtt_acts.proofs.retaining.retain.Goals as goal
 
 pub returns-then-is_empty-clause-left : goal.returns-then-is_empty-clause-left

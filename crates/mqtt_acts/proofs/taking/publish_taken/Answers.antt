@@ -1,10 +1,10 @@
 use Rattle.std.proofs.Common.{◌≡◌, rules, sym, subst}
 use Rattle.std.specs.Prelude.{⊤, Some, Result, Err, IfErr}
-use Rattle.mqtt_rules.specs.Deeds.{FromClient}
-use Rattle.mqtt_rules.specs.Inbound.{publish_new}
-use Rattle.mqtt_tables.specs.declared.fault.StepFault.{StepFault}
-use Rattle.mqtt_tables.specs.Stepping.{IsLeft, env_in}
-use Rattle.mqtt_tables.proofs.Doing.{on_ok, if_err}
+use Rattle.mqtt_turns.specs.TheRules.Deeds.{FromClient}
+use Rattle.mqtt_turns.specs.TheRules.Inbound.{publish_new}
+use Rattle.mqtt_turns.specs.TheTables.declared.fault.StepFault.{StepFault}
+use Rattle.mqtt_turns.specs.TheTables.Stepping.{IsLeft, env_in}
+use Rattle.mqtt_turns.proofs.TheTables.Doing.{on_ok, if_err}
 use Rattle.mqtt_acts.specs.Delivering.{addressed_all}
 use Rattle.mqtt_acts.proofs.Taken.{taken_is, publish_left, open_left, answer_left}
 use Rattle.mqtt_acts.proofs.taking.publish_taken.Goals as goal

@@ -1,5 +1,5 @@
 use Rattle.std.proofs.Common.{◌≡◌, ℕ, ◌≤◌, Bool, List, length, sym, ap, subst, ◌∙◌}
-use Rattle.mqtt_rules.specs.Piece.{without_first}
+use Rattle.mqtt_opening.specs.TheRules.Piece.{without_first}
 use Rattle.mqtt_framing.specs.Framers.{HeldLine, changed_at, framing_at, given_back}
 use Rattle.mqtt_opening.specs.Outcome.{Outcome}
 use Rattle.mqtt_broker.specs.Serving.{without_closed}

@@ -1,7 +1,8 @@
-use Rattle.std.proofs.Common.{codes, sym, ◌∙◌}
+use Rattle.std.proofs.Common.{None, ap, codes, refl, rules, sym, ◌∙◌}
 use Rattle.clap.specs.Words.{found_of, subcommand_rows_of}
 use Rattle.clap.proofs.WalkLemmas.{first_value-rows, one_text-rows}
-use Rattle.mqtt_cli.proofs.Commands.{asks_nothing, is_vectors-met, rows_in-view}
+use Rattle.mqtt_cli.proofs.Commands.{asks_nothing, asks_to_serve, is_vectors-met, rows_in-other, rows_in-serve, rows_in-view, serve_rows_in-other}
+use Rattle.mqtt_cli.specs.Line.{file_in}
 use Rattle.mqtt_cli.proofs.words.action_in.Goals as goal
 
 pub returns-in_err-file : goal.returns-in_err-file
@@ -12,6 +13,16 @@ returns-in_err-file c =
     asks_nothing (subcommand_rows_of c.args.matches.now) c.from_residual-in_err-file.result c.from_residual-in_err-file.ensures
     (rw rows_are (sym (c.in_err-file.ensures ∙ first_value-rows found (codes "file"))))
     (is_vectors-met c.args.matches.now _ found _ met.name met.rows c.if-eq.ensures)
+    (serve_rows_in-other c.args.matches.now _ found met.name met.rows c.if-eq-2.ensures)
+
+pub returns-then-ne : goal.returns-then-ne
+returns-then-ne c =
+    let met = c.in_ok-name.ensures in
+    let found = found_of c.in_ok-name.view.now in
+    asks_nothing (subcommand_rows_of c.args.matches.now) None refl
+    (ap file_in (rows_in-other c.args.matches.now _ found met.name met.rows c.if-ne.ensures))
+    (is_vectors-met c.args.matches.now _ found _ met.name met.rows c.if-eq.ensures)
+    (serve_rows_in-other c.args.matches.now _ found met.name met.rows c.if-eq-2.ensures)
 
 pub returns : goal.returns
 returns c =
@@ -28,3 +39,11 @@ returns c =
         is_false = λ e. flag.other (value_is ∙ e);
       },
     )
+
+pub returns-then-eq-2 : goal.returns-then-eq-2
+returns-then-eq-2 c =
+    let met = c.in_ok-name.ensures in
+    let found = found_of c.in_ok-name.view.now in
+    asks_to_serve (subcommand_rows_of c.args.matches.now) _ c.serve_in.result
+    (rows_in-serve c.args.matches.now _ found met.name met.rows c.if-eq-2.ensures) (search rules)
+    (is_vectors-met c.args.matches.now _ found _ met.name met.rows c.if-eq.ensures) c.serve_in.ensures

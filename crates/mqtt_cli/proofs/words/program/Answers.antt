@@ -12,5 +12,7 @@ returns c =
     let view = c.in_ok-view.ensures in
     let vectors = c.vectors_command.ensures in
     let with_view = c.in_ok-subcommand.ensures.shape view.local ∙ ap₂ with_subcommand required_is (ap (λ (a : App). a.top) view.app) in
-    IfOk-weaker c.subcommand-2.result _ _
-    (λ r adds. adds.shape vectors.local ∙ ap₂ with_subcommand with_view (ap (λ (a : App). a.top) vectors.app)) c.subcommand-2.ensures
+    let serve = c.in_ok-serve.ensures in
+    let with_vectors = c.in_ok-subcommand-2.ensures.shape vectors.local ∙ ap₂ with_subcommand with_view (ap (λ (a : App). a.top) vectors.app) in
+    IfOk-weaker c.subcommand-3.result _ _
+    (λ r adds. adds.shape serve.local ∙ ap₂ with_subcommand with_vectors (ap (λ (a : App). a.top) serve.app)) c.subcommand-3.ensures

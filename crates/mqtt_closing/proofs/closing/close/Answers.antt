@@ -1,10 +1,10 @@
 use Rattle.std.proofs.Common.{◌≡◌, List, [], ◌∷◌, rules, sym, subst, ◌∙◌}
 use Rattle.std.specs.Prelude.{⊤, Result, Err, IfErr, OnOk}
 use Rattle.mqtt_routes.specs.Subscriptions.{Subscriber}
-use Rattle.mqtt_rules.specs.Closing.{close}
-use Rattle.mqtt_rules.specs.Deeds.{Gone, always}
-use Rattle.mqtt_tables.specs.declared.fault.StepFault.{StepFault}
-use Rattle.mqtt_tables.proofs.Doing.{on_ok, if_err}
+use Rattle.mqtt_acts.specs.TheRules.Closing.{close}
+use Rattle.mqtt_acts.specs.TheRules.Deeds.{Gone, always}
+use Rattle.mqtt_acts.specs.TheTables.declared.fault.StepFault.{StepFault}
+use Rattle.mqtt_acts.proofs.TheTables.Doing.{on_ok, if_err}
 use Rattle.mqtt_acts.specs.Choosing.{LeavesSome}
 use Rattle.mqtt_closing.specs.Wills.{ChoosesOnce}
 use Rattle.mqtt_closing.proofs.Closed.{Keeps}

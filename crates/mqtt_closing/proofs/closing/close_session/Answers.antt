@@ -1,10 +1,10 @@
 use Rattle.std.proofs.Common.{◌≡◌, List, rules, sym, subst}
 use Rattle.std.specs.Prelude.{⊤, Result, Err, IfErr}
 use Rattle.mqtt_routes.specs.Subscriptions.{Subscriber}
-use Rattle.mqtt_rules.specs.Deeds.{Close}
-use Rattle.mqtt_tables.specs.declared.fault.StepFault.{StepFault}
-use Rattle.mqtt_tables.specs.Stepping.{Leaves, to_session}
-use Rattle.mqtt_tables.proofs.Doing.{on_ok, if_err}
+use Rattle.mqtt_acts.specs.TheRules.Deeds.{Close}
+use Rattle.mqtt_acts.specs.TheTables.declared.fault.StepFault.{StepFault}
+use Rattle.mqtt_acts.specs.TheTables.Stepping.{Leaves, to_session}
+use Rattle.mqtt_acts.proofs.TheTables.Doing.{on_ok, if_err}
 use Rattle.mqtt_acts.specs.Choosing.{LeavesSome}
 use Rattle.mqtt_acts.proofs.Some.{leaves_some}
 use Rattle.mqtt_closing.specs.Settling.{closes, drops_will}

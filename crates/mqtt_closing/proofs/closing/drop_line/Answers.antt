@@ -1,11 +1,11 @@
 use Rattle.std.proofs.Common.{◌≡◌, List, [], ◌∷◌, rules, sym, subst}
 use Rattle.std.specs.Prelude.{⊤, Result, Err, IfErr}
 use Rattle.mqtt_routes.specs.Subscriptions.{Subscriber}
-use Rattle.mqtt_rules.specs.Closing.{drop_line}
-use Rattle.mqtt_rules.specs.Deeds.{Send, always}
-use Rattle.mqtt_rules.specs.Packets.{disconnect}
-use Rattle.mqtt_tables.specs.declared.fault.StepFault.{StepFault}
-use Rattle.mqtt_tables.proofs.Doing.{on_ok, if_err}
+use Rattle.mqtt_acts.specs.TheRules.Closing.{drop_line}
+use Rattle.mqtt_acts.specs.TheRules.Deeds.{Send, always}
+use Rattle.mqtt_acts.specs.TheRules.Packets.{disconnect}
+use Rattle.mqtt_acts.specs.TheTables.declared.fault.StepFault.{StepFault}
+use Rattle.mqtt_acts.proofs.TheTables.Doing.{on_ok, if_err}
 use Rattle.mqtt_acts.specs.Choosing.{LeavesSome}
 use Rattle.mqtt_closing.proofs.Closed.{Keeps}
 use Rattle.mqtt_closing.proofs.LineClosed.{sent_keeps, drop_once, line_dropped, told_refused, dropped_left}

@@ -1,8 +1,8 @@
 use Rattle.std.proofs.Common.{◌≡◌, ◌<◌, arith, rules, sym, subst}
 use Rattle.std.specs.Prelude.{⊤, Result, Err, IfErr}
-use Rattle.mqtt_tables.specs.declared.fault.StepFault.{StepFault}
-use Rattle.mqtt_tables.specs.Stepping.{IsLeft}
-use Rattle.mqtt_tables.proofs.Doing.{on_ok, if_err}
+use Rattle.mqtt_acts.specs.TheTables.declared.fault.StepFault.{StepFault}
+use Rattle.mqtt_acts.specs.TheTables.Stepping.{IsLeft}
+use Rattle.mqtt_acts.proofs.TheTables.Doing.{on_ok, if_err}
 use Rattle.mqtt_closing.specs.Ending.{ends}
 use Rattle.mqtt_closing.proofs.Ended.{ends_step, ends_left, ends_last, ends_last_left}
 use Rattle.mqtt_closing.proofs.ending.end_session.Goals as goal

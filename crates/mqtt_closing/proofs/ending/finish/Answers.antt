@@ -1,6 +1,6 @@
 use Rattle.std.proofs.Common.{sym}
-use Rattle.mqtt_rules.specs.Deeds.{whose}
-use Rattle.mqtt_tables.proofs.Doing.{on_ok, if_err, found_birth}
+use Rattle.mqtt_acts.specs.TheRules.Deeds.{whose}
+use Rattle.mqtt_acts.proofs.TheTables.Doing.{on_ok, if_err, found_birth}
 use Rattle.mqtt_closing.proofs.Ended.{finish_did, finish_left}
 use Rattle.mqtt_closing.proofs.ending.finish.Goals as goal
 

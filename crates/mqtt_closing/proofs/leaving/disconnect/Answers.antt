@@ -1,8 +1,8 @@
 use Rattle.std.proofs.Common.{◌≡◌, true, false, rules, sym}
 use Rattle.std.specs.Prelude.{None}
-use Rattle.mqtt_rules.specs.Inbound.{is_late_expiry}
-use Rattle.mqtt_rules.specs.State.{session_at}
-use Rattle.mqtt_tables.proofs.Doing.{on_ok, if_err}
+use Rattle.mqtt_acts.specs.TheRules.Inbound.{is_late_expiry}
+use Rattle.mqtt_acts.specs.TheRules.State.{session_at}
+use Rattle.mqtt_acts.proofs.TheTables.Doing.{on_ok, if_err}
 use Rattle.mqtt_closing.proofs.LineClosed.{own_lawful, disconnect_none, disconnect_late, disconnect_late_left, disconnected, disconnect_left}
 use Rattle.mqtt_closing.proofs.leaving.disconnect.Goals as goal
 

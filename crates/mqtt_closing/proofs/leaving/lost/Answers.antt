@@ -1,9 +1,9 @@
 use Rattle.std.proofs.Common.{◌≡◌, rules, sym}
 use Rattle.std.specs.Prelude.{None}
 use Rattle.mqtt_rows.specs.Order.{row_at}
-use Rattle.mqtt_tables.specs.Lines.{line_number}
-use Rattle.mqtt_tables.proofs.Doing.{on_ok, if_err}
-use Rattle.mqtt_tables.proofs.Inverse.{row_key}
+use Rattle.mqtt_acts.specs.TheTables.Lines.{line_number}
+use Rattle.mqtt_acts.proofs.TheTables.Doing.{on_ok, if_err}
+use Rattle.mqtt_acts.proofs.TheTables.Inverse.{row_key}
 use Rattle.mqtt_closing.proofs.LineClosed.{lost_none, line_lost, lost_left}
 use Rattle.mqtt_closing.proofs.leaving.lost.Goals as goal
 

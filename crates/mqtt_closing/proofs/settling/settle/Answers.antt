@@ -1,9 +1,9 @@
 use Rattle.std.proofs.Common.{◌≡◌, rules, sym, subst}
 use Rattle.std.specs.Prelude.{⊤, Result, Err, IfErr}
-use Rattle.mqtt_rules.specs.Closing.{settle}
-use Rattle.mqtt_tables.specs.declared.fault.StepFault.{StepFault}
-use Rattle.mqtt_tables.specs.Stepping.{Leaves}
-use Rattle.mqtt_tables.proofs.Doing.{on_ok, if_err}
+use Rattle.mqtt_acts.specs.TheRules.Closing.{settle}
+use Rattle.mqtt_acts.specs.TheTables.declared.fault.StepFault.{StepFault}
+use Rattle.mqtt_acts.specs.TheTables.Stepping.{Leaves}
+use Rattle.mqtt_acts.proofs.TheTables.Doing.{on_ok, if_err}
 use Rattle.mqtt_acts.specs.Choosing.{LeavesSome}
 use Rattle.mqtt_closing.proofs.Closed.{settled_once}
 use Rattle.mqtt_closing.proofs.Settled.{settled, settled_quiet, settle_left_first, settle_quiet_first, settle_left_then, settle_quiet_then}

@@ -1,8 +1,8 @@
 use Rattle.std.proofs.Common.{◌≡◌, rules, sym, true, false, inr}
 use Rattle.std.specs.Prelude.{None}
-use Rattle.mqtt_rules.specs.Closing.{has_due_will}
-use Rattle.mqtt_rules.specs.State.{session_at}
-use Rattle.mqtt_tables.proofs.Doing.{on_ok, if_err}
+use Rattle.mqtt_acts.specs.TheRules.Closing.{has_due_will}
+use Rattle.mqtt_acts.specs.TheRules.State.{session_at}
+use Rattle.mqtt_acts.proofs.TheTables.Doing.{on_ok, if_err}
 use Rattle.mqtt_acts.proofs.Some.{does_some}
 use Rattle.mqtt_closing.specs.Settling.{settles_will}
 use Rattle.mqtt_closing.proofs.Closed.{will_once}

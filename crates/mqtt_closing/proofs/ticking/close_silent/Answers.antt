@@ -1,5 +1,5 @@
 use Rattle.std.proofs.Common.{◌∙◌}
-use Rattle.mqtt_tables.proofs.Doing.{on_ok, if_err}
+use Rattle.mqtt_acts.proofs.TheTables.Doing.{on_ok, if_err}
 use Rattle.mqtt_closing.proofs.Ticked.{told_silent, told_silent_left, closed_silent, closed_silent_left}
 use Rattle.mqtt_closing.proofs.ticking.close_silent.Goals as goal
 

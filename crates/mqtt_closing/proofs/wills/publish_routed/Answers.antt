@@ -1,6 +1,6 @@
 use Rattle.std.proofs.Common.{refl, subst}
-use Rattle.mqtt_rules.specs.Deeds.{FromWill, Whose}
-use Rattle.mqtt_tables.proofs.Doing.{on_ok, if_err}
+use Rattle.mqtt_acts.specs.TheRules.Deeds.{FromWill, Whose}
+use Rattle.mqtt_acts.proofs.TheTables.Doing.{on_ok, if_err}
 use Rattle.mqtt_acts.specs.Choosing.{IsRouted, IsRefused, IsAccepted}
 use Rattle.mqtt_acts.specs.declared.router.Routing.{Routing}
 use Rattle.mqtt_closing.proofs.Willed.{refused_is, refused_left, refused_same, accepted_is, accepted_left}

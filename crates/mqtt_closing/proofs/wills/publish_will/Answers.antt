@@ -1,8 +1,8 @@
 use Rattle.std.proofs.Common.{◌≡◌, rules, sym, subst, inl, inr}
 use Rattle.std.specs.Prelude.{⊤, Result, Err, IfErr, Some, None}
-use Rattle.mqtt_tables.specs.declared.fault.StepFault.{StepFault}
-use Rattle.mqtt_tables.specs.Stepping.{env_in}
-use Rattle.mqtt_tables.proofs.Doing.{on_ok}
+use Rattle.mqtt_acts.specs.TheTables.declared.fault.StepFault.{StepFault}
+use Rattle.mqtt_acts.specs.TheTables.Stepping.{env_in}
+use Rattle.mqtt_acts.proofs.TheTables.Doing.{on_ok}
 use Rattle.mqtt_acts.specs.Choosing.{LeavesSome}
 use Rattle.mqtt_acts.proofs.Some.{does_some, leaves_some}
 use Rattle.mqtt_closing.specs.Wills.{message_at, publishes_will}

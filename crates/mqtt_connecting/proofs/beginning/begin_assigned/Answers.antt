@@ -1,11 +1,11 @@
 use Rattle.std.proofs.Common.{◌≡◌, ℕ, ◌++◌, suc, true, rules, refl, sym, subst}
 use Rattle.std.specs.Prelude.{⊤, Result, Err, IfErr, decimal}
-use Rattle.mqtt_rules.specs.Connect.{auto}
-use Rattle.mqtt_rules.specs.Deeds.{Act}
-use Rattle.mqtt_tables.specs.declared.fault.StepFault.{StepFault}
-use Rattle.mqtt_tables.specs.Doing.{names}
-use Rattle.mqtt_tables.specs.Stepping.{IsLeft}
-use Rattle.mqtt_tables.proofs.Doing.{on_ok, if_err}
+use Rattle.mqtt_closing.specs.TheRules.Connect.{auto}
+use Rattle.mqtt_closing.specs.TheRules.Deeds.{Act}
+use Rattle.mqtt_closing.specs.TheTables.declared.fault.StepFault.{StepFault}
+use Rattle.mqtt_closing.specs.TheTables.Doing.{names}
+use Rattle.mqtt_closing.specs.TheTables.Stepping.{IsLeft}
+use Rattle.mqtt_closing.proofs.TheTables.Doing.{on_ok, if_err}
 use Rattle.mqtt_connecting.proofs.Parts.{both_done, first_left, second_left}
 use Rattle.mqtt_connecting.proofs.Wholes.{begins_as, begins_named, named_whole, births_stay}
 use Rattle.mqtt_connecting.proofs.beginning.begin_assigned.Goals as goal

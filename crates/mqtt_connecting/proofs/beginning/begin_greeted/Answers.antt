@@ -1,11 +1,11 @@
 use Rattle.std.proofs.Common.{◌≡◌, suc, ◌∷◌, [], rules, refl, sym, subst}
 use Rattle.std.specs.Prelude.{⊤, Result, Err, IfErr}
-use Rattle.mqtt_rules.specs.Connect.{expiry_of, will_of, greet}
-use Rattle.mqtt_rules.specs.Deeds.{Act, always}
-use Rattle.mqtt_tables.specs.declared.fault.StepFault.{StepFault}
-use Rattle.mqtt_tables.specs.Doing.{begins}
-use Rattle.mqtt_tables.specs.Stepping.{IsLeft}
-use Rattle.mqtt_tables.proofs.Doing.{on_ok, if_err}
+use Rattle.mqtt_closing.specs.TheRules.Connect.{expiry_of, will_of, greet}
+use Rattle.mqtt_closing.specs.TheRules.Deeds.{Act, always}
+use Rattle.mqtt_closing.specs.TheTables.declared.fault.StepFault.{StepFault}
+use Rattle.mqtt_closing.specs.TheTables.Doing.{begins}
+use Rattle.mqtt_closing.specs.TheTables.Stepping.{IsLeft}
+use Rattle.mqtt_closing.proofs.TheTables.Doing.{on_ok, if_err}
 use Rattle.mqtt_connecting.specs.Connecting.{begins_greeted}
 use Rattle.mqtt_connecting.proofs.Parts.{both_done, first_left, second_left}
 use Rattle.mqtt_connecting.proofs.Wholes.{greeted_whole}

@@ -1,7 +1,7 @@
 use Rattle.std.proofs.Common.{◌≡◌, Bool, true, false, sym, subst, ◌∙◌}
 use Rattle.std.specs.Prelude.{OnOk, IfErr}
 use Rattle.mqtt_topic.specs.Names.{is_empty}
-use Rattle.mqtt_tables.specs.Stepping.{Did, IsLeft}
+use Rattle.mqtt_closing.specs.TheTables.Stepping.{Did, IsLeft}
 use Rattle.mqtt_connecting.proofs.Wholes.{begins_named}
 use Rattle.mqtt_connecting.proofs.beginning.begin_named.Goals as goal
 

@@ -1,7 +1,7 @@
 use Rattle.std.proofs.Common.{ℕ, suc, true, List, subst}
 use Rattle.std.specs.Prelude.{OnOk, IfErr}
-use Rattle.mqtt_rules.specs.Connect.{begin}
-use Rattle.mqtt_tables.specs.Stepping.{Did, IsLeft}
+use Rattle.mqtt_closing.specs.TheRules.Connect.{begin}
+use Rattle.mqtt_closing.specs.TheTables.Stepping.{Did, IsLeft}
 use Rattle.mqtt_connecting.proofs.beginning.begin_numbered.Goals as goal
 
 pub returns-clause-ok : goal.returns-clause-ok

@@ -3,11 +3,11 @@ use Rattle.std.proofs.lemmas.Bool.{lt-ltb, le-ltb}
 use Rattle.std.specs.Prelude.{None}
 use Rattle.mqtt_base.specs.Codes.{quota_exceeded}
 use Rattle.mqtt_topic.specs.Names.{is_empty}
-use Rattle.mqtt_rules.specs.Connect.{connect_by, refused}
-use Rattle.mqtt_rules.specs.Deeds.{always}
-use Rattle.mqtt_tables.specs.Stepping.{env_in}
-use Rattle.mqtt_tables.proofs.Doing.{on_ok, if_err}
-use Rattle.mqtt_tables.proofs.Then.{same_act, same_left}
+use Rattle.mqtt_closing.specs.TheRules.Connect.{connect_by, refused}
+use Rattle.mqtt_closing.specs.TheRules.Deeds.{always}
+use Rattle.mqtt_closing.specs.TheTables.Stepping.{env_in}
+use Rattle.mqtt_closing.proofs.TheTables.Doing.{on_ok, if_err}
+use Rattle.mqtt_closing.proofs.TheTables.Then.{same_act, same_left}
 use Rattle.mqtt_connecting.proofs.Wholes.{begins_named}
 use Rattle.mqtt_connecting.proofs.Connected.{new_begins, new_refused}
 use Rattle.mqtt_connecting.proofs.connecting.begin_or_refuse.Goals as goal

@@ -1,10 +1,10 @@
 use Rattle.std.proofs.Common.{◌≡◌, ap}
 use Rattle.std.specs.Prelude.{Some, None, is_some}
-use Rattle.mqtt_rules.specs.Connect.{connect_by, on_connect, refused, refusal}
-use Rattle.mqtt_rules.specs.Deeds.{always}
-use Rattle.mqtt_tables.specs.Stepping.{env_in}
-use Rattle.mqtt_tables.proofs.Doing.{on_ok, if_err}
-use Rattle.mqtt_tables.proofs.Then.{same_act, same_left}
+use Rattle.mqtt_closing.specs.TheRules.Connect.{connect_by, on_connect, refused, refusal}
+use Rattle.mqtt_closing.specs.TheRules.Deeds.{always}
+use Rattle.mqtt_closing.specs.TheTables.Stepping.{env_in}
+use Rattle.mqtt_closing.proofs.TheTables.Doing.{on_ok, if_err}
+use Rattle.mqtt_closing.proofs.TheTables.Then.{same_act, same_left}
 use Rattle.mqtt_connecting.proofs.Connected.{by_refusal}
 use Rattle.mqtt_connecting.proofs.connecting.connect_new.Goals as goal
 

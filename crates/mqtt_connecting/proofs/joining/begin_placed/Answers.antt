@@ -1,8 +1,8 @@
 use Rattle.std.proofs.Common.{◌≡◌, true, nat_lt, length, rules, arith, sym, subst}
 use Rattle.std.proofs.lemmas.Bool.{lt-ltb}
 use Rattle.std.specs.Prelude.{Result, Err, IfErr, OnErr}
-use Rattle.mqtt_tables.specs.declared.fault.StepFault.{StepFault}
-use Rattle.mqtt_tables.specs.Stepping.{Leaves}
+use Rattle.mqtt_closing.specs.TheTables.declared.fault.StepFault.{StepFault}
+use Rattle.mqtt_closing.specs.TheTables.Stepping.{Leaves}
 use Rattle.mqtt_connecting.specs.declared.joining.Joined.{Joined}
 use Rattle.mqtt_connecting.specs.Joining.{IsPlaced, joins_now}
 use Rattle.mqtt_connecting.proofs.AfterPreparing.{begun_joins, begun_left, room_placed}

@@ -1,4 +1,4 @@
-use Rattle.mqtt_tables.proofs.Doing.{if_ok, if_err_too}
+use Rattle.mqtt_closing.proofs.TheTables.Doing.{if_ok, if_err_too}
 use Rattle.mqtt_connecting.proofs.AfterPreparing.{whole_joined, whole_left}
 use Rattle.mqtt_connecting.proofs.joining.join.Goals as goal
 

@@ -1,7 +1,7 @@
 use Rattle.std.proofs.Common.{◌≡◌, rules, true, false}
 use Rattle.std.specs.Prelude.{None}
-use Rattle.mqtt_rules.specs.State.{session_at}
-use Rattle.mqtt_tables.proofs.Doing.{on_ok, if_err}
+use Rattle.mqtt_closing.specs.TheRules.State.{session_at}
+use Rattle.mqtt_closing.proofs.TheTables.Doing.{on_ok, if_err}
 use Rattle.mqtt_closing.proofs.Some.{does_some}
 use Rattle.mqtt_connecting.specs.Preparing.{clears_if}
 use Rattle.mqtt_connecting.proofs.Prepared.{clean_does, clean_left, clean_quiet_left, clean_some, clears_nothing, unclean_does}

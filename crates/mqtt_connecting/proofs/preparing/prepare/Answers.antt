@@ -1,10 +1,10 @@
 use Rattle.std.proofs.Common.{◌≡◌, rules, sym, subst, inl, inr}
 use Rattle.std.specs.Prelude.{⊤, Result, Err, IfErr}
-use Rattle.mqtt_tables.specs.declared.fault.StepFault.{StepFault}
-use Rattle.mqtt_tables.proofs.Doing.{on_ok, if_err}
+use Rattle.mqtt_closing.specs.TheTables.declared.fault.StepFault.{StepFault}
+use Rattle.mqtt_closing.proofs.TheTables.Doing.{on_ok, if_err}
 use Rattle.mqtt_closing.specs.Choosing.{LeavesSome}
 use Rattle.mqtt_closing.proofs.Some.{some_then, some_left_first, some_left_then, then_some, then_some_left}
-use Rattle.mqtt_rules.specs.Connect.{prepare}
+use Rattle.mqtt_closing.specs.TheRules.Connect.{prepare}
 use Rattle.mqtt_connecting.specs.Preparing.{settles_and_clears, takes_over}
 use Rattle.mqtt_connecting.proofs.Prepared.{prepared_left, prepared_some, some_serves, some_willed}
 use Rattle.mqtt_connecting.proofs.Steady.{steady_take_over}

@@ -1,8 +1,8 @@
 use Rattle.std.proofs.Common.{◌≡◌, refl, rules, sym, subst, inl, inr}
 use Rattle.std.specs.Prelude.{⊤, Result, Err, IfErr, None}
-use Rattle.mqtt_tables.specs.declared.fault.StepFault.{StepFault}
-use Rattle.mqtt_tables.specs.Stepping.{Leaves}
-use Rattle.mqtt_tables.proofs.Doing.{on_ok, if_err}
+use Rattle.mqtt_closing.specs.TheTables.declared.fault.StepFault.{StepFault}
+use Rattle.mqtt_closing.specs.TheTables.Stepping.{Leaves}
+use Rattle.mqtt_closing.proofs.TheTables.Doing.{on_ok, if_err}
 use Rattle.mqtt_closing.specs.Choosing.{LeavesSome}
 use Rattle.mqtt_closing.proofs.Some.{does_then, leaves_first, leaves_then, some_then, some_left_first, some_left_then, then_some, then_some_left}
 use Rattle.mqtt_closing.specs.Wills.{will_at}

@@ -1,6 +1,6 @@
 use Rattle.std.proofs.Common.{◌≡◌, rules, inr}
 use Rattle.std.specs.Prelude.{None}
-use Rattle.mqtt_rules.specs.State.{session_at}
+use Rattle.mqtt_closing.specs.TheRules.State.{session_at}
 use Rattle.mqtt_closing.proofs.Some.{does_some}
 use Rattle.mqtt_connecting.specs.Preparing.{settles}
 use Rattle.mqtt_connecting.proofs.Prepared.{settles_nothing}

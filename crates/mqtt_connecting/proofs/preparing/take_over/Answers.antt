@@ -1,7 +1,7 @@
 use Rattle.std.proofs.Common.{◌≡◌, rules, refl, sym, inr}
 use Rattle.std.specs.Prelude.{None}
-use Rattle.mqtt_rules.specs.State.{line_of}
-use Rattle.mqtt_tables.proofs.Doing.{on_ok, if_err}
+use Rattle.mqtt_closing.specs.TheRules.State.{line_of}
+use Rattle.mqtt_closing.proofs.TheTables.Doing.{on_ok, if_err}
 use Rattle.mqtt_closing.proofs.Some.{does_some}
 use Rattle.mqtt_closing.proofs.LineClosed.{own_lawful}
 use Rattle.mqtt_connecting.specs.Preparing.{takes_over}

@@ -3,7 +3,7 @@ use Rattle.std.specs.Prelude.{Some}
 use Rattle.mqtt_flow.specs.Outbound.{resumed_with}
 use Rattle.mqtt_message.specs.Queue.{CopyRow}
 use Rattle.mqtt_records.specs.declared.session.Session.{Session as TheSession}
-use Rattle.mqtt_rules.specs.State.{entry_on, queue_on}
+use Rattle.mqtt_closing.specs.TheRules.State.{entry_on, queue_on}
 use Rattle.mqtt_connecting.proofs.queue.repeats_of.Goals as goal
 
 pub returns-in-Ok-clause-turns : goal.returns-in-Ok-clause-turns

@@ -1,10 +1,10 @@
 use Rattle.std.proofs.Common.{◌≡◌, ◌∷◌, [], rules, sym, subst}
 use Rattle.std.specs.Prelude.{⊤, Result, Err, IfErr}
-use Rattle.mqtt_rules.specs.Connect.{refused}
-use Rattle.mqtt_rules.specs.Deeds.{Act, Gone, always}
-use Rattle.mqtt_tables.specs.declared.fault.StepFault.{StepFault}
-use Rattle.mqtt_tables.specs.Stepping.{IsLeft}
-use Rattle.mqtt_tables.proofs.Doing.{on_ok, if_err}
+use Rattle.mqtt_closing.specs.TheRules.Connect.{refused}
+use Rattle.mqtt_closing.specs.TheRules.Deeds.{Act, Gone, always}
+use Rattle.mqtt_closing.specs.TheTables.declared.fault.StepFault.{StepFault}
+use Rattle.mqtt_closing.specs.TheTables.Stepping.{IsLeft}
+use Rattle.mqtt_closing.proofs.TheTables.Doing.{on_ok, if_err}
 use Rattle.mqtt_connecting.specs.Connecting.{refusal_told}
 use Rattle.mqtt_connecting.proofs.Parts.{both_done, first_left, second_left}
 use Rattle.mqtt_connecting.proofs.Wholes.{refused_whole}

@@ -1,9 +1,9 @@
 use Rattle.std.proofs.Common.{◌≡◌, List, ◌∷◌, length, rules, arith, sym, subst}
 use Rattle.std.specs.Prelude.{⊤, Result, Err, IfErr}
 use Rattle.mqtt_flow.specs.declared.entry.Turn.{Turn}
-use Rattle.mqtt_rules.specs.Deeds.{always}
-use Rattle.mqtt_tables.specs.declared.fault.StepFault.{StepFault}
-use Rattle.mqtt_tables.specs.Stepping.{IsLeft}
+use Rattle.mqtt_closing.specs.TheRules.Deeds.{always}
+use Rattle.mqtt_closing.specs.TheTables.declared.fault.StepFault.{StepFault}
+use Rattle.mqtt_closing.specs.TheTables.Stepping.{IsLeft}
 use Rattle.mqtt_connecting.specs.Connecting.{repeats}
 use Rattle.mqtt_connecting.proofs.GoingOn.{GoesOn, goes_first, sends_next, sends_left, sends_last}
 use Rattle.mqtt_connecting.proofs.repeating.repeat_all.Goals as goal

@@ -1,8 +1,8 @@
 use Rattle.std.proofs.Common.{◌++◌}
-use Rattle.mqtt_rules.specs.Connect.{resume}
-use Rattle.mqtt_rules.specs.Deeds.{always}
-use Rattle.mqtt_tables.proofs.Doing.{on_ok, if_err}
-use Rattle.mqtt_tables.proofs.Then.{same_act, same_left}
+use Rattle.mqtt_closing.specs.TheRules.Connect.{resume}
+use Rattle.mqtt_closing.specs.TheRules.Deeds.{always}
+use Rattle.mqtt_closing.proofs.TheTables.Doing.{on_ok, if_err}
+use Rattle.mqtt_closing.proofs.TheTables.Then.{same_act, same_left}
 use Rattle.mqtt_connecting.specs.Connecting.{resumed_told, repeats}
 use Rattle.mqtt_connecting.proofs.Wholes.{resumed_whole}
 use Rattle.mqtt_connecting.proofs.resuming.resume.Goals as goal

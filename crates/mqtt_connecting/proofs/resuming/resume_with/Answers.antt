@@ -1,6 +1,6 @@
 use Rattle.std.proofs.Common.{◌++◌, refl}
-use Rattle.mqtt_rules.specs.Deeds.{always}
-use Rattle.mqtt_tables.proofs.Doing.{on_ok, if_err}
+use Rattle.mqtt_closing.specs.TheRules.Deeds.{always}
+use Rattle.mqtt_closing.proofs.TheTables.Doing.{on_ok, if_err}
 use Rattle.mqtt_connecting.specs.Connecting.{resumed_told, repeats}
 use Rattle.mqtt_connecting.proofs.Parts.{both_done, first_left, second_left}
 use Rattle.mqtt_connecting.proofs.resuming.resume_with.Goals as goal

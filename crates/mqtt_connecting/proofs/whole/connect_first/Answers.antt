@@ -1,7 +1,7 @@
 use Rattle.std.proofs.Common.{◌≡◌, rules, sym, subst}
 use Rattle.std.specs.Prelude.{Result, Err, IfErr}
-use Rattle.mqtt_rules.specs.Connect.{on_connect}
-use Rattle.mqtt_tables.specs.declared.fault.StepFault.{StepFault}
+use Rattle.mqtt_closing.specs.TheRules.Connect.{on_connect}
+use Rattle.mqtt_closing.specs.TheTables.declared.fault.StepFault.{StepFault}
 use Rattle.mqtt_closing.specs.Choosing.{LeavesSome}
 use Rattle.mqtt_closing.proofs.Some.{leaves_some}
 use Rattle.mqtt_connecting.specs.declared.joining.Joined.{Joined}

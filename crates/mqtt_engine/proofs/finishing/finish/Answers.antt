@@ -1,6 +1,6 @@
 use Rattle.std.proofs.Common.{refl, subst}
 use Rattle.std.specs.Prelude.{⊤, Result}
-use Rattle.mqtt_tables.specs.declared.fault.StepFault.{StepFault}
+use Rattle.mqtt_lines.specs.TheTables.declared.fault.StepFault.{StepFault}
 use Rattle.mqtt_lines.specs.Doing.{IsCalled}
 use Rattle.mqtt_engine.proofs.Called.{sound_after, spent_fault}
 use Rattle.mqtt_engine.proofs.finishing.finish.Goals as goal

@@ -1,9 +1,9 @@
 use Rattle.std.proofs.Common.{◌≡◌, ◌⊎◌, ap, sym, subst, ◌∙◌}
 use Rattle.mqtt_records.specs.Records.{FitAll}
 use Rattle.mqtt_records.specs.Saying.{AllSayable}
-use Rattle.mqtt_rules.specs.Step.{is_spent}
+use Rattle.mqtt_lines.specs.TheRules.Step.{is_spent}
 use Rattle.mqtt_router.specs.Following.{CanAllBeFollowed, CanBeIndexed}
-use Rattle.mqtt_tables.specs.Stepping.{Stepping, with_stamp}
+use Rattle.mqtt_lines.specs.TheTables.Stepping.{Stepping, with_stamp}
 use Rattle.mqtt_engine.proofs.Called.{call_answered, call_fits, call_followed, call_sayable, call_stored, sound_indexed}
 use Rattle.mqtt_engine.proofs.finishing.store.Goals as goal
 

@@ -2,8 +2,8 @@ use Rattle.std.proofs.Common.{◌≡◌, rules, List, Some, ap, sym, ◌∙◌}
 use Rattle.std.specs.Prelude.{find, option_map}
 use Rattle.mqtt_flow.specs.Queue.{is_holder}
 use Rattle.mqtt_message.specs.Queue.{CopyRow}
-use Rattle.mqtt_rules.specs.State.{session_at}
-use Rattle.mqtt_rules.specs.Step.{copy_in, copy_of_session}
+use Rattle.mqtt_lines.specs.TheRules.State.{session_at}
+use Rattle.mqtt_lines.specs.TheRules.Step.{copy_in, copy_of_session}
 use Rattle.mqtt_engine.proofs.Holders.{held_on}
 use Rattle.mqtt_engine.proofs.holding.copy_in.Goals as goal
 

@@ -1,12 +1,12 @@
 use Rattle.std.proofs.Common.{refl, sym, subst}
 use Rattle.mqtt_codec.specs.declared.packet.Packet.TheVariants.{Puback}
-use Rattle.mqtt_rules.specs.Contents.{IsWilled}
-use Rattle.mqtt_rules.specs.Routing.{subscribers}
-use Rattle.mqtt_tables.specs.Stepping.{Stepping}
-use Rattle.mqtt_tables.proofs.Doing.{if_err, on_ok}
+use Rattle.mqtt_calls.specs.TheRules.Contents.{IsWilled}
+use Rattle.mqtt_calls.specs.TheRules.Routing.{subscribers}
+use Rattle.mqtt_calls.specs.TheTables.Stepping.{Stepping}
+use Rattle.mqtt_calls.proofs.TheTables.Doing.{if_err, on_ok}
 use Rattle.mqtt_calls.specs.Wills.{will_at}
-use Rattle.mqtt_turns.specs.Answering.{Came, pubacks}
-use Rattle.mqtt_turns.specs.declared.answering.Answered.TheVariants.{Taken, Wrong}
+use Rattle.mqtt_calls.specs.TheTurns.Answering.{Came, pubacks}
+use Rattle.mqtt_calls.specs.TheTurns.declared.answering.Answered.TheVariants.{Taken, Wrong}
 use Rattle.mqtt_inputs.proofs.OnLine.{on_line}
 use Rattle.mqtt_calls.proofs.WilledBrokers.{willed}
 use Rattle.mqtt_inputs.proofs.Answered.{came_taken, came_wrong, came_wrong_left, left_packet}

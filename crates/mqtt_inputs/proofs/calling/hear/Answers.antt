@@ -1,9 +1,9 @@
 use Rattle.std.proofs.Common.{sym, subst, ap}
 use Rattle.mqtt_records.specs.declared.records.Records.{Records}
-use Rattle.mqtt_rules.specs.Routing.{subscribers}
-use Rattle.mqtt_rules.specs.State.{Broker}
-use Rattle.mqtt_tables.specs.Stepping.{Stepping}
-use Rattle.mqtt_tables.proofs.Doing.{if_err, on_ok}
+use Rattle.mqtt_calls.specs.TheRules.Routing.{subscribers}
+use Rattle.mqtt_calls.specs.TheRules.State.{Broker}
+use Rattle.mqtt_calls.specs.TheTables.Stepping.{Stepping}
+use Rattle.mqtt_calls.proofs.TheTables.Doing.{if_err, on_ok}
 use Rattle.mqtt_inputs.specs.Inputs.{HasClient}
 use Rattle.mqtt_inputs.proofs.Clients.{client_heard}
 use Rattle.mqtt_inputs.proofs.Heard.{left_heard, some_heard, unheard}

@@ -1,9 +1,9 @@
 use Rattle.std.proofs.Common.{◌≡◌, false, refl, sym, subst, ap, ◌∙◌}
 use Rattle.mqtt_records.specs.declared.records.Records.{Records}
-use Rattle.mqtt_rules.specs.Routing.{subscribers}
-use Rattle.mqtt_rules.specs.State.{Broker}
-use Rattle.mqtt_rules.specs.Step.{Input, at_moment, deeds_of}
-use Rattle.mqtt_tables.specs.Stepping.{Stepping, with_broker}
+use Rattle.mqtt_calls.specs.TheRules.Routing.{subscribers}
+use Rattle.mqtt_calls.specs.TheRules.State.{Broker}
+use Rattle.mqtt_calls.specs.TheRules.Step.{Input, at_moment, deeds_of}
+use Rattle.mqtt_calls.specs.TheTables.Stepping.{Stepping, with_broker}
 use Rattle.mqtt_calls.specs.Doing.{begun}
 use Rattle.mqtt_calls.proofs.SomeCalls.{called_some, limits_some, start_some}
 use Rattle.mqtt_inputs.specs.Inputs.{HasClient}

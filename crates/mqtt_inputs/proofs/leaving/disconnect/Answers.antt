@@ -1,7 +1,7 @@
 use Rattle.std.proofs.Common.{◌≡◌, rules}
 use Rattle.mqtt_props.specs.declared.table.PropName.TheVariants.{SessionExpiryInterval}
-use Rattle.mqtt_rules.specs.Packets.{number_at}
-use Rattle.mqtt_tables.proofs.Doing.{if_err, on_ok}
+use Rattle.mqtt_calls.specs.TheRules.Packets.{number_at}
+use Rattle.mqtt_calls.proofs.TheTables.Doing.{if_err, on_ok}
 use Rattle.mqtt_inputs.proofs.OnLine.{on_line}
 use Rattle.mqtt_calls.proofs.WilledBrokers.{willed}
 use Rattle.mqtt_inputs.proofs.Answered.{disconnect_left, disconnected}

@@ -1,4 +1,4 @@
-use Rattle.mqtt_tables.proofs.Doing.{if_err, on_ok}
+use Rattle.mqtt_calls.proofs.TheTables.Doing.{if_err, on_ok}
 use Rattle.mqtt_inputs.proofs.OnLine.{on_line}
 use Rattle.mqtt_calls.proofs.WilledBrokers.{willed}
 use Rattle.mqtt_inputs.proofs.Answered.{stray_left, strayed}

@@ -1,7 +1,7 @@
-use Rattle.mqtt_tables.proofs.Doing.{if_err, on_ok}
+use Rattle.mqtt_calls.proofs.TheTables.Doing.{if_err, on_ok}
 use Rattle.mqtt_inputs.proofs.OnLine.{left_next, on_line, some_next}
 use Rattle.mqtt_codec.specs.declared.packet.Packet.TheVariants.{Pingreq}
-use Rattle.mqtt_rules.specs.Step.{next_packet}
+use Rattle.mqtt_calls.specs.TheRules.Step.{next_packet}
 use Rattle.mqtt_calls.proofs.Some.{does_some, leaves_some}
 use Rattle.mqtt_inputs.proofs.quiet.pingreq.Goals as goal
 

@@ -1,9 +1,9 @@
 use Rattle.std.proofs.Common.{refl}
-use Rattle.mqtt_tables.proofs.Doing.{if_err, on_ok}
+use Rattle.mqtt_calls.proofs.TheTables.Doing.{if_err, on_ok}
 use Rattle.mqtt_inputs.proofs.OnLine.{on_line}
 use Rattle.mqtt_codec.specs.declared.packet.Packet.TheVariants.{Pubrel}
-use Rattle.mqtt_rules.specs.Deeds.{always, of_session}
-use Rattle.mqtt_rules.specs.Inbound.{on_pubrel}
+use Rattle.mqtt_calls.specs.TheRules.Deeds.{always, of_session}
+use Rattle.mqtt_calls.specs.TheRules.Inbound.{on_pubrel}
 use Rattle.mqtt_inputs.proofs.Answered.{did_packet, left_packet}
 use Rattle.mqtt_inputs.proofs.quiet.pubrel.Goals as goal
 

@@ -1,10 +1,10 @@
 use Rattle.std.proofs.Common.{sym, subst}
-use Rattle.mqtt_tables.specs.Stepping.{Does, Leaves}
-use Rattle.mqtt_tables.proofs.Doing.{if_err, on_ok}
+use Rattle.mqtt_calls.specs.TheTables.Stepping.{Does, Leaves}
+use Rattle.mqtt_calls.proofs.TheTables.Doing.{if_err, on_ok}
 use Rattle.mqtt_inputs.proofs.OnLine.{left_takes, on_line, some_takes}
 use Rattle.mqtt_codec.specs.declared.packet.Packet.TheVariants.{Subscribe}
-use Rattle.mqtt_rules.specs.Deeds.{of_session}
-use Rattle.mqtt_rules.specs.Subscribe.{on_subscribe}
+use Rattle.mqtt_calls.specs.TheRules.Deeds.{of_session}
+use Rattle.mqtt_calls.specs.TheRules.Subscribe.{on_subscribe}
 use Rattle.mqtt_calls.proofs.Some.{does_some, leaves_some}
 use Rattle.mqtt_inputs.proofs.quiet.subscribe.Goals as goal
 

@@ -1,10 +1,10 @@
 use Rattle.std.proofs.Common.{refl, sym, subst}
-use Rattle.mqtt_tables.specs.Stepping.{Did, IsLeft}
-use Rattle.mqtt_tables.proofs.Doing.{if_err, on_ok}
+use Rattle.mqtt_calls.specs.TheTables.Stepping.{Did, IsLeft}
+use Rattle.mqtt_calls.proofs.TheTables.Doing.{if_err, on_ok}
 use Rattle.mqtt_inputs.proofs.OnLine.{on_line}
 use Rattle.mqtt_codec.specs.declared.packet.Packet.TheVariants.{Unsubscribe}
-use Rattle.mqtt_rules.specs.Deeds.{of_session}
-use Rattle.mqtt_rules.specs.Subscribe.{on_unsubscribe}
+use Rattle.mqtt_calls.specs.TheRules.Deeds.{of_session}
+use Rattle.mqtt_calls.specs.TheRules.Subscribe.{on_unsubscribe}
 use Rattle.mqtt_inputs.proofs.Clients.{few_filters}
 use Rattle.mqtt_inputs.proofs.Answered.{did_packet, left_packet}
 use Rattle.mqtt_inputs.proofs.quiet.unsubscribe.Goals as goal

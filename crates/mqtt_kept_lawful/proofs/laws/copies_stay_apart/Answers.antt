@@ -1,4 +1,4 @@
-use Rattle.mqtt_rules.proofs.Ordered.{nothing-ordered}
+use Rattle.mqtt_calls.proofs.TheRules.Ordered.{nothing-ordered}
 use Rattle.mqtt_kept_lawful.proofs.CopiesActs.{step_identities, opening_identities}
 use Rattle.mqtt_kept_lawful.proofs.laws.copies_stay_apart.Goals as goal
 

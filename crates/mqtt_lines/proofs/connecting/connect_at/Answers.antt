@@ -1,6 +1,6 @@
 use Rattle.std.proofs.Common.{◌≡◌, rules, subst}
 use Rattle.std.specs.Prelude.{None}
-use Rattle.mqtt_tables.proofs.Doing.{if_err, on_ok}
+use Rattle.mqtt_calls.proofs.TheTables.Doing.{if_err, on_ok}
 use Rattle.mqtt_connecting.specs.declared.joining.Joined.{Joined}
 use Rattle.mqtt_connecting.specs.declared.joining.Joined.TheVariants.{NoPlace}
 use Rattle.mqtt_calls.specs.Doing.{begun}

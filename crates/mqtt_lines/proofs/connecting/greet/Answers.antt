@@ -1,9 +1,9 @@
 use Rattle.std.specs.Prelude.{None}
 use Rattle.mqtt_codec.specs.declared.packet.Packet.TheVariants as packets
-use Rattle.mqtt_rules.specs.Contents.{IsWilled}
-use Rattle.mqtt_rules.specs.Laws.{IsCoherent}
-use Rattle.mqtt_rules.specs.Routing.{subscribers}
-use Rattle.mqtt_tables.proofs.Doing.{if_err, if_ok}
+use Rattle.mqtt_calls.specs.TheRules.Contents.{IsWilled}
+use Rattle.mqtt_calls.specs.TheRules.Laws.{IsCoherent}
+use Rattle.mqtt_calls.specs.TheRules.Routing.{subscribers}
+use Rattle.mqtt_calls.proofs.TheTables.Doing.{if_err, if_ok}
 use Rattle.mqtt_calls.specs.Wills.{will_at}
 use Rattle.mqtt_calls.proofs.SomeCalls.{input_some_left, on_line, unheard_left}
 use Rattle.mqtt_lines.proofs.Greeted.{at_heard, greeted_by}

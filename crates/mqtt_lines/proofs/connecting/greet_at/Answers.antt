@@ -1,12 +1,12 @@
 use Rattle.std.proofs.Common.{ap, subst, ◌∙◌}
 use Rattle.std.specs.Prelude.{IfErr, IfOk}
 use Rattle.mqtt_codec.specs.declared.packet.Packet.TheVariants as packets
-use Rattle.mqtt_rules.specs.Contents.{IsWilled}
-use Rattle.mqtt_rules.specs.Laws.{IsCoherent}
-use Rattle.mqtt_rules.specs.Lines.{session_on}
-use Rattle.mqtt_rules.specs.Routing.{subscribers}
-use Rattle.mqtt_rules.specs.Step.{Input, deeds_of}
-use Rattle.mqtt_tables.specs.Stepping.{Stepping}
+use Rattle.mqtt_calls.specs.TheRules.Contents.{IsWilled}
+use Rattle.mqtt_calls.specs.TheRules.Laws.{IsCoherent}
+use Rattle.mqtt_calls.specs.TheRules.Lines.{session_on}
+use Rattle.mqtt_calls.specs.TheRules.Routing.{subscribers}
+use Rattle.mqtt_calls.specs.TheRules.Step.{Input, deeds_of}
+use Rattle.mqtt_calls.specs.TheTables.Stepping.{Stepping}
 use Rattle.mqtt_calls.specs.Choosing.{LeavesSome}
 use Rattle.mqtt_calls.specs.Wills.{will_at}
 use Rattle.mqtt_calls.proofs.WilledBrokers.{willed}

@@ -1,4 +1,4 @@
-use Rattle.mqtt_tables.proofs.Doing.{if_err, on_ok}
+use Rattle.mqtt_calls.proofs.TheTables.Doing.{if_err, on_ok}
 use Rattle.mqtt_lines.proofs.Greeted.{turned, turned_left, untold_left}
 use Rattle.mqtt_lines.proofs.connecting.turn_away.Goals as goal
 

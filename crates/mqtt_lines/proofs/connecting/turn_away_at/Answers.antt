@@ -1,6 +1,6 @@
 use Rattle.std.proofs.Common.{subst}
 use Rattle.std.specs.Prelude.{IfErr, OnOk}
-use Rattle.mqtt_tables.specs.Stepping.{Stepping, Did, IsLeft}
+use Rattle.mqtt_calls.specs.TheTables.Stepping.{Stepping, Did, IsLeft}
 use Rattle.mqtt_lines.specs.First.{turns_away}
 use Rattle.mqtt_lines.proofs.Greeted.{again_is, not_again}
 use Rattle.mqtt_lines.proofs.connecting.turn_away_at.Goals as goal

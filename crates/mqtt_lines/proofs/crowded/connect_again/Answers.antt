@@ -1,4 +1,4 @@
-use Rattle.mqtt_rules.specs.Connect.{on_connect, prepare}
+use Rattle.mqtt_calls.specs.TheRules.Connect.{on_connect, prepare}
 use Rattle.mqtt_connecting.proofs.Standings.{connected, given_after, join_refused}
 use Rattle.mqtt_lines.proofs.Instead.{memory_instead}
 use Rattle.mqtt_lines.proofs.crowded.connect_again.Goals as goal

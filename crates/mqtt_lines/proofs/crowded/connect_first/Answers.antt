@@ -1,4 +1,4 @@
-use Rattle.mqtt_rules.specs.Connect.{on_connect}
+use Rattle.mqtt_calls.specs.TheRules.Connect.{on_connect}
 use Rattle.mqtt_calls.proofs.Some.{leaves_some}
 use Rattle.mqtt_connecting.proofs.Once.{done_at_once}
 use Rattle.mqtt_lines.proofs.crowded.connect_first.Goals as goal

@@ -1,9 +1,9 @@
 use Rattle.std.proofs.Common.{ap, subst, ◌∙◌}
 use Rattle.std.specs.Prelude.{IfErr, OnOk}
-use Rattle.mqtt_rules.specs.Lines.{session_on}
-use Rattle.mqtt_rules.specs.Routing.{subscribers}
-use Rattle.mqtt_rules.specs.Step.{Input, deeds_of}
-use Rattle.mqtt_tables.specs.Stepping.{Stepping}
+use Rattle.mqtt_calls.specs.TheRules.Lines.{session_on}
+use Rattle.mqtt_calls.specs.TheRules.Routing.{subscribers}
+use Rattle.mqtt_calls.specs.TheRules.Step.{Input, deeds_of}
+use Rattle.mqtt_calls.specs.TheTables.Stepping.{Stepping}
 use Rattle.mqtt_calls.specs.Choosing.{DoesSome, LeavesSome}
 use Rattle.mqtt_lines.proofs.Begun.{at_begun, begun_is, unbegun_some}
 use Rattle.mqtt_lines.proofs.first.close_at.Goals as goal

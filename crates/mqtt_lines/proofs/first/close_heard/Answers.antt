@@ -1,6 +1,6 @@
 use Rattle.std.specs.Prelude.{None}
-use Rattle.mqtt_rules.specs.Routing.{subscribers}
-use Rattle.mqtt_tables.proofs.Doing.{if_err, on_ok}
+use Rattle.mqtt_calls.specs.TheRules.Routing.{subscribers}
+use Rattle.mqtt_calls.proofs.TheTables.Doing.{if_err, on_ok}
 use Rattle.mqtt_calls.proofs.SomeCalls.{on_line, unheard_left}
 use Rattle.mqtt_lines.proofs.Greeted.{at_heard, other_closes, other_left}
 use Rattle.mqtt_lines.proofs.first.close_heard.Goals as goal

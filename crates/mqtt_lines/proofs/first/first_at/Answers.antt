@@ -1,7 +1,7 @@
 use Rattle.std.proofs.Common.{false, refl, rules, subst, sym}
 use Rattle.mqtt_codec.specs.declared.packet.Packet.{Packet}
 use Rattle.mqtt_codec.specs.declared.packet.Packet.TheVariants as packets
-use Rattle.mqtt_rules.specs.Step.{Input, deeds_of}
+use Rattle.mqtt_calls.specs.TheRules.Step.{Input, deeds_of}
 use Rattle.mqtt_calls.specs.Doing.{IsCalled, begun}
 use Rattle.mqtt_calls.proofs.SomeCalls.{called_some, limits_some, start_some}
 use Rattle.mqtt_lines.specs.First.{IsOther}

@@ -1,7 +1,7 @@
 use Rattle.std.proofs.Common.{false, refl}
-use Rattle.mqtt_rules.specs.Contents.{IsWilled}
-use Rattle.mqtt_rules.specs.Routing.{subscribers}
-use Rattle.mqtt_rules.specs.Step.{Lost, deeds_of}
+use Rattle.mqtt_calls.specs.TheRules.Contents.{IsWilled}
+use Rattle.mqtt_calls.specs.TheRules.Routing.{subscribers}
+use Rattle.mqtt_calls.specs.TheRules.Step.{Lost, deeds_of}
 use Rattle.mqtt_calls.specs.Wills.{will_at}
 use Rattle.mqtt_calls.proofs.SomeCalls.{called_some, limits_some, start_some}
 use Rattle.mqtt_calls.proofs.WilledBrokers.{willed}

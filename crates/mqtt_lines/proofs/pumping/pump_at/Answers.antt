@@ -1,5 +1,5 @@
-use Rattle.mqtt_rules.specs.Step.{Pump, deeds_of}
-use Rattle.mqtt_tables.proofs.Doing.{if_err, on_ok}
+use Rattle.mqtt_calls.specs.TheRules.Step.{Pump, deeds_of}
+use Rattle.mqtt_calls.proofs.TheTables.Doing.{if_err, on_ok}
 use Rattle.mqtt_calls.proofs.Some.{does_some, leaves_some}
 use Rattle.mqtt_calls.specs.Queues.{HasKeptOrders}
 use Rattle.mqtt_calls.proofs.SomeCalls.{again_some, limits_some, spent_some, start_some}

@@ -1,9 +1,9 @@
 use Rattle.std.proofs.Common.{false, ap, refl, ◌∙◌}
-use Rattle.mqtt_rules.specs.Contents.{IsWilled}
-use Rattle.mqtt_rules.specs.Lines.{session_on}
-use Rattle.mqtt_rules.specs.Routing.{subscribers}
-use Rattle.mqtt_rules.specs.Step.{BadInput, deeds_of}
-use Rattle.mqtt_tables.specs.Stepping.{Stepping}
+use Rattle.mqtt_calls.specs.TheRules.Contents.{IsWilled}
+use Rattle.mqtt_calls.specs.TheRules.Lines.{session_on}
+use Rattle.mqtt_calls.specs.TheRules.Routing.{subscribers}
+use Rattle.mqtt_calls.specs.TheRules.Step.{BadInput, deeds_of}
+use Rattle.mqtt_calls.specs.TheTables.Stepping.{Stepping}
 use Rattle.mqtt_calls.specs.Wills.{will_at}
 use Rattle.mqtt_calls.proofs.SomeCalls.{called_some, limits_some, start_some}
 use Rattle.mqtt_calls.proofs.WilledBrokers.{willed}

@@ -1,7 +1,7 @@
 use Rattle.std.proofs.Common.{sym, subst}
 use Rattle.mqtt_records.specs.declared.records.Records.{Records}
-use Rattle.mqtt_rules.specs.Routing.{subscribers}
-use Rattle.mqtt_tables.proofs.Doing.{if_err, on_ok}
+use Rattle.mqtt_calls.specs.TheRules.Routing.{subscribers}
+use Rattle.mqtt_calls.proofs.TheTables.Doing.{if_err, on_ok}
 use Rattle.mqtt_lines.proofs.Refused.{first_left, first_refused, records_told, untold_left}
 use Rattle.mqtt_lines.proofs.refusing.refuse_first.Goals as goal
 

@@ -1,5 +1,5 @@
 use Rattle.std.proofs.Common.{◌∙◌}
-use Rattle.mqtt_tables.proofs.Doing.{if_err, on_ok}
+use Rattle.mqtt_calls.proofs.TheTables.Doing.{if_err, on_ok}
 use Rattle.mqtt_calls.proofs.SomeCalls.{on_line}
 use Rattle.mqtt_lines.proofs.Refused.{early_left, early_refused, late_left, late_refused}
 use Rattle.mqtt_lines.proofs.refusing.refuse_packet.Goals as goal

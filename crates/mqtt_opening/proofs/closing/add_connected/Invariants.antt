@@ -1,6 +1,6 @@
 use Rattle.std.proofs.Common.{◌≡◌, ◌++◌, drop, filter, map}
 use Rattle.mqtt_records.specs.Session.{birth_of}
-use Rattle.mqtt_rules.specs.State.{is_connected}
+use Rattle.mqtt_engine.specs.TheRules.State.{is_connected}
 use Rattle.mqtt_opening.specs.Sessions.{connected_in}
 use Rattle.mqtt_opening.proofs.closing.add_connected.Given as goal
 

@@ -1,10 +1,10 @@
 use Rattle.std.proofs.Common.{◌≡◌, List, rules, sym, subst}
 use Rattle.std.specs.Prelude.{⊤, Result, Err, IfErr}
 use Rattle.mqtt_routes.specs.Subscriptions.{Subscriber}
-use Rattle.mqtt_tables.specs.declared.fault.StepFault.{StepFault}
-use Rattle.mqtt_tables.proofs.Doing.{on_ok, if_err}
-use Rattle.mqtt_closing.specs.Choosing.{LeavesSome}
-use Rattle.mqtt_closing.proofs.Closed.{close_keeps}
+use Rattle.mqtt_engine.specs.TheTables.declared.fault.StepFault.{StepFault}
+use Rattle.mqtt_engine.proofs.TheTables.Doing.{on_ok, if_err}
+use Rattle.mqtt_engine.specs.TheClosing.Choosing.{LeavesSome}
+use Rattle.mqtt_engine.proofs.TheClosing.Closed.{close_keeps}
 use Rattle.mqtt_engine.specs.Indexing.{Serves}
 use Rattle.mqtt_opening.specs.Sessions.{closes}
 use Rattle.mqtt_opening.proofs.Closed.{closes_is, close_refused, settle_refused}

@@ -1,7 +1,7 @@
 use Rattle.std.proofs.Common.{◌≡◌, rules, sym, subst}
 use Rattle.std.specs.Prelude.{⊤, Result, Err, IfErr}
-use Rattle.mqtt_rules.specs.Step.{opening}
-use Rattle.mqtt_tables.specs.declared.fault.StepFault.{StepFault}
+use Rattle.mqtt_engine.specs.TheRules.Step.{opening}
+use Rattle.mqtt_engine.specs.TheTables.declared.fault.StepFault.{StepFault}
 use Rattle.mqtt_opening.specs.Closing.{LeftSome}
 use Rattle.mqtt_opening.proofs.Going.{first_refused}
 use Rattle.mqtt_opening.proofs.closing.close_all.Goals as goal

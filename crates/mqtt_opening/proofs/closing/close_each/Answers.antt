@@ -1,7 +1,7 @@
 use Rattle.std.proofs.Common.{◌≡◌, List, ◌∷◌, ℕ, length, rules, arith, sym, subst}
 use Rattle.std.specs.Prelude.{⊤, Result, Err, IfErr}
-use Rattle.mqtt_rules.specs.Step.{opening}
-use Rattle.mqtt_tables.specs.declared.fault.StepFault.{StepFault}
+use Rattle.mqtt_engine.specs.TheRules.Step.{opening}
+use Rattle.mqtt_engine.specs.TheTables.declared.fault.StepFault.{StepFault}
 use Rattle.mqtt_opening.specs.Closing.{LeftSome}
 use Rattle.mqtt_opening.proofs.Going.{IsGoing, going_first, going_on, going_left, going_end, next_there, next_willed}
 use Rattle.mqtt_opening.proofs.closing.close_each.Goals as goal

@@ -1,8 +1,8 @@
 use Rattle.std.proofs.Common.{◌≡◌, List, length, drop, arith, ap, sym, subst, ◌∙◌}
 use Rattle.mqtt_records.specs.Records.{changed_all}
 use Rattle.mqtt_records.specs.declared.change.Change.{Change}
-use Rattle.mqtt_rules.specs.Routing.{subscribers}
-use Rattle.mqtt_tables.proofs.Doing.{on_ok, if_err}
+use Rattle.mqtt_engine.specs.TheRules.Routing.{subscribers}
+use Rattle.mqtt_engine.proofs.TheTables.Doing.{on_ok, if_err}
 use Rattle.mqtt_engine.specs.Following.{CanAllBeFollowed}
 use Rattle.mqtt_engine.specs.Indexing.{Serves}
 use Rattle.mqtt_opening.proofs.Closed.{follow_refused, ok_of, rows_followed, rows_grow, still_indexed, still_serves}

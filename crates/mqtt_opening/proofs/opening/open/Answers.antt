@@ -2,9 +2,9 @@ use Rattle.std.proofs.Common.{ap, sym, subst, inl, inr}
 use Rattle.std.specs.Prelude.{Err}
 use Rattle.mqtt_lawful.specs.Lawful.{IsLawful}
 use Rattle.mqtt_records.specs.declared.records.Records.{Records}
-use Rattle.mqtt_rules.specs.declared.Limits.{Limits}
-use Rattle.mqtt_rules.specs.Laws.{AreWithin}
-use Rattle.mqtt_tables.specs.Stepping.{Stepping}
+use Rattle.mqtt_engine.specs.TheRules.declared.Limits.{Limits}
+use Rattle.mqtt_engine.specs.TheRules.Laws.{AreWithin}
+use Rattle.mqtt_engine.specs.TheTables.Stepping.{Stepping}
 use Rattle.mqtt_opening.specs.Opening.{IsBegun, Opened}
 use Rattle.mqtt_opening.proofs.Answering.{begun_of, load_begun, refused_first, refused_load}
 use Rattle.mqtt_opening.proofs.opening.open.Goals as goal

@@ -1,9 +1,9 @@
 use Rattle.std.proofs.Common.{◌≡◌, rules, sym, subst}
 use Rattle.std.specs.Prelude.{⊤, Result, Err, IfErr}
-use Rattle.mqtt_rules.proofs.LawfulContents.{lawful_contents}
-use Rattle.mqtt_rules.proofs.LawfulRecords.{lawful_coherent}
-use Rattle.mqtt_tables.specs.declared.fault.StepFault.{StepFault}
-use Rattle.mqtt_tables.proofs.Doing.{if_err_too, on_ok}
+use Rattle.mqtt_engine.proofs.TheRules.LawfulContents.{lawful_contents}
+use Rattle.mqtt_engine.proofs.TheRules.LawfulRecords.{lawful_coherent}
+use Rattle.mqtt_engine.specs.TheTables.declared.fault.StepFault.{StepFault}
+use Rattle.mqtt_engine.proofs.TheTables.Doing.{if_err_too, on_ok}
 use Rattle.mqtt_engine.proofs.Followed.{indexed_lawful}
 use Rattle.mqtt_opening.specs.Closing.{IsLeftOpen}
 use Rattle.mqtt_opening.proofs.Stamped.{left_of, left_stamp, opened_of, stamped_serves}

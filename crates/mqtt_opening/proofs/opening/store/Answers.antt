@@ -1,8 +1,8 @@
 use Rattle.std.proofs.Common.{ap, sym, subst, inl}
 use Rattle.mqtt_records.specs.declared.records.Records.{Records}
-use Rattle.mqtt_rules.specs.Routing.{subscribers}
-use Rattle.mqtt_tables.specs.Stepping.{Stepping}
-use Rattle.mqtt_tables.proofs.Doing.{on_ok}
+use Rattle.mqtt_engine.specs.TheRules.Routing.{subscribers}
+use Rattle.mqtt_engine.specs.TheTables.Stepping.{Stepping}
+use Rattle.mqtt_engine.proofs.TheTables.Doing.{on_ok}
 use Rattle.mqtt_engine.specs.Indexing.{Serves}
 use Rattle.mqtt_opening.proofs.Answering.{both_ok, err_of, rest_of}
 use Rattle.mqtt_opening.proofs.Stamped.{open_limits, open_start}

@@ -1,7 +1,7 @@
 use Rattle.std.proofs.Common.{sym, refl, ◌∙◌}
 use Rattle.mqtt_props.specs.declared.table.PropName.TheVariants.{TopicAlias}
 use Rattle.mqtt_props.specs.Views.{prop_of}
-use Rattle.mqtt_verdicts.proofs.Looks.{kind_found, is_u16}
+use Rattle.mqtt_acts.proofs.TheVerdicts.Looks.{kind_found, is_u16}
 use Rattle.mqtt_publishing.proofs.aliasing.alias_of.Goals as goal
 
 pub returns-in_default : goal.returns-in_default

@@ -1,8 +1,8 @@
 use Rattle.std.proofs.Common.{refl}
-use Rattle.mqtt_rules.specs.Inbound.{publish_by}
+use Rattle.mqtt_acts.specs.TheRules.Inbound.{publish_by}
 use Rattle.mqtt_inbound.specs.declared.inflow.Published.TheVariants.{New}
 use Rattle.mqtt_acts.specs.Choosing.{IsAccepted}
-use Rattle.mqtt_tables.proofs.Doing.{on_ok, if_err}
+use Rattle.mqtt_acts.proofs.TheTables.Doing.{on_ok, if_err}
 use Rattle.mqtt_publishing.proofs.Routed.{nothing_left, refused_does, refused_leaves, taken_err, taken_ok}
 use Rattle.mqtt_publishing.proofs.fresh.publish_fresh.Goals as goal
 

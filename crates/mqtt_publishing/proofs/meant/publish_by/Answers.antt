@@ -1,8 +1,8 @@
 use Rattle.std.proofs.Common.{◌≡◌, refl, ap, ◌∙◌}
 use Rattle.mqtt_inbound.specs.declared.inflow.Published.TheVariants.{New, Again}
 use Rattle.mqtt_records.specs.declared.session.Session.{Session}
-use Rattle.mqtt_rules.specs.State.{session_at}
-use Rattle.mqtt_rules.specs.Inbound.{message_of, standing}
+use Rattle.mqtt_acts.specs.TheRules.State.{session_at}
+use Rattle.mqtt_acts.specs.TheRules.Inbound.{message_of, standing}
 use Rattle.mqtt_publishing.proofs.ByIdentifier.{again_does, again_leaves, by_left, by_some, same_row}
 use Rattle.mqtt_publishing.proofs.meant.publish_by.Goals as goal
 

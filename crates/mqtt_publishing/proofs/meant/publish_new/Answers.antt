@@ -1,9 +1,9 @@
 use Rattle.std.proofs.Common.{refl, sym, subst, ◌∙◌}
 use Rattle.std.specs.Prelude.{IfErr, OnOk}
 use Rattle.mqtt_inbound.specs.declared.inflow.Published.TheVariants.{New}
-use Rattle.mqtt_rules.specs.State.{session_at}
-use Rattle.mqtt_rules.specs.Deeds.{Message}
-use Rattle.mqtt_rules.specs.Inbound.{message_of, publish_by}
+use Rattle.mqtt_acts.specs.TheRules.State.{session_at}
+use Rattle.mqtt_acts.specs.TheRules.Deeds.{Message}
+use Rattle.mqtt_acts.specs.TheRules.Inbound.{message_of, publish_by}
 use Rattle.mqtt_acts.specs.Choosing.{DoesSome, LeavesSome}
 use Rattle.mqtt_publishing.proofs.ByIdentifier.{message_is, message_lawful}
 use Rattle.mqtt_publishing.proofs.Routed.{nothing_left}

@@ -1,6 +1,6 @@
 use Rattle.std.proofs.Common.{refl}
-use Rattle.mqtt_rules.specs.Inbound.{on_publish}
-use Rattle.mqtt_tables.specs.declared.fault.StepFault.TheVariants.{Memory}
+use Rattle.mqtt_acts.specs.TheRules.Inbound.{on_publish}
+use Rattle.mqtt_acts.specs.TheTables.declared.fault.StepFault.TheVariants.{Memory}
 use Rattle.mqtt_publishing.proofs.Routed.{nothing_left}
 use Rattle.mqtt_publishing.proofs.publish.on_publish.Goals as goal
 

@@ -1,12 +1,12 @@
 use Rattle.std.proofs.Common.{◌≡◌, ℕ, ap, sym, subst, ◌∙◌}
 use Rattle.std.specs.Prelude.{Some}
 use Rattle.mqtt_records.specs.declared.records.Records.{Records}
-use Rattle.mqtt_rules.specs.State.{session_at}
-use Rattle.mqtt_rules.specs.Routing.{subscribers}
-use Rattle.mqtt_tables.specs.Lines.{line_number}
-use Rattle.mqtt_tables.specs.Stepping.{Did, IsLeft}
-use Rattle.mqtt_tables.proofs.Inverse.{row_key}
-use Rattle.mqtt_tables.proofs.Doing.{if_ok, if_err}
+use Rattle.mqtt_acts.specs.TheRules.State.{session_at}
+use Rattle.mqtt_acts.specs.TheRules.Routing.{subscribers}
+use Rattle.mqtt_acts.specs.TheTables.Lines.{line_number}
+use Rattle.mqtt_acts.specs.TheTables.Stepping.{Did, IsLeft}
+use Rattle.mqtt_acts.proofs.TheTables.Inverse.{row_key}
+use Rattle.mqtt_acts.proofs.TheTables.Doing.{if_ok, if_err}
 use Rattle.mqtt_publishing.specs.Publishing.{alias_set}
 use Rattle.mqtt_publishing.proofs.Aliased.{alias_leaves, alias_refused, answered, stored_stays}
 use Rattle.mqtt_publishing.proofs.publish.publish_meant.Goals as goal

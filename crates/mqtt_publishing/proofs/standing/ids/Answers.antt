@@ -1,4 +1,4 @@
-use Rattle.mqtt_rules.proofs.OpenLists.{increasing_there}
+use Rattle.mqtt_acts.proofs.TheRules.OpenLists.{increasing_there}
 use Rattle.mqtt_publishing.proofs.standing.ids.Goals as goal
 
 pub returns-clause-lawful : goal.returns-clause-lawful

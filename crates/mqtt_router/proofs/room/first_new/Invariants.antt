@@ -1,7 +1,7 @@
 use Rattle.std.proofs.Common.{◌≡◌, drop}
 use Rattle.std.specs.Prelude.{find}
 use Rattle.mqtt_records.specs.declared.records.Records.{Records}
-use Rattle.mqtt_rules.specs.Outbound.{is_new}
+use Rattle.mqtt_acts.specs.TheRules.Outbound.{is_new}
 use Rattle.mqtt_router.specs.Indexing.{IsBefore}
 use Rattle.mqtt_router.proofs.room.first_new.Given as goal
 

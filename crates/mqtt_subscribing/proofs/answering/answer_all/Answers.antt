@@ -1,8 +1,8 @@
 use Rattle.std.proofs.Common.{◌≡◌, List, rules, sym, subst}
 use Rattle.std.specs.Prelude.{⊤, Result, Err, IfErr}
 use Rattle.mqtt_codec.specs.Subscriptions.{Subscription as Asked}
-use Rattle.mqtt_tables.specs.declared.fault.StepFault.{StepFault}
-use Rattle.mqtt_tables.specs.Stepping.{Leaves}
+use Rattle.mqtt_acts.specs.TheTables.declared.fault.StepFault.{StepFault}
+use Rattle.mqtt_acts.specs.TheTables.Stepping.{Leaves}
 use Rattle.mqtt_subscribing.specs.Answering.{answers_all, asking}
 use Rattle.mqtt_subscribing.proofs.AllAnswers.{Answering, answers_first, answers_fit, answers_step, answers_left, answers_done, answers_codes, answers_late}
 use Rattle.mqtt_subscribing.proofs.answering.answer_all.Goals as goal

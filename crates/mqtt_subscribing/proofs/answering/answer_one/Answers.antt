@@ -1,8 +1,8 @@
 use Rattle.std.proofs.Common.{◌≡◌, ◌<◌, [], ◌∷◌, ◌++◌, None, rules, arith, refl}
 use Rattle.mqtt_base.specs.Codes.{topic_filter_invalid}
 use Rattle.mqtt_acts.specs.Delivering.{addressed_all}
-use Rattle.mqtt_tables.specs.Stepping.{env_in}
-use Rattle.mqtt_tables.proofs.Doing.{on_ok, if_err}
+use Rattle.mqtt_acts.specs.TheTables.Stepping.{env_in}
+use Rattle.mqtt_acts.proofs.TheTables.Doing.{on_ok, if_err}
 use Rattle.mqtt_subscribing.proofs.AllAnswers.{no_options, unread_does, unread_code, unread_late, read_does, read_left, read_code, read_late}
 use Rattle.mqtt_subscribing.proofs.answering.answer_one.Goals as goal
 

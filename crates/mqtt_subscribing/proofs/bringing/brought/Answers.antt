@@ -2,7 +2,7 @@ use Rattle.std.proofs.Common.{◌≡◌, ◌∷◌, [], ◌++◌, length, rules,
 use Rattle.std.specs.Prelude.{filter, map}
 use Rattle.mqtt_message.specs.declared.message.RetainedMessage.{RetainedMessage}
 use Rattle.mqtt_routes.specs.Retained.{kept_for}
-use Rattle.mqtt_rules.specs.Subscribe.{is_brought, kept_of, message_in}
+use Rattle.mqtt_acts.specs.TheRules.Subscribe.{is_brought, kept_of, message_in}
 use Rattle.mqtt_subscribing.specs.Bringing.{brings}
 use Rattle.mqtt_subscribing.proofs.BroughtMessages.{brings_next, brings_last}
 use Rattle.mqtt_subscribing.proofs.bringing.brought.Goals as goal

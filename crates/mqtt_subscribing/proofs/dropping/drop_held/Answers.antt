@@ -1,9 +1,9 @@
 use Rattle.std.proofs.Common.{ap, sym, ◌∙◌}
 use Rattle.std.specs.Prelude.{flat_map}
-use Rattle.mqtt_rules.specs.Deeds.{always}
-use Rattle.mqtt_rules.specs.Subscribe.{unsubscribes}
-use Rattle.mqtt_tables.proofs.Doing.{on_ok, if_err}
-use Rattle.mqtt_tables.proofs.Then.{same_act, same_left}
+use Rattle.mqtt_acts.specs.TheRules.Deeds.{always}
+use Rattle.mqtt_acts.specs.TheRules.Subscribe.{unsubscribes}
+use Rattle.mqtt_acts.proofs.TheTables.Doing.{on_ok, if_err}
+use Rattle.mqtt_acts.proofs.TheTables.Then.{same_act, same_left}
 use Rattle.mqtt_subscribing.specs.Dropping.{drops, held, removes_all}
 use Rattle.mqtt_subscribing.proofs.Removed.{drops_is}
 use Rattle.mqtt_subscribing.proofs.Unsubscribed.{nobody}

@@ -1,7 +1,7 @@
 use Rattle.std.proofs.Common.{◌≡◌, false, ap, sym, ◌∙◌, ◌∷◌, [], ◌++◌}
 use Rattle.std.specs.List.{list_any}
 use Rattle.std.specs.Prelude.{bytes_eq}
-use Rattle.mqtt_tables.proofs.Filters.{found_filter}
+use Rattle.mqtt_acts.proofs.TheTables.Filters.{found_filter}
 use Rattle.mqtt_subscribing.proofs.Dropped.{not_held_left, held_left, not_left_after, left_after}
 use Rattle.mqtt_subscribing.proofs.dropping.goes.Goals as goal
 

@@ -1,8 +1,8 @@
 use Rattle.std.proofs.Common.{◌≡◌, ◌∷◌, length, rules, arith}
 use Rattle.mqtt_records.specs.Session.{birth_of}
-use Rattle.mqtt_rules.proofs.FlightRows.{all_at}
-use Rattle.mqtt_tables.specs.Stepping.{IsLeft}
-use Rattle.mqtt_tables.specs.Subscribing.{HasEachFilterOnce}
+use Rattle.mqtt_acts.proofs.TheRules.FlightRows.{all_at}
+use Rattle.mqtt_acts.specs.TheTables.Stepping.{IsLeft}
+use Rattle.mqtt_acts.specs.TheTables.Subscribing.{HasEachFilterOnce}
 use Rattle.mqtt_subscribing.specs.Dropping.{removes_all}
 use Rattle.mqtt_subscribing.proofs.Removed.{removes_step, removes_left, removes_last}
 use Rattle.mqtt_subscribing.proofs.dropping.remove_all.Goals as goal

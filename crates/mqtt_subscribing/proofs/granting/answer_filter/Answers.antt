@@ -1,6 +1,6 @@
 use Rattle.std.proofs.Common.{ℕ, List, subst}
 use Rattle.std.specs.Prelude.{IfErr}
-use Rattle.mqtt_tables.specs.Stepping.{Leaves}
+use Rattle.mqtt_acts.specs.TheTables.Stepping.{Leaves}
 use Rattle.mqtt_subscribing.specs.Granting.{answers, asked_for}
 use Rattle.mqtt_subscribing.proofs.granting.answer_filter.Goals as goal
 

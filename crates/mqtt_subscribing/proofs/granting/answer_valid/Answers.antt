@@ -1,9 +1,9 @@
 use Rattle.std.proofs.Common.{◌≡◌, [], ◌∷◌, ◌++◌, rules, refl, sym, ◌∙◌}
 use Rattle.std.specs.Prelude.{true, false, map}
-use Rattle.mqtt_rules.specs.Subscribe.{next_number, retained_copy_to}
-use Rattle.mqtt_tables.specs.Stepping.{env_in}
-use Rattle.mqtt_tables.specs.Undoing.{moment_of}
-use Rattle.mqtt_tables.proofs.Doing.{on_ok, if_err}
+use Rattle.mqtt_acts.specs.TheRules.Subscribe.{next_number, retained_copy_to}
+use Rattle.mqtt_acts.specs.TheTables.Stepping.{env_in}
+use Rattle.mqtt_acts.specs.TheTables.Undoing.{moment_of}
+use Rattle.mqtt_acts.proofs.TheTables.Doing.{on_ok, if_err}
 use Rattle.mqtt_subscribing.specs.Granting.{asked_for}
 use Rattle.mqtt_subscribing.proofs.Answered.{Looked, looked, messages_lawful, look_room, look_ok, look_left, look_late, look_code, refused_does, refused_late}
 use Rattle.mqtt_subscribing.proofs.granting.answer_valid.Goals as goal

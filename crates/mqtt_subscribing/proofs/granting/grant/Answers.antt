@@ -3,11 +3,11 @@ use Rattle.std.specs.Prelude.{⊤, true, false, Result, Err, IfErr}
 use Rattle.std.specs.List.{AllByRecursion}
 use Rattle.mqtt_message.specs.Queue.{IsSpelled}
 use Rattle.mqtt_message.specs.declared.message.MessageCopy.{MessageCopy}
-use Rattle.mqtt_rules.specs.Subscribe.{next_number}
-use Rattle.mqtt_tables.specs.declared.fault.StepFault.{StepFault}
-use Rattle.mqtt_tables.specs.declared.fault.StepFault.TheVariants.{Memory}
-use Rattle.mqtt_tables.specs.Stepping.{Leaves}
-use Rattle.mqtt_tables.proofs.Doing.{on_ok, if_err}
+use Rattle.mqtt_acts.specs.TheRules.Subscribe.{next_number}
+use Rattle.mqtt_acts.specs.TheTables.declared.fault.StepFault.{StepFault}
+use Rattle.mqtt_acts.specs.TheTables.declared.fault.StepFault.TheVariants.{Memory}
+use Rattle.mqtt_acts.specs.TheTables.Stepping.{Leaves}
+use Rattle.mqtt_acts.proofs.TheTables.Doing.{on_ok, if_err}
 use Rattle.mqtt_subscribing.specs.Enrolling.{enrolls}
 use Rattle.mqtt_subscribing.specs.Granting.{asked_for, chosen, grants}
 use Rattle.mqtt_subscribing.proofs.Granted.{all_spelled, chosen_spelled, room_stays, granted_ok, enroll_left, deliver_left, memory_after}

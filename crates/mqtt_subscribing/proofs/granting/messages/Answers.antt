@@ -1,8 +1,8 @@
 use Rattle.std.proofs.Common.{◌≡◌, true, false, rules, refl}
-use Rattle.mqtt_rules.specs.Subscribe.{has_filter, wants_retained}
+use Rattle.mqtt_acts.specs.TheRules.Subscribe.{has_filter, wants_retained}
 use Rattle.mqtt_topic.specs.Filters.{begins_share}
-use Rattle.mqtt_tables.specs.Undoing.{moment_of}
-use Rattle.mqtt_tables.proofs.Doing.{if_ok}
+use Rattle.mqtt_acts.specs.TheTables.Undoing.{moment_of}
+use Rattle.mqtt_acts.proofs.TheTables.Doing.{if_ok}
 use Rattle.mqtt_subscribing.specs.Granting.{asked_for}
 use Rattle.mqtt_subscribing.proofs.Granted.{messages_are}
 use Rattle.mqtt_subscribing.proofs.granting.messages.Goals as goal

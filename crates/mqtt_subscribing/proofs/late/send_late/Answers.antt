@@ -1,6 +1,6 @@
 use Rattle.std.proofs.Common.{◌≡◌, ◌∷◌, length, rules, arith}
-use Rattle.mqtt_rules.specs.Deeds.{always}
-use Rattle.mqtt_tables.specs.Stepping.{IsLeft}
+use Rattle.mqtt_acts.specs.TheRules.Deeds.{always}
+use Rattle.mqtt_acts.specs.TheTables.Stepping.{IsLeft}
 use Rattle.mqtt_subscribing.specs.Bringing.{late_within}
 use Rattle.mqtt_subscribing.proofs.LateCopies.{sends_spelled, sends_step, sends_left, sends_last}
 use Rattle.mqtt_subscribing.proofs.late.send_late.Goals as goal

@@ -1,10 +1,10 @@
 use Rattle.std.proofs.Common.{◌≡◌, [], rules, length, ap, sym, subst, ◌∙◌, arith}
 use Rattle.mqtt_lawful.specs.Lawful.{IsIdentifier}
 use Rattle.mqtt_props.specs.declared.table.PropName.TheVariants.{SubscriptionIdentifier}
-use Rattle.mqtt_rules.specs.Packets.{number_at}
-use Rattle.mqtt_rules.proofs.ContentPackets.{asked_identifier}
-use Rattle.mqtt_tables.specs.Stepping.{env_in}
-use Rattle.mqtt_tables.proofs.Doing.{on_ok, if_err}
+use Rattle.mqtt_acts.specs.TheRules.Packets.{number_at}
+use Rattle.mqtt_acts.proofs.TheRules.ContentPackets.{asked_identifier}
+use Rattle.mqtt_acts.specs.TheTables.Stepping.{env_in}
+use Rattle.mqtt_acts.proofs.TheTables.Doing.{on_ok, if_err}
 use Rattle.mqtt_subscribing.proofs.AllAnswers.{length_answers}
 use Rattle.mqtt_subscribing.proofs.Subscribed.{few_filters, texts_fit, packet_ok, told_left, filters_left}
 use Rattle.mqtt_subscribing.proofs.subscribing.answer_packet.Goals as goal

@@ -1,5 +1,5 @@
 use Rattle.std.proofs.Common.{true, false, sym, ◌∙◌}
-use Rattle.mqtt_tables.proofs.Doing.{on_ok, if_err}
+use Rattle.mqtt_acts.proofs.TheTables.Doing.{on_ok, if_err}
 use Rattle.mqtt_subscribing.proofs.Subscribed.{whole_ok, whole_left, few_filters}
 use Rattle.mqtt_subscribing.proofs.subscribing.subscribe.Goals as goal
 

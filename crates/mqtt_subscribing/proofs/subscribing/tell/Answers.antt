@@ -1,4 +1,4 @@
-use Rattle.mqtt_tables.proofs.Doing.{on_ok, if_err}
+use Rattle.mqtt_acts.proofs.TheTables.Doing.{on_ok, if_err}
 use Rattle.mqtt_subscribing.proofs.Subscribed.{told_ok, told_first, told_then}
 use Rattle.mqtt_subscribing.proofs.subscribing.tell.Goals as goal
 

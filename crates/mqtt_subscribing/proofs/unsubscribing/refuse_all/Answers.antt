@@ -1,5 +1,5 @@
 use Rattle.std.proofs.Common.{◌∙◌}
-use Rattle.mqtt_tables.proofs.Doing.{on_ok, if_err}
+use Rattle.mqtt_acts.proofs.TheTables.Doing.{on_ok, if_err}
 use Rattle.mqtt_subscribing.proofs.Unsubscribed.{refused_ok, refused_left}
 use Rattle.mqtt_subscribing.proofs.unsubscribing.refuse_all.Goals as goal
 

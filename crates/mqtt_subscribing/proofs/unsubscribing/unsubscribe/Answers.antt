@@ -1,5 +1,5 @@
 use Rattle.std.proofs.Common.{true, false, sym, ◌∙◌}
-use Rattle.mqtt_tables.proofs.Doing.{on_ok, if_err}
+use Rattle.mqtt_acts.proofs.TheTables.Doing.{on_ok, if_err}
 use Rattle.mqtt_subscribing.proofs.Unsubscribed.{whole_ok, whole_left}
 use Rattle.mqtt_subscribing.proofs.unsubscribing.unsubscribe.Goals as goal
 

@@ -1,7 +1,7 @@
 use Rattle.std.proofs.Common.{sym, subst}
 use Rattle.std.specs.Prelude.{OnOk, IfErr}
 use Rattle.mqtt_closing.specs.Choosing.{DoesSome, LeavesSome}
-use Rattle.mqtt_tables.proofs.Doing.{on_ok, if_err}
+use Rattle.mqtt_closing.proofs.TheTables.Doing.{on_ok, if_err}
 use Rattle.mqtt_ticking.specs.declared.finding.Due.{Due}
 use Rattle.mqtt_ticking.specs.Ticking.{does_due}
 use Rattle.mqtt_ticking.proofs.Ticked.{silence_done, silence_failed, will_done, will_failed}

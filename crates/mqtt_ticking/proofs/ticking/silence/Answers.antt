@@ -1,9 +1,9 @@
 use Rattle.std.proofs.Common.{◌≡◌, rules, sym}
 use Rattle.std.specs.Prelude.{None}
 use Rattle.mqtt_rows.specs.Order.{row_at}
-use Rattle.mqtt_tables.specs.Lines.{line_number}
-use Rattle.mqtt_tables.proofs.Doing.{on_ok, if_err}
-use Rattle.mqtt_tables.proofs.Inverse.{row_key}
+use Rattle.mqtt_closing.specs.TheTables.Lines.{line_number}
+use Rattle.mqtt_closing.proofs.TheTables.Doing.{on_ok, if_err}
+use Rattle.mqtt_closing.proofs.TheTables.Inverse.{row_key}
 use Rattle.mqtt_ticking.proofs.Ticked.{no_line, silenced, silence_left}
 use Rattle.mqtt_ticking.proofs.ticking.silence.Goals as goal
 

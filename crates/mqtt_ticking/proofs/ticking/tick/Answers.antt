@@ -1,7 +1,7 @@
 use Rattle.std.proofs.Common.{◌≡◌, Bool, rules, sym, subst}
 use Rattle.std.specs.Prelude.{Result, Err, IfErr, Some, None}
-use Rattle.mqtt_rules.specs.Step.{Tick, deeds_of}
-use Rattle.mqtt_tables.specs.declared.fault.StepFault.{StepFault}
+use Rattle.mqtt_closing.specs.TheRules.Step.{Tick, deeds_of}
+use Rattle.mqtt_closing.specs.TheTables.declared.fault.StepFault.{StepFault}
 use Rattle.mqtt_closing.specs.Choosing.{LeavesSome}
 use Rattle.mqtt_ticking.proofs.Ticked.{tick_left, none_due, one_left, ticked}
 use Rattle.mqtt_ticking.proofs.ticking.tick.Goals as goal

@@ -1,6 +1,6 @@
 use Rattle.std.proofs.Common.{sym}
 use Rattle.mqtt_flow.specs.Outbound.{pubcomp}
-use Rattle.mqtt_rules.specs.State.{queue_on}
+use Rattle.mqtt_tables.specs.TheRules.State.{queue_on}
 use Rattle.mqtt_tables.proofs.Doing.{if_ok, if_err}
 use Rattle.mqtt_turns.specs.Answering.{pubcomps}
 use Rattle.mqtt_turns.proofs.Asked.{looked, came_so, left_so}

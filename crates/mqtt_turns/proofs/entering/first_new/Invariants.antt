@@ -1,7 +1,7 @@
 use Rattle.std.proofs.Common.{◌≡◌, drop}
 use Rattle.std.specs.Prelude.{find}
 use Rattle.mqtt_records.specs.declared.records.Records.{Records}
-use Rattle.mqtt_rules.specs.Outbound.{is_new}
+use Rattle.mqtt_tables.specs.TheRules.Outbound.{is_new}
 use Rattle.mqtt_turns.specs.Entering.{IsBegun}
 use Rattle.mqtt_turns.proofs.entering.first_new.Given as goal
 

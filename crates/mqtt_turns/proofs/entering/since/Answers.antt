@@ -1,7 +1,7 @@
 use Rattle.std.proofs.Common.{ap, ◌∙◌}
 use Rattle.std.specs.Prelude.{find, option_map}
 use Rattle.mqtt_records.specs.Session.{copy_place}
-use Rattle.mqtt_rules.specs.Outbound.{is_new}
+use Rattle.mqtt_tables.specs.TheRules.Outbound.{is_new}
 use Rattle.mqtt_turns.proofs.Entered.{given_first, given_next, if_some}
 use Rattle.mqtt_turns.proofs.entering.since.Goals as goal
 

@@ -1,9 +1,9 @@
 use Rattle.std.proofs.Common.{◌≡◌, ◌+◌, ◌-◌, [], length, map, ap, subst, sym, ◌∙◌}
 use Rattle.mqtt_flow.specs.Outbound.{has_room, way_made}
-use Rattle.mqtt_rules.proofs.TurnLists.{drops_rise}
-use Rattle.mqtt_rules.proofs.Turns.{Rises}
-use Rattle.mqtt_rules.specs.Outbound.{since}
-use Rattle.mqtt_rules.specs.State.{MemberChoice, queue_on}
+use Rattle.mqtt_tables.proofs.TheRules.TurnLists.{drops_rise}
+use Rattle.mqtt_tables.proofs.TheRules.Turns.{Rises}
+use Rattle.mqtt_tables.specs.TheRules.Outbound.{since}
+use Rattle.mqtt_tables.specs.TheRules.State.{MemberChoice, queue_on}
 use Rattle.mqtt_tables.specs.Stepping.{env_in}
 use Rattle.mqtt_turns.specs.Queues.{entry_of}
 use Rattle.mqtt_turns.proofs.Entered.{few_rows, kept_memory, limits_of, room_found}

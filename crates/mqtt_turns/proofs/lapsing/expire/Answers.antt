@@ -1,6 +1,6 @@
 use Rattle.std.proofs.Common.{ap, sym, ◌∙◌, []}
 use Rattle.mqtt_flow.specs.Outbound.{expired}
-use Rattle.mqtt_rules.specs.State.{queue_on}
+use Rattle.mqtt_tables.specs.TheRules.State.{queue_on}
 use Rattle.mqtt_tables.proofs.Doing.{on_ok, if_err}
 use Rattle.mqtt_turns.specs.Turning.{takes_turns, lapses_of}
 use Rattle.mqtt_turns.proofs.Pumped.{rise_there, lapses_is}

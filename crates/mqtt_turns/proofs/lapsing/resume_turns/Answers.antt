@@ -1,6 +1,6 @@
 use Rattle.std.proofs.Common.{map, ap, sym, subst, ◌∙◌}
 use Rattle.mqtt_flow.specs.Outbound.{resumed_with}
-use Rattle.mqtt_rules.proofs.Turns.{Rises}
+use Rattle.mqtt_tables.proofs.TheRules.Turns.{Rises}
 use Rattle.mqtt_turns.proofs.Pumped.{resumed_rises}
 use Rattle.mqtt_turns.specs.Queues.{entry_of}
 use Rattle.mqtt_turns.proofs.lapsing.resume_turns.Goals as goal

@@ -1,9 +1,9 @@
 use Rattle.std.proofs.Common.{◌≡◌, rules, nat_eq, length, ap, sym, ◌∙◌}
 use Rattle.std.specs.Prelude.{count_by, filter_map}
 use Rattle.mqtt_flow.specs.Outbound.{pump}
-use Rattle.mqtt_rules.specs.Outbound.{way_of}
-use Rattle.mqtt_rules.specs.State.{queue_on}
-use Rattle.mqtt_rules.specs.Step.{publish_out}
+use Rattle.mqtt_tables.specs.TheRules.Outbound.{way_of}
+use Rattle.mqtt_tables.specs.TheRules.State.{queue_on}
+use Rattle.mqtt_tables.specs.TheRules.Step.{publish_out}
 use Rattle.mqtt_tables.specs.Lines.{line_number}
 use Rattle.mqtt_tables.specs.Stepping.{IsLeft}
 use Rattle.mqtt_tables.proofs.Inverse.{row_key}

@@ -3,14 +3,14 @@ use Rattle.std.specs.Prelude.{count_by, filter_map}
 use Rattle.mqtt_base.specs.declared.limits.TheConstants.{LAST_NUMBER}
 use Rattle.mqtt_flow.specs.Outbound.{pump}
 use Rattle.mqtt_flow.specs.Queue.{greatest_order}
-use Rattle.mqtt_rules.specs.Outbound.{all_turn_deeds}
-use Rattle.mqtt_rules.specs.State.{queue_on}
-use Rattle.mqtt_rules.specs.Step.{publish_out}
+use Rattle.mqtt_tables.specs.TheRules.Outbound.{all_turn_deeds}
+use Rattle.mqtt_tables.specs.TheRules.State.{queue_on}
+use Rattle.mqtt_tables.specs.TheRules.Step.{publish_out}
 use Rattle.mqtt_turns.specs.Turning.{is_sending}
 use Rattle.mqtt_turns.proofs.Sending.{pump_sends}
 use Rattle.mqtt_turns.specs.Queues.{entry_of}
-use Rattle.mqtt_rules.proofs.Turns.{Rises}
-use Rattle.mqtt_rules.proofs.TurnLists.{pumps_rise}
+use Rattle.mqtt_tables.proofs.TheRules.Turns.{Rises}
+use Rattle.mqtt_tables.proofs.TheRules.TurnLists.{pumps_rise}
 use Rattle.mqtt_turns.proofs.Asked.{orders_alike}
 use Rattle.mqtt_turns.proofs.pumping.pump_turns.Goals as goal
 

@@ -1,6 +1,6 @@
 use Rattle.std.proofs.Common.{◌≡◌, false, ap, sym, ◌∙◌}
 use Rattle.mqtt_codec.specs.Packets.{shortest_of}
-use Rattle.mqtt_rules.specs.Packets.{publish_of}
+use Rattle.mqtt_tables.specs.TheRules.Packets.{publish_of}
 use Rattle.mqtt_tables.specs.Undoing.{moment_of}
 use Rattle.mqtt_tables.proofs.Doing.{on_ok, if_err}
 use Rattle.mqtt_turns.proofs.Turned.{sent_done, sent_left}

@@ -1,12 +1,12 @@
 use Rattle.std.proofs.Common.{◌≡◌, rules, ap, sym, subst, ◌∙◌}
 use Rattle.mqtt_records.specs.declared.records.Records.{Records}
-use Rattle.mqtt_rules.specs.State.{Broker}
-use Rattle.mqtt_rules.specs.Step.{NewLine, at_moment}
-use Rattle.mqtt_tables.specs.Doing.{after_act, links}
-use Rattle.mqtt_tables.specs.Stepping.{Stepping, at_rest}
+use Rattle.mqtt_lines.specs.TheRules.State.{Broker}
+use Rattle.mqtt_lines.specs.TheRules.Step.{NewLine, at_moment}
+use Rattle.mqtt_lines.specs.TheTables.Doing.{after_act, links}
+use Rattle.mqtt_lines.specs.TheTables.Stepping.{Stepping, at_rest}
 use Rattle.mqtt_lines.specs.Sound.{IsSound}
 use Rattle.mqtt_router.specs.Indexing.{Serves}
-use Rattle.mqtt_rules.specs.Routing.{subscribers}
+use Rattle.mqtt_lines.specs.TheRules.Routing.{subscribers}
 use Rattle.mqtt_engine.proofs.Linked.{first_members, link_records, link_unspent, linked, linked_step}
 use Rattle.mqtt_lines.proofs.SoundLaw.{step_sound}
 use Rattle.mqtt_engine.proofs.engine.Engine.link.Goals as goal

@@ -1,5 +1,5 @@
 use Rattle.std.proofs.Common.{refl}
-use Rattle.mqtt_rules.specs.Step.{Lost}
+use Rattle.mqtt_lines.specs.TheRules.Step.{Lost}
 use Rattle.mqtt_engine.proofs.engine.Engine.lost.Goals as goal
 
 pub returns-in-None : goal.returns-in-None

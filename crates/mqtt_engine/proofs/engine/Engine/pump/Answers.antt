@@ -1,5 +1,5 @@
 use Rattle.std.proofs.Common.{refl}
-use Rattle.mqtt_rules.specs.Step.{Pump}
+use Rattle.mqtt_lines.specs.TheRules.Step.{Pump}
 use Rattle.mqtt_engine.proofs.engine.Engine.pump.Goals as goal
 
 pub returns-in-None : goal.returns-in-None

@@ -1,7 +1,7 @@
 use Rattle.std.proofs.Common.{◌≡◌, rules, ap, sym, ◌∙◌, inl}
-use Rattle.mqtt_rules.specs.State.{Broker}
-use Rattle.mqtt_rules.specs.Step.{at_moment}
-use Rattle.mqtt_tables.specs.Stepping.{Stepping}
+use Rattle.mqtt_lines.specs.TheRules.State.{Broker}
+use Rattle.mqtt_lines.specs.TheRules.Step.{at_moment}
+use Rattle.mqtt_lines.specs.TheTables.Stepping.{Stepping}
 use Rattle.mqtt_engine.proofs.Linked.{passed_over}
 use Rattle.mqtt_engine.proofs.engine.Engine.skip.Goals as goal
 

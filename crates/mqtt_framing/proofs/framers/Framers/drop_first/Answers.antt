@@ -3,7 +3,7 @@ use Rattle.std.specs.Prelude.{Some, None}
 use Rattle.mqtt_base.specs.declared.limits.TheConstants.{LINE_LIMIT}
 use Rattle.mqtt_packet.specs.Stream.{Framing}
 use Rattle.mqtt_rows.specs.Order.{IsAscending, put_row, remove_row, row_at}
-use Rattle.mqtt_rules.specs.Piece.{without_first}
+use Rattle.mqtt_tables.specs.TheRules.Piece.{without_first}
 use Rattle.mqtt_framing.specs.Framers.{AreBytes, changed_at, in_framing, line_of}
 use Rattle.mqtt_framing.proofs.Held.{changed_in, first_bytes, none_changed}
 use Rattle.mqtt_framing.proofs.framers.Framers.drop_first.Goals as goal

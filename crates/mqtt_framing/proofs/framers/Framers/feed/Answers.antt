@@ -3,7 +3,7 @@ use Rattle.std.specs.Prelude.{Some, None, OnOk, OnErr}
 use Rattle.mqtt_base.specs.declared.limits.TheConstants.{LINE_LIMIT}
 use Rattle.mqtt_packet.specs.Stream.{Framing}
 use Rattle.mqtt_rows.specs.Order.{IsAscending, put_row, remove_row, row_at}
-use Rattle.mqtt_rules.specs.Piece.{fed}
+use Rattle.mqtt_tables.specs.TheRules.Piece.{fed}
 use Rattle.mqtt_framing.specs.Framers.{AreBytes, HeldLine, changed_at, line_of}
 use Rattle.mqtt_framing.proofs.Held.{held_is, none_changed, taken_bytes, taken_in}
 use Rattle.mqtt_framing.proofs.framers.Framers.feed.Goals as goal

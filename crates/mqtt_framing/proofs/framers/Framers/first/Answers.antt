@@ -3,7 +3,7 @@ use Rattle.std.specs.Prelude.{Some, None, IfOk, option_map}
 use Rattle.mqtt_base.specs.declared.limits.TheConstants.{LINE_LIMIT}
 use Rattle.mqtt_packet.specs.Stream.{Framing}
 use Rattle.mqtt_rows.specs.Order.{IsAscending, put_row, remove_row, row_at}
-use Rattle.mqtt_rules.specs.Piece.{first_call}
+use Rattle.mqtt_tables.specs.TheRules.Piece.{first_call}
 use Rattle.mqtt_framing.specs.Framers.{call_asked, changed_at, framing_of, line_of}
 use Rattle.mqtt_framing.proofs.Held.{framing_found, none_in, nothing_asked, same_in}
 use Rattle.mqtt_framing.proofs.framers.Framers.first.Goals as goal

@@ -2,7 +2,7 @@ use Rattle.std.proofs.Common.{◌≡◌, rules, ap, sym, ◌∙◌}
 use Rattle.std.specs.Prelude.{None}
 use Rattle.mqtt_packet.specs.Front.{first_of}
 use Rattle.mqtt_rows.specs.Order.{row_at}
-use Rattle.mqtt_rules.specs.Piece.{is_whole}
+use Rattle.mqtt_tables.specs.TheRules.Piece.{is_whole}
 use Rattle.mqtt_framing.specs.Framers.{framing_of, line_of}
 use Rattle.mqtt_framing.proofs.Held.{nothing_whole}
 use Rattle.mqtt_framing.proofs.framers.Framers.is_whole.Goals as goal

@@ -1,8 +1,8 @@
 use Rattle.std.proofs.Common.{List, sym, subst}
 use Rattle.mqtt_records.specs.Records.{changed_all}
 use Rattle.mqtt_routes.specs.Subscriptions.{Subscriber}
-use Rattle.mqtt_rules.specs.Routing.{subscribers}
-use Rattle.mqtt_tables.proofs.Doing.{on_ok}
+use Rattle.mqtt_acts.specs.TheRules.Routing.{subscribers}
+use Rattle.mqtt_acts.proofs.TheTables.Doing.{on_ok}
 use Rattle.mqtt_router.specs.Indexing.{Serves}
 use Rattle.mqtt_router.proofs.Along.{serves_followed_all}
 use Rattle.mqtt_router.proofs.index.Index.follow_all.Goals as goal

@@ -1,5 +1,5 @@
 use Rattle.std.proofs.Common.{sym, ◌∙◌}
-use Rattle.mqtt_tables.proofs.Doing.{if_ok}
+use Rattle.mqtt_acts.proofs.TheTables.Doing.{if_ok}
 use Rattle.mqtt_router.proofs.Routed.{refused_place, refused_room, taken_is}
 use Rattle.mqtt_router.proofs.index.IndexRouter.route.Goals as goal
 

@@ -1,0 +1,11 @@
+//! The broker over a database on disk and a listening socket, in turns and one thread (MQTT 5.0, 4.2).
+#![tactic(auto)]
+
+mod clock;
+mod fault;
+mod poll_link;
+mod serving;
+mod store;
+
+pub use fault::ServeFault;
+pub use serving::serve;

@@ -1,0 +1,93 @@
+//! The store of the server: a database in a file (MQTT 5.0, 4.1).
+ghost use Rattle.std.specs.Prelude.{◌≡◌, ◌≢◌, IfErr};
+
+use crate::fault::ServeFault;
+use mqtt_serving::{Engine, EngineError, Full, Keep, KeepError, Limits};
+use mqtt_store::SqlKeep;
+use sqlite::{Alter, Connection, Error, ErrorCode, File, FileStore};
+use std::alloc::Global;
+use std::hash::RandomState;
+
+/// A database in a file.
+pub(crate) type Database = Connection<FileStore<File>>;
+
+/// The limits of the server.
+const LIMITS: Limits = Limits {
+    full: Full::Refuse,
+    queue: 1_000,
+    sessions: 1_000,
+    retained: 1_000,
+};
+
+/// What a failure of the database is to the server.
+fn fault_of(error: &Error) -> ServeFault
+    ensures { result ≢ ServeFault.Socket }
+{
+    match error {
+        Error::SqliteFailure(ErrorCode::OutOfMemory) => ServeFault::Memory,
+        _ => ServeFault::Store,
+    }
+}
+
+/// Opens the database at a path, or makes it.
+pub(crate) fn open_database(rt: &HostRuntime, path: &str) -> Result<Database, ServeFault> {
+    match Connection::open(rt, path) {
+        Ok(conn) => Ok(conn),
+        Err(error) => Err(fault_of(&error)),
+    }
+}
+
+/// Closes the database: the log beside it goes into its file.
+pub(crate) fn close_database(conn: Database) -> Result<(), ServeFault>
+    ensures fault { IfErr result (λ fault. fault ≢ ServeFault.Socket) }
+{
+    match conn.close() {
+        Ok(()) => Ok(()),
+        Err(error) => Err(fault_of(&error)),
+    }
+}
+
+/// A store over a connection.
+pub(crate) fn store_over<S: Alter + Drop>(
+    alloc: Global,
+    conn: Connection<S>,
+) -> Result<SqlKeep<S>, ServeFault> {
+    match SqlKeep::new(alloc, conn) {
+        Ok(keep) => Ok(keep),
+        Err((error, store)) => {
+            drop(store);
+            Err(fault_of(&error))
+        }
+    }
+}
+
+/// Opens the broker over what a store holds, at a moment in milliseconds.
+pub(crate) fn open_engine<K: Keep>(
+    rt: &HostRuntime,
+    keep: K,
+    moment: u64,
+) -> Result<Engine<K>, ServeFault> {
+    let Ok(hasher) = RandomState::new(rt) else {
+        return Err(ServeFault::Memory);
+    };
+    match Engine::open(rt.alloc(), keep, moment, LIMITS, hasher) {
+        Ok(engine) => Ok(engine),
+        Err((keep, error)) => {
+            drop(keep);
+            match error {
+                KeepError::Memory => Err(ServeFault::Memory),
+                _ => Err(ServeFault::Store),
+            }
+        }
+    }
+}
+
+/// What a refusal of the engine is to the server.
+pub(crate) fn stopped_by(error: EngineError) -> ServeFault
+    ensures { error ≢ EngineError.Memory → result ≡ ServeFault.Store }
+{
+    match error {
+        EngineError::Memory => ServeFault::Memory,
+        EngineError::Stopped | EngineError::Spent => ServeFault::Store,
+    }
+}

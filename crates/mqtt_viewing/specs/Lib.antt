@@ -1,0 +1,5 @@
+-- The text of the viewer, and of the report on the vectors.
+pub mod PacketText
+pub mod Vectors
+pub mod View
+pub mod Viewing

@@ -1,0 +1,28 @@
+//! What holds of every view (ours).
+
+ghost use Rattle.std.specs.Prelude.{◌≡◌, ℕ, List, Bool, Some, ◌++◌};
+ghost use Rattle.mqtt_viewing.specs.PacketText.{AreBytes, IsWord, escaped};
+ghost use Rattle.mqtt_viewing.specs.Viewing.{Views, WritesFront};
+ghost use Rattle.mqtt_viewing.specs.declared.viewer.Status.{Status};
+
+/// Each input has one view, with one status, and all that a view that stopped early has written is
+/// a beginning of it.
+pub fn one_view()
+    ensures some { (payload : Bool) (input before : List ℕ) → (after : List ℕ) × (status : Status)
+        × Views payload input (Some before) (Some after) status }
+    ensures only { (payload : Bool) (input before after other : List ℕ) (status another : Status)
+        → Views payload input (Some before) (Some after) status
+        → Views payload input (Some before) (Some other) another
+        → (after ≡ other) × (status ≡ another) }
+    ensures front { (payload : Bool) (input before after early : List ℕ) (status : Status)
+        → Views payload input (Some before) (Some after) status
+        → WritesFront payload input (Some before) (Some early)
+        → (rest : List ℕ) × (after ≡ early ++ rest) }
+{}
+
+/// A text stands in a line as one word of printable ASCII, and two texts never as the same.
+pub fn one_word()
+    ensures word { (text : List ℕ) → AreBytes text → IsWord (escaped text) }
+    ensures only { (text other : List ℕ) → AreBytes text → AreBytes other
+        → escaped text ≡ escaped other → text ≡ other }
+{}

@@ -1,0 +1,15 @@
+//! The view of a stream of packets, and the report on the vectors, over any reader and writer (ours). Private: `mqtt_cli`
+//! re-exports it.
+#![tactic(auto)]
+
+mod laws;
+mod packet_text;
+mod text;
+mod vectors_checker;
+mod vectors_report;
+mod vectors_table;
+mod viewer;
+
+pub use laws::{one_view, one_word};
+pub use vectors_checker::{VectorsFault, vectors};
+pub use viewer::{Status, ViewFault, view};

@@ -1,0 +1,4 @@
+pub mod Spending
+pub mod Fair
+pub mod Once
+pub mod Copies

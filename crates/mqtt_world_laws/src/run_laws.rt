@@ -1,0 +1,52 @@
+//! The laws of runs: each message is accepted once, each publication routed, each copy waits or has ended (3.3.4,
+//! 4.3, 4.4, 4.9).
+ghost use Rattle.std.specs.Prelude.{ℕ, List};
+ghost use Rattle.mqtt_base.specs.declared.session.CopyId.{CopyId};
+ghost use Rattle.mqtt_records.specs.declared.records.Records.{Records};
+ghost use Rattle.mqtt_rules.specs.declared.Limits.{Limits};
+ghost use Rattle.mqtt_rules.specs.State.{MemberChoice};
+ghost use Rattle.mqtt_rules.specs.Laws.{AreWithin, FewOpen};
+ghost use Rattle.mqtt_laws.specs.World.{World, start};
+ghost use Rattle.mqtt_laws.specs.Run.{Turn, run};
+ghost use Rattle.mqtt_world_laws.specs.Copies.{AreCountedOn, AreRouted, IsBalanced};
+ghost use Rattle.mqtt_world_laws.specs.Fair.{IsFair, IsNew, MayOpen, opened_world};
+ghost use Rattle.mqtt_world_laws.specs.Once.{HasCarried, IsAcceptedOnce};
+
+/// Whatever happens, with any number of publishers, receivers and strangers, lines lost and given up, restarts,
+/// and stops before or after a commit: a QoS 2 message of a publisher is accepted at most once, exactly once
+/// if its handshake is completed, never if it was refused or has not gone out; one of QoS 1 that was
+/// acknowledged at least once; what was accepted carries the message's topic, payload and RETAIN with the
+/// publisher's name; and no session has over 20 identifiers open (3.3, 4.3.2, 4.3.3, 4.9).
+pub fn every_run_accepts_once()
+    ensures once { (limits : Limits) (ts : List Turn) (w : World) → IsNew limits w → IsFair limits ts w
+        → (client : List ℕ) (n : ℕ) → IsAcceptedOnce client n limits ts w }
+    ensures carried { (limits : Limits) (ts : List Turn) (w : World) → IsNew limits w → IsFair limits ts w
+        → (client : List ℕ) → HasCarried client limits ts w }
+    ensures within { (limits : Limits) (ts : List Turn) (w : World) → IsNew limits w → IsFair limits ts w
+        → FewOpen (run limits ts w).broker.records }
+{}
+
+/// Whatever happens, with any number of publishers, receivers and strangers: each copy that entered a session's
+/// queue waits there or has ended, as often as it entered; none is lost by a restart or a stop, and none ends
+/// more often than it entered (4.3, 4.4, 4.6).
+pub fn every_copy_waits_or_has_ended()
+    ensures balance { (limits : Limits) (ts : List Turn) (w : World) → IsNew limits w → IsFair limits ts w
+        → (c : CopyId) → IsBalanced c limits ts w }
+{}
+
+/// Each publication that is accepted, of a client or a Will, was routed to the sessions and subscriptions that
+/// stood as it was accepted, with the members that the broker chose, in every run whatever; and in a fair run
+/// publications are numbered one after the other, so that no two have one number (3.3.4, 4.8).
+pub fn every_publication_is_routed()
+    ensures routed { (limits : Limits) (ts : List Turn) (w : World) → AreRouted limits ts w }
+    ensures numbered { (limits : Limits) (ts : List Turn) (w : World) → IsNew limits w → IsFair limits ts w
+        → AreCountedOn limits ts w }
+{}
+
+/// So a world may begin: with nothing stored, or opened on tables in order, with no more sessions than the
+/// limit, such as `mqtt_rules` proves lawful records to be (4.1).
+pub fn a_world_may_begin()
+    ensures empty { (limits : Limits) → IsNew limits start }
+    ensures stored { (limits : Limits) (choice : MemberChoice) (now : ℕ) (r : Records)
+        → AreWithin limits → MayOpen limits choice now r → IsNew limits (opened_world limits choice now r) }
+{}
