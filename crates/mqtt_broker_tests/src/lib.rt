@@ -3,10 +3,4 @@
 #![tactic(auto)]
 
 #[cfg(test)]
-mod costly;
-#[cfg(test)]
 mod playing;
-#[cfg(test)]
-mod streams;
-#[cfg(test)]
-mod sweeps;

@@ -1,49 +1,37 @@
-//! Scripts over stores in memory, and over stores whose device fails (MQTT 5.0, 3 and 4).
+//! What is asked of the broker by scripts (MQTT 5.0, 2.1, 3 and 4).
 
-use mqtt_stage::scripts::{clients, closing, filters, publishing, receiving, refusing};
-use mqtt_stage::{How, Telling, judge_all};
+use mqtt_stage::{What, check};
 use std::hash::RandomState;
 use std::test::Fail;
 
 #[test]
 fn scripts_tell_what_they_say(rt: HostRuntime) -> Result<(), Fail> {
     let hasher = RandomState::new(&rt)?;
-    let mut wrong = Telling::new(rt.alloc());
-    for scripts in [clients(), closing(), filters(), publishing(), receiving()] {
-        judge_all(&mut wrong, rt.alloc(), hasher, scripts, How::InMemory);
-    }
-    assert_eq!(rt; wrong.as_str(), "");
-    assert!(rt; !wrong.is_short());
-    drop(wrong);
-    Ok(())
+    check(rt.alloc(), hasher, What::Scripts)
 }
 
 #[test]
 fn what_is_refused_changes_nothing_else(rt: HostRuntime) -> Result<(), Fail> {
     let hasher = RandomState::new(&rt)?;
-    let mut wrong = Telling::new(rt.alloc());
-    judge_all(
-        &mut wrong,
-        rt.alloc(),
-        hasher,
-        refusing(),
-        How::WithRefusals,
-    );
-    assert_eq!(rt; wrong.as_str(), "");
-    assert!(rt; !wrong.is_short());
-    drop(wrong);
-    Ok(())
+    check(rt.alloc(), hasher, What::Refusals)
 }
 
 #[test]
 fn a_device_that_fails_leaves_whole_steps(rt: HostRuntime) -> Result<(), Fail> {
     let hasher = RandomState::new(&rt)?;
-    let mut wrong = Telling::new(rt.alloc());
-    for scripts in [clients(), closing(), filters(), publishing(), receiving()] {
-        judge_all(&mut wrong, rt.alloc(), hasher, scripts, How::WithFailures);
-    }
-    assert_eq!(rt; wrong.as_str(), "");
-    assert!(rt; !wrong.is_short());
-    drop(wrong);
-    Ok(())
+    check(rt.alloc(), hasher, What::Failures)
+}
+
+#[test]
+fn cut_and_changed_frames_are_taken_as_the_framer_takes_them(rt: HostRuntime) -> Result<(), Fail> {
+    let hasher = RandomState::new(&rt)?;
+    check(rt.alloc(), hasher, What::Frames)
+}
+
+#[test]
+fn a_subscribe_of_64_kilobytes_gets_all_that_is_retained_for_each_filter(
+    rt: HostRuntime,
+) -> Result<(), Fail> {
+    let hasher = RandomState::new(&rt)?;
+    check(rt.alloc(), hasher, What::Costly)
 }

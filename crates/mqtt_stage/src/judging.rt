@@ -85,6 +85,29 @@ pub fn judge_kept(wrong: &mut Telling, script: &str, played: &Played, kept: &str
     }
 }
 
+/// The same where there was memory for it.
+fn judge_played(wrong: &mut Telling, script: &str, played: &Result<Played, AllocError>) {
+    match played {
+        Ok(played) => judge(wrong, script, played),
+        Err(_) => wrong.shorten(),
+    }
+}
+
+/// Says where a script that was told isn't played as it says.
+pub(crate) fn judge_script(
+    wrong: &mut Telling,
+    alloc: Global,
+    hasher: RandomState,
+    script: &Telling,
+) {
+    if script.is_short() {
+        wrong.shorten();
+    }
+    let played = play_in_memory(alloc, hasher, script.as_str(), Part::whole());
+    judge_played(wrong, script.as_str(), &played);
+    drop(played);
+}
+
 fn judge_in_memory(
     wrong: &mut Telling,
     alloc: Global,

@@ -2,6 +2,8 @@
 #![tactic(auto)]
 
 mod broker;
+mod checks;
+mod costly;
 mod engine;
 mod judging;
 mod kept;
@@ -9,8 +11,11 @@ mod play;
 mod reading;
 mod run;
 pub mod scripts;
+mod streams;
+mod sweeps;
 mod telling;
 
+pub use checks::{What, check};
 pub use judging::{
     How, is_kept_after, judge, judge_all, judge_failure, judge_kept, play_in_memory,
 };

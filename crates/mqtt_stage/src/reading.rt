@@ -77,9 +77,10 @@ pub(crate) fn read_connect(bytes: &mut Vec<u8>, client: &str) -> bool {
 
 /// Four digits of a number, as bytes of a text.
 fn tell_topic(told: &mut Telling, number: u64) {
-    for unit in [1000, 100, 10, 1] {
-        told.pair("3", number / unit % 10);
-    }
+    told.pair("3", number / 1000 % 10);
+    told.pair("3", number / 100 % 10);
+    told.pair("3", number / 10 % 10);
+    told.pair("3", number % 10);
 }
 
 /// A number as two bytes.

@@ -1,8 +1,8 @@
 //! What a line has to tell of bytes, by what they begin with (MQTT 5.0, 2.1, 4.13).
 
+use crate::telling::Telling;
 use mqtt_base::Reason;
 use mqtt_packet::{Fault, Framer};
-use mqtt_stage::Telling;
 use std::alloc::Global;
 
 /// What bytes begin with.
@@ -30,16 +30,20 @@ fn first_in(framer: &Framer) -> First {
     }
 }
 
+/// What a framer that has nothing yet begins with, once it has bytes.
+fn first_fed(framer: &mut Framer, bytes: &[u8]) -> First {
+    match framer.feed(bytes) {
+        Ok(_) => first_in(framer),
+        Err((fault, _)) => First::Bad(code_of(fault)),
+    }
+}
+
 /// What bytes begin with, by the framer alone.
 fn first_of(alloc: Global, bytes: &[u8]) -> First {
     let mut framer = Framer::new(alloc);
-    let fed = framer.feed(bytes);
-    let first = first_in(&framer);
+    let first = first_fed(&mut framer, bytes);
     drop(framer);
-    match fed {
-        Ok(_) => first,
-        Err((fault, _)) => First::Bad(code_of(fault)),
-    }
+    first
 }
 
 /// What is told of first bytes of a line, where it doesn't depend on what the broker has.

@@ -1,8 +1,9 @@
 //! One packet that asks for much (MQTT 5.0, 3.8).
 
-use mqtt_stage::{Part, Telling, judge, play_in_memory};
+use crate::judging::judge_script;
+use crate::telling::Telling;
+use std::alloc::Global;
 use std::hash::RandomState;
-use std::test::Fail;
 
 /// A SUBSCRIBE of 65,535 bytes, which has the filter `#` at QoS 0 16,382 times.
 fn tell_subscribe(script: &mut Telling) {
@@ -32,24 +33,17 @@ fn tell_messages(script: &mut Telling) {
     script.word(" 1:31080004303031300021");
 }
 
-#[test]
-fn a_subscribe_of_64_kilobytes_gets_all_that_is_retained_for_each_filter(
-    rt: HostRuntime,
-) -> Result<(), Fail> {
-    let hasher = RandomState::new(&rt)?;
-    let mut wrong = Telling::new(rt.alloc());
-    let mut script = Telling::new(rt.alloc());
+/// Says where a SUBSCRIBE of 64 KB doesn't get all that is retained for each of its filters.
+pub(crate) fn judge_costly(
+    wrong: &mut Telling,
+    script: &mut Telling,
+    alloc: Global,
+    hasher: RandomState,
+) {
+    script.clear();
     script.word("link -> 1\nconnect 1 c -> 1:connected\n");
     script.word("times 10 on 1 3108 0004@ 00 21 -> accepted=10\n");
-    tell_subscribe(&mut script);
-    tell_answer(&mut script);
-    let played = play_in_memory(rt.alloc(), hasher, script.as_str(), Part::whole());
-    drop(script);
-    if let Ok(played) = &played {
-        judge(&mut wrong, "", played);
-    }
-    drop(played);
-    assert!(rt; wrong.as_str() == "");
-    drop(wrong);
-    Ok(())
+    tell_subscribe(script);
+    tell_answer(script);
+    judge_script(wrong, alloc, hasher, script);
 }
