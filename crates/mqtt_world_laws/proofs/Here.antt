@@ -61,12 +61,12 @@ Here d b = ⊤
 
 -- ---- deeds of one session, which it outlives
 
-abbrev IsFor : ℕ → Deed → Type 0
+abbrev pub IsFor : ℕ → Deed → Type 0
 IsFor k (At who part) = who.birth ≡ k
 IsFor k (Finish who) = ⊥
 IsFor k d = ⊤
 
-abbrev AreFor : ℕ → List Deed → Type 0
+abbrev pub AreFor : ℕ → List Deed → Type 0
 AreFor k ds = AllByRecursion (IsFor k) ds
 
 -- changes that end no session
@@ -232,9 +232,14 @@ for_has : (k : ℕ) (ds : List Deed) (b : Broker) → AreFor k ds → Has k b.re
 for_has k [] b q h = h
 for_has k (d ∷ ds) b q h = for_has k ds (after d b) q.1 (deed_has k k d b q.0 h)
 
+-- nor do those of one session end another
+pub for_stays : (k j : ℕ) (ds : List Deed) (b : Broker) → AreFor j ds → Has k b.records → Has k (after_all ds b).records
+for_stays k j [] b q h = h
+for_stays k j (d ∷ ds) b q h = for_stays k j ds (after d b) q.1 (deed_has k j d b q.0 h)
+
 -- ---- lists of deeds of one session
 
-for_append : (k : ℕ) (xs ys : List Deed) → AreFor k xs → AreFor k ys → AreFor k (xs ++ ys)
+pub for_append : (k : ℕ) (xs ys : List Deed) → AreFor k xs → AreFor k ys → AreFor k (xs ++ ys)
 for_append k [] ys p q = q
 for_append k (x ∷ xs) ys p q = (p.0, for_append k xs ys p.1 q)
 
@@ -266,7 +271,7 @@ for_turn now line s (turns.Outgrow place id order) = (refl, (tt, tt))
 for_turn now line s (turns.Repeat id) = (tt, tt)
 for_turn now line s (turns.Unknown id) = (tt, tt)
 
-for_enter : (env : Env) (copy : MessageCopy) (s : Session) → AreFor s.birth (enter_deeds env copy s)
+pub for_enter : (env : Env) (copy : MessageCopy) (s : Session) → AreFor s.birth (enter_deeds env copy s)
 for_enter env copy s = for_append s.birth (flat_map (leave_deeds s) (way_made (queue_limits env) (since env s) (queue_on [] s))) (At (whose s) (Enter copy) ∷ []) (for_flat s.birth (leave_deeds s) (way_made (queue_limits env) (since env s) (queue_on [] s)) (for_leave s)) (refl, tt)
 
 found_has : (k : ℕ) (s : Session) (r : Records) → session_at k r ≡ Some s → Has s.birth r

@@ -22,3 +22,6 @@ pub mod Counting
 pub mod Walks
 pub mod CopyRuns
 pub mod Routed
+pub mod Entering
+pub mod EachEntry
+pub mod EntryRuns

@@ -30,7 +30,7 @@ pub record Steps (limits : Limits) (R : List Deed → Broker → Broker → Type
   pub said : R ds w.broker v.broker
 
 module _ (R : List Deed → Broker → Broker → Type 0) (set : Setting) (walk : Walk set.limits R) (within : AreWithin set.limits) where
-  abbrev Goes : List Deed → World → World → Type 0
+  abbrev pub Goes : List Deed → World → World → Type 0
   Goes ds w v = Steps set.limits R ds w v
 
   still : (w v : World) → IsSteady set.limits w.broker → v.broker ≡ w.broker → Goes [] w v
@@ -42,7 +42,7 @@ module _ (R : List Deed → Broker → Broker → Type 0) (set : Setting) (walk 
   call_goes : (call : Call) (w : World) → IsSteady set.limits w.broker → spends set (Some call) w ≡ false → Goes (deeds set.limits set.choice w.now call w.broker) w (calls set call w)
   call_goes call w s unspent = record { steady = steady_step set.limits set.choice w.now call w.broker within s unspent; said = walk.call set.choice w.now call w.broker s unspent }
 
-  if_goes : (call : Option Call) (w : World) → IsSteady set.limits w.broker → spends set call w ≡ false → Goes (deeds_if set call w) w (calls_if set call w)
+  pub if_goes : (call : Option Call) (w : World) → IsSteady set.limits w.broker → spends set call w ≡ false → Goes (deeds_if set call w) w (calls_if set call w)
   if_goes None w s unspent = still w w s refl
   if_goes (Some call) w s unspent = call_goes call w s unspent
 
@@ -64,14 +64,14 @@ module _ (R : List Deed → Broker → Broker → Type 0) (set : Setting) (walk 
 
   -- ---- what is asked for
 
-  comes_goes : (name bytes : List ℕ) (w : World) → IsSteady set.limits w.broker → Goes [] w (comes set name bytes w)
+  pub comes_goes : (name bytes : List ℕ) (w : World) → IsSteady set.limits w.broker → Goes [] w (comes set name bytes w)
   comes_goes name bytes w s = by (is_some (stranger_named name w))
     where
       by : (t : Bool) → Goes [] w (linked_at set t name bytes w)
       by true = still w (linked_at set true name bytes w) s refl
       by false = let x = linking_goes w s in record { steady = x.steady; said = x.said }
 
-  before_goes : (a : Asking) (w : World) → IsSteady set.limits w.broker → Goes [] w (before set a w)
+  pub before_goes : (a : Asking) (w : World) → IsSteady set.limits w.broker → Goes [] w (before set a w)
   before_goes (to_broker d) w s = still w (before set (to_broker d) w) s refl
   before_goes (old_to_broker d) w s = still w (before set (old_to_broker d) w) s refl
   before_goes (break d) w s = still w w s refl
@@ -79,12 +79,12 @@ module _ (R : List Deed → Broker → Broker → Type 0) (set : Setting) (walk 
   before_goes tick w s = still w w s refl
   before_goes (stranger name bytes) w s = comes_goes name bytes w s
 
-  first_goes : (a : Asking) (w : World) → IsSteady set.limits w.broker → first_spends set a w ≡ false → Goes (first_deeds set a w) w (first_step set a w)
+  pub first_goes : (a : Asking) (w : World) → IsSteady set.limits w.broker → first_spends set a w ≡ false → Goes (first_deeds set a w) w (first_step set a w)
   first_goes a w s unspent =
       let x = before_goes a w s in
       then_goes [] (first_deeds set a w) w (before set a w) (first_step set a w) x (if_goes (call_of set a w) (before set a w) x.steady unspent)
 
-  same_cost : (name : List ℕ) (v : World) (x : Option Call) → spends set x v ≡ false → spends set x (next_held name v) ≡ false
+  pub same_cost : (name : List ℕ) (v : World) (x : Option Call) → spends set x v ≡ false → spends set x (next_held name v) ≡ false
   same_cost name v None e = refl
   same_cost name v (Some x) e = e
 
@@ -149,7 +149,7 @@ module _ (R : List Deed → Broker → Broker → Type 0) (set : Setting) (walk 
 
 -- ---- a turn, and a run
 
-turn_goes : (R : List Deed → Broker → Broker → Type 0) (limits : Limits) (walk : Walk limits R) (t : Turn) (w : World) → AreWithin limits → IsSteady limits w.broker → turn_spends limits t w ≡ false
+pub turn_goes : (R : List Deed → Broker → Broker → Type 0) (limits : Limits) (walk : Walk limits R) (t : Turn) (w : World) → AreWithin limits → IsSteady limits w.broker → turn_spends limits t w ≡ false
     → Steps limits R (deeds_at (setting limits t) t.event w) w (turned limits t w)
 turn_goes R limits walk t w within s unspent = by (is_bad t.event w) unspent
   where

@@ -2,3 +2,4 @@ pub mod Spending
 pub mod Fair
 pub mod Once
 pub mod Copies
+pub mod Entries

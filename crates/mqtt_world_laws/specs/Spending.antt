@@ -1,5 +1,5 @@
--- Runs in which no number is spent: each step that is committed gives numbers, places and orders of release up to the
--- last one, 2^62 (ours).
+-- Runs in which no number is spent: each step that is committed gives numbers, places and orders of release up to
+-- 2^62, the last that the tables hold (ours).
 use Rattle.std.specs.Prelude.{ℕ, zero, suc, Bool, false, not, ◌&&◌, ◌||◌, List, [], ◌∷◌, Option, Some, None}
 use Rattle.mqtt_rules.specs.declared.Limits.{Limits}
 use Rattle.mqtt_rules.specs.Step.{Call, is_step_spent, is_opening_spent}

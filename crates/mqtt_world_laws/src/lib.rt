@@ -6,5 +6,5 @@ mod run_laws;
 
 pub use run_laws::{
     a_world_may_begin, every_copy_waits_or_has_ended, every_publication_is_routed,
-    every_run_accepts_once,
+    every_run_accepts_once, exactly_the_intended_copies_enter,
 };

@@ -9,6 +9,7 @@ ghost use Rattle.mqtt_rules.specs.Laws.{AreWithin, FewOpen};
 ghost use Rattle.mqtt_laws.specs.World.{World, start};
 ghost use Rattle.mqtt_laws.specs.Run.{Turn, run};
 ghost use Rattle.mqtt_world_laws.specs.Copies.{AreCountedOn, AreRouted, IsBalanced};
+ghost use Rattle.mqtt_world_laws.specs.Entries.{IsEntered};
 ghost use Rattle.mqtt_world_laws.specs.Fair.{IsFair, IsNew, MayOpen, opened_world};
 ghost use Rattle.mqtt_world_laws.specs.Once.{HasCarried, IsAcceptedOnce};
 
@@ -41,6 +42,14 @@ pub fn every_publication_is_routed()
     ensures routed { (limits : Limits) (ts : List Turn) (w : World) → AreRouted limits ts w }
     ensures numbered { (limits : Limits) (ts : List Turn) (w : World) → IsNew limits w → IsFair limits ts w
         → AreCountedOn limits ts w }
+{}
+
+/// Exactly the intended copies of QoS 1 and 2 enter queues, each once and in order, and no other: for each
+/// publication that is accepted those of its routing on the state on which it was accepted, and for each
+/// filter that is granted those of the retained messages it brings (3.3.1.3, 3.3.4, 3.8.4, 4.8).
+pub fn exactly_the_intended_copies_enter()
+    ensures entries { (limits : Limits) (ts : List Turn) (w : World) → IsNew limits w → IsFair limits ts w
+        → IsEntered limits ts w }
 {}
 
 /// So a world may begin: with nothing stored, or opened on tables in order, with no more sessions than the
