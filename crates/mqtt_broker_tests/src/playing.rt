@@ -1,0 +1,37 @@
+//! What is asked of the broker by scripts (MQTT 5.0, 2.1, 3 and 4).
+
+use mqtt_stage::{What, check};
+use std::hash::RandomState;
+use std::test::Fail;
+
+#[test]
+fn scripts_tell_what_they_say(rt: HostRuntime) -> Result<(), Fail> {
+    let hasher = RandomState::new(&rt)?;
+    check(rt.alloc(), hasher, What::Scripts)
+}
+
+#[test]
+fn what_is_refused_changes_nothing_else(rt: HostRuntime) -> Result<(), Fail> {
+    let hasher = RandomState::new(&rt)?;
+    check(rt.alloc(), hasher, What::Refusals)
+}
+
+#[test]
+fn a_device_that_fails_leaves_whole_steps(rt: HostRuntime) -> Result<(), Fail> {
+    let hasher = RandomState::new(&rt)?;
+    check(rt.alloc(), hasher, What::Failures)
+}
+
+#[test]
+fn cut_and_changed_frames_are_taken_as_the_framer_takes_them(rt: HostRuntime) -> Result<(), Fail> {
+    let hasher = RandomState::new(&rt)?;
+    check(rt.alloc(), hasher, What::Frames)
+}
+
+#[test]
+fn a_subscribe_of_64_kilobytes_gets_all_that_is_retained_for_each_filter(
+    rt: HostRuntime,
+) -> Result<(), Fail> {
+    let hasher = RandomState::new(&rt)?;
+    check(rt.alloc(), hasher, What::Costly)
+}

@@ -1,0 +1,73 @@
+//! All that is asked of the broker over stores in memory, and over stores whose device fails (MQTT 5.0, 2.1, 3, 4).
+
+use crate::costly::judge_costly;
+use crate::judging::{How, judge_all};
+use crate::scripts::{clients, closing, filters, publishing, receiving, refusing};
+use crate::sweeps::judge_sweeps;
+use crate::telling::Telling;
+use std::alloc::Global;
+use std::hash::RandomState;
+use std::test::Fail;
+
+/// What is asked.
+#[derive(Clone, Copy)]
+pub enum What {
+    /// Whether scripts tell what they say.
+    Scripts,
+    /// Whether what is refused changes nothing else.
+    Refusals,
+    /// Whether a device that fails leaves whole steps.
+    Failures,
+    /// Whether cut and changed frames are taken as the framer alone takes them, as a line's first bytes and behind a CONNECT.
+    Frames,
+    /// Whether a SUBSCRIBE of 64 KB gets all that is retained for each of its filters.
+    Costly,
+}
+
+/// Plays the scripts of what isn't refused.
+fn judge_subjects(wrong: &mut Telling, alloc: Global, hasher: RandomState, how: How) {
+    judge_all(wrong, alloc, hasher, clients(), how);
+    judge_all(wrong, alloc, hasher, closing(), how);
+    judge_all(wrong, alloc, hasher, filters(), how);
+    judge_all(wrong, alloc, hasher, publishing(), how);
+    judge_all(wrong, alloc, hasher, receiving(), how);
+}
+
+/// Says what isn't so.
+fn judge_what(
+    wrong: &mut Telling,
+    script: &mut Telling,
+    alloc: Global,
+    hasher: RandomState,
+    what: What,
+) {
+    match what {
+        What::Scripts => judge_subjects(wrong, alloc, hasher, How::InMemory),
+        What::Refusals => judge_all(wrong, alloc, hasher, refusing(), How::WithRefusals),
+        What::Failures => judge_subjects(wrong, alloc, hasher, How::WithFailures),
+        What::Frames => judge_sweeps(wrong, script, alloc, hasher),
+        What::Costly => judge_costly(wrong, script, alloc, hasher),
+    }
+}
+
+/// Fails by what was said, or where memory was wanting for some of it.
+fn verdict_of(wrong: &Telling) -> Result<(), Fail> {
+    if wrong.as_str() != "" {
+        Err(Fail::new(wrong.as_str()))
+    } else if wrong.is_short() {
+        Err(Fail::new("memory was wanting"))
+    } else {
+        Ok(())
+    }
+}
+
+/// Fails by the first scripts, names and lines, that aren't played as they say.
+pub fn check(alloc: Global, hasher: RandomState, what: What) -> Result<(), Fail> {
+    let mut wrong = Telling::new(alloc);
+    let mut script = Telling::new(alloc);
+    judge_what(&mut wrong, &mut script, alloc, hasher, what);
+    drop(script);
+    let verdict = verdict_of(&wrong);
+    drop(wrong);
+    verdict
+}

@@ -1,0 +1,183 @@
+//! A script is played by a broker that is opened over a store, and what the store has then is told.
+
+use crate::kept::tell_records;
+use crate::play::{Play, Stop};
+use crate::telling::Telling;
+use mqtt_broker::{Engine, Keep, KeepError, Limits};
+use mqtt_records::Records;
+use std::alloc::Global;
+use std::hash::RandomState;
+
+/// Which lines of a script are played.
+#[derive(Clone, Copy)]
+pub struct Part {
+    /// How many.
+    pub count: usize,
+    /// Those behind this word aren't.
+    pub passed_over: &'static str,
+}
+
+impl Part {
+    /// The script as it is.
+    pub fn whole() -> Part {
+        Part {
+            count: usize::MAX,
+            passed_over: "-",
+        }
+    }
+}
+
+/// How a script was played.
+#[derive(Drop)]
+pub struct Played {
+    /// How many lines were played.
+    pub lines: usize,
+    /// Whether each told what it says.
+    pub is_right: bool,
+    /// What the last one told.
+    pub told: Telling,
+    /// What the store has.
+    pub kept: Telling,
+    /// How many failures the store has counted.
+    pub failures: u64,
+}
+
+/// Opens a broker over a store.
+fn open<K: Keep>(
+    alloc: Global,
+    hasher: RandomState,
+    keep: K,
+    play: &Play,
+) -> Result<Engine<K>, (K, KeepError)> {
+    let limits = Limits {
+        full: play.limits.full,
+        queue: play.limits.queue.min(1000),
+        sessions: play.limits.sessions.min(1000),
+        retained: play.limits.retained.min(1000),
+    };
+    Engine::open(alloc, keep, play.moment, limits, hasher)
+}
+
+/// And once more where memory was wanting.
+fn opened<K: Keep>(
+    alloc: Global,
+    hasher: RandomState,
+    keep: K,
+    play: &Play,
+) -> Result<Engine<K>, (K, KeepError)> {
+    match open(alloc, hasher, keep, play) {
+        Err((keep, KeepError::Memory)) => open(alloc, hasher, keep, play),
+        answer => answer,
+    }
+}
+
+fn tell_fault(told: &mut Telling, fault: KeepError) {
+    told.clear();
+    told.word(match fault {
+        KeepError::Memory => "Memory",
+        KeepError::Disk => "Disk",
+        KeepError::Size => "Size",
+        KeepError::Corrupt => "Corrupt",
+        KeepError::Schema => "Schema",
+    });
+}
+
+/// Plays until the broker is to be opened anew.
+fn play_once<K: Keep>(
+    alloc: Global,
+    hasher: RandomState,
+    keep: K,
+    play: &mut Play,
+    turned: &mut Telling,
+    script: &str,
+    count: usize,
+) -> (K, Stop) {
+    match opened(alloc, hasher, keep, play) {
+        Ok(engine) => {
+            let mut engine = engine;
+            let stop = play.play(&mut engine, turned, script, count);
+            (engine.close(), stop)
+        }
+        Err((keep, fault)) => {
+            tell_fault(&mut play.told, fault);
+            (keep, Stop::Other)
+        }
+    }
+}
+
+/// Plays to the end; answers whether each line told what it says.
+fn play_all<K: Keep>(
+    alloc: Global,
+    hasher: RandomState,
+    keep: K,
+    play: &mut Play,
+    turned: &mut Telling,
+    script: &str,
+    count: usize,
+) -> (K, bool) {
+    let mut keep = keep;
+    for _ in 0..=script.len() {
+        let (back, stop) = play_once(alloc, hasher, keep, play, turned, script, count);
+        keep = back;
+        match stop {
+            Stop::Restart => {}
+            Stop::End => return (keep, true),
+            Stop::Other => return (keep, false),
+        }
+    }
+    (keep, false)
+}
+
+/// What a store has; asked once more where that fails.
+fn loaded<K: Keep>(alloc: Global, keep: &mut K) -> Result<Records, KeepError> {
+    match keep.load(alloc) {
+        Err(_) => keep.load(alloc),
+        answer => answer,
+    }
+}
+
+/// Tells what a store has.
+pub fn tell_kept<K: Keep>(alloc: Global, told: &mut Telling, keep: &mut K) {
+    match loaded(alloc, keep) {
+        Ok(records) => tell_records(told, &records),
+        Err(fault) => tell_fault(told, fault),
+    }
+}
+
+/// Plays a script by a broker that is opened over a store at the moment 0; gives the store back.
+pub fn play_over<K: Keep>(
+    alloc: Global,
+    hasher: RandomState,
+    keep: K,
+    script: &str,
+    part: Part,
+) -> (K, Played) {
+    let mut play = Play::new(alloc, part.passed_over);
+    let mut turned = Telling::new(alloc);
+    let (keep, is_right) = play_all(
+        alloc,
+        hasher,
+        keep,
+        &mut play,
+        &mut turned,
+        script,
+        part.count,
+    );
+    if turned.is_short() {
+        play.told.shorten();
+    }
+    drop(turned);
+    let mut keep = keep;
+    let mut kept = Telling::new(alloc);
+    tell_kept(alloc, &mut kept, &mut keep);
+    let failures = keep.failures();
+    let (lines, told) = play.end();
+    let played = Played {
+        lines,
+        is_right,
+        told,
+        kept,
+        failures,
+    };
+    (keep, played)
+}
