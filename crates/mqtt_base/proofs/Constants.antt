@@ -1,6 +1,6 @@
 -- The numbers of the limits and of the reason codes, computed from what stands in code.
 use Rattle.std.proofs.Common.{◌≡◌, ◌^◌, [], ◌∷◌, refl}
-use Rattle.mqtt_base.specs.declared.limits.TheConstants.{ALIAS_LIMIT, CLIENT_LIMIT, CONNECT_TIME, LAST_NUMBER, LINE_LIMIT, OPEN_LIMIT, PACKET_LIMIT, PUMP_LIMIT, QUEUE_LIMIT, RETAINED_LIMIT, SESSION_LIMIT, SUBSCRIPTION_LIMIT, VARINT_LIMIT}
+use Rattle.mqtt_base.specs.declared.limits.TheConstants.{ALIAS_LIMIT, CLIENT_LIMIT, CONNECT_TIME, LAST_NUMBER, LINE_LIMIT, OPEN_LIMIT, PACKET_LIMIT, PUMP_LIMIT, QUEUE_LIMIT, RETAINED_LIMIT, ROW_LIMIT, SESSION_LIMIT, SUBSCRIPTION_LIMIT, VARINT_LIMIT}
 use Rattle.mqtt_base.specs.declared.reason.TheConstants.Reason as reasons
 use Rattle.mqtt_base.specs.Codes as codes
 
@@ -28,6 +28,9 @@ aliases = refl
 
 packet : PACKET_LIMIT ≡ 65536
 packet = refl
+
+row : ROW_LIMIT ≡ 200000
+row = refl
 
 client : CLIENT_LIMIT ≡ 64
 client = refl

@@ -27,6 +27,9 @@ pub const ALIAS_LIMIT: u16 = 10;
 /// (3.2.2.3.6).
 pub const PACKET_LIMIT: usize = 65_536;
 
+/// Bytes of topic, properties and payload of a stored row together (ours).
+pub const ROW_LIMIT: usize = 200_000;
+
 /// Bytes of a client identifier.
 pub const CLIENT_LIMIT: usize = 64;
 

@@ -1,5 +1,6 @@
 //! What session state speaks of: service, subscriptions, copies and their ends (3.8.3.1, 4.1, 4.3).
 ghost use Rattle.std.specs.Prelude.{◌≡◌};
+ghost use Rattle.mqtt_base.specs.Phases.{identifier_of, order_of};
 
 use crate::text::Text;
 use std::alloc::AllocError;
@@ -93,6 +94,30 @@ pub enum Phase {
         /// Its place among the session's released copies, from 1.
         order: u64,
     },
+}
+
+impl Phase {
+    /// The packet identifier that the copy has, if it has one (2.2.1). Takes no memory.
+    pub fn identifier(self) -> Option<u16>
+        ensures { result ≡ identifier_of self }
+    {
+        match self {
+            Phase::Waiting => None,
+            Phase::Sent { identifier }
+            | Phase::Released { identifier, .. }
+            | Phase::Oversize { identifier, .. } => Some(identifier),
+        }
+    }
+
+    /// The copy's place among those released, 0 for one that isn't (4.6). Takes no memory.
+    pub fn order(self) -> u64
+        ensures { result ≡ order_of self }
+    {
+        match self {
+            Phase::Waiting | Phase::Sent { .. } => 0,
+            Phase::Released { order, .. } | Phase::Oversize { order, .. } => order,
+        }
+    }
 }
 
 /// How a copy left a session's queue, or was done with there (4.3, 4.4).

@@ -3,10 +3,10 @@ use Rattle.std.proofs.Common.{◌≡◌, ◌≢◌, ℕ, Bool, cond, List, [], �
 use Rattle.std.specs.Prelude.{Option, Some, None, filter_map}
 use Rattle.std.specs.List.{AllByRecursion}
 use Rattle.std.proofs.lemmas.Bool.{cases_Bool, eqb-true}
+use Rattle.mqtt_base.specs.Phases.{identifier_of}
 use Rattle.mqtt_base.specs.declared.session.Phase.{Phase}
 use Rattle.mqtt_base.specs.declared.session.Phase.TheVariants.{Waiting, Sent, Released, Oversize}
-use Rattle.mqtt_flow.specs.Queue.{identifier_of as in_flight}
-use Rattle.mqtt_lawful.specs.Lawful.{IsLawful, IsLawfulSession, identifier_of, last_of}
+use Rattle.mqtt_lawful.specs.Lawful.{IsLawful, IsLawfulSession, last_of}
 use Rattle.mqtt_message.specs.Queue.{CopyRow}
 use Rattle.mqtt_records.specs.declared.records.Records.{Records}
 use Rattle.mqtt_records.specs.declared.session.Session.{Session}
@@ -15,12 +15,6 @@ use Rattle.mqtt_rows.specs.Distinct.{AllDiffer}
 use Rattle.mqtt_rows.specs.Order.{row_at}
 use Rattle.mqtt_closing.specs.TheRules.Flight.{HasDistinctIdentifiers, IsFlight, identifier_at, identifier_in}
 use Rattle.mqtt_closing.proofs.TheRules.Copies.{each_more}
-
-same_identifier : (phase : Phase) → in_flight phase ≡ identifier_of phase
-same_identifier Waiting = refl
-same_identifier (Sent i) = refl
-same_identifier (Released i order) = refl
-same_identifier (Oversize i order) = refl
 
 abbrev id_of : CopyRow → Option ℕ
 id_of row = identifier_of row.phase
@@ -37,7 +31,7 @@ others_too (Some m) n f x xs is h = (rw is at h).1
 not_found : (n place : ℕ) (xs : List CopyRow) → AllByRecursion (λ y. n ≢ y) (filter_map id_of xs) → identifier_at place xs ≢ Some n
 not_found n place [] h = λ e. absurd cc
 not_found n place (x ∷ xs) h = elim (cases_Bool (nat_eq x.place place)) [
-  | inl same ↦ λ e. other_first (id_of x) n id_of x xs refl h (sym (same_identifier x.phase) ∙ (sym (ap (λ (b : Bool). identifier_in (cond b (Some x) (row_at copy_place place xs))) same) ∙ e))
+  | inl same ↦ λ e. other_first (id_of x) n id_of x xs refl h ((sym (ap (λ (b : Bool). identifier_in (cond b (Some x) (row_at copy_place place xs))) same) ∙ e))
   | inr other ↦ λ e. not_found n place xs (others_too (id_of x) n id_of x xs refl h) (sym (ap (λ (b : Bool). identifier_in (cond b (Some x) (row_at copy_place place xs))) other) ∙ e)
 ]
 
@@ -52,7 +46,7 @@ found_once : (place other n : ℕ) (xs : List CopyRow) → AllDiffer (filter_map
 found_once place other n [] h one two = absurd cc
 found_once place other n (x ∷ xs) h one two = elim (cases_Bool (nat_eq x.place place)) [
   | inl here ↦
-      let first : identifier_of x.phase ≡ Some n = sym (same_identifier x.phase) ∙ (sym (ap (λ (b : Bool). identifier_in (cond b (Some x) (row_at copy_place place xs))) here) ∙ one) in
+      let first : identifier_of x.phase ≡ Some n = (sym (ap (λ (b : Bool). identifier_in (cond b (Some x) (row_at copy_place place xs))) here) ∙ one) in
       elim (cases_Bool (nat_eq x.place other)) [
         | inl too ↦ sym (eqb-true x.place place here) ∙ eqb-true x.place other too
         | inr later ↦ absurd (not_found n other xs (differ_first n id_of x xs first h) (sym (ap (λ (b : Bool). identifier_in (cond b (Some x) (row_at copy_place other xs))) later) ∙ two))
@@ -61,7 +55,7 @@ found_once place other n (x ∷ xs) h one two = elim (cases_Bool (nat_eq x.place
       let rest : identifier_at place xs ≡ Some n = sym (ap (λ (b : Bool). identifier_in (cond b (Some x) (row_at copy_place place xs))) behind) ∙ one in
       elim (cases_Bool (nat_eq x.place other)) [
         | inl too ↦
-            let first : identifier_of x.phase ≡ Some n = sym (same_identifier x.phase) ∙ (sym (ap (λ (b : Bool). identifier_in (cond b (Some x) (row_at copy_place other xs))) too) ∙ two) in
+            let first : identifier_of x.phase ≡ Some n = (sym (ap (λ (b : Bool). identifier_in (cond b (Some x) (row_at copy_place other xs))) too) ∙ two) in
             absurd (not_found n place xs (differ_first n id_of x xs first h) rest)
         | inr later ↦ found_once place other n xs (differ_rest (id_of x) id_of x xs refl h) rest (sym (ap (λ (b : Bool). identifier_in (cond b (Some x) (row_at copy_place other xs))) later) ∙ two)
       ]

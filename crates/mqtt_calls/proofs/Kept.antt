@@ -3,12 +3,13 @@ use Rattle.std.proofs.Common.{◌≡◌, ℕ, ◌≤◌, Bool, true, false, cond
 use Rattle.std.specs.Prelude.{Some, None}
 use Rattle.std.specs.List.{AllByRecursion}
 use Rattle.std.proofs.Math.Nat.{max-le, le-max_left, le-max_right}
+use Rattle.mqtt_base.specs.Phases.{order_of}
 use Rattle.mqtt_base.specs.declared.limits.TheConstants.{LAST_NUMBER, QUEUE_LIMIT, SESSION_LIMIT}
 use Rattle.mqtt_base.specs.declared.session.Phase.{Phase}
 use Rattle.mqtt_base.specs.declared.session.Phase.TheVariants.{Waiting, Sent, Released, Oversize}
 use Rattle.mqtt_base.specs.declared.session.Qos.{Qos}
 use Rattle.mqtt_base.specs.declared.session.Qos.TheVariants.{AtMostOnce, AtLeastOnce, ExactlyOnce}
-use Rattle.mqtt_flow.specs.Queue.{greatest_order, order_of as order_given}
+use Rattle.mqtt_flow.specs.Queue.{greatest_order}
 use Rattle.mqtt_lawful.specs.Lawful.{IsLawful, IsLawfulCopy, IsLawfulSession, IsPhase, last_of}
 use Rattle.mqtt_message.specs.Queue.{CopyRow}
 use Rattle.mqtt_records.specs.declared.change.Change.{Change}
@@ -18,7 +19,7 @@ use Rattle.mqtt_records.specs.declared.change.Counter.TheVariants.{Births, Publi
 use Rattle.mqtt_records.specs.declared.records.Records.{Records}
 use Rattle.mqtt_records.specs.declared.session.Columns.{Columns}
 use Rattle.mqtt_records.specs.declared.session.Session.{Session}
-use Rattle.mqtt_records.specs.Records.{Fits, FitAll, IsNumber, changed, changed_all, order_of, put_session, with_counter}
+use Rattle.mqtt_records.specs.Records.{Fits, FitAll, IsNumber, changed, changed_all, put_session, with_counter}
 use Rattle.mqtt_records.specs.Session.{birth_of, copy_place, fresh, in_phase, with_columns, with_will, with_subscription, without_subscription, with_open, without_open, with_copy, with_phase, without_copy}
 use Rattle.mqtt_rows.specs.Order.{IsAscending, has_row, put_row, change_row, row_at}
 use Rattle.mqtt_rows.proofs.LookUps.{row_at-here}
@@ -94,25 +95,19 @@ kept_all (change ∷ changes) r fit h = kept_all changes (changed change r) fit.
 
 -- ---- the greatest of a queue
 
-same_order : (phase : Phase) → order_given phase ≡ order_of phase
-same_order Waiting = refl
-same_order (Sent i) = refl
-same_order (Released i order) = refl
-same_order (Oversize i order) = refl
-
 greatest_kept : (queue : List CopyRow) → AllByRecursion IsKept queue → greatest_order (map (entry_on []) queue) ≤ LAST_NUMBER
 greatest_kept [] h = omega arith
 greatest_kept (e ∷ es) h =
-    let first : order_given e.phase ≤ LAST_NUMBER = subst IsNumber (sym (same_order e.phase)) h.0 in
+    let first : order_of e.phase ≤ LAST_NUMBER = h.0 in
     max-le first (greatest_kept es h.1)
 
 each_below : (queue : List CopyRow) → greatest_order (map (entry_on []) queue) ≤ LAST_NUMBER → AllByRecursion IsKept queue
 each_below [] h = tt
 each_below (e ∷ es) h =
-    let first = le-max_left (order_given e.phase) (greatest_order (map (entry_on []) es)) in
-    let rest = le-max_right (order_given e.phase) (greatest_order (map (entry_on []) es)) in
-    let least : order_given e.phase ≤ LAST_NUMBER = omega (arith, first, h) in
-    (subst IsNumber (same_order e.phase) least, each_below es (omega (arith, rest, h)))
+    let first = le-max_left (order_of e.phase) (greatest_order (map (entry_on []) es)) in
+    let rest = le-max_right (order_of e.phase) (greatest_order (map (entry_on []) es)) in
+    let least : order_of e.phase ≤ LAST_NUMBER = omega (arith, first, h) in
+    (least, each_below es (omega (arith, rest, h)))
 
 each_found : (P : Session → Type 0) (ss : List Session) → IsAscending birth_of ss → ((birth : ℕ) (s : Session) → row_at birth_of birth ss ≡ Some s → P s) → AllByRecursion P ss
 each_found P [] up f = tt

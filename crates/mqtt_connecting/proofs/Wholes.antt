@@ -9,13 +9,14 @@ use Rattle.mqtt_records.specs.declared.session.Session.{Session}
 use Rattle.mqtt_closing.specs.TheRules.Numbers.{HasGivenBirths}
 use Rattle.mqtt_closing.specs.TheRules.State.{Line, session_at, queue_on}
 use Rattle.mqtt_closing.specs.TheRules.Deeds.{Act, Begin, Name, Resume, At, Gone, always, whose, with_session}
-use Rattle.mqtt_closing.specs.TheRules.Connect.{auto, begin, begin_named, expiry_of, fresh_row, greet, refused, resume, will_of}
+use Rattle.mqtt_closing.specs.TheRules.Connect.{begin, begin_named, expiry_of, fresh_row, greet, refused, resume, will_of}
 use Rattle.mqtt_closing.specs.TheRules.Outbound.{all_turn_deeds}
 use Rattle.mqtt_closing.specs.TheTables.Doing.{begins, names}
 use Rattle.mqtt_closing.specs.TheTables.Stepping.{Stepping, Did, to_session}
 use Rattle.mqtt_closing.proofs.TheTables.Doing.{found_birth}
 use Rattle.mqtt_connecting.specs.Connecting.{begins_greeted, begun_told, resumption_told, refusal_told, repeats, resumed_greeted, resumed_told}
 use Rattle.mqtt_connecting.proofs.Parts.{AreWhole}
+use Rattle.mqtt_records.specs.Session.{auto}
 
 pub refused_whole : (l : Line) (line code : ℕ) (c : Connect) (s : Stepping) → l.number ≡ line
     → AreWhole (always (refusal_told line c code)) (always (Gone line ∷ [])) (always (refused l c code)) s

@@ -6,11 +6,12 @@ ghost use Rattle.mqtt_topic.specs.Names.{is_empty};
 ghost use Rattle.mqtt_closing.specs.TheRules.Packets.{connack};
 ghost use Rattle.mqtt_closing.specs.TheRules.State.{Line};
 ghost use Rattle.mqtt_closing.specs.TheRules.Numbers.{HasGivenBirths};
-ghost use Rattle.mqtt_closing.specs.TheRules.Connect.{auto, begin, begin_named, connack_properties, expiry_of, will_of};
+ghost use Rattle.mqtt_closing.specs.TheRules.Connect.{begin, begin_named, connack_properties, expiry_of, will_of};
 ghost use Rattle.mqtt_closing.specs.TheRules.Deeds.{always};
 ghost use Rattle.mqtt_closing.specs.TheTables.Doing.{begins};
 ghost use Rattle.mqtt_closing.specs.TheTables.Stepping.{Did, IsLeft};
 ghost use Rattle.mqtt_connecting.specs.Connecting.{begins_greeted, begun_told};
+ghost use Rattle.mqtt_records.specs.Session.{auto};
 
 use crate::greeting::greet;
 use bytes::Bytes;

@@ -1,5 +1,6 @@
 -- A session's queue of outbound copies, and what each turn does to it (MQTT 5.0, 4.3, 4.4, 4.6).
 use Rattle.std.specs.Prelude.{ℕ, ◌+◌, ◌<◌, ◌≤◌, max, ⊤, length, Bool, true, false, cond, not, List, [], ◌∷◌, filter, map, find, nat_eq, Option, Some, None, count_by}
+use Rattle.mqtt_base.specs.Phases.{identifier_of, order_of}
 use Rattle.mqtt_base.specs.declared.Phase.{Phase}
 use Rattle.mqtt_base.specs.declared.Phase.TheVariants.{Waiting, Sent, Released, Oversize}
 use Rattle.mqtt_base.specs.declared.limits.TheConstants.{LAST_NUMBER, QUEUE_LIMIT}
@@ -7,13 +8,6 @@ use Rattle.mqtt_flow.specs.declared.entry.QueuedCopy.{QueuedCopy}
 use Rattle.mqtt_flow.specs.declared.entry.Entry.{Entry}
 use Rattle.mqtt_flow.specs.declared.entry.Turn.{Turn}
 use Rattle.mqtt_flow.specs.declared.entry.Turn.TheVariants.{Send, Resend, Release, Outgrow, Repeat, Unknown, Leave}
-
--- the packet identifier that a copy has (2.2.1)
-abbrev pub identifier_of : Phase → Option ℕ
-identifier_of Waiting = None
-identifier_of (Sent i) = Some i
-identifier_of (Released i order) = Some i
-identifier_of (Oversize i order) = Some i
 
 -- the identifiers in use
 abbrev pub also : Option ℕ → List ℕ → List ℕ
@@ -33,13 +27,6 @@ is_holder i (Oversize j order) = nat_eq j i
 -- the copy that has an identifier
 abbrev pub holder : ℕ → List Entry → Option Entry
 holder i queue = find (λ e. is_holder i e.phase) queue
-
--- a copy's place among those released, and 0 for one that isn't
-abbrev pub order_of : Phase → ℕ
-order_of Waiting = 0
-order_of (Sent i) = 0
-order_of (Released i order) = order
-order_of (Oversize i order) = order
 
 -- a new place and a new order are one above the greatest that stands (ours)
 abbrev pub greatest_place : List Entry → ℕ

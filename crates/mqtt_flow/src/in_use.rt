@@ -2,24 +2,12 @@
 
 ghost use Rattle.std.specs.Prelude.{◌≡◌, ◌≤◌, ℕ, List, ◌++◌, length, map, IfErr, OnOk};
 ghost use Rattle.mqtt_inbound.specs.Identifiers.{ids_without};
-ghost use Rattle.mqtt_flow.specs.Queue.{also, identifier_of, identifiers};
+ghost use Rattle.mqtt_flow.specs.Queue.{also, identifiers};
 ghost use Rattle.mqtt_flow.specs.Outbound.{freed};
 
 use crate::row::QueueRow;
 use mqtt_base::Phase;
 use mqtt_inbound::FlowFault;
-
-/// The packet identifier that a copy has.
-fn identifier_of(phase: Phase) -> Option<u16>
-    ensures { result ≡ identifier_of phase }
-{
-    match phase {
-        Phase::Waiting => None,
-        Phase::Sent { identifier } => Some(identifier),
-        Phase::Released { identifier, .. } => Some(identifier),
-        Phase::Oversize { identifier, .. } => Some(identifier),
-    }
-}
 
 /// Adds an identifier, if there is one.
 fn push_identifier(used: &mut Vec<u16>, identifier: Option<u16>) -> Result<(), FlowFault>
@@ -41,7 +29,7 @@ pub(crate) fn push_identifiers<R: QueueRow>(
     ensures fault { IfErr result (λ fault. fault ≡ FlowFault.Memory) }
 {
     for row in rows {
-        push_identifier(used, identifier_of(row.phase()))?;
+        push_identifier(used, row.phase().identifier())?;
     }
     Ok(())
 }

@@ -2,7 +2,7 @@
 
 ghost use Rattle.std.specs.Prelude.{◌≡◌, ◌+◌, ◌≤◌, ◌<◌, ◌&&◌, ◌++◌, [], ◌∷◌, length, map, IfOk, IfErr, OnOk, insert};
 ghost use Rattle.mqtt_flow.specs.declared.entry.Turn.TheVariants.{Repeat};
-ghost use Rattle.mqtt_flow.specs.Queue.{is_holder, order_of, greatest_place, greatest_order, in_window};
+ghost use Rattle.mqtt_flow.specs.Queue.{is_holder, greatest_place, greatest_order, in_window};
 ghost use Rattle.mqtt_flow.specs.Outbound.{is_waiting, gives_way, staying, has_room, dropped, is_late, is_large, expired, due_from, due_of, by_order};
 
 use crate::entry::{Due, Entry, Full, QueueLimits, Turn, Way};
@@ -25,16 +25,6 @@ pub(crate) fn holds(phase: Phase, identifier: u16) -> bool
             identifier: own,
             ..
         } => own == identifier,
-    }
-}
-
-/// A copy's place among those released, 0 for one that isn't.
-fn order_of(phase: Phase) -> u64
-    ensures { result ≡ order_of phase }
-{
-    match phase {
-        Phase::Waiting | Phase::Sent { .. } => 0,
-        Phase::Released { order, .. } | Phase::Oversize { order, .. } => order,
     }
 }
 
@@ -65,7 +55,7 @@ pub(crate) fn greatest_order<R: QueueRow>(rows: &[R]) -> u64
 {
     let mut greatest = 0;
     for row in rows {
-        greatest = greatest.max(order_of(row.phase()));
+        greatest = greatest.max(row.phase().order());
     }
     greatest
 }

@@ -2,6 +2,7 @@
 use Rattle.std.proofs.Common.{◌≡◌, ℕ, suc, ◌<◌, ◌≤◌, true, List, [], ◌∷◌, map, Option, Some, None, refl, sym, ap, subst, ◌∙◌, inl, inr, arith}
 use Rattle.std.specs.Prelude.{◌≢◌, filter_map, option_map}
 use Rattle.std.specs.List.{AllByRecursion}
+use Rattle.mqtt_base.specs.Phases.{identifier_of, order_of}
 use Rattle.mqtt_base.specs.Values.{FitsText}
 use Rattle.mqtt_base.specs.declared.session.Cause.{Cause}
 use Rattle.mqtt_base.specs.declared.session.Cause.TheVariants.{Direct, Share, Retained}
@@ -9,11 +10,10 @@ use Rattle.mqtt_base.specs.declared.session.Phase.{Phase}
 use Rattle.mqtt_base.specs.declared.session.Phase.TheVariants.{Waiting, Sent, Released, Oversize}
 use Rattle.mqtt_base.specs.declared.session.Qos.{Qos}
 use Rattle.mqtt_base.specs.declared.session.Qos.TheVariants.{AtMostOnce, AtLeastOnce, ExactlyOnce}
-use Rattle.mqtt_flow.specs.Queue.{identifier_of as in_flight}
-use Rattle.mqtt_lawful.specs.Lawful.{IsCause, IsLawful, IsLawfulCopy, IsLawfulQueue, IsLawfulRetained, IsLawfulSession, IsPhase, IsSubscription, AreSubscriptions, identifier_of, last_of}
+use Rattle.mqtt_lawful.specs.Lawful.{IsCause, IsLawful, IsLawfulCopy, IsLawfulQueue, IsLawfulRetained, IsLawfulSession, IsPhase, IsSubscription, AreSubscriptions, last_of}
 use Rattle.mqtt_message.specs.Queue.{CopyRow}
 use Rattle.mqtt_message.specs.declared.message.RetainedMessage.{RetainedMessage}
-use Rattle.mqtt_records.specs.Records.{IsNumber, kept_place, order_of}
+use Rattle.mqtt_records.specs.Records.{IsNumber, kept_place}
 use Rattle.mqtt_records.specs.Session.{birth_of, copy_place}
 use Rattle.mqtt_records.specs.declared.records.Records.{Records}
 use Rattle.mqtt_records.specs.declared.session.Session.{Session}
@@ -236,12 +236,6 @@ unique_differ {X = X} {N = N} key name (x ∷ xs) up h = (
 
 -- ---- packet identifiers
 
-same_identifier : (phase : Phase) → in_flight phase ≡ identifier_of phase
-same_identifier Waiting = refl
-same_identifier (Sent i) = refl
-same_identifier (Released i order) = refl
-same_identifier (Oversize i order) = refl
-
 -- one that no place has
 absent_identifier : (n : ℕ) (es : List CopyRow) → IsAscending copy_place es → ((place : ℕ) → identifier_at place es ≡ Some n → ⊥) → AllByRecursion (λ m. n ≢ m) (filter_map (λ (row : CopyRow). identifier_of row.phase) es)
 absent_identifier n [] up none = tt
@@ -256,7 +250,7 @@ absent_identifier n (e ∷ es) up none = by (identifier_of e.phase) refl (absent
 
     by : (o : Option ℕ) → identifier_of e.phase ≡ o → AllByRecursion (λ m. n ≢ m) (filter_map (λ (row : CopyRow). identifier_of row.phase) es) → AllByRecursion (λ m. n ≢ m) (filter_map (λ (row : CopyRow). identifier_of row.phase) (e ∷ es))
     by None is rest = rw is rest
-    by (Some m) is rest = rw is ((λ same. none e.place (ap identifier_in (row_at-here copy_place e es) ∙ same_identifier e.phase ∙ is ∙ ap Some (sym same))), rest)
+    by (Some m) is rest = rw is ((λ same. none e.place (ap identifier_in (row_at-here copy_place e es) ∙ is ∙ ap Some (sym same))), rest)
 
 flight_differ : (es : List CopyRow) → IsFlight es → AllDiffer (filter_map (λ (row : CopyRow). identifier_of row.phase) es)
 flight_differ [] h = tt
@@ -275,7 +269,7 @@ flight_differ (e ∷ es) h = by (identifier_of e.phase) refl (flight_differ es (
         found : (o : Option CopyRow) → row_at copy_place place es ≡ o → identifier_in o ≡ Some id → ⊥
         found None there is = absurd cc
         found (Some f) there fits =
-            let same : e.place ≡ place = h.identifiers e.place place id (ap identifier_in (row_at-here copy_place e es) ∙ same_identifier e.phase ∙ its) (behind place id is) in
+            let same : e.place ≡ place = h.identifiers e.place place id (ap identifier_in (row_at-here copy_place e es) ∙ its) (behind place id is) in
             let less = above_found copy_place e.place place f es h.places.0 there in
             omega (arith, same, less)
 

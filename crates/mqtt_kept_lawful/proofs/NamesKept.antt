@@ -15,9 +15,9 @@ use Rattle.mqtt_props.specs.declared.table.PropName.TheVariants.{AuthenticationM
 use Rattle.mqtt_records.specs.declared.change.Change.{Change}
 use Rattle.mqtt_records.specs.declared.records.Records.{Records}
 use Rattle.mqtt_records.specs.declared.session.Session.{Session}
-use Rattle.mqtt_records.specs.Session.{birth_of}
+use Rattle.mqtt_records.specs.Session.{birth_of, auto}
 use Rattle.mqtt_calls.specs.TheRules.declared.Limits.{Limits}
-use Rattle.mqtt_calls.specs.TheRules.Connect.{auto, has_bad_topic, largest_of, least_packet_size, refusal}
+use Rattle.mqtt_calls.specs.TheRules.Connect.{has_bad_topic, largest_of, least_packet_size, refusal}
 use Rattle.mqtt_calls.specs.TheRules.Deeds.{Whose, Part, Resume, Close, SetExpiry, DropWill, Subscribe, Unsubscribe, Open, Release, Enter, Mark, Leave, Deed, Accept, Begin, Name, Count, At, Finish, Keep, Forget, RefuseWill, Link, On, Send, Gone, after, after_all, rows_of_all}
 use Rattle.mqtt_calls.specs.TheRules.State.{Broker, Env, MemberChoice, session_named, stored}
 use Rattle.mqtt_calls.specs.TheRules.Step.{Call, at_moment, deeds, env_of, opened, opening, stepped, unopened, with_moment}

@@ -4,9 +4,10 @@ use Rattle.std.specs.Prelude.{◌≢◌, Option, Some, None, filter_map, max}
 use Rattle.std.specs.List.{AllByRecursion}
 use Rattle.std.proofs.Math.Nat.{le-max_left, le-max_right}
 use Rattle.std.proofs.lemmas.Bool.{cases_Bool}
+use Rattle.mqtt_base.specs.Phases.{order_of}
 use Rattle.mqtt_base.specs.declared.session.Phase.{Phase}
 use Rattle.mqtt_base.specs.declared.session.Phase.TheVariants.{Waiting, Sent, Released, Oversize}
-use Rattle.mqtt_flow.specs.Queue.{also, order_of, greatest_order}
+use Rattle.mqtt_flow.specs.Queue.{also, greatest_order}
 use Rattle.mqtt_lawful.specs.Lawful.{order_in}
 use Rattle.mqtt_message.specs.Queue.{CopyRow}
 use Rattle.mqtt_records.specs.Session.{copy_place, in_phase}

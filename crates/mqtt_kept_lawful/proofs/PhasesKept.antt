@@ -3,13 +3,14 @@ use Rattle.std.proofs.Common.{◌≡◌, ℕ, zero, suc, ◌<◌, ◌≤◌, Boo
 use Rattle.std.specs.Prelude.{⊤, Option, Some, None, Ok, Err, find}
 use Rattle.std.specs.List.{AllByRecursion}
 use Rattle.std.proofs.lemmas.Bool.{cases_Bool}
+use Rattle.mqtt_base.specs.Phases.{order_of}
 use Rattle.mqtt_base.specs.declared.limits.TheConstants.{QUEUE_LIMIT}
 use Rattle.mqtt_base.specs.declared.session.Phase.{Phase}
 use Rattle.mqtt_base.specs.declared.session.Phase.TheVariants.{Waiting, Sent, Released, Oversize}
 use Rattle.mqtt_base.specs.declared.session.Qos.{Qos}
 use Rattle.mqtt_base.specs.declared.session.Qos.TheVariants.{AtMostOnce, AtLeastOnce, ExactlyOnce}
 use Rattle.mqtt_flow.specs.Pacing.{Pacing}
-use Rattle.mqtt_flow.specs.Queue.{greatest_order, holder, is_holder, next_order, order_of}
+use Rattle.mqtt_flow.specs.Queue.{greatest_order, holder, is_holder, next_order}
 use Rattle.mqtt_flow.specs.Outbound.{Answer, Verdict, pass, end, outgrow, send, resend, acknowledged, first_time, in_room, is_large, is_late, is_refusal, once_more, pace, paced, puback_at, puback_by, pubcomp_at, pubcomp_by, pubrec_at, pubrec_by, pump, pump_from, received, released_by, step_by, step_on, then_on, too_large, verdict, verdict_by}
 use Rattle.mqtt_flow.specs.declared.entry.Entry.{Entry as FlowEntry}
 use Rattle.mqtt_flow.specs.declared.entry.QueuedCopy.{QueuedCopy}

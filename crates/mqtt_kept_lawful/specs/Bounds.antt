@@ -1,8 +1,9 @@
 -- Numbers of copies and of retained messages up to the last one, and whose each copy is (ours).
 use Rattle.std.specs.Prelude.{◌≡◌, ℕ}
+use Rattle.mqtt_base.specs.Phases.{order_of}
 use Rattle.std.specs.List.{AllByRecursion}
 use Rattle.mqtt_message.specs.Queue.{CopyRow}
-use Rattle.mqtt_records.specs.Records.{IsNumber, order_of}
+use Rattle.mqtt_records.specs.Records.{IsNumber}
 use Rattle.mqtt_records.specs.declared.records.Records.{Records}
 use Rattle.mqtt_records.specs.declared.session.Session.{Session}
 

@@ -2,9 +2,10 @@
 use Rattle.std.specs.Prelude.{◌≡◌, ℕ, ◌+◌, ◌<◌, ◌≤◌, codes, decimal, List, ◌++◌, ◌∷◌, length, map, filter_map, flat_map, Option, Some, None, IsTrue}
 use Rattle.std.specs.List.{AllByRecursion}
 use Rattle.mqtt_base.specs.Values.{FitsText}
-use Rattle.mqtt_base.specs.declared.limits.TheConstants.{CLIENT_LIMIT, SUBSCRIPTION_LIMIT, OPEN_LIMIT, QUEUE_LIMIT, SESSION_LIMIT, RETAINED_LIMIT, LAST_NUMBER, VARINT_LIMIT}
+use Rattle.mqtt_base.specs.declared.limits.TheConstants.{CLIENT_LIMIT, SUBSCRIPTION_LIMIT, OPEN_LIMIT, QUEUE_LIMIT, SESSION_LIMIT, RETAINED_LIMIT, ROW_LIMIT, LAST_NUMBER, VARINT_LIMIT}
 use Rattle.mqtt_base.specs.declared.session.Cause.{Cause}
 use Rattle.mqtt_base.specs.declared.session.Cause.TheVariants.{Direct, Share, Retained}
+use Rattle.mqtt_base.specs.Phases.{identifier_of}
 use Rattle.mqtt_base.specs.declared.session.Phase.{Phase}
 use Rattle.mqtt_base.specs.declared.session.Phase.TheVariants.{Waiting, Sent, Released, Oversize}
 use Rattle.mqtt_base.specs.declared.session.Qos.{Qos}
@@ -25,8 +26,7 @@ use Rattle.mqtt_records.specs.declared.subscription.Subscription.{Subscription}
 use Rattle.mqtt_records.specs.declared.session.Session.{Session}
 use Rattle.mqtt_records.specs.declared.records.Records.{Records}
 use Rattle.mqtt_lawful.specs.declared.rows.Last.{Last}
-use Rattle.mqtt_lawful.specs.declared.message.TheConstants.{ROW_LIMIT}
-use Rattle.mqtt_records.specs.Session.{birth_of, place_of, number_of, copy_place}
+use Rattle.mqtt_records.specs.Session.{birth_of, place_of, number_of, copy_place, auto}
 use Rattle.mqtt_records.specs.Records.{kept_place, IsNumber}
 
 -- ---- numbers
@@ -59,10 +59,6 @@ last_of r = record {
 }
 
 -- ---- client identifiers
-
--- the front of those that the broker assigns (ours)
-abbrev pub auto : List ℕ
-auto = codes "auto-"
 
 -- the number that was given last, or one before it, in its shortest decimal form
 abbrev pub IsNumeralUpTo : ℕ → List ℕ → Type 0
@@ -149,14 +145,7 @@ IsPhase ExactlyOnce (Sent identifier) = 1 ≤ identifier
 IsPhase ExactlyOnce (Released identifier order) = (1 ≤ identifier) × IsUpTo LAST_NUMBER order
 IsPhase ExactlyOnce (Oversize identifier order) = (1 ≤ identifier) × IsUpTo LAST_NUMBER order
 
--- the packet identifier that a copy has (2.2.1), and its order of release
-abbrev pub identifier_of : Phase → Option ℕ
-identifier_of Waiting = None
-identifier_of (Sent identifier) = Some identifier
-identifier_of (Released identifier order) = Some identifier
-identifier_of (Oversize identifier order) = Some identifier
-
--- none before it is released
+-- its order of release: none before it is released
 abbrev pub order_in : Phase → Option ℕ
 order_in Waiting = None
 order_in (Sent identifier) = None

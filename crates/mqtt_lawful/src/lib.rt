@@ -13,5 +13,4 @@ mod session;
 mod subscription;
 
 pub use laws::nothing_is_lawful;
-pub use message::ROW_LIMIT;
 pub use records::is_lawful;

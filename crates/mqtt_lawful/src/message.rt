@@ -1,19 +1,17 @@
 //! Topics, properties and payloads that a row may have (3.1.3, 3.3).
 ghost use Rattle.std.specs.Prelude.{◌↔◌, ◌≤◌, IfOk, IsTrue};
+ghost use Rattle.mqtt_base.specs.declared.limits.TheConstants.{ROW_LIMIT};
 ghost use Rattle.mqtt_base.specs.Values.{FitsText};
 ghost use Rattle.mqtt_props.specs.Properties.{FitsBlock};
 ghost use Rattle.mqtt_topic.specs.Names.{IsTopicName};
 ghost use Rattle.mqtt_lawful.specs.Lawful.{AreProperties, HasLawfulWill, IsMessage, row_len};
 
 use bytes::Bytes;
-use mqtt_base::Text;
+use mqtt_base::{ROW_LIMIT, Text};
 use mqtt_message::Will;
 use mqtt_props::{Place, PropsRef};
 use mqtt_topic::TopicName;
 use std::alloc::AllocError;
-
-/// Bytes of topic, properties and payload of a row together (ours).
-pub const ROW_LIMIT: usize = 200_000;
 
 /// Whether topic, properties and payload have no more bytes than a row has.
 fn is_short(topic: &Text, properties: &PropsRef<'_>, payload: &Bytes) -> bool

@@ -1,8 +1,9 @@
 //! Queues that a session may have (4.3, 4.6).
 ghost use Rattle.std.specs.Prelude.{◌↔◌, ◌≡◌, ℕ, filter_map, map, IfOk, IsTrue};
+ghost use Rattle.mqtt_base.specs.Phases.{identifier_of};
 ghost use Rattle.mqtt_base.specs.declared.session.CopyId.{CopyId};
 ghost use Rattle.mqtt_rows.specs.Distinct.{AllDiffer};
-ghost use Rattle.mqtt_lawful.specs.Lawful.{IsLawfulQueue, identifier_of, order_in};
+ghost use Rattle.mqtt_lawful.specs.Lawful.{IsLawfulQueue, order_in};
 ghost use Rattle.mqtt_lawful.specs.CopyKeys.{key_of, value_of};
 
 use crate::rows::{Last, are_lawful};
@@ -14,18 +15,6 @@ use std::alloc::{AllocError, Global};
 /// What tells copies apart, so that they can be put in order: publication, birth, which cause it is,
 /// the subscribe and the group.
 type CopyKey<'a> = (u64, u64, u64, u64, &'a str);
-
-/// The packet identifier that a copy in this phase has.
-fn identifier_of(phase: Phase) -> Option<u64>
-    ensures { result ≡ identifier_of phase }
-{
-    match phase {
-        Phase::Waiting => None,
-        Phase::Sent { identifier }
-        | Phase::Released { identifier, .. }
-        | Phase::Oversize { identifier, .. } => Some(u64::from(identifier)),
-    }
-}
 
 /// The order of release that a copy in this phase has.
 fn order_in(phase: Phase) -> Option<u64>
@@ -45,8 +34,8 @@ fn have_identifiers_apart(alloc: Global, queue: &[Boxed<CopyRow>]) -> Result<boo
     let mut identifiers = Vec::with_capacity(alloc, queue.len())?;
     let mut rest = queue;
     while let Some((row, after)) = rest.split_first() {
-        if let Some(identifier) = identifier_of(row.get().phase()) {
-            identifiers.push(identifier)?;
+        if let Some(identifier) = row.get().phase().identifier() {
+            identifiers.push(u64::from(identifier))?;
         }
         rest = after;
     }

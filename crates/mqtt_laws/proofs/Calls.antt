@@ -11,7 +11,6 @@ use Rattle.mqtt_rules.specs.declared.Limits.{Limits}
 use Rattle.mqtt_rules.specs.State.{MemberChoice, Line as BrokerLine, Broker, session_named, line_at}
 use Rattle.mqtt_rules.specs.Deeds.{Deed, after_all, rows_of_all, with_line}
 use Rattle.mqtt_rules.specs.Closing.{close}
-use Rattle.mqtt_rules.specs.Connect.{auto}
 use Rattle.mqtt_rules.specs.Step.{Call, NewLine, Input, BadInput, Lost, Pump, Tick, at_moment, env_of, deeds, stepped, told, opened}
 use Rattle.mqtt_laws.specs.Lines.{is_one_of, unless_closed, told_by, left}
 use Rattle.mqtt_laws.specs.Ends.{Sent, shake, plain, Publisher, wire, message_in}
@@ -35,6 +34,7 @@ use Rattle.mqtt_laws.proofs.HopStands.{stands_stays}
 use Rattle.mqtt_laws.proofs.OwnSeats.{own_on, former_after, connected_of}
 use Rattle.mqtt_laws.proofs.OwnCalls.{differs, packet_comes, waiting_line, kept_connect, first_connect}
 use Rattle.mqtt_laws.proofs.OldCalls.{old_packet_comes, late_comes, late_first}
+use Rattle.mqtt_records.specs.Session.{auto}
 
 -- ---- a call of others
 

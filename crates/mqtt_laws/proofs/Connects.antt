@@ -18,7 +18,7 @@ use Rattle.mqtt_records.specs.declared.session.Session.{Session}
 use Rattle.mqtt_records.specs.declared.session.Columns.{Columns}
 use Rattle.mqtt_records.specs.declared.records.Records.{Records}
 use Rattle.mqtt_rows.specs.Order.{row_at, change_row}
-use Rattle.mqtt_records.specs.Session.{birth_of, columns_of, with_columns, with_will}
+use Rattle.mqtt_records.specs.Session.{birth_of, columns_of, with_columns, with_will, auto}
 use Rattle.mqtt_records.specs.Records.{changed_all}
 use Rattle.mqtt_rules.specs.declared.Limits.{Limits}
 use Rattle.mqtt_rules.specs.Packets.{connack, property}
@@ -27,7 +27,7 @@ use Rattle.mqtt_base.specs.declared.limits.TheConstants.{LAST_NUMBER}
 use Rattle.mqtt_rules.specs.Deeds.{whose, Resume, Hear, Greet, Deed, At, On, Send, part_rows_of, on_line, output, closing, after_all, rows_of_all, Act, always, series, only_if, with_session, with_line}
 use Rattle.mqtt_rules.specs.Outbound.{all_turn_deeds}
 use Rattle.mqtt_rules.specs.Closing.{never, settle, drop_line}
-use Rattle.mqtt_rules.specs.Connect.{refusal, of_client, take_over, clear, prepare, greet, connack_properties, expiry_of, will_of, auto, resume, joins, joins_after, connect_by, on_connect}
+use Rattle.mqtt_rules.specs.Connect.{refusal, of_client, take_over, clear, prepare, greet, connack_properties, expiry_of, will_of, resume, joins, joins_after, connect_by, on_connect}
 use Rattle.mqtt_rules.specs.Step.{Input, on_packet, at_moment, env_of, deeds, stepped}
 use Rattle.mqtt_rules.proofs.Goods.{after_append}
 use Rattle.mqtt_rules.proofs.FlightRows.{change_row-here}

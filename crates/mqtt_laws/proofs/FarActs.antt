@@ -14,14 +14,14 @@ use Rattle.mqtt_message.specs.Queue.{CopyRow}
 use Rattle.mqtt_records.specs.declared.session.Session.{Session}
 use Rattle.mqtt_records.specs.declared.records.Records.{Records}
 use Rattle.mqtt_rows.specs.Order.{row_at}
-use Rattle.mqtt_records.specs.Session.{birth_of, copy_place}
+use Rattle.mqtt_records.specs.Session.{birth_of, copy_place, auto}
 use Rattle.mqtt_rules.specs.State.{Line, Broker, Env, session_at, session_named, line_at, line_of, is_of, later}
 use Rattle.mqtt_rules.specs.Deeds.{Whose, whose, Message, Origin, Part, Resume, Close, SetExpiry, DropWill, Unsubscribe, Open, Release, Leave, Hear, SetAlias, Deed, Count, At, Finish, Forget, RefuseWill, Link, On, Send, Gone, after_all, series, always, with_session, with_line}
 use Rattle.mqtt_rules.specs.Deeds as deeds
 use Rattle.mqtt_rules.specs.Outbound.{of_entry, leave_deeds, turn_deeds}
 use Rattle.mqtt_rules.specs.Routing.{CopyTo, is_queued, deliver, publish}
 use Rattle.mqtt_rules.specs.Closing.{is_due, will_due, end_due, has_due_will, has_due_end, end_session}
-use Rattle.mqtt_rules.specs.Connect.{expiry_of, will_of, greet, begin, begin_named, auto}
+use Rattle.mqtt_rules.specs.Connect.{expiry_of, will_of, greet, begin, begin_named}
 use Rattle.mqtt_rules.specs.Inbound.{pump_turns, pump_deeds}
 use Rattle.mqtt_rules.specs.Subscribe as sub
 use Rattle.mqtt_rules.specs.Tick.{is_silent, lapses, lapse_deeds}

@@ -18,13 +18,13 @@ use Rattle.mqtt_records.specs.declared.session.Columns.{Columns}
 use Rattle.mqtt_records.specs.declared.records.Records.{Records}
 use Rattle.mqtt_rows.specs.Order.{row_at, has_row, put_row, change_row}
 use Rattle.mqtt_rows.proofs.LookUps.{row_at-put_row}
-use Rattle.mqtt_records.specs.Session.{birth_of, fresh, with_columns}
+use Rattle.mqtt_records.specs.Session.{birth_of, fresh, with_columns, auto}
 use Rattle.mqtt_records.specs.Records.{put_session}
 use Rattle.mqtt_rules.specs.declared.Limits.{Limits}
 use Rattle.mqtt_rules.specs.State.{MemberChoice, Line as BrokerLine, Broker, Env, session_named}
 use Rattle.mqtt_rules.specs.Deeds.{Hear, Deed, On, output, closing, after_all, rows_of_all, Act, always, series, only_if, with_session, with_line}
 use Rattle.mqtt_rules.specs.Closing.{settle}
-use Rattle.mqtt_rules.specs.Connect.{refusal, of_client, take_over, clear, prepare, fresh_row, begin, begin_named, refused, auto, joins, joins_after, connect_by, on_connect}
+use Rattle.mqtt_rules.specs.Connect.{refusal, of_client, take_over, clear, prepare, fresh_row, begin, begin_named, refused, joins, joins_after, connect_by, on_connect}
 use Rattle.mqtt_rules.specs.Step.{Input, on_packet, at_moment, env_of, deeds, stepped}
 use Rattle.mqtt_rules.proofs.NumberBirths.{below_none}
 use Rattle.mqtt_laws.specs.Lines.{sent_to, is_one_of, unless_closed}

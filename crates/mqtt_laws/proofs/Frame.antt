@@ -10,11 +10,10 @@ use Rattle.mqtt_inbound.specs.InboundWorld.{World as Hop, Event as HopEvent, clo
 use Rattle.mqtt_records.specs.declared.session.Session.{Session}
 use Rattle.mqtt_records.specs.declared.change.Change.{Change}
 use Rattle.mqtt_rows.specs.Order.{row_at}
-use Rattle.mqtt_records.specs.Session.{birth_of}
+use Rattle.mqtt_records.specs.Session.{birth_of, auto}
 use Rattle.mqtt_rules.specs.declared.Limits.{Limits}
 use Rattle.mqtt_rules.specs.State.{MemberChoice, Line as BrokerLine, Broker, session_at, session_named}
 use Rattle.mqtt_rules.specs.Deeds.{output, closing, after_all, rows_of_all}
-use Rattle.mqtt_rules.specs.Connect.{auto}
 use Rattle.mqtt_rules.specs.Step.{Call, with_moment, at_moment, env_of, deeds, stepped, told}
 use Rattle.mqtt_rules.proofs.FlightRows.{all_more}
 use Rattle.mqtt_laws.specs.Lines.{sent_to, is_one_of, unless_closed}

@@ -7,7 +7,6 @@ use Rattle.std.proofs.lemmas.Slice.Eq.{bytes_eq-Decides}
 use Rattle.mqtt_records.specs.declared.session.Session.{Session}
 use Rattle.mqtt_rules.specs.State.{Broker, Env, session_named}
 use Rattle.mqtt_rules.specs.Deeds.{Deed, Accept, Begin, Name, Count, At, Finish, Keep, Forget, RefuseWill, Link, On, Send, Gone, after, after_all}
-use Rattle.mqtt_rules.specs.Connect.{auto}
 use Rattle.mqtt_rules.specs.Step.{Call, NewLine, Input, BadInput, Lost, Pump, Tick, deeds_of}
 use Rattle.mqtt_rules.proofs.Goods.{AreGood}
 use Rattle.mqtt_rules.proofs.Acts.{About as Whom, Law, IsCallOf, leads_call}
@@ -15,6 +14,7 @@ use Rattle.mqtt_rules.proofs.ByDeeds.{DeedLaw, by_deeds, turn_law}
 use Rattle.mqtt_laws.specs.Hops.{IsIts, IsOthers}
 use Rattle.mqtt_laws.proofs.Names.{BeginNone, only_deeds}
 use Rattle.mqtt_laws.proofs.FirstConnects.{only_none}
+use Rattle.mqtt_records.specs.Session.{auto}
 
 -- ---- no session of this client
 

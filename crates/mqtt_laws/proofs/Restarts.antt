@@ -7,12 +7,11 @@ use Rattle.mqtt_inbound.specs.Line.{away}
 use Rattle.mqtt_inbound.specs.InboundWorld.{restart, step}
 use Rattle.mqtt_records.specs.declared.session.Session.{Session}
 use Rattle.mqtt_records.specs.Records.{changed_all}
-use Rattle.mqtt_records.specs.Session.{birth_of, with_columns}
+use Rattle.mqtt_records.specs.Session.{birth_of, with_columns, auto}
 use Rattle.mqtt_rules.specs.declared.Limits.{Limits}
 use Rattle.mqtt_rules.specs.State.{Broker, Env, MemberChoice, session_at, session_named, is_connected}
 use Rattle.mqtt_rules.specs.Deeds.{whose, Close, Deed, At, part_rows_of, rows_of_all, after, after_all, series}
 use Rattle.mqtt_rules.specs.Closing.{never, settle}
-use Rattle.mqtt_rules.specs.Connect.{auto}
 use Rattle.mqtt_rules.specs.Step.{env_of, close_if, opening, unopened, opened}
 use Rattle.mqtt_rules.proofs.FlightRows.{found_key, all_more}
 use Rattle.mqtt_rules.proofs.Goods.{after_append}

@@ -15,14 +15,13 @@ use Rattle.mqtt_rules.specs.declared.Limits.{Limits}
 use Rattle.mqtt_rules.specs.State.{MemberChoice, Line as BrokerLine, Broker, session_at, session_named, line_at}
 use Rattle.mqtt_rules.specs.State.{line_of}
 use Rattle.mqtt_rules.specs.Closing.{never}
-use Rattle.mqtt_rules.specs.Connect.{auto}
 use Rattle.mqtt_rules.specs.Step.{Call, NewLine, Input, BadInput, Lost, Pump, Tick, can_link, deeds, stepped, told}
 use Rattle.mqtt_base.specs.declared.limits.TheConstants.{CLIENT_LIMIT, SESSION_LIMIT}
 use Rattle.mqtt_topic.specs.Names.{is_empty}
 use Rattle.mqtt_rules.specs.Numbers.{HasGivenBirths}
 use Rattle.mqtt_rules.specs.Lines.{line_number, HasUniqueLines}
 use Rattle.mqtt_rows.specs.Order.{IsAscending, IsBelow}
-use Rattle.mqtt_records.specs.Session.{birth_of}
+use Rattle.mqtt_records.specs.Session.{birth_of, auto}
 use Rattle.mqtt_laws.specs.Lines.{is_one_of, unless_closed, left, joined}
 use Rattle.mqtt_laws.specs.Ends.{Sent, shake, Publisher, wire}
 use Rattle.mqtt_laws.specs.World.{publisher_told, taken_up, taken_old}

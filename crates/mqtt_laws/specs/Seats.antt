@@ -9,12 +9,12 @@ use Rattle.mqtt_inbound.specs.Publisher.{CONNECT, in_flight}
 use Rattle.mqtt_inbound.specs.InboundWorld.{Event as HopEvent, run}
 use Rattle.mqtt_rules.specs.declared.Limits.{Limits}
 use Rattle.mqtt_rules.specs.State.{Line as BrokerLine, Broker, session_named}
-use Rattle.mqtt_rules.specs.Connect.{auto}
 use Rattle.mqtt_rules.specs.Step.{Call, NewLine, Input, BadInput, Lost, Pump, Tick}
 use Rattle.mqtt_laws.specs.Lines.{Line}
 use Rattle.mqtt_laws.specs.Ends.{Sent, shake, Publisher}
 use Rattle.mqtt_laws.specs.Seen.{heard_in, seen}
 use Rattle.mqtt_laws.specs.Hops.{Own, IsInOrder, IsNoConnect}
+use Rattle.mqtt_records.specs.Session.{auto}
 
 -- ---- a line of the broker
 

@@ -20,7 +20,6 @@ use Rattle.mqtt_flow.specs.Receiver.{connect}
 use Rattle.mqtt_records.specs.Records.{nothing}
 use Rattle.mqtt_rules.specs.declared.Limits.{Limits}
 use Rattle.mqtt_rules.specs.State.{Broker, MemberChoice, session_named}
-use Rattle.mqtt_rules.specs.Connect.{auto}
 use Rattle.mqtt_rules.specs.Piece.{Front, first_call}
 use Rattle.mqtt_rules.specs.Step.{Call, NewLine, Input, Lost, Pump, Tick, can_link, stepped, Outcome, told, unopened}
 use Rattle.mqtt_rules.specs.Step.{opened}
@@ -28,6 +27,7 @@ use Rattle.mqtt_laws.specs.Lines.{Line, stands, left, gives_up, joined, restarte
 use Rattle.mqtt_laws.specs.Ends.{Draft, Sent, shake, Publisher, new_publisher, publish_with, wire, published}
 use Rattle.mqtt_laws.specs.Ends.{publisher_reads, Wish, Back, answers, asks_for, Receiver, new_receiver, wire_back}
 use Rattle.mqtt_laws.specs.Ends.{receiver_reads, goes}
+use Rattle.mqtt_records.specs.Session.{auto}
 
 -- a stranger sends any bytes on its line; those that are not answered yet are held
 pub record Stranger : Type 0 where

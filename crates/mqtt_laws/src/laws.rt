@@ -9,7 +9,6 @@ ghost use Rattle.mqtt_inbound.specs.InboundWorld.{break, connect, restart, step,
 ghost use Rattle.mqtt_records.specs.declared.session.Session.{Session};
 ghost use Rattle.mqtt_rules.specs.declared.Limits.{Limits};
 ghost use Rattle.mqtt_rules.specs.State.{Line, Broker, MemberChoice, session_at, session_named};
-ghost use Rattle.mqtt_rules.specs.Connect.{auto};
 ghost use Rattle.mqtt_rules.specs.Step.{Call, NewLine, Input, Lost, opened, stepped, told};
 ghost use Rattle.mqtt_laws.specs.Lines.{gives_up};
 ghost use Rattle.mqtt_laws.specs.Ends.{Content, Draft, Sent, shake, plain, Publisher, wire, published, publisher_reads};
@@ -20,6 +19,7 @@ ghost use Rattle.mqtt_laws.specs.Hops.{IsKept, IsOurs, connect_packet, IsFirst, 
 ghost use Rattle.mqtt_laws.specs.Hops.{IsNoConnect, IsUnheard, MayGiveUp, after_step, wire_1, wire_2, hello_packet};
 ghost use Rattle.mqtt_laws.specs.Hops.{lost_by, Becomes};
 ghost use Rattle.mqtt_laws.specs.Hops.{IsLingering, IsLate, after_old_step, BecomesOld, IsUnheardOld};
+ghost use Rattle.mqtt_records.specs.Session.{auto};
 
 /// The broker reads the first packet of a publisher's line. Whatever the limits, the routing, the queues
 /// and all other sessions and lines, what the publisher sees of it is one event of its hop (4.3.3, 4.4).

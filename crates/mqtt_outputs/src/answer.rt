@@ -132,11 +132,3 @@ pub fn disconnect(alloc: Global, code: Reason) -> Result<Bytes, AllocError>
     let written = code_push(&mut out, code);
     frame_end(out, written)
 }
-
-/// PINGRESP (3.13).
-pub fn pingresp(alloc: Global) -> Result<Bytes, AllocError>
-    ensures { IfOk result (λ bytes. bytes ≡ shortest_of Pingresp) }
-{
-    let out = frame_begin(alloc, 0xd0, 0)?;
-    frame_end(out, Ok(()))
-}

@@ -10,9 +10,7 @@ mod laws;
 mod property;
 mod sent;
 
-pub use answer::{
-    disconnect, pingresp, puback, pubcomp, pubrec, pubrel, suback, suback_len, unsuback,
-};
+pub use answer::{disconnect, puback, pubcomp, pubrec, pubrel, suback, suback_len, unsuback};
 pub use connack::{connack_assigned, connack_granted, connack_refused};
 pub use copies::{has_spelling, publish, publish_len, publish_row, row_len};
 pub use laws::sizes_stay;

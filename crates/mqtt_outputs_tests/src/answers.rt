@@ -3,8 +3,8 @@
 use bytes::Bytes;
 use mqtt_base::{Reason, Text};
 use mqtt_outputs::{
-    connack_assigned, connack_granted, connack_refused, disconnect, pingresp, puback, pubcomp,
-    pubrec, pubrel, suback, suback_len, unsuback,
+    connack_assigned, connack_granted, connack_refused, disconnect, puback, pubcomp, pubrec,
+    pubrel, suback, suback_len, unsuback,
 };
 use std::alloc::{AllocError, Global};
 use std::process::Abort;
@@ -34,7 +34,6 @@ fn a_success_goes_without_its_code(rt: HostRuntime) -> Result<(), Fail> {
     assert_is(&rt, pubrel(alloc, 7, code), &[0x62, 0x02, 0x00, 0x07])?;
     assert_is(&rt, pubcomp(alloc, 10, code), &[0x70, 0x02, 0x00, 0x0a])?;
     assert_is(&rt, disconnect(alloc, code), &[0xe0, 0x00])?;
-    assert_is(&rt, pingresp(alloc), &[0xd0, 0x00])?;
     Ok(())
 }
 

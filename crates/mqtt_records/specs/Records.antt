@@ -4,8 +4,7 @@ use Rattle.std.specs.List.{All}
 use Rattle.mqtt_base.specs.declared.limits.TheConstants.{SUBSCRIPTION_LIMIT, OPEN_LIMIT, QUEUE_LIMIT, SESSION_LIMIT, RETAINED_LIMIT, LAST_NUMBER}
 use Rattle.mqtt_base.specs.declared.session.Cause.{Cause}
 use Rattle.mqtt_base.specs.declared.session.Cause.TheVariants.{Direct, Share, Retained}
-use Rattle.mqtt_base.specs.declared.session.Phase.{Phase}
-use Rattle.mqtt_base.specs.declared.session.Phase.TheVariants.{Waiting, Sent, Released, Oversize}
+use Rattle.mqtt_base.specs.Phases.{order_of}
 use Rattle.mqtt_message.specs.Queue.{CopyRow}
 use Rattle.mqtt_message.specs.declared.message.RetainedMessage.{RetainedMessage}
 use Rattle.mqtt_records.specs.declared.subscription.Subscription.{Subscription}
@@ -111,13 +110,6 @@ abbrev pub subscribe_in : Cause → ℕ
 subscribe_in Direct = 0
 subscribe_in (Share group) = 0
 subscribe_in (Retained subscribe) = subscribe
-
--- the order in which a copy was released; 0 before
-abbrev pub order_of : Phase → ℕ
-order_of Waiting = 0
-order_of (Sent identifier) = 0
-order_of (Released identifier order) = order
-order_of (Oversize identifier order) = order
 
 -- what is kept of a copy: the session of its identity is the one in whose queue it stands
 pub record FitsCopy (birth : ℕ) (row : CopyRow) : Type 0 where

@@ -1,5 +1,5 @@
 -- What is kept of a session, and how a part of it changes (4.1).
-use Rattle.std.specs.Prelude.{◌≡◌, refl, ℕ, not, bytes_eq, List, [], filter, Option, Some, None}
+use Rattle.std.specs.Prelude.{◌≡◌, refl, ℕ, codes, not, bytes_eq, List, [], filter, Option, Some, None}
 use Rattle.mqtt_base.specs.declared.session.Phase.{Phase}
 use Rattle.mqtt_base.specs.declared.limits.TheConstants.{SUBSCRIPTION_LIMIT, OPEN_LIMIT, QUEUE_LIMIT}
 use Rattle.mqtt_message.specs.declared.message.Will.{Will}
@@ -108,3 +108,7 @@ birth_of-part_changed (RemoveInbound identifier) session = refl
 birth_of-part_changed (PutCopy row) session = refl
 birth_of-part_changed (SetCopy place phase) session = refl
 birth_of-part_changed (RemoveCopy place) session = refl
+
+-- the front of the client identifiers that the broker assigns (ours)
+abbrev pub auto : List ℕ
+auto = codes "auto-"

@@ -21,7 +21,7 @@ use Rattle.mqtt_message.specs.declared.message.Will.{Will}
 use Rattle.mqtt_message.specs.Queue.{CopyRow}
 use Rattle.mqtt_records.specs.declared.session.Session.{Session}
 use Rattle.mqtt_rows.specs.Order.{row_at}
-use Rattle.mqtt_records.specs.Session.{birth_of, copy_place}
+use Rattle.mqtt_records.specs.Session.{birth_of, copy_place, auto}
 use Rattle.mqtt_rules.specs.Packets.{connack, pubrel, publish_of}
 use Rattle.mqtt_rules.specs.State.{Line, Broker, Env, session_at, session_named, line_of, queue_on}
 use Rattle.mqtt_rules.specs.Deeds.{Whose, whose, Message, Origin, FromClient, Part, Resume, Close, DropWill, Open, Enter, Mark, Leave, LinePart, Hear, Greet, SetAlias, Went, Deed, Accept, Begin, Name, Count, At, Finish, Keep, Forget, RefuseWill, Link, On, Send, Gone, after, after_all, series, always, with_session, offer}
@@ -29,7 +29,7 @@ use Rattle.mqtt_rules.specs.Deeds as deeds
 use Rattle.mqtt_rules.specs.Outbound.{leave_deeds, turn_deeds, since, queue_limits, enter_deeds}
 use Rattle.mqtt_rules.specs.Routing.{CopyTo, is_queued, deliver_by, deliver, retained_of, forgets, finds_place, place_of_kept, kept_message, retain_by, next_publication, publish, accepted_copies, accepted_if}
 use Rattle.mqtt_rules.specs.Closing.{end_session}
-use Rattle.mqtt_rules.specs.Connect.{expiry_of, will_of, fresh_row, greet, begin, begin_named, auto, connack_properties}
+use Rattle.mqtt_rules.specs.Connect.{expiry_of, will_of, fresh_row, greet, begin, begin_named, connack_properties}
 use Rattle.mqtt_rules.specs.Inbound.{pump_turns, pump_deeds}
 use Rattle.mqtt_rules.specs.Subscribe as sub
 use Rattle.mqtt_rules.specs.Step.{Call, deeds_of, opening}

@@ -36,11 +36,12 @@ use Rattle.mqtt_topic.specs.Aliases.{AliasTable, Resolves, topic_of}
 use Rattle.mqtt_records.specs.declared.records.Records.{Records}
 use Rattle.mqtt_rules.specs.Packets.{number_at, passed_on}
 use Rattle.mqtt_rules.specs.State.{session_named}
-use Rattle.mqtt_rules.specs.Connect.{auto, refusal, largest_of, least_packet_size, has_bad_topic, will_kept, will_of}
+use Rattle.mqtt_rules.specs.Connect.{refusal, largest_of, least_packet_size, has_bad_topic, will_kept, will_of}
 use Rattle.mqtt_rules.specs.Inbound.{Means, meaning, resolved}
 use Rattle.mqtt_rules.specs.Contents.{IsTaken, IsTopic, IsContentOf, IsWilledOf, Sizes, AreSizes}
 use Rattle.mqtt_rules.proofs.Meanings.{resolved_only, identified_only}
 use Rattle.mqtt_rules.proofs.PassedContents.{two, name_is, passed_may, passed_lawful, passed_fits, passed_short, block_within}
+use Rattle.mqtt_records.specs.Session.{auto}
 
 -- ---- what is passed on
 

@@ -20,7 +20,7 @@ use Rattle.mqtt_records.specs.declared.subscription.Subscription.{Subscription}
 use Rattle.mqtt_records.specs.declared.records.Records.{Records}
 use Rattle.mqtt_rows.specs.Order.{IsAbove, IsAscending, IsBelow, HasRoomFor, row_at, has_row}
 use Rattle.mqtt_rows.proofs.OrderLemmas.{apart, above_none}
-use Rattle.mqtt_records.specs.Session.{birth_of, place_of, number_of, with_columns, with_will, with_subscription, without_filter, without_subscription, with_copy, with_phase, without_copy}
+use Rattle.mqtt_records.specs.Session.{birth_of, place_of, number_of, with_columns, with_will, with_subscription, without_filter, without_subscription, with_copy, with_phase, without_copy, auto}
 use Rattle.mqtt_records.specs.Records.{kept_place, changed, changed_all, IsNumber, TakesSubscription}
 use Rattle.mqtt_rules.specs.State.{Broker, Env, session_at, session_named}
 use Rattle.mqtt_rules.specs.Deeds.{Whose, whose, Message, FromClient, Part, Resume, Close, SetExpiry, DropWill, Subscribe, Unsubscribe, Open, Release, Enter, Mark, Leave, Deed, Name, Count, At, will_row, new_entry, part_rows, part_rows_of, after, after_all, series}
@@ -29,7 +29,7 @@ use Rattle.mqtt_rules.specs.Routing.{CopyTo, is_topic, retained_of, finds_place,
 use Rattle.mqtt_props.specs.Laws.{has}
 use Rattle.mqtt_props.specs.declared.table.PropName.TheVariants.{AuthenticationMethod}
 use Rattle.mqtt_base.specs.Codes.{bad_authentication_method, packet_too_large, client_identifier_not_valid, topic_name_invalid}
-use Rattle.mqtt_rules.specs.Connect.{auto, refusal, largest_of, least_packet_size, has_bad_topic}
+use Rattle.mqtt_rules.specs.Connect.{refusal, largest_of, least_packet_size, has_bad_topic}
 use Rattle.mqtt_rules.specs.Subscribe as sub
 use Rattle.mqtt_rules.specs.Laws.{IsAmong, IsUnique, client_at, topic_at, IsAssignedUpTo, IsCoherentSession, IsCoherentMessage, AreWithin}
 use Rattle.mqtt_rules.proofs.Goods.{AreGood, good_series, good_acts, after_append}

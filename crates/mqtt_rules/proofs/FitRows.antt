@@ -7,7 +7,6 @@ use Rattle.std.proofs.lemmas.Cmp.{nat_eq_equiv}
 use Rattle.mqtt_base.specs.declared.session.Phase.{Phase}
 use Rattle.mqtt_base.specs.declared.session.Phase.TheVariants.{Waiting, Sent, Released as ReleasedPhase, Oversize}
 use Rattle.mqtt_base.specs.declared.limits.TheConstants.{LAST_NUMBER, OPEN_LIMIT, QUEUE_LIMIT, SESSION_LIMIT}
-use Rattle.mqtt_flow.specs.Queue as flow
 use Rattle.mqtt_message.specs.declared.message.RetainedMessage.{RetainedMessage}
 use Rattle.mqtt_message.specs.declared.message.Will.{Will}
 use Rattle.mqtt_records.specs.declared.session.Columns.{Columns}
@@ -19,7 +18,7 @@ use Rattle.mqtt_records.specs.declared.change.Change.TheVariants.{SetCounter, Pu
 use Rattle.mqtt_rows.specs.Order.{HasRoomFor, row_at, has_row, put_row}
 use Rattle.mqtt_rows.proofs.LookUps.{row_at-put_row}
 use Rattle.mqtt_records.specs.Session.{birth_of, copy_place, number_of, fresh, with_columns, without_filter}
-use Rattle.mqtt_records.specs.Records.{kept_place, put_session, changed, changed_all, HasSome, TakesSubscription, Fits, FitAll, IsNumber, IsMoment, order_of}
+use Rattle.mqtt_records.specs.Records.{kept_place, put_session, changed, changed_all, HasSome, TakesSubscription, Fits, FitAll, IsNumber, IsMoment}
 use Rattle.mqtt_rules.specs.State.{Broker, session_at}
 use Rattle.mqtt_rules.specs.Deeds.{Whose, Part, Resume, Close, SetExpiry, DropWill, Subscribe, Unsubscribe, Open, Release, Enter, Mark, Leave, Deed, Accept, Begin, Name, Count, At, Finish, Keep, Forget, RefuseWill, Link, On, Send, Gone, will_row, new_entry, part_rows, part_rows_of, rows_of, rows_of_all, stored_after, after, after_all}
 use Rattle.mqtt_rules.specs.Step.{number_given, is_spent}
@@ -110,12 +109,6 @@ fits_will : (birth : ℕ) (will : Option Will) (s : Session) (r : Records) → s
 fits_will birth None s r there = (tt, tt)
 fits_will birth (Some w) s r there = (has_some (λ (x : Session). Unit {0}) (session_at birth r) s there tt, tt)
 
-same_order : (phase : Phase) → flow.order_of phase ≡ order_of phase
-same_order Waiting = refl
-same_order (Sent i) = refl
-same_order (ReleasedPhase i order) = refl
-same_order (Oversize i order) = refl
-
 fits_part : (part : Part) (s : Session) (b : Broker) → session_at s.birth b.records ≡ Some s → Coheres b.records → IsFitPart s.birth part b.records → RoomToEnter (At (record { birth = s.birth; client = s.client }) part) b
     → Stands (At (record { birth = s.birth; client = s.client }) part) b → AreNumbers (counts b.records) → is_spent (part_rows part s) ≡ false → FitAll (part_rows part s) b.records
 fits_part (Resume expiry will) s b there h fit room stands n e =
@@ -160,7 +153,7 @@ fits_part (Enter copy) s b there h fit room stands n e =
       tt,
     )
 fits_part (Mark place phase) s b there h fit room stands n e =
-    ((has_some (λ (x : Session). has_row copy_place place x.queue ≡ true) (session_at s.birth b.records) s there (stands s there), subst IsNumber (same_order phase) (unspent_one (SetCopy s.birth place phase) [] e).0), tt)
+    ((has_some (λ (x : Session). has_row copy_place place x.queue ≡ true) (session_at s.birth b.records) s there (stands s there), (unspent_one (SetCopy s.birth place phase) [] e).0), tt)
 fits_part (Leave x ending) s b there h fit room stands n e = (tt, tt)
 
 fits_part_of : (who : Whose) (part : Part) (o : Option Session) (b : Broker) → session_at who.birth b.records ≡ o → Coheres b.records → IsFitPart who.birth part b.records → RoomToEnter (At who part) b

@@ -2,6 +2,7 @@
 use Rattle.std.proofs.Common.{◌≡◌, ℕ, Bool, true, false, List, [], ◌∷◌, map, refl, sym, ap, subst, ◌∙◌, inl, inr}
 use Rattle.std.specs.Prelude.{⊤, suc, Option, Some, None, find, Ok, Err}
 use Rattle.std.proofs.lemmas.Bool.{cases_Bool}
+use Rattle.mqtt_base.specs.Phases.{identifier_of}
 use Rattle.mqtt_base.specs.declared.session.Qos.{Qos}
 use Rattle.mqtt_base.specs.declared.session.Qos.TheVariants.{AtMostOnce, AtLeastOnce, ExactlyOnce}
 use Rattle.mqtt_base.specs.declared.session.Phase.{Phase}
@@ -9,7 +10,7 @@ use Rattle.mqtt_base.specs.declared.session.Phase.TheVariants.{Waiting, Sent, Re
 use Rattle.mqtt_flow.specs.declared.entry.Entry.{Entry as FlowEntry}
 use Rattle.mqtt_flow.specs.declared.entry.Turn.{Turn}
 use Rattle.mqtt_flow.specs.declared.entry.Turn.TheVariants as turns
-use Rattle.mqtt_flow.specs.Queue.{identifier_of, is_holder, holder, next_order}
+use Rattle.mqtt_flow.specs.Queue.{is_holder, holder, next_order}
 use Rattle.mqtt_flow.specs.Outbound.{Answer, acknowledged, puback_by, puback_at, released_by, received, pubrec_by, pubrec_at, pubcomp_by, pubcomp_at, is_refusal}
 use Rattle.mqtt_flow.specs.Outbound as rules
 use Rattle.mqtt_message.specs.Queue.{CopyRow}

@@ -8,7 +8,7 @@ use Rattle.mqtt_records.specs.declared.session.Session.{Session}
 use Rattle.mqtt_records.specs.declared.records.Records.{Records}
 use Rattle.mqtt_records.specs.declared.change.Change.{Change}
 use Rattle.mqtt_records.specs.Records.{IsNumber}
-use Rattle.mqtt_records.specs.Session.{birth_of}
+use Rattle.mqtt_records.specs.Session.{birth_of, auto}
 use Rattle.mqtt_rows.specs.Order.{IsAscending}
 use Rattle.mqtt_rules.specs.declared.Limits.{Limits}
 use Rattle.mqtt_rules.specs.State.{Line, Broker, Env, stored, session_at, is_connected, MemberChoice}
@@ -16,7 +16,7 @@ use Rattle.mqtt_rules.specs.Deeds.{Whose, whose, Part, Resume, Open, Close, Act,
 use Rattle.mqtt_rules.specs.Closing.{end_session, settle, is_due, end_due, has_due_end}
 use Rattle.mqtt_base.specs.Codes.{success}
 use Rattle.mqtt_rules.specs.Packets.{connack}
-use Rattle.mqtt_rules.specs.Connect.{auto, expiry_of, will_of, greet, begin_named, connack_properties}
+use Rattle.mqtt_rules.specs.Connect.{expiry_of, will_of, greet, begin_named, connack_properties}
 use Rattle.mqtt_rules.specs.Inbound.{pump_deeds}
 use Rattle.mqtt_rules.specs.Outbound.{turn_deeds}
 use Rattle.mqtt_rules.specs.Routing.{publish}

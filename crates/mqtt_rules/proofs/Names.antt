@@ -6,7 +6,7 @@ use Rattle.std.specs.Str.{all_ascii_digits}
 use Rattle.std.proofs.Common.{rules}
 use Rattle.std.proofs.lemmas.Str.Parse.{IsNumeralModel, numerals_by_fold}
 use Rattle.std.proofs.lemmas.Fmt.{digits_value-decimal}
-use Rattle.mqtt_rules.specs.Connect.{auto}
+use Rattle.mqtt_records.specs.Session.{auto}
 
 abbrev read_on : ℕ → List ℕ → ℕ
 read_on n [] = n

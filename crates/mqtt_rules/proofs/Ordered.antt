@@ -16,7 +16,8 @@ use Rattle.mqtt_rows.specs.Order.{IsAscending, has_row, insert_row, put_row, rem
 use Rattle.mqtt_records.specs.Session.{birth_of, place_of, number_of, copy_place, fresh, with_columns, with_will, without_filter, with_subscription, without_subscription, with_open, without_open, with_copy, in_phase, with_phase, without_copy}
 use Rattle.mqtt_records.specs.Records.{kept_place, nothing, with_counter, put_session, in_session, changed, changed_all}
 use Rattle.mqtt_rows.proofs.OrderLemmas.{insert-found, put-ascending, filter-ascending, change-ascending}
-use Rattle.mqtt_rules.specs.Laws.{IsTable, HasTables, IsOrdered}
+use Rattle.mqtt_rows.specs.Order.{IsTable}
+use Rattle.mqtt_rules.specs.Laws.{HasTables, IsOrdered}
 
 -- ---- how many rows there are after an edit
 

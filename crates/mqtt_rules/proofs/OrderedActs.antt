@@ -16,14 +16,14 @@ use Rattle.mqtt_records.specs.declared.session.Columns.{Columns}
 use Rattle.mqtt_records.specs.declared.records.Records.{Records}
 use Rattle.mqtt_records.specs.declared.change.Change.{Change}
 use Rattle.mqtt_rows.specs.Order.{row_at}
-use Rattle.mqtt_records.specs.Session.{birth_of, copy_place}
+use Rattle.mqtt_records.specs.Session.{birth_of, copy_place, auto}
 use Rattle.mqtt_rules.specs.Packets.{connack}
 use Rattle.mqtt_rules.specs.State.{Line, Broker, Env, stored, session_at, session_named}
 use Rattle.mqtt_rules.specs.Deeds.{whose, Message, Origin, FromClient, Part, Resume, Close, Open, Enter, Leave, Hear, SetAlias, Deed, Accept, Begin, Name, Count, At, Finish, Keep, Forget, RefuseWill, Link, On, Send, Act, after, after_all, rows_of_all, stored_after, then, always, series, only_if, with_session, of_session, with_line, offer}
 use Rattle.mqtt_rules.specs.Outbound.{of_entry, leave_deeds, turn_deeds, all_turn_deeds, room}
 use Rattle.mqtt_rules.specs.Routing.{CopyTo, accepted_copies, publish, is_queued}
 use Rattle.mqtt_rules.specs.Closing.{end_session}
-use Rattle.mqtt_rules.specs.Connect.{of_client, greet, expiry_of, will_of, connack_properties, fresh_row, begin, begin_named, auto}
+use Rattle.mqtt_rules.specs.Connect.{of_client, greet, expiry_of, will_of, connack_properties, fresh_row, begin, begin_named}
 use Rattle.mqtt_rules.specs.Inbound.{pump_turns, pump_deeds}
 use Rattle.mqtt_rules.specs.Subscribe as sub
 use Rattle.mqtt_rules.proofs.Goods.{after_append, AreGood}

@@ -28,7 +28,7 @@ use Rattle.mqtt_rules.specs.Outbound.{leave_deeds, queue_limits, since, enter_de
 use Rattle.mqtt_rules.specs.Routing.{CopyTo, is_topic, retained_of, finds_place, accepted_if, next_publication, accepted_copies, is_queued, deliver_by, deliver, place_of_kept, kept_message, forgets, retain_by, publish}
 use Rattle.mqtt_rules.specs.Subscribe as sub
 use Rattle.mqtt_rules.specs.State.{queue_on}
-use Rattle.mqtt_rules.specs.Laws.{IsTable}
+use Rattle.mqtt_rows.specs.Order.{IsTable}
 use Rattle.mqtt_rules.proofs.Ordered.{length-filter_le, length-change_row, length-insert_row, length-insert_found, filter-table, either}
 use Rattle.mqtt_rules.proofs.OrderedActs.{IsPlain, ArePlain, plain_leave, plain_flat, plain_offer, Keeps, both, follows, keeps_series, keeps_map, keeps_of, Keeping, birth_found}
 use Rattle.mqtt_rules.proofs.Leads.{leads_end}

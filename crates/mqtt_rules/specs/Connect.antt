@@ -20,6 +20,7 @@ use Rattle.mqtt_rules.specs.State.{Line, Env, session_named, line_of, queue_on}
 use Rattle.mqtt_rules.specs.Deeds.{whose, Resume, Greet, Deed, Begin, Name, At, On, Send, Gone, Act, after_all, always, series, only_if, with_session, with_line}
 use Rattle.mqtt_rules.specs.Outbound.{all_turn_deeds}
 use Rattle.mqtt_rules.specs.Closing.{publish_will, end_session, settle, drop_line}
+use Rattle.mqtt_records.specs.Session.{auto}
 
 -- ---- refusals (3.2.2.2)
 
@@ -46,10 +47,6 @@ largest_of c = number_or 0xffffffff MaximumPacketSize c.properties
 -- the smallest Maximum Packet Size that the broker takes, in bytes (ours)
 abbrev pub least_packet_size : ℕ
 least_packet_size = 64
-
--- the front of the client identifiers that the broker assigns (ours)
-abbrev pub auto : List ℕ
-auto = codes "auto-"
 
 -- a name of that form which no session has
 abbrev pub is_unassigned : List ℕ → Records → Bool

@@ -1,7 +1,7 @@
 -- Packet identifiers in flight (MQTT 5.0, 2.2.1).
 use Rattle.std.specs.Prelude.{◌≡◌, ℕ, List, Option, Some, None}
+use Rattle.mqtt_base.specs.Phases.{identifier_of}
 use Rattle.std.specs.List.{AllByRecursion}
-use Rattle.mqtt_flow.specs.Queue.{identifier_of}
 use Rattle.mqtt_message.specs.Queue.{CopyRow}
 use Rattle.mqtt_records.specs.declared.records.Records.{Records}
 use Rattle.mqtt_rows.specs.Order.{IsAscending, row_at}

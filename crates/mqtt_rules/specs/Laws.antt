@@ -9,22 +9,16 @@ use Rattle.mqtt_records.specs.declared.session.Session.{Session}
 use Rattle.mqtt_records.specs.declared.records.Records.{Records}
 use Rattle.mqtt_message.specs.declared.message.RetainedMessage.{RetainedMessage}
 use Rattle.mqtt_rows.specs.Order.{IsAscending, row_at}
-use Rattle.mqtt_records.specs.Session.{birth_of, place_of, number_of, copy_place}
+use Rattle.mqtt_records.specs.Session.{birth_of, place_of, number_of, copy_place, auto}
 use Rattle.mqtt_records.specs.Records.{kept_place, nothing, IsNumber, IsMoment}
 use Rattle.mqtt_rules.specs.declared.Limits.{Limits}
 use Rattle.mqtt_rules.specs.State.{Broker, Env, stored, session_at, MemberChoice}
-use Rattle.mqtt_rules.specs.Connect.{auto}
 use Rattle.mqtt_rules.specs.Numbers.{HasGivenBirths}
 use Rattle.mqtt_rules.specs.Outbound.{room}
 use Rattle.mqtt_rules.specs.Routing.{CopyTo, is_queued}
 use Rattle.mqtt_rules.specs.Step.{Call, stepped, unopened, opened}
 
 -- ---- tables in order
-
--- rows in the order of their keys, each key once, and no more than the limit
-pub record IsTable {X : Type 0} (key : X → ℕ) (limit : ℕ) (rows : List X) : Type 0 where
-  pub ascending : IsAscending key rows
-  pub within : length rows ≤ limit
 
 -- what a session has: its open identifiers, its subscriptions by place, and its queue by place
 pub record HasTables (s : Session) : Type 0 where

@@ -1,6 +1,7 @@
 -- One call of the broker is one step: the state after it, and what it answers (MQTT 5.0, 3 and 4).
 use Rattle.std.specs.Prelude.{◌≡◌, ℕ, suc, max, Bool, true, false, cond, ◌&&◌, List, [], ◌∷◌, ◌++◌, length, filter_map, map, nat_eq, nat_lt, Option, Some, None, option_map}
 use Rattle.std.specs.List.{list_any}
+use Rattle.mqtt_base.specs.Phases.{order_of}
 use Rattle.mqtt_base.specs.declared.limits.TheConstants.{LINE_LIMIT, PUMP_LIMIT, LAST_NUMBER}
 use Rattle.mqtt_base.specs.Codes.{protocol_error, unsupported_protocol_version}
 use Rattle.mqtt_base.specs.declared.session.CopyId.{CopyId}
@@ -8,7 +9,7 @@ use Rattle.mqtt_props.specs.declared.table.PropName.TheVariants.{SessionExpiryIn
 use Rattle.mqtt_codec.specs.declared.packet.Packet.{Packet}
 use Rattle.mqtt_codec.specs.declared.packet.Packet.TheVariants.{Connect, Publish, Puback, Pubrec, Pubrel, Pubcomp, Subscribe, Unsubscribe, Pingreq, Pingresp, Disconnect}
 use Rattle.mqtt_codec.specs.Packets.{shortest_of}
-use Rattle.mqtt_flow.specs.Queue.{holder, order_of}
+use Rattle.mqtt_flow.specs.Queue.{holder}
 use Rattle.mqtt_records.specs.declared.change.Counter.{Counter}
 use Rattle.mqtt_records.specs.declared.change.Counter.TheVariants.{Births, Publications, Subscribes, Autos, Moment}
 use Rattle.mqtt_records.specs.declared.change.Change.{Change}

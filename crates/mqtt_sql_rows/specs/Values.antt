@@ -6,7 +6,7 @@ use Rattle.sqlite_value.specs.Order.{bytes}
 use Rattle.mqtt_base.specs.declared.session.RetainHandling.{RetainHandling}
 use Rattle.mqtt_base.specs.declared.session.RetainHandling.TheVariants.{SendAlways, SendIfNew, DoNotSend}
 use Rattle.mqtt_records.specs.Records.{IsNumber}
-use Rattle.mqtt_sql_rows.specs.declared.value.TheConstants.{ROW_LIMIT}
+use Rattle.mqtt_base.specs.declared.limits.TheConstants.{ROW_LIMIT}
 
 -- ---- columns
 

@@ -18,5 +18,5 @@ pub use retained::retained_of;
 pub use session::columns_of;
 pub use stored::Stored;
 pub use subscription::subscription_of;
-pub use value::{ROW_LIMIT, is_number, value_at};
+pub use value::{is_number, value_at};
 pub use will::will_of;

@@ -11,14 +11,11 @@ ghost use Rattle.mqtt_records.specs.Records.{IsNumber, IsMoment};
 ghost use Rattle.mqtt_sql_rows.specs.Values.{number, number_or_null, flag, IsCounted, IsPacketIdentifier, IsShort};
 
 use bytes::Bytes;
-use mqtt_base::{LAST_NUMBER, Qos, Text};
+use mqtt_base::{LAST_NUMBER, Qos, ROW_LIMIT, Text};
 use mqtt_records::KeepError;
 use sqlite::Row;
 use sqlite::types::ValueRef;
 use std::alloc::Global;
-
-/// Bytes of a row's topic, properties and payload together (ours).
-pub const ROW_LIMIT: usize = 200_000;
 
 /// The value in a column, NULL past the last. Takes no memory.
 pub fn value_at(row: &Row, at: usize) -> ValueRef<'_>

@@ -12,7 +12,7 @@ use Rattle.mqtt_rows.proofs.OrderLemmas.{apart, above_none, remove-none}
 use Rattle.mqtt_rows.proofs.LookUps.{row_at-here, row_at-remove_row}
 use Rattle.mqtt_records.specs.declared.subscription.Subscription.{Subscription}
 use Rattle.mqtt_records.specs.Session.{place_of, without_filter, put_subscription}
-use Rattle.mqtt_rules.specs.Laws.{IsTable}
+use Rattle.mqtt_rows.specs.Order.{IsTable}
 use Rattle.mqtt_rules.specs.Subscribe.{is_to}
 use Rattle.mqtt_rules.proofs.FlightRows.{above_found, found_behind}
 use Rattle.mqtt_tables.specs.Subscribing.{filter_of}

@@ -2,7 +2,6 @@
 ghost use Rattle.std.specs.Prelude.{◌≡◌, ◌≤◌, ◌<◌, [], option_copied, IfOk, IfErr, OnOk, OnErr, vec_len, vec_capacity};
 ghost use Rattle.mqtt_base.specs.declared.limits.TheConstants.{LAST_NUMBER as last_number};
 ghost use Rattle.mqtt_records.specs.Records.{changed};
-ghost use Rattle.mqtt_flow.specs.Queue.{order_of};
 ghost use Rattle.mqtt_rules.specs.State.{session_at};
 ghost use Rattle.mqtt_rules.specs.Step.{count_given, number_given};
 ghost use Rattle.mqtt_tables.specs.Undoing.{broker_of};
@@ -11,7 +10,7 @@ ghost use Rattle.mqtt_tables.specs.Stepping.{at_rest, written, told, shut, sent,
 use crate::fault::StepFault;
 use crate::tables::Tables;
 use bytes::Bytes;
-use mqtt_base::{LAST_NUMBER, Phase};
+use mqtt_base::LAST_NUMBER;
 use mqtt_records::{Change, Counter, Records, Session};
 use mqtt_rules::{Limits, Report};
 use std::alloc::{AllocError, Global};
@@ -57,16 +56,6 @@ fn count_given(counter: Counter, value: u64) -> u64
     }
 }
 
-/// The order of release that a phase has; 0 before.
-fn order_of(phase: Phase) -> u64
-    ensures { result ≡ order_of phase }
-{
-    match phase {
-        Phase::Waiting | Phase::Sent { .. } => 0,
-        Phase::Released { order, .. } | Phase::Oversize { order, .. } => order,
-    }
-}
-
 /// The number that a row gives; 0 for none.
 fn number_given(row: &Change) -> u64
     ensures { result ≡ number_given row.now }
@@ -85,7 +74,7 @@ fn number_given(row: &Change) -> u64
         | Change::RemoveCopy { .. }
         | Change::RemoveRetained { .. } => 0,
         Change::PutCopy { row, .. } => row.get().place(),
-        Change::SetCopy { phase, .. } => order_of(*phase),
+        Change::SetCopy { phase, .. } => phase.order(),
         Change::PutRetained { kept } => kept.get().place,
     }
 }

@@ -172,11 +172,4 @@ impl Step {
     {
         self.tables.records().retained.as_slice()
     }
-
-    /// The most copies in a session's queue. Takes no memory.
-    pub fn queue_limit(&self) -> u32
-        ensures { result ≡ self.now.limits.queue }
-    {
-        self.limits.queue
-    }
 }

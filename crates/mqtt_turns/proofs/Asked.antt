@@ -1,9 +1,10 @@
 -- What an answer asks for has nothing to do with the copies that went out on the line, and what a session does at it.
 use Rattle.std.proofs.Common.{◌≡◌, ℕ, ◌+◌, List, [], ◌∷◌, map, max, refl, ap, sym, ◌∙◌, inl, inr}
+use Rattle.mqtt_base.specs.Phases.{order_of}
 use Rattle.std.specs.Prelude.{Option, Some, find}
 use Rattle.std.proofs.lemmas.Bool.{cases_Bool}
 use Rattle.mqtt_flow.specs.declared.entry.Entry.{Entry as FlowEntry}
-use Rattle.mqtt_flow.specs.Queue.{is_holder, holder, greatest_order, next_order, order_of}
+use Rattle.mqtt_flow.specs.Queue.{is_holder, holder, greatest_order, next_order}
 use Rattle.mqtt_flow.specs.Outbound.{Answer, puback, pubrec, pubcomp, puback_at, pubrec_at, pubcomp_at}
 use Rattle.mqtt_message.specs.Queue.{CopyRow}
 use Rattle.mqtt_records.specs.declared.session.Session.{Session}

@@ -19,7 +19,7 @@ use Rattle.mqtt_tables.specs.TheRules.Step.{on_pump}
 use Rattle.mqtt_tables.specs.TheRules.Tick.{lapse_deeds}
 use Rattle.mqtt_tables.proofs.TheRules.Turns.{Rises}
 use Rattle.mqtt_tables.specs.Lines.{line_number}
-use Rattle.mqtt_turns.specs.Turning.{takes_turns, pumps, lapses_of, resumes_on}
+use Rattle.mqtt_turns.specs.Turning.{takes_turns, pumps, lapses_of}
 
 some_is : {X : Type 0} (x y : X) → Some x ≡ Some y → x ≡ y
 some_is x y e = cc
@@ -35,9 +35,6 @@ rise_there birth x ts b found rises = λ y there.
 repeats_rise : {X : Type 0} (q : List CopyRow) (ds : List X) (id : X → ℕ) → Rises q 0 (map (λ d. turns.Repeat (id d)) ds)
 repeats_rise q [] id = tt
 repeats_rise q (d ∷ ds) id = repeats_rise q ds id
-
-pub resumed_rises : (s : Session) → Rises s.queue 0 (resumed_with (queue_on [] s))
-resumed_rises s = repeats_rise s.queue (due_from [] (queue_on [] s)) (λ d. d.identifier)
 
 -- ---- copies that leave send nothing
 
@@ -101,10 +98,3 @@ lapses_is line birth ts x b found is =
     ∙ (ap (λ rs. all_turn_deeds b.now line x rs) is
     ∙ (expired_leave b.now line x (queue_on [] x)
     ∙ ap (λ (o : Option Session). with_session o (λ s. always (lapse_deeds b.now s)) b) (sym found)))
-
-pub resumes_is : (line birth : ℕ) (ts : List Turn) (x : Session) (b : Broker) → session_at birth b.records ≡ Some x → ts ≡ resumed_with (queue_on [] x)
-    → takes_turns line birth ts b ≡ resumes_on line birth b
-resumes_is line birth ts x b found is =
-    ap (λ (o : Option Session). with_session o (λ s. always (all_turn_deeds b.now line s ts)) b) found
-    ∙ (ap (λ rs. all_turn_deeds b.now line x rs) is
-    ∙ ap (λ (o : Option Session). with_session o (λ s. always (all_turn_deeds b.now line s (resumed_with (queue_on [] s)))) b) (sym found))

@@ -34,7 +34,3 @@ pumps line b = with_line (line_at line b) (λ l. on_pump l l.session) b
 -- the copies of a session that wait and have expired leave (3.3.2.3.3)
 abbrev pub lapses_of : ℕ → Act
 lapses_of birth b = of_session birth (λ s. always (lapse_deeds b.now s)) b
-
--- PUBREL goes out for each released copy of a session that is resumed on a line (4.4)
-abbrev pub resumes_on : ℕ → ℕ → Act
-resumes_on line birth b = of_session birth (λ s. always (all_turn_deeds b.now line s (resumed_with (queue_on [] s)))) b

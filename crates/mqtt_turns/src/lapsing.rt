@@ -1,14 +1,14 @@
-//! Copies that expire, and what a resumption begins with (MQTT 5.0, 3.3.2.3.3, 4.4).
+//! Copies that expire (MQTT 5.0, 3.3.2.3.3).
 ghost use Rattle.std.specs.Prelude.{◌≡◌, [], IfOk, OnOk, IfErr};
-ghost use Rattle.mqtt_flow.specs.Outbound.{expired, resumed_with};
+ghost use Rattle.mqtt_flow.specs.Outbound.{expired};
 ghost use Rattle.mqtt_rules.proofs.Turns.{Rises};
 ghost use Rattle.mqtt_tables.specs.TheRules.State.{queue_on};
 ghost use Rattle.mqtt_tables.specs.Stepping.{Did, IsLeft};
-ghost use Rattle.mqtt_turns.specs.Turning.{lapses_of, resumes_on};
+ghost use Rattle.mqtt_turns.specs.Turning.{lapses_of};
 
 use crate::queue::rows_of;
 use crate::turns::take_turns;
-use mqtt_flow::{Turn, look_expire, look_resume};
+use mqtt_flow::{Turn, look_expire};
 use mqtt_records::Session;
 use mqtt_tables::{Step, StepFault};
 use std::alloc::Global;
@@ -31,21 +31,6 @@ fn lapse_turns(alloc: Global, session: &Session, now: u64) -> Result<Vec<Turn>, 
     }
 }
 
-/// The turns with which a resumption of a session begins.
-fn resume_turns(alloc: Global, session: &Session) -> Result<Vec<Turn>, StepFault>
-    ensures turns { IfOk result (λ turns. turns.items ≡ resumed_with (queue_on [] session.now)) }
-    ensures rise { IfOk result (λ turns. Rises session.now.queue 0 turns.items) }
-    ensures fault { IfErr result (λ fault. fault ≡ StepFault.Memory) }
-{
-    let rows = rows_of(alloc, session, &[])?;
-    let turns = look_resume(alloc, &rows);
-    drop(rows);
-    match turns {
-        Ok(turns) => Ok(turns),
-        Err(_) => Err(StepFault::Memory),
-    }
-}
-
 /// The copies of a session that wait and have expired leave its queue (3.3.2.3.3).
 pub fn expire(alloc: Global, step: &mut Step, birth: u64) -> Result<(), StepFault>
     ensures ok { OnOk result (Did (lapses_of birth) step.old step.new) }
@@ -56,23 +41,4 @@ pub fn expire(alloc: Global, step: &mut Step, birth: u64) -> Result<(), StepFaul
     };
     let turns = lapse_turns(alloc, session, step.moment())?;
     take_turns(alloc, step, NO_LINE, birth, turns)
-}
-
-/// PUBREL goes out once more for each released copy of a session that is resumed on a line, in the order of
-/// release (4.4, 4.6).
-pub fn repeat_released(
-    alloc: Global,
-    step: &mut Step,
-    line: u64,
-    birth: u64,
-) -> Result<(), StepFault>
-    ensures ok { OnOk result (Did (resumes_on line birth) step.old step.new) }
-    ensures left { IfErr result (λ fault. IsLeft (resumes_on line birth) fault
-        step.old step.new) }
-{
-    let Some(session) = step.session(birth) else {
-        return Ok(());
-    };
-    let turns = resume_turns(alloc, session)?;
-    take_turns(alloc, step, line, birth, turns)
 }

@@ -13,7 +13,7 @@ mod turns;
 
 pub use answering::{Answered, puback, pubcomp, pubrec};
 pub use entering::enter;
-pub use lapsing::{expire, repeat_released};
+pub use lapsing::expire;
 pub use mqtt_tables::{
     EngineError, Limits, LineState, Outcome, Report, Step, StepFault, commit, commit_kept,
     subscription_to,

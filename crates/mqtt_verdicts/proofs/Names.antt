@@ -10,7 +10,7 @@ use Rattle.std.proofs.lemmas.List.Folds.{list_any-append}
 use Rattle.mqtt_rows.proofs.OrderLemmas.{apart}
 use Rattle.mqtt_base.specs.Values.{FitsText}
 use Rattle.mqtt_base.proofs.Texts.{text_holds}
-use Rattle.mqtt_rules.specs.Connect.{auto}
+use Rattle.mqtt_records.specs.Session.{auto}
 
 abbrev is_null : ℕ → Bool
 is_null b = eqb b 0

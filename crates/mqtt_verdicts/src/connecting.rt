@@ -4,14 +4,14 @@ ghost use Rattle.std.specs.List.{starts_with};
 ghost use Rattle.mqtt_topic.specs.Names.{has_wildcard, is_topic_name};
 ghost use Rattle.mqtt_records.specs.declared.records.Records.{Records};
 ghost use Rattle.mqtt_rules.specs.State.{session_named};
-ghost use Rattle.mqtt_rules.specs.Connect.{auto, expiry_of, fresh_row, has_bad_topic, largest_of, refusal, refusal_size, will_kept, will_of, window_of};
+ghost use Rattle.mqtt_rules.specs.Connect.{expiry_of, fresh_row, has_bad_topic, largest_of, refusal, refusal_size, will_kept, will_of, window_of};
+ghost use Rattle.mqtt_records.specs.Session.{auto};
 
 use crate::numbers::{number_at, u16_at};
 use mqtt_base::{CLIENT_LIMIT, Reason, Text};
 use mqtt_codec::{Connect, Will as WillAsked};
 use mqtt_message::Will;
 use mqtt_props::PropName;
-use mqtt_records::Columns;
 use std::alloc::{AllocError, Global};
 
 /// Bytes: the smallest Maximum Packet Size that the broker takes (ours).
@@ -127,18 +127,6 @@ pub fn will_of(connect: &Connect) -> Result<Option<Will>, AllocError>
         Some(asked) => Ok(Some(will_kept(asked)?)),
         None => Ok(None),
     }
-}
-
-/// The row of a session that a CONNECT begins, with its birth and its client identifier (4.1).
-pub fn fresh_columns(birth: u64, client: &Text, connect: &Connect) -> Result<Columns, AllocError>
-    ensures { IfOk result (λ row. row ≡ fresh_row birth client.now connect.now) }
-{
-    Ok(Columns {
-        birth,
-        client: client.clone()?,
-        expiry: expiry_of(connect),
-        closed: None,
-    })
 }
 
 /// Whether the client takes the five bytes of a CONNACK that refuses it (3.1.2.11.4). Takes no memory.

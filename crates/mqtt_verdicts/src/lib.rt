@@ -14,18 +14,16 @@ mod topics;
 
 pub use codes::{accepted_code, again_code, drop_code, fault_code, filter_code, topic_code};
 pub use connecting::{
-    assigned_name, expiry_of, fresh_columns, largest_of, refusal, takes_refusal, will_of, window_of,
+    assigned_name, expiry_of, largest_of, refusal, takes_refusal, will_of, window_of,
 };
 pub use filters::{
     has_filter, is_brought, is_new, place_among, retained_copy, subscription_of, wants_retained,
 };
-pub use limits::{are_spent, can_link, is_late_expiry, is_spent};
+pub use limits::is_late_expiry;
 pub use message::Message;
 pub use moments::{
-    capped, expiry_due, is_due, is_expired, is_silent, is_stale, later, seconds_waited, silence_due,
+    capped, is_due, is_expired, is_silent, is_stale, later, seconds_waited, silence_due,
 };
 pub use numbers::number_at;
-pub use sessions::{
-    end_due, has_due_end, has_due_will, has_lapsed, is_settled, settling_due, will_due,
-};
+pub use sessions::{end_due, has_due_end, has_due_will, has_lapsed, will_due};
 pub use topics::{Unmeant, meaning};

@@ -3,9 +3,8 @@
 use mqtt_base::{Blob, Qos, Text};
 use mqtt_codec::{Connect, Will};
 use mqtt_props::{PropFault, PropList, PropName, PropRef, ValueRef};
-use mqtt_records::Columns;
 use mqtt_verdicts::{
-    assigned_name, expiry_of, fresh_columns, largest_of, refusal, takes_refusal, will_of, window_of,
+    assigned_name, expiry_of, largest_of, refusal, takes_refusal, will_of, window_of,
 };
 use std::alloc::{AllocError, Global};
 use std::process::Abort;
@@ -120,26 +119,13 @@ fn a_window_of_one_is_told(rt: HostRuntime) -> Result<(), Fail> {
     Ok(())
 }
 
-/// The row that a CONNECT begins, as the seventh birth of `c`.
-fn seventh(alloc: Global, connect: &Connect) -> Result<Columns, AllocError> {
-    let client = text(alloc, "c")?;
-    let row = fresh_columns(7, &client, connect);
-    drop(client);
-    row
-}
-
 #[test]
-fn a_session_begins_with_its_interval(rt: HostRuntime) -> Result<(), Fail> {
+fn a_session_stays_for_its_interval(rt: HostRuntime) -> Result<(), Fail> {
     let alloc = rt.alloc();
     let list = one(alloc, PropName::SessionExpiryInterval, ValueRef::U32(5))?;
     let lasting = connect(alloc, "c", list, None)?;
-    let row = seventh(alloc, &lasting);
+    assert_eq!(rt; expiry_of(&lasting), 5);
     drop(lasting);
-    let row = row?;
-    assert_eq!(rt; row.birth, 7);
-    assert_eq!(rt; row.expiry, 5);
-    assert_eq!(rt; row.closed, None);
-    drop(row);
     Ok(())
 }
 

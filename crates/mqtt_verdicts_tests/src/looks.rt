@@ -2,11 +2,10 @@
 
 use mqtt_base::{LAST_NUMBER, Qos, Reason, RetainHandling};
 use mqtt_codec::Delivery;
-use mqtt_records::{Change, Counter};
 use mqtt_topic::TopicFault;
 use mqtt_verdicts::{
-    accepted_code, again_code, are_spent, can_link, capped, drop_code, fault_code, filter_code,
-    is_due, is_late_expiry, is_silent, is_spent, later, silence_due, topic_code, wants_retained,
+    accepted_code, again_code, capped, drop_code, fault_code, filter_code, is_due, is_late_expiry,
+    is_silent, later, silence_due, topic_code, wants_retained,
 };
 
 #[test]
@@ -58,32 +57,7 @@ fn codes_are_those_of_the_standard(rt: HostRuntime) {
 }
 
 #[test]
-fn numbers_above_the_last_are_spent(rt: HostRuntime) {
-    assert!(rt; !is_spent(LAST_NUMBER), "the last is given");
-    assert!(rt; is_spent(LAST_NUMBER + 1), "none behind it");
-    let past = LAST_NUMBER + 1;
-    let births = [Change::SetCounter {
-        counter: Counter::Births,
-        value: past,
-    }];
-    assert!(rt; are_spent(&births), "a birth");
-    drop(births);
-    let moment = [Change::SetCounter {
-        counter: Counter::Moment,
-        value: past,
-    }];
-    assert!(rt; !are_spent(&moment), "a moment is no number");
-    drop(moment);
-    let place = [Change::RemoveRetained { place: past }];
-    assert!(rt; !are_spent(&place), "nothing is given");
-    drop(place);
-}
-
-#[test]
-fn sixty_four_lines_are_linked(rt: HostRuntime) {
-    assert!(rt; can_link(63, 63), "a place is left");
-    assert!(rt; !can_link(64, 64), "none is left");
-    assert!(rt; !can_link(0, LAST_NUMBER), "no number is left");
+fn an_interval_of_0_stays(rt: HostRuntime) {
     assert!(rt; is_late_expiry(Some(1), 0), "0 was agreed");
     assert!(rt; !is_late_expiry(Some(0), 0), "it stays 0");
     assert!(rt; !is_late_expiry(Some(1), 5), "it may change");

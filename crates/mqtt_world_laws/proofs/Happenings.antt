@@ -11,7 +11,6 @@ use Rattle.mqtt_inbound.specs.InboundWorld as hop
 use Rattle.mqtt_records.specs.declared.session.Session.{Session}
 use Rattle.mqtt_rules.specs.State.{Broker, session_named}
 use Rattle.mqtt_rules.specs.Laws.{IsAmong}
-use Rattle.mqtt_rules.specs.Connect.{auto}
 use Rattle.mqtt_laws.specs.Lines.{Line, gives_up}
 use Rattle.mqtt_laws.specs.Ends.{Draft, Sent, Publisher, new_publisher, published, publisher_reads, Wish, Back, Receiver, new_receiver, receiver_reads}
 use Rattle.mqtt_laws.specs.World.{World, Setting, publisher, receiver, give_up, publish, subscribe, to_end, clock, happens, is_bad, is_bad_name, is_taken, link_by, publisher_named, receiver_named, with_publisher, is_open_line, asks_wish}
@@ -24,6 +23,7 @@ use Rattle.mqtt_world_laws.proofs.Ends.{all_mapped, all_appended, find_last, fin
 use Rattle.mqtt_world_laws.proofs.Around.{HasFree, OtherPublisher, OtherReceiver, Around, Placed, Him, Holds, placed_does}
 use Rattle.mqtt_world_laws.proofs.Changes.{on_line, on_back, end_others, line_others, own_holds}
 use Rattle.mqtt_world_laws.proofs.Kept.{kept_free, published_remains, read_remains, read_there, gives_free}
+use Rattle.mqtt_records.specs.Session.{auto}
 
 either : (a b : Bool) → (a || b) ≡ false → (a ≡ false) × (b ≡ false)
 either true b h = absurd cc

@@ -1,5 +1,6 @@
 -- A pump, an expiry and a full queue, walked along the queue and along the copies.
 use Rattle.std.proofs.Common.{◌≡◌, ⊎_elim, ℕ, zero, suc, ◌||◌, Bool, true, false, ◌&&◌, List, [], ◌∷◌, ◌++◌, map, nat_eq, nat_lt, refl, sym, ap, subst, ◌∙◌}
+use Rattle.mqtt_base.specs.Phases.{identifier_of}
 use Rattle.mqtt_base.specs.declared.Ending.TheVariants.{Expired, Dropped}
 use Rattle.mqtt_base.specs.declared.Phase.{Phase}
 use Rattle.mqtt_base.specs.declared.Phase.TheVariants.{Waiting, Sent, Released, Oversize}
@@ -8,7 +9,7 @@ use Rattle.mqtt_flow.specs.declared.entry.Turn.TheVariants.{Send, Resend, Leave}
 use Rattle.mqtt_flow.specs.declared.entry.Way.{Way}
 use Rattle.mqtt_inbound.specs.Identifiers.{is_among, free_identifier}
 use Rattle.mqtt_flow.specs.Pacing.{Pacing}
-use Rattle.mqtt_flow.specs.Queue.{Ascends, identifiers, also, identifier_of}
+use Rattle.mqtt_flow.specs.Queue.{Ascends, identifiers, also}
 use Rattle.mqtt_flow.specs.Outbound.{is_late, is_waiting, gives_way, dropped, expired, paced, freed, then_on, pump_from, pump, pace}
 use Rattle.mqtt_flow.specs.Receiver.{Body}
 use Rattle.mqtt_flow.proofs.outbound.Lives.{Life, in_flight, sent, Lapse, cause, pumped, pump_sends, pids}

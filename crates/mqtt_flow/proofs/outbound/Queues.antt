@@ -1,12 +1,13 @@
 -- Facts on a session's queue of outbound copies.
 use Rattle.std.proofs.Common.{◌≡◌, ⊎_elim, ℕ, ◌≤◌, ◌<◌, ◌+◌, max, Bool, true, false, not, List, [], ◌∷◌, ◌++◌, length, map, filter, nat_eq, refl, arith, Option, Some, None}
+use Rattle.mqtt_base.specs.Phases.{identifier_of, order_of}
 use Rattle.mqtt_base.specs.declared.Phase.TheVariants.{Sent, Released, Oversize}
 use Rattle.mqtt_flow.specs.declared.entry.Entry.{Entry}
 use Rattle.mqtt_flow.specs.declared.entry.QueuedCopy.{QueuedCopy}
 use Rattle.mqtt_flow.specs.declared.entry.Turn.{Turn}
 use Rattle.mqtt_flow.specs.declared.entry.Turn.TheVariants.{Send, Resend, Release, Outgrow, Repeat, Unknown, Leave}
 use Rattle.mqtt_base.specs.declared.limits.TheConstants.{LAST_NUMBER, QUEUE_LIMIT}
-use Rattle.mqtt_flow.specs.Queue.{identifier_of, also, identifiers, order_of, greatest_place, greatest_order, at_place, marked, after, order_given, Above, Ascends, IsQueue, entering, next_place}
+use Rattle.mqtt_flow.specs.Queue.{also, identifiers, greatest_place, greatest_order, at_place, marked, after, order_given, Above, Ascends, IsQueue, entering, next_place}
 use Rattle.mqtt_flow.specs.Outbound.{unsent, anew, pushed}
 use Rattle.mqtt_inbound.proofs.Identifiers.{test_cases}
 

@@ -1,6 +1,5 @@
 use Rattle.std.proofs.Common.{◌≡◌, ℕ, ◌++◌, suc, true, rules, refl, sym, subst}
 use Rattle.std.specs.Prelude.{⊤, Result, Err, IfErr, decimal}
-use Rattle.mqtt_closing.specs.TheRules.Connect.{auto}
 use Rattle.mqtt_closing.specs.TheRules.Deeds.{Act}
 use Rattle.mqtt_closing.specs.TheTables.declared.fault.StepFault.{StepFault}
 use Rattle.mqtt_closing.specs.TheTables.Doing.{names}
@@ -9,6 +8,7 @@ use Rattle.mqtt_closing.proofs.TheTables.Doing.{on_ok, if_err}
 use Rattle.mqtt_connecting.proofs.Parts.{both_done, first_left, second_left}
 use Rattle.mqtt_connecting.proofs.Wholes.{begins_as, begins_named, named_whole, births_stay}
 use Rattle.mqtt_connecting.proofs.beginning.begin_assigned.Goals as goal
+use Rattle.mqtt_records.specs.Session.{auto}
 
 pub begin_numbered-requires : goal.begin_numbered-requires
 begin_numbered-requires c = births_stay c.args.step.now c.name.new.self c.in_ok-number.ensures.ok c.requires

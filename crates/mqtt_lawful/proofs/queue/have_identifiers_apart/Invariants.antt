@@ -1,6 +1,6 @@
 -- Those that were added and those of the rest are all.
 use Rattle.std.proofs.Common.{◌≡◌, ◌++◌, filter_map, length}
-use Rattle.mqtt_lawful.specs.Lawful.{identifier_of}
+use Rattle.mqtt_base.specs.Phases.{identifier_of}
 use Rattle.mqtt_lawful.proofs.queue.have_identifiers_apart.Given as goal
 
 abbrev pub invariant-loop-row : goal.invariant-loop-row

@@ -1,8 +1,8 @@
 use Rattle.std.proofs.Common.{◌≡◌, ◌++◌, ◌^◌, ◌<◌, rules, arith}
 use Rattle.std.specs.Prelude.{decimal}
-use Rattle.mqtt_rules.specs.Connect.{auto}
 use Rattle.mqtt_verdicts.proofs.Names.{assigned_fits}
 use Rattle.mqtt_verdicts.proofs.connecting.assigned_name.Goals as goal
+use Rattle.mqtt_records.specs.Session.{auto}
 
 pub new-name-requires : goal.new-name-requires
 new-name-requires c =
