@@ -22,8 +22,10 @@ pub use filters::{
 pub use limits::is_late_expiry;
 pub use message::Message;
 pub use moments::{
-    capped, is_due, is_expired, is_silent, is_stale, later, seconds_waited, silence_due,
+    capped, expiry_due, is_due, is_expired, is_silent, is_stale, later, seconds_waited, silence_due,
 };
 pub use numbers::number_at;
-pub use sessions::{end_due, has_due_end, has_due_will, has_lapsed, will_due};
+pub use sessions::{
+    end_due, has_due_end, has_due_will, has_lapsed, is_settled, settling_due, will_due,
+};
 pub use topics::{Unmeant, meaning};

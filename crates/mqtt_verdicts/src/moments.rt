@@ -54,6 +54,18 @@ pub fn is_expired(now: u64, content: &Content) -> bool
     }
 }
 
+/// When its Message Expiry Interval has passed, never without one (3.3.2.3.3). Takes no memory.
+pub fn expiry_due(content: &Content) -> Option<u64>
+    ensures { (now : ℕ) → now ≤ LAST_NUMBER → is_due now result ≡ is_expired now content.now }
+{
+    let list = content.properties.lend();
+    match number_at(&list, PropName::MessageExpiryInterval) {
+        Some(0) => Some(0),
+        Some(interval) => Some(content.arrived.saturating_add(1_000 * u64::from(interval))),
+        None => None,
+    }
+}
+
 /// Whether a retained message has expired (3.3.2.3.3). Takes no memory.
 pub fn is_stale(now: u64, kept: &RetainedMessage) -> bool
     ensures { result ≡ is_stale now kept.now }

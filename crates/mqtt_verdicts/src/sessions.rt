@@ -64,6 +64,27 @@ pub fn has_due_end(now: u64, session: &Session) -> bool
     is_due(now, end_due(session.closed, session.expiry))
 }
 
+/// When a session is to be settled: when its Will or its end is due. Takes no memory.
+pub fn settling_due(session: &Session) -> Option<u64>
+    ensures { (now : ℕ) → is_due now result ≡ (has_due_will now session.now || has_due_end now session.now) }
+{
+    let end = end_due(session.closed, session.expiry);
+    match will_due(session.closed, session.expiry, &session.will) {
+        Some(will) => Some(earlier(will, end)),
+        None => end,
+    }
+}
+
+/// Whether neither a Will nor the end of a session is due, so that settling it does nothing. Takes no
+/// memory.
+pub fn is_settled(now: u64, session: &Session) -> bool
+    ensures exact { result ≡ not (has_due_will now session.now || has_due_end now session.now) }
+    ensures still { IsTrue result → (env : Env) (b : Broker) → b.now ≡ now
+        → session_at session.now.birth b.records ≡ Some session.now → settle env session.now.birth b ≡ [] }
+{
+    !has_due_will(now, session) && !has_due_end(now, session)
+}
+
 /// Whether a queued copy waits and has expired (3.3.2.3.3).
 fn is_lapsed(now: u64, row: &CopyRow) -> bool
     ensures { result ≡ is_lapsed now row.now }

@@ -6,8 +6,9 @@ use mqtt_message::{Content, PassedOn, RetainedMessage, Will};
 use mqtt_props::{PropList, PropName, PropRef, ValueRef};
 use mqtt_records::{Boxed, Columns, Session, SessionRow, Subscription};
 use mqtt_verdicts::{
-    end_due, has_due_end, has_due_will, has_filter, has_lapsed, is_brought, is_expired, is_new,
-    is_stale, place_among, retained_copy, seconds_waited, subscription_of, will_due,
+    end_due, expiry_due, has_due_end, has_due_will, has_filter, has_lapsed, is_brought, is_expired,
+    is_new, is_settled, is_stale, place_among, retained_copy, seconds_waited, settling_due,
+    subscription_of, will_due,
 };
 use std::alloc::{AllocError, Global};
 use std::process::Abort;
@@ -59,16 +60,18 @@ fn the_session_ends_before_the_will_delay(rt: HostRuntime) -> Result<(), Fail> {
 }
 
 #[test]
-fn a_closed_session_stands_until_then(rt: HostRuntime) -> Result<(), Fail> {
+fn a_closed_session_is_settled_until_then(rt: HostRuntime) -> Result<(), Fail> {
     let alloc = rt.alloc();
     let closed = session(alloc, Some(0))?;
-    assert!(rt; !has_due_end(4_999, &closed), "a millisecond before");
+    assert!(rt; is_settled(4_999, &closed), "a millisecond before");
+    assert!(rt; !is_settled(5_000, &closed), "it ends");
+    assert_eq!(rt; settling_due(&closed), Some(5_000));
     assert!(rt; has_due_end(5_000, &closed), "its end is due");
     assert!(rt; !has_due_will(5_000, &closed), "it has no Will");
     assert!(rt; !has_lapsed(5_000, &closed), "nothing is queued");
     drop(closed);
     let connected = session(alloc, None)?;
-    assert!(rt; !has_due_end(5_000, &connected), "it is connected");
+    assert!(rt; is_settled(5_000, &connected), "it is connected");
     drop(connected);
     Ok(())
 }
@@ -120,6 +123,7 @@ fn a_retained_message_is_brought_until_it_expires(rt: HostRuntime) -> Result<(),
     let alloc = rt.alloc();
     let kept = kept(alloc)?;
     assert_eq!(rt; seconds_waited(4_999, &kept.content), 4);
+    assert_eq!(rt; expiry_due(&kept.content), Some(5_000));
     assert!(rt; !is_expired(4_999, &kept.content), "a millisecond before");
     assert!(rt; is_stale(5_000, &kept), "after five seconds");
     let session = session(alloc, None)?;
