@@ -8,5 +8,5 @@ mod queue;
 
 pub use fault::CopyFault;
 pub use message::{Content, MessageCopy, RetainedMessage, SubscriptionIdentifiers, Will};
-pub use properties::PassedOn;
+pub use properties::{PassedOn, number_in};
 pub use queue::CopyRow;

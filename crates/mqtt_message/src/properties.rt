@@ -58,8 +58,8 @@ fn rises(props: &PropsRef<'_>) -> bool
     true
 }
 
-/// The number of a value, 0 where it has none.
-fn number_in(value: ValueRef<'_>) -> u32
+/// The number of a value, 0 where it has none (2.2.2.2). Takes no memory.
+pub fn number_in(value: ValueRef<'_>) -> u32
     ensures { result ≡ number_in (value_of value.entry) }
 {
     match value {

@@ -6,9 +6,9 @@ ghost use Rattle.mqtt_props.specs.Edits.{only, without};
 ghost use Rattle.mqtt_props.specs.Properties.{FitsBlock, IsProp, prop, props};
 ghost use Rattle.mqtt_message.specs.PassedOn.{aged, identified, sent_after};
 
-use crate::property::{aged_push, prop_push};
+use crate::property::aged_push;
 use mqtt_base::{VARINT_LIMIT, varint_len, varint_push};
-use mqtt_props::{PropName, PropsRef};
+use mqtt_props::{PropName, PropsRef, prop_push};
 use std::alloc::AllocError;
 
 /// Writes what stands before Subscription Identifiers, as it is sent, at the end.

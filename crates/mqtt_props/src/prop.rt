@@ -100,8 +100,8 @@ fn value_push(out: &mut Vec<u8>, v: ValueRef<'_>) -> Result<(), AllocError>
     }
 }
 
-/// Writes the property at the end.
-pub(crate) fn prop_push(out: &mut Vec<u8>, p: PropRef<'_>) -> Result<(), AllocError>
+/// Writes the property at the end: its identifier, then its value (2.2.2.2).
+pub fn prop_push(out: &mut Vec<u8>, p: PropRef<'_>) -> Result<(), AllocError>
     requires { IsProp (prop_of p) }
     ensures ok { OnOk result (out.new.items ≡ out.old.items ++ prop (prop_of p.entry)) }
     ensures bytes { (i : ℕ) → slice_index out.new.items i < 256 }

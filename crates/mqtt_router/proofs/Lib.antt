@@ -1,4 +1,3 @@
-pub mod Rooms
 pub mod Spelled
 pub mod Routed
 pub mod Serving

@@ -1,26 +1,19 @@
 -- An index of subscriptions, and what a publication becomes by it (MQTT 5.0, 3.3.4, 3.8, 4.8).
-use Rattle.std.specs.Prelude.{◌≡◌, ℕ, ◌≤◌, Bool, ◌&&◌, nat_lt, List, [], ◌++◌, length, map, flat_map, Option, Some, None}
+use Rattle.std.specs.Prelude.{◌≡◌, ℕ, ◌≤◌, List, [], ◌++◌, length, map, flat_map, Option}
 use Rattle.std.specs.List.{AllByRecursion}
 use Rattle.mqtt_base.specs.declared.limits.TheConstants.{SUBSCRIPTION_LIMIT}
 use Rattle.mqtt_base.specs.declared.session.Cause.{Cause}
 use Rattle.mqtt_base.specs.declared.session.Cause.TheVariants.{Direct, Share}
-use Rattle.mqtt_flow.specs.Outbound.{is_waiting, staying}
 use Rattle.mqtt_lawful.specs.Lawful.{IsIdentifier}
 use Rattle.mqtt_message.specs.declared.message.MessageCopy.{MessageCopy}
-use Rattle.mqtt_message.specs.Queue.{CopyRow}
-use Rattle.mqtt_records.specs.declared.records.Records.{Records}
-use Rattle.mqtt_records.specs.declared.session.Session.{Session}
 use Rattle.mqtt_routes.specs.Subscriptions.{Subscriber, AreInOrder, with_some}
 use Rattle.mqtt_routes.specs.Intended.{Answers, Copy}
 use Rattle.mqtt_routes.specs.Acceptance.{Routed, Served, copies_in, has_takers, routed}
 use Rattle.mqtt_acts.specs.TheRules.Deeds.{Message}
-use Rattle.mqtt_acts.specs.TheRules.Outbound.{since}
 use Rattle.mqtt_acts.specs.TheRules.Routing.{answers, copy_to, next_publication, publication_of}
-use Rattle.mqtt_acts.specs.TheRules.State.{queue_on}
 use Rattle.mqtt_acts.specs.TheTables.Stepping.{Stepping, env_in}
 use Rattle.mqtt_acts.specs.declared.router.Routing.{Routing}
 use Rattle.mqtt_acts.specs.declared.router.Routing.TheVariants.{Refused, Accepted}
-use Rattle.mqtt_router.specs.declared.room.Before.{Before}
 
 -- ---- what the index is
 
@@ -39,20 +32,6 @@ pub record Serves (table sessions : List Subscriber) : Type 0 where
 
 abbrev pub answers_in : Stepping → Answers
 answers_in s = answers (env_in (λ number sender. []) s) s.broker.records
-
--- the numbers given before a step
-pub record IsBefore (before : Before) (start : Records) : Type 0 where
-  pub publications : before.publications ≡ start.publications
-  pub subscribes : before.subscribes ≡ start.subscribes
-
--- a queued copy gives way to those that a step makes, the first of which has a place, or is the next to enter
-abbrev pub gives_way_to : Option ℕ → CopyRow → Bool
-gives_way_to None e = is_waiting e.phase
-gives_way_to (Some first) e = is_waiting e.phase && nat_lt e.place first
-
--- how many copies of a session a further one leaves standing in any case
-abbrev pub staying_of : Stepping → Session → ℕ
-staying_of s x = staying s.limits.full (since (env_in (λ number sender. []) s) x) (queue_on [] x)
 
 -- ---- what a publication becomes
 

@@ -7,7 +7,6 @@ mod following;
 mod index;
 mod laws;
 mod look;
-mod room;
 
 pub use index::Index;
 pub use laws::rows_can_be_followed;

@@ -1,6 +1,5 @@
 //! What routing asks of the sessions of a step (MQTT 5.0, 3.8.3.1, 4.8.2, 4.9).
-use crate::room::room_in;
-use mqtt_acts::Step;
+use mqtt_acts::{Step, room};
 use mqtt_routes::Sessions;
 use std::marker::Model;
 
@@ -25,7 +24,7 @@ impl<'a> Sessions for Look<'a> {
 
     fn room(&self, birth: u64) -> u32 {
         match self.step.session(birth) {
-            Some(session) => room_in(self.step, session),
+            Some(session) => room(self.step, session),
             None => 0,
         }
     }

@@ -10,9 +10,7 @@ use Rattle.mqtt_base.specs.declared.session.CopyId.{CopyId}
 use Rattle.mqtt_base.specs.declared.session.Phase.{Phase}
 use Rattle.mqtt_base.specs.declared.session.Phase.TheVariants.{Waiting, Sent, Released, Oversize}
 use Rattle.mqtt_base.specs.declared.session.Qos.{Qos}
-use Rattle.mqtt_base.specs.declared.session.Qos.TheVariants.{AtMostOnce, AtLeastOnce, ExactlyOnce}
 use Rattle.mqtt_base.specs.declared.session.RetainHandling.{RetainHandling}
-use Rattle.mqtt_base.specs.declared.session.RetainHandling.TheVariants.{SendAlways, SendIfNew, DoNotSend}
 use Rattle.mqtt_base.specs.declared.session.SubscriptionOptions.{SubscriptionOptions}
 use Rattle.mqtt_props.specs.Properties.{Prop, FitsBlock, block}
 use Rattle.mqtt_props.specs.declared.table.PropName.TheVariants.{SubscriptionIdentifier}
@@ -26,7 +24,7 @@ use Rattle.mqtt_records.specs.declared.session.Columns.{Columns}
 use Rattle.mqtt_records.specs.declared.subscription.Subscription.{Subscription}
 use Rattle.mqtt_sql_rows.specs.Values.{handling_number, or_zero}
 use Rattle.mqtt_sql_rows.specs.Blocks.{identifiers_in}
-use Rattle.mqtt_sql_rows.specs.Ones.{one_number, one_text, one_blob}
+use Rattle.mqtt_sql_rows.specs.Ones.{one_number, one_text, one_blob, same_handling, same_qos}
 use Rattle.mqtt_sql_write.specs.Columns.{flag}
 use Rattle.mqtt_sql_write.specs.Copy.{number_or_null}
 use Rattle.mqtt_sql_kept.specs.Items.{cause_number, cause_text, cause_n, phase_number, packet_identifier, release_order}
@@ -57,30 +55,8 @@ same_optional None (Some n) e = absurd cc
 same_optional (Some n) None e = absurd cc
 same_optional (Some n) (Some m) e = ap Some (same_number n m e)
 
-same_qos : (a b : Qos) → Int (pos (qos_number a)) ≡ Int (pos (qos_number b)) → a ≡ b
-same_qos a b e = go a b (same_number (qos_number a) (qos_number b) e)
-  where
-    go : (a b : Qos) → qos_number a ≡ qos_number b → a ≡ b
-    go AtMostOnce AtMostOnce h = refl
-    go AtMostOnce AtLeastOnce h = absurd (omega (arith, h))
-    go AtMostOnce ExactlyOnce h = absurd (omega (arith, h))
-    go AtLeastOnce AtMostOnce h = absurd (omega (arith, h))
-    go AtLeastOnce AtLeastOnce h = refl
-    go AtLeastOnce ExactlyOnce h = absurd (omega (arith, h))
-    go ExactlyOnce AtMostOnce h = absurd (omega (arith, h))
-    go ExactlyOnce AtLeastOnce h = absurd (omega (arith, h))
-    go ExactlyOnce ExactlyOnce h = refl
-
-same_handling : (a b : RetainHandling) → handling_number a ≡ handling_number b → a ≡ b
-same_handling SendAlways SendAlways h = refl
-same_handling SendAlways SendIfNew h = absurd (omega (arith, h))
-same_handling SendAlways DoNotSend h = absurd (omega (arith, h))
-same_handling SendIfNew SendAlways h = absurd (omega (arith, h))
-same_handling SendIfNew SendIfNew h = refl
-same_handling SendIfNew DoNotSend h = absurd (omega (arith, h))
-same_handling DoNotSend SendAlways h = absurd (omega (arith, h))
-same_handling DoNotSend SendIfNew h = absurd (omega (arith, h))
-same_handling DoNotSend DoNotSend h = refl
+same_service : (a b : Qos) → Int (pos (qos_number a)) ≡ Int (pos (qos_number b)) → a ≡ b
+same_service a b e = same_qos a b (same_number (qos_number a) (qos_number b) e)
 
 same_identifier : (o p : Option ℕ) → (o ≡ Some 0 → ⊥) → (p ≡ Some 0 → ⊥) → or_zero o ≡ or_zero p → o ≡ p
 same_identifier None None a b h = refl
@@ -128,7 +104,7 @@ will_same x y fits suits e =
     let w = y.1 in
     pair_is x.0 y.0 v w (same_number x.0 y.0 (at 0 _ _ e))
     (same_will v.delay w.delay v.qos w.qos v.retain w.retain v.topic w.topic v.properties w.properties v.payload w.payload
-    (same_number v.delay w.delay (at 1 _ _ e)) (same_qos v.qos w.qos (at 3 _ _ e)) (same_flag v.retain w.retain (at 4 _ _ e)) (same_text v.topic w.topic (at 2 _ _ e))
+    (same_number v.delay w.delay (at 1 _ _ e)) (same_service v.qos w.qos (at 3 _ _ e)) (same_flag v.retain w.retain (at 4 _ _ e)) (same_text v.topic w.topic (at 2 _ _ e))
     (block_one v.properties w.properties fits suits (same_blob (block v.properties) (block w.properties) (at 5 _ _ e))) (same_blob v.payload w.payload (at 6 _ _ e)))
 
 -- ---- subscriptions
@@ -152,7 +128,7 @@ subscription_same x y fits suits e =
     let o = s.options in
     let p = t.options in
     let same : o ≡ p = same_options o.qos p.qos o.no_local p.no_local o.retain_as_published p.retain_as_published o.retain_handling p.retain_handling
-    (same_qos o.qos p.qos (at 3 _ _ e)) (same_flag o.no_local p.no_local (at 4 _ _ e)) (same_flag o.retain_as_published p.retain_as_published (at 5 _ _ e))
+    (same_service o.qos p.qos (at 3 _ _ e)) (same_flag o.no_local p.no_local (at 4 _ _ e)) (same_flag o.retain_as_published p.retain_as_published (at 5 _ _ e))
     (same_handling o.retain_handling p.retain_handling (same_number (handling_number o.retain_handling) (handling_number p.retain_handling) (at 6 _ _ e))) in
     pair_is x.0 y.0 s t (same_number x.0 y.0 (at 0 _ _ e))
     (same_subscription s.filter t.filter s.place t.place o p s.identifier t.identifier (same_text s.filter t.filter (at 1 _ _ e)) (same_number s.place t.place (at 2 _ _ e)) same
@@ -242,7 +218,7 @@ same_copy x y fits suits e =
     (same_text (cause_text c.id.cause) (cause_text d.id.cause) (at 4 _ _ e)) (same_number (cause_n c.id.cause) (cause_n d.id.cause) (at 5 _ _ e)) in
     same_message c.id d.id c.qos d.qos c.retain d.retain c.identifiers d.identifiers c.content d.content
     (same_id c.id.publication d.id.publication c.id.birth d.id.birth c.id.cause d.id.cause (same_number c.id.publication d.id.publication (at 2 _ _ e)) (fits.0 ∙ (birth ∙ sym suits.0)) cause)
-    (same_qos c.qos d.qos (at 10 _ _ e)) (same_flag c.retain d.retain (at 11 _ _ e)) sent.1
+    (same_service c.qos d.qos (at 10 _ _ e)) (same_flag c.retain d.retain (at 11 _ _ e)) sent.1
     (same_content c.content.topic d.content.topic c.content.properties d.content.properties c.content.payload d.content.payload c.content.arrived d.content.arrived
     (same_text c.content.topic d.content.topic (at 9 _ _ e)) sent.0 (same_blob c.content.payload d.content.payload (at 13 _ _ e)) (same_number c.content.arrived d.content.arrived (at 14 _ _ e)))
 
@@ -268,6 +244,6 @@ retained_same m n fits suits e =
     let c = m.content in
     let d = n.content in
     same_retained m.place n.place m.sender n.sender m.publication n.publication m.qos n.qos c d
-    (same_number m.place n.place (at 0 _ _ e)) (same_text m.sender n.sender (at 2 _ _ e)) (same_number m.publication n.publication (at 3 _ _ e)) (same_qos m.qos n.qos (at 4 _ _ e))
+    (same_number m.place n.place (at 0 _ _ e)) (same_text m.sender n.sender (at 2 _ _ e)) (same_number m.publication n.publication (at 3 _ _ e)) (same_service m.qos n.qos (at 4 _ _ e))
     (same_content c.topic d.topic c.properties d.properties c.payload d.payload c.arrived d.arrived (same_text c.topic d.topic (at 1 _ _ e))
     (block_one c.properties d.properties fits suits (same_blob (block c.properties) (block d.properties) (at 5 _ _ e))) (same_blob c.payload d.payload (at 6 _ _ e)) (same_number c.arrived d.arrived (at 7 _ _ e)))

@@ -63,7 +63,7 @@ one_flag v true false h k = let e : 1 ≡ 0 = one_number v 1 0 h k in absurd (om
 one_flag v false true h k = let e : 0 ≡ 1 = one_number v 0 1 h k in absurd (omega (arith, e))
 one_flag v false false h k = refl
 
-same_qos : (a b : Qos) → qos_number a ≡ qos_number b → a ≡ b
+pub same_qos : (a b : Qos) → qos_number a ≡ qos_number b → a ≡ b
 same_qos AtMostOnce AtMostOnce h = refl
 same_qos AtMostOnce AtLeastOnce h = absurd (omega (arith, h))
 same_qos AtMostOnce ExactlyOnce h = absurd (omega (arith, h))
@@ -128,7 +128,7 @@ one_open x y row h k = one_number _ x y h.identifier k.identifier
 
 -- ---- sub
 
-same_handling : (a b : RetainHandling) → handling_number a ≡ handling_number b → a ≡ b
+pub same_handling : (a b : RetainHandling) → handling_number a ≡ handling_number b → a ≡ b
 same_handling SendAlways SendAlways h = refl
 same_handling SendAlways SendIfNew h = absurd (omega (arith, h))
 same_handling SendAlways DoNotSend h = absurd (omega (arith, h))

@@ -2,13 +2,13 @@
 ghost use Rattle.std.specs.Prelude.{◌≡◌, ◌⊎◌, ℕ, List, [], MatchOption, IfOk, IfErr, OnOk, IsErrOf};
 ghost use Rattle.sqlite_value.specs.Value.{owned};
 ghost use Rattle.mqtt_props.specs.Properties.{Prop};
-ghost use Rattle.mqtt_props.specs.Views.{value_of};
 ghost use Rattle.mqtt_props.specs.Edits.{without};
 ghost use Rattle.mqtt_props.specs.declared.table.PropName.TheVariants.{SubscriptionIdentifier};
-ghost use Rattle.mqtt_message.specs.PassedOn.{number_in, IsPassedOn};
+ghost use Rattle.mqtt_message.specs.PassedOn.{IsPassedOn};
 ghost use Rattle.mqtt_sql_rows.specs.Blocks.{IsBlockOf, rises_from, identifiers_in, SaysPassed, SaysSent};
 
-use mqtt_props::{Place, PropList, PropName, PropsRef, ValueRef as PropValue, look_at};
+use mqtt_message::number_in;
+use mqtt_props::{Place, PropList, PropName, PropsRef, look_at};
 use mqtt_records::{KeepError, PassedOn, SubscriptionIdentifiers};
 use sqlite::types::ValueRef;
 use std::alloc::{AllocError, Global};
@@ -80,18 +80,6 @@ fn rises(props: &PropsRef<'_>) -> bool
     true
 }
 
-/// The number of a value, 0 where it has none.
-fn number(value: PropValue<'_>) -> u32
-    ensures { result ≡ number_in (value_of value.entry) }
-{
-    match value {
-        PropValue::Byte(n) => u32::from(n),
-        PropValue::U16(n) => u32::from(n),
-        PropValue::U32(n) | PropValue::VarInt(n) => n,
-        PropValue::Text(_) | PropValue::Binary(_) | PropValue::Pair(..) => 0,
-    }
-}
-
 /// Adds the Subscription Identifiers among the properties.
 fn push_identifiers(
     all: &mut SubscriptionIdentifiers,
@@ -103,7 +91,7 @@ fn push_identifiers(
     let mut rest = props.reborrow();
     while let Some((prop, after)) = rest.split_first() {
         if prop.name.id() == PropName::SubscriptionIdentifier.id() {
-            all.push(number(prop.value))?;
+            all.push(number_in(prop.value))?;
         }
         rest = after;
     }

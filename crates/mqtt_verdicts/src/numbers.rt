@@ -2,22 +2,10 @@
 ghost use Rattle.std.specs.Prelude.{◌≡◌};
 ghost use Rattle.mqtt_props.specs.declared.value.ValueKind.TheVariants as kinds;
 ghost use Rattle.mqtt_props.specs.Table.{property_row};
-ghost use Rattle.mqtt_props.specs.Views.{value_of};
-ghost use Rattle.mqtt_message.specs.PassedOn.{number_in, number_at};
+ghost use Rattle.mqtt_message.specs.PassedOn.{number_at};
 
+use mqtt_message::number_in;
 use mqtt_props::{PropName, PropsRef, ValueRef};
-
-/// The number of a value, 0 where it has none.
-fn number_in(value: ValueRef<'_>) -> u32
-    ensures { result ≡ number_in (value_of value.entry) }
-{
-    match value {
-        ValueRef::Byte(n) => u32::from(n),
-        ValueRef::U16(n) => u32::from(n),
-        ValueRef::U32(n) | ValueRef::VarInt(n) => n,
-        ValueRef::Text(_) | ValueRef::Binary(_) | ValueRef::Pair(..) => 0,
-    }
-}
 
 /// The number of the first property with that name, if there is one (2.2.2). Takes no memory.
 pub fn number_at(list: &PropsRef<'_>, name: PropName) -> Option<u32>
