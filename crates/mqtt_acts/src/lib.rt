@@ -15,11 +15,11 @@ pub use answering::{answer, open_by, publish_again};
 pub use delivering::{deliver, deliver_all};
 pub use mqtt_turns::{
     Answered, EngineError, Limits, LineState, Message, Outcome, Report, Step, StepFault, Unmeant,
-    assigned_name, commit, commit_kept, drop_code, expire, expiry_of, fault_code, filter_code,
-    has_due_end, has_due_will, has_filter, has_lapsed, is_brought, is_late_expiry, is_silent,
-    is_stale, largest_of, meaning, number_at, puback, pubcomp, pubrec, pump, refusal,
-    retained_copy, room, subscription_of, subscription_to, takes_refusal, wants_retained, will_of,
-    window_of,
+    assigned_name, commit, commit_kept, drop_code, expire, expiry_due, expiry_of, fault_code,
+    filter_code, has_due_end, has_due_will, has_filter, has_lapsed, is_brought, is_late_expiry,
+    is_silent, is_stale, largest_of, meaning, number_at, puback, pubcomp, pubrec, pump, refusal,
+    retained_copy, room, settling_due, subscription_of, subscription_to, takes_refusal,
+    wants_retained, will_of, window_of,
 };
 pub use offering::offer_copy;
 pub use ping::pingreq;

@@ -9,3 +9,4 @@ pub use Rattle.mqtt_acts.proofs.Some
 pub mod WilledBrokers
 pub use Rattle.mqtt_acts.proofs.TheRules
 pub use Rattle.mqtt_acts.proofs.TheTables
+pub use Rattle.mqtt_acts.proofs.TheVerdicts

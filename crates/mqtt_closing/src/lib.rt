@@ -14,9 +14,9 @@ pub use ending::end_session;
 pub use leaving::{disconnect, lost};
 pub use mqtt_acts::{
     Answered, EngineError, Limits, LineState, Outcome, Report, Router, Step, StepFault,
-    assigned_name, commit, commit_kept, expire, expiry_of, fault_code, has_due_end, has_due_will,
-    has_lapsed, is_stale, largest_of, number_at, puback, pubcomp, pubrec, pump, refusal,
-    takes_refusal, will_of, window_of,
+    assigned_name, commit, commit_kept, expire, expiry_due, expiry_of, fault_code, has_due_end,
+    has_due_will, has_lapsed, is_stale, largest_of, number_at, puback, pubcomp, pubrec, pump,
+    refusal, settling_due, takes_refusal, will_of, window_of,
 };
 pub use settling::settle;
 pub use ticking::{close_silent, silent_line};

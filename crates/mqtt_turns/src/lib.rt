@@ -19,10 +19,10 @@ pub use mqtt_tables::{
     subscription_to,
 };
 pub use mqtt_verdicts::{
-    Message, Unmeant, accepted_code, again_code, assigned_name, drop_code, expiry_of, fault_code,
-    filter_code, has_due_end, has_due_will, has_filter, has_lapsed, is_brought, is_late_expiry,
-    is_silent, is_stale, largest_of, meaning, number_at, refusal, retained_copy, subscription_of,
-    takes_refusal, wants_retained, will_of, window_of,
+    Message, Unmeant, accepted_code, again_code, assigned_name, drop_code, expiry_due, expiry_of,
+    fault_code, filter_code, has_due_end, has_due_will, has_filter, has_lapsed, is_brought,
+    is_late_expiry, is_silent, is_stale, largest_of, meaning, number_at, refusal, retained_copy,
+    settling_due, subscription_of, takes_refusal, wants_retained, will_of, window_of,
 };
 pub use pumping::pump;
 pub use rooms::room;
