@@ -24,5 +24,14 @@ pub mod Walks
 pub mod CopyRuns
 pub mod Routed
 pub mod Entering
-pub mod EachEntry
-pub mod EntryRuns
+pub mod EachAct
+pub mod Lights
+pub mod Arrivals
+pub mod StepRuns
+pub mod Shares
+pub mod Differ
+pub mod RoutedApart
+pub mod CopiesApart
+pub mod Told
+pub mod Entries
+pub mod OnceRuns
