@@ -31,7 +31,7 @@ births_above : (n : ℕ) (ss : List Session) → IsAbove birth_of n ss → IsAbo
 births_above n [] h = tt
 births_above n (s ∷ ss) h = (h.0, births_above n ss h.1)
 
-births_ascend : (ss : List Session) → IsAscending birth_of ss → IsAscending (λ (x : Subscriber). x.birth) (map subscriber_of ss)
+pub births_ascend : (ss : List Session) → IsAscending birth_of ss → IsAscending (λ (x : Subscriber). x.birth) (map subscriber_of ss)
 births_ascend [] h = tt
 births_ascend (s ∷ ss) h = (births_above s.birth ss h.0, births_ascend ss h.1)
 

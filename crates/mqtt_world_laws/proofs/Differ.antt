@@ -1,5 +1,5 @@
 -- Lists in which no two are equal: parts of them, and what is put in.
-use Rattle.std.proofs.Common.{◌≡◌, ℕ, Bool, ◌||◌, List, [], ◌∷◌, ◌++◌, length, filter, map, nat_eq, nat_lt, sym, inl, inr}
+use Rattle.std.proofs.Common.{ℕ, Bool, ◌||◌, List, [], ◌∷◌, ◌++◌, length, filter, map, nat_eq, nat_lt, sym, inl, inr}
 use Rattle.std.specs.Prelude.{◌≢◌}
 use Rattle.std.specs.List.{AllByRecursion}
 use Rattle.std.proofs.lemmas.Bool.{cases_Bool}

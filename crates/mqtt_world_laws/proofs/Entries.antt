@@ -1,6 +1,6 @@
 -- What enters is counted off: a copy that enters could come yet before and no more after, so that none enters twice.
-use Rattle.std.proofs.Common.{◌≡◌, ℕ, suc, ◌+◌, ◌≤◌, ◌<◌, Bool, true, false, cond, not, ◌&&◌, ◌++◌, List, [], ◌∷◌, map, filter, Option, Some, None, nat_eq, nat_lt, refl, sym, ap, subst, ◌∙◌, arith, inl, inr}
-use Rattle.std.specs.Prelude.{◌≢◌, filter_map}
+use Rattle.std.proofs.Common.{◌≡◌, ℕ, suc, ◌+◌, ◌≤◌, Bool, true, false, cond, not, ◌++◌, List, [], ◌∷◌, map, filter, Option, Some, None, nat_eq, nat_lt, refl, sym, ap, subst, ◌∙◌, arith, inl, inr}
+use Rattle.std.specs.Prelude.{◌≢◌}
 use Rattle.std.specs.List.{AllByRecursion, cons_option}
 use Rattle.std.proofs.lemmas.Bool.{cases_Bool, eqb-true, ltb-true, lt-ltb}
 use Rattle.std.proofs.lemmas.Cmp.{nat_eq_equiv}
@@ -15,13 +15,13 @@ use Rattle.mqtt_records.specs.declared.session.Session.{Session}
 use Rattle.mqtt_rows.specs.Distinct.{AllDiffer}
 use Rattle.mqtt_topic.specs.Names.{is_empty}
 use Rattle.mqtt_rules.specs.declared.Limits.{Limits}
-use Rattle.mqtt_rules.specs.Deeds.{whose, Message, Origin, Enter, Subscribe, Deed, Accept, Begin, Count, At, Keep, Forget, Link, after, after_all, rows_of_all, series}
-use Rattle.mqtt_rules.specs.Routing.{CopyTo, accepted_copies, deliver, forgets, is_queued, kept_message, next_publication, place_of_kept, publish, retain_by, retained_of}
+use Rattle.mqtt_rules.specs.Deeds.{whose, Message, Origin, Subscribe, Deed, Accept, Begin, Count, At, Keep, Forget, after, after_all, rows_of_all, series}
+use Rattle.mqtt_rules.specs.Routing.{CopyTo, accepted_copies, deliver, forgets, is_queued, kept_message, place_of_kept, publish, retain_by, retained_of}
 use Rattle.mqtt_rules.specs.State.{Broker, Env, MemberChoice, session_at}
 use Rattle.mqtt_rules.specs.Step.{Call, at_moment, deeds, env_of, opened, opening, stepped, unopened, with_moment}
 use Rattle.mqtt_rules.specs.Subscribe as sub
 use Rattle.mqtt_rules.proofs.Acts.{brought_to}
-use Rattle.mqtt_rules.proofs.Copies.{IsBeside, IsNumbered, Kinds, kinds, kinds_at, kinds_deed, beside_deliver, each_filter, each_map, each_more, routed_numbered}
+use Rattle.mqtt_rules.proofs.Copies.{IsBeside, IsNumbered, Kinds, kinds, kinds_at, kinds_deed, beside_deliver, each_filter, each_more, routed_numbered}
 use Rattle.mqtt_rules.proofs.Goods.{AreGood, after_append}
 use Rattle.mqtt_rules.proofs.NumberCopies.{each_put}
 use Rattle.mqtt_rules.proofs.StandLaw.{Orders}
@@ -33,7 +33,7 @@ use Rattle.mqtt_world_laws.proofs.CopiesApart.{Any, number_of, accepted_differ, 
 use Rattle.mqtt_world_laws.proofs.Counting.{E, e_append}
 use Rattle.mqtt_world_laws.proofs.Differ.{differ_filtered, put_differ}
 use Rattle.mqtt_world_laws.proofs.EachAct.{Says, call_says, opening_says}
-use Rattle.mqtt_world_laws.proofs.Entering.{IsStill, AreStill, no_entry, still_forgets, publish_enters, grant_enters}
+use Rattle.mqtt_world_laws.proofs.Entering.{IsStill, AreStill, no_entry, publish_enters, grant_enters}
 use Rattle.mqtt_world_laws.proofs.RoutedApart.{IsCauseOf, ids_to}
 use Rattle.mqtt_world_laws.proofs.Told.{count_none, count_once}
 

@@ -1,5 +1,6 @@
 pub mod Examples
 pub mod FullQueues
+pub mod AtOnceExamples
 pub mod Steady
 pub mod OpeningNumbers
 pub mod Ends

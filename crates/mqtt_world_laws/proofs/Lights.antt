@@ -1,5 +1,5 @@
 -- Copies of QoS 0 go out in the step in which their publication is accepted.
-use Rattle.std.proofs.Common.{◌≡◌, ℕ, Bool, true, false, cond, ◌⊎◌, List, [], ◌∷◌, ◌++◌, map, filter, Option, Some, None, nat_eq, nat_le, refl, sym, ap, subst, ◌∙◌, inl, inr, append_assoc, append-nil}
+use Rattle.std.proofs.Common.{◌≡◌, ℕ, Bool, true, false, cond, List, [], ◌∷◌, ◌++◌, map, filter, Option, Some, None, nat_le, refl, sym, ap, subst, ◌∙◌, inl, inr, append_assoc, append-nil}
 use Rattle.std.specs.Prelude.{⊤, find, flat_map, filter_map}
 use Rattle.std.specs.List.{AllByRecursion, cons_option}
 use Rattle.std.proofs.lemmas.Bool.{cases_Bool}
@@ -9,7 +9,6 @@ use Rattle.mqtt_flow.specs.declared.entry.Turn.{Turn}
 use Rattle.mqtt_flow.specs.declared.entry.Turn.TheVariants as turns
 use Rattle.mqtt_inbound.specs.Identifiers.{ids_without}
 use Rattle.mqtt_message.specs.Queue.{CopyRow}
-use Rattle.mqtt_message.specs.declared.message.MessageCopy.{MessageCopy}
 use Rattle.mqtt_message.specs.declared.message.RetainedMessage.{RetainedMessage}
 use Rattle.mqtt_records.specs.Session.{copy_place}
 use Rattle.mqtt_records.specs.declared.session.Session.{Session}
@@ -22,12 +21,11 @@ use Rattle.mqtt_rules.specs.Routing.{CopyTo, accepted_copies, deliver, deliver_b
 use Rattle.mqtt_rules.specs.State.{Broker, Env, Line, is_of, line_of, queue_on, session_at}
 use Rattle.mqtt_rules.specs.Subscribe as sub
 use Rattle.mqtt_rules.proofs.Acts.{brought_to}
-use Rattle.mqtt_rules.proofs.Goods.{after_append}
 use Rattle.mqtt_rules.proofs.StandLaw.{Orders}
 use Rattle.mqtt_world_laws.specs.AtOnce.{IsPart, due, due_at, due_by, due_for, due_if, put_on}
 use Rattle.mqtt_world_laws.specs.Entries.{moments_of}
 use Rattle.mqtt_world_laws.proofs.EachAct.{Says}
-use Rattle.mqtt_world_laws.proofs.Entering.{IsStill, AreStill, still_forgets}
+use Rattle.mqtt_world_laws.proofs.Entering.{IsStill, AreStill}
 
 -- ---- parts of lists
 

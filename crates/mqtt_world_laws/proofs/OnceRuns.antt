@@ -1,22 +1,20 @@
 -- Over every run of the world: each copy enters once at most, and waits or has one end; and which stores tell copies apart.
-use Rattle.std.proofs.Common.{◌≡◌, ℕ, ◌+◌, ◌≤◌, Bool, true, false, cond, List, [], ◌∷◌, ◌++◌, refl, arith, inl, inr}
-use Rattle.std.specs.List.{AllByRecursion}
+use Rattle.std.proofs.Common.{◌≡◌, ℕ, ◌+◌, ◌≤◌, List, [], refl, arith, inl, inr}
 use Rattle.std.proofs.lemmas.Bool.{cases_Bool}
 use Rattle.mqtt_base.specs.declared.session.Cause.TheVariants.{Direct}
 use Rattle.mqtt_base.specs.declared.session.CopyId.{CopyId}
-use Rattle.mqtt_message.specs.declared.message.RetainedMessage.{RetainedMessage}
 use Rattle.mqtt_records.specs.declared.records.Records.{Records}
 use Rattle.mqtt_rules.specs.declared.Limits.{Limits}
-use Rattle.mqtt_rules.specs.Deeds.{Deed, Link}
+use Rattle.mqtt_rules.specs.Deeds.{Deed}
 use Rattle.mqtt_rules.specs.Laws.{AreWithin, IsCoherent, IsCoherentMessage}
 use Rattle.mqtt_rules.specs.State.{Broker, MemberChoice}
-use Rattle.mqtt_rules.specs.Step.{Call, deeds, env_of, opened, opening, stepped, unopened}
+use Rattle.mqtt_rules.specs.Step.{env_of, opened, opening, unopened}
 use Rattle.mqtt_rules.proofs.Copies.{kinds, each_more}
-use Rattle.mqtt_laws.specs.Laws.{count_of, standing}
+use Rattle.mqtt_laws.specs.Laws.{count_of}
 use Rattle.mqtt_laws.specs.Run.{Turn, run}
 use Rattle.mqtt_laws.specs.World.{World, start}
-use Rattle.mqtt_world_laws.specs.Copies.{entered_from, ended_from}
-use Rattle.mqtt_world_laws.specs.Fair.{IsSteady, IsNew, IsFair, MayOpen, opened_world}
+use Rattle.mqtt_world_laws.specs.Copies.{entered_from}
+use Rattle.mqtt_world_laws.specs.Fair.{IsNew, IsFair, MayOpen, opened_world}
 use Rattle.mqtt_world_laws.specs.Identities.{may_come, queued_in, TellsApart, EntersOnce, EndsOnce, WaitsOrHasEnded}
 use Rattle.mqtt_world_laws.proofs.CopyRuns.{opening_balances, run_balances}
 use Rattle.mqtt_world_laws.proofs.Counting.{E}

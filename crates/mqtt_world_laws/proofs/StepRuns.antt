@@ -8,16 +8,15 @@ use Rattle.mqtt_rules.specs.declared.Limits.{Limits}
 use Rattle.mqtt_rules.specs.State.{Broker, Env}
 use Rattle.mqtt_rules.specs.Deeds.{Deed}
 use Rattle.mqtt_rules.specs.Laws.{AreWithin}
-use Rattle.mqtt_rules.specs.Step.{Call, NewLine, env_of, at_moment, deeds, deeds_of, opening, unopened}
+use Rattle.mqtt_rules.specs.Step.{Call, NewLine, env_of, at_moment, deeds, unopened}
 use Rattle.mqtt_rules.proofs.Copies.{each_append}
-use Rattle.mqtt_rules.proofs.StandLaw.{Orders}
 use Rattle.mqtt_laws.specs.World.{World, Setting, Event, publisher, receiver, connect_end, give_up, publish, subscribe, to_end, clock, ask, restart, stop_before, stop_after, Asking, to_broker, old_to_broker, break, pump, tick, stranger, stranger_named, calls_if, comes, next_held, call_of_stranger, held_count, before, call_of, first_step, is_bad}
 use Rattle.mqtt_laws.specs.Run.{Turn, setting, turned, deeds_if, deeds_of_rest, first_deeds, deeds_asked, opening_deeds, deeds_in, deeds_at, deeds_over}
 use Rattle.mqtt_world_laws.specs.Spending.{spends, rest_spends, first_spends, asking_spends, opening_spends, event_spends, turn_spends, run_spends}
 use Rattle.mqtt_world_laws.specs.Fair.{IsSteady, IsNew, IsFair}
 use Rattle.mqtt_world_laws.specs.Steps.{Step, step_called, steps_if, steps_of_rest, first_steps, steps_asked, opening_step, steps_in, steps_at, steps_over}
 use Rattle.mqtt_world_laws.specs.Entries.{IsEntered, brought_in}
-use Rattle.mqtt_world_laws.specs.AtOnce.{AllGoOut, GoesOut}
+use Rattle.mqtt_world_laws.specs.AtOnce.{AllGoOut}
 use Rattle.mqtt_world_laws.proofs.Entering.{Tells, tells_append, still_tells, publish_tells, grant_tells, entered, entered_append}
 use Rattle.mqtt_world_laws.proofs.EachAct.{Says, call_says, opening_says}
 use Rattle.mqtt_world_laws.proofs.Lights.{Gives, giving}
