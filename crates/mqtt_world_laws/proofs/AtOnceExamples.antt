@@ -1,34 +1,16 @@
 -- Worked runs: a subscriber of granted QoS 0 gets its copy at once, and a stop keeps it back (MQTT 5.0, 3.3.4, 4.3.1).
-use Rattle.std.proofs.Common.{◌≡◌, ℕ, false, List, [], ◌∷◌, ◌++◌, map, None, refl}
-use Rattle.std.specs.Prelude.{codes, flat_map, length}
+use Rattle.std.proofs.Common.{◌≡◌, ℕ, false, List, [], ◌∷◌, ◌++◌, None, refl}
+use Rattle.std.specs.Prelude.{flat_map, length}
 use Rattle.mqtt_base.specs.Values.{varint}
-use Rattle.mqtt_base.specs.declared.session.Qos.TheVariants.{AtMostOnce, ExactlyOnce}
-use Rattle.mqtt_rules.specs.State.{MemberChoice}
-use Rattle.mqtt_rules.proofs.Play.{usual, topic, hi, options}
-use Rattle.mqtt_laws.specs.Ends.{Draft, Wish}
+use Rattle.mqtt_base.specs.declared.session.Qos.TheVariants.{AtMostOnce}
+use Rattle.mqtt_rules.proofs.Play.{usual, topic, options}
+use Rattle.mqtt_laws.specs.Ends.{Wish}
 use Rattle.mqtt_laws.specs.World.{Event, publisher, receiver, connect_end, publish, subscribe, to_end, ask, to_broker, stop_after, receiver_named, start}
-use Rattle.mqtt_laws.specs.Run.{Turn, run}
+use Rattle.mqtt_laws.specs.Run.{run}
 use Rattle.mqtt_world_laws.specs.AtOnce.{due_in, under_way}
 use Rattle.mqtt_world_laws.specs.Copies.{entered_from}
 use Rattle.mqtt_world_laws.specs.Steps.{steps_over}
-
-abbrev first : MemberChoice
-first n sender = []
-
-abbrev turn : Event → Turn
-turn e = record { event = e; choice = first }
-
-abbrev turns : List Event → List Turn
-turns es = map turn es
-
-abbrev p1 : List ℕ
-p1 = codes "p1"
-
-abbrev r1 : List ℕ
-r1 = codes "r1"
-
-abbrev draft : Draft
-draft = record { qos = ExactlyOnce; content = record { retain = false; topic = topic; payload = hi } }
+use Rattle.mqtt_world_laws.proofs.Examples.{turns, p1, r1, draft}
 
 abbrev wish : Wish
 wish = record { filter = topic; options = options AtMostOnce; identifier = None }
