@@ -10,18 +10,17 @@ use Rattle.mqtt_flow.specs.declared.entry.Turn.{Turn}
 use Rattle.mqtt_flow.specs.declared.entry.Turn.TheVariants as turns
 use Rattle.mqtt_lawful.specs.Lawful.{IsUpTo}
 use Rattle.mqtt_message.specs.declared.message.RetainedMessage.{RetainedMessage}
-use Rattle.mqtt_records.specs.Session.{birth_of, copy_place}
+use Rattle.mqtt_records.specs.Session.{copy_place}
 use Rattle.mqtt_records.specs.declared.change.Change.{Change}
 use Rattle.mqtt_records.specs.declared.records.Records.{Records}
 use Rattle.mqtt_records.specs.declared.session.Session.{Session}
 use Rattle.mqtt_records.specs.declared.subscription.Subscription.{Subscription}
 use Rattle.mqtt_routes.specs.Acceptance.{Routed}
 use Rattle.mqtt_routes.specs.Retained.{kept_for}
-use Rattle.mqtt_routes.specs.Subscriptions.{Subscriber}
 use Rattle.mqtt_routes.specs.declared.retained.Kept.{Kept}
 use Rattle.mqtt_routes.specs.declared.subscription.Subscription.{Subscription as RoutedSubscription}
 use Rattle.mqtt_rows.specs.Distinct.{AllDiffer}
-use Rattle.mqtt_rows.specs.Order.{IsAbove, IsAscending, row_at}
+use Rattle.mqtt_rows.specs.Order.{row_at}
 use Rattle.mqtt_topic.specs.Filters.{begins_share}
 use Rattle.mqtt_topic.specs.Names.{is_empty}
 use Rattle.mqtt_calls.specs.TheRules.declared.Limits.{Limits}
@@ -40,9 +39,10 @@ use Rattle.mqtt_calls.proofs.TheRules.Leads.{leads_append, leads_cond, leads_fla
 use Rattle.mqtt_calls.proofs.TheRules.OrderedActs.{IsPlain, Keeping, leads_all, leads_open}
 use Rattle.mqtt_kept_lawful.specs.Identities.{HasIdentities, HaveIdentities, IsGivenCause, IsGivenCopy}
 use Rattle.mqtt_kept_lawful.proofs.CopiesKept.{Good, IsAbsent, IsAbsentIn, IsNewCopy, IsOfGroup, Keeps, Led, Stays, filters_in, filters_of, id_in, kept, more, one, quiet_deeds, quiet_deliver, quiet_leaves}
-use Rattle.mqtt_kept_lawful.proofs.Differ.{differ_filtered}
 use Rattle.mqtt_kept_lawful.proofs.EachSession.{deed_each}
-use Rattle.mqtt_kept_lawful.proofs.Routed.{AreStanding, IsApart, IsCauseOf, copies_caused, copies_differ, id_to, ids_to, routed_apart}
+use Rattle.mqtt_world_laws.proofs.CopiesApart.{births_ascend, brought_differ}
+use Rattle.mqtt_world_laws.proofs.Differ.{differ_filtered}
+use Rattle.mqtt_world_laws.proofs.RoutedApart.{AreStanding, IsApart, IsCauseOf, copies_caused, copies_differ, id_to, ids_to, routed_apart}
 
 -- ---- a copy enters, and those of a publication, one after the other
 
@@ -143,14 +143,6 @@ all_stand all (s ∷ ss) sub = (
   all_stand all ss (λ text among. sub text (among_last text (filters_in s) (flat_map filters_in ss) among)),
 )
 
-births_above : (n : ℕ) (ss : List Session) → IsAbove birth_of n ss → IsAbove (λ (x : Subscriber). x.birth) n (map subscriber_of ss)
-births_above n [] h = tt
-births_above n (s ∷ ss) h = (h.0, births_above n ss h.1)
-
-births_ascend : (ss : List Session) → IsAscending birth_of ss → IsAscending (λ (x : Subscriber). x.birth) (map subscriber_of ss)
-births_ascend [] h = tt
-births_ascend (s ∷ ss) h = (births_above s.birth ss h.0, births_ascend ss h.1)
-
 -- apart from one another, and each of a group that stands, if of one
 record AreRouted (r : Records) (ds : List CopyTo) : Type 0 where
   pub differ : AllDiffer (ids_to ds)
@@ -245,32 +237,7 @@ leads_publish env origin m ds b k e =
 
 -- ---- the retained messages that a filter brings
 
-mapped_twice : {X Y Z : Type 0} (f : Y → Z) (g : X → Y) (xs : List X) → map f (map g xs) ≡ map (λ x. f (g x)) xs
-mapped_twice f g [] = refl
-mapped_twice f g (x ∷ xs) = ap (λ (ys : List _). f (g x) ∷ ys) (mapped_twice f g xs)
-
-abbrev number_of : RetainedMessage → ℕ
-number_of k = k.publication
-
 module _ (number : ℕ) (s : Session) (w : sub.Wish) where
-  brought_ids : (ks : List RetainedMessage) → AllDiffer (map number_of ks) → AllDiffer (ids_to (map (sub.retained_copy_to s.birth number w) ks))
-  brought_ids [] h = tt
-  brought_ids (k ∷ ks) h = (others ks h.0, brought_ids ks h.1)
-    where
-      others : (xs : List RetainedMessage) → AllByRecursion (λ n. k.publication ≢ n) (map number_of xs) → AllByRecursion (λ i. (sub.retained_copy s.birth number w k).id ≢ i) (ids_to (map (sub.retained_copy_to s.birth number w) xs))
-      others [] h = tt
-      others (x ∷ xs) h = ((λ e. h.0 (ap (λ (i : CopyId). i.publication) e)), others xs h.1)
-
-  brought_differ : (t : Bool) (now : ℕ) (ks : List RetainedMessage) → AllDiffer (map number_of ks) → AllDiffer (ids_to (sub.brought_if t now number s w ks))
-  brought_differ false now ks h = tt
-  brought_differ true now ks h =
-      let all = kept_for w.filter (map sub.kept_of ks) in
-      let tabled : AllDiffer (map (λ (y : Kept RetainedMessage). number_of (sub.message_in y)) (map sub.kept_of ks)) =
-      subst AllDiffer (sym (mapped_twice (λ (y : Kept RetainedMessage). number_of (sub.message_in y)) sub.kept_of ks)) h in
-      let matched : AllDiffer (map (λ (y : Kept RetainedMessage). number_of (sub.message_in y)) all) = differ_filtered (λ (y : Kept RetainedMessage). number_of (sub.message_in y)) _ (map sub.kept_of ks) tabled in
-      let messages : AllDiffer (map number_of (map sub.message_in all)) = subst AllDiffer (sym (mapped_twice number_of sub.message_in all)) matched in
-      brought_ids (filter (sub.is_brought now s w) (map sub.message_in all)) (differ_filtered number_of (sub.is_brought now s w) (map sub.message_in all) messages)
-
   -- what holds of each, by what holds of the messages
   brought_each : (P : CopyTo → Type 0) (t : Bool) (now : ℕ) (ks : List RetainedMessage) → AllByRecursion (λ k. P (sub.retained_copy_to s.birth number w k)) ks → AllByRecursion P (sub.brought_if t now number s w ks)
   brought_each P false now ks h = tt
@@ -323,7 +290,7 @@ leads_grants env w s b k =
     let same = kinds_at (whose s) (Subscribe x) d in
     let absent : (id : CopyId) → IsAbsent id r → IsAbsent id c.records = λ id h. deed_each (IsAbsentIn id) (IsAbsentIn id) (λ t p. p) (At (whose s) (Subscribe x)) d (λ u t there is p. p) h in
     let new = granted_new s w b.now r c.records brings k (ap (λ (y : Kinds). y.publications) same) (ap (λ (y : Kinds). y.subscribes) same) absent in
-    let differ = brought_differ number s w brings b.now r.retained k.differ in
+    let differ = brought_differ w s b k.differ in
     more (Count number) (At (whose s) (Subscribe x) ∷ series (map (deliver env) queued) c) b k (omega arith)
     (λ h. more (At (whose s) (Subscribe x)) (series (map (deliver env) queued) c) d h tt
     (λ g. leads_deliveries env queued c g (each_filter (IsNewTo c.records) is_queued ds new) (differ_filtered id_to is_queued ds differ)))

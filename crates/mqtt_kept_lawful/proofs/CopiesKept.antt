@@ -1,5 +1,5 @@
 -- Copies in queues have identities of their own, and are of groups that stand, deed by deed and over a step.
-use Rattle.std.proofs.Common.{◌≡◌, ℕ, ◌≤◌, Bool, true, false, not, ◌||◌, List, [], ◌∷◌, length, map, Option, Some, None, nat_eq, nat_lt, refl, sym, ap, subst, ◌∙◌, inl, inr, arith}
+use Rattle.std.proofs.Common.{◌≡◌, ℕ, ◌≤◌, Bool, true, false, not, List, [], ◌∷◌, map, Option, Some, None, nat_eq, refl, sym, ap, subst, ◌∙◌, inl, inr, arith}
 use Rattle.std.specs.Prelude.{⊤, ◌≢◌, flat_map}
 use Rattle.std.specs.List.{AllByRecursion}
 use Rattle.std.proofs.lemmas.Bool.{cases_Bool}
@@ -20,15 +20,15 @@ use Rattle.mqtt_records.specs.Session.{birth_of, copy_place, in_phase, with_copy
 use Rattle.mqtt_records.specs.declared.records.Records.{Records}
 use Rattle.mqtt_records.specs.declared.session.Session.{Session}
 use Rattle.mqtt_rows.specs.Distinct.{AllDiffer}
-use Rattle.mqtt_rows.specs.Order.{change_row, has_row, insert_row, put_row, row_at}
+use Rattle.mqtt_rows.specs.Order.{change_row, row_at}
 use Rattle.mqtt_topic.specs.Filters.{begins_share, group_of}
 use Rattle.mqtt_calls.specs.TheRules.Deeds.{Whose, whose, Part, Resume, Close, SetExpiry, DropWill, Subscribe, Unsubscribe, Open, Release, Enter, Mark, Leave, Deed, Accept, Begin, Name, Count, At, Finish, Keep, Forget, RefuseWill, Link, On, Send, Gone, after, after_all, always, new_entry, offer, part_rows_of, rows_of}
 use Rattle.mqtt_calls.specs.TheRules.Laws.{IsAmong}
-use Rattle.mqtt_calls.specs.TheRules.Outbound.{enter_deeds, leave_deeds, queue_limits, room, since}
+use Rattle.mqtt_calls.specs.TheRules.Outbound.{enter_deeds, leave_deeds, queue_limits, since}
 use Rattle.mqtt_calls.specs.TheRules.Packets.{publish_of}
 use Rattle.mqtt_calls.specs.TheRules.Routing.{CopyTo, deliver, deliver_by, is_queued}
 use Rattle.mqtt_calls.specs.TheRules.State.{Broker, Env, Line, line_of, queue_on, session_at}
-use Rattle.mqtt_calls.proofs.TheRules.Copies.{Kinds, each_filter, each_map, each_more, kinds_at}
+use Rattle.mqtt_calls.proofs.TheRules.Copies.{Kinds, each_filter, each_more, kinds_at}
 use Rattle.mqtt_calls.proofs.TheRules.Goods.{AreGood, good_append, good_cond, good_flat, good_of_entry, good_with_session}
 use Rattle.mqtt_calls.proofs.TheRules.Leads.{Leads, leads_append}
 use Rattle.mqtt_calls.proofs.TheRules.NumberCopies.{each_put, each_change}
@@ -37,7 +37,8 @@ use Rattle.mqtt_calls.proofs.TheRules.Ordered.{changed_all-ordered}
 use Rattle.mqtt_calls.proofs.TheRules.OrderedActs.{IsPlain, IsPlainPart}
 use Rattle.mqtt_calls.proofs.TheRules.OrderedRoom.{at_retained, begin_retained}
 use Rattle.mqtt_kept_lawful.specs.Identities.{HasIdentities, HaveIdentities, IsGivenCause, IsGivenCopy}
-use Rattle.mqtt_kept_lawful.proofs.Differ.{differ_filtered, given_same}
+use Rattle.mqtt_world_laws.proofs.Differ.{differ_filtered, put_differ}
+use Rattle.mqtt_kept_lawful.proofs.Differ.{given_same}
 use Rattle.mqtt_kept_lawful.proofs.EachSession.{Makes, deed_each, part_made}
 
 -- ---- rows of which no two are equal in something
@@ -47,32 +48,6 @@ each_of_mapped P f [] h = tt
 each_of_mapped P f (x ∷ xs) h = (h.0, each_of_mapped P f xs h.1)
 
 module _ {X Y : Type 0} (key : X → ℕ) (f : X → Y) where
-  insert_differ : (row : X) (xs : List X) → AllByRecursion (λ x. f row ≢ f x) xs → AllDiffer (map f xs) → AllDiffer (map f (insert_row key row xs))
-  insert_differ row [] new h = (tt, tt)
-  insert_differ row (x ∷ xs) new h = elim (cases_Bool (nat_lt (key row) (key x))) [
-    | inl before ↦ rw before (each_map (λ y. f row ≢ y) f (x ∷ xs) new, h)
-    | inr behind ↦ elim (cases_Bool (nat_eq (key row) (key x))) [
-      | inl same ↦ rw (behind, same) (each_map (λ y. f row ≢ y) f xs new.1, h.1)
-      | inr other ↦ rw (behind, other) (beside x xs (λ e. new.0 (sym e)) h.0, insert_differ row xs new.1 h.1)
-    ]
-  ]
-    where
-      beside : (x : X) (ys : List X) → f x ≢ f row → AllByRecursion (λ y. f x ≢ y) (map f ys) → AllByRecursion (λ y. f x ≢ y) (map f (insert_row key row ys))
-      beside x [] apart h = (apart, tt)
-      beside x (y ∷ ys) apart h = elim (cases_Bool (nat_lt (key row) (key y))) [
-        | inl before ↦ rw before (apart, h)
-        | inr behind ↦ elim (cases_Bool (nat_eq (key row) (key y))) [
-          | inl same ↦ rw (behind, same) (apart, h.1)
-          | inr other ↦ rw (behind, other) (h.0, beside x ys apart h.1)
-        ]
-      ]
-
-  put_differ : (limit : ℕ) (row : X) (xs : List X) → AllByRecursion (λ x. f row ≢ f x) xs → AllDiffer (map f xs) → AllDiffer (map f (put_row key limit row xs))
-  put_differ limit row xs new h = elim (cases_Bool (has_row key (key row) xs || nat_lt (length xs) limit)) [
-    | inl room ↦ rw room (insert_differ row xs new h)
-    | inr full ↦ rw full h
-  ]
-
   mapped_same : (k : ℕ) (g : X → X) (xs : List X) → ((x : X) → f (g x) ≡ f x) → map f (change_row key k g xs) ≡ map f xs
   mapped_same k g [] same = refl
   mapped_same k g (x ∷ xs) same = elim (cases_Bool (nat_eq (key x) k)) [

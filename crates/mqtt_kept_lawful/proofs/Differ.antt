@@ -6,6 +6,7 @@ use Rattle.std.proofs.lemmas.Bool.{cases_Bool}
 use Rattle.mqtt_rows.specs.Distinct.{AllDiffer}
 use Rattle.mqtt_rows.specs.Order.{IsAbove, IsAscending, row_at, has_row, insert_row, put_row, change_row}
 use Rattle.mqtt_calls.specs.TheRules.Laws.{IsAmong}
+use Rattle.mqtt_world_laws.proofs.Differ.{AreApart, differ_join}
 use Rattle.mqtt_calls.proofs.TheRules.Copies.{each_append, each_filter, each_more}
 use Rattle.mqtt_calls.proofs.TheRules.FitLaw.{all_among}
 
@@ -15,10 +16,6 @@ each_among P (x ∷ xs) h = (h x (inl refl), each_among P xs (λ y among. h y (i
 
 -- ---- two lists, one behind the other
 
--- no element of one is in the other
-abbrev pub AreApart : {X : Type 0} → List X → List X → Type 0
-AreApart xs ys = AllByRecursion (λ x. AllByRecursion (λ y. x ≢ y) ys) xs
-
 pub each_first : {X : Type 0} (P : X → Type 0) (xs ys : List X) → AllByRecursion P (xs ++ ys) → AllByRecursion P xs
 each_first P [] ys h = tt
 each_first P (x ∷ xs) ys h = (h.0, each_first P xs ys h.1)
@@ -26,10 +23,6 @@ each_first P (x ∷ xs) ys h = (h.0, each_first P xs ys h.1)
 pub each_last : {X : Type 0} (P : X → Type 0) (xs ys : List X) → AllByRecursion P (xs ++ ys) → AllByRecursion P ys
 each_last P [] ys h = h
 each_last P (x ∷ xs) ys h = each_last P xs ys h.1
-
-pub differ_join : {X : Type 0} (xs ys : List X) → AllDiffer xs → AllDiffer ys → AreApart xs ys → AllDiffer (xs ++ ys)
-differ_join [] ys p q apart = q
-differ_join (x ∷ xs) ys p q apart = (each_append (λ y. x ≢ y) xs ys p.0 apart.0, differ_join xs ys p.1 q apart.1)
 
 pub differ_first : {X : Type 0} (xs ys : List X) → AllDiffer (xs ++ ys) → AllDiffer xs
 differ_first [] ys h = tt
@@ -43,21 +36,7 @@ pub differ_apart : {X : Type 0} (xs ys : List X) → AllDiffer (xs ++ ys) → Ar
 differ_apart [] ys h = tt
 differ_apart (x ∷ xs) ys h = (each_last (λ y. x ≢ y) xs ys h.0, differ_apart xs ys h.1)
 
--- ---- parts of mapped lists
-
-pub each_mapped : {X Y : Type 0} (P : Y → Type 0) (f : X → Y) (keep : X → Bool) (xs : List X) → AllByRecursion P (map f xs) → AllByRecursion P (map f (filter keep xs))
-each_mapped P f keep [] h = tt
-each_mapped P f keep (x ∷ xs) h = elim (cases_Bool (keep x)) [
-  | inl stays ↦ rw stays (h.0, each_mapped P f keep xs h.1)
-  | inr goes ↦ rw goes (each_mapped P f keep xs h.1)
-]
-
-pub differ_filtered : {X Y : Type 0} (f : X → Y) (keep : X → Bool) (xs : List X) → AllDiffer (map f xs) → AllDiffer (map f (filter keep xs))
-differ_filtered f keep [] h = tt
-differ_filtered f keep (x ∷ xs) h = elim (cases_Bool (keep x)) [
-  | inl stays ↦ rw stays (each_mapped (λ y. f x ≢ y) f keep xs h.0, differ_filtered f keep xs h.1)
-  | inr goes ↦ rw goes (differ_filtered f keep xs h.1)
-]
+-- ---- keys of rows
 
 pub above_differ : {X : Type 0} (key : X → ℕ) (n : ℕ) (xs : List X) → IsAbove key n xs → AllByRecursion (λ m. n ≢ m) (map key xs)
 above_differ key n [] h = tt

@@ -4,8 +4,6 @@ pub mod Differ
 pub mod PlacesKept
 pub mod Orders
 pub mod PhasesKept
-pub mod Shares
-pub mod Routed
 pub mod CopiesKept
 pub mod CopiesActs
 pub mod Origins
@@ -14,3 +12,4 @@ pub mod NamesKept
 pub mod TextsKept
 pub mod Facts
 pub mod WrittenKept
+pub mod ToldApart

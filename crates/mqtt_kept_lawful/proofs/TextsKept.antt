@@ -32,7 +32,7 @@ use Rattle.mqtt_kept_lawful.proofs.CopiesKept.{Good, IsOfGroup, filters_in, filt
 use Rattle.mqtt_kept_lawful.proofs.Differ.{each_given}
 use Rattle.mqtt_kept_lawful.proofs.EachSession.{Makes, deed_each, part_made}
 use Rattle.mqtt_kept_lawful.proofs.Origins.{IsFrom, from_call, from_good, from_opening}
-use Rattle.mqtt_kept_lawful.proofs.Shares.{share_whole}
+use Rattle.mqtt_world_laws.proofs.Shares.{share_whole}
 
 -- ---- groups of filters that stand
 

@@ -10,6 +10,7 @@ ghost use Rattle.mqtt_calls.specs.TheRules.State.{Broker, MemberChoice, stored};
 ghost use Rattle.mqtt_calls.specs.TheRules.Step.{Call, is_opening_spent, is_step_spent, opened, stepped};
 ghost use Rattle.mqtt_calls.specs.TheRules.declared.Limits.{Limits as TheLimits};
 ghost use Rattle.mqtt_calls.specs.Sound.{IsSound};
+ghost use Rattle.mqtt_world_laws.specs.Identities.{TellsApart};
 ghost use Rattle.mqtt_kept_lawful.specs.Bounds.{HaveBounds};
 ghost use Rattle.mqtt_kept_lawful.specs.Identities.{HaveIdentities};
 ghost use Rattle.mqtt_kept_lawful.specs.Names.{AreNamed};
@@ -111,9 +112,11 @@ pub fn texts_stay_lawful()
 /// may be, and each opening, where no number is spent. Beyond what lawful records have, its messages are as
 /// short as those of packets, its filters such as packets carry, and its retained messages of different
 /// publications: without these a step could make a row too long, a group without a spelling, or two copies
-/// with one identity (4.1).
+/// with one identity. So it tells its copies apart, as a world in which each copy enters and ends once asks of
+/// where it begins (4.1).
 pub fn what_a_broker_writes_is_lawful()
     ensures lawful { (r : Records) → IsWritten r → IsLawful r }
+    ensures apart { (r : Records) → IsWritten r → TellsApart r }
     ensures nothing { IsWritten nothing }
     ensures step { (limits : TheLimits) (choice : MemberChoice) (now : ℕ) (call : Call) (b : Broker)
         → is_step_spent limits choice now call b ≡ false → TakesLawful call

@@ -49,12 +49,11 @@ module _ (c : CopyId) (limits : Limits) (within : AreWithin limits) where
       let same = ap (N c) rows in
       omega (arith, all, same)
 
-  opening_balances : (choice : MemberChoice) (now : ℕ) (b : Broker) → IsSteady limits b → Balances c (opening (env_of limits choice (unopened now b.records)) (unopened now b.records)) b (opened limits choice now b.records)
-  opening_balances choice now b s =
+  pub opening_balances : (choice : MemberChoice) (now : ℕ) (b : Broker) → IsOrdered b.records → Balances c (opening (env_of limits choice (unopened now b.records)) (unopened now b.records)) b (opened limits choice now b.records)
+  opening_balances choice now b ordered =
       let begin = unopened now b.records in
       let env = env_of limits choice begin in
       let ds = opening env begin in
-      let ordered = s.coherent.ordered in
       let room = (leads_open env (ShortQueues QUEUE_LIMIT) RoomToEnter (queues_keeping QUEUE_LIMIT env within.queue within.queue) begin (short b.records ordered)).0 in
       let all = all_balance c ds begin ordered (here_opening env begin ordered) (stands_opening env begin ordered) room in
       let rows = done_sessions (rows_of_all ds begin.records) (after_all ds begin) in
@@ -68,7 +67,7 @@ module _ (c : CopyId) (limits : Limits) (within : AreWithin limits) where
     unlink = λ n b d h. h;
     link = λ n b d h. h;
     call = λ choice now call b s unspent. call_balances choice now call b s;
-    open_again = λ choice now b s unspent. opening_balances choice now b s;
+    open_again = λ choice now b s unspent. opening_balances choice now b s.coherent.ordered;
   }
 
 pub run_balances : (limits : Limits) (ts : List Turn) (w : World) → IsNew limits w → IsFair limits ts w → (c : CopyId) → IsBalanced c limits ts w

@@ -185,7 +185,7 @@ module _ (c : CopyId) where
 
   -- ---- a part of a session's act
 
-  abbrev E : List Deed → ℕ
+  abbrev pub E : List Deed → ℕ
   E ds = count_of c (filter_map entered_in ds)
 
   abbrev X : List Deed → ℕ

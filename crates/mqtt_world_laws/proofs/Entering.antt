@@ -1,6 +1,6 @@
 -- What enters by the deeds of a publication and of a granted filter: the queued copies, each once.
 use Rattle.std.proofs.Common.{◌≡◌, ℕ, suc, ◌≤◌, Bool, true, false, cond, not, ◌&&◌, inl, inr, List, [], ◌∷◌, ◌++◌, map, filter, length, Option, Some, None, refl, sym, ap, subst, ◌∙◌, append_assoc, append-nil, arith}
-use Rattle.std.specs.Prelude.{is_some, nat_le, flat_map, filter_map}
+use Rattle.std.specs.Prelude.{⊤, is_some, nat_le, flat_map, filter_map}
 use Rattle.std.specs.List.{AllByRecursion, cons_option}
 use Rattle.std.proofs.lemmas.Bool.{cases_Bool}
 use Rattle.std.proofs.lemmas.Cmp.{nat_eq_equiv}
@@ -19,12 +19,11 @@ use Rattle.mqtt_records.specs.Session.{copy_place}
 use Rattle.mqtt_rows.specs.Order.{row_at}
 use Rattle.mqtt_rules.specs.Packets.{publish_of, size_of}
 use Rattle.mqtt_rules.specs.State.{Line, Broker, Env, session_at, line_of, queue_on}
-use Rattle.mqtt_rules.specs.Deeds.{whose, Message, Origin, Enter, Leave, Subscribe, Deed, Accept, At, Send, after, after_all, always, series, with_session, offer}
+use Rattle.mqtt_rules.specs.Deeds.{whose, Message, Origin, Subscribe, Enter, Leave, Deed, Accept, Count, At, Keep, Send, after, after_all, always, series, with_session, offer}
 use Rattle.mqtt_rules.specs.Outbound.{of_entry, leave_deeds, since, queue_limits, enter_deeds, room_at}
 use Rattle.mqtt_rules.specs.Routing.{CopyTo, is_queued, deliver_by, deliver, retained_of, forgets, retain_by, next_publication, accepted_copies, publish}
 use Rattle.mqtt_routes.specs.Retained.{kept_for}
 use Rattle.mqtt_topic.specs.Filters.{begins_share}
-use Rattle.mqtt_rules.specs.Deeds.{Count}
 use Rattle.mqtt_rules.specs.Subscribe as sub
 use Rattle.mqtt_rules.proofs.Acts.{brought_to}
 use Rattle.mqtt_rules.proofs.OrderedAccepted.{is_to, accepted_within}
@@ -67,8 +66,14 @@ tells_append env xs ys b p q =
 abbrev pub IsMute : Deed → Type 0
 IsMute d = (env : Env) (b : Broker) → brings env d b ≡ []
 
+-- a deed that brings nothing, lets nothing enter, gives no number to a publication or a filter, and retains nothing
 abbrev pub IsStill : Deed → Type 0
-IsStill d = IsMute d × (entered_in d ≡ None)
+IsStill (Accept number origin m) = ⊥
+IsStill (Count n) = ⊥
+IsStill (Keep kept) = ⊥
+IsStill (At who (Enter copy)) = ⊥
+IsStill (At who (Subscribe x)) = ⊥
+IsStill d = ⊤
 
 abbrev AreMute : List Deed → Type 0
 AreMute ds = AllByRecursion IsMute ds
@@ -76,9 +81,25 @@ AreMute ds = AllByRecursion IsMute ds
 abbrev pub AreStill : List Deed → Type 0
 AreStill ds = AllByRecursion IsStill ds
 
+mute : (d : Deed) → IsStill d → IsMute d
+mute (Accept number origin m) h env b = absurd h
+mute (Count n) h env b = absurd h
+mute (Keep kept) h env b = absurd h
+mute (At who (Enter copy)) h env b = absurd h
+mute (At who (Subscribe x)) h env b = absurd h
+mute d h env b = refl
+
 mutes : (ds : List Deed) → AreStill ds → AreMute ds
 mutes [] h = tt
-mutes (d ∷ ds) h = (h.0.0, mutes ds h.1)
+mutes (d ∷ ds) h = (mute d h.0, mutes ds h.1)
+
+pub no_entry : (d : Deed) → IsStill d → entered_in d ≡ None
+no_entry (Accept number origin m) h = absurd h
+no_entry (Count n) h = absurd h
+no_entry (Keep kept) h = absurd h
+no_entry (At who (Enter copy)) h = absurd h
+no_entry (At who (Subscribe x)) h = absurd h
+no_entry d h = refl
 
 mute_append : (xs ys : List Deed) → AreMute xs → AreMute ys → AreMute (xs ++ ys)
 mute_append [] ys p q = q
@@ -100,16 +121,12 @@ brought_none : (env : Env) (ds : List Deed) (b : Broker) → AreMute ds → brou
 brought_none env [] b h = refl
 brought_none env (d ∷ ds) b h = ap (λ (cs : List CopyId). cs ++ brought_by env ds (after d b)) (h.0 env b) ∙ brought_none env ds (after d b) h.1
 
-entered_none : (ds : List Deed) → AreStill ds → entered ds ≡ []
+pub entered_none : (ds : List Deed) → AreStill ds → entered ds ≡ []
 entered_none [] h = refl
-entered_none (d ∷ ds) h = ap (λ (o : Option CopyId). cons_option o (entered ds)) h.0.1 ∙ entered_none ds h.1
+entered_none (d ∷ ds) h = ap (λ (o : Option CopyId). cons_option o (entered ds)) (no_entry d h.0) ∙ entered_none ds h.1
 
 pub still_tells : (env : Env) (ds : List Deed) (b : Broker) → AreStill ds → Tells env ds b
 still_tells env ds b h = entered_none ds h ∙ sym (brought_none env ds b (mutes ds h))
-
--- a deed of neither kind
-abbrev pub still : (d : Deed) → ((env : Env) (b : Broker) → brings env d b ≡ []) → entered_in d ≡ None → IsStill d
-still d p q = (p, q)
 
 -- ---- queues
 
@@ -118,7 +135,7 @@ still_entry None f h = tt
 still_entry (Some e) f h = h e
 
 pub still_leave : (s : Session) (t : Turn) → AreStill (leave_deeds s t)
-still_leave s (turns.Leave place ending) = still_entry (row_at copy_place place s.queue) (λ e. At (whose s) (Leave e ending) ∷ []) (λ e. (((λ env b. refl), refl), tt))
+still_leave s (turns.Leave place ending) = still_entry (row_at copy_place place s.queue) (λ e. At (whose s) (Leave e ending) ∷ []) (λ e. (tt, tt))
 still_leave s (turns.Send place id) = tt
 still_leave s (turns.Resend place id) = tt
 still_leave s (turns.Release place id order) = tt
@@ -128,7 +145,7 @@ still_leave s (turns.Unknown id) = tt
 
 pub still_offer : (o : Option Line) (packet : Packet) → AreStill (offer o packet)
 still_offer None packet = tt
-still_offer (Some l) packet = still_cond _ (Send l.number packet ∷ []) [] (((λ env b. refl), refl), tt) tt
+still_offer (Some l) packet = still_cond _ (Send l.number packet ∷ []) [] (tt, tt) tt
 
 entered_once : (env : Env) (copy : MessageCopy) (s : Session) → entered (enter_deeds env copy s) ≡ copy.id ∷ []
 entered_once env copy s =
@@ -244,14 +261,19 @@ accepted_stand env m b ds h e = all_stand env ds b.records (λ k. accepted_withi
 
 -- ---- a publication
 
-still_forgets : (o : Option RetainedMessage) → AreStill (forgets o)
+pub still_forgets : (o : Option RetainedMessage) → AreStill (forgets o)
 still_forgets None = tt
-still_forgets (Some k) = (((λ env b. refl), refl), tt)
+still_forgets (Some k) = (tt, tt)
 
-still_retain : (retain empty : Bool) (number : ℕ) (m : Message) (b : Broker) → AreStill (retain_by retain empty number m b)
-still_retain false empty number m b = tt
-still_retain true true number m b = still_forgets (retained_of m.topic b.records)
-still_retain true false number m b = (((λ env b. refl), refl), tt)
+mute_retain : (retain empty : Bool) (number : ℕ) (m : Message) (b : Broker) → AreMute (retain_by retain empty number m b)
+mute_retain false empty number m b = tt
+mute_retain true true number m b = let o = retained_of m.topic b.records in mutes (forgets o) (still_forgets o)
+mute_retain true false number m b = ((λ env b. refl), tt)
+
+none_retained : (retain empty : Bool) (number : ℕ) (m : Message) (b : Broker) → entered (retain_by retain empty number m b) ≡ []
+none_retained false empty number m b = refl
+none_retained true true number m b = let o = retained_of m.topic b.records in entered_none (forgets o) (still_forgets o)
+none_retained true false number m b = refl
 
 for_forgets : (k : ℕ) (o : Option RetainedMessage) → AreFor k (forgets o)
 for_forgets k None = tt
@@ -262,21 +284,37 @@ for_retain k false empty number m b = tt
 for_retain k true true number m b = for_forgets k (retained_of m.topic b.records)
 for_retain k true false number m b = (tt, tt)
 
+published_all : (env : Env) (origin : Origin) (m : Message) (ds : List CopyTo) (b : Broker) → Orders b → accepted_copies env m b ≡ Some ds
+    → let number = next_publication b.records in
+    let c = after (Accept number origin m) b in
+    DeliverAll env ds (after_all (retain_by m.retain (is_empty m.payload) number m c) c)
+published_all env origin m ds b h e =
+    let number = next_publication b.records in
+    let c = after (Accept number origin m) b in
+    let next = retain_by m.retain (is_empty m.payload) number m c in
+    let d = after_all next c in
+    deliver_all env ds d (stay ds b.records d.records (λ k has. for_stays k 0 next c (for_retain 0 m.retain (is_empty m.payload) number m c) has) (accepted_stand env m b ds h e))
+
+pub publish_enters : (env : Env) (origin : Origin) (m : Message) (ds : List CopyTo) (b : Broker) → Orders b → accepted_copies env m b ≡ Some ds → entered (publish env origin m ds b) ≡ queued_ids ds
+publish_enters env origin m ds b h e =
+    let number = next_publication b.records in
+    let c = after (Accept number origin m) b in
+    let next = retain_by m.retain (is_empty m.payload) number m c in
+    let d = after_all next c in
+    let all = series (map (deliver env) ds) d in
+    entered_append next all ∙ ap (λ (cs : List CopyId). cs ++ entered all) (none_retained m.retain (is_empty m.payload) number m c) ∙ (published_all env origin m ds b h e).let_in
+
 pub publish_tells : (env : Env) (origin : Origin) (m : Message) (ds : List CopyTo) (b : Broker) → Orders b → accepted_copies env m b ≡ Some ds → Tells env (publish env origin m ds b) b
 publish_tells env origin m ds b h e =
     let number = next_publication b.records in
     let c = after (Accept number origin m) b in
     let next = retain_by m.retain (is_empty m.payload) number m c in
-    let calm = still_retain m.retain (is_empty m.payload) number m c in
-    let d = after_all next c in
-    let all = series (map (deliver env) ds) d in
-    let stand = stay ds b.records d.records (λ k has. for_stays k 0 next c (for_retain 0 m.retain (is_empty m.payload) number m c) has) (accepted_stand env m b ds h e) in
-    let x = deliver_all env ds d stand in
-    let left : entered (next ++ all) ≡ queued_ids ds = entered_append next all ∙ ap (λ (cs : List CopyId). cs ++ entered all) (entered_none next calm) ∙ x.let_in in
-    let none : brought_by env (next ++ all) c ≡ [] = brought_none env (next ++ all) c (mute_append next all (mutes next calm) x.bring_none) in
+    let all = series (map (deliver env) ds) (after_all next c) in
+    let x = published_all env origin m ds b h e in
+    let none : brought_by env (next ++ all) c ≡ [] = brought_none env (next ++ all) c (mute_append next all (mute_retain m.retain (is_empty m.payload) number m c) x.bring_none) in
     let right : ids_if (accepted_copies env m b) ++ brought_by env (next ++ all) c ≡ queued_ids ds =
     ap (λ (cs : List CopyId). ids_if (accepted_copies env m b) ++ cs) none ∙ append-nil (ids_if (accepted_copies env m b)) ∙ ap ids_if e in
-    left ∙ sym right
+    publish_enters env origin m ds b h e ∙ sym right
 
 -- ---- a filter that is granted
 
@@ -301,6 +339,22 @@ brought_stand : (t : Bool) (now number : ℕ) (s : Session) (w : sub.Wish) (ks :
 brought_stand false now number s w ks r has = tt
 brought_stand true now number s w ks r has = own_stand s.birth number w (filter (sub.is_brought now s w) (map sub.message_in (kept_for w.filter (map sub.kept_of ks)))) r has
 
+granted_all : (env : Env) (w : sub.Wish) (s : Session) (b : Broker) → session_at s.birth b.records ≡ Some s
+    → DeliverAll env (filter is_queued (brought_to w s b)) (after (At (whose s) (Subscribe (sub.subscription (sub.next_number b.records) s w))) (after (Count (sub.next_number b.records)) b))
+granted_all env w s b e =
+    let number = sub.next_number b.records in
+    let x = sub.subscription number s w in
+    let c = after (Count number) b in
+    let d = after (At (whose s) (Subscribe x)) c in
+    let has : Has s.birth b.records = ap is_some e in
+    let stays : Has s.birth d.records = for_stays s.birth s.birth (At (whose s) (Subscribe x) ∷ []) c (refl, tt) has in
+    let t = not (begins_share w.filter) && sub.wants_retained w.options.retain_handling (sub.has_filter w.filter s) in
+    deliver_all env (filter is_queued (brought_to w s b)) d (brought_stand t b.now number s w b.records.retained d.records stays)
+
+pub grant_enters : (env : Env) (w : sub.Wish) (s : Session) (b : Broker) → session_at s.birth b.records ≡ Some s
+    → entered (sub.granted_filter env (sub.next_number b.records) s w (brought_to w s b) b).deeds ≡ queued_ids (brought_to w s b)
+grant_enters env w s b e = (granted_all env w s b e).let_in ∙ queued_again (brought_to w s b)
+
 pub grant_tells : (env : Env) (w : sub.Wish) (s : Session) (b : Broker) → session_at s.birth b.records ≡ Some s → Tells env (sub.granted_filter env (sub.next_number b.records) s w (brought_to w s b) b).deeds b
 grant_tells env w s b e =
     let number = sub.next_number b.records in
@@ -309,13 +363,8 @@ grant_tells env w s b e =
     let c = after (Count number) b in
     let d = after (At (whose s) (Subscribe x)) c in
     let all = series (map (deliver env) (filter is_queued ds)) d in
-    let has : Has s.birth b.records = ap is_some e in
-    let stays : Has s.birth d.records = for_stays s.birth s.birth (At (whose s) (Subscribe x) ∷ []) c (refl, tt) has in
-    let t = not (begins_share w.filter) && sub.wants_retained w.options.retain_handling (sub.has_filter w.filter s) in
-    let y = deliver_all env (filter is_queued ds) d (brought_stand t b.now number s w b.records.retained d.records stays) in
-    let left : entered all ≡ queued_ids ds = y.let_in ∙ queued_again ds in
     let it : retained_ids c x (session_at s.birth c.records) ≡ queued_ids ds = ap (retained_ids c x) e in
     let right : retained_ids c x (session_at s.birth c.records) ++ brought_by env all d ≡ queued_ids ds =
-    ap (λ (cs : List CopyId). retained_ids c x (session_at s.birth c.records) ++ cs) (brought_none env all d y.bring_none)
+    ap (λ (cs : List CopyId). retained_ids c x (session_at s.birth c.records) ++ cs) (brought_none env all d (granted_all env w s b e).bring_none)
     ∙ append-nil (retained_ids c x (session_at s.birth c.records)) ∙ it in
-    left ∙ sym right
+    grant_enters env w s b e ∙ sym right

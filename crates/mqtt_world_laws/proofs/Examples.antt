@@ -16,19 +16,19 @@ use Rattle.mqtt_world_laws.specs.Spending.{run_spends}
 use Rattle.mqtt_world_laws.specs.Once.{times_accepted}
 use Rattle.mqtt_world_laws.specs.Copies.{entered_from, ended_from}
 
-abbrev first : MemberChoice
+abbrev pub first : MemberChoice
 first n sender = []
 
-abbrev turn : Event → Turn
+abbrev pub turn : Event → Turn
 turn e = record { event = e; choice = first }
 
-abbrev turns : List Event → List Turn
+abbrev pub turns : List Event → List Turn
 turns es = map turn es
 
-abbrev p1 : List ℕ
+abbrev pub p1 : List ℕ
 p1 = codes "p1"
 
-abbrev draft : Draft
+abbrev pub draft : Draft
 draft = record { qos = ExactlyOnce; content = record { retain = false; topic = topic; payload = hi } }
 
 abbrev is_fair : List Event → Bool
@@ -110,7 +110,7 @@ a_last_line_is_given = refl
 
 -- ---- a group whose member is lost: its copy ends with its session, and goes to no other (4.8.2)
 
-abbrev r1 : List ℕ
+abbrev pub r1 : List ℕ
 r1 = codes "r1"
 
 abbrev r2 : List ℕ

@@ -1,5 +1,6 @@
 pub mod Examples
 pub mod FullQueues
+pub mod AtOnceExamples
 pub mod Steady
 pub mod OpeningNumbers
 pub mod Ends
@@ -24,5 +25,14 @@ pub mod Walks
 pub mod CopyRuns
 pub mod Routed
 pub mod Entering
-pub mod EachEntry
-pub mod EntryRuns
+pub mod EachAct
+pub mod Lights
+pub mod Arrivals
+pub mod StepRuns
+pub mod Shares
+pub mod Differ
+pub mod RoutedApart
+pub mod CopiesApart
+pub mod Told
+pub mod Entries
+pub mod OnceRuns

@@ -15,12 +15,12 @@ use Rattle.mqtt_routes.specs.Acceptance.{Served, served_by, Routed, with_direct,
 use Rattle.mqtt_rows.specs.Distinct.{AllDiffer}
 use Rattle.mqtt_rows.specs.Order.{IsAbove, IsAscending}
 use Rattle.mqtt_topic.specs.Filters.{begins_share, group_of}
-use Rattle.mqtt_calls.specs.TheRules.Deeds.{Message}
-use Rattle.mqtt_calls.specs.TheRules.Routing.{CopyTo, copy_to, served_copies_to, copies_to}
-use Rattle.mqtt_calls.proofs.TheRules.Copies.{each_append, each_map, each_more}
+use Rattle.mqtt_rules.specs.Deeds.{Message}
+use Rattle.mqtt_rules.specs.Routing.{CopyTo, copy_to, served_copies_to, copies_to}
+use Rattle.mqtt_rules.proofs.Copies.{each_append, each_map, each_more}
 use Rattle.mqtt_topic.proofs.MatchLemmas.{and_left}
-use Rattle.mqtt_kept_lawful.proofs.Differ.{AreApart, differ_join}
-use Rattle.mqtt_kept_lawful.proofs.Shares.{same_group}
+use Rattle.mqtt_world_laws.proofs.Differ.{AreApart, differ_join}
+use Rattle.mqtt_world_laws.proofs.Shares.{same_group}
 
 -- ---- direct copies
 

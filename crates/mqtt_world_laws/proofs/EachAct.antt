@@ -1,4 +1,5 @@
--- Each call and each opening lets enter exactly the copies that its deeds bring.
+-- What is said of publications and of filters that are granted, and of nothing else that a call or an opening does: so it
+-- is said of each call and each opening.
 use Rattle.std.proofs.Common.{◌≡◌, ℕ, suc, Bool, true, false, cond, not, ◌&&◌, ◌||◌, List, [], ◌∷◌, ◌++◌, filter, length, map, Option, Some, None, refl, sym, ap, subst, ◌∙◌, append_assoc}
 use Rattle.std.specs.Prelude.{⊤, Err, Ok, find, flat_map, nat_le, nat_lt, option_map}
 use Rattle.std.specs.List.{AllByRecursion}
@@ -38,7 +39,7 @@ use Rattle.mqtt_topic.specs.Filters.{is_filter}
 use Rattle.mqtt_topic.specs.Names.{is_empty}
 use Rattle.mqtt_rules.specs.Closing.{close, close_connected, close_session, drop_line, end_session, has_due_end, has_due_will, publish_or_refuse, publish_will, settle, will_deeds, will_message}
 use Rattle.mqtt_rules.specs.Connect.{begin_named, clear, connect_by, joins, largest_of, of_client, prepare, refusal, refusal_size, refused, resume, take_over}
-use Rattle.mqtt_rules.specs.Deeds.{Whose, whose, Message, FromClient, FromWill, Close, DropWill, Leave, Hear, Deed, At, Finish, Forget, RefuseWill, Link, On, Send, Gone, Act, after_all, always, of_session, offer, only_if, series, with_line, with_session}
+use Rattle.mqtt_rules.specs.Deeds.{Whose, whose, Message, Origin, FromClient, FromWill, Close, DropWill, Leave, Hear, Deed, At, Finish, Forget, RefuseWill, Link, On, Send, Gone, Act, after_all, always, of_session, offer, only_if, series, with_line, with_session}
 use Rattle.mqtt_rules.specs.Inbound.{Meaning, Means, Wrong, answer, code_accepted, code_again, leave_by, meaning, message_of, new_expiry, on_answer, opens, publish_by, publish_meant, publish_new, pump_deeds, pump_turns, release_by, sets_alias, standing}
 use Rattle.mqtt_rules.specs.Outbound.{all_turn_deeds, leave_deeds, turn_deeds}
 use Rattle.mqtt_rules.specs.Packets.{connack, disconnect, number_at, publish_of, suback, unsuback}
@@ -50,17 +51,17 @@ use Rattle.mqtt_rules.specs.Tick.{due, first_due, has_lapsed, is_silent, is_stal
 use Rattle.mqtt_rules.proofs.Acts.{brought_to}
 use Rattle.mqtt_rules.proofs.FlightRows.{found_key}
 use Rattle.mqtt_rules.proofs.StandLaw.{Orders, ordered_all}
-use Rattle.mqtt_world_laws.proofs.Entering.{Tells, tells_append, AreStill, still_append, still_flat, still_cond, still_tells, still_entry, still_leave, still_offer, publish_tells, grant_tells}
+use Rattle.mqtt_world_laws.proofs.Entering.{AreStill, still_append, still_flat, still_cond, still_entry, still_leave, still_offer}
 
 -- ---- lists of deeds that bring nothing and let nothing enter
 
 still_turn : (now line : ℕ) (s : Session) (t : Turn) → AreStill (turn_deeds now line s t)
-still_turn now line s (turns.Send place id) = still_entry (row_at copy_place place s.queue) _ (λ e. (((λ e c. refl), refl), (((λ e c. refl), refl), (((λ e c. refl), refl), tt))))
-still_turn now line s (turns.Resend place id) = still_entry (row_at copy_place place s.queue) _ (λ e. (((λ e c. refl), refl), (((λ e c. refl), refl), tt)))
-still_turn now line s (turns.Release place id order) = (((λ e c. refl), refl), (((λ e c. refl), refl), tt))
-still_turn now line s (turns.Outgrow place id order) = (((λ e c. refl), refl), (((λ e c. refl), refl), tt))
-still_turn now line s (turns.Repeat id) = (((λ e c. refl), refl), tt)
-still_turn now line s (turns.Unknown id) = (((λ e c. refl), refl), tt)
+still_turn now line s (turns.Send place id) = still_entry (row_at copy_place place s.queue) _ (λ e. (tt, (tt, (tt, tt))))
+still_turn now line s (turns.Resend place id) = still_entry (row_at copy_place place s.queue) _ (λ e. (tt, (tt, tt)))
+still_turn now line s (turns.Release place id order) = (tt, (tt, tt))
+still_turn now line s (turns.Outgrow place id order) = (tt, (tt, tt))
+still_turn now line s (turns.Repeat id) = (tt, tt)
+still_turn now line s (turns.Unknown id) = (tt, tt)
 still_turn now line s (turns.Leave place ending) = still_leave s (turns.Leave place ending)
 
 still_turns : (now line : ℕ) (s : Session) (ts : List Turn) → AreStill (all_turn_deeds now line s ts)
@@ -68,137 +69,149 @@ still_turns now line s ts = still_flat (turn_deeds now line s) (still_turn now l
 
 still_ends : (s : Session) (es : List CopyRow) → AreStill (map (λ e. At (whose s) (Leave e SessionEnded)) es)
 still_ends s [] = tt
-still_ends s (e ∷ es) = (((λ e c. refl), refl), still_ends s es)
+still_ends s (e ∷ es) = (tt, still_ends s es)
 
 still_end : (s : Session) → AreStill (end_session s)
-still_end s = still_append (map (λ e. At (whose s) (Leave e SessionEnded)) s.queue) (Finish (whose s) ∷ []) (still_ends s s.queue) (((λ e c. refl), refl), tt)
+still_end s = still_append (map (λ e. At (whose s) (Leave e SessionEnded)) s.queue) (Finish (whose s) ∷ []) (still_ends s s.queue) (tt, tt)
 
 still_refused : (l : Line) (c : Greeting) (code : ℕ) → AreStill (refused l c code)
 still_refused l c code = still_append (cond (nat_lt (largest_of c) refusal_size) [] (Send l.number (connack false code []) ∷ [])) (Gone l.number ∷ [])
-    (still_cond (nat_lt (largest_of c) refusal_size) [] (Send l.number (connack false code []) ∷ []) tt (((λ e c. refl), refl), tt)) (((λ e c. refl), refl), tt)
+    (still_cond (nat_lt (largest_of c) refusal_size) [] (Send l.number (connack false code []) ∷ []) tt (tt, tt)) (tt, tt)
 
 still_begin : (t : Bool) (l : Line) (c : Greeting) (r : Records) → AreStill (begin_named t l c r)
-still_begin false l c r = (((λ e c. refl), refl), (((λ e c. refl), refl), (((λ e c. refl), refl), tt)))
-still_begin true l c r = (((λ e c. refl), refl), (((λ e c. refl), refl), (((λ e c. refl), refl), (((λ e c. refl), refl), tt))))
+still_begin false l c r = (tt, (tt, (tt, tt)))
+still_begin true l c r = (tt, (tt, (tt, (tt, tt))))
 
 still_answer : (line : ℕ) (d : Delivery) (code : ℕ) → AreStill (answer line d code)
 still_answer line delivery.AtMostOnce code = tt
-still_answer line (delivery.AtLeastOnce dup id) code = (((λ e c. refl), refl), tt)
-still_answer line (delivery.ExactlyOnce dup id) code = (((λ e c. refl), refl), tt)
+still_answer line (delivery.AtLeastOnce dup id) code = (tt, tt)
+still_answer line (delivery.ExactlyOnce dup id) code = (tt, tt)
 
 still_opens : (s : Session) (d : Delivery) → AreStill (opens s d)
 still_opens s delivery.AtMostOnce = tt
 still_opens s (delivery.AtLeastOnce dup id) = tt
-still_opens s (delivery.ExactlyOnce dup id) = (((λ e c. refl), refl), tt)
+still_opens s (delivery.ExactlyOnce dup id) = (tt, tt)
 
 still_alias : (t : Bool) (alias : Option ℕ) (line : ℕ) (topic : List ℕ) → AreStill (sets_alias t alias line topic)
 still_alias true alias line topic = tt
 still_alias false None line topic = tt
-still_alias false (Some n) line topic = (((λ e c. refl), refl), tt)
+still_alias false (Some n) line topic = (tt, tt)
 
 still_release : (x : ReleaseAnswer) (l : Line) (s : Session) (id : ℕ) → AreStill (release_by x l s id)
-still_release Known l s id = (((λ e c. refl), refl), (((λ e c. refl), refl), tt))
-still_release Unknown l s id = (((λ e c. refl), refl), tt)
+still_release Known l s id = (tt, (tt, tt))
+still_release Unknown l s id = (tt, tt)
 
 still_expiry : (o : Option ℕ) (s : Session) → AreStill (new_expiry o s)
 still_expiry None s = tt
-still_expiry (Some n) s = (((λ e c. refl), refl), tt)
+still_expiry (Some n) s = (tt, tt)
 
 still_unsubscribe : (t : Bool) (line : ℕ) (s : Session) (p : GivingUp) (b : Broker) → AreStill (sub.unsubscribe_by t line s p b)
 still_unsubscribe true line s p b = still_offer (line_at line b) (unsuback p.identifier (map (λ f. identifier_in_use) p.filters))
 still_unsubscribe false line s p b =
     still_append (flat_map (sub.unsubscribes s) (filter (λ f. sub.has_filter f s) p.filters)) (offer (line_at line b) (unsuback p.identifier (sub.drop_codes s [] p.filters)))
-    (still_flat (sub.unsubscribes s) (λ f. (((λ e c. refl), refl), tt)) (filter (λ f. sub.has_filter f s) p.filters)) (still_offer (line_at line b) (unsuback p.identifier (sub.drop_codes s [] p.filters)))
+    (still_flat (sub.unsubscribes s) (λ f. (tt, tt)) (filter (λ f. sub.has_filter f s) p.filters)) (still_offer (line_at line b) (unsuback p.identifier (sub.drop_codes s [] p.filters)))
 
 -- ---- acts, each on a state in order
 
-module _ (env : Env) where
-  abbrev TellsAct : Act → Type 0
-  TellsAct act = (b : Broker) → Orders b → Tells env (act b) b
+-- what is said of deeds on a state in order: of those that let nothing enter, of some and then others, and of the two
+-- that do, a publication and a filter that is granted
+pub record Says (env : Env) (R : List Deed → Broker → Type 0) : Type 0 where
+  pub still : (ds : List Deed) (b : Broker) → AreStill ds → R ds b
+  pub next : (xs ys : List Deed) (b : Broker) → R xs b → R ys (after_all xs b) → R (xs ++ ys) b
+  pub publish : (origin : Origin) (m : Message) (ds : List CopyTo) (b : Broker) → Orders b → accepted_copies env m b ≡ Some ds → R (publish env origin m ds b) b
+  pub grants : (w : sub.Wish) (s : Session) (b : Broker) → session_at s.birth b.records ≡ Some s
+      → R (sub.granted_filter env (sub.next_number b.records) s w (brought_to w s b) b).deeds b
 
-  calm : (ds : List Deed) → AreStill ds → TellsAct (always ds)
-  calm ds q b h = still_tells env ds b q
+module _ (env : Env) (R : List Deed → Broker → Type 0) (says : Says env R) where
+  nothing : (b : Broker) → R [] b
+  nothing b = says.still [] b tt
 
-  calmly : (ds : List Deed) (b : Broker) → AreStill ds → Tells env ds b
-  calmly ds b q = still_tells env ds b q
+  abbrev SaysAct : Act → Type 0
+  SaysAct act = (b : Broker) → Orders b → R (act b) b
 
-  acts : (fs : List Act) → AllByRecursion TellsAct fs → TellsAct (series fs)
-  acts [] q b h = refl
-  acts (f ∷ fs) q b h = tells_append env (f b) (series fs (after_all (f b) b)) b (q.0 b h) (acts fs q.1 (after_all (f b) b) (ordered_all (f b) b h))
+  calm : (ds : List Deed) → AreStill ds → SaysAct (always ds)
+  calm ds q b h = says.still ds b q
 
-  each_act : {X : Type 0} (f : X → Act) → ((x : X) → TellsAct (f x)) → (xs : List X) → AllByRecursion TellsAct (map f xs)
+  calmly : (ds : List Deed) (b : Broker) → AreStill ds → R ds b
+  calmly ds b q = says.still ds b q
+
+  acts : (fs : List Act) → AllByRecursion SaysAct fs → SaysAct (series fs)
+  acts [] q b h = nothing b
+  acts (f ∷ fs) q b h = says.next (f b) (series fs (after_all (f b) b)) b (q.0 b h) (acts fs q.1 (after_all (f b) b) (ordered_all (f b) b h))
+
+  each_act : {X : Type 0} (f : X → Act) → ((x : X) → SaysAct (f x)) → (xs : List X) → AllByRecursion SaysAct (map f xs)
   each_act f h [] = tt
   each_act f h (x ∷ xs) = (h x, each_act f h xs)
 
-  if_so : (t : Bool) (act : Act) → TellsAct act → TellsAct (only_if t act)
+  if_so : (t : Bool) (act : Act) → SaysAct act → SaysAct (only_if t act)
   if_so true act q b h = q b h
-  if_so false act q b h = refl
+  if_so false act q b h = nothing b
 
-  on_session : (o : Option Session) (f : Session → Act) → ((s : Session) → TellsAct (f s)) → TellsAct (with_session o f)
-  on_session None f q b h = refl
+  on_session : (o : Option Session) (f : Session → Act) → ((s : Session) → SaysAct (f s)) → SaysAct (with_session o f)
+  on_session None f q b h = nothing b
   on_session (Some s) f q b h = q s b h
 
-  on_birth : (birth : ℕ) (f : Session → Act) → ((s : Session) → TellsAct (f s)) → TellsAct (of_session birth f)
+  on_birth : (birth : ℕ) (f : Session → Act) → ((s : Session) → SaysAct (f s)) → SaysAct (of_session birth f)
   on_birth birth f q b h = on_session (session_at birth b.records) f q b h
 
-  on_client : (client : List ℕ) (f : Session → Act) → ((s : Session) → TellsAct (f s)) → TellsAct (of_client client f)
+  on_client : (client : List ℕ) (f : Session → Act) → ((s : Session) → SaysAct (f s)) → SaysAct (of_client client f)
   on_client client f q b h = on_session (session_named client b.records) f q b h
 
-  on_a_line : (o : Option Line) (f : Line → Act) → ((l : Line) → TellsAct (f l)) → TellsAct (with_line o f)
-  on_a_line None f q b h = refl
+  on_a_line : (o : Option Line) (f : Line → Act) → ((l : Line) → SaysAct (f l)) → SaysAct (with_line o f)
+  on_a_line None f q b h = nothing b
   on_a_line (Some l) f q b h = q l b h
 
   -- ---- Wills, ends, settling and closing
 
-  will_or_refusal : (who : Whose) (m : Message) (o : Option (List CopyTo)) (b : Broker) → Orders b → accepted_copies env m b ≡ o → Tells env (publish_or_refuse env who m o b) b
-  will_or_refusal who m None b h e = calmly (RefuseWill who ∷ []) b (((λ e c. refl), refl), tt)
-  will_or_refusal who m (Some ds) b h e = publish_tells env FromWill m ds b h e
+  will_or_refusal : (who : Whose) (m : Message) (o : Option (List CopyTo)) (b : Broker) → Orders b → accepted_copies env m b ≡ o → R (publish_or_refuse env who m o b) b
+  will_or_refusal who m None b h e = calmly (RefuseWill who ∷ []) b (tt, tt)
+  will_or_refusal who m (Some ds) b h e = says.publish FromWill m ds b h e
 
-  of_will : (who : Whose) (o : Option Will) → TellsAct (will_deeds env who o)
-  of_will who None b h = refl
+  of_will : (who : Whose) (o : Option Will) → SaysAct (will_deeds env who o)
+  of_will who None b h = nothing b
   of_will who (Some w) b h =
       let m = will_message who.client w in
       let first = publish_or_refuse env who m (accepted_copies env m b) b in
-      tells_append env first (series (always (At who DropWill ∷ []) ∷ []) (after_all first b)) b (will_or_refusal who m (accepted_copies env m b) b h refl)
-      (acts (always (At who DropWill ∷ []) ∷ []) (calm (At who DropWill ∷ []) (((λ e c. refl), refl), tt), tt) (after_all first b) (ordered_all first b h))
+      says.next first (series (always (At who DropWill ∷ []) ∷ []) (after_all first b)) b (will_or_refusal who m (accepted_copies env m b) b h refl)
+      (acts (always (At who DropWill ∷ []) ∷ []) (calm (At who DropWill ∷ []) (tt, tt), tt) (after_all first b) (ordered_all first b h))
 
-  its_will : (s : Session) → TellsAct (publish_will env s)
+  its_will : (s : Session) → SaysAct (publish_will env s)
   its_will s b h = of_will (whose s) s.will b h
 
-  ending : (s : Session) → TellsAct (always (end_session s))
+  ending : (s : Session) → SaysAct (always (end_session s))
   ending s = calm (end_session s) (still_end s)
 
-  settling : (birth : ℕ) → TellsAct (settle env birth)
+  settling : (birth : ℕ) → SaysAct (settle env birth)
   settling birth b h =
       acts (of_session birth (λ s. only_if (has_due_will b.now s) (publish_will env s)) ∷ of_session birth (λ s. only_if (has_due_end b.now s) (always (end_session s))) ∷ []) (
         on_birth birth (λ s. only_if (has_due_will b.now s) (publish_will env s)) (λ s. if_so (has_due_will b.now s) (publish_will env s) (its_will s)),
         (on_birth birth (λ s. only_if (has_due_end b.now s) (always (end_session s))) (λ s. if_so (has_due_end b.now s) (always (end_session s)) (ending s)), tt),
       ) b h
 
-  closing_a_session : (keeps_will : Bool) (s : Session) → TellsAct (close_session env keeps_will s)
+  closing_a_session : (keeps_will : Bool) (s : Session) → SaysAct (close_session env keeps_will s)
   closing_a_session keeps_will s b h =
       acts (only_if (not keeps_will) (always (At (whose s) DropWill ∷ [])) ∷ always (At (whose s) (Close b.now) ∷ []) ∷ settle env s.birth ∷ [])
-      (if_so (not keeps_will) (always (At (whose s) DropWill ∷ [])) (calm (At (whose s) DropWill ∷ []) (((λ e c. refl), refl), tt)), (calm (At (whose s) (Close b.now) ∷ []) (((λ e c. refl), refl), tt), (settling s.birth, tt))) b h
+      (if_so (not keeps_will) (always (At (whose s) DropWill ∷ [])) (calm (At (whose s) DropWill ∷ []) (tt, tt)), (calm (At (whose s) (Close b.now) ∷ []) (tt, tt), (settling s.birth, tt))) b h
 
-  closing_connected : (keeps_will : Bool) (o : Option ℕ) → TellsAct (close_connected env keeps_will o)
-  closing_connected keeps_will None b h = refl
+  closing_connected : (keeps_will : Bool) (o : Option ℕ) → SaysAct (close_connected env keeps_will o)
+  closing_connected keeps_will None b h = nothing b
   closing_connected keeps_will (Some birth) b h = on_birth birth (close_session env keeps_will) (closing_a_session keeps_will) b h
 
-  closing : (keeps_will : Bool) (l : Line) → TellsAct (close env keeps_will l)
-  closing keeps_will l b h = acts (always (Gone l.number ∷ []) ∷ close_connected env keeps_will l.session ∷ []) (calm (Gone l.number ∷ []) (((λ e c. refl), refl), tt), (closing_connected keeps_will l.session, tt)) b h
+  closing : (keeps_will : Bool) (l : Line) → SaysAct (close env keeps_will l)
+  closing keeps_will l b h = acts (always (Gone l.number ∷ []) ∷ close_connected env keeps_will l.session ∷ []) (calm (Gone l.number ∷ []) (tt, tt), (closing_connected keeps_will l.session, tt)) b h
 
-  dropping : (code : ℕ) (l : Line) → TellsAct (drop_line env code l)
-  dropping code l b h = acts (always (Send l.number (disconnect code) ∷ []) ∷ close env true l ∷ []) (calm (Send l.number (disconnect code) ∷ []) (((λ e c. refl), refl), tt), (closing true l, tt)) b h
+  dropping : (code : ℕ) (l : Line) → SaysAct (drop_line env code l)
+  dropping code l b h = acts (always (Send l.number (disconnect code) ∷ []) ∷ close env true l ∷ []) (calm (Send l.number (disconnect code) ∷ []) (tt, tt), (closing true l, tt)) b h
 
   -- ---- CONNECT
 
-  taking_over : (s : Session) → TellsAct (take_over env s)
+  taking_over : (s : Session) → SaysAct (take_over env s)
   taking_over s b h = on_a_line (line_of s.birth b) (drop_line env session_taken_over) (dropping session_taken_over) b h
 
-  clearing : (s : Session) → TellsAct (clear env s)
+  clearing : (s : Session) → SaysAct (clear env s)
   clearing s b h = acts (publish_will env s ∷ of_client s.client (λ t. always (end_session t)) ∷ []) (its_will s, (on_client s.client (λ t. always (end_session t)) ending, tt)) b h
 
-  preparing : (c : Greeting) → TellsAct (prepare env c)
+  preparing : (c : Greeting) → SaysAct (prepare env c)
   preparing c b h =
       acts (of_client c.client_identifier (take_over env) ∷ of_client c.client_identifier (λ s. settle env s.birth) ∷ only_if c.clean_start (of_client c.client_identifier (clear env)) ∷ []) (
         on_client c.client_identifier (take_over env) taking_over,
@@ -208,18 +221,18 @@ module _ (env : Env) where
         ),
       ) b h
 
-  tells_cond : (t : Bool) (xs ys : List Deed) (b : Broker) → Tells env xs b → Tells env ys b → Tells env (cond t xs ys) b
-  tells_cond true xs ys b p q = p
-  tells_cond false xs ys b p q = q
+  says_cond : (t : Bool) (xs ys : List Deed) (b : Broker) → R xs b → R ys b → R (cond t xs ys) b
+  says_cond true xs ys b p q = p
+  says_cond false xs ys b p q = q
 
-  joining : (l : Line) (c : Greeting) (now : ℕ) (ds : List Deed) (r : Records) (o : Option Session) (b : Broker) → Tells env ds b → Tells env (joins env l c now ds r o) b
-  joining l c now ds r (Some s) b q = tells_append env ds (resume l c now s) b q (calmly (resume l c now s) (after_all ds b) (((λ e c. refl), refl), (((λ e c. refl), refl), (((λ e c. refl), refl), still_turns now l.number s (resumed_with (queue_on [] s))))))
+  joining : (l : Line) (c : Greeting) (now : ℕ) (ds : List Deed) (r : Records) (o : Option Session) (b : Broker) → R ds b → R (joins env l c now ds r o) b
+  joining l c now ds r (Some s) b q = says.next ds (resume l c now s) b q (calmly (resume l c now s) (after_all ds b) (tt, (tt, (tt, still_turns now l.number s (resumed_with (queue_on [] s))))))
   joining l c now ds r None b q =
-      tells_cond (nat_lt (length r.sessions) env.limits.sessions) (ds ++ begin_named (is_empty c.client_identifier) l c r) (refused l c quota_exceeded) b
-      (tells_append env ds (begin_named (is_empty c.client_identifier) l c r) b q (calmly (begin_named (is_empty c.client_identifier) l c r) (after_all ds b) (still_begin (is_empty c.client_identifier) l c r)))
+      says_cond (nat_lt (length r.sessions) env.limits.sessions) (ds ++ begin_named (is_empty c.client_identifier) l c r) (refused l c quota_exceeded) b
+      (says.next ds (begin_named (is_empty c.client_identifier) l c r) b q (calmly (begin_named (is_empty c.client_identifier) l c r) (after_all ds b) (still_begin (is_empty c.client_identifier) l c r)))
       (calmly (refused l c quota_exceeded) b (still_refused l c quota_exceeded))
 
-  connecting : (o : Option ℕ) (l : Line) (c : Greeting) → TellsAct (connect_by o env l c)
+  connecting : (o : Option ℕ) (l : Line) (c : Greeting) → SaysAct (connect_by o env l c)
   connecting (Some code) l c b h = calmly (refused l c code) b (still_refused l c code)
   connecting None l c b h =
       let ds = prepare env c b in
@@ -227,20 +240,20 @@ module _ (env : Env) where
 
   -- ---- PUBLISH
 
-  publishing_new : (l : Line) (s : Session) (p : Publication) (m : Message) (o : Option (List CopyTo)) (b : Broker) → Orders b → accepted_copies env m b ≡ o → Tells env (publish_new env l s p m o b) b
+  publishing_new : (l : Line) (s : Session) (p : Publication) (m : Message) (o : Option (List CopyTo)) (b : Broker) → Orders b → accepted_copies env m b ≡ o → R (publish_new env l s p m o b) b
   publishing_new l s p m None b h e = calmly (answer l.number p.delivery quota_exceeded) b (still_answer l.number p.delivery quota_exceeded)
   publishing_new l s p m (Some ds) b h e =
       let first = publish env FromClient m ds b in
       let told = answer l.number p.delivery (code_accepted (is_wanted env m b.records)) in
-      tells_append env first (series (always (opens s p.delivery) ∷ always told ∷ []) (after_all first b)) b (publish_tells env FromClient m ds b h e)
+      says.next first (series (always (opens s p.delivery) ∷ always told ∷ []) (after_all first b)) b (says.publish FromClient m ds b h e)
       (acts (always (opens s p.delivery) ∷ always told ∷ []) (calm (opens s p.delivery) (still_opens s p.delivery), (calm told (still_answer l.number p.delivery (code_accepted (is_wanted env m b.records))), tt)) (after_all first b) (ordered_all first b h))
 
-  publishing_by : (x : Published) (l : Line) (s : Session) (p : Publication) (m : Message) → TellsAct (publish_by x env l s p m)
+  publishing_by : (x : Published) (l : Line) (s : Session) (p : Publication) (m : Message) → SaysAct (publish_by x env l s p m)
   publishing_by Again l s p m b h = calmly (answer l.number p.delivery (code_again p.delivery)) b (still_answer l.number p.delivery (code_again p.delivery))
   publishing_by Over l s p m b h = dropping receive_maximum_exceeded l b h
   publishing_by New l s p m b h = publishing_new l s p m (accepted_copies env m b) b h refl
 
-  publishing : (x : Meaning) (l : Line) (s : Session) (p : Publication) → TellsAct (publish_meant x env l s p)
+  publishing : (x : Meaning) (l : Line) (s : Session) (p : Publication) → SaysAct (publish_meant x env l s p)
   publishing (Wrong code) l s p b h = dropping code l b h
   publishing (Means topic) l s p b h =
       let sets = sets_alias (is_empty p.topic) (number_at TopicAlias p.properties) l.number topic in
@@ -249,70 +262,70 @@ module _ (env : Env) where
 
   -- ---- a receiver's answers, and DISCONNECT
 
-  answering : (a : Answer) (l : Line) (s : Session) → TellsAct (on_answer a env l s)
-  answering (Ok None) l s b h = refl
+  answering : (a : Answer) (l : Line) (s : Session) → SaysAct (on_answer a env l s)
+  answering (Ok None) l s b h = nothing b
   answering (Ok (Some t)) l s b h = calmly (turn_deeds b.now l.number s t) b (still_turn b.now l.number s t)
   answering (Err fault) l s b h = dropping protocol_error l b h
 
-  leaving : (t : Bool) (l : Line) (s : Session) (code : ℕ) (o : Option ℕ) → TellsAct (leave_by t env l s code o)
+  leaving : (t : Bool) (l : Line) (s : Session) (code : ℕ) (o : Option ℕ) → SaysAct (leave_by t env l s code o)
   leaving true l s code o b h = dropping protocol_error l b h
   leaving false l s code o b h = acts (always (new_expiry o s) ∷ close env _ l ∷ []) (calm (new_expiry o s) (still_expiry o s), (closing _ l, tt)) b h
 
   -- ---- SUBSCRIBE
 
   answered : (valid room : Bool) (s : Session) (w : sub.Wish) (b : Broker) → session_at s.birth b.records ≡ Some s
-      → Tells env (sub.answer_by valid room env (sub.next_number b.records) s w (brought_to w s b) b).deeds b
-  answered false room s w b e = refl
-  answered true false s w b e = refl
-  answered true true s w b e = grant_tells env w s b e
+      → R (sub.answer_by valid room env (sub.next_number b.records) s w (brought_to w s b) b).deeds b
+  answered false room s w b e = nothing b
+  answered true false s w b e = nothing b
+  answered true true s w b e = says.grants w s b e
 
   filter_told : (identifier : Option ℕ) (text : List ℕ) (o : Option SubscriptionOptions) (birth : ℕ) (b : Broker) (x : Option Session) → session_at birth b.records ≡ x
-      → Tells env (sub.filter_answer_of env (sub.wish_by text identifier o) b x).deeds b
-  filter_told identifier text None birth b None e = refl
-  filter_told identifier text (Some options) birth b None e = refl
-  filter_told identifier text None birth b (Some s) e = refl
+      → R (sub.filter_answer_of env (sub.wish_by text identifier o) b x).deeds b
+  filter_told identifier text None birth b None e = nothing b
+  filter_told identifier text (Some options) birth b None e = nothing b
+  filter_told identifier text None birth b (Some s) e = nothing b
   filter_told identifier text (Some options) birth b (Some s) e =
       let w : sub.Wish = record { filter = text; options = options; identifier = identifier } in
       answered (is_filter text) ((sub.has_filter text s || nat_lt (length s.subscriptions) SUBSCRIPTION_LIMIT) && nat_le (length (filter is_queued (brought_to w s b))) _) s w b
       (ap (λ (n : ℕ). session_at n b.records) (found_key birth_of birth s b.records.sessions e) ∙ e)
 
-  filters_told : (birth : ℕ) (identifier : Option ℕ) (xs : List Asked) (b : Broker) → Tells env (sub.filter_answers env birth identifier xs b).deeds b
-  filters_told birth identifier [] b = refl
+  filters_told : (birth : ℕ) (identifier : Option ℕ) (xs : List Asked) (b : Broker) → R (sub.filter_answers env birth identifier xs b).deeds b
+  filters_told birth identifier [] b = nothing b
   filters_told birth identifier (a ∷ rest) b =
       let g = sub.filter_answer_of env (sub.wish_of identifier a) b (session_at birth b.records) in
-      tells_append env g.deeds (sub.filter_answers env birth identifier rest (after_all g.deeds b)).deeds b
+      says.next g.deeds (sub.filter_answers env birth identifier rest (after_all g.deeds b)).deeds b
       (filter_told identifier a.filter (options_of a.options) birth b (session_at birth b.records) refl) (filters_told birth identifier rest (after_all g.deeds b))
 
-  subscribing : (t : Bool) (line : ℕ) (s : Session) (p : Asking) (b : Broker) → Tells env (sub.subscribe_by t env line s p b) b
+  subscribing : (t : Bool) (line : ℕ) (s : Session) (p : Asking) (b : Broker) → R (sub.subscribe_by t env line s p b) b
   subscribing true line s p b = calmly _ b (still_offer (line_at line b) (suback p.identifier (map (λ a. identifier_in_use) p.subscriptions)))
   subscribing false line s p b =
       let a = sub.filter_answers env s.birth (number_at SubscriptionIdentifier p.properties) p.subscriptions b in
       let told = offer (line_at line b) (suback p.identifier a.codes) in
       let late = flat_map (λ d. sub.late_sends line b.now d b) a.late in
       let quiet = still_append told late (still_offer (line_at line b) (suback p.identifier a.codes)) (still_flat (λ d. sub.late_sends line b.now d b) (λ d. still_offer (line_at line b) (publish_of b.now false 0 d.copy)) a.late) in
-      subst (λ (ds : List Deed). Tells env ds b) (sym (append_assoc a.deeds told late))
-      (tells_append env a.deeds (told ++ late) b (filters_told s.birth (number_at SubscriptionIdentifier p.properties) p.subscriptions b) (calmly (told ++ late) (after_all a.deeds b) quiet))
+      subst (λ (ds : List Deed). R ds b) (sym (append_assoc a.deeds told late))
+      (says.next a.deeds (told ++ late) b (filters_told s.birth (number_at SubscriptionIdentifier p.properties) p.subscriptions b) (calmly (told ++ late) (after_all a.deeds b) quiet))
 
   -- ---- tick
 
-  abbrev TellsOption : Option Act → Type 0
-  TellsOption None = ⊤
-  TellsOption (Some act) = TellsAct act
+  abbrev SaysOption : Option Act → Type 0
+  SaysOption None = ⊤
+  SaysOption (Some act) = SaysAct act
 
-  mapped : {X : Type 0} (f : X → Act) (o : Option X) → ((x : X) → TellsAct (f x)) → TellsOption (option_map f o)
+  mapped : {X : Type 0} (f : X → Act) (o : Option X) → ((x : X) → SaysAct (f x)) → SaysOption (option_map f o)
   mapped f None h = tt
   mapped f (Some x) h = h x
 
-  first_told : (os : List (Option Act)) → AllByRecursion TellsOption os → TellsOption (first_due os)
+  first_told : (os : List (Option Act)) → AllByRecursion SaysOption os → SaysOption (first_due os)
   first_told [] h = tt
   first_told (Some act ∷ rest) h = h.0
   first_told (None ∷ rest) h = first_told rest h.1
 
-  silent : (o : Option ℕ) (l : Line) → TellsAct (silence env o l)
+  silent : (o : Option ℕ) (l : Line) → SaysAct (silence env o l)
   silent None l b h = closing true l b h
   silent (Some birth) l b h = dropping keep_alive_timeout l b h
 
-  due_told : (b : Broker) → TellsOption (due env b)
+  due_told : (b : Broker) → SaysOption (due env b)
   due_told b =
       let lines = find (λ (l : Line). is_silent b.now l.session l) b.lines in
       let wills = find (has_due_will b.now) b.records.sessions in
@@ -321,14 +334,14 @@ module _ (env : Env) where
       let waiting = find (has_lapsed b.now) b.records.sessions in
       let all : List (Option Act) = option_map (λ (l : Line). silence env l.session l) lines ∷ option_map (publish_will env) wills ∷ option_map (λ (s : Session). always (end_session s)) ends
       ∷ option_map (λ (k : RetainedMessage). always (Forget k.place ∷ [])) kept ∷ option_map (λ (s : Session). always (lapse_deeds b.now s)) waiting ∷ [] in
-      let each : AllByRecursion TellsOption all = (
+      let each : AllByRecursion SaysOption all = (
         mapped (λ (l : Line). silence env l.session l) lines (λ l. silent l.session l),
         (
           mapped (publish_will env) wills its_will,
           (
             mapped (λ (s : Session). always (end_session s)) ends ending,
             (
-              mapped (λ (k : RetainedMessage). always (Forget k.place ∷ [])) kept (λ k. calm (Forget k.place ∷ []) (((λ e c. refl), refl), tt)),
+              mapped (λ (k : RetainedMessage). always (Forget k.place ∷ [])) kept (λ k. calm (Forget k.place ∷ []) (tt, tt)),
               (mapped (λ (s : Session). always (lapse_deeds b.now s)) waiting (λ s. calm (lapse_deeds b.now s) (still_flat (leave_deeds s) (still_leave s) (lapses b.now s))), tt),
             ),
           ),
@@ -336,13 +349,13 @@ module _ (env : Env) where
       ) in
       first_told all each
 
-  ticking : (o : Option Act) → TellsOption o → TellsAct (on_tick o)
-  ticking None q b h = refl
+  ticking : (o : Option Act) → SaysOption o → SaysAct (on_tick o)
+  ticking None q b h = nothing b
   ticking (Some act) q b h = q b h
 
   -- ---- calls
 
-  first_read : (l : Line) (packet : Packet) → TellsAct (first_packet env l packet)
+  first_read : (l : Line) (packet : Packet) → SaysAct (first_packet env l packet)
   first_read l (packets.Connect c) b h = connecting (refusal c b.records) l c b h
   first_read l (packets.Connack c) b h = closing true l b h
   first_read l (packets.Publish p) b h = closing true l b h
@@ -359,7 +372,7 @@ module _ (env : Env) where
   first_read l (packets.Disconnect n) b h = closing true l b h
   first_read l (packets.Auth n) b h = closing true l b h
 
-  next_read : (l : Line) (packet : Packet) (s : Session) → TellsAct (next_packet env l packet s)
+  next_read : (l : Line) (packet : Packet) (s : Session) → SaysAct (next_packet env l packet s)
   next_read l (packets.Publish p) s b h = publishing (meaning p l.aliases) l s p b h
   next_read l (packets.Puback a) s b h = answering (rules.puback a.identifier a.reason.0 (queue_on l.went s)) l s b h
   next_read l (packets.Pubrec a) s b h = answering (rules.pubrec a.identifier a.reason.0 (queue_on l.went s)) l s b h
@@ -367,7 +380,7 @@ module _ (env : Env) where
   next_read l (packets.Pubcomp a) s b h = answering (rules.pubcomp a.identifier (queue_on l.went s)) l s b h
   next_read l (packets.Subscribe p) s b h = subscribing (is_among p.identifier s.inbound) l.number s p b
   next_read l (packets.Unsubscribe p) s b h = calmly _ b (still_unsubscribe (is_among p.identifier s.inbound) l.number s p b)
-  next_read l packets.Pingreq s b h = calmly (Send l.number packets.Pingresp ∷ []) b (((λ e c. refl), refl), tt)
+  next_read l packets.Pingreq s b h = calmly (Send l.number packets.Pingresp ∷ []) b (tt, tt)
   next_read l (packets.Disconnect n) s b h = leaving _ l s n.reason.0 _ b h
   next_read l (packets.Connect c) s b h = dropping protocol_error l b h
   next_read l (packets.Connack c) s b h = dropping protocol_error l b h
@@ -376,33 +389,33 @@ module _ (env : Env) where
   next_read l packets.Pingresp s b h = dropping protocol_error l b h
   next_read l (packets.Auth n) s b h = dropping protocol_error l b h
 
-  reading : (l : Line) (packet : Packet) (o : Option ℕ) → TellsAct (on_packet env l packet o)
+  reading : (l : Line) (packet : Packet) (o : Option ℕ) → SaysAct (on_packet env l packet o)
   reading l packet None b h = first_read l packet b h
   reading l packet (Some birth) b h = on_birth birth (next_packet env l packet) (next_read l packet) b h
 
-  at_fault : (l : Line) (t : Bool) (code : ℕ) (o : Option ℕ) → TellsAct (on_fault env l t code o)
-  at_fault l true code None b h = acts (always (Send l.number (connack false code []) ∷ []) ∷ close env true l ∷ []) (calm (Send l.number (connack false code []) ∷ []) (((λ e c. refl), refl), tt), (closing true l, tt)) b h
+  at_fault : (l : Line) (t : Bool) (code : ℕ) (o : Option ℕ) → SaysAct (on_fault env l t code o)
+  at_fault l true code None b h = acts (always (Send l.number (connack false code []) ∷ []) ∷ close env true l ∷ []) (calm (Send l.number (connack false code []) ∷ []) (tt, tt), (closing true l, tt)) b h
   at_fault l false code None b h = closing true l b h
   at_fault l true code (Some birth) b h = dropping (late_code code) l b h
   at_fault l false code (Some birth) b h = dropping (late_code code) l b h
 
-  pumping : (l : Line) (o : Option ℕ) → TellsAct (on_pump l o)
-  pumping l None b h = refl
+  pumping : (l : Line) (o : Option ℕ) → SaysAct (on_pump l o)
+  pumping l None b h = nothing b
   pumping l (Some birth) b h = on_birth birth (λ s. always (pump_deeds l b.now s)) (λ s. calm (pump_deeds l b.now s) (still_turns b.now l.number s (pump_turns l b.now s))) b h
 
-  pub call_tells : (call : Call) → TellsAct (deeds_of env call)
-  call_tells NewLine b h = calmly (cond (can_link b) (Link (suc b.given) ∷ []) []) b (still_cond (can_link b) (Link (suc b.given) ∷ []) [] (((λ e c. refl), refl), tt) tt)
-  call_tells (Input n packet) b h =
+  pub call_says : (call : Call) → SaysAct (deeds_of env call)
+  call_says NewLine b h = calmly (cond (can_link b) (Link (suc b.given) ∷ []) []) b (still_cond (can_link b) (Link (suc b.given) ∷ []) [] (tt, tt) tt)
+  call_says (Input n packet) b h =
       on_a_line (line_at n b) (λ l. series (always (On n Hear ∷ []) ∷ on_packet env l packet l.session ∷ []))
-      (λ l. acts (always (On n Hear ∷ []) ∷ on_packet env l packet l.session ∷ []) (calm (On n Hear ∷ []) (((λ e c. refl), refl), tt), (reading l packet l.session, tt))) b h
-  call_tells (BadInput n is_connect code) b h = on_a_line (line_at n b) (λ l. on_fault env l is_connect code l.session) (λ l. at_fault l is_connect code l.session) b h
-  call_tells (Lost n) b h = on_a_line (line_at n b) (close env true) (closing true) b h
-  call_tells (Pump n) b h = on_a_line (line_at n b) (λ l. on_pump l l.session) (λ l. pumping l l.session) b h
-  call_tells Tick b h = ticking (due env b) (due_told b) b h
+      (λ l. acts (always (On n Hear ∷ []) ∷ on_packet env l packet l.session ∷ []) (calm (On n Hear ∷ []) (tt, tt), (reading l packet l.session, tt))) b h
+  call_says (BadInput n is_connect code) b h = on_a_line (line_at n b) (λ l. on_fault env l is_connect code l.session) (λ l. at_fault l is_connect code l.session) b h
+  call_says (Lost n) b h = on_a_line (line_at n b) (close env true) (closing true) b h
+  call_says (Pump n) b h = on_a_line (line_at n b) (λ l. on_pump l l.session) (λ l. pumping l l.session) b h
+  call_says Tick b h = ticking (due env b) (due_told b) b h
 
-  closed_if : (t : Bool) (s : Session) → TellsAct (close_if t env s)
-  closed_if false s b h = refl
-  closed_if true s b h = acts (always (At (whose s) (Close b.now) ∷ []) ∷ settle env s.birth ∷ []) (calm (At (whose s) (Close b.now) ∷ []) (((λ e c. refl), refl), tt), (settling s.birth, tt)) b h
+  closed_if : (t : Bool) (s : Session) → SaysAct (close_if t env s)
+  closed_if false s b h = nothing b
+  closed_if true s b h = acts (always (At (whose s) (Close b.now) ∷ []) ∷ settle env s.birth ∷ []) (calm (At (whose s) (Close b.now) ∷ []) (tt, tt), (settling s.birth, tt)) b h
 
-  pub opening_tells : TellsAct (opening env)
-  opening_tells b h = acts (map (λ s. close_if (is_connected s) env s) b.records.sessions) (each_act (λ (s : Session). close_if (is_connected s) env s) (λ s. closed_if (is_connected s) s) b.records.sessions) b h
+  pub opening_says : SaysAct (opening env)
+  opening_says b h = acts (map (λ s. close_if (is_connected s) env s) b.records.sessions) (each_act (λ (s : Session). close_if (is_connected s) env s) (λ s. closed_if (is_connected s) s) b.records.sessions) b h

@@ -1,0 +1,57 @@
+-- Worked runs: a subscriber of granted QoS 0 gets its copy at once, and a stop keeps it back (MQTT 5.0, 3.3.4, 4.3.1).
+use Rattle.std.proofs.Common.{◌≡◌, ℕ, false, List, [], ◌∷◌, ◌++◌, None, refl}
+use Rattle.std.specs.Prelude.{flat_map, length}
+use Rattle.mqtt_base.specs.Values.{varint}
+use Rattle.mqtt_base.specs.declared.session.Qos.TheVariants.{AtMostOnce}
+use Rattle.mqtt_rules.proofs.Play.{usual, topic, options}
+use Rattle.mqtt_laws.specs.Ends.{Wish}
+use Rattle.mqtt_laws.specs.World.{Event, publisher, receiver, connect_end, publish, subscribe, to_end, ask, to_broker, stop_after, receiver_named, start}
+use Rattle.mqtt_laws.specs.Run.{run}
+use Rattle.mqtt_world_laws.specs.AtOnce.{due_in, under_way}
+use Rattle.mqtt_world_laws.specs.Copies.{entered_from}
+use Rattle.mqtt_world_laws.specs.Steps.{steps_over}
+use Rattle.mqtt_world_laws.proofs.Examples.{turns, p1, r1, draft}
+
+abbrev wish : Wish
+wish = record { filter = topic; options = options AtMostOnce; identifier = None }
+
+abbrev subscribed : List Event
+subscribed =
+    receiver r1 10 ∷ connect_end r1 false ∷ ask (to_broker r1) ∷ to_end r1 ∷ subscribe r1 wish ∷ ask (to_broker r1) ∷ to_end r1
+    ∷ publisher p1 ∷ connect_end p1 false ∷ ask (to_broker p1) ∷ to_end p1 ∷ publish p1 draft ∷ []
+
+abbrev given : List Event
+given = subscribed ++ ask (to_broker p1) ∷ []
+
+abbrev stopped : List Event
+stopped = subscribed ++ stop_after (to_broker p1) ∷ []
+
+abbrev waiting_after : List Event → ℕ
+waiting_after es = length (under_way (receiver_named r1 (run usual (turns es) start)))
+
+abbrev due_after : List Event → ℕ
+due_after es = length (flat_map due_in (steps_over usual (turns es) start))
+
+pub nothing_is_under_way : waiting_after subscribed ≡ 0
+unfolding varint
+nothing_is_under_way = refl
+
+pub a_copy_is_due_at_once : due_after given ≡ 1
+unfolding varint
+a_copy_is_due_at_once = refl
+
+pub it_is_under_way : waiting_after given ≡ 1
+unfolding varint
+it_is_under_way = refl
+
+pub it_enters_no_queue : entered_from usual (turns given) start ≡ []
+unfolding varint
+it_enters_no_queue = refl
+
+pub it_is_due_in_a_stopped_step : due_after stopped ≡ 1
+unfolding varint
+it_is_due_in_a_stopped_step = refl
+
+pub a_stop_keeps_it_back : waiting_after stopped ≡ 0
+unfolding varint
+a_stop_keeps_it_back = refl
