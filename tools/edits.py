@@ -138,6 +138,23 @@ def functions_of(file, text):
     return functions, macros
 
 
+def calls_itself(function, lines):
+    """Returns whether the code of a function names itself, by the lines of its file: not its contract, and no field or value of that name."""
+    rows, name = lines[function.first - 1 : function.last], function.name
+    indent = rows[0][: len(rows[0]) - len(rows[0].lstrip())]
+    # (as rt fmt lays it out, the body ends at the indent of its head; with clauses above it, it begins there too)
+    end = next((at for at, it in enumerate(rows) if at and it in (indent + "}", indent + "{}")), len(rows))
+    starts = [at for at, it in enumerate(rows[:end]) if it == indent + "{"]
+    starts = starts or [at for at, it in enumerate(rows[:end]) if it.endswith("{") and it.startswith((indent + ")", rows[0]))]
+    begin = (starts or [0])[0]
+    head = "\n".join(rows[: begin + 1])
+    code = OPAQUE.sub(" ", "\n".join(rows[begin + 1 : end])) if starts else rows[0].partition("{")[2]
+    if function.owner:
+        return bool(re.search(rf"\b(?:Self|{function.owner[0]})::{name}\b|\.{name}\s*(?:::\s*<[^(]*>\s*)?\(", code))
+    is_value = re.search(rf"\b{name}\s*:[^:]", head) or re.search(rf"\blet\s+(?:mut\s+)?{name}\b", code)
+    return bool(re.search(rf"(?<![.:\w]){name}\s*(?:::\s*<[^(]*>\s*)?\(" if is_value else rf"(?<![.:\w]){name}\b", code))
+
+
 def provable_by_hand(folder):
     """Returns the functions of a crate that may have a proof of their own by hand, by the folder of proofs/ for it.
 
@@ -164,10 +181,8 @@ def provable_by_hand(folder):
             kind, of = it.owner or ("", "")
             way = homes.get(kind) if kind else it.modules
             head = "\n".join(lines[max(it.first - 9, 0) : it.first])
-            body = "\n".join(lines[it.first : it.last])
             is_plain = not it.outer and kind == of and way is not None and "macro" not in head
-            calls_itself = re.search(rf"(?:\b(?:Self|{kind})::|\.){it.name}\b" if kind else rf"(?<![.:\w]){it.name}\b", body)
-            if is_plain and not calls_itself and not re.search(r"#\[cycle|\bconst\s+fn\b|\btrait\b", head):
+            if is_plain and not calls_itself(it, lines) and not re.search(r"#\[cycle|\bconst\s+fn\b|\btrait\b", head):
                 found["/".join(["proofs", *way, *([kind] if kind else []), it.name])] = it
     return found
 
@@ -214,6 +229,18 @@ def functions_at(file, text, line):
     return inner[-1:]
 
 
+class Changed(str):
+    """A file's text with edits in it: `before` is the text without them, `places` where they stand there, each with its new text."""
+
+    def __new__(cls, before, places):
+        whole = before
+        for first, end, new in sorted(places, reverse=True):
+            whole = whole[:first] + new + whole[end:]
+        made = super().__new__(cls, whole)
+        made.before, made.places = before, places
+        return made
+
+
 class Edit:
     """A file *.edit: what it changes in the files of a crate, and who is to refuse it."""
 
@@ -235,7 +262,10 @@ class Edit:
         self.functions, self.lines = [], set()
 
     def apply(self, folder, texts):
-        """Returns the texts with this edit in them, and why it can't be applied, if so. The first call finds the functions that it changes."""
+        """Returns the texts with this edit in them, and why it can't be applied, if so. The first call finds the functions that it changes.
+
+        An old text has to stand once in the file as it is without any edit, whatever other edits put into it.
+        """
         texts = dict(texts)
         if not self.pairs:
             return texts, "it has no pair 'old:' and 'new:'"
@@ -244,16 +274,20 @@ class Edit:
                 return texts, f"there is no file {file} in src/, specs/ or proofs/"
             if file not in texts:
                 with open(f"{folder}/{file}", encoding="utf-8") as it:
-                    texts[file] = it.read()
-            found = texts[file].count(old)
+                    texts[file] = Changed(it.read(), [])
+            before = texts[file].before
+            found = before.count(old)
             if found != 1:
                 return texts, f"its old text stands {found} times in {file}, and not once"
-            line = texts[file].count("\n", 0, texts[file].index(old) + len(old) - len(old.lstrip())) + 1
+            at = before.index(old)
+            line = before.count("\n", 0, at + len(old) - len(old.lstrip())) + 1
             self.lines.add((file, line))
             if file.endswith(".rt"):
                 keys = [it.key for it in self.functions]
-                self.functions += [it for it in functions_at(file, texts[file], line) if it.key not in keys]
-            texts[file] = texts[file].replace(old, new)
+                self.functions += [it for it in functions_at(file, before, line) if it.key not in keys]
+            if any(at < end and first < at + len(old) for first, end, _ in texts[file].places):
+                return texts, f"another edit changes its old text in {file}"
+            texts[file] = Changed(before, [*texts[file].places, (at, at + len(old), new)])
         return texts, None
 
     def is_definition(self):
