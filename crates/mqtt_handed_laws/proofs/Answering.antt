@@ -1,5 +1,5 @@
 -- The broker reads an answer of a receiver's line: what the receiver sees of it is an event of its hop.
-use Rattle.std.proofs.Common.{◌≡◌, ℕ, Bool, true, false, cond, not, ◌||◌, List, [], ◌∷◌, ◌++◌, drop, map, Option, Some, None, nat_eq, bytes_eq, refl, sym, ap, subst, ◌∙◌, append-nil, inl, inr}
+use Rattle.std.proofs.Common.{◌≡◌, ℕ, Bool, true, false, cond, not, List, [], ◌∷◌, ◌++◌, drop, map, Option, Some, None, nat_eq, bytes_eq, refl, sym, ap, subst, ◌∙◌, append-nil, inl, inr}
 use Rattle.std.specs.Prelude.{⊤, Ok, Err, filter, filter_map, find, is_some, option_map}
 use Rattle.std.specs.List.{AllByRecursion, cons_option}
 use Rattle.std.proofs.lemmas.Bool.{cases_Bool, eqb-true}
@@ -19,17 +19,16 @@ use Rattle.mqtt_flow.specs.Outbound as rules
 use Rattle.mqtt_flow.specs.Outbound.{acknowledged, is_refusal, puback_at, puback_by, pubcomp_at, pubcomp_by, pubrec_at, pubrec_by, received, released_by}
 use Rattle.mqtt_flow.specs.OutboundWorld.{Lot, World as Hop, lots_after, queue_of, renewed, replied, start, step, to_broker, up_comes}
 use Rattle.mqtt_flow.specs.Queue.{holder, next_order}
-use Rattle.mqtt_flow.specs.Receiver.{Answer, Output, connect, disconnect, puback, pubrec, pubcomp, pubrel}
+use Rattle.mqtt_flow.specs.Receiver.{Answer, Output, disconnect, puback, pubrec, pubcomp, pubrel}
 use Rattle.mqtt_inbound.specs.Identifiers.{ids_without}
 use Rattle.mqtt_inbound.specs.Line.{sent_on}
 use Rattle.mqtt_laws.specs.Ends.{Back, Receiver, answers, wire_back}
-use Rattle.mqtt_laws.specs.Hops.{IsOnly}
 use Rattle.mqtt_laws.specs.Lines.{Down, copy_in, is_one_of, sent_to, unless_closed}
 use Rattle.mqtt_laws.specs.Seen.{is_linked}
 use Rattle.mqtt_laws.proofs.Names.{BeginNone, named_is, only_deeds}
 use Rattle.mqtt_laws.proofs.OwnStep.{heard_of, input_is, still_on}
 use Rattle.mqtt_laws.proofs.Publishes.{drop_is, line_none}
-use Rattle.mqtt_laws.proofs.Quiet.{AreQuiet, calm, session_on}
+use Rattle.mqtt_laws.proofs.Quiet.{calm, session_on}
 use Rattle.mqtt_laws.proofs.Seeing.{done_lines, done_sessions, linked_is, linked_of}
 use Rattle.mqtt_message.specs.Queue.{CopyRow}
 use Rattle.mqtt_records.specs.Session.{birth_of, columns_of, copy_place, in_phase, with_columns, with_phase, without_copy}
@@ -38,17 +37,17 @@ use Rattle.mqtt_records.specs.declared.session.Columns.{Columns}
 use Rattle.mqtt_records.specs.declared.session.Session.{Session}
 use Rattle.mqtt_rows.specs.Order.{change_row, remove_row, row_at}
 use Rattle.mqtt_rules.proofs.FlightRows.{change_row-here, found_key}
-use Rattle.mqtt_rules.specs.Deeds.{At, Close, Deed, Gone, Hear, Leave, Mark, On, Send, Whose, after, after_all, closing, line_after, on_line, output, part_rows_of, rows_of_all, stored_after, whose, without_place}
+use Rattle.mqtt_rules.specs.Deeds.{At, Close, Deed, Gone, Hear, Leave, Mark, On, Send, after_all, closing, line_after, on_line, output, part_rows_of, rows_of_all, stored_after, whose, without_place}
 use Rattle.mqtt_rules.specs.Inbound.{on_answer}
 use Rattle.mqtt_rules.specs.Outbound.{of_entry, turn_deeds}
 use Rattle.mqtt_rules.specs.Packets as packets
-use Rattle.mqtt_rules.specs.State.{Env, Line as BrokerLine, Broker, MemberChoice, entry_on, is_of, line_of, queue_on, session_at, session_named}
+use Rattle.mqtt_rules.specs.State.{Line as BrokerLine, Broker, MemberChoice, is_of, queue_on, session_at, session_named}
 use Rattle.mqtt_rules.specs.Step.{Input, at_moment, deeds, env_of, next_packet, stepped, told}
 use Rattle.mqtt_rules.specs.declared.Limits.{Limits}
 use Rattle.mqtt_records.specs.Records.{changed_all}
-use Rattle.mqtt_handed_laws.specs.Handing.{IsAloneOn, IsListening, IsRun, RunsOn, after_answer, reads_answer, receiver_after}
+use Rattle.mqtt_handed_laws.specs.Handing.{IsAloneOn, IsListening, IsRun, RunsOn, after_answer, reads_answer}
 use Rattle.mqtt_handed_laws.specs.Seen.{AreQueued, Numbering, StandOn, answered, handed_in, heard_in, lot_on, seen, still_standing, went_in}
-use Rattle.mqtt_handed_laws.specs.Tags.{AreNumbered, AreTagged, IsTagged, WasTagged, id_of}
+use Rattle.mqtt_handed_laws.specs.Tags.{AreNumbered, AreTagged, IsTagged, id_of}
 use Rattle.mqtt_handed_laws.proofs.Refusals.{run_append}
 use Rattle.mqtt_handed_laws.proofs.Turns.{ids_after, left_lots, none_left, released_lots, renewed_lots, repeated_lots, same_entries, unknown_lots}
 

@@ -1,5 +1,5 @@
 -- What a receiver does and reads is what the receiver of its hop does and reads (MQTT 5.0, 4.3.2, 4.3.3, 4.4).
-use Rattle.std.proofs.Common.{◌≡◌, ℕ, Bool, true, false, cond, if◌then◌else◌, List, [], ◌∷◌, ◌++◌, map, Option, Some, None, nat_lt, refl, sym, ap, subst, ◌∙◌}
+use Rattle.std.proofs.Common.{◌≡◌, ℕ, Bool, true, false, cond, if◌then◌else◌, List, [], ◌∷◌, ◌++◌, map, Option, None, nat_lt, refl, sym, ap, subst, ◌∙◌}
 use Rattle.std.specs.Prelude.{⊤, filter_map, is_some}
 use Rattle.std.specs.List.{AllByRecursion, cons_option}
 use Rattle.mqtt_base.specs.Codes.{success, identifier_not_found}

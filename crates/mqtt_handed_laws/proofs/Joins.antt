@@ -1,11 +1,10 @@
 -- A receiver joins by a new line: it is that event of its hop.
 use Rattle.std.proofs.Common.{◌≡◌, ℕ, suc, Bool, true, false, cond, ◌||◌, List, [], ◌∷◌, ◌++◌, map, Option, Some, None, nat_eq, refl, sym, ap, subst, ◌∙◌, arith}
 use Rattle.std.specs.Prelude.{find, filter_map, is_some, option_map}
-use Rattle.std.proofs.lemmas.Bool.{cases_Bool}
 use Rattle.std.proofs.lemmas.Cmp.{nat_eq_equiv}
 use Rattle.mqtt_rows.specs.Order.{IsBelow}
 use Rattle.mqtt_rows.proofs.OrderLemmas.{apart}
-use Rattle.mqtt_flow.specs.OutboundWorld.{Lot, World as Hop, make_line, run, start, step}
+use Rattle.mqtt_flow.specs.OutboundWorld.{Lot, World as Hop, make_line, start, step}
 use Rattle.mqtt_flow.specs.Receiver.{connect, joins}
 use Rattle.mqtt_inbound.specs.Line.{Link, away, asked}
 use Rattle.mqtt_records.specs.declared.session.Session.{Session}

@@ -1,8 +1,8 @@
 -- A receiver's line is lost: it is that event of its hop.
-use Rattle.std.proofs.Common.{◌≡◌, ℕ, Bool, true, false, not, List, [], ◌∷◌, ◌++◌, map, Option, Some, None, nat_eq, bytes_eq, refl, sym, ap, subst, ◌∙◌}
-use Rattle.std.specs.Prelude.{filter, filter_map, find, is_some}
+use Rattle.std.proofs.Common.{◌≡◌, ℕ, Bool, true, List, [], ◌∷◌, ◌++◌, map, Option, Some, None, bytes_eq, sym, ap, subst, ◌∙◌}
+use Rattle.std.specs.Prelude.{filter_map, find, is_some}
 use Rattle.mqtt_flow.specs.OutboundWorld.{Lot, World as Hop, break_line, renewed, start, step}
-use Rattle.mqtt_laws.specs.Ends.{Back, Receiver}
+use Rattle.mqtt_laws.specs.Ends.{Receiver}
 use Rattle.mqtt_laws.specs.Lines.{is_one_of, unless_closed}
 use Rattle.mqtt_laws.proofs.Names.{named_is, only_deeds}
 use Rattle.mqtt_laws.proofs.Publishes.{session_closes}

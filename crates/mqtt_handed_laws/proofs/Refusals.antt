@@ -1,9 +1,8 @@
 -- A receiver's line, in every run of its hop: a CONNACK that refuses comes first and where one is awaited, and no Clean
 -- Start is under way once CONNACK was read (MQTT 5.0, 3.1.2.4, 3.2).
-use Rattle.std.proofs.Common.{◌≡◌, ◌⊎◌, inl, inr, ℕ, suc, Bool, true, false, List, [], ◌∷◌, ◌++◌, Option, Some, None, nat_eq, refl, sym, ap, subst, ◌∙◌}
+use Rattle.std.proofs.Common.{◌≡◌, inl, inr, ℕ, suc, Bool, true, false, List, [], ◌∷◌, ◌++◌, Some, None, nat_eq, refl, sym, ap, subst, ◌∙◌}
 use Rattle.std.specs.Prelude.{⊤, Ok, Err}
 use Rattle.std.specs.List.{AllByRecursion, list_any}
-use Rattle.mqtt_base.specs.Codes.{success, identifier_not_found}
 use Rattle.mqtt_flow.specs.declared.entry.QueueLimits.{QueueLimits}
 use Rattle.mqtt_flow.specs.declared.entry.QueuedCopy.{QueuedCopy}
 use Rattle.mqtt_flow.specs.declared.entry.Turn.{Turn}

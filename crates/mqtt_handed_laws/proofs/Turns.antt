@@ -1,9 +1,7 @@
 -- What an answer's turn makes of the copies that stand in a queue: the copies of the hop and those of the session agree.
-use Rattle.std.proofs.Common.{◌≡◌, ℕ, Bool, true, false, cond, List, [], ◌∷◌, map, Option, Some, None, nat_eq, refl, sym, ap, subst, ◌∙◌, arith, inl, inr}
+use Rattle.std.proofs.Common.{◌≡◌, ℕ, Bool, true, false, cond, List, [], ◌∷◌, map, Some, None, nat_eq, refl, sym, ap, subst, ◌∙◌, arith, inl, inr}
 use Rattle.std.proofs.lemmas.Bool.{cases_Bool, eqb-true}
 use Rattle.mqtt_base.specs.declared.session.Ending.{Ending}
-use Rattle.mqtt_base.specs.declared.session.CopyId.{CopyId}
-use Rattle.mqtt_base.specs.declared.session.Phase.{Phase}
 use Rattle.mqtt_base.specs.declared.session.Phase.TheVariants.{Released}
 use Rattle.mqtt_flow.specs.declared.entry.Entry.{Entry as FlowEntry}
 use Rattle.mqtt_flow.specs.declared.entry.Turn.{Turn}

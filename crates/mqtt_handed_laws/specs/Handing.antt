@@ -1,6 +1,7 @@
 -- What a receiver has read of its copies, where what it sees of the world is a run of its hop; and its own doings (MQTT
 -- 5.0, 4.3.2, 4.3.3, 4.6).
-use Rattle.std.specs.Prelude.{◌≡◌, ℕ, suc, ⊤, Bool, true, false, List, [], ◌∷◌, map, Option, Some, None, slice_get, option_map}
+use Rattle.std.specs.Prelude.{◌≡◌, ℕ, suc, ⊤, Bool, true, false, List, [], ◌∷◌, map, Some, None}
+use Rattle.std.specs.Prelude.{slice_get, option_map}
 use Rattle.std.specs.List.{AllByRecursion}
 use Rattle.mqtt_base.specs.declared.session.CopyId.{CopyId}
 use Rattle.mqtt_flow.specs.OutboundCourse.{carried_by}
@@ -15,7 +16,8 @@ use Rattle.mqtt_records.specs.Session.{copy_place}
 use Rattle.mqtt_records.specs.declared.session.Session.{Session}
 use Rattle.mqtt_rows.specs.Order.{IsAscending, IsBelow}
 use Rattle.mqtt_rules.specs.Lines.{line_number}
-use Rattle.mqtt_rules.specs.State.{Line as BrokerLine, Broker, MemberChoice, line_at, line_of, session_at, session_named}
+use Rattle.mqtt_rules.specs.State.{Line as BrokerLine, Broker, MemberChoice, line_at, line_of, session_at}
+use Rattle.mqtt_rules.specs.State.{session_named}
 use Rattle.mqtt_rules.specs.Closing.{never}
 use Rattle.mqtt_rules.specs.Step.{Call, Input, Lost, NewLine, can_link, stepped, told}
 use Rattle.mqtt_rules.specs.declared.Limits.{Limits}
@@ -24,7 +26,8 @@ use Rattle.mqtt_handed_laws.specs.Tags.{AreNumbered, AreTagged, id_of}
 
 -- ---- runs of a hop
 
--- the receiver, with this Maximum Packet Size on each of its lines, sees what some events of its hop make, and the copies that stand are those of its session's queue
+-- the receiver, with this Maximum Packet Size on each of its lines, sees what some events of its hop make, and the
+-- copies that stand are those of its session's queue
 pub record IsRun (number : Numbering) (largest : ℕ) (copies : List Lot) (r : Receiver) (b : Broker) : Type 0 where
   pub events : List HopEvent
   pub seen_is : seen number copies r b ≡ run largest events start

@@ -1,5 +1,6 @@
 -- What one receiver and its session see of the world: an outbound hop, as `mqtt_flow` has it (MQTT 5.0, 4.3, 4.4).
-use Rattle.std.specs.Prelude.{◌≡◌, ℕ, Bool, true, false, cond, List, [], ◌∷◌, filter_map, map, nat_lt, Option, Some, None, option_map, is_some}
+use Rattle.std.specs.Prelude.{◌≡◌, ℕ, Bool, true, false, cond, List, [], ◌∷◌, filter_map, map, nat_lt, Option}
+use Rattle.std.specs.Prelude.{Some, None, option_map, is_some}
 use Rattle.mqtt_base.specs.declared.session.CopyId.{CopyId}
 use Rattle.mqtt_codec.specs.declared.packet.Packet.{Packet}
 use Rattle.mqtt_codec.specs.declared.packet.Packet.TheVariants.{Connack, Publish, Pubrel, Disconnect}

@@ -35,10 +35,10 @@ pub fn own_doings_of_a_receiver_are_steps_of_the_hop()
     ensures gives_up { (number : Numbering) (largest : ℕ) (copies : List Lot) (r : Receiver) (b : Broker)
         → IsRun number largest copies r b → MayPart r.line.link r.line.clean
         → IsRun number largest copies (record r { line = gives_up r.line.link r.line }) b }
-    ensures asks { (number : Numbering) (largest : ℕ) (copies : List Lot) (t : Bool) (w : Wish) (r : Receiver) (b : Broker)
-        → IsRun number largest copies r b → IsRun number largest copies (asks_wish t w r) b }
-    ensures joins { (number : Numbering) (largest : ℕ) (copies : List Lot) (limits : Limits) (choice : MemberChoice) (now : ℕ)
-        → (clean : Bool) (r : Receiver) (b : Broker)
+    ensures asks { (number : Numbering) (largest : ℕ) (copies : List Lot) (t : Bool) (w : Wish) (r : Receiver)
+        → (b : Broker) → IsRun number largest copies r b → IsRun number largest copies (asks_wish t w r) b }
+    ensures joins { (number : Numbering) (largest : ℕ) (copies : List Lot) (limits : Limits)
+        → (choice : MemberChoice) (now : ℕ) (clean : Bool) (r : Receiver) (b : Broker)
         → IsRun number largest copies r b → MayComeBack clean r b
         → IsRun number largest copies (receiver_joined limits choice now clean r b)
         (stepped limits choice now NewLine b) }

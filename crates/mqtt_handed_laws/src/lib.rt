@@ -5,6 +5,6 @@
 mod laws;
 
 pub use laws::{
-    a_lost_line_is_a_step_of_the_hop, a_run_of_the_hop_hands_over_once, answers_of_a_receiver_are_steps_of_the_hop,
-    own_doings_of_a_receiver_are_steps_of_the_hop,
+    a_lost_line_is_a_step_of_the_hop, a_run_of_the_hop_hands_over_once,
+    answers_of_a_receiver_are_steps_of_the_hop, own_doings_of_a_receiver_are_steps_of_the_hop,
 };
