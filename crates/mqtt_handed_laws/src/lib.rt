@@ -1,0 +1,10 @@
+//! Laws of what receivers are handed: what a receiver and its session see of the world is an outbound hop
+//! (MQTT 5.0, 4.3, 4.4).
+#![tactic(auto)]
+
+mod laws;
+
+pub use laws::{
+    a_lost_line_is_a_step_of_the_hop, a_run_of_the_hop_hands_over_once,
+    answers_of_a_receiver_are_steps_of_the_hop, own_doings_of_a_receiver_are_steps_of_the_hop,
+};
