@@ -1,6 +1,32 @@
-//! Tests of the broker over its public calls: what it tells, what it refuses, streams that are cut, changed or made to cost
-//! much, a store that fails (MQTT 5.0, 2.1, 3, 4).
+//! Tests of the broker over its public calls, as scripts: what it tells, what it refuses, streams that are cut, changed or made
+//! to cost much, a store that fails (MQTT 5.0, 2.1, 3, 4).
 #![tactic(auto)]
 
 #[cfg(test)]
+mod broker;
+#[cfg(test)]
+mod checks;
+#[cfg(test)]
+mod costly;
+#[cfg(test)]
+mod engine;
+#[cfg(test)]
+mod judging;
+#[cfg(test)]
+mod kept;
+#[cfg(test)]
+mod play;
+#[cfg(test)]
 mod playing;
+#[cfg(test)]
+mod reading;
+#[cfg(test)]
+mod run;
+#[cfg(test)]
+mod scripts;
+#[cfg(test)]
+mod streams;
+#[cfg(test)]
+mod sweeps;
+#[cfg(test)]
+mod telling;

@@ -1,6 +1,6 @@
 //! What is asked of the broker by scripts (MQTT 5.0, 2.1, 3 and 4).
 
-use mqtt_stage::{What, check};
+use crate::checks::{What, check};
 use std::hash::RandomState;
 use std::test::Fail;
 

@@ -6,7 +6,7 @@ use Rattle.mqtt_cli.specs.declared.outcome.TheConstants.{DONE, FAULTY, USAGE, FA
 use Rattle.mqtt_cli.specs.declared.line.LineFault.TheVariants as line
 use Rattle.mqtt_cli.specs.declared.outcome.Outcome.{Outcome}
 use Rattle.mqtt_cli.specs.declared.outcome.Outcome.TheVariants.{Done, Line, NoFile, View, Vectors, Served, Serve}
-use Rattle.mqtt_serve.specs.declared.fault.ServeFault.TheVariants as serve
+use Rattle.mqtt_serve_fault.specs.declared.fault.ServeFault.TheVariants as serve
 use Rattle.mqtt_viewing.specs.declared.vectors_checker.VectorsFault.TheVariants as vectors
 use Rattle.mqtt_viewing.specs.declared.viewer.Status.TheVariants.{Whole, Faulty}
 use Rattle.mqtt_viewing.specs.declared.viewer.ViewFault.TheVariants.{Read, Write, Memory}

@@ -4,7 +4,7 @@ ghost use Rattle.std.specs.Prelude.{◌≡◌};
 ghost use Rattle.mqtt_cli.specs.Outcome.{exit_status, error_text};
 
 use crate::line::LineFault;
-use mqtt_serve::ServeFault;
+use mqtt_serve_fault::ServeFault;
 use mqtt_viewing::{Status, VectorsFault, ViewFault};
 
 /// The exit status of a command that is done.

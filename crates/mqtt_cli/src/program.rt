@@ -3,11 +3,11 @@
 use crate::line::{Action, LineFault};
 use crate::outcome::Outcome;
 use crate::words::action;
-use mqtt_serve::serve;
+use mqtt_serve_fault::ServeFault;
 use mqtt_viewing::{ViewFault, vectors, view};
 use std::alloc::{AllocError, Global};
 use std::io::{self, ErrorKind, Read};
-use std::net::{SocketAddr, SocketAddrV4};
+use std::net::SocketAddrV4;
 use std::{env, fs};
 
 /// Why the process's arguments cannot be had: memory is wanting, or one of them is no text.
@@ -41,9 +41,9 @@ fn run_vectors<R: Print + AllocGlobal>(rt: &R) -> Outcome {
     }
 }
 
-/// Serves for so many turns, and writes to standard output.
-fn run_serve(rt: &HostRuntime, listen: SocketAddrV4, db: &str, turns: u32) -> Outcome {
-    match serve(rt, SocketAddr::V4(listen), db, turns, &mut io::writer(rt)) {
+/// What came of serving.
+fn served(ended: Result<(), ServeFault>) -> Outcome {
+    match ended {
         Ok(()) => Outcome::Served,
         Err(fault) => Outcome::Serve(fault),
     }
@@ -51,8 +51,14 @@ fn run_serve(rt: &HostRuntime, listen: SocketAddrV4, db: &str, turns: u32) -> Ou
 
 /// Does what the process's arguments ask for. The command line is looked at first, then the file
 /// or the database, then the socket. What files, sockets, standard input and standard output hold
-/// no contract can say; `action`, `view` and `vectors` say the rest.
-pub fn run(rt: &HostRuntime) -> Outcome {
+/// no contract can say; `action`, `view` and `vectors` say the rest. What serves at an address, over the database at a
+/// path, for so many turns, is handed in: so nothing of the command line stands on the server.
+pub fn run<F: Fn(SocketAddrV4, &str, u32) -> Result<(), ServeFault>>(
+    rt: &HostRuntime,
+    serve: &F,
+) -> Outcome
+    requires { F.IsAlwaysCallable serve.now }
+{
     let words = match env::args(rt) {
         Ok(words) => words.collect::<Vec<String>>(rt.alloc()),
         Err(error) => return Outcome::Line(no_words(rt.alloc(), error)),
@@ -63,7 +69,7 @@ pub fn run(rt: &HostRuntime) -> Outcome {
     match action(rt.alloc(), words.as_slice()) {
         Err(fault) => Outcome::Line(fault),
         Ok(Action::Vectors) => run_vectors(rt),
-        Ok(Action::Serve { listen, db, turns }) => run_serve(rt, listen, db, turns),
+        Ok(Action::Serve { listen, db, turns }) => served(serve(listen, db, turns)),
         Ok(Action::View { file: "-", payload }) => run_view(rt, rt.reader(), payload),
         Ok(Action::View { file, payload }) => match fs::open(rt, file) {
             Ok(file) => run_view(rt, file, payload),

@@ -2,10 +2,9 @@
 #![tactic(auto)]
 
 mod clock;
-mod fault;
 mod poll_link;
 mod serving;
 mod store;
 
-pub use fault::ServeFault;
+pub use mqtt_serve_fault::ServeFault;
 pub use serving::serve;

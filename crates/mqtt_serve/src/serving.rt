@@ -4,9 +4,9 @@ ghost use Rattle.std.specs.Io.KnownBytes.{Appends, Keeps};
 ghost use Rattle.mqtt_serve.specs.Announcing.{Announces, done, listening};
 
 use crate::clock::moment;
-use crate::fault::ServeFault;
 use crate::poll_link::PollLink;
 use crate::store::{close_database, open_database, open_engine, stopped_by, store_over};
+use mqtt_serve_fault::ServeFault;
 use mqtt_serving::{Engine, Keep, Links, serve_turn};
 use sqlite::{Alter, Connection};
 use std::io;

@@ -1,7 +1,7 @@
 //! The store of the server: a database in a file (MQTT 5.0, 4.1).
 ghost use Rattle.std.specs.Prelude.{◌≡◌, ◌≢◌, IfErr};
 
-use crate::fault::ServeFault;
+use mqtt_serve_fault::ServeFault;
 use mqtt_serving::{Engine, EngineError, Full, Keep, KeepError, Limits};
 use mqtt_store::SqlKeep;
 use sqlite::{Alter, Connection, Error, ErrorCode, File, FileStore};
