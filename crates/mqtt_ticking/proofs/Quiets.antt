@@ -106,8 +106,8 @@ none_found test (x ∷ xs) h = rw h.0 (none_found test xs h.1)
 none_late : (now : ℕ) (es : List CopyRow) → AllByRecursion (IsFresh now) es → list_any (λ (e : CopyRow). is_waiting e.phase && is_expired now e.copy.content) es ≡ false
 none_late now [] h = refl
 none_late now (e ∷ es) h = elim (cases_Bool (is_waiting e.phase)) [
-    | inl waits ↦ rw waits (rw (h.0 waits) (none_late now es h.1))
-    | inr sent ↦ rw sent (none_late now es h.1)
+  | inl waits ↦ rw waits (rw (h.0 waits) (none_late now es h.1))
+  | inr sent ↦ rw sent (none_late now es h.1)
 ]
 
 none_lapsed : (now : ℕ) (s : Session) → IsQuiet now s → has_lapsed now s ≡ false

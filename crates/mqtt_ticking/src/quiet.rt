@@ -140,13 +140,7 @@ fn change_before(change: &Change) -> u64
         Change::SetSession { row } => columns_before(row),
         Change::PutSession { .. } | Change::PutWill { .. } => 0,
         Change::PutCopy { row, .. } => row_before(row.get()),
-        Change::SetCopy { phase, .. } => {
-            if is_waiting(*phase) {
-                0
-            } else {
-                NEVER
-            }
-        }
+        Change::SetCopy { phase, .. } => { if is_waiting(*phase) { 0 } else { NEVER } }
         Change::PutRetained { kept } => content_before(&kept.get().content),
         Change::SetCounter { .. }
         | Change::RemoveSession { .. }
