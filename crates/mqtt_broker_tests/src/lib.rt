@@ -9,7 +9,11 @@ mod checks;
 #[cfg(test)]
 mod costly;
 #[cfg(test)]
+mod ends;
+#[cfg(test)]
 mod engine;
+#[cfg(test)]
+mod handshakes;
 #[cfg(test)]
 mod judging;
 #[cfg(test)]
@@ -23,6 +27,8 @@ mod reading;
 #[cfg(test)]
 mod run;
 #[cfg(test)]
+mod scenes;
+#[cfg(test)]
 mod scripts;
 #[cfg(test)]
 mod streams;
@@ -30,3 +36,5 @@ mod streams;
 mod sweeps;
 #[cfg(test)]
 mod telling;
+#[cfg(test)]
+mod turning;
