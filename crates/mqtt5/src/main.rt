@@ -8,9 +8,12 @@ use std::net::SocketAddr;
 use std::process::ExitCode;
 
 fn main(rt: HostRuntime) -> ExitCode {
-    let outcome = run(&rt, &|listen, db, turns| {
-        serve(&rt, SocketAddr::V4(listen), db, turns, &mut io::writer(&rt))
-    });
+    let outcome = run(
+        &rt,
+        &|listen, db, turns| {
+            serve(&rt, SocketAddr::V4(listen), db, turns, &mut io::writer(&rt))
+        },
+    );
     let (status, text) = ending(&outcome);
     let _ = eprint!(rt; "{text}");
     ExitCode::from(status)

@@ -49,7 +49,11 @@ fn turns_over_ends_in_memory_tell_what_they_should(rt: HostRuntime) -> Result<()
         behind: None,
     };
     for scene in &SCENES {
-        assert!(rt; goes_anew(rt.alloc(), hasher, scene, failing)?, "{}", scene.what);
+        assert!(rt;
+            goes_anew(rt.alloc(), hasher, scene, failing)?,
+            "{}",
+            scene.what
+        );
     }
     Ok(())
 }
@@ -62,14 +66,20 @@ fn a_call_that_fails_changes_no_byte_of_another_line(rt: HostRuntime) -> Result<
             accept,
             behind: None,
         };
-        assert!(rt; goes_anew(rt.alloc(), hasher, &BESIDE, failing)?, "accept {accept}");
+        assert!(rt;
+            goes_anew(rt.alloc(), hasher, &BESIDE, failing)?,
+            "accept {accept}"
+        );
     }
     for calls in 0..40 {
         let failing = Failing {
             accept: 0,
             behind: Some(calls),
         };
-        assert!(rt; goes_anew(rt.alloc(), hasher, &BESIDE, failing)?, "behind {calls} calls");
+        assert!(rt;
+            goes_anew(rt.alloc(), hasher, &BESIDE, failing)?,
+            "behind {calls} calls"
+        );
     }
     Ok(())
 }
