@@ -2,7 +2,6 @@
 use Rattle.std.proofs.Common.{◌≡◌, ℕ, true, false, List, [], ◌∷◌, ◌++◌, length, Option, Some, None, refl}
 use Rattle.std.specs.Prelude.{codes, option_map, filter_map, map}
 use Rattle.mqtt_base.specs.Values.{varint}
-use Rattle.mqtt_base.specs.declared.session.Qos.TheVariants.{ExactlyOnce}
 use Rattle.std.specs.Str.{is_utf8, chars}
 use Rattle.std.proofs.Math.Utf8.{encode}
 use Rattle.mqtt_base.specs.Reading.{groups_at, varint_at, blob_at, text_at}
@@ -16,31 +15,16 @@ use Rattle.mqtt_codec.specs.Publish.{delivery_at, publish_at}
 use Rattle.mqtt_codec.specs.Frames.{frame_at, body_at, versioned_at, lawful_at, packet_at}
 use Rattle.mqtt_packet.specs.Front.{size_at, first_of}
 use Rattle.mqtt_rules.specs.Packets.{pubrec, disconnect}
-use Rattle.mqtt_inbound.specs.Publisher.{Fate, ended, completed, forgotten}
+use Rattle.mqtt_inbound.specs.Publisher.{PUBREL, Fate, ended, completed, forgotten}
 use Rattle.mqtt_rules.specs.declared.Report.{Report}
 use Rattle.mqtt_rules.specs.declared.Report.TheVariants.{Accepted, Entered, Released, Ended}
-use Rattle.mqtt_rules.specs.State.{MemberChoice}
 use Rattle.mqtt_rules.specs.Deeds.{report, output}
-use Rattle.mqtt_rules.proofs.Play.{usual, topic, hi, options, bytes, welcome}
-use Rattle.mqtt_laws.specs.Ends.{Publisher, Draft, Wish, Receiver, Entry}
-use Rattle.mqtt_laws.specs.World.{Event, publisher, receiver, connect_end, give_up, publish, subscribe, to_end, ask, break, restart, stop_before, stop_after, to_broker, old_to_broker, pump, stranger, publisher_named, receiver_named}
-use Rattle.mqtt_laws.specs.Run.{Turn, after, deeds_over, accepted_over}
+use Rattle.mqtt_rules.proofs.Play.{usual, bytes, welcome}
+use Rattle.mqtt_laws.specs.Ends.{Sent, shake, Publisher, Receiver, Entry}
+use Rattle.mqtt_laws.specs.World.{Event, publisher, connect_end, give_up, publish, to_end, ask, break, restart, stop_before, stop_after, to_broker, old_to_broker, pump, stranger, publisher_named, receiver_named}
+use Rattle.mqtt_laws.specs.Run.{after, deeds_over, accepted_over}
 use Rattle.mqtt_laws.specs.World.{start}
-
-abbrev first : MemberChoice
-first n sender = []
-
-abbrev turn : Event → Turn
-turn e = record { event = e; choice = first }
-
-abbrev turns : List Event → List Turn
-turns es = map turn es
-
-abbrev p1 : List ℕ
-p1 = codes "p1"
-
-abbrev draft : Draft
-draft = record { qos = ExactlyOnce; content = record { retain = false; topic = topic; payload = hi } }
+use Rattle.mqtt_laws.proofs.Scripts.{turns, p1, r1, draft, published, silent, sends_out, tellings}
 
 -- the message is accepted, its PUBREC read, and its PUBREL under way on a line that is given up
 abbrev released : List Event
@@ -73,6 +57,12 @@ pub old_first_accepts : accepted_over p1 usual (turns old_first) start ≡ 0 ∷
 unfolding varint
 old_first_accepts = refl
 
+pub old_first_is_told : tellings old_first
+    ≡ silent ∷ silent ∷ sends_out 1 ∷ silent ∷ silent ∷ record { reports = Accepted 1 ∷ []; out = 1 } ∷ silent ∷ silent ∷ silent
+    ∷ record { reports = Released 1 p1 1 ∷ []; out = 1 } ∷ sends_out 2 ∷ silent ∷ sends_out 1 ∷ silent ∷ []
+unfolding varint
+old_first_is_told = refl
+
 pub old_first_tells : reports_of old_first ≡ Accepted 1 ∷ Released 1 p1 1 ∷ []
 unfolding varint
 old_first_tells = refl
@@ -85,23 +75,34 @@ pub connect_first_accepts : accepted_over p1 usual (turns connect_first) start �
 unfolding varint
 connect_first_accepts = refl
 
+pub connect_first_is_told : tellings connect_first
+    ≡ silent ∷ silent ∷ sends_out 1 ∷ silent ∷ silent ∷ record { reports = Accepted 1 ∷ []; out = 1 } ∷ silent ∷ silent ∷ silent
+    ∷ sends_out 2 ∷ silent ∷ silent ∷ record { reports = Released 1 p1 1 ∷ []; out = 1 } ∷ silent ∷ []
+unfolding varint
+connect_first_is_told = refl
+
 -- CONNACK, PUBREC, DISCONNECT 8E, CONNACK, PUBCOMP
 pub connect_first_sends : sent_count connect_first ≡ 5
 unfolding varint
 connect_first_sends = refl
 
+-- what was under way on the line that was given up is dropped as CONNECT takes the session over (3.1.4)
+abbrev old_line : List Event → Option (List Sent)
+old_line es = option_map (λ (p : Publisher). p.line.old) (publisher_named p1 (after usual (turns es)))
+
+pub a_pubrel_is_under_way : old_line released ≡ Some (shake (PUBREL 1) ∷ [])
+unfolding varint
+a_pubrel_is_under_way = refl
+
+pub a_takeover_drops_the_old_line : old_line (released ++ ask (to_broker p1) ∷ []) ≡ Some []
+unfolding varint
+a_takeover_drops_the_old_line = refl
+
 -- ---- a receiver: a stop after the pump's commit, and the resent copy (4.4)
 
-abbrev r1 : List ℕ
-r1 = codes "r1"
-
-abbrev wish : Wish
-wish = record { filter = topic; options = options ExactlyOnce; identifier = None }
-
-abbrev stopped : List Event
+abbrev pub stopped : List Event
 stopped =
-    receiver r1 10 ∷ publisher p1 ∷ connect_end r1 false ∷ ask (to_broker r1) ∷ to_end r1 ∷ subscribe r1 wish ∷ ask (to_broker r1) ∷ to_end r1
-    ∷ connect_end p1 false ∷ ask (to_broker p1) ∷ to_end p1 ∷ publish p1 draft ∷ ask (to_broker p1) ∷ stop_after (pump r1)
+    published ++ ask (to_broker p1) ∷ stop_after (pump r1)
     ∷ connect_end r1 false ∷ ask (to_broker r1) ∷ to_end r1 ∷ ask (pump r1) ∷ to_end r1 ∷ ask (to_broker r1) ∷ to_end r1 ∷ ask (to_broker r1) ∷ []
 
 abbrev receiver_after : List Event → Option Receiver
@@ -157,14 +158,9 @@ a_stranger_may_not_name_an_end = refl
 
 -- ---- a PUBREC that is lost: the copy comes again, and is handed over once (4.3.3, 4.4)
 
-abbrev greeted : List Event
-greeted =
-    receiver r1 10 ∷ publisher p1 ∷ connect_end r1 false ∷ ask (to_broker r1) ∷ to_end r1 ∷ subscribe r1 wish ∷ ask (to_broker r1) ∷ to_end r1
-    ∷ connect_end p1 false ∷ ask (to_broker p1) ∷ to_end p1 ∷ publish p1 draft ∷ ask (to_broker p1) ∷ []
-
 abbrev lost_answer : List Event
 lost_answer =
-    greeted ++ ask (pump r1) ∷ to_end r1 ∷ ask (break r1) ∷ connect_end r1 false ∷ ask (to_broker r1) ∷ to_end r1 ∷ ask (pump r1) ∷ to_end r1
+    published ++ ask (to_broker p1) ∷ ask (pump r1) ∷ to_end r1 ∷ ask (break r1) ∷ connect_end r1 false ∷ ask (to_broker r1) ∷ to_end r1 ∷ ask (pump r1) ∷ to_end r1
     ∷ ask (to_broker r1) ∷ to_end r1 ∷ ask (to_broker r1) ∷ []
 
 pub a_lost_answer_hands_once : option_map (λ (r : Receiver). map (λ (e : Entry). e.copy) r.ledger) (receiver_after lost_answer)
