@@ -1,9 +1,6 @@
 -- A receiver joins by a new line: it is that event of its hop.
-use Rattle.std.proofs.Common.{◌≡◌, ℕ, suc, Bool, true, false, cond, ◌||◌, List, [], ◌∷◌, ◌++◌, map, Option, Some, None, nat_eq, refl, sym, ap, subst, ◌∙◌, arith}
+use Rattle.std.proofs.Common.{◌≡◌, ℕ, suc, Bool, true, false, cond, ◌||◌, List, [], ◌∷◌, ◌++◌, map, Option, Some, None, refl, sym, ap, subst, ◌∙◌}
 use Rattle.std.specs.Prelude.{find, filter_map, is_some, option_map}
-use Rattle.std.proofs.lemmas.Cmp.{nat_eq_equiv}
-use Rattle.mqtt_rows.specs.Order.{IsBelow}
-use Rattle.mqtt_rows.proofs.OrderLemmas.{apart}
 use Rattle.mqtt_flow.specs.OutboundWorld.{Lot, World as Hop, make_line, start, step}
 use Rattle.mqtt_flow.specs.Receiver.{connect, joins}
 use Rattle.mqtt_inbound.specs.Line.{Link, away, asked}
@@ -11,28 +8,14 @@ use Rattle.mqtt_records.specs.declared.session.Session.{Session}
 use Rattle.mqtt_rules.specs.declared.Limits.{Limits}
 use Rattle.mqtt_rules.specs.State.{Line as BrokerLine, Broker, MemberChoice, is_of, session_named}
 use Rattle.mqtt_rules.specs.Deeds.{Link as Linked, fresh_line, after}
-use Rattle.mqtt_rules.specs.Lines.{line_number}
-use Rattle.mqtt_rules.specs.Step.{NewLine, Outcome, at_moment, can_link, done, nothing_told, outcome_of, stepped, told}
+use Rattle.mqtt_rules.specs.Step.{NewLine, Outcome, at_moment, stepped, told}
 use Rattle.mqtt_laws.specs.Ends.{Receiver}
 use Rattle.mqtt_laws.specs.Lines.{is_one_of, unless_closed}
-use Rattle.mqtt_laws.specs.Seen.{has_session, is_linked}
+use Rattle.mqtt_laws.specs.Seen.{is_linked}
+use Rattle.mqtt_laws.proofs.Joins.{carries, fresh_free, new_is, none_closed, told_none}
 use Rattle.mqtt_handed_laws.specs.Handing.{IsRun, MayComeBack, receiver_joined}
 use Rattle.mqtt_handed_laws.specs.Seen.{AreQueued, Numbering, StandOn, answered, handed_in, seen}
 use Rattle.mqtt_handed_laws.proofs.Refusals.{run_append}
-
--- the broker after it: a line is given, and nothing is told
-new_is : (limits : Limits) (choice : MemberChoice) (now : ℕ) (b : Broker) → can_link b ≡ true → stepped limits choice now NewLine b ≡ after (Linked (suc b.given)) (at_moment now b)
-new_is limits choice now b can = ap (λ (t : Bool). done (cond t (Linked (suc b.given) ∷ []) []) (at_moment now b)) can
-
-told_none : (limits : Limits) (choice : MemberChoice) (now : ℕ) (b : Broker) → can_link b ≡ true → told limits choice now NewLine b ≡ nothing_told
-told_none limits choice now b can = ap (λ (t : Bool). outcome_of NewLine (cond t (Linked (suc b.given) ∷ []) [])) can
-
--- nobody is connected on a line that was just given
-fresh_free : (n now : ℕ) (ls : List BrokerLine) → IsBelow line_number n ls → has_session (find (λ (l : BrokerLine). nat_eq l.number n) (ls ++ fresh_line n now ∷ [])) ≡ false
-fresh_free n now [] low = rw (nat_eq_equiv.refl n) refl
-fresh_free n now (l ∷ ls) low =
-    let less = low.0 in
-    rw (apart l.number n (λ same. omega (arith, same, less))) (fresh_free n now ls low.1)
 
 fresh_of_none : (birth n now : ℕ) (ls : List BrokerLine) → find (λ (l : BrokerLine). is_of l.session birth) (ls ++ fresh_line n now ∷ []) ≡ find (λ (l : BrokerLine). is_of l.session birth) ls
 fresh_of_none birth n now [] = refl
@@ -41,14 +24,6 @@ fresh_of_none birth n now (l ∷ ls) = by (is_of l.session birth) (fresh_of_none
     by : (t : Bool) → find (λ (x : BrokerLine). is_of x.session birth) (ls ++ fresh_line n now ∷ []) ≡ find (λ (x : BrokerLine). is_of x.session birth) ls → cond t (Some l) (find (λ (x : BrokerLine). is_of x.session birth) (ls ++ fresh_line n now ∷ [])) ≡ cond t (Some l) (find (λ (x : BrokerLine). is_of x.session birth) ls)
     by true h = refl
     by false h = h
-
-none_closed : (o : Option ℕ) → is_one_of o [] ≡ false
-none_closed None = refl
-none_closed (Some n) = refl
-
-carries : (old new : Bool) → (old ≡ true → new ≡ true) → new ≡ (old || new)
-carries true new h = h refl
-carries false new h = refl
 
 queued_same : (copies : List Lot) (n now : ℕ) (b : Broker) (o : Option Session) → AreQueued copies o b → AreQueued copies o (after (Linked n) (at_moment now b))
 queued_same copies n now b None h = h

@@ -1,36 +1,23 @@
 -- A receiver's line is lost: it is that event of its hop.
-use Rattle.std.proofs.Common.{◌≡◌, ℕ, Bool, true, List, [], ◌∷◌, ◌++◌, map, Option, Some, None, bytes_eq, sym, ap, subst, ◌∙◌}
+use Rattle.std.proofs.Common.{◌≡◌, ℕ, Bool, List, [], ◌∷◌, ◌++◌, map, Option, Some, None, bytes_eq, sym, ap, subst, ◌∙◌}
 use Rattle.std.specs.Prelude.{filter_map, find, is_some}
 use Rattle.mqtt_flow.specs.OutboundWorld.{Lot, World as Hop, break_line, renewed, start, step}
 use Rattle.mqtt_laws.specs.Ends.{Receiver}
 use Rattle.mqtt_laws.specs.Lines.{is_one_of, unless_closed}
+use Rattle.mqtt_laws.proofs.Breaks.{lost_is}
 use Rattle.mqtt_laws.proofs.Names.{named_is, only_deeds}
-use Rattle.mqtt_laws.proofs.Publishes.{session_closes}
 use Rattle.mqtt_laws.proofs.Seeing.{done_lines, done_sessions}
 use Rattle.mqtt_records.specs.Session.{with_columns}
 use Rattle.mqtt_records.specs.declared.session.Session.{Session}
-use Rattle.mqtt_rules.specs.Closing.{close, close_connected, close_session}
-use Rattle.mqtt_rules.specs.Deeds.{At, Close, Deed, Gone, after, after_all, closing, rows_of_all, whose, with_line, with_session}
+use Rattle.mqtt_rules.specs.Deeds.{At, Close, Deed, Gone, after_all, closing, rows_of_all, whose}
 use Rattle.mqtt_rules.specs.State.{Line as BrokerLine, Broker, MemberChoice, session_named}
-use Rattle.mqtt_rules.specs.Step.{Lost, at_moment, deeds, env_of, stepped}
+use Rattle.mqtt_rules.specs.Step.{Lost, at_moment, deeds, stepped}
 use Rattle.mqtt_rules.specs.declared.Limits.{Limits}
 use Rattle.mqtt_handed_laws.specs.Handing.{IsListening, IsRun, receiver_lost}
 use Rattle.mqtt_handed_laws.specs.Seen.{AreQueued, Numbering, StandOn, answered, seen, went_in}
 use Rattle.mqtt_handed_laws.proofs.Refusals.{run_append}
 use Rattle.mqtt_handed_laws.proofs.Answering.{closed_row, its_went, named_now, session_closed, standing_by, went_gone}
 use Rattle.mqtt_handed_laws.proofs.Turns.{renewed_lots}
-
--- the deeds of a line that is lost
-lost_is : (limits : Limits) (choice : MemberChoice) (now : ℕ) (r : Receiver) (l : BrokerLine) (s : Session) (b : Broker) → IsListening r l s b
-    → deeds limits choice now (Lost l.number) b ≡ Gone l.number ∷ At (whose s) (Close (at_moment now b).now) ∷ []
-lost_is limits choice now r l s b x =
-    let env = env_of limits choice b in
-    let first = at_moment now b in
-    let c = after (Gone l.number) first in
-    ap (λ (o : Option BrokerLine). with_line o (close env true) first) x.line
-    ∙ ap (λ (ds : List Deed). Gone l.number ∷ (ds ++ []))
-    (ap (λ (o : Option ℕ). close_connected env true o c) x.connected
-    ∙ (ap (λ (o : Option Session). with_session o (close_session env true) c) x.session ∙ session_closes env s c x.session x.no_will x.no_end))
 
 pub losing_runs : (number : Numbering) (largest : ℕ) (copies : List Lot) (limits : Limits) (choice : MemberChoice) (now : ℕ) (r : Receiver) (l : BrokerLine) (s : Session) (b : Broker)
     → IsRun number largest copies r b → IsListening r l s b
@@ -41,7 +28,7 @@ losing_runs number largest copies limits choice now r l s b h x =
     let new = stepped limits choice now (Lost l.number) b in
     let rows = rows_of_all ds first.records in
     let out : List Deed = Gone l.number ∷ At (whose s) (Close first.now) ∷ [] in
-    let is = lost_is limits choice now r l s b x in
+    let is = lost_is limits choice now l s b x.line x.connected x.session x.no_will x.no_end in
     let after_s = with_columns (closed_row first.now s) s in
     let only = only_deeds r.client s.birth out first (tt, (tt, tt)) x.only in
     let sessions : new.records.sessions ≡ (after_all out first).records.sessions =

@@ -20,7 +20,7 @@ use Rattle.mqtt_laws.proofs.Frame.{own_done}
 use Rattle.mqtt_laws.proofs.Mine.{AreMine, mine_owns}
 
 -- the deeds of a line that is lost
-lost_is : (limits : Limits) (choice : MemberChoice) (now : ℕ) (l : BrokerLine) (s : Session) (b : Broker) → line_at l.number b ≡ Some l → l.session ≡ Some s.birth → session_at s.birth b.records ≡ Some s
+pub lost_is : (limits : Limits) (choice : MemberChoice) (now : ℕ) (l : BrokerLine) (s : Session) (b : Broker) → line_at l.number b ≡ Some l → l.session ≡ Some s.birth → session_at s.birth b.records ≡ Some s
     → s.will ≡ None → s.expiry ≡ never
     → deeds limits choice now (Lost l.number) b ≡ Gone l.number ∷ At (whose s) (Close (at_moment now b).now) ∷ []
 lost_is limits choice now l s b line on at no_will no_end =

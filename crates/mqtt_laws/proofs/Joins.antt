@@ -18,24 +18,24 @@ use Rattle.mqtt_laws.specs.Seen.{qos_of_draft, shaken, is_linked, has_session, o
 use Rattle.mqtt_laws.specs.Hops.{joined_by, MayJoin}
 
 -- the broker after it: a line is given, and nothing is told
-new_is : (limits : Limits) (choice : MemberChoice) (now : ℕ) (b : Broker) → can_link b ≡ true → stepped limits choice now NewLine b ≡ after (Linked (suc b.given)) (at_moment now b)
+pub new_is : (limits : Limits) (choice : MemberChoice) (now : ℕ) (b : Broker) → can_link b ≡ true → stepped limits choice now NewLine b ≡ after (Linked (suc b.given)) (at_moment now b)
 new_is limits choice now b can = ap (λ (t : Bool). done (cond t (Linked (suc b.given) ∷ []) []) (at_moment now b)) can
 
-told_none : (limits : Limits) (choice : MemberChoice) (now : ℕ) (b : Broker) → can_link b ≡ true → told limits choice now NewLine b ≡ nothing_told
+pub told_none : (limits : Limits) (choice : MemberChoice) (now : ℕ) (b : Broker) → can_link b ≡ true → told limits choice now NewLine b ≡ nothing_told
 told_none limits choice now b can = ap (λ (t : Bool). outcome_of NewLine (cond t (Linked (suc b.given) ∷ []) [])) can
 
 -- nobody is connected on a line that was just given
-fresh_free : (n now : ℕ) (ls : List BrokerLine) → IsBelow line_number n ls → has_session (find (λ (l : BrokerLine). nat_eq l.number n) (ls ++ fresh_line n now ∷ [])) ≡ false
+pub fresh_free : (n now : ℕ) (ls : List BrokerLine) → IsBelow line_number n ls → has_session (find (λ (l : BrokerLine). nat_eq l.number n) (ls ++ fresh_line n now ∷ [])) ≡ false
 fresh_free n now [] low = rw (nat_eq_equiv.refl n) refl
 fresh_free n now (l ∷ ls) low =
     let less = low.0 in
     rw (apart l.number n (λ same. omega (arith, same, less))) (fresh_free n now ls low.1)
 
-none_closed : (o : Option ℕ) → is_one_of o [] ≡ false
+pub none_closed : (o : Option ℕ) → is_one_of o [] ≡ false
 none_closed None = refl
 none_closed (Some n) = refl
 
-carries : (old new : Bool) → (old ≡ true → new ≡ true) → new ≡ (old || new)
+pub carries : (old new : Bool) → (old ≡ true → new ≡ true) → new ≡ (old || new)
 carries true new h = h refl
 carries false new h = refl
 
