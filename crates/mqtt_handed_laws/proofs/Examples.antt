@@ -1,56 +1,32 @@
 -- Worked runs: what a receiver and its session see of the world is what the events of their hop make (MQTT 5.0, 4.3.3, 4.4).
 use Rattle.std.proofs.Common.{◌≡◌, ℕ, false, List, [], ◌∷◌, ◌++◌, Option, Some, None, refl}
-use Rattle.std.specs.Prelude.{codes, option_map, map}
+use Rattle.std.specs.Prelude.{option_map, map}
 use Rattle.mqtt_base.specs.Values.{varint}
-use Rattle.mqtt_base.specs.declared.session.Cause.TheVariants.{Direct}
 use Rattle.mqtt_base.specs.declared.session.Qos.TheVariants.{ExactlyOnce}
 use Rattle.mqtt_flow.specs.declared.entry.QueuedCopy.{QueuedCopy}
 use Rattle.mqtt_flow.specs.OutboundWorld.{Event as HopEvent, Lot, World as Hop, enter, make_line}
 use Rattle.mqtt_flow.specs.OutboundWorld as hop
 use Rattle.mqtt_records.specs.declared.session.Session.{Session}
-use Rattle.mqtt_rules.proofs.Play.{usual, topic, hi, options}
-use Rattle.mqtt_rules.specs.State.{MemberChoice, session_named}
-use Rattle.mqtt_laws.specs.Ends.{Draft, Receiver, Wish}
-use Rattle.mqtt_laws.specs.Run.{Turn, after}
-use Rattle.mqtt_laws.specs.World.{Event, World, ask, connect_end, publish, publisher, pump, receiver, receiver_named, subscribe, to_broker, to_end}
+use Rattle.mqtt_rules.proofs.Play.{usual, topic, hi}
+use Rattle.mqtt_rules.specs.State.{session_named}
+use Rattle.mqtt_laws.specs.Ends.{Receiver}
+use Rattle.mqtt_laws.specs.Run.{after}
+use Rattle.mqtt_laws.specs.World.{Event, World, ask, receiver_named, to_broker}
+use Rattle.mqtt_laws.proofs.Scripts.{turns, p1, r1, first_copy, published, pumped}
 use Rattle.mqtt_handed_laws.specs.Seen.{Numbering, lot_on, seen, still_standing, went_in}
 
-abbrev first : MemberChoice
-first n sender = []
-
-abbrev turn : Event → Turn
-turn e = record { event = e; choice = first }
-
-abbrev p1 : List ℕ
-p1 = codes "p1"
-
-abbrev r1 : List ℕ
-r1 = codes "r1"
-
-abbrev draft : Draft
-draft = record { qos = ExactlyOnce; content = record { retain = false; topic = topic; payload = hi } }
-
-abbrev wish : Wish
-wish = record { filter = topic; options = options ExactlyOnce; identifier = None }
-
 abbrev world : List Event → World
-world es = after usual (map turn es)
+world es = after usual (turns es)
 
 -- a copy of QoS 2 enters the receiver's queue
-abbrev published : List Event
-published =
-    receiver r1 10 ∷ publisher p1 ∷ connect_end r1 false ∷ ask (to_broker r1) ∷ to_end r1 ∷ subscribe r1 wish ∷ ask (to_broker r1) ∷ to_end r1
-    ∷ connect_end p1 false ∷ ask (to_broker p1) ∷ to_end p1 ∷ publish p1 draft ∷ ask (to_broker p1) ∷ []
-
--- and its PUBLISH is read
-abbrev sent : List Event
-sent = published ++ ask (pump r1) ∷ to_end r1 ∷ []
+abbrev accepted : List Event
+accepted = published ++ ask (to_broker p1) ∷ []
 
 -- the hop
 
 abbrev the_copy : QueuedCopy
 the_copy = record {
-  id = record { publication = 1; birth = 1; cause = Direct };
+  id = first_copy;
   qos = ExactlyOnce;
   size = 12;
   arrived = 0;
@@ -84,18 +60,18 @@ went_by (Some went) = went
 abbrev queued : List Event → Option (List Lot)
 queued es = option_map (λ (s : Session). map (lot_on (went_by (went_in s.birth (world es).broker))) s.queue) (session_named r1 (world es).broker.records)
 
-pub an_entered_copy_is_seen : sees published (makes entering).copies ≡ Some (makes entering)
+pub an_entered_copy_is_seen : sees accepted (makes entering).copies ≡ Some (makes entering)
 unfolding varint
 an_entered_copy_is_seen = refl
 
-pub an_entered_copy_stands : queued published ≡ Some (still_standing (makes entering).copies)
+pub an_entered_copy_stands : queued accepted ≡ Some (still_standing (makes entering).copies)
 unfolding varint
 an_entered_copy_stands = refl
 
-pub a_sent_copy_is_seen : sees sent (makes sending).copies ≡ Some (makes sending)
+pub a_sent_copy_is_seen : sees pumped (makes sending).copies ≡ Some (makes sending)
 unfolding varint
 a_sent_copy_is_seen = refl
 
-pub a_sent_copy_stands : queued sent ≡ Some (still_standing (makes sending).copies)
+pub a_sent_copy_stands : queued pumped ≡ Some (still_standing (makes sending).copies)
 unfolding varint
 a_sent_copy_stands = refl

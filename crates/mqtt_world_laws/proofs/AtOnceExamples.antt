@@ -5,20 +5,19 @@ use Rattle.mqtt_base.specs.Values.{varint}
 use Rattle.mqtt_base.specs.declared.session.Qos.TheVariants.{AtMostOnce}
 use Rattle.mqtt_rules.proofs.Play.{usual, topic, options}
 use Rattle.mqtt_laws.specs.Ends.{Wish}
-use Rattle.mqtt_laws.specs.World.{Event, publisher, receiver, connect_end, publish, subscribe, to_end, ask, to_broker, stop_after, receiver_named, start}
+use Rattle.mqtt_laws.specs.World.{Event, publisher, receiver, publish, subscribe, ask, to_broker, stop_after, receiver_named, start}
 use Rattle.mqtt_laws.specs.Run.{run}
+use Rattle.mqtt_laws.proofs.Scripts.{turns, p1, r1, draft, joins, exchange}
 use Rattle.mqtt_world_laws.specs.AtOnce.{due_in, under_way}
 use Rattle.mqtt_world_laws.specs.Copies.{entered_from}
 use Rattle.mqtt_world_laws.specs.Steps.{steps_over}
-use Rattle.mqtt_world_laws.proofs.Examples.{turns, p1, r1, draft}
 
 abbrev wish : Wish
 wish = record { filter = topic; options = options AtMostOnce; identifier = None }
 
 abbrev subscribed : List Event
 subscribed =
-    receiver r1 10 ∷ connect_end r1 false ∷ ask (to_broker r1) ∷ to_end r1 ∷ subscribe r1 wish ∷ ask (to_broker r1) ∷ to_end r1
-    ∷ publisher p1 ∷ connect_end p1 false ∷ ask (to_broker p1) ∷ to_end p1 ∷ publish p1 draft ∷ []
+    receiver r1 10 ∷ joins r1 false ++ (subscribe r1 wish ∷ exchange r1 ++ (publisher p1 ∷ joins p1 false ++ (publish p1 draft ∷ [])))
 
 abbrev given : List Event
 given = subscribed ++ ask (to_broker p1) ∷ []

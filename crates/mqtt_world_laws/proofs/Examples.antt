@@ -6,30 +6,15 @@ use Rattle.mqtt_base.specs.Values.{varint}
 use Rattle.mqtt_base.specs.declared.session.Qos.TheVariants.{ExactlyOnce}
 use Rattle.mqtt_base.specs.declared.session.CopyId.{CopyId}
 use Rattle.mqtt_inbound.specs.Publisher.{completed, ended}
-use Rattle.mqtt_rules.specs.State.{MemberChoice}
-use Rattle.mqtt_rules.proofs.Play.{usual, topic, hi, options}
-use Rattle.mqtt_laws.specs.Ends.{Draft, Publisher, Wish}
-use Rattle.mqtt_laws.specs.World.{Event, publisher, receiver, connect_end, give_up, publish, subscribe, to_end, ask, break, restart, stop_before, stop_after, to_broker, old_to_broker, stranger, publisher_named, start}
+use Rattle.mqtt_rules.proofs.Play.{usual, topic, options}
+use Rattle.mqtt_laws.specs.Ends.{Publisher, Wish}
+use Rattle.mqtt_laws.specs.World.{Event, publisher, receiver, connect_end, give_up, publish, subscribe, ask, break, restart, stop_before, stop_after, to_broker, old_to_broker, stranger, publisher_named, start}
 use Rattle.mqtt_laws.specs.Laws.{fate_of, standing}
-use Rattle.mqtt_laws.specs.Run.{Turn, run, are_clean_starts_carried}
+use Rattle.mqtt_laws.specs.Run.{run, are_clean_starts_carried}
+use Rattle.mqtt_laws.proofs.Scripts.{turns, p1, r1, draft, joins, exchange}
 use Rattle.mqtt_world_laws.specs.Spending.{run_spends}
 use Rattle.mqtt_world_laws.specs.Once.{times_accepted}
 use Rattle.mqtt_world_laws.specs.Copies.{entered_from, ended_from}
-
-abbrev pub first : MemberChoice
-first n sender = []
-
-abbrev pub turn : Event → Turn
-turn e = record { event = e; choice = first }
-
-abbrev pub turns : List Event → List Turn
-turns es = map turn es
-
-abbrev pub p1 : List ℕ
-p1 = codes "p1"
-
-abbrev pub draft : Draft
-draft = record { qos = ExactlyOnce; content = record { retain = false; topic = topic; payload = hi } }
 
 abbrev is_fair : List Event → Bool
 is_fair es = not (run_spends usual (turns es) start) && are_clean_starts_carried usual (turns es) start
@@ -38,10 +23,10 @@ abbrev times : List Event → ℕ
 times es = times_accepted p1 0 usual (turns es) start
 
 abbrev asked : List Event
-asked = publisher p1 ∷ connect_end p1 false ∷ ask (to_broker p1) ∷ to_end p1 ∷ publish p1 draft ∷ []
+asked = publisher p1 ∷ joins p1 false ++ (publish p1 draft ∷ [])
 
 abbrev resent : List Event
-resent = connect_end p1 false ∷ ask (to_broker p1) ∷ to_end p1 ∷ ask (to_broker p1) ∷ to_end p1 ∷ ask (to_broker p1) ∷ to_end p1 ∷ []
+resent = joins p1 false ++ (exchange p1 ++ exchange p1)
 
 -- ---- a stop before the commit, one after it, and a restart: fair, accepted once, and completed
 
@@ -84,7 +69,7 @@ pub a_late_connect_is_fair : is_fair (publisher p1 ∷ connect_end p1 false ∷ 
 unfolding varint
 a_late_connect_is_fair = refl
 
-pub a_clean_start_is_fair : is_fair (asked ++ ask (break p1) ∷ connect_end p1 true ∷ ask (to_broker p1) ∷ to_end p1 ∷ []) ≡ true
+pub a_clean_start_is_fair : is_fair (asked ++ ask (break p1) ∷ joins p1 true) ≡ true
 unfolding varint
 a_clean_start_is_fair = refl
 
@@ -110,20 +95,17 @@ a_last_line_is_given = refl
 
 -- ---- a group whose member is lost: its copy ends with its session, and goes to no other (4.8.2)
 
-abbrev pub r1 : List ℕ
-r1 = codes "r1"
-
 abbrev r2 : List ℕ
 r2 = codes "r2"
 
 abbrev wish : Wish
 wish = record { filter = codes "$share/g/" ++ topic; options = options ExactlyOnce; identifier = None }
 
-abbrev joins : List ℕ → List Event
-joins r = connect_end r false ∷ ask (to_broker r) ∷ to_end r ∷ subscribe r wish ∷ ask (to_broker r) ∷ to_end r ∷ []
+abbrev enters : List ℕ → List Event
+enters r = joins r false ++ (subscribe r wish ∷ exchange r)
 
 abbrev grouped : List Event
-grouped = receiver r1 10 ∷ receiver r2 10 ∷ (joins r1 ++ (joins r2 ++ (asked ++ ask (to_broker p1) ∷ [])))
+grouped = receiver r1 10 ∷ receiver r2 10 ∷ (enters r1 ++ (enters r2 ++ (asked ++ ask (to_broker p1) ∷ [])))
 
 abbrev lost : List Event
 lost = grouped ++ ask (break r1) ∷ connect_end r1 true ∷ ask (to_broker r1) ∷ []
