@@ -8,7 +8,7 @@ use Rattle.mqtt_base.specs.declared.session.Qos.{Qos}
 use Rattle.mqtt_rules.specs.declared.Limits.{Limits}
 use Rattle.mqtt_rules.specs.State.{Broker, Env, MemberChoice}
 use Rattle.mqtt_rules.specs.Deeds.{Message, FromClient, Enter, Leave, Deed, Accept, At, after as after_deed}
-use Rattle.mqtt_rules.specs.Step.{Call, NewLine, env_of, at_moment, deeds, opening, unopened}
+use Rattle.mqtt_rules.specs.Step.{Call, NewLine, env_of, at_moment, deeds, opening, opening_deeds, unopened}
 use Rattle.mqtt_inbound.specs.Line.{Link, away, asked, live}
 use Rattle.mqtt_laws.specs.Ends.{Sent, message_in, Publisher, Receiver}
 use Rattle.mqtt_laws.specs.World.{Setting, World, start, Event, ask, stop_before, stop_after, restart, connect_end}
@@ -35,49 +35,76 @@ run limits (t ∷ ts) w = run limits ts (turned limits t w)
 abbrev pub after : Limits → List Turn → World
 after limits ts = run limits ts start
 
--- ---- the deeds of an event, those whose step was committed
+-- ---- what is read off an event: off its new line, calls and openings, those that were committed, each on the world in
+-- which it comes
 
-abbrev pub deeds_if : Setting → Option Call → World → List Deed
-deeds_if set None w = []
-deeds_if set (Some call) w = deeds set.limits set.choice w.now call w.broker
+pub record Reading (X : Type 0) : Type 0 where
+  pub nothing : X
+  pub join : X → X → X  -- of the one that comes first, and of what follows it
+  pub linked : Setting → World → X
+  pub called : Setting → Call → World → X
+  pub opened : Setting → World → X
 
-abbrev pub deeds_of_rest : Setting → ℕ → List ℕ → World → List Deed
-deeds_of_rest set zero name w = []
-deeds_of_rest set (suc more) name w =
+abbrev pub read_if : {X : Type 0} → Reading X → Setting → Option Call → World → X
+read_if r set None w = r.nothing
+read_if r set (Some call) w = r.called set call w
+
+-- one call for each packet of a stranger
+abbrev pub read_rest : {X : Type 0} → Reading X → Setting → ℕ → List ℕ → World → X
+read_rest r set zero name w = r.nothing
+read_rest r set (suc more) name w =
     let call = call_of_stranger (stranger_named name w) in
-    deeds_if set call w ++ deeds_of_rest set more name (calls_if set call (next_held name w))
+    r.join (read_if r set call w) (read_rest r set more name (calls_if set call (next_held name w)))
 
-abbrev pub first_deeds : Setting → Asking → World → List Deed
-first_deeds set a w = deeds_if set (call_of set a w) (before set a w)
+abbrev pub read_first : {X : Type 0} → Reading X → Setting → Asking → World → X
+read_first r set a w = read_if r set (call_of set a w) (before set a w)
 
-abbrev pub deeds_asked : Setting → Asking → World → List Deed
-deeds_asked set (to_broker client) w = first_deeds set (to_broker client) w
-deeds_asked set (old_to_broker client) w = first_deeds set (old_to_broker client) w
-deeds_asked set (break client) w = first_deeds set (break client) w
-deeds_asked set (pump client) w = first_deeds set (pump client) w
-deeds_asked set tick w = first_deeds set tick w
-deeds_asked set (stranger name bytes) w =
+abbrev pub read_asked : {X : Type 0} → Reading X → Setting → Asking → World → X
+read_asked r set (to_broker client) w = read_first r set (to_broker client) w
+read_asked r set (old_to_broker client) w = read_first r set (old_to_broker client) w
+read_asked r set (break client) w = read_first r set (break client) w
+read_asked r set (pump client) w = read_first r set (pump client) w
+read_asked r set tick w = read_first r set tick w
+read_asked r set (stranger name bytes) w =
     let c = comes set name bytes w in
-    deeds_of_rest set (held_count (stranger_named name c)) name c
+    read_rest r set (held_count (stranger_named name c)) name c
 
-abbrev pub opening_deeds : Setting → World → List Deed
-opening_deeds set w = let b = unopened w.now w.broker.records in opening (env_of set.limits set.choice b) b
+abbrev pub read_opening : {X : Type 0} → Reading X → Setting → World → X
+read_opening r set w = r.opened set w
 
-abbrev pub deeds_in : Setting → Event → World → List Deed
-deeds_in set (connect_end client clean) w = deeds_if set (Some NewLine) w
-deeds_in set (ask a) w = deeds_asked set a w
-deeds_in set restart w = opening_deeds set w
-deeds_in set (stop_before a) w = opening_deeds set (before set a w)
-deeds_in set (stop_after a) w = first_deeds set a w ++ opening_deeds set (first_step set a w)
-deeds_in set e w = []
+abbrev pub read_in : {X : Type 0} → Reading X → Setting → Event → World → X
+read_in r set (connect_end client clean) w = r.linked set w
+read_in r set (ask a) w = read_asked r set a w
+read_in r set restart w = read_opening r set w
+read_in r set (stop_before a) w = read_opening r set (before set a w)
+read_in r set (stop_after a) w = r.join (read_first r set a w) (read_opening r set (first_step set a w))
+read_in r set e w = r.nothing
+
+-- a bad event does nothing
+abbrev pub read_at : {X : Type 0} → Reading X → Setting → Event → World → X
+read_at r set e w = cond (is_bad e w) r.nothing (read_in r set e w)
+
+-- off a run
+abbrev pub read_over : {X : Type 0} → Reading X → Limits → List Turn → World → X
+read_over r limits [] w = r.nothing
+read_over r limits (t ∷ ts) w = r.join (read_at r (setting limits t) t.event w) (read_over r limits ts (turned limits t w))
+
+-- ---- the deeds
+
+abbrev pub the_deeds : Reading (List Deed)
+the_deeds = record {
+  nothing = [];
+  join = λ first more. first ++ more;
+  linked = λ set w. deeds set.limits set.choice w.now NewLine w.broker;
+  called = λ set call w. deeds set.limits set.choice w.now call w.broker;
+  opened = λ set w. opening_deeds set.limits set.choice w.now w.broker.records;
+}
 
 abbrev pub deeds_at : Setting → Event → World → List Deed
-deeds_at set e w = cond (is_bad e w) [] (deeds_in set e w)
+deeds_at set e w = read_at the_deeds set e w
 
--- all deeds of a run
 abbrev pub deeds_over : Limits → List Turn → World → List Deed
-deeds_over limits [] w = []
-deeds_over limits (t ∷ ts) w = deeds_at (setting limits t) t.event w ++ deeds_over limits ts (turned limits t w)
+deeds_over limits ts w = read_over the_deeds limits ts w
 
 -- ---- how often a publication was accepted from a message
 
@@ -146,50 +173,29 @@ abbrev pub acceptances_of : Env → List Deed → Broker → List Acceptance
 acceptances_of env [] b = []
 acceptances_of env (d ∷ ds) b = cons_option (accepted_by env d b) (acceptances_of env ds (after_deed d b))
 
-abbrev pub acceptances_if : Setting → Option Call → World → List Acceptance
-acceptances_if set None w = []
-acceptances_if set (Some call) w =
+abbrev pub acceptances_called : Setting → Call → World → List Acceptance
+acceptances_called set call w =
     let b = at_moment w.now w.broker in
     acceptances_of (env_of set.limits set.choice w.broker) (deeds set.limits set.choice w.now call w.broker) b
 
-abbrev pub acceptances_of_rest : Setting → ℕ → List ℕ → World → List Acceptance
-acceptances_of_rest set zero name w = []
-acceptances_of_rest set (suc more) name w =
-    let call = call_of_stranger (stranger_named name w) in
-    acceptances_if set call w ++ acceptances_of_rest set more name (calls_if set call (next_held name w))
-
-abbrev pub first_acceptances : Setting → Asking → World → List Acceptance
-first_acceptances set a w = acceptances_if set (call_of set a w) (before set a w)
-
-abbrev pub acceptances_asked : Setting → Asking → World → List Acceptance
-acceptances_asked set (to_broker client) w = first_acceptances set (to_broker client) w
-acceptances_asked set (old_to_broker client) w = first_acceptances set (old_to_broker client) w
-acceptances_asked set (break client) w = first_acceptances set (break client) w
-acceptances_asked set (pump client) w = first_acceptances set (pump client) w
-acceptances_asked set tick w = first_acceptances set tick w
-acceptances_asked set (stranger name bytes) w =
-    let c = comes set name bytes w in
-    acceptances_of_rest set (held_count (stranger_named name c)) name c
-
-abbrev pub opening_acceptances : Setting → World → List Acceptance
-opening_acceptances set w =
+abbrev pub acceptances_opened : Setting → World → List Acceptance
+acceptances_opened set w =
     let b = unopened w.now w.broker.records in
     let env = env_of set.limits set.choice b in
     acceptances_of env (opening env b) b
 
-abbrev pub acceptances_in : Setting → Event → World → List Acceptance
-acceptances_in set (connect_end client clean) w = []
-acceptances_in set (ask a) w = acceptances_asked set a w
-acceptances_in set restart w = opening_acceptances set w
-acceptances_in set (stop_before a) w = opening_acceptances set (before set a w)
-acceptances_in set (stop_after a) w = first_acceptances set a w ++ opening_acceptances set (first_step set a w)
-acceptances_in set e w = []
+-- a new line accepts nothing
+abbrev pub the_acceptances : Reading (List Acceptance)
+the_acceptances = record {
+  nothing = [];
+  join = λ first more. first ++ more;
+  linked = λ set w. [];
+  called = acceptances_called;
+  opened = acceptances_opened;
+}
 
 abbrev pub acceptances_over : Limits → List Turn → World → List Acceptance
-acceptances_over limits [] w = []
-acceptances_over limits (t ∷ ts) w =
-    cond (is_bad t.event w) [] (acceptances_in (setting limits t) t.event w)
-    ++ acceptances_over limits ts (turned limits t w)
+acceptances_over limits ts w = read_over the_acceptances limits ts w
 
 -- what was accepted from the messages of a publisher: each with its message's number
 pub record From : Type 0 where

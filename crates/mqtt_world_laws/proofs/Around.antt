@@ -17,8 +17,9 @@ use Rattle.mqtt_laws.specs.Seats.{Comes, Does, IsApart, IsElsewhere, IsNamed, Is
 use Rattle.mqtt_laws.proofs.Seats.{run_append}
 use Rattle.mqtt_laws.proofs.OwnCalls.{differs}
 use Rattle.mqtt_laws.proofs.Calls.{others_come}
+use Rattle.mqtt_laws.specs.Run.{read_if}
 use Rattle.mqtt_world_laws.specs.Fair.{IsSteady}
-use Rattle.mqtt_world_laws.specs.Spending.{spends}
+use Rattle.mqtt_world_laws.specs.Spending.{spending}
 use Rattle.mqtt_world_laws.proofs.Steady.{steady_step, given_grows}
 use Rattle.mqtt_world_laws.proofs.Ends.{all_mapped, all_turned, find_publisher, find_receiver, is_some_mapped, named_publisher}
 
@@ -113,7 +114,7 @@ line_later his given more l up h = record { number = free_later his given more l
 
 -- ---- a call
 
-pub calls_around : (c : List ℕ) (set : Setting) (his : List ℕ) (call : Call) (w : World) → Around c set.limits his w → spends set (Some call) w ≡ false
+pub calls_around : (c : List ℕ) (set : Setting) (his : List ℕ) (call : Call) (w : World) → Around c set.limits his w → read_if spending set (Some call) w ≡ false
     → Around c set.limits his (calls set call w)
 calls_around c set his call w a unspent =
     let b = stepped set.limits set.choice w.now call w.broker in
@@ -240,7 +241,7 @@ pub named_called : (c : List ℕ) (set : Setting) (call : Call) (w : World)
     → publisher_named c (calls set call w) ≡ option_map (publisher_told (stepped set.limits set.choice w.now call w.broker) (told set.limits set.choice w.now call w.broker)) (publisher_named c w)
 named_called c set call w = find_publisher c (publisher_told (stepped set.limits set.choice w.now call w.broker) (told set.limits set.choice w.now call w.broker)) (λ p. refl) w.publishers
 
-pub calls_hold : (c : List ℕ) (set : Setting) (his accepted : List ℕ) (call : Call) (w : World) → Holds c set.limits his accepted w → spends set (Some call) w ≡ false
+pub calls_hold : (c : List ℕ) (set : Setting) (his accepted : List ℕ) (call : Call) (w : World) → Holds c set.limits his accepted w → read_if spending set (Some call) w ≡ false
     → (is_some (publisher_named c w) ≡ true → IsOutside his c call) → Holds c set.limits his accepted (calls set call w)
 calls_hold c set his accepted call w h unspent out = record {
   around = calls_around c set his call w h.around unspent;
@@ -250,12 +251,12 @@ calls_hold c set his accepted call w h unspent out = record {
 
 -- ---- a call that may be asked for
 
-pub if_around : (c : List ℕ) (set : Setting) (his : List ℕ) (call : Option Call) (w : World) → Around c set.limits his w → spends set call w ≡ false
+pub if_around : (c : List ℕ) (set : Setting) (his : List ℕ) (call : Option Call) (w : World) → Around c set.limits his w → read_if spending set call w ≡ false
     → Around c set.limits his (calls_if set call w)
 if_around c set his None w a unspent = a
 if_around c set his (Some call) w a unspent = calls_around c set his call w a unspent
 
-pub if_holds : (c : List ℕ) (set : Setting) (his accepted : List ℕ) (call : Option Call) (w : World) → Holds c set.limits his accepted w → spends set call w ≡ false
+pub if_holds : (c : List ℕ) (set : Setting) (his accepted : List ℕ) (call : Option Call) (w : World) → Holds c set.limits his accepted w → read_if spending set call w ≡ false
     → (is_some (publisher_named c w) ≡ true → (x : Call) → call ≡ Some x → IsOutside his c x) → Holds c set.limits his accepted (calls_if set call w)
 if_holds c set his accepted None w h unspent out = h
 if_holds c set his accepted (Some call) w h unspent out = calls_hold c set his accepted call w h unspent (λ there. out there call refl)

@@ -10,7 +10,8 @@ use Rattle.mqtt_laws.specs.World.{World, Setting, publisher_named, receiver_name
 use Rattle.mqtt_laws.specs.Hops.{lost_by}
 use Rattle.mqtt_laws.specs.Seats.{Comes, Former, absent, late, lingers, over}
 use Rattle.mqtt_laws.proofs.Calls.{loses}
-use Rattle.mqtt_world_laws.specs.Spending.{first_spends}
+use Rattle.mqtt_laws.specs.Run.{read_first}
+use Rattle.mqtt_world_laws.specs.Spending.{spending}
 use Rattle.mqtt_world_laws.proofs.Ends.{IsNotHim, whose_name}
 use Rattle.mqtt_world_laws.proofs.Around.{HasFree, Placed, Him, Holds, IsOutside, placed_next, named_called, if_around, if_holds, if_there}
 use Rattle.mqtt_world_laws.proofs.Others.{foreign, lost_outside}
@@ -18,14 +19,14 @@ use Rattle.mqtt_world_laws.proofs.Changes.{on_line, on_back, line_others, own_ho
 
 -- ---- a pump, and the clock
 
-pub pump_holds : (c d : List ℕ) (set : Setting) (his accepted : List ℕ) (w : World) → Holds c set.limits his accepted w → first_spends set (pump d) w ≡ false → Holds c set.limits his accepted (first_step set (pump d) w)
+pub pump_holds : (c d : List ℕ) (set : Setting) (his accepted : List ℕ) (w : World) → Holds c set.limits his accepted w → read_first spending set (pump d) w ≡ false → Holds c set.limits his accepted (first_step set (pump d) w)
 pump_holds c d set his accepted w h unspent = if_holds c set his accepted (pump_on (view_of d w).number) w h unspent (λ there x is. by (view_of d w).number x is)
   where
     by : (n : Option ℕ) (x : Call) → pump_on n ≡ Some x → IsOutside his c x
     by None x is = absurd cc
     by (Some n) x is = let e : Pump n ≡ x = cc in subst (IsOutside his c) e tt
 
-pub tick_holds : (c : List ℕ) (set : Setting) (his accepted : List ℕ) (w : World) → Holds c set.limits his accepted w → first_spends set tick w ≡ false → Holds c set.limits his accepted (first_step set tick w)
+pub tick_holds : (c : List ℕ) (set : Setting) (his accepted : List ℕ) (w : World) → Holds c set.limits his accepted w → read_first spending set tick w ≡ false → Holds c set.limits his accepted (first_step set tick w)
 tick_holds c set his accepted w h unspent = if_holds c set his accepted (Some Tick) w h unspent (λ there x is. let e : Tick ≡ x = cc in subst (IsOutside his c) e tt)
 
 -- ---- another end's line is lost
@@ -34,14 +35,14 @@ pub left_free : {U : Type 0} (his : List ℕ) (given : ℕ) (l : Line U) → Has
 left_free his given l h = record { number = λ j is. absurd cc; old_number = h.old_number }
 
 -- as the broker sees it
-pub other_lost : (c d : List ℕ) (set : Setting) (his accepted : List ℕ) (w : World) → Holds c set.limits his accepted w → IsNotHim c d w → first_spends set (break d) w ≡ false
+pub other_lost : (c d : List ℕ) (set : Setting) (his accepted : List ℕ) (w : World) → Holds c set.limits his accepted w → IsNotHim c d w → read_first spending set (break d) w ≡ false
     → Holds c set.limits his accepted (first_step set (break d) w)
 other_lost c d set his accepted w h not_him unspent =
     let v = view_of d w in
     if_holds c set his accepted (lost_on v.number) w h unspent
     (λ there call is. let f = foreign c d set.limits his w h.around (not_him there) in lost_outside his c w.broker.given v.number call f.number is)
 
-other_breaks : (c d : List ℕ) (set : Setting) (his accepted : List ℕ) (w : World) → Holds c set.limits his accepted w → IsNotHim c d w → first_spends set (break d) w ≡ false
+other_breaks : (c d : List ℕ) (set : Setting) (his accepted : List ℕ) (w : World) → Holds c set.limits his accepted w → IsNotHim c d w → read_first spending set (break d) w ≡ false
     → Holds c set.limits his accepted (asks set (break d) w)
 other_breaks c d set his accepted w h not_him unspent =
     let w1 = first_step set (break d) w in
@@ -85,16 +86,16 @@ lost_placed c set his accepted w p e placed = subst (λ (o : Option Publisher). 
           placed_next his p (lost_by set.limits set.choice w.now n p w.broker) w.broker new accepted accepted placed x refl (λ f. absurd cc) (inr refl) refl,
         )
 
-he_breaks : (c : List ℕ) (set : Setting) (his accepted : List ℕ) (w : World) (p : Publisher) → Holds c set.limits his accepted w → publisher_named c w ≡ Some p → first_spends set (break c) w ≡ false
+he_breaks : (c : List ℕ) (set : Setting) (his accepted : List ℕ) (w : World) (p : Publisher) → Holds c set.limits his accepted w → publisher_named c w ≡ Some p → read_first spending set (break c) w ≡ false
     → Holds c set.limits his accepted (asks set (break c) w)
 he_breaks c set his accepted w p h e unspent =
     let x = lost_placed c set his accepted w p e (subst (Him his w.broker accepted) e h.him) in
     own_holds c set.limits his accepted (first_step set (break c) w) x.0 (on_line left) (on_back left) (λ q. refl) (λ q. refl) x.1
     (if_around c set his (lost_on (view_of c w).number) w h.around unspent) x.2
 
-pub break_holds : (c d : List ℕ) (set : Setting) (his accepted : List ℕ) (w : World) → Holds c set.limits his accepted w → first_spends set (break d) w ≡ false → Holds c set.limits his accepted (asks set (break d) w)
+pub break_holds : (c d : List ℕ) (set : Setting) (his accepted : List ℕ) (w : World) → Holds c set.limits his accepted w → read_first spending set (break d) w ≡ false → Holds c set.limits his accepted (asks set (break d) w)
 break_holds c d set his accepted w h unspent = elim (whose_name c d w) [
   | inr not_him ↦ other_breaks c d set his accepted w h not_him unspent
   | inl own ↦ subst (λ (x : List ℕ). Holds c set.limits his accepted (asks set (break x) w)) (sym own.2)
-      (he_breaks c set his accepted w own.0 h own.1 (subst (λ (x : List ℕ). first_spends set (break x) w ≡ false) own.2 unspent))
+      (he_breaks c set his accepted w own.0 h own.1 (subst (λ (x : List ℕ). read_first spending set (break x) w ≡ false) own.2 unspent))
 ]

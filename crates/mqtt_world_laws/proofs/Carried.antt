@@ -17,13 +17,14 @@ use Rattle.mqtt_rules.specs.Laws.{IsAmong}
 use Rattle.mqtt_rules.specs.Step.{Input, deeds, unopened, env_of}
 use Rattle.mqtt_rules.proofs.FlightRows.{found_key}
 use Rattle.mqtt_rules.proofs.Leads.{row_among}
+use Rattle.mqtt_rules.proofs.Copies.{each_append}
 use Rattle.mqtt_laws.specs.Ends.{Content, no_content, content_at, Sent, shake, plain, Publisher, new_publisher, wire, message_in}
 use Rattle.mqtt_laws.specs.World.{World, Setting, Event, publisher, receiver, connect_end, give_up, publish, subscribe, to_end, clock, ask, restart, stop_before, stop_after, Asking, to_broker, old_to_broker, break, pump, tick, stranger, publisher_named, receiver_named, with_line, taken_up, taken_old, input_on, view_by, first_step, is_bad, happens}
-use Rattle.mqtt_laws.specs.Run.{Turn, setting, turned, run, deeds_at, From, from_message, each_from, from_over, client_message, front_message, front_of_line, front_of_old, asked_from, message_read, accepted_at, deeds_if, first_deeds, opening_deeds, deeds_in, carries_clean, are_clean_starts_carried}
+use Rattle.mqtt_laws.specs.Run.{Turn, setting, turned, run, deeds_at, From, from_message, each_from, from_over, client_message, front_message, front_of_line, front_of_old, asked_from, message_read, accepted_at, carries_clean, are_clean_starts_carried, read_if, read_first, read_opening, read_in, read_at, the_deeds}
 use Rattle.mqtt_laws.specs.Laws.{Carries, contents_by}
 use Rattle.mqtt_laws.specs.Hops.{IsOurs, Own}
 use Rattle.mqtt_laws.specs.Seats.{Former, Present, absent, closed, joined, late, lingers, over, waiting, IsHis, connected_at}
-use Rattle.mqtt_world_laws.specs.Spending.{turn_spends, run_spends}
+use Rattle.mqtt_world_laws.specs.Spending.{run_spends, spending}
 use Rattle.mqtt_world_laws.specs.Fair.{IsNew, IsFair}
 use Rattle.mqtt_world_laws.specs.Once.{CarriesIn, HasCarried}
 use Rattle.mqtt_world_laws.proofs.Ends.{find_last, find_no_more, find_first, named_publisher}
@@ -142,7 +143,7 @@ none_from client contents (Some m) more none less =
 
 side_said : (set : Setting) (p : Publisher) (number : Option ℕ) (packets : List Sent) (w : World) (more : List Deed) → AcceptsNone more → AreOf (length p.contents) packets
     → ((n m : ℕ) (x : Sent) (rest : List Sent) → number ≡ Some n → packets ≡ x ∷ rest → message_in x ≡ Some m → Mine p.client n w.broker)
-    → AllByRecursion (CarriesIn p.client p.contents) (each_from (front_message packets) (deeds_if set (input_on number (map (wire p.client p.contents) packets)) w ++ more))
+    → AllByRecursion (CarriesIn p.client p.contents) (each_from (front_message packets) (read_if the_deeds set (input_on number (map (wire p.client p.contents) packets)) w ++ more))
 side_said set p number [] w more none of mine = tt
 side_said set p None (x ∷ rest) w more none of mine = none_from p.client p.contents (message_in x) more none of.0
 side_said set p (Some n) (x ∷ rest) w more none of mine = by (message_in x) refl
@@ -168,7 +169,7 @@ says_none (Some p) = tt
 
 -- what is asked for, with further deeds that accept nothing of a client
 asked_says : (c : List ℕ) (a : Asking) (set : Setting) (his accepted : List ℕ) (from : List From) (w : World) (more : List Deed) → AcceptsNone more → Holds c set.limits his accepted w → Tells (publisher_named c w) from
-    → Says (publisher_named c w) (each_from (asked_from c a w) (first_deeds set a w ++ more))
+    → Says (publisher_named c w) (each_from (asked_from c a w) (read_first the_deeds set a w ++ more))
 asked_says c (break d) set his accepted from w more none h t = says_none (publisher_named c w)
 asked_says c (pump d) set his accepted from w more none h t = says_none (publisher_named c w)
 asked_says c tick set his accepted from w more none h t = says_none (publisher_named c w)
@@ -176,11 +177,11 @@ asked_says c (stranger name bytes) set his accepted from w more none h t = says_
 asked_says c (to_broker d) set his accepted from w more none h t = by (publisher_named c w) (cases_Bool (bytes_eq d c)) refl
   where
     Goal : Option Publisher → Bool → List ℕ → Type 0
-    Goal o u x = Says o (each_from (cond u (front_of_line (publisher_named c w)) None) (first_deeds set (to_broker x) w ++ more))
+    Goal o u x = Says o (each_from (cond u (front_of_line (publisher_named c w)) None) (read_first the_deeds set (to_broker x) w ++ more))
 
     by : (o : Option Publisher) → (bytes_eq d c ≡ true) ⊎ (bytes_eq d c ≡ false) → publisher_named c w ≡ o → Goal o (bytes_eq d c) d
     by o (inr other) e = subst (λ (u : Bool). Goal o u d) (sym other) (says_none o)
-    by None (inl its) e = subst (λ (u : Bool). Goal None u d) (sym its) (subst (λ (o : Option Publisher). each_from (front_of_line o) (first_deeds set (to_broker d) w ++ more) ≡ []) (sym e) refl)
+    by None (inl its) e = subst (λ (u : Bool). Goal None u d) (sym its) (subst (λ (o : Option Publisher). each_from (front_of_line o) (read_first the_deeds set (to_broker d) w ++ more) ≡ []) (sym e) refl)
     by (Some p) (inl its) e =
         let is : d ≡ c = (bytes_eq-Decides d c).0 its in
         let placed = subst (Him his w.broker accepted) e h.him in
@@ -188,16 +189,16 @@ asked_says c (to_broker d) set his accepted from w more none h t = by (publisher
         let r = receiver_named c w in
         let w1 = with_line c taken_up taken_up w in
         subst (λ (u : Bool). Goal (Some p) u d) (sym its) (subst (Goal (Some p) true) (sym is)
-        (subst (λ (o : Option Publisher). AllByRecursion (CarriesIn p.client p.contents) (each_from (front_of_line o) (deeds_if set (input_on (view_by o r).number (view_by o r).up) w1 ++ more))) (sym e)
+        (subst (λ (o : Option Publisher). AllByRecursion (CarriesIn p.client p.contents) (each_from (front_of_line o) (read_if the_deeds set (input_on (view_by o r).number (view_by o r).up) w1 ++ more))) (sym e)
         (side_said set p p.line.number p.line.up w1 more none numbered.up (λ n m x rest is_ up carries_. mine_up placed.birth placed.line n m p x rest w.broker placed.seat.his placed.seat.present is_ up carries_))))
 asked_says c (old_to_broker d) set his accepted from w more none h t = by (publisher_named c w) (cases_Bool (bytes_eq d c)) refl
   where
     Goal : Option Publisher → Bool → List ℕ → Type 0
-    Goal o u x = Says o (each_from (cond u (front_of_old (publisher_named c w)) None) (first_deeds set (old_to_broker x) w ++ more))
+    Goal o u x = Says o (each_from (cond u (front_of_old (publisher_named c w)) None) (read_first the_deeds set (old_to_broker x) w ++ more))
 
     by : (o : Option Publisher) → (bytes_eq d c ≡ true) ⊎ (bytes_eq d c ≡ false) → publisher_named c w ≡ o → Goal o (bytes_eq d c) d
     by o (inr other) e = subst (λ (u : Bool). Goal o u d) (sym other) (says_none o)
-    by None (inl its) e = subst (λ (u : Bool). Goal None u d) (sym its) (subst (λ (o : Option Publisher). each_from (front_of_old o) (first_deeds set (old_to_broker d) w ++ more) ≡ []) (sym e) refl)
+    by None (inl its) e = subst (λ (u : Bool). Goal None u d) (sym its) (subst (λ (o : Option Publisher). each_from (front_of_old o) (read_first the_deeds set (old_to_broker d) w ++ more) ≡ []) (sym e) refl)
     by (Some p) (inl its) e =
         let is : d ≡ c = (bytes_eq-Decides d c).0 its in
         let placed = subst (Him his w.broker accepted) e h.him in
@@ -205,11 +206,11 @@ asked_says c (old_to_broker d) set his accepted from w more none h t = by (publi
         let r = receiver_named c w in
         let w1 = with_line c taken_old taken_old w in
         subst (λ (u : Bool). Goal (Some p) u d) (sym its) (subst (Goal (Some p) true) (sym is)
-        (subst (λ (o : Option Publisher). AllByRecursion (CarriesIn p.client p.contents) (each_from (front_of_old o) (deeds_if set (input_on (view_by o r).old_number (view_by o r).old) w1 ++ more))) (sym e)
+        (subst (λ (o : Option Publisher). AllByRecursion (CarriesIn p.client p.contents) (each_from (front_of_old o) (read_if the_deeds set (input_on (view_by o r).old_number (view_by o r).old) w1 ++ more))) (sym e)
         (side_said set p p.line.old_number p.line.old w1 more none numbered.old (λ n m x rest is_ old carries_. mine_old placed.birth placed.line n m p x rest w.broker placed.seat.his placed.seat.former is_ old carries_))))
 
 event_says : (e : Event) (c : List ℕ) (set : Setting) (his accepted : List ℕ) (from : List From) (w : World) → Holds c set.limits his accepted w → Tells (publisher_named c w) from
-    → Says (publisher_named c w) (each_from (message_read c e w) (deeds_in set e w))
+    → Says (publisher_named c w) (each_from (message_read c e w) (read_in the_deeds set e w))
 event_says (publisher d) c set his accepted from w h t = says_none (publisher_named c w)
 event_says (receiver d window) c set his accepted from w h t = says_none (publisher_named c w)
 event_says (connect_end d clean) c set his accepted from w h t = says_none (publisher_named c w)
@@ -219,9 +220,9 @@ event_says (subscribe d x) c set his accepted from w h t = says_none (publisher_
 event_says (to_end d) c set his accepted from w h t = says_none (publisher_named c w)
 event_says (clock wait) c set his accepted from w h t = says_none (publisher_named c w)
 event_says (ask (to_broker d)) c set his accepted from w h t =
-    subst (λ (ds : List Deed). Says (publisher_named c w) (each_from (asked_from c (to_broker d) w) ds)) (append-nil (first_deeds set (to_broker d) w)) (asked_says c (to_broker d) set his accepted from w [] refl h t)
+    subst (λ (ds : List Deed). Says (publisher_named c w) (each_from (asked_from c (to_broker d) w) ds)) (append-nil (read_first the_deeds set (to_broker d) w)) (asked_says c (to_broker d) set his accepted from w [] refl h t)
 event_says (ask (old_to_broker d)) c set his accepted from w h t =
-    subst (λ (ds : List Deed). Says (publisher_named c w) (each_from (asked_from c (old_to_broker d) w) ds)) (append-nil (first_deeds set (old_to_broker d) w)) (asked_says c (old_to_broker d) set his accepted from w [] refl h t)
+    subst (λ (ds : List Deed). Says (publisher_named c w) (each_from (asked_from c (old_to_broker d) w) ds)) (append-nil (read_first the_deeds set (old_to_broker d) w)) (asked_says c (old_to_broker d) set his accepted from w [] refl h t)
 event_says (ask (break d)) c set his accepted from w h t = says_none (publisher_named c w)
 event_says (ask (pump d)) c set his accepted from w h t = says_none (publisher_named c w)
 event_says (ask tick) c set his accepted from w h t = says_none (publisher_named c w)
@@ -230,7 +231,7 @@ event_says restart c set his accepted from w h t = says_none (publisher_named c 
 event_says (stop_before a) c set his accepted from w h t = says_none (publisher_named c w)
 event_says (stop_after a) c set his accepted from w h t = let v = first_step set a w in
     let b = unopened v.now v.broker.records in
-    asked_says c a set his accepted from w (opening_deeds set v) (opening_none (env_of set.limits set.choice b) b) h t
+    asked_says c a set his accepted from w (read_opening the_deeds set v) (opening_none (env_of set.limits set.choice b) b) h t
 
 -- ---- a turn, and a run
 
@@ -239,13 +240,9 @@ pub record Told (c : List ℕ) (limits : Limits) (accepted : List ℕ) (from : L
   pub stays : Stays c limits accepted w
   pub tells : Tells (publisher_named c w) from
 
-all_append : {X : Type 0} (P : X → Type 0) (xs ys : List X) → AllByRecursion P xs → AllByRecursion P ys → AllByRecursion P (xs ++ ys)
-all_append P [] ys a b = b
-all_append P (x ∷ xs) ys a b = (a.0, all_append P xs ys a.1 b)
-
 tells_more : (o : Option Publisher) (from more : List From) → Tells o from → Says o more → Tells o (from ++ more)
 tells_more None from more t s = ap (λ (xs : List From). xs ++ more) t ∙ s
-tells_more (Some p) from more t s = (t.0, all_append (CarriesIn p.client p.contents) from more t.1 s)
+tells_more (Some p) from more t s = (t.0, each_append (CarriesIn p.client p.contents) from more t.1 s)
 
 -- a new publisher has sent nothing
 new_numbered : (d : List ℕ) → IsNumbered (new_publisher d)
@@ -293,17 +290,17 @@ turn_tells t c limits accepted from w h = by (is_bad t.event w) refl
     set : Setting
     set = setting limits t
 
-    by : (bad : Bool) → is_bad t.event w ≡ bad → Tells (publisher_named c (cond bad w (happens set t.event w))) (from ++ each_from (message_read c t.event w) (cond bad [] (deeds_in set t.event w)))
+    by : (bad : Bool) → is_bad t.event w ≡ bad → Tells (publisher_named c (cond bad w (happens set t.event w))) (from ++ each_from (message_read c t.event w) (cond bad [] (read_in the_deeds set t.event w)))
     by true is = subst (λ (xs : List From). Tells (publisher_named c w) xs) (sym (ap (λ (xs : List From). from ++ xs) (none_from_none (message_read c t.event w)) ∙ append-nil from)) h.tells
     by false is =
         let says = event_says t.event c set h.stays.his accepted from w h.stays.holds h.tells in
-        event_tells t.event c set w (from ++ each_from (message_read c t.event w) (deeds_in set t.event w)) is (tells_more (publisher_named c w) from _ h.tells says)
+        event_tells t.event c set w (from ++ each_from (message_read c t.event w) (read_in the_deeds set t.event w)) is (tells_more (publisher_named c w) from _ h.tells says)
 
 run_tells : (ts : List Turn) (c : List ℕ) (limits : Limits) (accepted : List ℕ) (from : List From) (w : World) → Told c limits accepted from w → run_spends limits ts w ≡ false → are_clean_starts_carried limits ts w ≡ true
     → Tells (publisher_named c (run limits ts w)) (from ++ from_over c limits ts w)
 run_tells [] c limits accepted from w h unspent carried = subst (λ (xs : List From). Tells (publisher_named c w) xs) (sym (append-nil from)) h.tells
 run_tells (t ∷ ts) c limits accepted from w h unspent carried =
-    let costs = either (turn_spends limits t w) (run_spends limits ts (turned limits t w)) unspent in
+    let costs = either (read_at spending (setting limits t) t.event w) (run_spends limits ts (turned limits t w)) unspent in
     let clean = both_true (carries_clean t.event w) (are_clean_starts_carried limits ts (turned limits t w)) carried in
     let stays = turn_stays t c limits accepted w h.stays clean.0 costs.0 in
     let more = accepted ++ accepted_at c (setting limits t) t.event w in

@@ -1,8 +1,9 @@
 -- Over every run of the world: the copies that stood or entered are those that stand or have ended, each as often; and
 -- publications are numbered one after the other.
-use Rattle.std.proofs.Common.{◌≡◌, ℕ, List, [], ◌∷◌, ◌++◌, Option, Some, None, refl, sym, ap, subst, arith}
+use Rattle.std.proofs.Common.{ℕ, List, [], ◌∷◌, ◌++◌, refl, sym, ap, subst, arith}
 use Rattle.std.specs.Prelude.{filter_map}
-use Rattle.std.specs.List.{AllByRecursion, cons_option}
+use Rattle.std.specs.List.{AllByRecursion}
+use Rattle.std.proofs.lemmas.List.Elements.{filter_map-append}
 use Rattle.mqtt_base.specs.declared.limits.TheConstants.{QUEUE_LIMIT}
 use Rattle.mqtt_base.specs.declared.session.CopyId.{CopyId}
 use Rattle.mqtt_records.specs.declared.session.Session.{Session}
@@ -79,22 +80,13 @@ counts_append : (n m k : ℕ) (xs ys : List ℕ) → CountsOn n xs m → CountsO
 counts_append n m k [] ys p q = subst (λ (z : ℕ). CountsOn z ys k) p q
 counts_append n m k (x ∷ xs) ys p q = (p.0, counts_append x m k xs ys p.1 q)
 
-given_append : (xs ys : List Deed) → filter_map publication_given (xs ++ ys) ≡ filter_map publication_given xs ++ filter_map publication_given ys
-given_append [] ys = refl
-given_append (x ∷ xs) ys = first (publication_given x) (given_append xs ys)
-  where
-    first : (o : Option ℕ) → filter_map publication_given (xs ++ ys) ≡ filter_map publication_given xs ++ filter_map publication_given ys
-        → cons_option o (filter_map publication_given (xs ++ ys)) ≡ cons_option o (filter_map publication_given xs) ++ filter_map publication_given ys
-    first None rest = rest
-    first (Some k) rest = ap (λ (ks : List ℕ). k ∷ ks) rest
-
 abbrev Numbers : List Deed → Broker → Broker → Type 0
 Numbers ds b d = CountsOn b.records.publications (filter_map publication_given ds) d.records.publications
 
 numbers : (limits : Limits) → Walk limits Numbers
 numbers limits = record {
   none = λ b. refl;
-  next = λ xs ys a b d p q. subst (λ (ns : List ℕ). CountsOn a.records.publications ns d.records.publications) (sym (given_append xs ys))
+  next = λ xs ys a b d p q. subst (λ (ns : List ℕ). CountsOn a.records.publications ns d.records.publications) (sym (filter_map-append publication_given xs ys))
       (counts_append a.records.publications b.records.publications d.records.publications (filter_map publication_given xs) (filter_map publication_given ys) p q);
   unlink = λ n b d h. h;
   link = λ n b d h. h;

@@ -6,6 +6,7 @@ use Rattle.std.specs.List.{AllByRecursion, cons_option}
 use Rattle.std.proofs.lemmas.Bool.{cases_Bool, eqb-true, ltb-true, lt-ltb}
 use Rattle.std.proofs.lemmas.Cmp.{nat_eq_equiv}
 use Rattle.std.proofs.lemmas.List.Sums.{sum_by-append, sum_by-cons}
+use Rattle.std.proofs.lemmas.List.Elements.{filter_map-append}
 use Rattle.mqtt_base.specs.declared.limits.TheConstants.{QUEUE_LIMIT, SESSION_LIMIT}
 use Rattle.mqtt_base.specs.declared.session.CopyId.{CopyId}
 use Rattle.mqtt_base.specs.declared.session.Ending.{Ending}
@@ -302,14 +303,6 @@ module _ (c : CopyId) where
 
   -- ---- deeds one after the other
 
-  entries_append : (xs ys : List Deed) → filter_map entered_in (xs ++ ys) ≡ filter_map entered_in xs ++ filter_map entered_in ys
-  entries_append [] ys = refl
-  entries_append (x ∷ xs) ys = first (entered_in x) (entries_append xs ys)
-    where
-      first : (o : Option CopyId) → filter_map entered_in (xs ++ ys) ≡ filter_map entered_in xs ++ filter_map entered_in ys → cons_option o (filter_map entered_in (xs ++ ys)) ≡ cons_option o (filter_map entered_in xs) ++ filter_map entered_in ys
-      first None rest = rest
-      first (Some k) rest = ap (λ (ks : List CopyId). k ∷ ks) rest
-
   ends_append : (xs ys : List Deed) → map (λ (e : End). e.copy) (filter_map ended_in (xs ++ ys)) ≡ map (λ (e : End). e.copy) (filter_map ended_in xs) ++ map (λ (e : End). e.copy) (filter_map ended_in ys)
   ends_append [] ys = refl
   ends_append (x ∷ xs) ys = first (ended_in x) (ends_append xs ys)
@@ -320,7 +313,7 @@ module _ (c : CopyId) where
       first (Some e) rest = ap (λ (ks : List CopyId). e.copy ∷ ks) rest
 
   pub e_append : (xs ys : List Deed) → E (xs ++ ys) ≡ E xs + E ys
-  e_append xs ys = ap (count_of c) (entries_append xs ys) ∙ count_append c (filter_map entered_in xs) (filter_map entered_in ys)
+  e_append xs ys = ap (count_of c) (filter_map-append entered_in xs ys) ∙ count_append c (filter_map entered_in xs) (filter_map entered_in ys)
 
   pub x_append : (xs ys : List Deed) → X (xs ++ ys) ≡ X xs + X ys
   x_append xs ys = ap (count_of c) (ends_append xs ys) ∙ count_append c (map (λ (e : End). e.copy) (filter_map ended_in xs)) (map (λ (e : End). e.copy) (filter_map ended_in ys))

@@ -4,6 +4,7 @@ use Rattle.std.specs.Prelude.{⊤, is_some, nat_le, flat_map, filter_map}
 use Rattle.std.specs.List.{AllByRecursion, cons_option}
 use Rattle.std.proofs.lemmas.Bool.{cases_Bool}
 use Rattle.std.proofs.lemmas.Cmp.{nat_eq_equiv}
+use Rattle.std.proofs.lemmas.List.Elements.{filter_map-append}
 use Rattle.mqtt_base.specs.declared.session.CopyId.{CopyId}
 use Rattle.mqtt_codec.specs.declared.packet.Packet.{Packet}
 use Rattle.mqtt_topic.specs.Names.{is_empty}
@@ -19,13 +20,14 @@ use Rattle.mqtt_records.specs.Session.{copy_place}
 use Rattle.mqtt_rows.specs.Order.{row_at}
 use Rattle.mqtt_rules.specs.Packets.{publish_of, size_of}
 use Rattle.mqtt_rules.specs.State.{Line, Broker, Env, session_at, line_of, queue_on}
-use Rattle.mqtt_rules.specs.Deeds.{whose, Message, Origin, Subscribe, Enter, Leave, Deed, Accept, Count, At, Keep, Send, after, after_all, always, series, with_session, offer}
+use Rattle.mqtt_rules.specs.Deeds.{whose, Message, Origin, Subscribe, Open, Enter, Leave, Deed, Accept, Begin, Count, At, Keep, Send, after, after_all, always, series, with_session, offer}
 use Rattle.mqtt_rules.specs.Outbound.{of_entry, leave_deeds, since, queue_limits, enter_deeds, room_at}
 use Rattle.mqtt_rules.specs.Routing.{CopyTo, is_queued, deliver_by, deliver, retained_of, forgets, retain_by, next_publication, accepted_copies, publish}
 use Rattle.mqtt_routes.specs.Retained.{kept_for}
 use Rattle.mqtt_topic.specs.Filters.{begins_share}
 use Rattle.mqtt_rules.specs.Subscribe as sub
 use Rattle.mqtt_rules.proofs.Acts.{brought_to}
+use Rattle.mqtt_rules.proofs.Copies.{each_flat}
 use Rattle.mqtt_rules.proofs.OrderedAccepted.{is_to, accepted_within}
 use Rattle.mqtt_rules.proofs.StandLaw.{Orders}
 use Rattle.mqtt_laws.specs.Run.{entered_in}
@@ -44,12 +46,7 @@ abbrev pub Tells : Env → List Deed → Broker → Type 0
 Tells env ds b = entered ds ≡ brought_by env ds b
 
 pub entered_append : (xs ys : List Deed) → entered (xs ++ ys) ≡ entered xs ++ entered ys
-entered_append [] ys = refl
-entered_append (x ∷ xs) ys = by (entered_in x) (entered_append xs ys)
-  where
-    by : (o : Option CopyId) → entered (xs ++ ys) ≡ entered xs ++ entered ys → cons_option o (entered (xs ++ ys)) ≡ cons_option o (entered xs) ++ entered ys
-    by None more = more
-    by (Some c) more = ap (λ (cs : List CopyId). c ∷ cs) more
+entered_append xs ys = filter_map-append entered_in xs ys
 
 brought_append : (env : Env) (xs ys : List Deed) (b : Broker) → brought_by env (xs ++ ys) b ≡ brought_by env xs b ++ brought_by env ys (after_all xs b)
 brought_append env [] ys b = refl
@@ -75,11 +72,29 @@ IsStill (At who (Enter copy)) = ⊥
 IsStill (At who (Subscribe x)) = ⊥
 IsStill d = ⊤
 
+-- and one that begins no session and opens no identifier either
+abbrev pub IsCalm : Deed → Type 0
+IsCalm (Begin row will) = ⊥
+IsCalm (At who (Open id)) = ⊥
+IsCalm d = IsStill d
+
 abbrev AreMute : List Deed → Type 0
 AreMute ds = AllByRecursion IsMute ds
 
 abbrev pub AreStill : List Deed → Type 0
 AreStill ds = AllByRecursion IsStill ds
+
+abbrev pub AreCalm : List Deed → Type 0
+AreCalm ds = AllByRecursion IsCalm ds
+
+still : (d : Deed) → IsCalm d → IsStill d
+still (Begin row will) h = absurd h
+still (At who (Open id)) h = absurd h
+still d h = h
+
+pub stills : (ds : List Deed) → AreCalm ds → AreStill ds
+stills [] h = tt
+stills (d ∷ ds) h = (still d h.0, stills ds h.1)
 
 mute : (d : Deed) → IsStill d → IsMute d
 mute (Accept number origin m) h env b = absurd h
@@ -105,18 +120,6 @@ mute_append : (xs ys : List Deed) → AreMute xs → AreMute ys → AreMute (xs 
 mute_append [] ys p q = q
 mute_append (x ∷ xs) ys p q = (p.0, mute_append xs ys p.1 q)
 
-pub still_append : (xs ys : List Deed) → AreStill xs → AreStill ys → AreStill (xs ++ ys)
-still_append [] ys p q = q
-still_append (x ∷ xs) ys p q = (p.0, still_append xs ys p.1 q)
-
-pub still_flat : {X : Type 0} (f : X → List Deed) → ((x : X) → AreStill (f x)) → (xs : List X) → AreStill (flat_map f xs)
-still_flat f h [] = tt
-still_flat f h (x ∷ xs) = still_append (f x) (flat_map f xs) (h x) (still_flat f h xs)
-
-pub still_cond : (t : Bool) (xs ys : List Deed) → AreStill xs → AreStill ys → AreStill (cond t xs ys)
-still_cond true xs ys p q = p
-still_cond false xs ys p q = q
-
 brought_none : (env : Env) (ds : List Deed) (b : Broker) → AreMute ds → brought_by env ds b ≡ []
 brought_none env [] b h = refl
 brought_none env (d ∷ ds) b h = ap (λ (cs : List CopyId). cs ++ brought_by env ds (after d b)) (h.0 env b) ∙ brought_none env ds (after d b) h.1
@@ -130,34 +133,41 @@ still_tells env ds b h = entered_none ds h ∙ sym (brought_none env ds b (mutes
 
 -- ---- queues
 
-pub still_entry : (o : Option CopyRow) (f : CopyRow → List Deed) → ((e : CopyRow) → AreStill (f e)) → AreStill (of_entry o f)
-still_entry None f h = tt
-still_entry (Some e) f h = h e
+pub calm_cond : (t : Bool) (xs ys : List Deed) → AreCalm xs → AreCalm ys → AreCalm (cond t xs ys)
+calm_cond true xs ys p q = p
+calm_cond false xs ys p q = q
 
-pub still_leave : (s : Session) (t : Turn) → AreStill (leave_deeds s t)
-still_leave s (turns.Leave place ending) = still_entry (row_at copy_place place s.queue) (λ e. At (whose s) (Leave e ending) ∷ []) (λ e. (tt, tt))
-still_leave s (turns.Send place id) = tt
-still_leave s (turns.Resend place id) = tt
-still_leave s (turns.Release place id order) = tt
-still_leave s (turns.Outgrow place id order) = tt
-still_leave s (turns.Repeat id) = tt
-still_leave s (turns.Unknown id) = tt
+pub calm_entry : (o : Option CopyRow) (f : CopyRow → List Deed) → ((e : CopyRow) → AreCalm (f e)) → AreCalm (of_entry o f)
+calm_entry None f h = tt
+calm_entry (Some e) f h = h e
 
-pub still_offer : (o : Option Line) (packet : Packet) → AreStill (offer o packet)
-still_offer None packet = tt
-still_offer (Some l) packet = still_cond _ (Send l.number packet ∷ []) [] (tt, tt) tt
+pub calm_leave : (s : Session) (t : Turn) → AreCalm (leave_deeds s t)
+calm_leave s (turns.Leave place ending) = calm_entry (row_at copy_place place s.queue) (λ e. At (whose s) (Leave e ending) ∷ []) (λ e. (tt, tt))
+calm_leave s (turns.Send place id) = tt
+calm_leave s (turns.Resend place id) = tt
+calm_leave s (turns.Release place id order) = tt
+calm_leave s (turns.Outgrow place id order) = tt
+calm_leave s (turns.Repeat id) = tt
+calm_leave s (turns.Unknown id) = tt
+
+pub calm_leaves : (s : Session) (ts : List Turn) → AreCalm (flat_map (leave_deeds s) ts)
+calm_leaves s ts = each_flat IsCalm (leave_deeds s) (calm_leave s) ts
+
+pub calm_offer : (o : Option Line) (packet : Packet) → AreCalm (offer o packet)
+calm_offer None packet = tt
+calm_offer (Some l) packet = calm_cond _ (Send l.number packet ∷ []) [] (tt, tt) tt
 
 entered_once : (env : Env) (copy : MessageCopy) (s : Session) → entered (enter_deeds env copy s) ≡ copy.id ∷ []
 entered_once env copy s =
     let ts = way_made (queue_limits env) (since env s) (queue_on [] s) in
     let leaves = flat_map (leave_deeds s) ts in
-    entered_append leaves (At (whose s) (Enter copy) ∷ []) ∙ ap (λ (cs : List CopyId). cs ++ copy.id ∷ []) (entered_none leaves (still_flat (leave_deeds s) (still_leave s) ts))
+    entered_append leaves (At (whose s) (Enter copy) ∷ []) ∙ ap (λ (cs : List CopyId). cs ++ copy.id ∷ []) (entered_none leaves (stills leaves (calm_leaves s ts)))
 
 mute_enter : (env : Env) (copy : MessageCopy) (s : Session) → AreMute (enter_deeds env copy s)
 mute_enter env copy s =
     let ts = way_made (queue_limits env) (since env s) (queue_on [] s) in
     let leaves = flat_map (leave_deeds s) ts in
-    mute_append leaves (At (whose s) (Enter copy) ∷ []) (mutes leaves (still_flat (leave_deeds s) (still_leave s) ts)) ((λ env b. refl), tt)
+    mute_append leaves (At (whose s) (Enter copy) ∷ []) (mutes leaves (stills leaves (calm_leaves s ts))) ((λ env b. refl), tt)
 
 -- ---- copies for sessions that stand
 
@@ -203,7 +213,7 @@ delivers true env d b has = delivers_to env d b (has refl)
 delivers false env d b has =
     let o = line_of d.birth b in
     let packet = publish_of b.now false 0 d.copy in
-    let calm = still_offer o packet in
+    let calm = stills (offer o packet) (calm_offer o packet) in
     record {
       lets_in = entered_none (offer o packet) calm;
       brings_none = mutes (offer o packet) calm;
@@ -261,18 +271,18 @@ accepted_stand env m b ds h e = all_stand env ds b.records (λ k. accepted_withi
 
 -- ---- a publication
 
-pub still_forgets : (o : Option RetainedMessage) → AreStill (forgets o)
-still_forgets None = tt
-still_forgets (Some k) = (tt, tt)
+pub calm_forgets : (o : Option RetainedMessage) → AreCalm (forgets o)
+calm_forgets None = tt
+calm_forgets (Some k) = (tt, tt)
 
 mute_retain : (retain empty : Bool) (number : ℕ) (m : Message) (b : Broker) → AreMute (retain_by retain empty number m b)
 mute_retain false empty number m b = tt
-mute_retain true true number m b = let o = retained_of m.topic b.records in mutes (forgets o) (still_forgets o)
+mute_retain true true number m b = let o = retained_of m.topic b.records in mutes (forgets o) (stills (forgets o) (calm_forgets o))
 mute_retain true false number m b = ((λ env b. refl), tt)
 
 none_retained : (retain empty : Bool) (number : ℕ) (m : Message) (b : Broker) → entered (retain_by retain empty number m b) ≡ []
 none_retained false empty number m b = refl
-none_retained true true number m b = let o = retained_of m.topic b.records in entered_none (forgets o) (still_forgets o)
+none_retained true true number m b = let o = retained_of m.topic b.records in entered_none (forgets o) (stills (forgets o) (calm_forgets o))
 none_retained true false number m b = refl
 
 for_forgets : (k : ℕ) (o : Option RetainedMessage) → AreFor k (forgets o)

@@ -32,7 +32,7 @@ use Rattle.mqtt_world_laws.specs.Identities.{is_ahead}
 use Rattle.mqtt_world_laws.proofs.CopiesApart.{Any, number_of, accepted_differ, queued_differ, brought_differ, brought_for}
 use Rattle.mqtt_world_laws.proofs.Counting.{E, e_append}
 use Rattle.mqtt_world_laws.proofs.Differ.{differ_filtered, put_differ}
-use Rattle.mqtt_world_laws.proofs.EachAct.{Says, call_says, opening_says}
+use Rattle.mqtt_world_laws.proofs.EachAct.{Says, call_says, opening_says, says_still, whatever}
 use Rattle.mqtt_world_laws.proofs.Entering.{IsStill, AreStill, no_entry, publish_enters, grant_enters}
 use Rattle.mqtt_world_laws.proofs.RoutedApart.{IsCauseOf, ids_to}
 use Rattle.mqtt_world_laws.proofs.Told.{count_none, count_once}
@@ -292,13 +292,8 @@ module _ (c : CopyId) where
 
   -- ---- calls and openings
 
-  counting : (env : Env) → Says env Counted
-  counting env = record {
-    still = all_still;
-    next = counted_next;
-    publish = publish_counted env;
-    grants = grants_counted env;
-  }
+  counting : (env : Env) → Says env whatever Orders Counted
+  counting env = says_still env Counted all_still counted_next (publish_counted env) (grants_counted env)
 
   kinds_done : (rows : List Change) (b : Broker) → kinds (with_moment rows b).records ≡ kinds b.records
   kinds_done [] b = refl
@@ -310,7 +305,7 @@ module _ (c : CopyId) where
       let env = env_of limits choice b in
       let a = at_moment now b in
       let ds = deeds limits choice now call b in
-      subst (Enters ds (kinds b.records)) (sym (kinds_done (rows_of_all ds a.records) (after_all ds a))) (call_says env Counted (counting env) call a h k)
+      subst (Enters ds (kinds b.records)) (sym (kinds_done (rows_of_all ds a.records) (after_all ds a))) (call_says env whatever Orders Counted (counting env) call (λ n packet e. tt) a h k)
 
   pub opening_counted : (limits : Limits) (choice : MemberChoice) (now : ℕ) (b : Broker) → Orders b → AreKept (kinds b.records)
       → Enters (opening (env_of limits choice (unopened now b.records)) (unopened now b.records)) (kinds b.records) (kinds (opened limits choice now b.records).records)
@@ -318,4 +313,4 @@ module _ (c : CopyId) where
       let a = unopened now b.records in
       let env = env_of limits choice a in
       let ds = opening env a in
-      subst (Enters ds (kinds b.records)) (sym (kinds_done (rows_of_all ds a.records) (after_all ds a))) (opening_says env Counted (counting env) a h k)
+      subst (Enters ds (kinds b.records)) (sym (kinds_done (rows_of_all ds a.records) (after_all ds a))) (opening_says env whatever Orders Counted (counting env) a h k)

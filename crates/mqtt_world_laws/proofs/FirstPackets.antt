@@ -10,10 +10,10 @@ use Rattle.mqtt_rules.specs.Step.{Input, stepped, told, deeds}
 use Rattle.mqtt_laws.specs.Lines.{Line}
 use Rattle.mqtt_laws.specs.Ends.{Sent, Publisher, Back, wire, message_in}
 use Rattle.mqtt_laws.specs.World.{World, Setting, publisher_named, receiver_named, with_line, with_receiver, publisher_told, calls_if, to_broker, old_to_broker, input_on, view_by, view_of, taken_up, taken_old, call_of, first_step}
-use Rattle.mqtt_laws.specs.Run.{front_message, front_of_line, front_of_old, asked_from, each_of, deeds_if, first_deeds}
+use Rattle.mqtt_laws.specs.Run.{front_message, front_of_line, front_of_old, asked_from, each_of, read_if, read_first, the_deeds}
 use Rattle.mqtt_laws.specs.Seats.{Comes, Former, Present, absent, closed, joined, late, lingers, over, waiting}
 use Rattle.mqtt_laws.proofs.Calls.{reads_own, reads_old}
-use Rattle.mqtt_world_laws.specs.Spending.{spends, first_spends}
+use Rattle.mqtt_world_laws.specs.Spending.{spending}
 use Rattle.mqtt_world_laws.proofs.Steady.{sound_of, steady_step}
 use Rattle.mqtt_world_laws.proofs.Ends.{changed_not, changed_his, IsNotHim, whose_name}
 use Rattle.mqtt_world_laws.proofs.Around.{HasFree, Around, Placed, Him, Holds, placed_next, named_called, if_around, if_holds}
@@ -47,7 +47,7 @@ pub record Side (set : Setting) (his accepted : List ℕ) (p : Publisher) (b : B
   pub nothing : number ≡ None → packets ≡ []
   pub empty : packets ≡ [] → f p.line ≡ p.line
   pub comes : (n : ℕ) (packet : Sent) (rest : List Sent) → number ≡ Some n → packets ≡ packet ∷ rest
-      → spends set (Some (Input n (wire p.client p.contents packet))) (record { broker = b; now = now; publishers = []; receivers = []; strangers = [] }) ≡ false
+      → read_if spending set (Some (Input n (wire p.client p.contents packet))) (record { broker = b; now = now; publishers = []; receivers = []; strangers = [] }) ≡ false
       → Comes line p
       (publisher_told (stepped set.limits set.choice now (Input n (wire p.client p.contents packet)) b) (told set.limits set.choice now (Input n (wire p.client p.contents packet)) b) (record p { line = f p.line })) b
       (stepped set.limits set.choice now (Input n (wire p.client p.contents packet)) b) accepted
@@ -65,11 +65,11 @@ module _ (c : List ℕ) (set : Setting) (his accepted : List ℕ) (w : World) (f
   abbrev pub OwnRead : Publisher → Option ℕ → List Sent → Type 0
   OwnRead p number packets =
       let call = input_on number (map (wire p.client p.contents) packets) in
-      Him his (calls_if set call Taken).broker (accepted ++ each_of (front_message packets) (deeds_if set call Taken)) (publisher_named c (calls_if set call Taken))
+      Him his (calls_if set call Taken).broker (accepted ++ each_of (front_message packets) (read_if the_deeds set call Taken)) (publisher_named c (calls_if set call Taken))
 
   pub own_read : (p : Publisher) (number : Option ℕ) (packets : List Sent) → publisher_named c w ≡ Some p → (placed : Placed his p w.broker accepted)
       → Side set his accepted p w.broker w.now placed.line f number packets
-      → spends set (input_on number (map (wire p.client p.contents) packets)) Taken ≡ false → OwnRead p number packets
+      → read_if spending set (input_on number (map (wire p.client p.contents) packets)) Taken ≡ false → OwnRead p number packets
   own_read p number packets e placed side unspent = by number packets refl refl unspent
     where
       found : publisher_named c Taken ≡ Some (record p { line = f p.line })
@@ -81,7 +81,7 @@ module _ (c : List ℕ) (set : Setting) (his accepted : List ℕ) (w : World) (f
           (subst (λ (l : Line Sent). Placed his (record p { line = l }) w.broker (accepted ++ each_of o [])) (sym (side.empty none))
           (subst (λ (ns : List ℕ). Placed his p w.broker ns) (sym (ap (λ (ns : List ℕ). accepted ++ ns) (each_none o) ∙ append-nil accepted)) placed))
 
-      by : (x : Option ℕ) (xs : List Sent) → number ≡ x → packets ≡ xs → spends set (input_on x (map (wire p.client p.contents) xs)) Taken ≡ false → OwnRead p x xs
+      by : (x : Option ℕ) (xs : List Sent) → number ≡ x → packets ≡ xs → read_if spending set (input_on x (map (wire p.client p.contents) xs)) Taken ≡ false → OwnRead p x xs
       by None xs is xs_is u = untouched (side.nothing is) (front_message xs)
       by (Some n) [] is xs_is u = untouched xs_is None
       by (Some n) (packet ∷ rest) is xs_is u =
@@ -153,16 +153,16 @@ asked_none c d w f none not_him = elim (cases_Bool (bytes_eq d c)) [
 pub none_accepted : (c : List ℕ) (limits : Limits) (his accepted : List ℕ) (w : World) (o : Option ℕ) (ds : List Deed) → o ≡ None → Holds c limits his accepted w → Holds c limits his (accepted ++ each_of o ds) w
 none_accepted c limits his accepted w o ds e h = subst (λ (ns : List ℕ). Holds c limits his ns w) (sym (ap (λ (x : Option ℕ). accepted ++ each_of x ds) e ∙ append-nil accepted)) h
 
-pub reads_hold : (c d : List ℕ) (set : Setting) (his accepted : List ℕ) (w : World) → Holds c set.limits his accepted w → first_spends set (to_broker d) w ≡ false
-    → Holds c set.limits his (accepted ++ each_of (asked_from c (to_broker d) w) (first_deeds set (to_broker d) w)) (first_step set (to_broker d) w)
+pub reads_hold : (c d : List ℕ) (set : Setting) (his accepted : List ℕ) (w : World) → Holds c set.limits his accepted w → read_first spending set (to_broker d) w ≡ false
+    → Holds c set.limits his (accepted ++ each_of (asked_from c (to_broker d) w) (read_first the_deeds set (to_broker d) w)) (first_step set (to_broker d) w)
 reads_hold c d set his accepted w h unspent = elim (whose_name c d w) [
-  | inr not_him ↦ none_accepted c set.limits his accepted (first_step set (to_broker d) w) (asked_from c (to_broker d) w) (first_deeds set (to_broker d) w)
+  | inr not_him ↦ none_accepted c set.limits his accepted (first_step set (to_broker d) w) (asked_from c (to_broker d) w) (read_first the_deeds set (to_broker d) w)
       (asked_none c d w front_of_line refl not_him) (others not_him)
-  | inl own ↦ subst Goal (sym own.2) (his_own own.0 own.1 (subst (λ (x : List ℕ). first_spends set (to_broker x) w ≡ false) own.2 unspent))
+  | inl own ↦ subst Goal (sym own.2) (his_own own.0 own.1 (subst (λ (x : List ℕ). read_first spending set (to_broker x) w ≡ false) own.2 unspent))
 ]
   where
     Goal : List ℕ → Type 0
-    Goal x = Holds c set.limits his (accepted ++ each_of (asked_from c (to_broker x) w) (first_deeds set (to_broker x) w)) (first_step set (to_broker x) w)
+    Goal x = Holds c set.limits his (accepted ++ each_of (asked_from c (to_broker x) w) (read_first the_deeds set (to_broker x) w)) (first_step set (to_broker x) w)
 
     others : IsNotHim c d w → Holds c set.limits his accepted (first_step set (to_broker d) w)
     others not_him =
@@ -173,31 +173,31 @@ reads_hold c d set his accepted w h unspent = elim (whose_name c d w) [
         let f = foreign c d set.limits his w h.around (not_him (sym (ap is_some (changed_not c d (on_line taken_up) (with_receiver d (on_back taken_up) w) (λ p. refl) not_him)) ∙ there)) in
         input_outside his c w.broker.given v.number v.up call f.number f.up is)
 
-    his_own : (p : Publisher) → publisher_named c w ≡ Some p → first_spends set (to_broker c) w ≡ false → Goal c
+    his_own : (p : Publisher) → publisher_named c w ≡ Some p → read_first spending set (to_broker c) w ≡ false → Goal c
     his_own p e u =
         let w1 = with_line c taken_up taken_up w in
         let r = receiver_named c w in
         let placed = subst (Him his w.broker accepted) e h.him in
-        let cost : spends set (input_on p.line.number (map (wire p.client p.contents) p.line.up)) w1 ≡ false =
-        sym (ap (λ (o : Option Publisher). spends set (input_on (view_by o r).number (view_by o r).up) w1) e) ∙ u in
+        let cost : read_if spending set (input_on p.line.number (map (wire p.client p.contents) p.line.up)) w1 ≡ false =
+        sym (ap (λ (o : Option Publisher). read_if spending set (input_on (view_by o r).number (view_by o r).up) w1) e) ∙ u in
         let him = own_read c set his accepted w taken_up taken_up takes_up p p.line.number p.line.up e placed (side_up c set his accepted w p h.around placed) cost in
         let asked : asked_from c (to_broker c) w ≡ front_of_line (publisher_named c w) = let it = (bytes_eq-Decides c c).1 refl in ap (λ (t : Bool). cond t (front_of_line (publisher_named c w)) None) it in
         record {
           around = if_around c set his (call_of set (to_broker c) w) w1 (own_around c set.limits his w p (on_line taken_up) (on_back taken_up) (λ q. refl) (λ q. refl) e h.around) u;
-          him = subst (λ (o : Option ℕ). Him his (first_step set (to_broker c) w).broker (accepted ++ each_of o (first_deeds set (to_broker c) w)) (publisher_named c (first_step set (to_broker c) w))) (sym asked)
-              (subst (λ (o : Option Publisher). Him his (calls_if set (input_on (view_by o r).number (view_by o r).up) w1).broker (accepted ++ each_of (front_of_line o) (deeds_if set (input_on (view_by o r).number (view_by o r).up) w1)) (publisher_named c (calls_if set (input_on (view_by o r).number (view_by o r).up) w1))) (sym e) him);
+          him = subst (λ (o : Option ℕ). Him his (first_step set (to_broker c) w).broker (accepted ++ each_of o (read_first the_deeds set (to_broker c) w)) (publisher_named c (first_step set (to_broker c) w))) (sym asked)
+              (subst (λ (o : Option Publisher). Him his (calls_if set (input_on (view_by o r).number (view_by o r).up) w1).broker (accepted ++ each_of (front_of_line o) (read_if the_deeds set (input_on (view_by o r).number (view_by o r).up) w1)) (publisher_named c (calls_if set (input_on (view_by o r).number (view_by o r).up) w1))) (sym e) him);
         }
 
-pub reads_old_hold : (c d : List ℕ) (set : Setting) (his accepted : List ℕ) (w : World) → Holds c set.limits his accepted w → first_spends set (old_to_broker d) w ≡ false
-    → Holds c set.limits his (accepted ++ each_of (asked_from c (old_to_broker d) w) (first_deeds set (old_to_broker d) w)) (first_step set (old_to_broker d) w)
+pub reads_old_hold : (c d : List ℕ) (set : Setting) (his accepted : List ℕ) (w : World) → Holds c set.limits his accepted w → read_first spending set (old_to_broker d) w ≡ false
+    → Holds c set.limits his (accepted ++ each_of (asked_from c (old_to_broker d) w) (read_first the_deeds set (old_to_broker d) w)) (first_step set (old_to_broker d) w)
 reads_old_hold c d set his accepted w h unspent = elim (whose_name c d w) [
-  | inr not_him ↦ none_accepted c set.limits his accepted (first_step set (old_to_broker d) w) (asked_from c (old_to_broker d) w) (first_deeds set (old_to_broker d) w)
+  | inr not_him ↦ none_accepted c set.limits his accepted (first_step set (old_to_broker d) w) (asked_from c (old_to_broker d) w) (read_first the_deeds set (old_to_broker d) w)
       (asked_none c d w front_of_old refl not_him) (others not_him)
-  | inl own ↦ subst Goal (sym own.2) (his_own own.0 own.1 (subst (λ (x : List ℕ). first_spends set (old_to_broker x) w ≡ false) own.2 unspent))
+  | inl own ↦ subst Goal (sym own.2) (his_own own.0 own.1 (subst (λ (x : List ℕ). read_first spending set (old_to_broker x) w ≡ false) own.2 unspent))
 ]
   where
     Goal : List ℕ → Type 0
-    Goal x = Holds c set.limits his (accepted ++ each_of (asked_from c (old_to_broker x) w) (first_deeds set (old_to_broker x) w)) (first_step set (old_to_broker x) w)
+    Goal x = Holds c set.limits his (accepted ++ each_of (asked_from c (old_to_broker x) w) (read_first the_deeds set (old_to_broker x) w)) (first_step set (old_to_broker x) w)
 
     others : IsNotHim c d w → Holds c set.limits his accepted (first_step set (old_to_broker d) w)
     others not_him =
@@ -208,17 +208,17 @@ reads_old_hold c d set his accepted w h unspent = elim (whose_name c d w) [
         let f = foreign c d set.limits his w h.around (not_him (sym (ap is_some (changed_not c d (on_line taken_old) (with_receiver d (on_back taken_old) w) (λ p. refl) not_him)) ∙ there)) in
         input_outside his c w.broker.given v.old_number v.old call f.old_number f.old is)
 
-    his_own : (p : Publisher) → publisher_named c w ≡ Some p → first_spends set (old_to_broker c) w ≡ false → Goal c
+    his_own : (p : Publisher) → publisher_named c w ≡ Some p → read_first spending set (old_to_broker c) w ≡ false → Goal c
     his_own p e u =
         let w1 = with_line c taken_old taken_old w in
         let r = receiver_named c w in
         let placed = subst (Him his w.broker accepted) e h.him in
-        let cost : spends set (input_on p.line.old_number (map (wire p.client p.contents) p.line.old)) w1 ≡ false =
-        sym (ap (λ (o : Option Publisher). spends set (input_on (view_by o r).old_number (view_by o r).old) w1) e) ∙ u in
+        let cost : read_if spending set (input_on p.line.old_number (map (wire p.client p.contents) p.line.old)) w1 ≡ false =
+        sym (ap (λ (o : Option Publisher). read_if spending set (input_on (view_by o r).old_number (view_by o r).old) w1) e) ∙ u in
         let him = own_read c set his accepted w taken_old taken_old takes_old p p.line.old_number p.line.old e placed (side_old c set his accepted w p h.around placed) cost in
         let asked : asked_from c (old_to_broker c) w ≡ front_of_old (publisher_named c w) = let it = (bytes_eq-Decides c c).1 refl in ap (λ (t : Bool). cond t (front_of_old (publisher_named c w)) None) it in
         record {
           around = if_around c set his (call_of set (old_to_broker c) w) w1 (own_around c set.limits his w p (on_line taken_old) (on_back taken_old) (λ q. refl) (λ q. refl) e h.around) u;
-          him = subst (λ (o : Option ℕ). Him his (first_step set (old_to_broker c) w).broker (accepted ++ each_of o (first_deeds set (old_to_broker c) w)) (publisher_named c (first_step set (old_to_broker c) w))) (sym asked)
-              (subst (λ (o : Option Publisher). Him his (calls_if set (input_on (view_by o r).old_number (view_by o r).old) w1).broker (accepted ++ each_of (front_of_old o) (deeds_if set (input_on (view_by o r).old_number (view_by o r).old) w1)) (publisher_named c (calls_if set (input_on (view_by o r).old_number (view_by o r).old) w1))) (sym e) him);
+          him = subst (λ (o : Option ℕ). Him his (first_step set (old_to_broker c) w).broker (accepted ++ each_of o (read_first the_deeds set (old_to_broker c) w)) (publisher_named c (first_step set (old_to_broker c) w))) (sym asked)
+              (subst (λ (o : Option Publisher). Him his (calls_if set (input_on (view_by o r).old_number (view_by o r).old) w1).broker (accepted ++ each_of (front_of_old o) (read_if the_deeds set (input_on (view_by o r).old_number (view_by o r).old) w1)) (publisher_named c (calls_if set (input_on (view_by o r).old_number (view_by o r).old) w1))) (sym e) him);
         }

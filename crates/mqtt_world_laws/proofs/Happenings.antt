@@ -155,7 +155,7 @@ may_give : (link : Link) (clean : Bool) → not (is_asked (Some link) && clean) 
 may_give away clean h = tt
 may_give live clean h = tt
 may_give asked true h = absurd cc
-may_give asked false h = tt
+may_give asked false h = refl
 
 pub given_up_holds : (c d : List ℕ) (set : Setting) (his accepted : List ℕ) (w : World) → Holds c set.limits his accepted w → carries_clean (give_up d) w ≡ true → Holds c set.limits his accepted (happens set (give_up d) w)
 given_up_holds c d set his accepted w h carried = elim (whose_name c d w) [

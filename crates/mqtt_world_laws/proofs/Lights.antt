@@ -1,8 +1,9 @@
 -- Copies of QoS 0 go out in the step in which their publication is accepted.
 use Rattle.std.proofs.Common.{◌≡◌, ℕ, Bool, true, false, cond, List, [], ◌∷◌, ◌++◌, map, filter, Option, Some, None, nat_le, refl, sym, ap, subst, ◌∙◌, inl, inr, append_assoc, append-nil}
 use Rattle.std.specs.Prelude.{⊤, find, flat_map, filter_map}
-use Rattle.std.specs.List.{AllByRecursion, cons_option}
+use Rattle.std.specs.List.{AllByRecursion}
 use Rattle.std.proofs.lemmas.Bool.{cases_Bool}
+use Rattle.std.proofs.lemmas.List.Elements.{filter_map-append}
 use Rattle.mqtt_codec.specs.declared.packet.Packet.{Packet}
 use Rattle.mqtt_flow.specs.Outbound.{way_made}
 use Rattle.mqtt_flow.specs.declared.entry.Turn.{Turn}
@@ -24,7 +25,7 @@ use Rattle.mqtt_rules.proofs.Acts.{brought_to}
 use Rattle.mqtt_rules.proofs.StandLaw.{Orders}
 use Rattle.mqtt_world_laws.specs.AtOnce.{IsPart, due, due_at, due_by, due_for, due_if, put_on}
 use Rattle.mqtt_world_laws.specs.Entries.{moments_of}
-use Rattle.mqtt_world_laws.proofs.EachAct.{Says}
+use Rattle.mqtt_world_laws.proofs.EachAct.{Says, says_still, whatever}
 use Rattle.mqtt_world_laws.proofs.Entering.{IsStill, AreStill}
 
 -- ---- parts of lists
@@ -61,12 +62,7 @@ abbrev pub Gives : Env → List Deed → Broker → Type 0
 Gives env ds b = IsPart (dues env ds b) (outputs ds)
 
 outputs_append : (xs ys : List Deed) → outputs (xs ++ ys) ≡ outputs xs ++ outputs ys
-outputs_append [] ys = refl
-outputs_append (x ∷ xs) ys = by (output x) (outputs_append xs ys)
-  where
-    by : (o : Option (ℕ × Packet)) → outputs (xs ++ ys) ≡ outputs xs ++ outputs ys → cons_option o (outputs (xs ++ ys)) ≡ cons_option o (outputs xs) ++ outputs ys
-    by None more = more
-    by (Some p) more = ap (λ (ps : Packets). p ∷ ps) more
+outputs_append xs ys = filter_map-append output xs ys
 
 dues_append : (env : Env) (xs ys : List Deed) (b : Broker) → dues env (xs ++ ys) b ≡ dues env xs b ++ dues env ys (after_all xs b)
 dues_append env [] ys b = refl
@@ -286,10 +282,5 @@ grants_give env w s b =
     let all = series (map (deliver env) (filter is_queued (brought_to w s b))) c in
     others_give env (first ++ all) b (tt, (tt, lights_other all (light_deliveries env (filter is_queued (brought_to w s b)) c)))
 
-pub giving : (env : Env) → Says env (Gives env)
-giving env = record {
-  still = λ ds b h. others_give env ds b (stills_other ds h);
-  next = gives_append env;
-  publish = publish_gives env;
-  grants = λ w s b e. grants_give env w s b;
-}
+pub giving : (env : Env) → Says env whatever Orders (Gives env)
+giving env = says_still env (Gives env) (λ ds b h. others_give env ds b (stills_other ds h)) (gives_append env) (publish_gives env) (λ w s b e. grants_give env w s b)

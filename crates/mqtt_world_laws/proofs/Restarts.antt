@@ -9,11 +9,11 @@ use Rattle.mqtt_rules.specs.Step.{opened, unopened, env_of}
 use Rattle.mqtt_laws.specs.Lines.{Line, left}
 use Rattle.mqtt_laws.specs.Ends.{Sent, Publisher, Receiver, Back}
 use Rattle.mqtt_laws.specs.World.{World, Setting, Stranger, Asking, to_broker, old_to_broker, break, pump, tick, stranger, publisher_named, with_line, publisher_restarted, receiver_restarted, unlinked, restarts, taken_up, taken_old, before, first_step, is_bad_asking, lost_on, view_of}
-use Rattle.mqtt_laws.specs.Run.{client_number, asked_from, each_of, first_deeds, opening_deeds}
+use Rattle.mqtt_laws.specs.Run.{client_number, asked_from, each_of, read_first, read_opening, the_deeds}
 use Rattle.mqtt_laws.specs.Seats.{IsHis, absent, over}
 use Rattle.mqtt_laws.proofs.Publishes.{numbers_append}
 use Rattle.mqtt_laws.proofs.Calls.{restarts_come}
-use Rattle.mqtt_world_laws.specs.Spending.{first_spends, opening_spends}
+use Rattle.mqtt_world_laws.specs.Spending.{spending}
 use Rattle.mqtt_world_laws.proofs.Steady.{steady_again}
 use Rattle.mqtt_world_laws.proofs.Ends.{all_mapped, anything, find_publisher, find_receiver, is_some_mapped, only_client, whose_name}
 use Rattle.mqtt_world_laws.proofs.Around.{OtherPublisher, OtherReceiver, OtherStranger, Around, Placed, Him, Holds, Stays, longer, if_around}
@@ -85,7 +85,7 @@ back_again set now his p b accepted placed =
     }
 
 -- nobody has a line
-all_restarted : (c : List ℕ) (set : Setting) (his accepted : List ℕ) (w : World) → MayRestart c set.limits accepted w → opening_spends set w ≡ false
+all_restarted : (c : List ℕ) (set : Setting) (his accepted : List ℕ) (w : World) → MayRestart c set.limits accepted w → read_opening spending set w ≡ false
     → ((j : ℕ) → IsAmong j his → j ≤ (opened set.limits set.choice w.now w.broker.records).given) → IsAmong 0 his → Around c set.limits his (restarts set w)
 all_restarted c set his accepted w h unspent known none = record {
   within = h.around.within;
@@ -103,7 +103,7 @@ all_restarted c set his accepted w h unspent known none = record {
     new : Broker
     new = opened set.limits set.choice w.now w.broker.records
 
-pub restart_stays : (c : List ℕ) (set : Setting) (accepted : List ℕ) (w : World) → MayRestart c set.limits accepted w → opening_spends set w ≡ false → Stays c set.limits accepted (restarts set w)
+pub restart_stays : (c : List ℕ) (set : Setting) (accepted : List ℕ) (w : World) → MayRestart c set.limits accepted w → read_opening spending set w ≡ false → Stays c set.limits accepted (restarts set w)
 restart_stays c set accepted w h unspent = by (publisher_named c w) h.him found
   where
     new : Broker
@@ -169,14 +169,14 @@ before_rests c (stranger name bytes) set his accepted w h = may_restart c set.li
 -- ---- a stop after it
 
 -- his line was lost, and he has not left it yet
-lost_rests : (c d : List ℕ) (set : Setting) (his accepted : List ℕ) (w : World) → Holds c set.limits his accepted w → first_spends set (break d) w ≡ false → MayRestart c set.limits accepted (first_step set (break d) w)
+lost_rests : (c d : List ℕ) (set : Setting) (his accepted : List ℕ) (w : World) → Holds c set.limits his accepted w → read_first spending set (break d) w ≡ false → MayRestart c set.limits accepted (first_step set (break d) w)
 lost_rests c d set his accepted w h unspent = elim (whose_name c d w) [
   | inr not_him ↦ may_restart c set.limits his accepted (first_step set (break d) w) (other_lost c d set his accepted w h not_him unspent)
   | inl own ↦ subst (λ (x : List ℕ). MayRestart c set.limits accepted (first_step set (break x) w)) (sym own.2)
-      (own_lost own.0 own.1 (subst (λ (x : List ℕ). first_spends set (break x) w ≡ false) own.2 unspent))
+      (own_lost own.0 own.1 (subst (λ (x : List ℕ). read_first spending set (break x) w ≡ false) own.2 unspent))
 ]
   where
-    own_lost : (p : Publisher) → publisher_named c w ≡ Some p → first_spends set (break c) w ≡ false → MayRestart c set.limits accepted (first_step set (break c) w)
+    own_lost : (p : Publisher) → publisher_named c w ≡ Some p → read_first spending set (break c) w ≡ false → MayRestart c set.limits accepted (first_step set (break c) w)
     own_lost p e u =
         let x = lost_placed c set his accepted w p e (subst (Him his w.broker accepted) e h.him) in
         record {
@@ -188,9 +188,9 @@ lost_rests c d set his accepted w h unspent = elim (whose_name c d w) [
 
 -- the messages of his that the first step accepts
 abbrev pub first_accepted : List ℕ → Setting → Asking → World → List ℕ
-first_accepted c set a w = each_of (asked_from c a w) (first_deeds set a w)
+first_accepted c set a w = each_of (asked_from c a w) (read_first the_deeds set a w)
 
-pub after_rests : (c : List ℕ) (a : Asking) (set : Setting) (his accepted : List ℕ) (w : World) → Holds c set.limits his accepted w → is_bad_asking a w ≡ false → first_spends set a w ≡ false
+pub after_rests : (c : List ℕ) (a : Asking) (set : Setting) (his accepted : List ℕ) (w : World) → Holds c set.limits his accepted w → is_bad_asking a w ≡ false → read_first spending set a w ≡ false
     → MayRestart c set.limits (accepted ++ first_accepted c set a w) (first_step set a w)
 after_rests c (to_broker d) set his accepted w h good unspent =
     may_restart c set.limits his (accepted ++ first_accepted c set (to_broker d) w) (first_step set (to_broker d) w) (reads_hold c d set his accepted w h unspent)
@@ -209,8 +209,8 @@ after_rests c (stranger name bytes) set his accepted w h good unspent =
     (may_restart c set.limits his accepted (first_step set (stranger name bytes) w) (stranger_first c name bytes set his accepted w h good unspent))
 
 -- no message is accepted as the broker opens again
-pub each_opened : (o : Option ℕ) (ds : List Deed) (set : Setting) (w : World) → each_of o (ds ++ opening_deeds set w) ≡ each_of o ds
+pub each_opened : (o : Option ℕ) (ds : List Deed) (set : Setting) (w : World) → each_of o (ds ++ read_opening the_deeds set w) ≡ each_of o ds
 each_opened None ds set w = refl
 each_opened (Some n) ds set w =
     let b = unopened w.now w.broker.records in
-    ap (map (λ number. n)) (numbers_append ds (opening_deeds set w) ∙ (ap (λ (ks : List ℕ). filter_map client_number ds ++ ks) (opening_none (env_of set.limits set.choice b) b) ∙ append-nil (filter_map client_number ds)))
+    ap (map (λ number. n)) (numbers_append ds (read_opening the_deeds set w) ∙ (ap (λ (ks : List ℕ). filter_map client_number ds ++ ks) (opening_none (env_of set.limits set.choice b) b) ∙ append-nil (filter_map client_number ds)))

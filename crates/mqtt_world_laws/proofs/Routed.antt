@@ -11,7 +11,7 @@ use Rattle.mqtt_records.specs.declared.records.Records.{Records}
 use Rattle.mqtt_rules.specs.declared.Limits.{Limits}
 use Rattle.mqtt_rules.specs.Packets.{publish_of}
 use Rattle.mqtt_rules.specs.State.{Broker, Env, session_at, line_of, queue_on}
-use Rattle.mqtt_rules.specs.Deeds.{Whose, whose, Message, Origin, Part, Enter, Deed, Accept, Begin, Name, Count, At, Finish, Keep, Forget, RefuseWill, Link, On, Send, Gone, after, after_all, always, series, with_session, offer}
+use Rattle.mqtt_rules.specs.Deeds.{whose, Message, Origin, Enter, Deed, Accept, Begin, Name, Count, At, Finish, Keep, Forget, RefuseWill, Link, On, Send, Gone, after, after_all, always, series, with_session}
 use Rattle.mqtt_rules.specs.Deeds as deeds
 use Rattle.mqtt_rules.specs.Outbound.{leave_deeds, since, queue_limits, enter_deeds}
 use Rattle.mqtt_rules.specs.Routing.{CopyTo, is_queued, deliver_by, deliver, retained_of, forgets, retain_by, next_publication, accepted_copies, publish}
@@ -21,7 +21,7 @@ use Rattle.mqtt_rules.proofs.Goods.{AreGood, good_append}
 use Rattle.mqtt_rules.proofs.Acts.{brought_to}
 use Rattle.mqtt_rules.proofs.OrderedActs.{IsPlain, ArePlain, Keeping, leads_all, leads_open, plain_flat, plain_leave, plain_offer}
 use Rattle.mqtt_laws.specs.World.{World, Setting, Event, publisher, receiver, connect_end, give_up, publish as publishes, subscribe, to_end, clock, ask, restart, stop_before, stop_after, Asking, to_broker, old_to_broker, break, pump, tick, stranger, stranger_named, calls_if, comes, next_held, call_of_stranger, held_count, before, call_of, first_step, is_bad}
-use Rattle.mqtt_laws.specs.Run.{Turn, setting, turned, Acceptance, acceptances_of, acceptances_if, acceptances_of_rest, first_acceptances, acceptances_asked, opening_acceptances, acceptances_in, acceptances_over}
+use Rattle.mqtt_laws.specs.Run.{Turn, setting, turned, Acceptance, acceptances_of, acceptances_over, read_if, read_rest, read_first, read_asked, read_opening, read_in, the_acceptances}
 use Rattle.mqtt_world_laws.specs.Copies.{IsRouted, AreRouted}
 
 -- ---- of each deed
@@ -164,23 +164,23 @@ routed_append : (xs ys : List Acceptance) → Routed xs → Routed ys → Routed
 routed_append [] ys p q = q
 routed_append (x ∷ xs) ys p q = (p.0, routed_append xs ys p.1 q)
 
-if_routed : (set : Setting) (call : Option Call) (w : World) → Routed (acceptances_if set call w)
+if_routed : (set : Setting) (call : Option Call) (w : World) → Routed (read_if the_acceptances set call w)
 if_routed set None w = tt
 if_routed set (Some call) w =
     let env = env_of set.limits set.choice w.broker in
     accepted_routed env (deeds set.limits set.choice w.now call w.broker) (at_moment w.now w.broker) (call_good env call (at_moment w.now w.broker))
 
-rest_routed : (more : ℕ) (set : Setting) (name : List ℕ) (w : World) → Routed (acceptances_of_rest set more name w)
+rest_routed : (more : ℕ) (set : Setting) (name : List ℕ) (w : World) → Routed (read_rest the_acceptances set more name w)
 rest_routed zero set name w = tt
 rest_routed (suc more) set name w =
     let call = call_of_stranger (stranger_named name w) in
     let v = calls_if set call (next_held name w) in
-    routed_append (acceptances_if set call w) (acceptances_of_rest set more name v) (if_routed set call w) (rest_routed more set name v)
+    routed_append (read_if the_acceptances set call w) (read_rest the_acceptances set more name v) (if_routed set call w) (rest_routed more set name v)
 
-first_routed : (a : Asking) (set : Setting) (w : World) → Routed (first_acceptances set a w)
+first_routed : (a : Asking) (set : Setting) (w : World) → Routed (read_first the_acceptances set a w)
 first_routed a set w = if_routed set (call_of set a w) (before set a w)
 
-asked_routed : (a : Asking) (set : Setting) (w : World) → Routed (acceptances_asked set a w)
+asked_routed : (a : Asking) (set : Setting) (w : World) → Routed (read_asked the_acceptances set a w)
 asked_routed (to_broker d) set w = first_routed (to_broker d) set w
 asked_routed (old_to_broker d) set w = first_routed (old_to_broker d) set w
 asked_routed (break d) set w = first_routed (break d) set w
@@ -188,13 +188,13 @@ asked_routed (pump d) set w = first_routed (pump d) set w
 asked_routed tick set w = first_routed tick set w
 asked_routed (stranger name bytes) set w = let v = comes set name bytes w in rest_routed (held_count (stranger_named name v)) set name v
 
-opening_routed : (set : Setting) (w : World) → Routed (opening_acceptances set w)
+opening_routed : (set : Setting) (w : World) → Routed (read_opening the_acceptances set w)
 opening_routed set w =
     let b = unopened w.now w.broker.records in
     let env = env_of set.limits set.choice b in
     accepted_routed env (opening env b) b (opening_good env b)
 
-event_routed : (e : Event) (set : Setting) (w : World) → Routed (acceptances_in set e w)
+event_routed : (e : Event) (set : Setting) (w : World) → Routed (read_in the_acceptances set e w)
 event_routed (publisher d) set w = tt
 event_routed (receiver d window) set w = tt
 event_routed (connect_end d clean) set w = tt
@@ -206,13 +206,13 @@ event_routed (clock wait) set w = tt
 event_routed (ask a) set w = asked_routed a set w
 event_routed restart set w = opening_routed set w
 event_routed (stop_before a) set w = opening_routed set (before set a w)
-event_routed (stop_after a) set w = routed_append (first_acceptances set a w) (opening_acceptances set (first_step set a w)) (first_routed a set w) (opening_routed set (first_step set a w))
+event_routed (stop_after a) set w = routed_append (read_first the_acceptances set a w) (read_opening the_acceptances set (first_step set a w)) (first_routed a set w) (opening_routed set (first_step set a w))
 
 pub run_routed : (limits : Limits) (ts : List Turn) (w : World) → AreRouted limits ts w
 run_routed limits [] w = tt
 run_routed limits (t ∷ ts) w =
-    routed_append (cond (is_bad t.event w) [] (acceptances_in (setting limits t) t.event w)) (acceptances_over limits ts (turned limits t w)) (by (is_bad t.event w)) (run_routed limits ts (turned limits t w))
+    routed_append (cond (is_bad t.event w) [] (read_in the_acceptances (setting limits t) t.event w)) (acceptances_over limits ts (turned limits t w)) (by (is_bad t.event w)) (run_routed limits ts (turned limits t w))
   where
-    by : (bad : Bool) → Routed (cond bad [] (acceptances_in (setting limits t) t.event w))
+    by : (bad : Bool) → Routed (cond bad [] (read_in the_acceptances (setting limits t) t.event w))
     by true = tt
     by false = event_routed t.event (setting limits t) w

@@ -1,6 +1,6 @@
 -- Every run of the world, in the eyes of one publisher: an event at a time it is somewhere again, and what it saw is a
 -- run of its hop (MQTT 5.0, 4.3, 4.4).
-use Rattle.std.proofs.Common.{◌≡◌, ℕ, ◌≤◌, Bool, true, false, cond, not, ◌||◌, ◌&&◌, List, [], ◌∷◌, ◌++◌, count_by, nat_eq, Option, Some, None, bytes_eq, refl, sym, ap, subst, append-nil, append_assoc, arith, inl, inr}
+use Rattle.std.proofs.Common.{◌≡◌, ℕ, ◌≤◌, Bool, true, false, cond, ◌||◌, ◌&&◌, List, [], ◌∷◌, ◌++◌, count_by, nat_eq, Option, Some, None, bytes_eq, refl, sym, ap, subst, append-nil, append_assoc, arith, inl, inr}
 use Rattle.std.specs.Prelude.{find}
 use Rattle.std.specs.List.{AllByRecursion}
 use Rattle.mqtt_inbound.specs.Publisher.{IsExactlyOnce, completed, refused, ended, ended_1}
@@ -10,10 +10,10 @@ use Rattle.mqtt_rules.specs.State.{Broker, MemberChoice}
 use Rattle.mqtt_rules.specs.Laws.{AreWithin, FewOpen, HasFewOpen, HasTables}
 use Rattle.mqtt_laws.specs.Ends.{Publisher, Receiver}
 use Rattle.mqtt_laws.specs.World.{World, Setting, Event, publisher, receiver, connect_end, give_up, publish, subscribe, to_end, clock, ask, restart, stop_before, stop_after, to_broker, old_to_broker, break, pump, tick, stranger, publisher_named, is_bad, first_step, happens, start}
-use Rattle.mqtt_laws.specs.Run.{Turn, setting, turned, run, deeds_in, message_read, each_of, accepted_at, accepted_over, carries_clean, are_clean_starts_carried, first_deeds, asked_from}
+use Rattle.mqtt_laws.specs.Run.{Turn, setting, turned, run, message_read, each_of, accepted_at, accepted_over, carries_clean, are_clean_starts_carried, asked_from, read_first, read_opening, read_in, read_at, the_deeds}
 use Rattle.mqtt_laws.specs.Laws.{fate_by}
 use Rattle.mqtt_laws.proofs.Projected.{at_most_once, none_unsent, once_completed, none_refused, some_acknowledged}
-use Rattle.mqtt_world_laws.specs.Spending.{event_spends, turn_spends, run_spends, first_spends, opening_spends}
+use Rattle.mqtt_world_laws.specs.Spending.{run_spends, spending}
 use Rattle.mqtt_world_laws.specs.Fair.{IsNew, IsFair, MayOpen, opened_world}
 use Rattle.mqtt_world_laws.specs.Once.{IsAcceptedOnce}
 use Rattle.mqtt_world_laws.proofs.Steady.{steady_start, steady_opened}
@@ -43,8 +43,8 @@ quietly c limits his accepted w h = record { his = his; holds = subst (λ (ns : 
 quiet : (c : List ℕ) (limits : Limits) (accepted : List ℕ) (w : World) → Stays c limits accepted w → Stays c limits (accepted ++ []) w
 quiet c limits accepted w s = quietly c limits s.his accepted w s.holds
 
-happens_stays : (e : Event) (c : List ℕ) (set : Setting) (accepted : List ℕ) (w : World) → Stays c set.limits accepted w → is_bad e w ≡ false → carries_clean e w ≡ true → event_spends set e w ≡ false
-    → Stays c set.limits (accepted ++ each_of (message_read c e w) (deeds_in set e w)) (happens set e w)
+happens_stays : (e : Event) (c : List ℕ) (set : Setting) (accepted : List ℕ) (w : World) → Stays c set.limits accepted w → is_bad e w ≡ false → carries_clean e w ≡ true → read_in spending set e w ≡ false
+    → Stays c set.limits (accepted ++ each_of (message_read c e w) (read_in the_deeds set e w)) (happens set e w)
 happens_stays (publisher d) c set accepted w s good carried unspent = quietly c set.limits s.his accepted _ (publisher_comes c d set s.his accepted w s.holds good)
 happens_stays (receiver d window) c set accepted w s good carried unspent = quietly c set.limits s.his accepted _ (receiver_comes c d window set s.his accepted w s.holds good)
 happens_stays (connect_end d clean) c set accepted w s good carried unspent = quiet c set.limits accepted _ (joined_stays c d clean set accepted w s good carried)
@@ -62,9 +62,9 @@ happens_stays (ask (stranger name bytes)) c set accepted w s good carried unspen
 happens_stays restart c set accepted w s good carried unspent = quiet c set.limits accepted _ (restart_stays c set accepted w (may_restart c set.limits s.his accepted w s.holds) unspent)
 happens_stays (stop_before a) c set accepted w s good carried unspent = quiet c set.limits accepted _ (restart_stays c set accepted _ (before_rests c a set s.his accepted w s.holds) unspent)
 happens_stays (stop_after a) c set accepted w s good carried unspent =
-    let costs = either (first_spends set a w) (opening_spends set (first_step set a w)) unspent in
+    let costs = either (read_first spending set a w) (read_opening spending set (first_step set a w)) unspent in
     let more = accepted ++ first_accepted c set a w in
-    subst (λ (ns : List ℕ). Stays c set.limits (accepted ++ ns) (happens set (stop_after a) w)) (sym (each_opened (asked_from c a w) (first_deeds set a w) set (first_step set a w)))
+    subst (λ (ns : List ℕ). Stays c set.limits (accepted ++ ns) (happens set (stop_after a) w)) (sym (each_opened (asked_from c a w) (read_first the_deeds set a w) set (first_step set a w)))
     (restart_stays c set more (first_step set a w) (after_rests c a set s.his accepted w s.holds good costs.0) costs.1)
 
 -- ---- a turn, and a run
@@ -73,15 +73,15 @@ none_each : (o : Option ℕ) → each_of o [] ≡ []
 none_each None = refl
 none_each (Some n) = refl
 
-pub turn_stays : (t : Turn) (c : List ℕ) (limits : Limits) (accepted : List ℕ) (w : World) → Stays c limits accepted w → carries_clean t.event w ≡ true → turn_spends limits t w ≡ false
+pub turn_stays : (t : Turn) (c : List ℕ) (limits : Limits) (accepted : List ℕ) (w : World) → Stays c limits accepted w → carries_clean t.event w ≡ true → read_at spending (setting limits t) t.event w ≡ false
     → Stays c limits (accepted ++ accepted_at c (setting limits t) t.event w) (turned limits t w)
 turn_stays t c limits accepted w s carried unspent = by (is_bad t.event w) refl unspent
   where
     set : Setting
     set = setting limits t
 
-    by : (bad : Bool) → is_bad t.event w ≡ bad → (not bad && event_spends set t.event w) ≡ false
-        → Stays c limits (accepted ++ each_of (message_read c t.event w) (cond bad [] (deeds_in set t.event w))) (cond bad w (happens set t.event w))
+    by : (bad : Bool) → is_bad t.event w ≡ bad → cond bad false (read_in spending set t.event w) ≡ false
+        → Stays c limits (accepted ++ each_of (message_read c t.event w) (cond bad [] (read_in the_deeds set t.event w))) (cond bad w (happens set t.event w))
     by true is u = subst (λ (ns : List ℕ). Stays c limits (accepted ++ ns) w) (sym (none_each (message_read c t.event w))) (quiet c limits accepted w s)
     by false is u = happens_stays t.event c set accepted w s is carried u
 
@@ -89,7 +89,7 @@ run_stays : (ts : List Turn) (c : List ℕ) (limits : Limits) (accepted : List �
     → Stays c limits (accepted ++ accepted_over c limits ts w) (run limits ts w)
 run_stays [] c limits accepted w s unspent carried = quiet c limits accepted w s
 run_stays (t ∷ ts) c limits accepted w s unspent carried =
-    let costs = either (turn_spends limits t w) (run_spends limits ts (turned limits t w)) unspent in
+    let costs = either (read_at spending (setting limits t) t.event w) (run_spends limits ts (turned limits t w)) unspent in
     let clean = both_true (carries_clean t.event w) (are_clean_starts_carried limits ts (turned limits t w)) carried in
     let now_ = accepted_at c (setting limits t) t.event w in
     let next = turn_stays t c limits accepted w s clean.0 costs.0 in

@@ -17,7 +17,8 @@ use Rattle.mqtt_rules.specs.Step.{Call, NewLine, Input, BadInput, can_link, at_m
 use Rattle.mqtt_laws.specs.World.{Stranger, World, Setting, publisher_named, receiver_named, stranger_named, is_end, calls, calls_if, call_on, held_after, linked_at, comes, call_of_stranger, next_held, answers_rest, held_count, names_end, front_names, bytes_name, bytes_held, is_bad_asking, asks, first_step, stranger}
 use Rattle.mqtt_laws.specs.Hops.{IsOthers}
 use Rattle.mqtt_laws.proofs.Frame.{kept_given}
-use Rattle.mqtt_world_laws.specs.Spending.{spends, rest_spends, asking_spends, first_spends}
+use Rattle.mqtt_laws.specs.Run.{read_if, read_rest, read_first, read_asked}
+use Rattle.mqtt_world_laws.specs.Spending.{spending}
 use Rattle.mqtt_world_laws.proofs.Steady.{linking_spends_none}
 use Rattle.mqtt_world_laws.proofs.Ends.{all_found, all_mapped, all_appended, find_last}
 use Rattle.mqtt_world_laws.proofs.Around.{IsFree, OtherStranger, Holds, IsOutside, calls_hold, if_holds, if_there}
@@ -167,7 +168,7 @@ next_outside c limits his accepted name w v h there good found x is = by (strang
         let free = (all_found (OtherStranger his v.broker.given) (λ (z : Stranger). bytes_eq z.name name) s v.strangers h.around.strangers e).0 in
         held_outside c his v.broker.given w s x (sym there ∙ found) free (sym (ap (λ (z : Option Stranger). front_names (first_of (bytes_held z)) w) e) ∙ good) (sym (ap call_of_stranger e) ∙ is)
 
-same_cost : (set : Setting) (name : List ℕ) (v : World) (x : Option Call) → spends set x v ≡ false → spends set x (next_held name v) ≡ false
+same_cost : (set : Setting) (name : List ℕ) (v : World) (x : Option Call) → read_if spending set x v ≡ false → read_if spending set x (next_held name v) ≡ false
 same_cost set name v None e = refl
 same_cost set name v (Some x) e = e
 
@@ -188,13 +189,13 @@ held_next set name v None = held_once name v
 held_next set name v (Some x) = held_once name v
 
 rest_holds : (more : ℕ) (c : List ℕ) (set : Setting) (his accepted : List ℕ) (name : List ℕ) (w v : World) → Holds c set.limits his accepted v → is_some (publisher_named c v) ≡ is_some (publisher_named c w)
-    → bytes_name more (bytes_held (stranger_named name v)) w ≡ false → rest_spends set more name v ≡ false → Holds c set.limits his accepted (answers_rest set more name v)
+    → bytes_name more (bytes_held (stranger_named name v)) w ≡ false → read_rest spending set more name v ≡ false → Holds c set.limits his accepted (answers_rest set more name v)
 rest_holds zero c set his accepted name w v h there good unspent = h
 rest_holds (suc more) c set his accepted name w v h there good unspent =
     let call = call_of_stranger (stranger_named name v) in
     let u = next_held name v in
     let both = either_false (front_names (first_of (bytes_held (stranger_named name v))) w) (bytes_name more (held_after (bytes_held (stranger_named name v))) w) good in
-    let costs = either_false (spends set call v) (rest_spends set more name (calls_if set call u)) unspent in
+    let costs = either_false (read_if spending set call v) (read_rest spending set more name (calls_if set call u)) unspent in
     let next = if_holds c set his accepted call u (held_holds c set.limits his accepted name v h) (same_cost set name v call costs.0) (next_outside c set.limits his accepted name w v h there both.0) in
     rest_holds more c set his accepted name w (calls_if set call u) next (if_there c set call u ∙ there) (ap (λ (bytes : List ℕ). bytes_name more bytes w) (held_next set name v call) ∙ both.1) costs.1
 
@@ -210,7 +211,7 @@ good_then set name bytes w good =
     count_is None = refl
     count_is (Some s) = refl
 
-pub stranger_holds : (c name bytes : List ℕ) (set : Setting) (his accepted : List ℕ) (w : World) → Holds c set.limits his accepted w → is_bad_asking (stranger name bytes) w ≡ false → asking_spends set (stranger name bytes) w ≡ false
+pub stranger_holds : (c name bytes : List ℕ) (set : Setting) (his accepted : List ℕ) (w : World) → Holds c set.limits his accepted w → is_bad_asking (stranger name bytes) w ≡ false → read_asked spending set (stranger name bytes) w ≡ false
     → Holds c set.limits his accepted (asks set (stranger name bytes) w)
 stranger_holds c name bytes set his accepted w h good unspent =
     let v = comes set name bytes w in
@@ -222,7 +223,7 @@ unfolding first_of fronts.size_at
 first_good [] w good = refl
 first_good (x ∷ xs) w good = (either_false (front_names (first_of (x ∷ xs)) w) (bytes_name (length xs) (held_after (x ∷ xs)) w) good).0
 
-pub stranger_first : (c name bytes : List ℕ) (set : Setting) (his accepted : List ℕ) (w : World) → Holds c set.limits his accepted w → is_bad_asking (stranger name bytes) w ≡ false → first_spends set (stranger name bytes) w ≡ false
+pub stranger_first : (c name bytes : List ℕ) (set : Setting) (his accepted : List ℕ) (w : World) → Holds c set.limits his accepted w → is_bad_asking (stranger name bytes) w ≡ false → read_first spending set (stranger name bytes) w ≡ false
     → Holds c set.limits his accepted (first_step set (stranger name bytes) w)
 stranger_first c name bytes set his accepted w h good unspent =
     let v = comes set name bytes w in
