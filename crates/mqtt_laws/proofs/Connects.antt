@@ -2,9 +2,10 @@
 -- over from the line that it was connected on. It is the step of the hop (MQTT 5.0, 3.1.2.4, 3.1.4, 4.4).
 use Rattle.std.proofs.Common.{◌≡◌, ℕ, Bool, true, false, List, [], ◌∷◌, ◌++◌, length, map, drop, Option, Some, None, nat_eq, nat_lt, bytes_eq, refl, sym, ap, subst, ◌∙◌, append-nil, inl, inr}
 use Rattle.std.specs.Prelude.{option_map, find, filter_map, is_some, max, min}
-use Rattle.std.specs.List.{cons_option, starts_with}
+use Rattle.std.specs.List.{starts_with}
 use Rattle.std.proofs.lemmas.Bool.{cases_Bool}
 use Rattle.std.proofs.lemmas.Cmp.{nat_eq_equiv}
+use Rattle.std.proofs.lemmas.List.Elements.{filter_map-append}
 use Rattle.mqtt_connect.specs.declared.connect.Connect.{Connect as Greeting}
 use Rattle.mqtt_codec.specs.declared.packet.Packet.TheVariants.{Connect}
 use Rattle.mqtt_props.specs.declared.table.PropName.TheVariants.{SessionExpiryInterval}
@@ -55,13 +56,7 @@ pub record Leaves (birth n : ℕ) (ds : List Deed) (b : Broker) (f : Face) (on :
   pub patient : ArePatient ds
 
 pub closings_append : (xs ys : List Deed) → filter_map closing (xs ++ ys) ≡ filter_map closing xs ++ filter_map closing ys
-closings_append [] ys = refl
-closings_append (x ∷ xs) ys = first (closing x) (closings_append xs ys)
-  where
-    first : (o : Option ℕ) → filter_map closing (xs ++ ys) ≡ filter_map closing xs ++ filter_map closing ys
-        → cons_option o (filter_map closing (xs ++ ys)) ≡ cons_option o (filter_map closing xs) ++ filter_map closing ys
-    first None h = h
-    first (Some k) h = ap (λ (ks : List ℕ). k ∷ ks) h
+closings_append xs ys = filter_map-append closing xs ys
 
 pub leaves_append : (birth n : ℕ) (xs ys : List Deed) (b : Broker) (f g : Face) (on then_on : Option (Option ℕ)) (ps qs : List ToPublisher) (cs ds : List ℕ)
     → Leaves birth n xs b f on ps cs → Leaves birth n ys (after_all xs b) g then_on qs ds → Leaves birth n (xs ++ ys) b g then_on (ps ++ qs) (cs ++ ds)

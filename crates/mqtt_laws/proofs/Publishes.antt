@@ -4,6 +4,7 @@ use Rattle.std.specs.Prelude.{option_map}
 use Rattle.std.specs.List.{cons_option}
 use Rattle.std.proofs.lemmas.Bool.{cases_Bool}
 use Rattle.std.proofs.lemmas.Cmp.{nat_eq_equiv}
+use Rattle.std.proofs.lemmas.List.Elements.{filter_map-append}
 use Rattle.mqtt_codec.specs.declared.publish.Delivery.{Delivery as Handing}
 use Rattle.mqtt_codec.specs.declared.publish.Delivery.TheVariants as delivery
 use Rattle.mqtt_codec.specs.declared.publish.Publish.{Publish as Publication}
@@ -63,22 +64,10 @@ told_append n (x ∷ xs) ys = first (heard_by n _) (told_append n xs ys)
     first (Some packet) h = ap (λ (ps : List ToPublisher). packet ∷ ps) h
 
 pub numbers_append : (xs ys : List Deed) → numbers (xs ++ ys) ≡ numbers xs ++ numbers ys
-numbers_append [] ys = refl
-numbers_append (x ∷ xs) ys = first (client_number x) (numbers_append xs ys)
-  where
-    first : (o : Option ℕ) → numbers (xs ++ ys) ≡ numbers xs ++ numbers ys
-        → cons_option o (numbers (xs ++ ys)) ≡ cons_option o (numbers xs) ++ numbers ys
-    first None h = h
-    first (Some k) h = ap (λ (ks : List ℕ). k ∷ ks) h
+numbers_append xs ys = filter_map-append client_number xs ys
 
 pub begun_append : (xs ys : List Deed) → begun (xs ++ ys) ≡ begun xs ++ begun ys
-begun_append [] ys = refl
-begun_append (x ∷ xs) ys = first (birth_given x) (begun_append xs ys)
-  where
-    first : (o : Option ℕ) → begun (xs ++ ys) ≡ begun xs ++ begun ys
-        → cons_option o (begun (xs ++ ys)) ≡ cons_option o (begun xs) ++ begun ys
-    first None h = h
-    first (Some k) h = ap (λ (ks : List ℕ). k ∷ ks) h
+begun_append xs ys = filter_map-append birth_given xs ys
 
 closes_append : (n : ℕ) (xs ys : List Deed) → closes n (xs ++ ys) ≡ (closes n xs || closes n ys)
 closes_append n [] ys = refl

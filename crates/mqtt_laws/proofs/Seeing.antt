@@ -2,8 +2,8 @@
 use Rattle.std.proofs.Common.{◌≡◌, ℕ, Bool, true, false, cond, ◌||◌, List, [], ◌∷◌, ◌++◌, Option, Some, None, nat_eq, refl, ap, ◌∙◌}
 use Rattle.std.specs.Prelude.{option_map, filter_map, is_some}
 use Rattle.std.specs.List.{cons_option}
+use Rattle.std.proofs.lemmas.List.Elements.{filter_map-append}
 use Rattle.mqtt_codec.specs.declared.packet.Packet.{Packet}
-use Rattle.mqtt_inbound.specs.Publisher.{ToPublisher}
 use Rattle.mqtt_records.specs.declared.session.Session.{Session}
 use Rattle.mqtt_records.specs.declared.change.Change.{Change}
 use Rattle.mqtt_records.specs.declared.records.Records.{Records}
@@ -56,13 +56,7 @@ told_down n b (d ∷ ds) = first (output d) (told_down n b ds)
         sent_one (nat_eq x.0 n) n b x.1 (sent_to (Some n) b (filter_map output ds)) ∙ ap (cons_option (heard_on n x)) h
 
 pub append_heard : (xs ys : List Down) → filter_map heard_in (xs ++ ys) ≡ filter_map heard_in xs ++ filter_map heard_in ys
-append_heard [] ys = refl
-append_heard (x ∷ xs) ys = first (heard_in x) (append_heard xs ys)
-  where
-    first : (o : Option ToPublisher) → filter_map heard_in (xs ++ ys) ≡ filter_map heard_in xs ++ filter_map heard_in ys
-        → cons_option o (filter_map heard_in (xs ++ ys)) ≡ cons_option o (filter_map heard_in xs) ++ filter_map heard_in ys
-    first None h = h
-    first (Some packet) h = ap (λ (ps : List ToPublisher). packet ∷ ps) h
+append_heard xs ys = filter_map-append heard_in xs ys
 
 -- ---- the line and the session, as they are found
 
