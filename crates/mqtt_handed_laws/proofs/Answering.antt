@@ -45,6 +45,7 @@ use Rattle.mqtt_rules.specs.State.{Line as BrokerLine, Broker, MemberChoice, is_
 use Rattle.mqtt_rules.specs.Step.{Input, at_moment, deeds, env_of, next_packet, stepped, told}
 use Rattle.mqtt_rules.specs.declared.Limits.{Limits}
 use Rattle.mqtt_records.specs.Records.{changed_all}
+use Rattle.mqtt_rules.proofs.Copies.{each_append}
 use Rattle.mqtt_handed_laws.specs.Handing.{IsAloneOn, IsListening, IsRun, RunsOn, after_answer, reads_answer}
 use Rattle.mqtt_handed_laws.specs.Seen.{AreQueued, Numbering, StandOn, answered, handed_in, heard_in, lot_on, seen, still_standing, went_in}
 use Rattle.mqtt_handed_laws.specs.Tags.{AreNumbered, AreTagged, IsTagged, id_of}
@@ -63,8 +64,7 @@ heard_append number (x ∷ xs) ys = by (heard_in number x) (heard_append number 
     by (Some p) h = ap (λ (ps : List Output). p ∷ ps) h
 
 pub all_join : {X : Type 0} (P : X → Type 0) (xs ys : List X) → AllByRecursion P xs → AllByRecursion P ys → AllByRecursion P (xs ++ ys)
-all_join P [] ys h g = g
-all_join P (x ∷ xs) ys h g = (h.0, all_join P xs ys h.1 g)
+all_join P xs ys h g = each_append P xs ys h g
 
 -- ---- lines: what went out on the one of a session
 

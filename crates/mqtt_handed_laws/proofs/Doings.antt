@@ -2,6 +2,7 @@
 use Rattle.std.proofs.Common.{◌≡◌, ℕ, Bool, true, false, cond, if◌then◌else◌, List, [], ◌∷◌, ◌++◌, map, Option, None, nat_lt, refl, sym, ap, subst, ◌∙◌}
 use Rattle.std.specs.Prelude.{⊤, filter_map, is_some}
 use Rattle.std.specs.List.{AllByRecursion, cons_option}
+use Rattle.std.proofs.lemmas.List.Elements.{filter_map-append}
 use Rattle.mqtt_base.specs.Codes.{success, identifier_not_found}
 use Rattle.mqtt_base.specs.declared.session.CopyId.{CopyId}
 use Rattle.mqtt_codec.specs.declared.packet.Packet.{Packet}
@@ -15,12 +16,14 @@ use Rattle.mqtt_flow.specs.Receiver as hop
 use Rattle.mqtt_inbound.specs.Identifiers.{is_among, ids_without}
 use Rattle.mqtt_inbound.specs.Line.{Link, away, asked, live, sent_on}
 use Rattle.mqtt_laws.specs.Ends.{Back, Entry, Receiver, Wish, answers, asks_for, answers_with, body_of, entry_of, greeted, hears, new_receiver, receiver_connack, receiver_reads, reads_publish}
+use Rattle.mqtt_laws.specs.Hops.{MayGiveUp}
 use Rattle.mqtt_laws.specs.Lines.{Down, gives_up, left}
 use Rattle.mqtt_laws.specs.Seen.{is_linked}
 use Rattle.mqtt_laws.specs.World.{asks_wish}
 use Rattle.mqtt_records.specs.declared.session.Session.{Session}
 use Rattle.mqtt_rules.specs.State.{Broker, session_named}
-use Rattle.mqtt_handed_laws.specs.Handing.{IsRun, MayPart}
+use Rattle.mqtt_rules.proofs.Copies.{each_append}
+use Rattle.mqtt_handed_laws.specs.Handing.{IsRun}
 use Rattle.mqtt_handed_laws.specs.Seen.{AreQueued, Numbering, answered, connack_heard, handed_in, heard, heard_in, number_of, publish_heard, seen}
 use Rattle.mqtt_handed_laws.proofs.Refusals.{AreNoRefusals, IsNoRefusal, Tame, behind, run_append, tame_run}
 use Rattle.mqtt_handed_laws.specs.Tags.{AreTagged, IsTagged, IsTaggedBy, IsTaggedWith, Names, WasTagged, id_of}
@@ -28,13 +31,10 @@ use Rattle.mqtt_handed_laws.specs.Tags.{AreTagged, IsTagged, IsTaggedBy, IsTagge
 -- ---- lists
 
 pub all_push : {X : Type 0} (P : X → Type 0) (xs : List X) (x : X) → AllByRecursion P xs → P x → AllByRecursion P (xs ++ x ∷ [])
-all_push P [] x h it = (it, tt)
-all_push P (y ∷ ys) x h it = (h.0, all_push P ys x h.1 it)
+all_push P xs x h it = each_append P xs (x ∷ []) h (it, tt)
 
 pub answered_append : (xs ys : List Back) → filter_map answered (xs ++ ys) ≡ filter_map answered xs ++ filter_map answered ys
-answered_append [] ys = refl
-answered_append (answers a ∷ xs) ys = ap (λ (zs : List Answer). a ∷ zs) (answered_append xs ys)
-answered_append (asks_for w ∷ xs) ys = answered_append xs ys
+answered_append xs ys = filter_map-append answered xs ys
 
 answer_goes : (t u : Bool) (up : List Back) (a : Answer) → u ≡ t → filter_map answered (sent_on t up (answers a ∷ [])) ≡ sent_on u (filter_map answered up) (a ∷ [])
 answer_goes true u up a e = answered_append up (answers a ∷ []) ∙ ap (λ (z : Bool). sent_on z (filter_map answered up) (a ∷ [])) (sym e)
@@ -295,12 +295,12 @@ doing_reads number largest copies t r b h e =
     runs_on number largest copies r (receiver_reads t r.line.down r) b h x.events x.client x.seen_is x.tagged
 
 pub doing_gives_up : (number : Numbering) (largest : ℕ) (copies : List Lot) (r : Receiver) (b : Broker)
-    → IsRun number largest copies r b → MayPart r.line.link r.line.clean → IsRun number largest copies (record r { line = gives_up r.line.link r.line }) b
+    → IsRun number largest copies r b → MayGiveUp r.line.link r.line.clean → IsRun number largest copies (record r { line = gives_up r.line.link r.line }) b
 doing_gives_up number largest copies r b h may =
     runs_on number largest copies r (record r { line = gives_up r.line.link r.line }) b h (give_up ∷ []) refl
     (by r.line.link r.line.clean may (tame number largest copies r b h).greeted) (tags r.line.link)
   where
-    by : (link : Link) (clean : Bool) → MayPart link clean → (link ≡ live → clean ≡ false) → seen number copies (record r { line = gives_up link r.line }) b ≡ hop.gives_up clean link (seen number copies r b)
+    by : (link : Link) (clean : Bool) → MayGiveUp link clean → (link ≡ live → clean ≡ false) → seen number copies (record r { line = gives_up link r.line }) b ≡ hop.gives_up clean link (seen number copies r b)
     by away true may g = refl
     by away false may g = refl
     by asked true may g = absurd cc

@@ -1,25 +1,23 @@
 -- What a receiver has read of its copies, where what it sees of the world is a run of its hop; and its own doings (MQTT
 -- 5.0, 4.3.2, 4.3.3, 4.6).
-use Rattle.std.specs.Prelude.{◌≡◌, ℕ, suc, ⊤, Bool, true, false, List, [], ◌∷◌, map, Some, None}
+use Rattle.std.specs.Prelude.{◌≡◌, ℕ, suc, Bool, false, List, [], ◌∷◌, map, Some, None}
 use Rattle.std.specs.Prelude.{slice_get, option_map}
 use Rattle.std.specs.List.{AllByRecursion}
 use Rattle.mqtt_base.specs.declared.session.CopyId.{CopyId}
 use Rattle.mqtt_flow.specs.OutboundCourse.{carried_by}
 use Rattle.mqtt_flow.specs.OutboundWorld.{Lot, Event as HopEvent, run, start}
 use Rattle.mqtt_flow.specs.Receiver.{Answer, connect}
-use Rattle.mqtt_inbound.specs.Line.{Link, away, asked, live}
 use Rattle.mqtt_laws.specs.Ends.{answers, Entry, Receiver, wire_back}
-use Rattle.mqtt_laws.specs.Hops.{IsOnly}
+use Rattle.mqtt_laws.specs.Hops.{IsOnly, MayConnect}
 use Rattle.mqtt_laws.specs.Lines.{is_one_of, joined, left}
 use Rattle.mqtt_laws.specs.World.{receiver_told, taken_up}
 use Rattle.mqtt_records.specs.Session.{copy_place}
 use Rattle.mqtt_records.specs.declared.session.Session.{Session}
-use Rattle.mqtt_rows.specs.Order.{IsAscending, IsBelow}
-use Rattle.mqtt_rules.specs.Lines.{line_number}
+use Rattle.mqtt_rows.specs.Order.{IsAscending}
 use Rattle.mqtt_rules.specs.State.{Line as BrokerLine, Broker, MemberChoice, line_at, line_of, session_at}
 use Rattle.mqtt_rules.specs.State.{session_named}
 use Rattle.mqtt_rules.specs.Closing.{never}
-use Rattle.mqtt_rules.specs.Step.{Call, Input, Lost, NewLine, can_link, stepped, told}
+use Rattle.mqtt_rules.specs.Step.{Call, Input, Lost, NewLine, stepped, told}
 use Rattle.mqtt_rules.specs.declared.Limits.{Limits}
 use Rattle.mqtt_handed_laws.specs.Seen.{AreQueued, Numbering, seen}
 use Rattle.mqtt_handed_laws.specs.Tags.{AreNumbered, AreTagged, id_of}
@@ -46,12 +44,6 @@ IsOf number copies e =
 
 -- ---- its own doings
 
--- a Clean Start is carried through: its line is not left before its CONNACK has come
-abbrev pub MayPart : Link → Bool → Type 0
-MayPart away clean = ⊤
-MayPart asked clean = clean ≡ false
-MayPart live clean = ⊤
-
 -- it joins by a new line
 abbrev pub receiver_joined : Limits → MemberChoice → ℕ → Bool → Receiver → Broker → Receiver
 receiver_joined limits choice now clean r b =
@@ -59,11 +51,8 @@ receiver_joined limits choice now clean r b =
     record q { line = joined (answers (connect clean)) (suc b.given) clean q.line }
 
 -- a CONNECT for which there is a line, by a receiver that has none, which carries a Clean Start through
-pub record MayComeBack (clean : Bool) (r : Receiver) (b : Broker) : Type 0 where
-  pub can : can_link b ≡ true
-  pub given : IsBelow line_number (suc b.given) b.lines
-  pub away : r.line.link ≡ away
-  pub carried : r.line.clean ≡ true → clean ≡ true
+abbrev pub MayComeBack : Bool → Receiver → Broker → Type 0
+MayComeBack clean r b = MayConnect clean r.line b
 
 -- ---- a step in which the first packet of its line was read
 

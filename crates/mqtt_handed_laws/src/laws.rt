@@ -7,11 +7,12 @@ ghost use Rattle.mqtt_base.specs.declared.session.Qos.TheVariants.{AtLeastOnce, 
 ghost use Rattle.mqtt_flow.specs.OutboundWorld.{Lot, TopicAndPayload, past};
 ghost use Rattle.mqtt_flow.specs.Receiver.{puback, pubcomp, pubrec};
 ghost use Rattle.mqtt_flow.specs.declared.entry.Entry.{Entry as FlowEntry};
-ghost use Rattle.mqtt_handed_laws.specs.Handing.{IsListening, IsOf, IsRun, MayComeBack, MayPart, RunsOn};
+ghost use Rattle.mqtt_handed_laws.specs.Handing.{IsListening, IsOf, IsRun, MayComeBack, RunsOn};
 ghost use Rattle.mqtt_handed_laws.specs.Handing.{after_answer, reads_answer, receiver_joined, receiver_lost};
 ghost use Rattle.mqtt_handed_laws.specs.Seen.{Numbering};
 ghost use Rattle.mqtt_handed_laws.specs.Tags.{id_of};
 ghost use Rattle.mqtt_laws.specs.Ends.{Back, Entry, Receiver, Wish, answers, new_receiver, receiver_reads};
+ghost use Rattle.mqtt_laws.specs.Hops.{MayGiveUp};
 ghost use Rattle.mqtt_laws.specs.Laws.{copies_in, handed_count, read_count, released_in, stand_among};
 ghost use Rattle.mqtt_laws.specs.Lines.{gives_up};
 ghost use Rattle.mqtt_laws.specs.Seen.{is_linked};
@@ -33,7 +34,7 @@ pub fn own_doings_of_a_receiver_are_steps_of_the_hop()
         → IsRun number largest copies r b → is_linked r.line.number b ≡ t
         → IsRun number largest copies (receiver_reads t r.line.down r) b }
     ensures gives_up { (number : Numbering) (largest : ℕ) (copies : List Lot) (r : Receiver) (b : Broker)
-        → IsRun number largest copies r b → MayPart r.line.link r.line.clean
+        → IsRun number largest copies r b → MayGiveUp r.line.link r.line.clean
         → IsRun number largest copies (record r { line = gives_up r.line.link r.line }) b }
     ensures asks { (number : Numbering) (largest : ℕ) (copies : List Lot) (t : Bool) (w : Wish) (r : Receiver)
         → (b : Broker) → IsRun number largest copies r b → IsRun number largest copies (asks_wish t w r) b }

@@ -371,13 +371,6 @@ pub gives : (o : Option ℕ) (k : ℕ) (p : Publisher) (b : Broker) (accepted : 
     → Does o k p (record p { line = gives_up p.line.link p.line }) b accepted
 gives o k p b accepted seat settled r may = by p.line.link refl
   where
-    ended : MayGiveUp asked p.line.clean → p.line.clean ≡ false
-    ended m = go p.line.clean m
-      where
-        go : (t : Bool) → MayGiveUp asked t → t ≡ false
-        go true h = absurd h
-        go false h = refl
-
     given : (p.line.link ≡ asked → p.line.clean ≡ false) → Present o k p.line b → Former o k (given_up p.line) b
     given c (absent none up) = over up
     given c (closed n is up idle none) = over up
@@ -408,7 +401,7 @@ gives o k p b accepted seat settled r may = by p.line.link refl
     by away is = subst (λ (x : Link). Does o k p (record p { line = gives_up x p.line }) b accepted) (sym is)
         (record { client = refl; seat = seat; settled = settled; number = inl refl; old_number = inl refl; events = []; seen_is = refl })
     by asked is = subst (λ (x : Link). Does o k p (record p { line = gives_up x p.line }) b accepted) (sym is)
-        (parted asked is refl (λ f. ended (subst (λ (x : Link). MayGiveUp x p.line.clean) is may)))
+        (parted asked is refl (λ f. subst (λ (x : Link). MayGiveUp x p.line.clean) is may))
     by live is = subst (λ (x : Link). Does o k p (record p { line = gives_up x p.line }) b accepted) (sym is)
         (parted live is refl (λ f. let clash : live ≡ asked = sym is ∙ f in absurd cc))
 

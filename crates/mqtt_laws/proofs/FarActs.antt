@@ -1,9 +1,9 @@
 -- Every step on another line, for another client, is made of far deeds: by the one induction over acts, without the own session.
 use Rattle.std.proofs.Common.{◌≡◌, ℕ, ◌≤◌, ◌<◌, Bool, true, false, ◌&&◌, List, [], ◌∷◌, ◌++◌, filter, map, Option, Some, None, nat_eq, bytes_eq, refl, sym, ap, subst, ◌∙◌, inl, inr, arith}
-use Rattle.std.specs.List.{AllByRecursion, starts_with}
+use Rattle.std.specs.List.{starts_with}
 use Rattle.std.proofs.lemmas.Bool.{eqb-true, cases_Bool}
 use Rattle.std.proofs.lemmas.Slice.Eq.{bytes_eq-Decides}
-use Rattle.std.specs.Prelude.{⊤, suc, nat_lt, nat_le, decimal, ◌*◌, flat_map, find}
+use Rattle.std.specs.Prelude.{⊤, suc, nat_lt, nat_le, decimal, ◌*◌, flat_map}
 use Rattle.mqtt_base.specs.declared.session.Ending.TheVariants.{SessionEnded}
 use Rattle.mqtt_connect.specs.declared.connect.Connect.{Connect as Greeting}
 use Rattle.mqtt_topic.specs.Names.{is_empty}
@@ -16,7 +16,7 @@ use Rattle.mqtt_records.specs.declared.records.Records.{Records}
 use Rattle.mqtt_rows.specs.Order.{row_at}
 use Rattle.mqtt_records.specs.Session.{birth_of, copy_place, auto}
 use Rattle.mqtt_rules.specs.State.{Line, Broker, Env, session_at, session_named, line_at, line_of, is_of, later}
-use Rattle.mqtt_rules.specs.Deeds.{Whose, whose, Message, Origin, Part, Resume, Close, SetExpiry, DropWill, Unsubscribe, Open, Release, Leave, Hear, SetAlias, Deed, Count, At, Finish, Forget, RefuseWill, Link, On, Send, Gone, after_all, series, always, with_session, with_line}
+use Rattle.mqtt_rules.specs.Deeds.{whose, Message, Origin, Resume, Open, Leave, Hear, SetAlias, Deed, Count, At, Finish, Forget, RefuseWill, Link, On, Send, Gone, after_all, series, always, with_session, with_line}
 use Rattle.mqtt_rules.specs.Deeds as deeds
 use Rattle.mqtt_rules.specs.Outbound.{of_entry, leave_deeds, turn_deeds}
 use Rattle.mqtt_rules.specs.Routing.{CopyTo, is_queued, deliver, publish}
@@ -34,16 +34,7 @@ use Rattle.mqtt_laws.specs.Hops.{IsOurs, IsOurLine, Own, IsOthers, IsFarCall}
 use Rattle.mqtt_laws.proofs.Quiet.{AreQuiet, quiet_leave, quiet_deliveries, copies_of, quiet_copies}
 use Rattle.mqtt_laws.proofs.Far.{IsFar, AreFar, own_deeds, not_same, less_differs}
 use Rattle.mqtt_laws.proofs.Publishes.{no_will_due, no_end_due}
-
-all_find : {X : Type 0} (P : X → Type 0) (test : X → Bool) (x : X) (xs : List X) → AllByRecursion P xs → find test xs ≡ Some x → P x × (test x ≡ true)
-all_find P test x [] h e = absurd cc
-all_find P test x (y ∷ ys) h e = elim (cases_Bool (test y)) [
-  | inl taken ↦
-      let it : Some y ≡ Some x = rw taken at e in
-      let is : y ≡ x = cc in
-      (subst P is h.0, subst (λ z. test z ≡ true) is taken)
-  | inr passed ↦ all_find P test x ys h.1 (rw passed at e)
-]
+use Rattle.mqtt_laws.proofs.Lists.{all_find}
 
 module _ (client : List ℕ) (birth n : ℕ) where
   abbrev pub Far : List Deed → Type 0

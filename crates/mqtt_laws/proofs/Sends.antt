@@ -3,6 +3,7 @@ use Rattle.std.proofs.Common.{◌≡◌, ℕ, Bool, true, false, List, [], ◌�
 use Rattle.std.specs.Prelude.{filter_map, if◌then◌else◌}
 use Rattle.std.specs.List.{cons_option}
 use Rattle.std.proofs.lemmas.Bool.{cases_Bool}
+use Rattle.std.proofs.lemmas.List.Elements.{filter_map-append}
 use Rattle.mqtt_base.specs.declared.session.Qos.{Qos as Quality}
 use Rattle.mqtt_base.specs.declared.session.Qos.TheVariants.{AtMostOnce, AtLeastOnce, ExactlyOnce}
 use Rattle.mqtt_base.specs.declared.limits.TheConstants.{OPEN_LIMIT}
@@ -19,35 +20,17 @@ use Rattle.mqtt_laws.specs.Seen.{qos_by, qos_of_draft, shaken, heard_in, is_link
 
 -- ---- lists
 
-shaken_append : (xs ys : List Sent) → filter_map shaken (xs ++ ys) ≡ filter_map shaken xs ++ filter_map shaken ys
-shaken_append [] ys = refl
-shaken_append (x ∷ xs) ys = first (shaken x) (shaken_append xs ys)
-  where
-    first : (o : Option FromPublisher) → filter_map shaken (xs ++ ys) ≡ filter_map shaken xs ++ filter_map shaken ys
-        → cons_option o (filter_map shaken (xs ++ ys)) ≡ cons_option o (filter_map shaken xs) ++ filter_map shaken ys
-    first None h = h
-    first (Some packet) h = ap (λ (ps : List FromPublisher). packet ∷ ps) h
-
-qos_append : (xs ys : List Draft) → filter_map qos_of_draft (xs ++ ys) ≡ filter_map qos_of_draft xs ++ filter_map qos_of_draft ys
-qos_append [] ys = refl
-qos_append (x ∷ xs) ys = first (qos_of_draft x) (qos_append xs ys)
-  where
-    first : (o : Option Qos) → filter_map qos_of_draft (xs ++ ys) ≡ filter_map qos_of_draft xs ++ filter_map qos_of_draft ys
-        → cons_option o (filter_map qos_of_draft (xs ++ ys)) ≡ cons_option o (filter_map qos_of_draft xs) ++ filter_map qos_of_draft ys
-    first None h = h
-    first (Some q) h = ap (λ (qs : List Qos). q ∷ qs) h
-
 shaken_shake : (xs : List FromPublisher) → filter_map shaken (map shake xs) ≡ xs
 shaken_shake [] = refl
 shaken_shake (x ∷ xs) = ap (λ (ps : List FromPublisher). x ∷ ps) (shaken_shake xs)
 
 -- what goes out with a handshake, and without one
 sent_shaken : (t : Bool) (up : List Sent) (xs : List FromPublisher) → filter_map shaken (sent_on t up (map shake xs)) ≡ sent_on t (filter_map shaken up) xs
-sent_shaken true up xs = shaken_append up (map shake xs) ∙ ap (λ (ps : List FromPublisher). filter_map shaken up ++ ps) (shaken_shake xs)
+sent_shaken true up xs = filter_map-append shaken up (map shake xs) ∙ ap (λ (ps : List FromPublisher). filter_map shaken up ++ ps) (shaken_shake xs)
 sent_shaken false up xs = refl
 
 sent_plain : (t : Bool) (up : List Sent) (c : Content) → filter_map shaken (sent_on t up (plain c ∷ [])) ≡ filter_map shaken up
-sent_plain true up c = shaken_append up (plain c ∷ []) ∙ append-nil (filter_map shaken up)
+sent_plain true up c = filter_map-append shaken up (plain c ∷ []) ∙ append-nil (filter_map shaken up)
 sent_plain false up c = refl
 
 -- ---- messages go out
@@ -147,14 +130,14 @@ module _ (accepted : List ℕ) (b : Broker) (t : Bool) where
   publish_seen d q p is e =
       let more : Publisher = record p { unsent = p.unsent ++ d ∷ [] } in
       let unsents : filter_map qos_of_draft (p.unsent ++ d ∷ []) ≡ filter_map qos_of_draft p.unsent ++ q ∷ [] =
-      qos_append p.unsent (d ∷ []) ∙ ap (λ (o : Option Qos). filter_map qos_of_draft p.unsent ++ cons_option o []) is in
+      filter_map-append qos_of_draft p.unsent (d ∷ []) ∙ ap (λ (o : Option Qos). filter_map qos_of_draft p.unsent ++ cons_option o []) is in
       send_unsent_seen p.line.link more e ∙ ap (λ (qs : List Qos). hop.send_unsent p.line.link (record (sees p) { unsent = qs })) unsents
 
   -- ---- a line is given up
 
   give_up_by : (link : Link) (clean : Bool) (p : Publisher) → MayGiveUp link clean → sees (record p { line = gives_up link p.line }) ≡ hop.on_give_up link clean (sees p)
   give_up_by away clean p may = refl
-  give_up_by asked true p may = absurd may
+  give_up_by asked true p may = absurd cc
   give_up_by asked false p may = refl
   give_up_by live clean p may = refl
 

@@ -27,11 +27,12 @@ use Rattle.mqtt_rules.specs.Tick.{is_silent, silence, lapses, lapse_deeds, has_l
 use Rattle.mqtt_rules.specs.Step.{Call, NewLine, Input, BadInput, Lost, Pump, Tick, on_pump, deeds_of}
 use Rattle.mqtt_rules.proofs.Goods.{AreGood}
 use Rattle.mqtt_rules.proofs.Leads.{Leads}
-use Rattle.mqtt_rules.proofs.Acts.{About as Whom, closing, closing_on, closing_session, brought_to, Law, IsCallOf, leads_call}
+use Rattle.mqtt_rules.proofs.Acts.{About as Whom, closing, closing_on, closing_session, brought_to, Law, IsCallOf, leads_call, found_number}
 use Rattle.mqtt_laws.specs.Ends.{heard}
 use Rattle.mqtt_laws.specs.Seats.{Glance, HasNobody, IsElsewhere, IsIdle, glance, glance_at}
 use Rattle.mqtt_laws.proofs.Quiet.{IsQuietOn, IsQuiet, AreQuiet, heard_by, told_to, is_closing, closes, quiet_leave, quiet_deliveries, copies_of, quiet_copies}
 use Rattle.mqtt_laws.proofs.Far.{not_same, less_differs}
+use Rattle.mqtt_laws.proofs.Lists.{all_find}
 
 -- ---- deeds away from a line
 
@@ -301,16 +302,6 @@ pub away_quiet : (birth n : ℕ) (ds : List Deed) → AreQuiet birth n ds → Ar
 away_quiet birth n [] q = tt
 away_quiet birth n (d ∷ ds) q = (away_deed birth n d q.0, away_quiet birth n ds q.1)
 
-all_find : {X : Type 0} (P : X → Type 0) (test : X → Bool) (x : X) (xs : List X) → AllByRecursion P xs → find test xs ≡ Some x → P x × (test x ≡ true)
-all_find P test x [] h e = absurd cc
-all_find P test x (y ∷ ys) h e = elim (cases_Bool (test y)) [
-  | inl taken ↦
-      let it : Some y ≡ Some x = rw taken at e in
-      let is : y ≡ x = cc in
-      (subst P is h.0, subst (λ z. test z ≡ true) is taken)
-  | inr passed ↦ all_find P test x ys h.1 (rw passed at e)
-]
-
 module _ (n : ℕ) where
   abbrev Away : List Deed → Type 0
   Away ds = AreAway n ds
@@ -439,13 +430,7 @@ module _ (n : ℕ) where
   IsOnTime call b = ⊤
 
   its_line : (m : ℕ) (l : Line) (b : Broker) → nat_eq m n ≡ false → line_at m b ≡ Some l → nat_eq l.number n ≡ false
-  its_line m l b q e =
-      let at = all_find (λ (x : Line). ⊤) (λ (x : Line). nat_eq x.number m) l b.lines (anything b.lines) e in
-      ap (λ (k : ℕ). nat_eq k n) (eqb-true l.number m at.1) ∙ q
-    where
-      anything : (ls : List Line) → AllByRecursion (λ (x : Line). ⊤) ls
-      anything [] = tt
-      anything (x ∷ xs) = (tt, anything xs)
+  its_line m l b q e = ap (λ (k : ℕ). nat_eq k n) (found_number m l b.lines e) ∙ q
 
   -- nothing is sent on it
   pump_there : (b : Broker) → IsIdle n b → (m : ℕ) → nat_eq m n ≡ true → (o : Option Line) → line_at m b ≡ o → Away (with_line o (λ l. on_pump l l.session) b)

@@ -22,7 +22,7 @@ use Rattle.mqtt_rules.specs.Numbers.{HasGivenBirths}
 use Rattle.mqtt_rules.specs.Lines.{line_number, HasUniqueLines}
 use Rattle.mqtt_rows.specs.Order.{IsAscending, IsBelow}
 use Rattle.mqtt_records.specs.Session.{birth_of, auto}
-use Rattle.mqtt_laws.specs.Lines.{is_one_of, unless_closed, left, joined}
+use Rattle.mqtt_laws.specs.Lines.{Line, is_one_of, unless_closed, left, joined}
 use Rattle.mqtt_laws.specs.Ends.{Sent, shake, Publisher, wire}
 use Rattle.mqtt_laws.specs.World.{publisher_told, taken_up, taken_old}
 use Rattle.mqtt_laws.specs.Run.{client_number}
@@ -253,8 +253,7 @@ lost_by limits choice now n p b =
 -- not while a Clean Start is carried through
 abbrev pub MayGiveUp : Link → Bool → Type 0
 MayGiveUp away clean = ⊤
-MayGiveUp asked true = ⊥
-MayGiveUp asked false = ⊤
+MayGiveUp asked clean = clean ≡ false
 MayGiveUp live clean = ⊤
 
 -- ---- it joins by a new line
@@ -265,11 +264,14 @@ joined_by limits choice now clean p b =
     record q { line = joined (shake (CONNECT clean)) (suc b.given) clean q.line }
 
 -- a CONNECT for which there is a line, by an end that has none, which carries a Clean Start through
-pub record MayJoin (clean : Bool) (p : Publisher) (b : Broker) : Type 0 where
+pub record MayConnect {U : Type 0} (clean : Bool) (line : Line U) (b : Broker) : Type 0 where
   pub can : can_link b ≡ true
   pub given : IsBelow line_number (suc b.given) b.lines
-  pub away : p.line.link ≡ away
-  pub carried : p.line.clean ≡ true → clean ≡ true
+  pub away : line.link ≡ away
+  pub carried : line.clean ≡ true → clean ≡ true
+
+abbrev pub MayJoin : Bool → Publisher → Broker → Type 0
+MayJoin clean p b = MayConnect clean p.line b
 
 -- ---- runs of a hop
 

@@ -1,9 +1,11 @@
 -- Lists of ends: who is found by a name, where each end is changed, one end is, or a new one comes.
-use Rattle.std.proofs.Common.{◌≡◌, ℕ, Bool, true, false, cond, ◌⊎◌, List, [], ◌∷◌, ◌++◌, map, Option, Some, None, bytes_eq, refl, sym, ap, subst, ◌∙◌, inl, inr}
+use Rattle.std.proofs.Common.{◌≡◌, ℕ, Bool, true, false, cond, ◌⊎◌, List, [], ◌∷◌, ◌++◌, map, Option, Some, None, bytes_eq, refl, sym, ap, ◌∙◌, inl, inr}
 use Rattle.std.specs.Prelude.{⊤, option_map, find, is_some}
 use Rattle.std.specs.List.{AllByRecursion}
 use Rattle.std.proofs.lemmas.Bool.{cases_Bool}
 use Rattle.std.proofs.lemmas.Slice.Eq.{bytes_eq-Decides}
+use Rattle.mqtt_rules.proofs.Copies.{each_append, each_more}
+use Rattle.mqtt_rules.proofs.Leads.{found_passes}
 use Rattle.mqtt_laws.specs.Ends.{Publisher, Receiver}
 use Rattle.mqtt_laws.specs.World.{World, publisher_named, receiver_named, with_publisher}
 
@@ -14,22 +16,10 @@ all_mapped P Q f [] h a = tt
 all_mapped P Q f (x ∷ xs) h a = (h x a.0, all_mapped P Q f xs h a.1)
 
 pub all_turned : {X : Type 0} (P Q : X → Type 0) (xs : List X) → ((x : X) → P x → Q x) → AllByRecursion P xs → AllByRecursion Q xs
-all_turned P Q [] h a = tt
-all_turned P Q (x ∷ xs) h a = (h x a.0, all_turned P Q xs h a.1)
+all_turned P Q xs h a = each_more P Q h xs a
 
 pub all_appended : {X : Type 0} (P : X → Type 0) (xs : List X) (x : X) → AllByRecursion P xs → P x → AllByRecursion P (xs ++ x ∷ [])
-all_appended P [] x a h = (h, tt)
-all_appended P (y ∷ ys) x a h = (a.0, all_appended P ys x a.1 h)
-
-pub all_found : {X : Type 0} (P : X → Type 0) (test : X → Bool) (x : X) (xs : List X) → AllByRecursion P xs → find test xs ≡ Some x → P x × (test x ≡ true)
-all_found P test x [] h e = absurd cc
-all_found P test x (y ∷ ys) h e = elim (cases_Bool (test y)) [
-  | inl taken ↦
-      let it : Some y ≡ Some x = rw taken at e in
-      let is : y ≡ x = cc in
-      (subst P is h.0, subst (λ z. test z ≡ true) is taken)
-  | inr passed ↦ all_found P test x ys h.1 (rw passed at e)
-]
+all_appended P xs x a h = each_append P xs (x ∷ []) a (h, tt)
 
 -- ---- by name
 
@@ -39,10 +29,10 @@ anything (x ∷ xs) = (tt, anything xs)
 
 -- what is found by a name has it
 pub named_publisher : (c : List ℕ) (p : Publisher) (w : World) → publisher_named c w ≡ Some p → p.client ≡ c
-named_publisher c p w e = (bytes_eq-Decides p.client c).0 (all_found (λ (x : Publisher). ⊤) (λ (x : Publisher). bytes_eq x.client c) p w.publishers (anything w.publishers) e).1
+named_publisher c p w e = (bytes_eq-Decides p.client c).0 (found_passes (λ (x : Publisher). bytes_eq x.client c) p w.publishers e)
 
 pub named_receiver : (c : List ℕ) (r : Receiver) (w : World) → receiver_named c w ≡ Some r → r.client ≡ c
-named_receiver c r w e = (bytes_eq-Decides r.client c).0 (all_found (λ (x : Receiver). ⊤) (λ (x : Receiver). bytes_eq x.client c) r w.receivers (anything w.receivers) e).1
+named_receiver c r w e = (bytes_eq-Decides r.client c).0 (found_passes (λ (x : Receiver). bytes_eq x.client c) r w.receivers e)
 
 -- ---- each is changed, and keeps its name
 

@@ -6,7 +6,6 @@ use Rattle.std.proofs.lemmas.Bool.{cases_Bool}
 use Rattle.std.proofs.lemmas.Slice.Eq.{bytes_eq-Decides}
 use Rattle.mqtt_base.specs.declared.limits.TheConstants.{CLIENT_LIMIT}
 use Rattle.mqtt_inbound.specs.Line.{Link, away, asked, live}
-use Rattle.mqtt_inbound.specs.InboundWorld.{World as Hop}
 use Rattle.mqtt_inbound.specs.InboundWorld as hop
 use Rattle.mqtt_records.specs.declared.session.Session.{Session}
 use Rattle.mqtt_rules.specs.State.{Broker, session_named}

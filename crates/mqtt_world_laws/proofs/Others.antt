@@ -10,7 +10,8 @@ use Rattle.mqtt_rules.specs.Step.{Call, Input, Lost}
 use Rattle.mqtt_laws.specs.Ends.{Content, Sent, shake, plain, Publisher, Receiver, Back, answers, asks_for, wire, wire_back}
 use Rattle.mqtt_laws.specs.World.{World, publisher_named, receiver_named, input_on, lost_on, View, view_by, view_of}
 use Rattle.mqtt_laws.specs.Hops.{IsOthers}
-use Rattle.mqtt_world_laws.proofs.Ends.{all_found, named_publisher, named_receiver}
+use Rattle.mqtt_laws.proofs.Lists.{all_find}
+use Rattle.mqtt_world_laws.proofs.Ends.{named_publisher, named_receiver}
 use Rattle.mqtt_world_laws.proofs.Around.{IsFree, OtherPublisher, OtherReceiver, Around, IsOutside}
 
 -- ---- their packets
@@ -48,7 +49,7 @@ foreign c d limits his w a differ = by (publisher_named d w) (receiver_named d w
 
     by : (x : Option Publisher) (y : Option Receiver) → publisher_named d w ≡ x → receiver_named d w ≡ y → Foreign (publisher_named d w) (receiver_named d w)
     by (Some q) y e f =
-        let found = all_found (OtherPublisher c his w.broker.given) (λ (z : Publisher). bytes_eq z.client d) q w.publishers a.publishers e in
+        let found = all_find (OtherPublisher c his w.broker.given) (λ (z : Publisher). bytes_eq z.client d) q w.publishers a.publishers e in
         let is = named_publisher d q w e in
         subst (λ (z : Option Publisher). Foreign z (receiver_named d w)) (sym e)
         (elim found.0 [
@@ -61,7 +62,7 @@ foreign c d limits his w a differ = by (publisher_named d w) (receiver_named d w
           }
         ])
     by None (Some r) e f =
-        let found = all_found (OtherReceiver his w.broker.given) (λ (z : Receiver). bytes_eq z.client d) r w.receivers a.receivers f in
+        let found = all_find (OtherReceiver his w.broker.given) (λ (z : Receiver). bytes_eq z.client d) r w.receivers a.receivers f in
         let is = named_receiver d r w f in
         subst (λ (z : Option Publisher). Foreign z (receiver_named d w)) (sym e)
         (subst (λ (z : Option Receiver). Foreign None z) (sym f) (record {

@@ -18,9 +18,10 @@ use Rattle.mqtt_laws.specs.World.{Stranger, World, Setting, publisher_named, rec
 use Rattle.mqtt_laws.specs.Hops.{IsOthers}
 use Rattle.mqtt_laws.proofs.Frame.{kept_given}
 use Rattle.mqtt_laws.specs.Run.{read_if, read_rest, read_first, read_asked}
+use Rattle.mqtt_laws.proofs.Lists.{all_find}
 use Rattle.mqtt_world_laws.specs.Spending.{spending}
 use Rattle.mqtt_world_laws.proofs.Steady.{linking_spends_none}
-use Rattle.mqtt_world_laws.proofs.Ends.{all_found, all_mapped, all_appended, find_last}
+use Rattle.mqtt_world_laws.proofs.Ends.{all_mapped, all_appended, find_last}
 use Rattle.mqtt_world_laws.proofs.Around.{IsFree, OtherStranger, Holds, IsOutside, calls_hold, if_holds, if_there}
 
 -- ---- lists of strangers
@@ -165,7 +166,7 @@ next_outside c limits his accepted name w v h there good found x is = by (strang
     by : (o : Option Stranger) → stranger_named name v ≡ o → IsOutside his c x
     by None e = let clash : None ≡ Some x = sym (ap call_of_stranger e) ∙ is in absurd cc
     by (Some s) e =
-        let free = (all_found (OtherStranger his v.broker.given) (λ (z : Stranger). bytes_eq z.name name) s v.strangers h.around.strangers e).0 in
+        let free = (all_find (OtherStranger his v.broker.given) (λ (z : Stranger). bytes_eq z.name name) s v.strangers h.around.strangers e).0 in
         held_outside c his v.broker.given w s x (sym there ∙ found) free (sym (ap (λ (z : Option Stranger). front_names (first_of (bytes_held z)) w) e) ∙ good) (sym (ap call_of_stranger e) ∙ is)
 
 same_cost : (set : Setting) (name : List ℕ) (v : World) (x : Option Call) → read_if spending set x v ≡ false → read_if spending set x (next_held name v) ≡ false
