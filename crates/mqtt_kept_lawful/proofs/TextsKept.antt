@@ -168,7 +168,7 @@ step_texts limits choice now call b taken known h =
     let c = at_moment now b in
     let env = env_of limits choice b in
     let ds = deeds limits choice now call b in
-    moment_texts (rows_of_all ds c.records) (after_all ds c) (texts_all ds c (from_good ds c (from_call env call taken c)) (call_good env call c known) h)
+    moment_texts (rows_of_all ds c.records) (after_all ds c) (texts_all ds c (from_good ds c (from_call env call c taken)) (call_good env call c known) h)
 
 pub opening_texts : (limits : Limits) (choice : MemberChoice) (now : ℕ) (r : Records) → HaveIdentities r → HaveTexts r → HaveTexts (stored (opened limits choice now r))
 opening_texts limits choice now r known h =
