@@ -11,5 +11,5 @@ pub use line::{Action, LineFault};
 pub use mqtt_serve_fault::ServeFault;
 pub use mqtt_viewing::{Status, VectorsFault, ViewFault, one_view, one_word, vectors, view};
 pub use outcome::{DONE, FAILED, FAULTY, Outcome, USAGE, ending};
-pub use program::run;
+pub use program::{perform, run};
 pub use words::action;

@@ -1,12 +1,17 @@
 //! The program over a runtime: its arguments, its files and its streams (ours).
 
+ghost use Rattle.std.specs.Prelude.{◌≡◌, map};
+ghost use Rattle.mqtt_cli.specs.Line.{command_of};
+ghost use Rattle.mqtt_cli.specs.Running.{Answers, AnswersWords, IsOfView, Writes};
+
 use crate::line::{Action, LineFault};
 use crate::outcome::Outcome;
 use crate::words::action;
 use mqtt_serve_fault::ServeFault;
 use mqtt_viewing::{ViewFault, vectors, view};
 use std::alloc::{AllocError, Global};
-use std::io::{self, ErrorKind, Read};
+use std::convert::AsStr;
+use std::io::{self, ErrorKind, Read, Write};
 use std::net::SocketAddrV4;
 use std::{env, fs};
 
@@ -21,43 +26,67 @@ fn no_words(alloc: Global, error: io::Error) -> LineFault {
     }
 }
 
-/// Writes the view of what a reader gives to standard output.
-fn run_view<R: Print + AllocGlobal, I: Read + Drop>(
-    rt: &R,
+/// Writes the view of what a reader gives.
+fn view_of<I: Read + Drop, W: Write>(
+    alloc: Global,
     mut reader: I,
+    writer: &mut W,
     payload: bool,
-) -> Outcome {
-    match view(rt.alloc(), &mut reader, &mut io::writer(rt), payload) {
+) -> Outcome
+    ensures { IsOfView result }
+{
+    match view(alloc, &mut reader, writer, payload) {
         Ok(status) => Outcome::Done(status),
         Err(fault) => Outcome::View(fault),
     }
 }
 
-/// Writes the report on the vectors to standard output.
-fn run_vectors<R: Print + AllocGlobal>(rt: &R) -> Outcome {
-    match vectors(rt.alloc(), &mut io::writer(rt)) {
-        Ok(status) => Outcome::Done(status),
-        Err(fault) => Outcome::Vectors(fault),
+/// Does what these words ask for, the first of which names the program. The command line is looked at first, then
+/// the file or the database, then the socket. What files, sockets and standard input hold no contract can say; `view`
+/// and `vectors` say what is written. What serves at an address, over the database at a path, for so many turns, is
+/// handed in: so nothing of the command line stands on the server.
+pub fn perform<S: AsStr, W: Write, F: Fn(SocketAddrV4, &str, u32) -> Result<(), ServeFault>>(
+    rt: &HostRuntime,
+    words: &[S],
+    writer: &mut W,
+    serve: &F,
+) -> Outcome
+    requires { F.IsAlwaysCallable serve.now }
+    ensures answers { Answers (λ listen db turns ended. (text : _) × (text.now ≡ db) × F.post serve.now listen text turns ended)
+        (command_of (map S.text words.now)) result }
+    ensures writes { Writes (command_of (map S.text words.now))
+        (W.contents writer.old) (W.contents writer.new) result }
+{
+    match action(rt.alloc(), words) {
+        Err(fault) => Outcome::Line(fault),
+        Ok(Action::Vectors) => match vectors(rt.alloc(), writer) {
+            Ok(status) => Outcome::Done(status),
+            Err(fault) => Outcome::Vectors(fault),
+        },
+        Ok(Action::Serve { listen, db, turns }) => match serve(listen, db, turns) {
+            Ok(()) => Outcome::Served,
+            Err(fault) => Outcome::Serve(fault),
+        },
+        Ok(Action::View { file: "-", payload }) => {
+            view_of(rt.alloc(), rt.reader(), writer, payload)
+        }
+        Ok(Action::View { file, payload }) => match fs::open(rt, file) {
+            Ok(file) => view_of(rt.alloc(), file, writer, payload),
+            Err(error) if error.kind() == ErrorKind::OutOfMemory => {
+                Outcome::View(ViewFault::Memory)
+            }
+            Err(_) => Outcome::NoFile,
+        },
     }
 }
 
-/// What came of serving.
-fn served(ended: Result<(), ServeFault>) -> Outcome {
-    match ended {
-        Ok(()) => Outcome::Served,
-        Err(fault) => Outcome::Serve(fault),
-    }
-}
-
-/// Does what the process's arguments ask for. The command line is looked at first, then the file
-/// or the database, then the socket. What files, sockets, standard input and standard output hold
-/// no contract can say; `action`, `view` and `vectors` say the rest. What serves at an address, over the database at a
-/// path, for so many turns, is handed in: so nothing of the command line stands on the server.
+/// Does what the process's arguments ask for, and writes it to standard output.
 pub fn run<F: Fn(SocketAddrV4, &str, u32) -> Result<(), ServeFault>>(
     rt: &HostRuntime,
     serve: &F,
 ) -> Outcome
     requires { F.IsAlwaysCallable serve.now }
+    ensures { AnswersWords (λ listen db turns ended. (text : _) × (text.now ≡ db) × F.post serve.now listen text turns ended) result }
 {
     let words = match env::args(rt) {
         Ok(words) => words.collect::<Vec<String>>(rt.alloc()),
@@ -66,17 +95,5 @@ pub fn run<F: Fn(SocketAddrV4, &str, u32) -> Result<(), ServeFault>>(
     let Ok(words) = words else {
         return Outcome::Line(LineFault::Memory);
     };
-    match action(rt.alloc(), words.as_slice()) {
-        Err(fault) => Outcome::Line(fault),
-        Ok(Action::Vectors) => run_vectors(rt),
-        Ok(Action::Serve { listen, db, turns }) => served(serve(listen, db, turns)),
-        Ok(Action::View { file: "-", payload }) => run_view(rt, rt.reader(), payload),
-        Ok(Action::View { file, payload }) => match fs::open(rt, file) {
-            Ok(file) => run_view(rt, file, payload),
-            Err(error) if error.kind() == ErrorKind::OutOfMemory => {
-                Outcome::View(ViewFault::Memory)
-            }
-            Err(_) => Outcome::NoFile,
-        },
-    }
+    perform(rt, words.as_slice(), &mut io::writer(rt), serve)
 }

@@ -2,6 +2,7 @@
 
 use mqtt_cli::{
     Action, LineFault, Outcome, ServeFault, Status, VectorsFault, ViewFault, action, ending,
+    perform,
 };
 use std::alloc::Global;
 use std::net::{Ipv4Addr, SocketAddrV4};
@@ -73,6 +74,39 @@ const SERVED: [(&str, &str, ([u8; 4], u16), u32); 3] = [
     ("0.0.0.0:0", "4294967295", ([0, 0, 0, 0], 0), 4_294_967_295),
     ("255.10.0.9:65535", "60", ([255, 10, 0, 9], 65_535), 60),
 ];
+
+#[test]
+fn what_serves_is_called_as_asked(rt: HostRuntime) {
+    let words = [
+        "mqtt5",
+        "serve",
+        "--listen",
+        "0.0.0.0:0",
+        "--db",
+        "a.db",
+        "--turns",
+        "3",
+    ];
+    let mut written: Vec<u8> = Vec::new(rt.alloc());
+    let outcome = perform(
+        &rt,
+        &words,
+        &mut written,
+        &|_, db: &str, turns| {
+            if db == "a.db" && turns == 3 {
+                Ok(())
+            } else {
+                Err(ServeFault::Socket)
+            }
+        },
+    );
+    let is_served = matches!(outcome, Outcome::Served);
+    let is_silent = written.is_empty();
+    drop(outcome);
+    drop(written);
+    assert!(rt; is_served);
+    assert!(rt; is_silent);
+}
 
 #[test]
 fn a_value_that_is_out_of_range_is_usage(rt: HostRuntime) -> Result<(), Fail> {
