@@ -7,4 +7,4 @@ mod serving;
 mod store;
 
 pub use mqtt_serve_fault::ServeFault;
-pub use serving::serve;
+pub use serving::{serve, serve_over};

@@ -1,6 +1,7 @@
 //! The server: turns over sockets and a database (MQTT 5.0, 4.2).
 ghost use Rattle.std.specs.Prelude.{◌≡◌, ◌≢◌, [], OnOk, IfOk, IfErr};
 ghost use Rattle.std.specs.Io.KnownBytes.{Appends, Keeps};
+ghost use Rattle.mqtt_serving.specs.Turns.{Begins, Runs, TurnsFrom, TurnsOn, server};
 ghost use Rattle.mqtt_serve.specs.Announcing.{Announces, done, listening};
 
 use crate::clock::moment;
@@ -76,7 +77,8 @@ fn write_done<W: Write>(writer: &mut W) -> Result<(), ServeFault>
     }
 }
 
-/// Runs turns. One in which nothing was accepted, read or written waits a little.
+/// Runs so many turns, each at the moment that the clock then tells. One in which nothing was accepted, read or written
+/// waits a little.
 fn run_turns<K: Keep>(
     rt: &impl Clock,
     links: &mut Links<PollLink>,
@@ -84,6 +86,8 @@ fn run_turns<K: Keep>(
     turns: u32,
     begin: u64,
 ) -> Result<(), ServeFault>
+    ensures ran { OnOk result (TurnsOn K.Keep turns
+        (server engine.old links.old.wires) (server engine.new links.new.wires)) }
     ensures fault { IfErr result (λ fault. fault ≡ ServeFault.Store) }
 {
     let mut now = begin;
@@ -91,7 +95,7 @@ fn run_turns<K: Keep>(
         now = moment(rt, now);
         match serve_turn(links, engine, now) {
             Ok(true) => {}
-            Ok(false) => links.link_mut().wait(Duration::from_millis(WAIT)),
+            Ok(false) => links.wait_by(|link| link.wait(Duration::from_millis(WAIT))),
             Err(error) => return Err(stopped_by(error)),
         }
     }
@@ -108,6 +112,7 @@ fn serve_engine<K: Keep, W: Write>(
     writer: &mut W,
 ) -> Result<(), ServeFault>
     ensures ok { OnOk result (Announces (W.contents writer.old) (W.contents writer.new) []) }
+    ensures ran { OnOk result (TurnsFrom K.Keep turns engine.old engine.new) }
     ensures socket { IfErr result (λ fault. fault ≡ ServeFault.Socket
         → Keeps (W.contents writer.old) (W.contents writer.new)) }
 {
@@ -118,8 +123,10 @@ fn serve_engine<K: Keep, W: Write>(
     run_turns(rt, &mut links, engine, turns, begin)
 }
 
-/// Serves over any store, which it gives back.
-fn serve_over<K: Keep, W: Write>(
+/// Serves at an address, over any store, for so many turns, and gives the store back (4.1, 4.2): the broker begins with
+/// what the store holds, then it listens, and writes `listening` and the address. `Write` (2), `Memory` (3), `Store` (4)
+/// and `Socket` (5), where nothing was written.
+pub fn serve_over<K: Keep, W: Write>(
     rt: &HostRuntime,
     listen: SocketAddr,
     keep: K,
@@ -127,6 +134,8 @@ fn serve_over<K: Keep, W: Write>(
     writer: &mut W,
 ) -> Result<K, ServeFault>
     ensures ok { OnOk result (Announces (W.contents writer.old) (W.contents writer.new) []) }
+    ensures ran { IfOk result (λ given. Runs K.Keep turns keep given) }
+    ensures order { IfErr result (λ fault. fault ≡ ServeFault.Socket → (start : _) × Begins K.Keep keep start) }
     ensures socket { IfErr result (λ fault. fault ≡ ServeFault.Socket
         → Keeps (W.contents writer.old) (W.contents writer.new)) }
 {

@@ -1,6 +1,8 @@
 //! The store of the server: a database in a file (MQTT 5.0, 4.1).
-ghost use Rattle.std.specs.Prelude.{◌≡◌, ◌≢◌, IfErr};
+ghost use Rattle.std.specs.Prelude.{◌≡◌, ◌≢◌, IfErr, IfOk};
+ghost use Rattle.mqtt_serving.specs.Turns.{Begins};
 
+use mqtt_base::{QUEUE_LIMIT, RETAINED_LIMIT, SESSION_LIMIT};
 use mqtt_serve_fault::ServeFault;
 use mqtt_serving::{Engine, EngineError, Full, Keep, KeepError, Limits};
 use mqtt_store::SqlKeep;
@@ -11,12 +13,12 @@ use std::hash::RandomState;
 /// A database in a file.
 pub(crate) type Database = Connection<FileStore<File>>;
 
-/// The limits of the server.
+/// The limits of the server: those of its tables; a full queue refuses.
 const LIMITS: Limits = Limits {
     full: Full::Refuse,
-    queue: 1_000,
-    sessions: 1_000,
-    retained: 1_000,
+    queue: QUEUE_LIMIT as u32,
+    sessions: SESSION_LIMIT as u32,
+    retained: RETAINED_LIMIT as u32,
 };
 
 /// What a failure of the database is to the server.
@@ -66,7 +68,10 @@ pub(crate) fn open_engine<K: Keep>(
     rt: &HostRuntime,
     keep: K,
     moment: u64,
-) -> Result<Engine<K>, ServeFault> {
+) -> Result<Engine<K>, ServeFault>
+    ensures begun { IfOk result (λ engine. Begins K.Keep keep engine) }
+    ensures fault { IfErr result (λ fault. fault ≢ ServeFault.Socket) }
+{
     let Ok(hasher) = RandomState::new(rt) else {
         return Err(ServeFault::Memory);
     };

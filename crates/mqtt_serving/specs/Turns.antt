@@ -1,10 +1,13 @@
 -- A turn of the server: what is asked of the broker, in order, and what its answers make of the connections (MQTT 5.0, 4.2).
 use Rattle.std.specs.Prelude.{◌≡◌, ◌≢◌, ◌⊎◌, ℕ, suc, ◌+◌, ◌<◌, Bool, true, false, not, List, [], ◌∷◌, ◌++◌, length, take, drop, filter, slice_get, Option, Some, None, option_map, Result, Ok, Err}
 use Rattle.mqtt_records.specs.declared.keep.Keep.{Ghosts}
+use Rattle.mqtt_records.specs.declared.records.Records.{Records}
 use Rattle.mqtt_broker.specs.TheTables.declared.call.EngineError.{EngineError}
 use Rattle.mqtt_broker.specs.TheTables.declared.call.EngineError.TheVariants.{Memory, Stopped, Spent}
 use Rattle.mqtt_broker.specs.Outcome.{Outcome}
-use Rattle.mqtt_broker.specs.TheRules.Step.{BrokerStep, NewLine, Lost, Pump, Tick, nothing_told}
+use Rattle.mqtt_broker.specs.TheRules.declared.Limits.{Limits}
+use Rattle.mqtt_broker.specs.TheRules.Laws.{AreWithin}
+use Rattle.mqtt_broker.specs.TheRules.Step.{BrokerOpening, BrokerStep, NewLine, Lost, Pump, Tick, nothing_told}
 use Rattle.mqtt_broker.specs.TheTables.Doing.{next_line}
 use Rattle.mqtt_broker.specs.Piece.{PieceCalled}
 use Rattle.mqtt_broker.specs.Serving.{Serving, Served, with_linked}
@@ -194,3 +197,34 @@ pub record Turn {K : Type 0} (g : Ghosts K) (now : ℕ) (old new : Server (Servi
   pub serves : ServesBelow g now (length accepted.wires) accepted served
   pub ticks : Ticks g now TICK_LIMIT served ticked
   pub drops : new ≡ server ticked.engine (filter (λ w. not (is_closed w.fate)) ticked.wires)
+
+-- ---- turns one after the other, each at the moment that the clock then told
+
+pub data TurnsOn {K : Type 0} (g : Ghosts K) : ℕ → Server (Serving K) → Server (Serving K) → Type 0 where
+  no_turn : {s : Server (Serving K)} → TurnsOn g 0 s s
+  turn_after : {n now : ℕ} {s t u : Server (Serving K)} → TurnsOn g n s t → Turn g now t u → TurnsOn g (n + 1) s u
+
+-- from an engine on which nobody is
+abbrev pub TurnsFrom : {K : Type 0} → Ghosts K → ℕ → Serving K → Serving K → Type 0
+TurnsFrom g turns old new = (wires : List Wire) × TurnsOn g turns (server old []) (server new wires)
+
+-- ---- a store is served: the broker begins with the opening of what the store held, with limits within those of the
+-- tables, has so many turns, and gives the store back (4.1)
+
+pub record Begins {K : Type 0} (g : Ghosts K) (keep : K) (start : Serving K) : Type 0 where
+  pub limits : Limits
+  pub moment : ℕ
+  pub records : Records
+  pub within : AreWithin limits
+  -- of a device that lied nothing is said
+  pub exact : (held : Records) → g.holds keep held → g.is_sound start.running.keep → records ≡ held
+  pub opening : BrokerOpening limits records moment start.running.broker
+  pub holds : g.holds start.running.keep start.running.broker.records
+  pub silent : start.held ≡ []
+
+pub record Runs {K : Type 0} (g : Ghosts K) (turns : ℕ) (old new : K) : Type 0 where
+  pub start : Serving K
+  pub stop : Serving K
+  pub begins : Begins g old start
+  pub ran : TurnsFrom g turns start stop
+  pub closed : new ≡ stop.running.keep

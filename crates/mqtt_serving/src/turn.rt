@@ -53,9 +53,12 @@ impl<L: Link + Drop> Links<L> {
         &self.link
     }
 
-    /// The link, to wait on it.
-    pub fn link_mut(&mut self) -> &mut L {
-        &mut self.link
+    /// Lends the link, to wait on it. The connections stay as they are.
+    pub fn wait_by<F: FnOnce(&mut L)>(&mut self, wait: F)
+        requires { F.IsAlwaysCallable wait }
+        ensures wires { self.new.wires ≡ self.old.wires }
+    {
+        wait(&mut self.link);
     }
 
     /// How many connections there are.
