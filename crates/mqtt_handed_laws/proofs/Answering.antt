@@ -53,7 +53,7 @@ use Rattle.mqtt_handed_laws.proofs.Turns.{ids_after, left_lots, none_left, relea
 
 -- ---- lists
 
-heard_append : (number : Numbering) (xs ys : List Down) → filter_map (heard_in number) (xs ++ ys) ≡ filter_map (heard_in number) xs ++ filter_map (heard_in number) ys
+pub heard_append : (number : Numbering) (xs ys : List Down) → filter_map (heard_in number) (xs ++ ys) ≡ filter_map (heard_in number) xs ++ filter_map (heard_in number) ys
 heard_append number [] ys = refl
 heard_append number (x ∷ xs) ys = by (heard_in number x) (heard_append number xs ys)
   where
@@ -96,7 +96,7 @@ alone_heard birth k now n (l ∷ ls) h = by (nat_eq l.number n) (alone_heard bir
     by false g = (h.0, g)
 
 -- a copy leaves its session's queue
-went_left : (birth place : ℕ) (ls : List BrokerLine) → its_went birth (map (without_place birth place) ls) ≡ option_map (ids_without place) (its_went birth ls)
+pub went_left : (birth place : ℕ) (ls : List BrokerLine) → its_went birth (map (without_place birth place) ls) ≡ option_map (ids_without place) (its_went birth ls)
 went_left birth place [] = refl
 went_left birth place (l ∷ ls) = by (is_of l.session birth) refl (went_left birth place ls)
   where

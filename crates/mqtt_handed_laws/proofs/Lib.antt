@@ -5,4 +5,10 @@ pub mod Handed
 pub mod Turns
 pub mod Answering
 pub mod Losing
+pub mod Marks
+pub mod Pumps
+pub mod Calling
+pub mod Sending
 pub mod Examples
+pub mod DrainRuns
+pub mod DrainExamples

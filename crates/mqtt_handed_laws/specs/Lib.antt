@@ -1,3 +1,5 @@
 pub mod Seen
 pub mod Tags
 pub mod Handing
+pub mod Calls
+pub mod Drains

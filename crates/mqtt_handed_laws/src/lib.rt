@@ -2,8 +2,12 @@
 //! (MQTT 5.0, 4.3, 4.4).
 #![tactic(auto)]
 
+mod call_laws;
+mod drain_laws;
 mod laws;
 
+pub use call_laws::sending_is_a_step_of_the_hop;
+pub use drain_laws::a_script_with_drains_is_a_run;
 pub use laws::{
     a_lost_line_is_a_step_of_the_hop, a_run_of_the_hop_hands_over_once,
     answers_of_a_receiver_are_steps_of_the_hop, own_doings_of_a_receiver_are_steps_of_the_hop,

@@ -1,0 +1,24 @@
+//! Laws of a receiver's hop: what calls of the broker make of it (4.1, 4.4, 4.6, 4.9).
+ghost use Rattle.std.specs.Prelude.{◌≡◌, ℕ, List};
+ghost use Rattle.mqtt_flow.specs.OutboundWorld.{Lot};
+ghost use Rattle.mqtt_handed_laws.specs.Calls.{receiver_called};
+ghost use Rattle.mqtt_handed_laws.specs.Handing.{IsListening, IsRun, RunsOn};
+ghost use Rattle.mqtt_handed_laws.specs.Seen.{Numbering};
+ghost use Rattle.mqtt_laws.specs.Ends.{Receiver};
+ghost use Rattle.mqtt_records.specs.declared.session.Session.{Session};
+ghost use Rattle.mqtt_rules.specs.Flight.{HasDistinctIdentifiers};
+ghost use Rattle.mqtt_rules.specs.State.{Broker, Line, MemberChoice};
+ghost use Rattle.mqtt_rules.specs.Step.{Pump, stepped};
+ghost use Rattle.mqtt_rules.specs.declared.Limits.{Limits};
+
+/// The broker sends what waits for a receiver whose session is connected on its line: whichever copies expire,
+/// are too large, are sent, or are sent again, what the receiver and its session see of the world stays a run
+/// of their hop, with the same copies; each PUBLISH is tagged with the copy that it carries (4.4, 4.6, 4.9).
+pub fn sending_is_a_step_of_the_hop()
+    ensures sends { (number : Numbering) (largest : ℕ) (copies : List Lot) (limits : Limits)
+        → (choice : MemberChoice) (now : ℕ) (r : Receiver) (l : Line) (s : Session) (b : Broker)
+        → IsRun number largest copies r b → IsListening r l s b
+        → l.largest ≡ largest → HasDistinctIdentifiers b.records
+        → RunsOn number largest copies (receiver_called limits choice now (Pump l.number) r b)
+        (stepped limits choice now (Pump l.number) b) }
+{}
