@@ -9,6 +9,7 @@ pub mod Marks
 pub mod Pumps
 pub mod Calling
 pub mod Sending
+pub mod OldAnswers
 pub mod Examples
 pub mod DrainRuns
 pub mod DrainExamples

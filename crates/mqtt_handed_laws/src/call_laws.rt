@@ -1,10 +1,11 @@
 //! Laws of a receiver's hop: what calls of the broker make of it (4.1, 4.4, 4.6, 4.9).
-ghost use Rattle.std.specs.Prelude.{◌≡◌, ℕ, List};
+ghost use Rattle.std.specs.Prelude.{◌≡◌, ◌∷◌, ℕ, List};
 ghost use Rattle.mqtt_flow.specs.OutboundWorld.{Lot};
-ghost use Rattle.mqtt_handed_laws.specs.Calls.{receiver_called};
-ghost use Rattle.mqtt_handed_laws.specs.Handing.{IsListening, IsRun, RunsOn};
+ghost use Rattle.mqtt_flow.specs.Receiver.{puback, pubcomp, pubrec};
+ghost use Rattle.mqtt_handed_laws.specs.Calls.{IsLingering, reads_old_answer, receiver_called};
+ghost use Rattle.mqtt_handed_laws.specs.Handing.{IsListening, IsRun, RunsOn, after_answer};
 ghost use Rattle.mqtt_handed_laws.specs.Seen.{Numbering};
-ghost use Rattle.mqtt_laws.specs.Ends.{Receiver};
+ghost use Rattle.mqtt_laws.specs.Ends.{Back, Receiver, answers};
 ghost use Rattle.mqtt_records.specs.declared.session.Session.{Session};
 ghost use Rattle.mqtt_rules.specs.Flight.{HasDistinctIdentifiers};
 ghost use Rattle.mqtt_rules.specs.State.{Broker, Line, MemberChoice};
@@ -21,4 +22,25 @@ pub fn sending_is_a_step_of_the_hop()
         → l.largest ≡ largest → HasDistinctIdentifiers b.records
         → RunsOn number largest copies (receiver_called limits choice now (Pump l.number) r b)
         (stepped limits choice now (Pump l.number) b) }
+{}
+
+/// The broker reads an answer that a receiver left on the line that it gave up, where its session is connected
+/// still: what the receiver and its session see of the world stays a run of their hop, with the same copies;
+/// nothing of it comes to the receiver, on whatever line it is now (4.3.2, 4.3.3, 4.4, 4.13).
+pub fn answers_on_the_line_given_up_are_steps_of_the_hop()
+    ensures puback { (number : Numbering) (largest : ℕ) (copies : List Lot) (limits : Limits) (choice : MemberChoice)
+        → (now i code : ℕ) (rest : List Back) (r : Receiver) (l : Line) (s : Session) (b : Broker)
+        → IsRun number largest copies r b → IsLingering r l s b → r.line.old ≡ answers (puback i code) ∷ rest
+        → RunsOn number largest copies (reads_old_answer limits choice now l.number (puback i code) r b)
+        (after_answer limits choice now l.number (puback i code) r b) }
+    ensures pubrec { (number : Numbering) (largest : ℕ) (copies : List Lot) (limits : Limits) (choice : MemberChoice)
+        → (now i code : ℕ) (rest : List Back) (r : Receiver) (l : Line) (s : Session) (b : Broker)
+        → IsRun number largest copies r b → IsLingering r l s b → r.line.old ≡ answers (pubrec i code) ∷ rest
+        → RunsOn number largest copies (reads_old_answer limits choice now l.number (pubrec i code) r b)
+        (after_answer limits choice now l.number (pubrec i code) r b) }
+    ensures pubcomp { (number : Numbering) (largest : ℕ) (copies : List Lot) (limits : Limits) (choice : MemberChoice)
+        → (now i code : ℕ) (rest : List Back) (r : Receiver) (l : Line) (s : Session) (b : Broker)
+        → IsRun number largest copies r b → IsLingering r l s b → r.line.old ≡ answers (pubcomp i code) ∷ rest
+        → RunsOn number largest copies (reads_old_answer limits choice now l.number (pubcomp i code) r b)
+        (after_answer limits choice now l.number (pubcomp i code) r b) }
 {}
