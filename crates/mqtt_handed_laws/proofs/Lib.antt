@@ -10,6 +10,7 @@ pub mod Pumps
 pub mod Calling
 pub mod Sending
 pub mod OldAnswers
+pub mod Resuming
 pub mod Examples
 pub mod DrainRuns
 pub mod DrainExamples

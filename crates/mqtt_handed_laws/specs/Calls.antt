@@ -1,14 +1,18 @@
--- Calls of the broker that a receiver sees: sending what waits for it, and reading what it left on the line that it gave up
--- (MQTT 5.0, 4.4, 4.6, 4.9).
-use Rattle.std.specs.Prelude.{ℕ}
-use Rattle.mqtt_flow.specs.Receiver.{Answer}
+-- Calls of the broker that a receiver sees: sending what waits for it, reading what it left on the line that it gave up, and
+-- its CONNECT (MQTT 5.0, 3.1.2.4, 4.4, 4.6, 4.9).
+use Rattle.std.specs.Prelude.{◌≡◌, ℕ, true, List, [], filter_map, Some, None}
+use Rattle.std.specs.List.{AllByRecursion}
+use Rattle.mqtt_flow.specs.Receiver.{Answer, spared}
 use Rattle.mqtt_laws.specs.Ends.{Receiver, answers, wire_back}
+use Rattle.mqtt_laws.specs.Hops.{IsKept, IsTaken, lines_left}
+use Rattle.mqtt_laws.specs.Lines.{is_one_of, unless_closed}
 use Rattle.mqtt_laws.specs.World.{receiver_told, taken_old}
 use Rattle.mqtt_records.specs.declared.session.Session.{Session}
-use Rattle.mqtt_rules.specs.State.{Line as BrokerLine, Broker, MemberChoice}
+use Rattle.mqtt_rules.specs.State.{Line as BrokerLine, Broker, MemberChoice, line_at, line_of}
 use Rattle.mqtt_rules.specs.Step.{Call, Input, stepped, told}
 use Rattle.mqtt_rules.specs.declared.Limits.{Limits}
 use Rattle.mqtt_handed_laws.specs.Handing.{IsListening}
+use Rattle.mqtt_handed_laws.specs.Seen.{answered}
 
 -- the receiver after a call that takes nothing off its lines
 abbrev pub receiver_called : Limits → MemberChoice → ℕ → Call → Receiver → Broker → Receiver
@@ -32,3 +36,22 @@ abbrev pub reads_old_answer : Limits → MemberChoice → ℕ → ℕ → Answer
 reads_old_answer limits choice now n a r b =
     receiver_called limits choice now (Input n (wire_back r.client r.window (answers a)))
     (record r { line = taken_old r.line }) b
+
+-- ---- its CONNECT
+
+-- a session is connected on none but these lines
+abbrev pub IsOnlyAt : List ℕ → ℕ → BrokerLine → Type 0
+IsOnlyAt ns birth l = l.session ≡ Some birth → is_one_of (Some l.number) ns ≡ true
+
+-- its line waits for CONNECT, and its session stands, connected on at most one other line; what is under way on the line
+-- that it gave up is a CONNECT, or the session is connected there, or it is nothing
+pub record IsResuming (r : Receiver) (l : BrokerLine) (s : Session) (b : Broker) : Type 0 where
+  pub number : r.line.number ≡ Some l.number
+  pub line : line_at l.number b ≡ Some l
+  pub waits : l.session ≡ None
+  pub fresh : l.went ≡ []
+  pub kept : IsKept r.client s b
+  pub taken : IsTaken (line_of s.birth b) s.birth l.number
+  pub alone : AllByRecursion (IsOnlyAt (lines_left (line_of s.birth b)) s.birth) b.lines
+  pub old : filter_map answered (unless_closed (is_one_of r.line.old_number (lines_left (line_of s.birth b))) r.line.old)
+      ≡ spared (filter_map answered r.line.old)

@@ -1,9 +1,9 @@
 //! Laws of a receiver's hop: what calls of the broker make of it (4.1, 4.4, 4.6, 4.9).
-ghost use Rattle.std.specs.Prelude.{◌≡◌, ◌∷◌, ℕ, List};
+ghost use Rattle.std.specs.Prelude.{◌≡◌, ◌∷◌, ℕ, List, false};
 ghost use Rattle.mqtt_flow.specs.OutboundWorld.{Lot};
-ghost use Rattle.mqtt_flow.specs.Receiver.{puback, pubcomp, pubrec};
-ghost use Rattle.mqtt_handed_laws.specs.Calls.{IsLingering, reads_old_answer, receiver_called};
-ghost use Rattle.mqtt_handed_laws.specs.Handing.{IsListening, IsRun, RunsOn, after_answer};
+ghost use Rattle.mqtt_flow.specs.Receiver.{connect, puback, pubcomp, pubrec};
+ghost use Rattle.mqtt_handed_laws.specs.Calls.{IsLingering, IsResuming, reads_old_answer, receiver_called};
+ghost use Rattle.mqtt_handed_laws.specs.Handing.{IsListening, IsRun, RunsOn, after_answer, reads_answer};
 ghost use Rattle.mqtt_handed_laws.specs.Seen.{Numbering};
 ghost use Rattle.mqtt_laws.specs.Ends.{Back, Receiver, answers};
 ghost use Rattle.mqtt_records.specs.declared.session.Session.{Session};
@@ -43,4 +43,15 @@ pub fn answers_on_the_line_given_up_are_steps_of_the_hop()
         → IsRun number largest copies r b → IsLingering r l s b → r.line.old ≡ answers (pubcomp i code) ∷ rest
         → RunsOn number largest copies (reads_old_answer limits choice now l.number (pubcomp i code) r b)
         (after_answer limits choice now l.number (pubcomp i code) r b) }
+{}
+
+/// The broker reads a receiver's CONNECT without Clean Start, while its session stands, connected on another line
+/// or on none: the session is resumed on its line, its PUBRELs go out again in the order of release, and what the
+/// two see of the world stays a run of their hop, with the same copies (3.1.2.4, 3.1.4, 4.4).
+pub fn a_resumed_session_is_a_step_of_the_hop()
+    ensures resumes { (number : Numbering) (largest : ℕ) (copies : List Lot) (limits : Limits) (choice : MemberChoice)
+        → (now : ℕ) (rest : List Back) (r : Receiver) (l : Line) (s : Session) (b : Broker)
+        → IsRun number largest copies r b → IsResuming r l s b → r.line.up ≡ answers (connect false) ∷ rest
+        → RunsOn number largest copies (reads_answer limits choice now l.number (connect false) r b)
+        (after_answer limits choice now l.number (connect false) r b) }
 {}
