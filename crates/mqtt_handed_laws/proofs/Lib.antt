@@ -11,6 +11,7 @@ pub mod Calling
 pub mod Sending
 pub mod OldAnswers
 pub mod Resuming
+pub mod Beginning
 pub mod Examples
 pub mod DrainRuns
 pub mod DrainExamples

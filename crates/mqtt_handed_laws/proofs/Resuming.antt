@@ -98,7 +98,7 @@ left_lines : (o : Option BrokerLine) (s : Session) (b : Broker) → (after_all (
 left_lines None s b = refl
 left_lines (Some x) s b = refl
 
-abbrev IsOffIt : ℕ → BrokerLine → Type 0
+abbrev pub IsOffIt : ℕ → BrokerLine → Type 0
 IsOffIt birth l = is_of l.session birth ≡ false
 
 -- and those go
@@ -127,10 +127,10 @@ none_has (Some x) birth (l ∷ ls) h = elim (cases_Bool (nat_eq l.number x.numbe
         let clash : true ≡ false = sym yes ∙ stays in
         absurd cc
 
-abbrev went_at : ℕ → List BrokerLine → Option (List ℕ)
+abbrev pub went_at : ℕ → List BrokerLine → Option (List ℕ)
 went_at n ls = option_map (λ (l : BrokerLine). l.went) (find (λ (l : BrokerLine). nat_eq l.number n) ls)
 
-went_at_heard : (now n : ℕ) (ls : List BrokerLine) → went_at n (on_line now n Hear ls) ≡ went_at n ls
+pub went_at_heard : (now n : ℕ) (ls : List BrokerLine) → went_at n (on_line now n Hear ls) ≡ went_at n ls
 went_at_heard now n [] = refl
 went_at_heard now n (l ∷ ls) = elim (cases_Bool (nat_eq l.number n)) [
   | inl here ↦ rw (here, here) refl
@@ -157,7 +157,7 @@ went_at_left (Some x) birth n ls t = all ls
     ]
 
 -- the session is on its new line alone, on which nothing went out
-greeted_went : (now n birth keep_alive window largest : ℕ) (ls : List BrokerLine) → AllByRecursion (IsOffIt birth) ls → went_at n ls ≡ Some []
+pub greeted_went : (now n birth keep_alive window largest : ℕ) (ls : List BrokerLine) → AllByRecursion (IsOffIt birth) ls → went_at n ls ≡ Some []
     → its_went birth (on_line now n (Greet birth keep_alive window largest) ls) ≡ Some []
 greeted_went now n birth keep_alive window largest [] off is = absurd cc
 greeted_went now n birth keep_alive window largest (l ∷ ls) off is = elim (cases_Bool (nat_eq l.number n)) [
@@ -215,9 +215,9 @@ module _ (number : Numbering) (ids : List CopyId) (now n : ℕ) (x : Session) wh
 
 -- ---- the deeds of the CONNECT
 
-abbrev greeting : List ℕ → ℕ → Greeting
-greeting client window = record {
-  clean_start = false;
+abbrev pub greeting : Bool → List ℕ → ℕ → Greeting
+greeting clean client window = record {
+  clean_start = clean;
   keep_alive = 0;
   properties = property SessionExpiryInterval (U32 0xffffffff) ∷ property ReceiveMaximum (U16 window) ∷ [];
   client_identifier = client;
@@ -226,25 +226,25 @@ greeting client window = record {
   password = None;
 }
 
-refused_not : (client : List ℕ) (window : ℕ) (r : Records) → nat_lt 64 (length client) ≡ false → starts_with nat_eq client auto ≡ false → refusal (greeting client window) r ≡ None
-refused_not client window r short plain = rw (short, plain) refl
+pub refused_not : (clean : Bool) (client : List ℕ) (window : ℕ) (r : Records) → nat_lt 64 (length client) ≡ false → starts_with nat_eq client auto ≡ false → refusal (greeting clean client window) r ≡ None
+refused_not clean client window r short plain = rw (short, plain) refl
 
 connect_is : (o : Option BrokerLine) (env : Env) (l : BrokerLine) (client : List ℕ) (window : ℕ) (s : Session) (b : Broker) → line_of s.birth b ≡ o → IsTaken o s.birth l.number → IsKept client s b
-    → on_connect env l (greeting client window) b ≡ left_by o s b.now ++ resume l (greeting client window) b.now (taken_from o b.now s)
+    → on_connect env l (greeting false client window) b ≡ left_by o s b.now ++ resume l (greeting false client window) b.now (taken_from o b.now s)
 connect_is o env l client window s b e t k =
-    let c = greeting client window in
+    let c = greeting false client window in
     let prepared : prepare env c b ≡ left_by o s b.now =
     prepare_front o env client s l.number b (only_if false (of_client client (clear env)) ∷ []) e t k ∙ append-nil (left_by o s b.now) in
-    ap (λ (z : Option ℕ). connect_by z env l c b) (refused_not client window b.records k.short k.plain)
+    ap (λ (z : Option ℕ). connect_by z env l c b) (refused_not false client window b.records k.short k.plain)
     ∙ (ap (λ (ds : List Deed). joins_after env l c b.now ds (after_all ds b).records) prepared
     ∙ ap (λ (z : Option Session). joins env l c b.now (left_by o s b.now) (after_all (left_by o s b.now) b).records z) (named_taken o client s b k))
 
-call_is : (limits : Limits) (choice : MemberChoice) (now : ℕ) (client : List ℕ) (window : ℕ) (l : BrokerLine) (b : Broker) → line_at l.number b ≡ Some l → l.session ≡ None
-    → deeds limits choice now (Input l.number (Connect (greeting client window))) b
-    ≡ On l.number Hear ∷ (on_connect (env_of limits choice b) l (greeting client window) (heard_of now l.number b) ++ [])
-call_is limits choice now client window l b line waits =
+pub call_is : (limits : Limits) (choice : MemberChoice) (now : ℕ) (clean : Bool) (client : List ℕ) (window : ℕ) (l : BrokerLine) (b : Broker) → line_at l.number b ≡ Some l → l.session ≡ None
+    → deeds limits choice now (Input l.number (Connect (greeting clean client window))) b
+    ≡ On l.number Hear ∷ (on_connect (env_of limits choice b) l (greeting clean client window) (heard_of now l.number b) ++ [])
+call_is limits choice now clean client window l b line waits =
     let env = env_of limits choice b in
-    let packet = Connect (greeting client window) in
+    let packet = Connect (greeting clean client window) in
     ap (λ (o : Option BrokerLine). with_line o (λ (x : BrokerLine). series (always (On l.number Hear ∷ []) ∷ on_packet env x packet x.session ∷ [])) (at_moment now b)) line
     ∙ ap (λ (o : Option ℕ). On l.number Hear ∷ (on_packet env l packet o (heard_of now l.number b) ++ [])) waits
 
@@ -322,7 +322,7 @@ module _ (number : Numbering) (largest : ℕ) (copies : List Lot) (limits : Limi
     are_repeats = all_repeats (due_from [] (queue_on [] x)) (λ d. d.identifier)
 
     abbrev resumes : List Deed
-    resumes = resume l (greeting r.client r.window) heard_first.now x
+    resumes = resume l (greeting false r.client r.window) heard_first.now x
 
     abbrev all_deeds : List Deed
     all_deeds = On n Hear ∷ (left_by o s heard_first.now ++ resumes)
@@ -338,8 +338,8 @@ module _ (number : Numbering) (largest : ℕ) (copies : List Lot) (limits : Limi
 
     deeds_are : deeds limits choice now (Input n packet) b ≡ all_deeds
     deeds_are =
-        call_is limits choice now r.client r.window l b a.line a.waits
-        ∙ (ap (λ (ds : List Deed). On n Hear ∷ ds) (append-nil (on_connect (env_of limits choice b) l (greeting r.client r.window) heard_first))
+        call_is limits choice now false r.client r.window l b a.line a.waits
+        ∙ (ap (λ (ds : List Deed). On n Hear ∷ ds) (append-nil (on_connect (env_of limits choice b) l (greeting false r.client r.window) heard_first))
         ∙ ap (λ (ds : List Deed). On n Hear ∷ ds) (connect_is o (env_of limits choice b) l r.client r.window s heard_first its t kept))
 
     ends : after_all all_deeds first ≡ end

@@ -1,16 +1,20 @@
 -- Calls of the broker that a receiver sees: sending what waits for it, reading what it left on the line that it gave up, and
 -- its CONNECT (MQTT 5.0, 3.1.2.4, 4.4, 4.6, 4.9).
-use Rattle.std.specs.Prelude.{◌≡◌, ℕ, true, List, [], filter_map, Some, None}
-use Rattle.std.specs.List.{AllByRecursion}
+use Rattle.std.specs.Prelude.{◌≡◌, ◌≤◌, ℕ, suc, true, false, List, [], filter_map, length, nat_eq, nat_lt, Some, None}
+use Rattle.std.specs.List.{AllByRecursion, starts_with}
+use Rattle.mqtt_base.specs.declared.limits.TheConstants.{CLIENT_LIMIT, SESSION_LIMIT}
 use Rattle.mqtt_flow.specs.Receiver.{Answer, spared}
 use Rattle.mqtt_laws.specs.Ends.{Receiver, answers, wire_back}
 use Rattle.mqtt_laws.specs.Hops.{IsKept, IsTaken, lines_left}
 use Rattle.mqtt_laws.specs.Lines.{is_one_of, unless_closed}
 use Rattle.mqtt_laws.specs.World.{receiver_told, taken_old}
+use Rattle.mqtt_records.specs.Session.{auto}
 use Rattle.mqtt_records.specs.declared.session.Session.{Session}
-use Rattle.mqtt_rules.specs.State.{Line as BrokerLine, Broker, MemberChoice, line_at, line_of}
+use Rattle.mqtt_rules.specs.Numbers.{HasGivenBirths}
+use Rattle.mqtt_rules.specs.State.{Line as BrokerLine, Broker, MemberChoice, is_of, line_at, line_of, session_named}
 use Rattle.mqtt_rules.specs.Step.{Call, Input, stepped, told}
 use Rattle.mqtt_rules.specs.declared.Limits.{Limits}
+use Rattle.mqtt_topic.specs.Names.{is_empty}
 use Rattle.mqtt_handed_laws.specs.Handing.{IsListening}
 use Rattle.mqtt_handed_laws.specs.Seen.{answered}
 
@@ -55,3 +59,23 @@ pub record IsResuming (r : Receiver) (l : BrokerLine) (s : Session) (b : Broker)
   pub alone : AllByRecursion (IsOnlyAt (lines_left (line_of s.birth b)) s.birth) b.lines
   pub old : filter_map answered (unless_closed (is_one_of r.line.old_number (lines_left (line_of s.birth b))) r.line.old)
       ≡ spared (filter_map answered r.line.old)
+
+-- no line has a session of this birth
+abbrev pub IsUnused : ℕ → BrokerLine → Type 0
+IsUnused birth l = is_of l.session birth ≡ false
+
+-- its line waits for CONNECT, and no session of its name stands; what is under way on the line that it gave up is a CONNECT,
+-- or it is nothing
+pub record IsBeginning (limits : Limits) (r : Receiver) (l : BrokerLine) (b : Broker) : Type 0 where
+  pub number : r.line.number ≡ Some l.number
+  pub line : line_at l.number b ≡ Some l
+  pub waits : l.session ≡ None
+  pub fresh : l.went ≡ []
+  pub none : session_named r.client b.records ≡ None
+  pub births : HasGivenBirths b.records
+  pub unused : AllByRecursion (IsUnused (suc b.records.births)) b.lines
+  pub within : limits.sessions ≤ SESSION_LIMIT
+  pub some : is_empty r.client ≡ false
+  pub short : nat_lt CLIENT_LIMIT (length r.client) ≡ false
+  pub plain : starts_with nat_eq r.client auto ≡ false
+  pub old : filter_map answered r.line.old ≡ spared (filter_map answered r.line.old)

@@ -1,8 +1,8 @@
 //! Laws of a receiver's hop: what calls of the broker make of it (4.1, 4.4, 4.6, 4.9).
-ghost use Rattle.std.specs.Prelude.{◌≡◌, ◌∷◌, ℕ, List, false};
+ghost use Rattle.std.specs.Prelude.{◌≡◌, ◌∷◌, ℕ, Bool, List, false, length, nat_lt, true};
 ghost use Rattle.mqtt_flow.specs.OutboundWorld.{Lot};
 ghost use Rattle.mqtt_flow.specs.Receiver.{connect, puback, pubcomp, pubrec};
-ghost use Rattle.mqtt_handed_laws.specs.Calls.{IsLingering, IsResuming, reads_old_answer, receiver_called};
+ghost use Rattle.mqtt_handed_laws.specs.Calls.{IsBeginning, IsLingering, IsResuming, reads_old_answer, receiver_called};
 ghost use Rattle.mqtt_handed_laws.specs.Handing.{IsListening, IsRun, RunsOn, after_answer, reads_answer};
 ghost use Rattle.mqtt_handed_laws.specs.Seen.{Numbering};
 ghost use Rattle.mqtt_laws.specs.Ends.{Back, Receiver, answers};
@@ -54,4 +54,16 @@ pub fn a_resumed_session_is_a_step_of_the_hop()
         → IsRun number largest copies r b → IsResuming r l s b → r.line.up ≡ answers (connect false) ∷ rest
         → RunsOn number largest copies (reads_answer limits choice now l.number (connect false) r b)
         (after_answer limits choice now l.number (connect false) r b) }
+{}
+
+/// The broker reads a receiver's CONNECT, with or without Clean Start, while no session of its name stands and
+/// there is a place for one: a new session begins on its line, CONNACK tells so, and what the two see of the
+/// world stays a run of their hop, with the same copies, of which none stands (3.1.2.4, 3.2.2.1.1).
+pub fn a_new_session_is_a_step_of_the_hop()
+    ensures begins { (number : Numbering) (largest : ℕ) (copies : List Lot) (limits : Limits) (choice : MemberChoice)
+        → (now : ℕ) (clean : Bool) (rest : List Back) (r : Receiver) (l : Line) (b : Broker)
+        → IsRun number largest copies r b → IsBeginning limits r l b
+        → nat_lt (length b.records.sessions) limits.sessions ≡ true → r.line.up ≡ answers (connect clean) ∷ rest
+        → RunsOn number largest copies (reads_answer limits choice now l.number (connect clean) r b)
+        (after_answer limits choice now l.number (connect clean) r b) }
 {}
