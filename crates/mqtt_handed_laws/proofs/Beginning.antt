@@ -246,7 +246,7 @@ none_closed : (o : Option ℕ) → is_one_of o [] ≡ false
 none_closed None = refl
 none_closed (Some m) = refl
 
-off_heard : (k now n : ℕ) (ls : List BrokerLine) → AllByRecursion (IsOffIt k) ls → AllByRecursion (IsOffIt k) (on_line now n Hear ls)
+pub off_heard : (k now n : ℕ) (ls : List BrokerLine) → AllByRecursion (IsOffIt k) ls → AllByRecursion (IsOffIt k) (on_line now n Hear ls)
 off_heard k now n [] h = tt
 off_heard k now n (l ∷ ls) h = by (nat_eq l.number n) (off_heard k now n ls h.1)
   where

@@ -12,6 +12,7 @@ pub mod Sending
 pub mod OldAnswers
 pub mod Resuming
 pub mod Beginning
+pub mod Renewing
 pub mod Examples
 pub mod DrainRuns
 pub mod DrainExamples

@@ -90,11 +90,11 @@ only_heard ns birth now n (l ∷ ls) h = by (nat_eq l.number n) (only_heard ns b
     by true g = (h.0, h.1)
     by false g = (h.0, g)
 
-abbrev lines_without : Option BrokerLine → List BrokerLine → List BrokerLine
+abbrev pub lines_without : Option BrokerLine → List BrokerLine → List BrokerLine
 lines_without None ls = ls
 lines_without (Some x) ls = filter (λ (l : BrokerLine). not (nat_eq l.number x.number)) ls
 
-left_lines : (o : Option BrokerLine) (s : Session) (b : Broker) → (after_all (left_by o s b.now) b).lines ≡ lines_without o b.lines
+pub left_lines : (o : Option BrokerLine) (s : Session) (b : Broker) → (after_all (left_by o s b.now) b).lines ≡ lines_without o b.lines
 left_lines None s b = refl
 left_lines (Some x) s b = refl
 
@@ -137,7 +137,7 @@ went_at_heard now n (l ∷ ls) = elim (cases_Bool (nat_eq l.number n)) [
   | inr further ↦ rw (further, further) (went_at_heard now n ls)
 ]
 
-went_at_left : (o : Option BrokerLine) (birth n : ℕ) (ls : List BrokerLine) → IsTaken o birth n → went_at n (lines_without o ls) ≡ went_at n ls
+pub went_at_left : (o : Option BrokerLine) (birth n : ℕ) (ls : List BrokerLine) → IsTaken o birth n → went_at n (lines_without o ls) ≡ went_at n ls
 went_at_left None birth n ls t = refl
 went_at_left (Some x) birth n ls t = all ls
   where
@@ -254,12 +254,12 @@ taken_queue (Some l) now s = refl
 
 -- ---- what is told and closed where the session was taken over
 
-left_untold : (o : Option BrokerLine) (s : Session) (now n : ℕ) (new : Broker) (ds : List Deed) → IsTaken o s.birth n
+pub left_untold : (o : Option BrokerLine) (s : Session) (now n : ℕ) (new : Broker) (ds : List Deed) → IsTaken o s.birth n
     → sent_to (Some n) new (filter_map output (left_by o s now ++ ds)) ≡ sent_to (Some n) new (filter_map output ds)
 left_untold None s now n new ds t = refl
 left_untold (Some x) s now n new ds t = let other = t.another x refl in rw other refl
 
-left_closes : (o : Option BrokerLine) (s : Session) (now : ℕ) (ds : List Deed) → filter_map closing ds ≡ [] → filter_map closing (left_by o s now ++ ds) ≡ lines_left o
+pub left_closes : (o : Option BrokerLine) (s : Session) (now : ℕ) (ds : List Deed) → filter_map closing ds ≡ [] → filter_map closing (left_by o s now ++ ds) ≡ lines_left o
 left_closes None s now ds h = h
 left_closes (Some x) s now ds h = ap (λ (ns : List ℕ). x.number ∷ ns) h
 

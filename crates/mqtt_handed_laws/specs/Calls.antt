@@ -79,3 +79,12 @@ pub record IsBeginning (limits : Limits) (r : Receiver) (l : BrokerLine) (b : Br
   pub short : nat_lt CLIENT_LIMIT (length r.client) ≡ false
   pub plain : starts_with nat_eq r.client auto ≡ false
   pub old : filter_map answered r.line.old ≡ spared (filter_map answered r.line.old)
+
+-- its line waits for CONNECT with Clean Start while its session stands, and there are no more sessions than the limit
+pub record IsRenewing (limits : Limits) (r : Receiver) (l : BrokerLine) (s : Session) (b : Broker) : Type 0 where
+  pub resuming : IsResuming r l s b
+  pub births : HasGivenBirths b.records
+  pub unused : AllByRecursion (IsUnused (suc b.records.births)) b.lines
+  pub within : limits.sessions ≤ SESSION_LIMIT
+  pub room : length b.records.sessions ≤ limits.sessions
+  pub some : is_empty r.client ≡ false

@@ -2,7 +2,7 @@
 ghost use Rattle.std.specs.Prelude.{◌≡◌, ◌∷◌, ℕ, Bool, List, false, length, nat_lt, true};
 ghost use Rattle.mqtt_flow.specs.OutboundWorld.{Lot};
 ghost use Rattle.mqtt_flow.specs.Receiver.{connect, puback, pubcomp, pubrec};
-ghost use Rattle.mqtt_handed_laws.specs.Calls.{IsBeginning, IsLingering, IsResuming, reads_old_answer, receiver_called};
+ghost use Rattle.mqtt_handed_laws.specs.Calls.{IsBeginning, IsLingering, IsRenewing, IsResuming, reads_old_answer, receiver_called};
 ghost use Rattle.mqtt_handed_laws.specs.Handing.{IsListening, IsRun, RunsOn, after_answer, reads_answer};
 ghost use Rattle.mqtt_handed_laws.specs.Seen.{Numbering};
 ghost use Rattle.mqtt_laws.specs.Ends.{Back, Receiver, answers};
@@ -66,4 +66,15 @@ pub fn a_new_session_is_a_step_of_the_hop()
         → nat_lt (length b.records.sessions) limits.sessions ≡ true → r.line.up ≡ answers (connect clean) ∷ rest
         → RunsOn number largest copies (reads_answer limits choice now l.number (connect clean) r b)
         (after_answer limits choice now l.number (connect clean) r b) }
+{}
+
+/// The broker reads a receiver's CONNECT with Clean Start, while its session stands, connected on another line or
+/// on none: each copy that stands ends with the session, a new one begins on its line, and what the two see of
+/// the world stays a run of their hop, with the same copies (3.1.2.4, 3.1.4).
+pub fn a_clean_start_is_a_step_of_the_hop()
+    ensures renews { (number : Numbering) (largest : ℕ) (copies : List Lot) (limits : Limits) (choice : MemberChoice)
+        → (now : ℕ) (rest : List Back) (r : Receiver) (l : Line) (s : Session) (b : Broker)
+        → IsRun number largest copies r b → IsRenewing limits r l s b → r.line.up ≡ answers (connect true) ∷ rest
+        → RunsOn number largest copies (reads_answer limits choice now l.number (connect true) r b)
+        (after_answer limits choice now l.number (connect true) r b) }
 {}
