@@ -13,6 +13,7 @@ pub mod OldAnswers
 pub mod Resuming
 pub mod Beginning
 pub mod Renewing
+pub mod Entering
 pub mod Examples
 pub mod DrainRuns
 pub mod DrainExamples

@@ -57,7 +57,7 @@ use Rattle.mqtt_handed_laws.proofs.Turns.{renewed_lots, same_entries}
 
 -- ---- copies on a new connection
 
-still_renewed : (copies : List Lot) → still_standing (map renewed copies) ≡ map renewed (still_standing copies)
+pub still_renewed : (copies : List Lot) → still_standing (map renewed copies) ≡ map renewed (still_standing copies)
 still_renewed [] = refl
 still_renewed (standing e m ∷ ls) = ap (λ (xs : List Lot). standing (unsent e) m ∷ xs) (still_renewed ls)
 still_renewed (past ending e m ∷ ls) = still_renewed ls

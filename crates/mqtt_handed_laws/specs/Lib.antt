@@ -2,4 +2,5 @@ pub mod Seen
 pub mod Tags
 pub mod Handing
 pub mod Calls
+pub mod Entering
 pub mod Drains
