@@ -1,30 +1,28 @@
 -- The broker reads CONNECT on a receiver's line, and a new session begins there: what the receiver sees of it is that event
 -- of its hop (MQTT 5.0, 3.1.2.4, 3.2.2.1.1).
-use Rattle.std.proofs.Common.{◌≡◌, ℕ, suc, ◌<◌, Bool, true, false, cond, not, ◌||◌, List, [], ◌∷◌, ◌++◌, drop, length, map, Option, Some, None, nat_eq, nat_lt, bytes_eq, refl, sym, ap, subst, ◌∙◌, append-nil, arith, inl, inr}
-use Rattle.std.specs.Prelude.{⊤, filter_map, find, is_some, option_map}
+use Rattle.std.proofs.Common.{◌≡◌, ℕ, suc, ◌<◌, Bool, true, false, cond, ◌||◌, List, [], ◌∷◌, ◌++◌, drop, length, map, Option, Some, None, nat_eq, nat_lt, refl, sym, ap, subst, ◌∙◌, append-nil, arith}
+use Rattle.std.specs.Prelude.{filter_map, is_some, option_map}
 use Rattle.std.specs.List.{AllByRecursion, starts_with}
-use Rattle.std.proofs.lemmas.Bool.{cases_Bool, lt-ltb, ltb-true}
+use Rattle.std.proofs.lemmas.Bool.{lt-ltb, ltb-true}
 use Rattle.std.proofs.lemmas.Cmp.{nat_eq_equiv}
 use Rattle.mqtt_base.specs.Codes.{quota_exceeded, success}
 use Rattle.mqtt_base.specs.declared.limits.TheConstants.{SESSION_LIMIT}
 use Rattle.mqtt_base.specs.declared.session.CopyId.{CopyId}
 use Rattle.mqtt_codec.specs.declared.packet.Packet.{Packet}
-use Rattle.mqtt_codec.specs.declared.packet.Packet.TheVariants.{Connect}
 use Rattle.mqtt_connect.specs.declared.connect.Connect.{Connect as Greeting}
 use Rattle.mqtt_flow.specs.OutboundWorld.{Lot, World as Hop, connects, cut, made_new, past, standing, start, step, to_broker, up_comes}
-use Rattle.mqtt_flow.specs.Receiver.{Answer, Output, connack, connect, no_connack, spared}
+use Rattle.mqtt_flow.specs.Receiver.{Answer, connack, connect, spared}
 use Rattle.mqtt_laws.specs.Ends.{Back, Receiver, answers, wire_back}
 use Rattle.mqtt_laws.specs.Hops.{IsOnly}
 use Rattle.mqtt_laws.specs.Lines.{is_one_of, sent_to, unless_closed}
-use Rattle.mqtt_laws.specs.Seen.{is_linked}
 use Rattle.mqtt_laws.specs.World.{taken_up}
 use Rattle.mqtt_laws.proofs.Connects.{greeted_line, heard_on_line}
 use Rattle.mqtt_laws.proofs.FirstConnects.{only_none}
 use Rattle.mqtt_laws.proofs.Names.{only_deeds}
 use Rattle.mqtt_laws.proofs.OwnStep.{heard_of}
-use Rattle.mqtt_laws.proofs.Publishes.{act_none, line_none}
+use Rattle.mqtt_laws.proofs.Publishes.{act_none}
 use Rattle.mqtt_laws.proofs.Quiet.{session_on}
-use Rattle.mqtt_laws.proofs.Seeing.{done_lines, done_sessions, linked_is, linked_of}
+use Rattle.mqtt_laws.proofs.Seeing.{linked_of}
 use Rattle.mqtt_records.specs.Records.{put_session}
 use Rattle.mqtt_records.specs.Session.{auto, birth_of, fresh, with_columns}
 use Rattle.mqtt_records.specs.declared.records.Records.{Records}
@@ -35,19 +33,19 @@ use Rattle.mqtt_rows.specs.Order.{change_row, has_row, put_row, row_at}
 use Rattle.mqtt_rules.proofs.Goods.{after_append}
 use Rattle.mqtt_rules.proofs.NumberBirths.{below_none}
 use Rattle.mqtt_rules.specs.Closing.{settle}
-use Rattle.mqtt_rules.specs.Connect.{begin, begin_named, clear, connack_properties, connect_by, expiry_of, fresh_row, joins, joins_after, of_client, on_connect, prepare, refusal, refused, take_over, will_of}
-use Rattle.mqtt_rules.specs.Deeds.{Act, Deed, Hear, On, after_all, closing, line_after, on_line, only_if, output, rows_of_all, series, with_session}
+use Rattle.mqtt_rules.specs.Connect.{begin, begin_named, clear, connack_properties, connect_by, fresh_row, joins, joins_after, of_client, on_connect, prepare, refused, take_over}
+use Rattle.mqtt_rules.specs.Deeds.{Act, Deed, Hear, On, after_all, closing, line_after, on_line, only_if, output, with_session}
 use Rattle.mqtt_rules.specs.Numbers.{HasGivenBirths}
 use Rattle.mqtt_rules.specs.Packets as packets_of
-use Rattle.mqtt_rules.specs.State.{Line as BrokerLine, Broker, Env, MemberChoice, line_at, session_at, session_named}
-use Rattle.mqtt_rules.specs.Step.{Input, at_moment, deeds, env_of, stepped, told}
+use Rattle.mqtt_rules.specs.State.{Line as BrokerLine, Broker, Env, MemberChoice, session_at, session_named}
+use Rattle.mqtt_rules.specs.Step.{Input, at_moment, deeds, env_of, stepped}
 use Rattle.mqtt_rules.specs.declared.Limits.{Limits}
 use Rattle.mqtt_topic.specs.Names.{is_empty}
 use Rattle.mqtt_handed_laws.specs.Calls.{IsBeginning}
 use Rattle.mqtt_handed_laws.specs.Handing.{IsRun, RunsOn, after_answer, reads_answer}
-use Rattle.mqtt_handed_laws.specs.Seen.{AreQueued, Numbering, StandOn, answered, handed_in, heard_in, lot_on, seen, still_standing}
+use Rattle.mqtt_handed_laws.specs.Seen.{Numbering, StandOn, answered, heard_in, seen, still_standing}
 use Rattle.mqtt_handed_laws.specs.Tags.{AreNumbered, AreTagged, IsTagged, id_of}
-use Rattle.mqtt_handed_laws.proofs.Answering.{all_join, heard_append, its_went}
+use Rattle.mqtt_handed_laws.proofs.Answering.{its_went}
 use Rattle.mqtt_handed_laws.proofs.Calling.{Makes, called_queue, called_seen, called_tags, hop_called}
 use Rattle.mqtt_handed_laws.proofs.Pumps.{down_first}
 use Rattle.mqtt_handed_laws.proofs.Refusals.{run_append}
@@ -268,7 +266,7 @@ first_begins number largest copies limits choice now clean rest r l b h a room u
     let within = a.within in
     let begun = connect_begins env l clean r.client r.window heard_first a.none a.short a.plain a.some room in
     let is : deeds limits choice now (Input n (wire_back r.client r.window (answers (connect clean)))) b
-        ≡ On n Hear ∷ begin l (greeting clean r.client r.window) false r.client (suc b.records.births) =
+    ≡ On n Hear ∷ begin l (greeting clean r.client r.window) false r.client (suc b.records.births) =
     call_is limits choice now clean r.client r.window l b a.line a.waits
     ∙ (ap (λ (ds : List Deed). On n Hear ∷ ds) (append-nil (on_connect env l (greeting clean r.client r.window) heard_first)) ∙ ap (λ (ds : List Deed). On n Hear ∷ ds) begun) in
     begins_run number largest copies limits choice now clean rest r l b h a.number [] [] (record {

@@ -1,6 +1,6 @@
 -- From the deeds of a call to what a receiver whose session is connected sees after it.
-use Rattle.std.proofs.Common.{◌≡◌, ℕ, Bool, true, false, cond, not, List, [], ◌∷◌, ◌++◌, map, Option, Some, None, nat_eq, bytes_eq, refl, sym, ap, subst, ◌∙◌, inl, inr}
-use Rattle.std.specs.Prelude.{⊤, filter_map, find, flat_map, is_some, option_map}
+use Rattle.std.proofs.Common.{◌≡◌, ℕ, Bool, true, false, not, List, [], ◌∷◌, ◌++◌, map, Option, Some, None, nat_eq, bytes_eq, refl, sym, ap, subst, ◌∙◌, inl, inr}
+use Rattle.std.specs.Prelude.{⊤, filter_map, find, is_some, option_map}
 use Rattle.std.specs.List.{AllByRecursion}
 use Rattle.std.proofs.lemmas.Bool.{cases_Bool, eqb-true}
 use Rattle.std.proofs.lemmas.Cmp.{nat_eq_equiv}
@@ -22,15 +22,15 @@ use Rattle.mqtt_laws.proofs.Names.{BeginNone, BeginsNone, named_is}
 use Rattle.mqtt_laws.proofs.Quiet.{session_on}
 use Rattle.mqtt_laws.proofs.Seeing.{done_lines, done_sessions, linked_is, linked_of}
 use Rattle.mqtt_message.specs.Queue.{CopyRow}
-use Rattle.mqtt_records.specs.Session.{birth_of, copy_place}
+use Rattle.mqtt_records.specs.Session.{copy_place}
 use Rattle.mqtt_records.specs.declared.session.Session.{Session}
 use Rattle.mqtt_rows.specs.Order.{row_at}
-use Rattle.mqtt_rules.proofs.FlightRows.{all_at, all_found, all_more}
+use Rattle.mqtt_rules.proofs.FlightRows.{all_found, all_more}
 use Rattle.mqtt_rules.specs.Deeds.{At, Deed, On, Send, after_all, closing, output, rows_of_all}
-use Rattle.mqtt_rules.specs.Flight.{HasDistinctIdentifiers, IsFlight, identifier_at, identifier_in}
+use Rattle.mqtt_rules.specs.Flight.{IsFlight, identifier_in}
 use Rattle.mqtt_rules.specs.Outbound.{of_entry, turn_deeds, all_turn_deeds}
-use Rattle.mqtt_rules.specs.State.{Line as BrokerLine, Broker, MemberChoice, entry_on, is_of, session_at, session_named}
-use Rattle.mqtt_rules.specs.Step.{Call, at_moment, copy_in, copy_of, copy_of_session, copy_on, deeds, stepped, told}
+use Rattle.mqtt_rules.specs.State.{Line as BrokerLine, Broker, MemberChoice, entry_on, session_at, session_named}
+use Rattle.mqtt_rules.specs.Step.{Call, at_moment, copy_in, copy_of_session, copy_on, deeds, stepped}
 use Rattle.mqtt_rules.specs.declared.Limits.{Limits}
 use Rattle.mqtt_handed_laws.specs.Calls.{receiver_called}
 use Rattle.mqtt_handed_laws.specs.Seen.{AreQueued, Numbering, StandOn, answered, handed_in, heard_in, seen, went_in}

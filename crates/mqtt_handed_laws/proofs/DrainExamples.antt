@@ -1,5 +1,5 @@
 -- Worked drains: how many rounds they take, how each copy ends, and what is handed over (MQTT 5.0, 4.3, 4.4, 4.9).
-use Rattle.std.proofs.Common.{◌≡◌, ℕ, true, false, Bool, List, [], ◌∷◌, ◌++◌, length, refl}
+use Rattle.std.proofs.Common.{◌≡◌, ℕ, true, false, List, [], ◌∷◌, ◌++◌, length, refl}
 use Rattle.std.specs.Prelude.{codes, filter_map}
 use Rattle.std.specs.Str.{is_utf8, chars}
 use Rattle.std.proofs.Math.Utf8.{encode}
@@ -20,7 +20,7 @@ use Rattle.mqtt_rules.specs.declared.Report.{Report}
 use Rattle.mqtt_rules.specs.declared.Report.TheVariants.{Ended}
 use Rattle.mqtt_rules.proofs.Play.{usual, first, bytes}
 use Rattle.mqtt_laws.specs.Run.{after, deeds_over}
-use Rattle.mqtt_laws.specs.World.{World, Event, receiver, publisher, publish, connect_end, give_up, to_end, clock, ask, to_broker, pump, stranger}
+use Rattle.mqtt_laws.specs.World.{World, Event, receiver, publisher, publish, connect_end, give_up, clock, ask, to_broker, stranger}
 use Rattle.mqtt_laws.proofs.Scripts.{p1, r1, draft, joins, subscribes, round, turns, Sum, sum_of}
 use Rattle.mqtt_handed_laws.specs.Drains.{copies_left, drain_turns, drained, enough_rounds, is_bad_drain, rounds_taken}
 

@@ -1,25 +1,23 @@
--- A copy enters the queue of a receiver's session, and the oldest that wait make way for it: that is an event of its hop
--- (MQTT 5.0, 3.3.4, 4.6).
-use Rattle.std.proofs.Common.{◌≡◌, ℕ, zero, suc, ◌+◌, ◌-◌, ◌<◌, ◌≤◌, Bool, true, false, cond, not, ◌||◌, List, [], ◌∷◌, ◌++◌, length, map, Option, Some, None, nat_eq, nat_lt, refl, sym, ap, subst, ◌∙◌, arith, inl, inr}
-use Rattle.std.specs.Prelude.{⊤, filter, filter_map, flat_map, find, is_some, option_map, slice_get, max}
-use Rattle.std.specs.List.{AllByRecursion, list_any}
+-- A copy enters the queue of a receiver's session, and the oldest that wait make way for it; copies that wait expire: each is
+-- an event of its hop (MQTT 5.0, 3.3.2.3.3, 3.3.4, 4.6).
+use Rattle.std.proofs.Common.{◌≡◌, ℕ, zero, suc, ◌+◌, ◌-◌, ◌<◌, Bool, true, false, ◌&&◌, cond, not, List, [], ◌∷◌, ◌++◌, length, map, Option, Some, None, nat_eq, nat_lt, refl, sym, ap, subst, ◌∙◌, arith, inl, inr}
+use Rattle.std.specs.Prelude.{flat_map, is_some, option_map, slice_get, max}
+use Rattle.std.specs.List.{AllByRecursion}
 use Rattle.std.proofs.lemmas.Bool.{cases_Bool, eqb-true}
 use Rattle.std.proofs.lemmas.Cmp.{nat_eq_equiv}
 use Rattle.std.proofs.lemmas.List.Sums.{sum_by-cons}
 use Rattle.mqtt_base.specs.declared.limits.TheConstants.{QUEUE_LIMIT}
 use Rattle.mqtt_base.specs.declared.session.CopyId.{CopyId}
 use Rattle.mqtt_base.specs.declared.session.Ending.{Ending}
-use Rattle.mqtt_base.specs.declared.session.Ending.TheVariants.{Dropped}
+use Rattle.mqtt_base.specs.declared.session.Ending.TheVariants.{Dropped, Expired}
 use Rattle.mqtt_base.specs.declared.session.Phase.TheVariants.{Waiting}
-use Rattle.mqtt_flow.specs.Outbound.{dropped, dropped_at, gives_way, has_room, staying, unsent, way_made}
-use Rattle.mqtt_flow.specs.OutboundWorld.{Event as HopEvent, Lot, World as Hop, enter, enters, ended_by, is_granted, lot_after, lots_after, packets, past, pushes, queue_of, renewed, run, standing, start, step, take_turn, take_turns, told}
+use Rattle.mqtt_flow.specs.Outbound.{dropped, dropped_at, expired, expired_at, gives_way, has_room, is_late, is_waiting, staying, unsent, way_made}
+use Rattle.mqtt_flow.specs.OutboundWorld.{Lot, World as Hop, enter, enters, ended_by, expire, is_granted, lots_after, past, pushes, queue_of, renewed, standing, start, step, take_turn, take_turns}
 use Rattle.mqtt_flow.specs.Queue as flow
 use Rattle.mqtt_flow.specs.Queue.{entering, greatest_place, next_place}
 use Rattle.mqtt_flow.specs.declared.entry.Entry.{Entry as FlowEntry}
 use Rattle.mqtt_flow.specs.declared.entry.Full.{Full}
 use Rattle.mqtt_flow.specs.declared.entry.Full.TheVariants.{Refuse, Drop}
-use Rattle.mqtt_flow.specs.declared.entry.QueueLimits.{QueueLimits}
-use Rattle.mqtt_flow.specs.declared.entry.QueuedCopy.{QueuedCopy}
 use Rattle.mqtt_flow.specs.declared.entry.Turn.{Turn}
 use Rattle.mqtt_flow.specs.declared.entry.Turn.TheVariants as turns
 use Rattle.mqtt_flow.proofs.outbound.ReceiverReads.{begins}
@@ -33,7 +31,7 @@ use Rattle.mqtt_codec.specs.declared.publish.Delivery.TheVariants as delivery
 use Rattle.mqtt_laws.specs.Ends.{Entry, Receiver}
 use Rattle.mqtt_laws.specs.Lines.{Down}
 use Rattle.mqtt_laws.specs.Hops.{IsOnly}
-use Rattle.mqtt_laws.specs.Seen.{has_session, is_linked}
+use Rattle.mqtt_laws.specs.Seen.{is_linked}
 use Rattle.mqtt_laws.proofs.Names.{named_is, only_deed}
 use Rattle.mqtt_laws.proofs.Quiet.{quiet_line, session_on}
 use Rattle.mqtt_laws.proofs.Seeing.{linked_is, linked_of}
@@ -41,7 +39,6 @@ use Rattle.mqtt_message.specs.Queue.{CopyRow}
 use Rattle.mqtt_message.specs.declared.message.MessageCopy.{MessageCopy}
 use Rattle.mqtt_records.specs.Records.{changed_all}
 use Rattle.mqtt_records.specs.Session.{birth_of, copy_place, with_copy, without_copy}
-use Rattle.mqtt_records.specs.declared.records.Records.{Records}
 use Rattle.mqtt_records.specs.declared.session.Session.{Session}
 use Rattle.mqtt_routes.specs.Intended.{greatest}
 use Rattle.mqtt_rows.proofs.LookUps.{put_row-last, row_at-remove_row}
@@ -50,18 +47,19 @@ use Rattle.mqtt_rows.specs.Order.{IsBelow, has_row, put_row, remove_row, row_at}
 use Rattle.mqtt_rules.proofs.FlightRows.{change_row-here, found_key}
 use Rattle.mqtt_rules.proofs.Goods.{after_append}
 use Rattle.mqtt_rules.proofs.OrderedQueues.{GivesWay, below_own, dropped_gives, length-mapped}
-use Rattle.mqtt_rules.specs.Deeds.{At, Deed, Enter, Leave, after, after_all, new_entry, part_rows_of, stored_after, whose, without_place}
+use Rattle.mqtt_rules.specs.Deeds.{At, Deed, Enter, Leave, after, after_all, new_entry, part_rows_of, whose}
 use Rattle.mqtt_rules.specs.Outbound.{enter_deeds, leave_deeds, of_entry, queue_limits, since}
-use Rattle.mqtt_rules.specs.State.{Line as BrokerLine, Broker, Env, entry_on, line_at, next_of, queue_on, queued_copy, session_at, session_named}
+use Rattle.mqtt_rules.specs.Tick.{lapse_deeds}
+use Rattle.mqtt_rules.specs.State.{Line as BrokerLine, Broker, Env, entry_on, next_of, queue_on, queued_copy, session_at, session_named}
 use Rattle.mqtt_handed_laws.specs.Entering.{AreKnown, IsReceiving, MayEnter, RunsWith}
-use Rattle.mqtt_handed_laws.specs.Handing.{IsRun}
+use Rattle.mqtt_handed_laws.specs.Handing.{IsRun, RunsOn}
 use Rattle.mqtt_handed_laws.specs.Seen.{AreQueued, Numbering, StandOn, content_of, lot_on, seen, still_standing, went_in}
 use Rattle.mqtt_handed_laws.specs.Tags.{AreNumbered, AreTagged, IsTagged, IsTaggedBy, IsTaggedWith, Names, WasTagged, id_of}
 use Rattle.mqtt_handed_laws.proofs.Answering.{its_went, went_left}
 use Rattle.mqtt_handed_laws.proofs.Marks.{lots_by}
 use Rattle.mqtt_handed_laws.proofs.Refusals.{run_append}
 use Rattle.mqtt_handed_laws.proofs.Resuming.{renewed_standing, still_renewed}
-use Rattle.mqtt_handed_laws.proofs.Turns.{ids_after, left_lots, same_entries, still_after}
+use Rattle.mqtt_handed_laws.proofs.Turns.{ids_after, left_lots, same_entries}
 
 -- ---- room, and who makes way: whether a PUBLISH went out on a line is not looked at
 
@@ -412,3 +410,69 @@ entering_runs number largest copies env copy r s b h x may numbered =
         tagged = subst (λ (cs : List CopyId). AreTagged number cs r) (sym same_ids) (tags_more number ids (copy.id ∷ []) r h.tagged);
       };
     })
+
+-- ---- copies that wait and have expired
+
+expired_renewed : (now : ℕ) (lots : List Lot) → expired now (queue_of (map renewed lots)) ≡ expired now (queue_of lots)
+expired_renewed now [] = refl
+expired_renewed now (past ending e m ∷ ls) = expired_renewed now ls
+expired_renewed now (standing e m ∷ ls) = by (is_waiting e.phase && is_late now e.copy) (expired_renewed now ls)
+  where
+    by : (t : Bool) → expired now (queue_of (map renewed ls)) ≡ expired now (queue_of ls)
+        → expired_at t (unsent e) (expired now (queue_of (map renewed ls))) ≡ expired_at t e (expired now (queue_of ls))
+    by true h = ap (λ (ts : List Turn). turns.Leave e.place Expired ∷ ts) h
+    by false h = h
+
+-- each leaves a place of the queue
+expired_gives : (now first : ℕ) (whole q : List CopyRow) → ((p : ℕ) → has_row copy_place p q ≡ true → (has_row copy_place p whole ≡ true) × (p < first))
+    → AllByRecursion (GivesWay first whole) (expired now (map (entry_on []) q))
+expired_gives now first whole [] h = tt
+expired_gives now first whole (e ∷ es) h =
+    by (is_waiting (entry_on [] e).phase && is_late now (entry_on [] e).copy) (expired_gives now first whole es (λ p there. h p (has_more p there)))
+  where
+    has_more : (p : ℕ) → has_row copy_place p es ≡ true → has_row copy_place p (e ∷ es) ≡ true
+    has_more p there = elim (cases_Bool (nat_eq e.place p)) [
+      | inl here ↦ rw here refl
+      | inr further ↦ rw further there
+    ]
+
+    by : (t : Bool) → AllByRecursion (GivesWay first whole) (expired now (map (entry_on []) es))
+        → AllByRecursion (GivesWay first whole) (expired_at t (entry_on [] e) (expired now (map (entry_on []) es)))
+    by true rest = (h e.place (rw (nat_eq_equiv.refl e.place) refl), rest)
+    by false rest = rest
+
+pub lapsing_runs : (number : Numbering) (largest : ℕ) (copies : List Lot) (now : ℕ) (r : Receiver) (s : Session) (b : Broker)
+    → IsRun number largest copies r b → IsReceiving r s b → RunsOn number largest copies r (after_all (lapse_deeds now s) b)
+lapsing_runs number largest copies now r s b h x =
+    let ids = map id_of copies in
+    let w = seen number copies r b in
+    let ts = expired now (queue_on [] s) in
+    let first = next_of copy_place s.queue in
+    let gives = expired_gives now first s.queue s.queue (λ p there. (there, below_has first p s.queue (below_own s.queue) there)) in
+    let named : session_named r.client b.records ≡ Some s = named_is r.client s.birth b.records s x.only x.session x.client in
+    let queued : StandOn copies s.queue (went_in s.birth b) = subst (λ (o : Option Session). AreQueued copies o b) named h.queue_is in
+    let rows : queue_of (map renewed copies) ≡ queue_on [] s = same_entries (map renewed copies) [] s.queue (renewed_standing copies s.queue (went_in s.birth b) queued) in
+    let turns_are : ts ≡ expired now (queue_of copies) = ap (expired now) (sym rows) ∙ expired_renewed now copies in
+    let c = after_all (flat_map (leave_deeds s) ts) b in
+    let at_start : Stays r.client s ids b.lines s.queue copies b = record { session = x.session; queued = queued; known = x.known; lines = λ m. refl; only = x.only; ids_are = refl } in
+    let left = leaves_stay r.client s ids b.lines first ts s.queue copies b gives at_start in
+    let lots = lots_by ts copies in
+    let last : Session = record s { queue = left.0 } in
+    let named_last : session_named r.client c.records ≡ Some last = named_is r.client s.birth c.records last left.1.only left.1.session x.client in
+    let stands : is_some (session_named r.client c.records) ≡ is_some (session_named r.client b.records) = ap is_some named_last ∙ sym (ap is_some named) in
+    let linked : is_linked r.line.number c ≡ is_linked r.line.number b = linked_same r.line.number b c left.1.lines in
+    let same : seen number lots r c ≡ record w { copies = lots } = λ i. record w { copies = lots; stands = stands i; linked = linked i } in
+    let e = expire now in
+    let hop : step largest w e ≡ record w { copies = lots } = ap (λ (us : List Turn). take_turns us w) (sym turns_are) ∙ leaves_made first s.queue ts w gives in
+    let same_ids : map id_of lots ≡ ids = left.1.ids_are in
+    record {
+      after = lots;
+      same = same_ids;
+      run_is = record {
+        events = h.events ++ e ∷ [];
+        seen_is = same ∙ (sym hop ∙ (ap (λ (v : Hop). step largest v e) h.seen_is ∙ sym (run_append largest h.events (e ∷ []) start)));
+        queue_is = subst (λ (o : Option Session). AreQueued lots o c) (sym named_last) left.1.queued;
+        numbered = subst (AreNumbered number) (sym same_ids) h.numbered;
+        tagged = subst (λ (cs : List CopyId). AreTagged number cs r) (sym same_ids) h.tagged;
+      };
+    }

@@ -1,13 +1,12 @@
 -- What a pump's turns make of the copies that stand in a queue, and which PUBLISH they send.
-use Rattle.std.proofs.Common.{◌≡◌, ℕ, suc, ◌+◌, ◌||◌, Bool, true, false, cond, List, [], ◌∷◌, ◌++◌, map, Option, Some, None, nat_eq, refl, sym, ap, subst, ◌∙◌, append-nil, append_assoc, arith, inl, inr}
+use Rattle.std.proofs.Common.{◌≡◌, ℕ, suc, ◌+◌, ◌||◌, Bool, true, false, cond, List, [], ◌∷◌, ◌++◌, map, Some, nat_eq, refl, sym, ap, subst, ◌∙◌, append-nil, append_assoc, arith, inl, inr}
 use Rattle.std.specs.Prelude.{slice_get}
 use Rattle.std.proofs.lemmas.Bool.{cases_Bool, eqb-true}
 use Rattle.std.proofs.lemmas.Cmp.{nat_eq_equiv}
-use Rattle.mqtt_base.specs.declared.session.Phase.{Phase}
 use Rattle.mqtt_base.specs.declared.session.Phase.TheVariants.{Sent, Oversize}
 use Rattle.mqtt_flow.specs.declared.entry.Turn.{Turn}
 use Rattle.mqtt_flow.specs.declared.entry.Turn.TheVariants.{Send, Resend, Outgrow}
-use Rattle.mqtt_flow.specs.OutboundWorld.{Lot, World as Hop, TopicAndPayload, standing, past, body, lot_after, lots_after, packets, sends, sent_at, take_turns, told}
+use Rattle.mqtt_flow.specs.OutboundWorld.{Lot, World as Hop, standing, past, body, lot_after, lots_after, packets, sends, take_turns, told}
 use Rattle.mqtt_flow.specs.Receiver.{Output, publish}
 use Rattle.mqtt_inbound.specs.Identifiers.{is_among}
 use Rattle.mqtt_inbound.specs.Line.{sent_on}

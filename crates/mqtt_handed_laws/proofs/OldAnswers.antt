@@ -1,17 +1,17 @@
 -- The broker reads an answer on the line that a receiver gave up: what the receiver sees of it is that event of its hop.
 use Rattle.std.proofs.Common.{◌≡◌, ℕ, suc, Bool, true, false, cond, ◌||◌, List, [], ◌∷◌, ◌++◌, drop, map, Option, Some, None, nat_eq, bytes_eq, refl, sym, ap, subst, ◌∙◌, append-nil, inl}
-use Rattle.std.specs.Prelude.{⊤, Ok, Err, filter_map, find, is_some, option_map}
-use Rattle.std.specs.List.{AllByRecursion, cons_option, list_any}
+use Rattle.std.specs.Prelude.{Ok, Err, filter_map, find, is_some}
+use Rattle.std.specs.List.{AllByRecursion}
 use Rattle.std.proofs.lemmas.Cmp.{nat_eq_equiv}
 use Rattle.mqtt_base.specs.declared.session.CopyId.{CopyId}
 use Rattle.mqtt_codec.specs.declared.packet.Packet.{Packet}
 use Rattle.mqtt_flow.specs.Outbound as rules
 use Rattle.mqtt_flow.specs.OutboundWorld.{Lot, World as Hop, old_comes, old_to_broker, replied_old, start, step}
 use Rattle.mqtt_flow.specs.Queue.{holder, next_order}
-use Rattle.mqtt_flow.specs.Receiver.{Answer, Output, puback, pubrec, pubcomp}
+use Rattle.mqtt_flow.specs.Receiver.{Answer, puback, pubrec, pubcomp}
 use Rattle.mqtt_flow.specs.declared.entry.Entry.{Entry as FlowEntry}
 use Rattle.mqtt_laws.specs.Ends.{Back, Receiver, answers, wire_back}
-use Rattle.mqtt_laws.specs.Lines.{Down, down_on, is_one_of, sent_to, unless_closed}
+use Rattle.mqtt_laws.specs.Lines.{Down, is_one_of, sent_to, unless_closed}
 use Rattle.mqtt_laws.specs.Seen.{is_linked}
 use Rattle.mqtt_laws.proofs.Names.{named_is, only_deeds}
 use Rattle.mqtt_laws.proofs.OldLine.{further}
@@ -21,14 +21,14 @@ use Rattle.mqtt_records.specs.declared.session.Session.{Session}
 use Rattle.mqtt_rules.specs.Deeds.{Accept, At, Begin, Count, Deed, Finish, Forget, Gone, Keep, Link, Name, On, RefuseWill, Send, after, after_all, closing, lines_after, output, rows_of_all}
 use Rattle.mqtt_rules.specs.Inbound.{on_answer}
 use Rattle.mqtt_rules.specs.State.{Line as BrokerLine, Broker, MemberChoice, queue_on, session_named}
-use Rattle.mqtt_rules.specs.Step.{Input, at_moment, deeds, env_of, next_packet, stepped, told}
+use Rattle.mqtt_rules.specs.Step.{Input, at_moment, deeds, env_of, next_packet, stepped}
 use Rattle.mqtt_rules.specs.declared.Limits.{Limits}
 use Rattle.mqtt_laws.proofs.OwnStep.{heard_of}
 use Rattle.mqtt_handed_laws.specs.Calls.{IsLingering, reads_old_answer, turned_back}
 use Rattle.mqtt_handed_laws.specs.Handing.{IsRun, RunsOn, after_answer}
 use Rattle.mqtt_handed_laws.specs.Seen.{AreQueued, Numbering, StandOn, answered, handed_in, heard_in, lot_on, seen, still_standing, went_in}
 use Rattle.mqtt_handed_laws.specs.Tags.{AreNumbered, AreTagged, IsTagged, id_of}
-use Rattle.mqtt_handed_laws.proofs.Answering.{Becomes, IsAsideOf, IsReply, all_join, answer_becomes, copies_by, heard_append, ids_by, its_went, named_now, reply_puback, reply_pubcomp, reply_pubrec, shut_by, standing_by, told_by}
+use Rattle.mqtt_handed_laws.proofs.Answering.{IsAsideOf, IsReply, answer_becomes, copies_by, ids_by, its_went, named_now, reply_puback, reply_pubcomp, reply_pubrec, shut_by, standing_by}
 use Rattle.mqtt_handed_laws.proofs.Refusals.{run_append}
 use Rattle.mqtt_handed_laws.proofs.Turns.{same_entries}
 

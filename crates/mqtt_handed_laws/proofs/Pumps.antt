@@ -1,6 +1,6 @@
 -- What a pump makes of a session's queue and of its line, and what it tells: it does the turns of the hop.
 use Rattle.std.proofs.Common.{◌≡◌, ℕ, zero, suc, ◌+◌, ◌<◌, ◌≤◌, Bool, true, false, cond, List, [], ◌∷◌, ◌++◌, map, Option, Some, None, nat_eq, refl, sym, ap, subst, ◌∙◌, arith, inl, inr}
-use Rattle.std.specs.Prelude.{⊤, filter_map, find, option_map, slice_get}
+use Rattle.std.specs.Prelude.{⊤, filter_map, option_map, slice_get}
 use Rattle.std.specs.List.{AllByRecursion, cons_option}
 use Rattle.std.proofs.lemmas.Bool.{cases_Bool, eqb-true}
 use Rattle.std.proofs.lemmas.Cmp.{nat_eq_equiv}
@@ -16,7 +16,7 @@ use Rattle.mqtt_base.specs.declared.session.Qos.TheVariants.{AtMostOnce, AtLeast
 use Rattle.mqtt_codec.specs.declared.packet.Packet.{Packet}
 use Rattle.mqtt_codec.specs.declared.publish.Publish.{Publish as Publication}
 use Rattle.mqtt_flow.specs.Outbound.{Verdict, pass, end, outgrow, send, resend, first_time, in_room, is_large, is_late, once_more, paced, pump_from, step_by, step_on, then_on, too_large, verdict, verdict_by}
-use Rattle.mqtt_flow.specs.OutboundWorld.{Lot, body, is_granted, is_twice, lots_after, packets, sends}
+use Rattle.mqtt_flow.specs.OutboundWorld.{Lot, body, is_granted, is_twice, lots_after, sends}
 use Rattle.mqtt_flow.specs.Pacing.{Pacing}
 use Rattle.mqtt_flow.specs.Receiver.{Output, publish, pubrel}
 use Rattle.mqtt_flow.specs.declared.entry.QueuedCopy.{QueuedCopy}
@@ -25,10 +25,9 @@ use Rattle.mqtt_flow.specs.declared.entry.Turn.TheVariants as turns
 use Rattle.mqtt_flow.specs.declared.entry.Way.{Way}
 use Rattle.mqtt_inbound.specs.Identifiers.{free_identifier, ids_without}
 use Rattle.mqtt_laws.specs.Ends.{body_of}
-use Rattle.mqtt_laws.specs.Lines.{Down, copy_by, copy_in, down_on, sent_to}
+use Rattle.mqtt_laws.specs.Lines.{copy_by, copy_in, sent_to}
 use Rattle.mqtt_laws.proofs.Quiet.{line_on, quiet_line, session_on}
 use Rattle.mqtt_message.specs.Queue.{CopyRow}
-use Rattle.mqtt_message.specs.declared.message.MessageCopy.{MessageCopy}
 use Rattle.mqtt_records.specs.Records.{changed_all}
 use Rattle.mqtt_records.specs.Session.{birth_of, copy_place, in_phase, with_phase, without_copy}
 use Rattle.mqtt_records.specs.declared.records.Records.{Records}
@@ -38,7 +37,7 @@ use Rattle.mqtt_rows.proofs.LookUps.{row_at-remove_row}
 use Rattle.mqtt_rows.proofs.OrderLemmas.{apart, change-ascending, remove-ascending}
 use Rattle.mqtt_rules.proofs.FlightPump.{Ahead}
 use Rattle.mqtt_rules.proofs.FlightRows.{change_row-here, change_row-other}
-use Rattle.mqtt_rules.specs.Deeds.{At, Deed, Leave, LinePart, Mark, On, Part, Send, Went, after_all, line_after, on_line, output, part_rows_of, stored_after, whose, without_place}
+use Rattle.mqtt_rules.specs.Deeds.{At, Deed, Leave, Mark, On, Send, Went, after_all, line_after, on_line, output, part_rows_of, stored_after, whose, without_place}
 use Rattle.mqtt_rules.specs.Outbound.{all_turn_deeds, of_entry}
 use Rattle.mqtt_rules.specs.Packets as packets_of
 use Rattle.mqtt_rules.specs.Packets.{delivery_by, properties_sent, publish_of}

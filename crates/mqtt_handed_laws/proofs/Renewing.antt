@@ -1,19 +1,17 @@
 -- The broker reads CONNECT with Clean Start on a receiver's line while its session stands: that ends with its copies, and a
 -- new one begins there. What the receiver sees of it is that event of its hop (MQTT 5.0, 3.1.2.4, 3.1.4).
-use Rattle.std.proofs.Common.{◌≡◌, ℕ, suc, ◌<◌, Bool, true, false, cond, List, [], ◌∷◌, ◌++◌, length, map, Option, Some, None, nat_eq, nat_lt, refl, sym, ap, subst, ◌∙◌, append-nil, append_assoc, arith, inl, inr}
-use Rattle.std.specs.Prelude.{⊤, filter, filter_map, find, is_some, option_map}
+use Rattle.std.proofs.Common.{◌≡◌, ℕ, suc, Bool, true, false, cond, List, [], ◌∷◌, ◌++◌, length, map, Option, Some, None, nat_eq, nat_lt, refl, sym, ap, subst, ◌∙◌, append-nil, append_assoc, arith, inl, inr}
+use Rattle.std.specs.Prelude.{filter_map, is_some, option_map}
 use Rattle.std.specs.List.{AllByRecursion}
 use Rattle.std.proofs.lemmas.Bool.{cases_Bool, lt-ltb}
-use Rattle.std.proofs.lemmas.Cmp.{nat_eq_equiv}
 use Rattle.mqtt_base.specs.declared.session.Ending.TheVariants.{SessionEnded}
-use Rattle.mqtt_connect.specs.declared.connect.Connect.{Connect as Greeting}
-use Rattle.mqtt_flow.specs.OutboundWorld.{Lot, World as Hop, connects, up_comes}
+use Rattle.mqtt_flow.specs.OutboundWorld.{Lot, connects, up_comes}
 use Rattle.mqtt_flow.specs.Receiver.{Answer, connect}
 use Rattle.mqtt_inbound.specs.Identifiers.{ids_without}
 use Rattle.mqtt_laws.specs.Ends.{Back, Receiver, answers, wire_back}
 use Rattle.mqtt_laws.specs.Hops.{IsKept, IsTaken, lines_left}
-use Rattle.mqtt_laws.specs.Lines.{is_one_of, sent_to}
-use Rattle.mqtt_laws.proofs.CleanConnects.{Cleared, begins_by_room, clear_is, cleared, ended_by, ending_next}
+use Rattle.mqtt_laws.specs.Lines.{sent_to}
+use Rattle.mqtt_laws.proofs.CleanConnects.{begins_by_room, clear_is, cleared, ended_by, ending_next}
 use Rattle.mqtt_laws.proofs.Connects.{heard_line_of, heard_on_line, left_by, left_leaves, named_taken, not_left, prepare_front, taken_client, taken_from, taken_will}
 use Rattle.mqtt_laws.proofs.Far.{at_births}
 use Rattle.mqtt_laws.proofs.Names.{named_is}

@@ -5,20 +5,19 @@ use Rattle.std.specs.Prelude.{⊤, filter, filter_map, find, is_some, length, op
 use Rattle.std.specs.List.{AllByRecursion, starts_with}
 use Rattle.std.proofs.lemmas.Bool.{cases_Bool, eqb-true}
 use Rattle.std.proofs.lemmas.Cmp.{nat_eq_equiv}
-use Rattle.mqtt_base.specs.Codes.{session_taken_over, success}
+use Rattle.mqtt_base.specs.Codes.{success}
 use Rattle.mqtt_base.specs.declared.session.CopyId.{CopyId}
 use Rattle.mqtt_codec.specs.declared.packet.Packet.{Packet}
 use Rattle.mqtt_codec.specs.declared.packet.Packet.TheVariants.{Connect}
 use Rattle.mqtt_connect.specs.declared.connect.Connect.{Connect as Greeting}
 use Rattle.mqtt_flow.specs.Outbound.{due_from, due_of, resumed_with, unsent}
-use Rattle.mqtt_flow.specs.OutboundWorld.{Lot, World as Hop, TopicAndPayload, all_packets, connects, packets, past, queue_of, renewed, standing, start, step, to_broker, up_comes}
+use Rattle.mqtt_flow.specs.OutboundWorld.{Lot, World as Hop, all_packets, connects, past, queue_of, renewed, standing, start, step, to_broker, up_comes}
 use Rattle.mqtt_flow.specs.Receiver.{Answer, Output, connack, connect, pubrel, spared}
-use Rattle.mqtt_flow.specs.declared.entry.Entry.{Entry as FlowEntry}
 use Rattle.mqtt_flow.specs.declared.entry.Turn.{Turn}
 use Rattle.mqtt_flow.specs.declared.entry.Turn.TheVariants as turns
 use Rattle.mqtt_laws.specs.Ends.{Back, Receiver, answers, wire_back}
 use Rattle.mqtt_laws.specs.Hops.{IsKept, IsOnly, IsTaken, lines_left}
-use Rattle.mqtt_laws.specs.Lines.{is_one_of, sent_to, unless_closed}
+use Rattle.mqtt_laws.specs.Lines.{is_one_of, sent_to}
 use Rattle.mqtt_laws.specs.World.{taken_up}
 use Rattle.mqtt_laws.proofs.Connects.{greeted_line, heard_line_of, heard_on_line, left_by, left_leaves, named_taken, not_left, prepare_front, taken_at, taken_birth, taken_client, taken_from}
 use Rattle.mqtt_laws.proofs.Names.{BeginNone, named_is, only_deeds}
@@ -38,14 +37,14 @@ use Rattle.mqtt_rules.proofs.FlightRows.{change_row-here}
 use Rattle.mqtt_rules.proofs.Goods.{after_append}
 use Rattle.mqtt_rules.specs.Closing.{never}
 use Rattle.mqtt_rules.specs.Connect.{clear, connack_properties, connect_by, joins, joins_after, of_client, on_connect, prepare, refusal, resume}
-use Rattle.mqtt_rules.specs.Deeds.{At, Deed, Greet, Hear, On, Resume, Send, after, after_all, always, closing, line_after, on_line, only_if, output, part_rows_of, series, stored_after, whose, with_line}
+use Rattle.mqtt_rules.specs.Deeds.{At, Deed, Greet, Hear, On, Resume, after, after_all, always, closing, line_after, on_line, only_if, output, part_rows_of, series, stored_after, whose, with_line}
 use Rattle.mqtt_rules.specs.Outbound.{all_turn_deeds}
 use Rattle.mqtt_rules.specs.Packets.{property}
 use Rattle.mqtt_rules.specs.Packets as packets_of
 use Rattle.mqtt_rules.specs.State.{Line as BrokerLine, Broker, Env, MemberChoice, is_of, line_at, line_of, queue_on, session_at, session_named}
 use Rattle.mqtt_rules.specs.Step.{Input, at_moment, deeds, env_of, on_packet, stepped}
 use Rattle.mqtt_rules.specs.declared.Limits.{Limits}
-use Rattle.mqtt_handed_laws.specs.Calls.{IsOnlyAt, IsResuming, receiver_called}
+use Rattle.mqtt_handed_laws.specs.Calls.{IsOnlyAt, IsResuming}
 use Rattle.mqtt_handed_laws.specs.Handing.{IsRun, RunsOn, after_answer, reads_answer}
 use Rattle.mqtt_handed_laws.specs.Seen.{AreQueued, Numbering, StandOn, answered, heard_in, lot_on, seen, still_standing, went_in}
 use Rattle.mqtt_handed_laws.specs.Tags.{AreNumbered, AreTagged, IsTagged, id_of}

@@ -1,15 +1,13 @@
 -- The broker sends what waits for a receiver that is connected: what it sees of that is a pump of its hop.
-use Rattle.std.proofs.Common.{◌≡◌, ℕ, ◌≤◌, Bool, true, false, List, [], ◌∷◌, ◌++◌, map, Option, Some, None, refl, sym, ap, subst, ◌∙◌, arith}
+use Rattle.std.proofs.Common.{◌≡◌, ℕ, ◌≤◌, true, false, List, [], ◌∷◌, ◌++◌, map, Option, Some, None, refl, sym, ap, subst, ◌∙◌, arith}
 use Rattle.std.specs.Prelude.{filter_map, is_some, option_map}
 use Rattle.std.specs.List.{AllByRecursion}
 use Rattle.mqtt_base.specs.declared.session.CopyId.{CopyId}
 use Rattle.mqtt_base.specs.declared.session.Qos.{Qos}
 use Rattle.mqtt_base.specs.declared.session.Qos.TheVariants.{AtMostOnce, AtLeastOnce, ExactlyOnce}
 use Rattle.mqtt_flow.specs.Outbound as rules
-use Rattle.mqtt_flow.specs.OutboundWorld.{Event as HopEvent, Lot, World as Hop, is_granted, past, pump, queue_of, run, standing, start, step, take_turns}
-use Rattle.mqtt_flow.specs.Receiver.{Output}
+use Rattle.mqtt_flow.specs.OutboundWorld.{Lot, World as Hop, is_granted, past, pump, queue_of, standing, start, step, take_turns}
 use Rattle.mqtt_flow.specs.declared.entry.Turn.{Turn}
-use Rattle.mqtt_flow.specs.declared.entry.Entry.{Entry as FlowEntry}
 use Rattle.mqtt_flow.proofs.outbound.ReceiverReads.{begins}
 use Rattle.mqtt_flow.proofs.outbound.SessionQueues.{AllFit, IsGranted}
 use Rattle.mqtt_flow.proofs.outbound.SessionSteps.{run_leads, sound_start}
@@ -23,13 +21,13 @@ use Rattle.mqtt_message.specs.Queue.{CopyRow}
 use Rattle.mqtt_records.specs.Session.{birth_of, copy_place}
 use Rattle.mqtt_records.specs.declared.session.Session.{Session}
 use Rattle.mqtt_rows.specs.Order.{row_at}
-use Rattle.mqtt_rules.proofs.FlightRows.{all_at, all_found, all_more}
+use Rattle.mqtt_rules.proofs.FlightRows.{all_at, all_found}
 use Rattle.mqtt_rules.proofs.FlightStep.{step_keeps}
 use Rattle.mqtt_rules.specs.Deeds.{Deed, after_all, closing, output, rows_of_all, with_line, with_session}
 use Rattle.mqtt_rules.specs.Flight.{HasDistinctIdentifiers, IsFlight}
 use Rattle.mqtt_rules.specs.Inbound.{pump_deeds, pump_turns}
-use Rattle.mqtt_rules.specs.Outbound.{all_turn_deeds, way_of}
-use Rattle.mqtt_rules.specs.State.{Line as BrokerLine, Broker, MemberChoice, queue_on, session_at, session_named}
+use Rattle.mqtt_rules.specs.Outbound.{way_of}
+use Rattle.mqtt_rules.specs.State.{Line as BrokerLine, Broker, MemberChoice, queue_on, session_at}
 use Rattle.mqtt_rules.specs.Step.{Pump, at_moment, deeds, on_pump, stepped}
 use Rattle.mqtt_rules.specs.declared.Limits.{Limits}
 use Rattle.mqtt_handed_laws.specs.Calls.{receiver_called}

@@ -1,7 +1,7 @@
 -- Drain: rounds in which what waits for a receiver is sent, all that is under way to it is read, and so is all that it
 -- answers, until its queue is empty or the broker has closed its line (MQTT 5.0, 4.3, 4.4, 4.6).
 use Rattle.std.specs.Prelude.{ℕ, zero, suc, ◌+◌, ◌*◌, Bool, true, false, cond, not, ◌||◌, List, [], ◌∷◌, ◌++◌, length}
-use Rattle.std.specs.Prelude.{Option, Some, None, is_none}
+use Rattle.std.specs.Prelude.{Option, Some, None}
 use Rattle.mqtt_records.specs.declared.session.Session.{Session}
 use Rattle.mqtt_rules.specs.State.{MemberChoice, session_named}
 use Rattle.mqtt_rules.specs.declared.Limits.{Limits}

@@ -1,5 +1,5 @@
 -- When a copy may enter the queue of a receiver's session, and what it makes of the hop (MQTT 5.0, 3.3.4, 4.6).
-use Rattle.std.specs.Prelude.{◌≡◌, ◌≤◌, ◌++◌, ℕ, ⊤, true, List, [], ◌∷◌, map, nat_lt, Option, Some, None}
+use Rattle.std.specs.Prelude.{◌≡◌, ◌≤◌, ◌++◌, ℕ, ⊤, true, List, [], ◌∷◌, map, Option, Some, None}
 use Rattle.std.specs.List.{AllByRecursion}
 use Rattle.mqtt_base.specs.declared.limits.TheConstants.{QUEUE_LIMIT}
 use Rattle.mqtt_base.specs.declared.session.CopyId.{CopyId}
