@@ -51,8 +51,8 @@ use Rattle.mqtt_rules.specs.Deeds.{At, Deed, Enter, Leave, after, after_all, new
 use Rattle.mqtt_rules.specs.Outbound.{enter_deeds, leave_deeds, of_entry, queue_limits, since}
 use Rattle.mqtt_rules.specs.Tick.{lapse_deeds}
 use Rattle.mqtt_rules.specs.State.{Line as BrokerLine, Broker, Env, entry_on, next_of, queue_on, queued_copy, session_at, session_named}
-use Rattle.mqtt_handed_laws.specs.Entering.{AreKnown, IsReceiving, MayEnter, RunsWith}
-use Rattle.mqtt_handed_laws.specs.Handing.{IsRun, RunsOn}
+use Rattle.mqtt_handed_laws.specs.Entering.{AreKnown, IsReceiving, MayEnter, RunsStill, RunsWith}
+use Rattle.mqtt_handed_laws.specs.Handing.{IsRun}
 use Rattle.mqtt_handed_laws.specs.Seen.{AreQueued, Numbering, StandOn, content_of, lot_on, seen, still_standing, went_in}
 use Rattle.mqtt_handed_laws.specs.Tags.{AreNumbered, AreTagged, IsTagged, IsTaggedBy, IsTaggedWith, Names, WasTagged, id_of}
 use Rattle.mqtt_handed_laws.proofs.Answering.{its_went, went_left}
@@ -409,6 +409,8 @@ entering_runs number largest copies env copy r s b h x may numbered =
         numbered = subst (AreNumbered number) (sym same_ids) numbered;
         tagged = subst (λ (cs : List CopyId). AreTagged number cs r) (sym same_ids) (tags_more number ids (copy.id ∷ []) r h.tagged);
       };
+      session = last;
+      receiving = record { session = entered.0; client = x.client; only = only; known = known_more queue (new_entry copy queue) (its_went s.birth c.lines) left.1.known };
     })
 
 -- ---- copies that wait and have expired
@@ -442,7 +444,7 @@ expired_gives now first whole (e ∷ es) h =
     by false rest = rest
 
 pub lapsing_runs : (number : Numbering) (largest : ℕ) (copies : List Lot) (now : ℕ) (r : Receiver) (s : Session) (b : Broker)
-    → IsRun number largest copies r b → IsReceiving r s b → RunsOn number largest copies r (after_all (lapse_deeds now s) b)
+    → IsRun number largest copies r b → IsReceiving r s b → RunsStill number largest copies r (after_all (lapse_deeds now s) b)
 lapsing_runs number largest copies now r s b h x =
     let ids = map id_of copies in
     let w = seen number copies r b in
@@ -466,13 +468,17 @@ lapsing_runs number largest copies now r s b h x =
     let hop : step largest w e ≡ record w { copies = lots } = ap (λ (us : List Turn). take_turns us w) (sym turns_are) ∙ leaves_made first s.queue ts w gives in
     let same_ids : map id_of lots ≡ ids = left.1.ids_are in
     record {
-      after = lots;
-      same = same_ids;
-      run_is = record {
-        events = h.events ++ e ∷ [];
-        seen_is = same ∙ (sym hop ∙ (ap (λ (v : Hop). step largest v e) h.seen_is ∙ sym (run_append largest h.events (e ∷ []) start)));
-        queue_is = subst (λ (o : Option Session). AreQueued lots o c) (sym named_last) left.1.queued;
-        numbered = subst (AreNumbered number) (sym same_ids) h.numbered;
-        tagged = subst (λ (cs : List CopyId). AreTagged number cs r) (sym same_ids) h.tagged;
+      runs = record {
+        after = lots;
+        same = same_ids;
+        run_is = record {
+          events = h.events ++ e ∷ [];
+          seen_is = same ∙ (sym hop ∙ (ap (λ (v : Hop). step largest v e) h.seen_is ∙ sym (run_append largest h.events (e ∷ []) start)));
+          queue_is = subst (λ (o : Option Session). AreQueued lots o c) (sym named_last) left.1.queued;
+          numbered = subst (AreNumbered number) (sym same_ids) h.numbered;
+          tagged = subst (λ (cs : List CopyId). AreTagged number cs r) (sym same_ids) h.tagged;
+        };
       };
+      session = last;
+      receiving = record { session = left.1.session; client = x.client; only = left.1.only; known = left.1.known };
     }

@@ -14,7 +14,7 @@ use Rattle.mqtt_records.specs.declared.session.Session.{Session}
 use Rattle.mqtt_rows.specs.Order.{has_row}
 use Rattle.mqtt_rules.specs.Outbound.{queue_limits, since}
 use Rattle.mqtt_rules.specs.State.{Broker, Env, queue_on, session_at}
-use Rattle.mqtt_handed_laws.specs.Handing.{IsRun}
+use Rattle.mqtt_handed_laws.specs.Handing.{IsRun, RunsOn}
 use Rattle.mqtt_handed_laws.specs.Seen.{Numbering, went_in}
 use Rattle.mqtt_handed_laws.specs.Tags.{id_of}
 
@@ -36,9 +36,17 @@ pub record MayEnter (env : Env) (copy : MessageCopy) (s : Session) : Type 0 wher
   pub room : has_room (queue_limits env) (since env s) (queue_on [] s) ≡ true
   pub within : env.limits.queue ≤ QUEUE_LIMIT
 
--- what it sees after the deeds is a run of its hop again, with this copy behind the others
+-- what it sees after the deeds is a run of its hop again, with this copy behind the others; and so its session goes on
 pub record RunsWith (number : Numbering) (largest : ℕ) (copies : List Lot) (id : CopyId) (r : Receiver) (b : Broker)
     : Type 0 where
   pub after : List Lot
   pub same : map id_of after ≡ map id_of copies ++ id ∷ []
   pub run_is : IsRun number largest after r b
+  pub session : Session
+  pub receiving : IsReceiving r session b
+
+-- the same with no copy more
+pub record RunsStill (number : Numbering) (largest : ℕ) (copies : List Lot) (r : Receiver) (b : Broker) : Type 0 where
+  pub runs : RunsOn number largest copies r b
+  pub session : Session
+  pub receiving : IsReceiving r session b
