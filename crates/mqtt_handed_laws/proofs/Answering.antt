@@ -37,7 +37,7 @@ use Rattle.mqtt_records.specs.declared.session.Columns.{Columns}
 use Rattle.mqtt_records.specs.declared.session.Session.{Session}
 use Rattle.mqtt_rows.specs.Order.{change_row, remove_row, row_at}
 use Rattle.mqtt_rules.proofs.FlightRows.{change_row-here, found_key}
-use Rattle.mqtt_rules.specs.Deeds.{At, Close, Deed, Gone, Hear, Leave, Mark, On, Send, after_all, closing, line_after, on_line, output, part_rows_of, rows_of_all, stored_after, whose, without_place}
+use Rattle.mqtt_rules.specs.Deeds.{At, Close, Deed, Gone, Hear, Leave, Link, Mark, On, Send, after_all, closing, line_after, on_line, output, part_rows_of, rows_of_all, stored_after, whose, without_place}
 use Rattle.mqtt_rules.specs.Inbound.{on_answer}
 use Rattle.mqtt_rules.specs.Outbound.{of_entry, turn_deeds}
 use Rattle.mqtt_rules.specs.Packets as packets
@@ -54,7 +54,7 @@ use Rattle.mqtt_handed_laws.proofs.Turns.{ids_after, left_lots, none_left, relea
 
 -- ---- lists
 
-heard_append : (number : Numbering) (xs ys : List Down) → filter_map (heard_in number) (xs ++ ys) ≡ filter_map (heard_in number) xs ++ filter_map (heard_in number) ys
+pub heard_append : (number : Numbering) (xs ys : List Down) → filter_map (heard_in number) (xs ++ ys) ≡ filter_map (heard_in number) xs ++ filter_map (heard_in number) ys
 heard_append number [] ys = refl
 heard_append number (x ∷ xs) ys = by (heard_in number x) (heard_append number xs ys)
   where
@@ -96,7 +96,7 @@ alone_heard birth k now n (l ∷ ls) h = by (nat_eq l.number n) (alone_heard bir
     by false g = (h.0, g)
 
 -- a copy leaves its session's queue
-went_left : (birth place : ℕ) (ls : List BrokerLine) → its_went birth (map (without_place birth place) ls) ≡ option_map (ids_without place) (its_went birth ls)
+pub went_left : (birth place : ℕ) (ls : List BrokerLine) → its_went birth (map (without_place birth place) ls) ≡ option_map (ids_without place) (its_went birth ls)
 went_left birth place [] = refl
 went_left birth place (l ∷ ls) = by (is_of l.session birth) refl (went_left birth place ls)
   where
@@ -151,7 +151,7 @@ sent_one n b packet = rw (nat_eq_equiv.refl n) refl
 
 -- ---- answers ask for few turns
 
-abbrev IsReplyTurn : Turn → Type 0
+abbrev pub IsReplyTurn : Turn → Type 0
 IsReplyTurn (turns.Send place i) = ⊥
 IsReplyTurn (turns.Resend place i) = ⊥
 IsReplyTurn (turns.Release place i order) = ⊤
@@ -160,12 +160,12 @@ IsReplyTurn (turns.Repeat i) = ⊤
 IsReplyTurn (turns.Unknown i) = ⊤
 IsReplyTurn (turns.Leave place ending) = ⊤
 
-abbrev IsReply : rules.Answer → Type 0
+abbrev pub IsReply : rules.Answer → Type 0
 IsReply (Ok None) = ⊤
 IsReply (Ok (Some t)) = IsReplyTurn t
 IsReply (Err fault) = ⊤
 
-reply_puback : (code : ℕ) (o : Option FlowEntry) → IsReply (puback_at code o)
+pub reply_puback : (code : ℕ) (o : Option FlowEntry) → IsReply (puback_at code o)
 reply_puback code None = tt
 reply_puback code (Some e) = by e.phase
   where
@@ -180,7 +180,7 @@ reply_puback code (Some e) = by e.phase
     by (Released i order) = tt
     by (Oversize i order) = tt
 
-reply_pubrec : (i code order : ℕ) (o : Option FlowEntry) → IsReply (pubrec_at i code order o)
+pub reply_pubrec : (i code order : ℕ) (o : Option FlowEntry) → IsReply (pubrec_at i code order o)
 reply_pubrec i code order None = tt
 reply_pubrec i code order (Some e) = by e.phase
   where
@@ -199,7 +199,7 @@ reply_pubrec i code order (Some e) = by e.phase
     by (Released j x) = tt
     by (Oversize j x) = tt
 
-reply_pubcomp : (o : Option FlowEntry) → IsReply (pubcomp_at o)
+pub reply_pubcomp : (o : Option FlowEntry) → IsReply (pubcomp_at o)
 reply_pubcomp None = tt
 reply_pubcomp (Some e) = by e.phase
   where
@@ -228,33 +228,70 @@ standing_by copies r l s b h c =
     let q : AreQueued copies (Some s) b = subst (λ (o : Option Session). AreQueued copies o b) (named_now r l s b c) h in
     subst (λ (o : Option (List ℕ)). StandOn copies s.queue o) (went_now r l s b c) q
 
+-- ---- deeds on other lines
+
+-- not on the line of this number
+abbrev pub IsAsideOf : ℕ → Deed → Type 0
+IsAsideOf m (On k part) = nat_eq k m ≡ false
+IsAsideOf m (Send k x) = nat_eq k m ≡ false
+IsAsideOf m (Gone k) = nat_eq k m ≡ false
+IsAsideOf m (Link k) = ⊥
+IsAsideOf m d = ⊤
+
+-- ---- what an answer makes of the copies, and whether it closes the line
+
+abbrev pub copies_by : rules.Answer → List Lot → List Lot
+copies_by (Ok None) copies = copies
+copies_by (Ok (Some t)) copies = lots_after t copies
+copies_by (Err fault) copies = copies
+
+abbrev pub shut_by : rules.Answer → Bool
+shut_by (Ok t) = false
+shut_by (Err fault) = true
+
+abbrev pub told_turn : Turn → List Output
+told_turn (turns.Release place i order) = pubrel i success ∷ []
+told_turn (turns.Repeat i) = pubrel i success ∷ []
+told_turn (turns.Unknown i) = pubrel i identifier_not_found ∷ []
+told_turn t = []
+
+abbrev pub told_by : rules.Answer → List Output
+told_by (Ok None) = []
+told_by (Ok (Some t)) = told_turn t
+told_by (Err fault) = disconnect ∷ []
+
+pub ids_by : (x : rules.Answer) (copies : List Lot) → map id_of (copies_by x copies) ≡ map id_of copies
+ids_by (Ok None) copies = refl
+ids_by (Ok (Some t)) copies = ids_after t copies
+ids_by (Err fault) copies = refl
+
 -- ---- the step
 
 module _ (number : Numbering) (largest : ℕ) (copies : List Lot) (limits : Limits) (choice : MemberChoice) (now : ℕ) (a : Answer) (rest : List Back) (r : Receiver)
-    (l : BrokerLine) (s : Session) (b : Broker) (h : IsRun number largest copies r b) (c : IsListening r l s b) (up : r.line.up ≡ answers a ∷ rest) where
-  abbrev n : ℕ
+    (l : BrokerLine) (s : Session) (b : Broker) (still : still_standing copies ≡ map (lot_on l.went) s.queue) (c : IsListening r l s b) (up : r.line.up ≡ answers a ∷ rest) where
+  abbrev pub n : ℕ
   n = l.number
 
-  abbrev packet : Packet
+  abbrev pub packet : Packet
   packet = wire_back r.client r.window (answers a)
 
-  abbrev done_deeds : List Deed
+  abbrev pub done_deeds : List Deed
   done_deeds = deeds limits choice now (Input n packet) b
 
-  abbrev at_first : Broker
+  abbrev pub at_first : Broker
   at_first = at_moment now b
 
-  abbrev once_heard : Broker
+  abbrev pub once_heard : Broker
   once_heard = heard_of now n b
 
-  abbrev w : Hop
+  abbrev pub w : Hop
   w = seen number copies r b
 
-  abbrev left_up : List Answer
+  abbrev pub left_up : List Answer
   left_up = filter_map answered rest
 
   -- what the deeds make of its session and its line, what they tell it, and whether they close the line
-  record Becomes (ds : List Deed) (copies2 : List Lot) (ps : List Output) (shut : Bool) : Type 0 where
+  pub record Becomes (ds : List Deed) (copies2 : List Lot) (ps : List Output) (shut : Bool) : Type 0 where
     pub session : Session
     pub found : session_at s.birth (after_all ds at_first).records ≡ Some session
     pub client : session.client ≡ r.client
@@ -265,12 +302,13 @@ module _ (number : Numbering) (largest : ℕ) (copies : List Lot) (limits : Limi
     pub heard : (new : Broker) → filter_map (heard_in number) (sent_to (Some n) new (filter_map output ds)) ≡ ps
     pub tagged : (new : Broker) → AllByRecursion (IsTagged number (map id_of copies)) (sent_to (Some n) new (filter_map output ds))
     pub closing_is : filter_map closing ds ≡ cond shut (n ∷ []) []
+    pub aside : (m : ℕ) → nat_eq n m ≡ false → AllByRecursion (IsAsideOf m) ds
 
   is_linked_now : is_linked r.line.number b ≡ true
   is_linked_now = linked_now r l s b c
 
   standing_now : still_standing copies ≡ map (lot_on l.went) s.queue
-  standing_now = standing_by copies r l s b h.queue_is c
+  standing_now = still
 
   closes_own : (shut : Bool) → is_one_of (Some n) (cond shut (n ∷ []) []) ≡ shut
   closes_own true = rw (nat_eq_equiv.refl n) refl
@@ -284,10 +322,10 @@ module _ (number : Numbering) (largest : ℕ) (copies : List Lot) (limits : Limi
       none None = refl
       none (Some m) = refl
 
-  becomes_run : (copies2 : List Lot) (ps : List Output) (shut : Bool) → Becomes done_deeds copies2 ps shut → map id_of copies2 ≡ map id_of copies
+  becomes_run : IsRun number largest copies r b → (copies2 : List Lot) (ps : List Output) (shut : Bool) → Becomes done_deeds copies2 ps shut → map id_of copies2 ≡ map id_of copies
       → record w { copies = copies2; linked = not shut; up = filter_map answered (unless_closed shut rest); down = w.down ++ ps } ≡ step largest w (to_broker false)
       → RunsOn number largest copies (reads_answer limits choice now n a r b) (after_answer limits choice now n a r b)
-  becomes_run copies2 ps shut x ids hop =
+  becomes_run h copies2 ps shut x ids hop =
       let ds = done_deeds in
       let new = stepped limits choice now (Input n packet) b in
       let out = told limits choice now (Input n packet) b in
@@ -369,6 +407,7 @@ module _ (number : Numbering) (largest : ℕ) (copies : List Lot) (limits : Limi
     heard = λ new. refl;
     tagged = λ new. tt;
     closing_is = refl;
+    aside = λ m other. (other, tt);
   }
 
   -- PUBREL goes out once more, or for an identifier that no copy has
@@ -384,6 +423,7 @@ module _ (number : Numbering) (largest : ℕ) (copies : List Lot) (limits : Limi
     heard = λ new. ap (filter_map (heard_in number)) (sent_one n new (packets.pubrel i code));
     tagged = λ new. subst (AllByRecursion (IsTagged number (map id_of copies))) (sym (sent_one n new (packets.pubrel i code))) (tt, tt);
     closing_is = refl;
+    aside = λ m other. (other, (other, tt));
   }
 
   release_becomes : (place i order : ℕ) → Becomes (On n Hear ∷ At (whose s) (Mark place (Released i order)) ∷ Send n (packets.pubrel i success) ∷ []) (lots_after (turns.Release place i order) copies) (pubrel i success ∷ []) false
@@ -398,6 +438,7 @@ module _ (number : Numbering) (largest : ℕ) (copies : List Lot) (limits : Limi
     heard = λ new. ap (filter_map (heard_in number)) (sent_one n new (packets.pubrel i success));
     tagged = λ new. subst (AllByRecursion (IsTagged number (map id_of copies))) (sym (sent_one n new (packets.pubrel i success))) (tt, tt);
     closing_is = refl;
+    aside = λ m other. (other, (tt, (other, tt)));
   }
 
   leave_becomes : (e : CopyRow) (ending : Ending) → Becomes (On n Hear ∷ At (whose s) (Leave e ending) ∷ []) (lots_after (turns.Leave e.place ending) copies) [] false
@@ -418,6 +459,7 @@ module _ (number : Numbering) (largest : ℕ) (copies : List Lot) (limits : Limi
         heard = λ new. refl;
         tagged = λ new. tt;
         closing_is = refl;
+        aside = λ m other. (other, (tt, tt));
       }
 
   drop_becomes : (code moment : ℕ) → Becomes (On n Hear ∷ Send n (packets.disconnect code) ∷ Gone n ∷ At (whose s) (Close moment) ∷ []) copies (disconnect ∷ []) true
@@ -435,6 +477,7 @@ module _ (number : Numbering) (largest : ℕ) (copies : List Lot) (limits : Limi
         heard = λ new. ap (filter_map (heard_in number)) (sent_one n new (packets.disconnect code));
         tagged = λ new. subst (AllByRecursion (IsTagged number (map id_of copies))) (sym (sent_one n new (packets.disconnect code))) (tt, tt);
         closing_is = refl;
+        aside = λ m other. (other, (other, (other, (tt, tt))));
       }
 
   -- ---- by what the session's rules answer
@@ -464,40 +507,52 @@ module _ (number : Numbering) (largest : ℕ) (copies : List Lot) (limits : Limi
       let is : e.place ≡ place = found_key copy_place place e s.queue there in
       subst (λ (k : ℕ). Becomes (On n Hear ∷ At (whose s) (Leave e ending) ∷ []) (lots_after (turns.Leave k ending) copies) [] false) is (leave_becomes e ending)
 
-  turn_runs : (t : Turn) → IsReplyTurn t → done_deeds ≡ On n Hear ∷ (turn_deeds once_heard.now n s t ++ []) → step largest w (to_broker false) ≡ replied (Ok (Some t)) left_up w → Result_of
-  turn_runs (turns.Send place i) never e hop = absurd never
-  turn_runs (turns.Resend place i) never e hop = absurd never
-  turn_runs (turns.Outgrow place i order) never e hop = absurd never
-  turn_runs (turns.Release place i order) ok e hop =
+  turn_becomes : (t : Turn) → IsReplyTurn t → done_deeds ≡ On n Hear ∷ (turn_deeds once_heard.now n s t ++ []) → Becomes done_deeds (lots_after t copies) (told_turn t) false
+  turn_becomes (turns.Send place i) never e = absurd never
+  turn_becomes (turns.Resend place i) never e = absurd never
+  turn_becomes (turns.Outgrow place i order) never e = absurd never
+  turn_becomes (turns.Release place i order) ok e =
       let copies2 = lots_after (turns.Release place i order) copies in
-      becomes_run copies2 (pubrel i success ∷ []) false (subst (λ (ds : List Deed). Becomes ds copies2 (pubrel i success ∷ []) false) (sym e) (release_becomes place i order))
-      (ids_after (turns.Release place i order) copies) (sends_it copies2 (pubrel i success) ∙ sym hop)
-  turn_runs (turns.Repeat i) ok e hop =
+      subst (λ (ds : List Deed). Becomes ds copies2 (pubrel i success ∷ []) false) (sym e) (release_becomes place i order)
+  turn_becomes (turns.Repeat i) ok e =
       let copies2 = lots_after (turns.Repeat i) copies in
-      becomes_run copies2 (pubrel i success ∷ []) false (subst (λ (ds : List Deed). Becomes ds copies2 (pubrel i success ∷ []) false) (sym e) (repeats_becomes copies2 i success (repeated_lots i copies)))
-      (ids_after (turns.Repeat i) copies) (sends_it copies2 (pubrel i success) ∙ sym hop)
-  turn_runs (turns.Unknown i) ok e hop =
+      subst (λ (ds : List Deed). Becomes ds copies2 (pubrel i success ∷ []) false) (sym e) (repeats_becomes copies2 i success (repeated_lots i copies))
+  turn_becomes (turns.Unknown i) ok e =
       let copies2 = lots_after (turns.Unknown i) copies in
-      becomes_run copies2 (pubrel i identifier_not_found ∷ []) false (subst (λ (ds : List Deed). Becomes ds copies2 (pubrel i identifier_not_found ∷ []) false) (sym e) (repeats_becomes copies2 i identifier_not_found (unknown_lots i copies)))
-      (ids_after (turns.Unknown i) copies) (sends_it copies2 (pubrel i identifier_not_found) ∙ sym hop)
-  turn_runs (turns.Leave place ending) ok e hop =
+      subst (λ (ds : List Deed). Becomes ds copies2 (pubrel i identifier_not_found ∷ []) false) (sym e) (repeats_becomes copies2 i identifier_not_found (unknown_lots i copies))
+  turn_becomes (turns.Leave place ending) ok e =
       let copies2 = lots_after (turns.Leave place ending) copies in
-      becomes_run copies2 [] false (subst (λ (ds : List Deed). Becomes ds copies2 [] false) (sym e) (leave_by place ending (row_at copy_place place s.queue) refl))
-      (ids_after (turns.Leave place ending) copies) (sends_none copies2 ∙ sym hop)
+      subst (λ (ds : List Deed). Becomes ds copies2 [] false) (sym e) (leave_by place ending (row_at copy_place place s.queue) refl)
 
-  answer_runs : (x : rules.Answer) → IsReply x → next_packet (env_of limits choice b) l packet s once_heard ≡ on_answer x (env_of limits choice b) l s once_heard
-      → step largest w (to_broker false) ≡ replied x left_up w → Result_of
-  answer_runs (Ok None) ok e hop =
-      becomes_run copies [] false (subst (λ (ds : List Deed). Becomes ds copies [] false) (sym (deeds_are (Ok None) e)) (nothing_becomes copies standing_now)) refl (sends_none copies ∙ sym hop)
-  answer_runs (Ok (Some t)) ok e hop = turn_runs t ok (deeds_are (Ok (Some t)) e) hop
-  answer_runs (Err fault) ok e hop =
+  pub answer_becomes : (x : rules.Answer) → IsReply x → next_packet (env_of limits choice b) l packet s once_heard ≡ on_answer x (env_of limits choice b) l s once_heard
+      → Becomes done_deeds (copies_by x copies) (told_by x) (shut_by x)
+  answer_becomes (Ok None) ok e = subst (λ (ds : List Deed). Becomes ds copies [] false) (sym (deeds_are (Ok None) e)) (nothing_becomes copies standing_now)
+  answer_becomes (Ok (Some t)) ok e = turn_becomes t ok (deeds_are (Ok (Some t)) e)
+  answer_becomes (Err fault) ok e =
       let env = env_of limits choice b in
       let is : done_deeds ≡ On n Hear ∷ Send n (packets.disconnect protocol_error) ∷ Gone n ∷ At (whose s) (Close once_heard.now) ∷ [] =
       deeds_are (Err fault) e ∙ ap (λ (ds : List Deed). On n Hear ∷ (ds ++ [])) (drop_is env protocol_error l s once_heard c.session c.connected c.no_will c.no_end) in
-      let stays = sym is_linked_now in
-      let shuts : record w { copies = copies; linked = false; up = []; down = w.down ++ disconnect ∷ [] } ≡ replied (Err fault) left_up w =
-      λ i. record w { linked = false; up = []; down = sent_on (stays i) w.down (disconnect ∷ []) } in
-      becomes_run copies (disconnect ∷ []) true (subst (λ (ds : List Deed). Becomes ds copies (disconnect ∷ []) true) (sym is) (drop_becomes protocol_error once_heard.now)) refl (shuts ∙ sym hop)
+      subst (λ (ds : List Deed). Becomes ds copies (disconnect ∷ []) true) (sym is) (drop_becomes protocol_error once_heard.now)
+
+  -- and the hop does the same
+  turn_replied : (t : Turn) → IsReplyTurn t → told_more (lots_after t copies) (told_turn t) ≡ replied (Ok (Some t)) left_up w
+  turn_replied (turns.Send place i) never = absurd never
+  turn_replied (turns.Resend place i) never = absurd never
+  turn_replied (turns.Outgrow place i order) never = absurd never
+  turn_replied (turns.Release place i order) ok = sends_it (lots_after (turns.Release place i order) copies) (pubrel i success)
+  turn_replied (turns.Repeat i) ok = sends_it (lots_after (turns.Repeat i) copies) (pubrel i success)
+  turn_replied (turns.Unknown i) ok = sends_it (lots_after (turns.Unknown i) copies) (pubrel i identifier_not_found)
+  turn_replied (turns.Leave place ending) ok = sends_none (lots_after (turns.Leave place ending) copies)
+
+  answer_replied : (x : rules.Answer) → IsReply x
+      → record w { copies = copies_by x copies; linked = not (shut_by x); up = filter_map answered (unless_closed (shut_by x) rest); down = w.down ++ told_by x } ≡ replied x left_up w
+  answer_replied (Ok None) ok = sends_none copies
+  answer_replied (Ok (Some t)) ok = turn_replied t ok
+  answer_replied (Err fault) ok = let stays = sym is_linked_now in λ i. record w { linked = false; up = []; down = sent_on (stays i) w.down (disconnect ∷ []) }
+
+  answer_runs : IsRun number largest copies r b → (x : rules.Answer) → IsReply x → next_packet (env_of limits choice b) l packet s once_heard ≡ on_answer x (env_of limits choice b) l s once_heard
+      → step largest w (to_broker false) ≡ replied x left_up w → Result_of
+  answer_runs h x ok e hop = becomes_run h (copies_by x copies) (told_by x) (shut_by x) (answer_becomes x ok e) (ids_by x copies) (answer_replied x ok ∙ sym hop)
 
   -- the hop has the same queue
   pub same_queue : queue_of copies ≡ queue_on l.went s
@@ -511,9 +566,9 @@ pub puback_runs : (number : Numbering) (largest : ℕ) (copies : List Lot) (limi
 puback_runs number largest copies limits choice now i code rest r l s b h c up =
     let w = seen number copies r b in
     let q = queue_on l.went s in
-    answer_runs number largest copies limits choice now (puback i code) rest r l s b h c up (rules.puback i code q) (reply_puback code (holder i q)) refl
+    answer_runs number largest copies limits choice now (puback i code) rest r l s b (standing_by copies r l s b h.queue_is c) c up h (rules.puback i code q) (reply_puback code (holder i q)) refl
     (ap (λ (xs : List Answer). up_comes false xs w) (ap (filter_map answered) up)
-    ∙ ap (λ (es : List FlowEntry). replied (rules.puback i code es) (filter_map answered rest) w) (same_queue number largest copies limits choice now (puback i code) rest r l s b h c up))
+    ∙ ap (λ (es : List FlowEntry). replied (rules.puback i code es) (filter_map answered rest) w) (same_queue number largest copies limits choice now (puback i code) rest r l s b (standing_by copies r l s b h.queue_is c) c up))
 
 pub pubrec_runs : (number : Numbering) (largest : ℕ) (copies : List Lot) (limits : Limits) (choice : MemberChoice) (now i code : ℕ) (rest : List Back) (r : Receiver) (l : BrokerLine) (s : Session) (b : Broker)
     → IsRun number largest copies r b → IsListening r l s b → r.line.up ≡ answers (pubrec i code) ∷ rest
@@ -521,9 +576,9 @@ pub pubrec_runs : (number : Numbering) (largest : ℕ) (copies : List Lot) (limi
 pubrec_runs number largest copies limits choice now i code rest r l s b h c up =
     let w = seen number copies r b in
     let q = queue_on l.went s in
-    answer_runs number largest copies limits choice now (pubrec i code) rest r l s b h c up (rules.pubrec i code q) (reply_pubrec i code (next_order q) (holder i q)) refl
+    answer_runs number largest copies limits choice now (pubrec i code) rest r l s b (standing_by copies r l s b h.queue_is c) c up h (rules.pubrec i code q) (reply_pubrec i code (next_order q) (holder i q)) refl
     (ap (λ (xs : List Answer). up_comes false xs w) (ap (filter_map answered) up)
-    ∙ ap (λ (es : List FlowEntry). replied (rules.pubrec i code es) (filter_map answered rest) w) (same_queue number largest copies limits choice now (pubrec i code) rest r l s b h c up))
+    ∙ ap (λ (es : List FlowEntry). replied (rules.pubrec i code es) (filter_map answered rest) w) (same_queue number largest copies limits choice now (pubrec i code) rest r l s b (standing_by copies r l s b h.queue_is c) c up))
 
 pub pubcomp_runs : (number : Numbering) (largest : ℕ) (copies : List Lot) (limits : Limits) (choice : MemberChoice) (now i code : ℕ) (rest : List Back) (r : Receiver) (l : BrokerLine) (s : Session) (b : Broker)
     → IsRun number largest copies r b → IsListening r l s b → r.line.up ≡ answers (pubcomp i code) ∷ rest
@@ -531,6 +586,6 @@ pub pubcomp_runs : (number : Numbering) (largest : ℕ) (copies : List Lot) (lim
 pubcomp_runs number largest copies limits choice now i code rest r l s b h c up =
     let w = seen number copies r b in
     let q = queue_on l.went s in
-    answer_runs number largest copies limits choice now (pubcomp i code) rest r l s b h c up (rules.pubcomp i q) (reply_pubcomp (holder i q)) refl
+    answer_runs number largest copies limits choice now (pubcomp i code) rest r l s b (standing_by copies r l s b h.queue_is c) c up h (rules.pubcomp i q) (reply_pubcomp (holder i q)) refl
     (ap (λ (xs : List Answer). up_comes false xs w) (ap (filter_map answered) up)
-    ∙ ap (λ (es : List FlowEntry). replied (rules.pubcomp i es) (filter_map answered rest) w) (same_queue number largest copies limits choice now (pubcomp i code) rest r l s b h c up))
+    ∙ ap (λ (es : List FlowEntry). replied (rules.pubcomp i es) (filter_map answered rest) w) (same_queue number largest copies limits choice now (pubcomp i code) rest r l s b (standing_by copies r l s b h.queue_is c) c up))

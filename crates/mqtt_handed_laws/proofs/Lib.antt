@@ -5,4 +5,15 @@ pub mod Handed
 pub mod Turns
 pub mod Answering
 pub mod Losing
+pub mod Marks
+pub mod Pumps
+pub mod Calling
+pub mod Sending
+pub mod OldAnswers
+pub mod Resuming
+pub mod Beginning
+pub mod Renewing
+pub mod Entering
 pub mod Examples
+pub mod DrainRuns
+pub mod DrainExamples

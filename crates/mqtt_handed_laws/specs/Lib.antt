@@ -1,3 +1,6 @@
 pub mod Seen
 pub mod Tags
 pub mod Handing
+pub mod Calls
+pub mod Entering
+pub mod Drains

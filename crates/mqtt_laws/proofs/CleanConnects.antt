@@ -79,7 +79,7 @@ ending_patient (Send n packet ∷ ds) q = (tt, ending_patient ds q.1)
 ending_patient (Gone n ∷ ds) q = (tt, ending_patient ds q.1)
 ending_patient (d ∷ ds) q = absurd q.0
 
-ending_next : (ds : List Deed) (b : Broker) → AreEnding ds → AreGood GivesNext ds b
+pub ending_next : (ds : List Deed) (b : Broker) → AreEnding ds → AreGood GivesNext ds b
 ending_next [] b q = tt
 ending_next (At who part ∷ ds) b q = (tt, ending_next ds (after (At who part) b) q.1)
 ending_next (Finish who ∷ ds) b q = (tt, ending_next ds (after (Finish who) b) q.1)
@@ -203,7 +203,7 @@ ends client n x b on only at is =
 
 -- ---- the deeds of the CONNECT
 
-clear_is : (env : Env) (client : List ℕ) (x : Session) (b : Broker) → session_named client b.records ≡ Some x → x.client ≡ client → x.will ≡ None
+pub clear_is : (env : Env) (client : List ℕ) (x : Session) (b : Broker) → session_named client b.records ≡ Some x → x.client ≡ client → x.will ≡ None
     → of_client client (clear env) b ≡ end_session x
 clear_is env client x b named its no_will =
     let first : Act = publish_will env x in
@@ -214,7 +214,7 @@ clear_is env client x b named its no_will =
     ∙ (ap (λ (text : List ℕ). with_session (session_named text b.records) (λ t. always (end_session t)) b) its
     ∙ ap (λ (z : Option Session). with_session z (λ t. always (end_session t)) b) named)))
 
-abbrev ended_by : Option BrokerLine → Session → ℕ → List Deed
+abbrev pub ended_by : Option BrokerLine → Session → ℕ → List Deed
 ended_by o s now = left_by o s now ++ end_session (taken_from o now s)
 
 prepare_is : (o : Option BrokerLine) (env : Env) (client : List ℕ) (s : Session) (n : ℕ) (b : Broker) → line_of s.birth b ≡ o → IsTaken o s.birth n → IsKept client s b
@@ -230,13 +230,13 @@ prepare_is o env client s n b e t k =
 abbrev next_birth : List Deed → Broker → ℕ
 next_birth ds b = suc (after_all ds b).records.births
 
-begins_by_room : (t e : Bool) (ds : List Deed) (l : BrokerLine) (c : Greeting) (r : Records) → t ≡ true → e ≡ false
+pub begins_by_room : (t e : Bool) (ds : List Deed) (l : BrokerLine) (c : Greeting) (r : Records) → t ≡ true → e ≡ false
     → cond t (ds ++ begin_named e l c r) (refused l c quota_exceeded) ≡ ds ++ begin l c false c.client_identifier (suc r.births)
 begins_by_room false e ds l c r room is = absurd cc
 begins_by_room true e ds l c r room is = ap (λ (x : Bool). ds ++ begin_named x l c r) is
 
 -- what the session's end leaves
-record Cleared (o : Option BrokerLine) (client : List ℕ) (n : ℕ) (ds : List Deed) (b : Broker) : Type 0 where
+pub record Cleared (o : Option BrokerLine) (client : List ℕ) (n : ℕ) (ds : List Deed) (b : Broker) : Type 0 where
   pub none : session_named client (after_all ds b).records ≡ None
   pub fewer : count (after_all ds b) < count b
   pub line_is : session_on n (after_all ds b).lines ≡ Some None
@@ -244,7 +244,7 @@ record Cleared (o : Option BrokerLine) (client : List ℕ) (n : ℕ) (ds : List 
   pub closings_is : filter_map closing ds ≡ lines_left o
   pub ending : AreEnding ds
 
-cleared : (o : Option BrokerLine) (client : List ℕ) (s : Session) (n : ℕ) (b : Broker) → IsTaken o s.birth n → IsKept client s b → session_on n b.lines ≡ Some None
+pub cleared : (o : Option BrokerLine) (client : List ℕ) (s : Session) (n : ℕ) (b : Broker) → IsTaken o s.birth n → IsKept client s b → session_on n b.lines ≡ Some None
     → Cleared o client n (ended_by o s b.now) b
 cleared o client s n b t k on =
     let ds = left_by o s b.now in
