@@ -1,0 +1,3 @@
+-- Lemmas on texts in one word.
+pub mod Bytewise
+pub mod Escapes

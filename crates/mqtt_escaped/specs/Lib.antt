@@ -1,0 +1,2 @@
+-- A text in one word of printable ASCII.
+pub mod Escaped

@@ -1,0 +1,17 @@
+//! The language of scripts: the events of a world, a line for each, and the text of what a world tells (ours). Private:
+//! the crates above re-export it.
+#![tactic(auto)]
+
+mod event;
+mod fault;
+mod reading;
+mod telling;
+mod words;
+
+pub use event::{Asking, Content, Draft, Event, Wish};
+pub use fault::ScriptFault;
+pub use reading::{event_of, is_passed_over};
+pub use telling::{
+    push_accepted, push_bad, push_broker, push_ended, push_entered, push_number, push_out,
+    push_publisher, push_receiver, push_released, push_will_refused,
+};
