@@ -267,3 +267,9 @@ module _ (line text : List ℕ) (same : text ≡ line) where
   refuses_line (Ok e) read = tt
   refuses_line (Err fault) read =
       λ other. no_line line (ap (λ (l : List ℕ). event_in (words_of l)) (sym same) ∙ read.1 other)
+
+-- ---- one event
+
+pub one_line_one_event : (line : List ℕ) (event other : Event) → IsLineOf event line → IsLineOf other line → event ≡ other
+one_line_one_event line event other is also =
+    same_some event other (sym (line_is_read line event is) ∙ line_is_read line other also)

@@ -4,12 +4,14 @@
 
 mod event;
 mod fault;
+mod laws;
 mod reading;
 mod telling;
 mod words;
 
 pub use event::{Asking, Content, Draft, Event, Wish};
 pub use fault::ScriptFault;
+pub use laws::one_event;
 pub use reading::{event_of, is_passed_over};
 pub use telling::{
     push_accepted, push_bad, push_broker, push_ended, push_entered, push_number, push_out,
