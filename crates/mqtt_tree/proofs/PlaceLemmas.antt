@@ -1,5 +1,5 @@
 -- Lemmas on a filter that is put at its place.
-use Rattle.std.proofs.Common.{◌≡◌, ℕ, ◌+◌, ◌-◌, ◌<◌, true, List, [], ◌∷◌, get_or, insert, refl, ap, ◌∙◌, ⊎_elim, arith}
+use Rattle.std.proofs.Common.{◌≡◌, ℕ, ◌+◌, ◌-◌, ◌<◌, true, List, [], ◌∷◌, get_or, insert, refl, ap, ◌∙◌, ⊎_elim, arith, map, zero, suc}
 use Rattle.std.proofs.lemmas.Bool.{cases_lt}
 use Rattle.std.proofs.lemmas.List.Edits.{length-insert, get_or-insert_below, get_or-insert_at, get_or-insert_above}
 use Rattle.mqtt_topic.specs.Levels.{levels}
@@ -7,7 +7,7 @@ use Rattle.mqtt_tree.specs.Tree.{AreOrdered, IsPlace, in_order}
 use Rattle.mqtt_tree.proofs.OrderLemmas.{order_tails}
 
 -- levels don't come after themselves
-order_itself : (fs : List (List ℕ)) → in_order fs fs ≡ true
+pub order_itself : (fs : List (List ℕ)) → in_order fs fs ≡ true
 order_itself [] = refl
 order_itself (f ∷ fs) = order_tails f fs fs ∙ order_itself fs
 
@@ -45,3 +45,10 @@ module _ (texts : List (List ℕ)) (filter : List ℕ) (place : ℕ) (o : AreOrd
       (cases_lt place j))
       (cases_lt place i))
       (cases_lt i place)
+
+-- what is put among others, by what it stands for
+pub map_insert : {X : Type 0} (f : X → List ℕ) (xs : List X) (i : ℕ) (x : X) → map f (insert xs i x) ≡ insert (map f xs) i (f x)
+map_insert f [] zero x = refl
+map_insert f [] (suc i) x = refl
+map_insert f (y ∷ ys) zero x = refl
+map_insert f (y ∷ ys) (suc i) x = ap (λ (ts : List (List ℕ)). f y ∷ ts) (map_insert f ys i x)
