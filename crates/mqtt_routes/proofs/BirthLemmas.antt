@@ -1,5 +1,5 @@
 -- Lemmas on births in order, each once.
-use Rattle.std.proofs.Common.{◌≡◌, ℕ, suc, ◌+◌, ◌<◌, ◌≤◌, Bool, true, false, cond, ◌||◌, List, [], ◌∷◌, length, get_or, refl, ap, sym, subst, ◌∙◌, nat_eq, nat_lt, arith, eqb-true, Option, Some, None}
+use Rattle.std.proofs.Common.{◌≡◌, ℕ, suc, ◌+◌, ◌<◌, ◌≤◌, Bool, true, false, cond, ◌||◌, List, [], ◌∷◌, get_or, refl, ap, sym, subst, ◌∙◌, nat_eq, nat_lt, arith, eqb-true, Option, Some, None}
 use Rattle.std.proofs.lemmas.Bool.Decides.{nat_tests}
 use Rattle.std.specs.Prelude.{⊤}
 use Rattle.std.specs.List.{list_any}
@@ -23,10 +23,12 @@ not_below x b h = by (nat_lt x b) refl h
 sorted_from : (b : ℕ) (bs : List ℕ) → IsSorted nat_cmp (b ∷ bs) → AreFrom b bs
 sorted_from b [] h = tt
 sorted_from b (x ∷ xs) h =
-    let first : is_lt (nat_cmp x b) ≡ false = h 0 0 (omega arith) (omega arith) in
-    (not_below x b first, sorted_from x xs (λ k d low l.
-      let more : suc k + 1 ≡ suc (k + 1) = omega arith in
-      sym (ap (λ n. is_lt (nat_cmp (get_or (b ∷ x ∷ xs) n d) (get_or (x ∷ xs) k d))) more) ∙ h (suc k) d (omega arith) (omega (arith, l))))
+    let first : is_lt (nat_cmp x b) ≡ false = h 0 0 (omega arith) (omega arith) in (
+      not_below x b first,
+      sorted_from x xs (λ k d low l.
+          let more : suc k + 1 ≡ suc (k + 1) = omega arith in
+          sym (ap (λ n. is_lt (nat_cmp (get_or (b ∷ x ∷ xs) n d) (get_or (x ∷ xs) k d))) more) ∙ h (suc k) d (omega arith) (omega (arith, l))),
+    )
 
 above_lower : (c b : ℕ) (bs : List ℕ) → c < b → AreAbove b bs → AreAbove c bs
 above_lower c b [] l above = tt

@@ -1,5 +1,5 @@
 -- Lemmas on the sessions that a publication may concern: the others get nothing (MQTT 5.0, 3.3.4, 4.8.2).
-use Rattle.std.proofs.Common.{◌≡◌, ℕ, ◌<◌, ◌≤◌, Bool, true, false, cond, not, ◌&&◌, ◌||◌, List, [], ◌∷◌, ◌++◌, refl, ap, sym, subst, ◌∙◌, nat_lt, nat_eq, arith, ⊎_elim, eqb-true}
+use Rattle.std.proofs.Common.{◌≡◌, ℕ, ◌<◌, Bool, true, false, cond, not, ◌&&◌, ◌||◌, List, [], ◌∷◌, ◌++◌, refl, ap, sym, subst, ◌∙◌, nat_lt, nat_eq, arith, ⊎_elim, eqb-true}
 use Rattle.std.proofs.lemmas.Bool.{cases_lt}
 use Rattle.std.proofs.lemmas.Bool.Decides.{nat_tests}
 use Rattle.std.specs.List.{list_any}
@@ -95,9 +95,9 @@ module _ (p : Publication) where
       ⊎_elim
       (λ l. omega (arith, l, after.0))
       (λ ge. ⊎_elim
-        (λ less. let none = ap concerns (absent y ys b less) in cc)
-        (λ le. omega (arith, after.0, ge, le))
-        (cases_lt b y.birth))
+      (λ less. let none = ap concerns (absent y ys b less) in cc)
+      (λ le. omega (arith, after.0, ge, le))
+      (cases_lt b y.birth))
       (cases_lt y.birth b)
 
   of_later : (x : Subscriber) (xs : List Subscriber) (bs : List ℕ) → AreAbove x.birth bs → of_births (x ∷ xs) bs ≡ of_births xs bs
@@ -138,27 +138,27 @@ module _ (p : Publication) where
     inner [] r cov = rest [] tt (covers_later [] cov) ∙ sym (put_by x xs (concerns x.subs) refl (missed [] cov refl))
     inner (b ∷ bs) r cov = ⊎_elim
         (λ l.
-          let none = absent x xs b l in
-          let gone : concerned (of_births (x ∷ xs) (b ∷ bs)) ≡ concerned (of_births (x ∷ xs) bs) =
-              put_by (subscriber b (subs_of b (x ∷ xs))) (of_births (x ∷ xs) bs) (concerns (subs_of b (x ∷ xs))) refl (ap concerns none) in
-          gone ∙ inner bs r.1 (λ d h. or_right (nat_eq d b) (list_any (nat_eq d) bs) (cov d h) (false_by (nat_eq d b) (λ e. let same = eqb-true d b e in let none_here = ap (λ n. concerns (subs_of n (x ∷ xs))) same ∙ ap concerns none in cc))))
+        let none = absent x xs b l in
+        let gone : concerned (of_births (x ∷ xs) (b ∷ bs)) ≡ concerned (of_births (x ∷ xs) bs) =
+        put_by (subscriber b (subs_of b (x ∷ xs))) (of_births (x ∷ xs) bs) (concerns (subs_of b (x ∷ xs))) refl (ap concerns none) in
+        gone ∙ inner bs r.1 (λ d h. or_right (nat_eq d b) (list_any (nat_eq d) bs) (cov d h) (false_by (nat_eq d b) (λ e. let same = eqb-true d b e in let none_here = ap (λ n. concerns (subs_of n (x ∷ xs))) same ∙ ap concerns none in cc))))
         (λ ge. ⊎_elim
-          (λ l.
-            let apart : nat_eq x.birth b ≡ false = grind (arith, nat_tests) in
-            let none : list_any (nat_eq x.birth) (b ∷ bs) ≡ false = ap (λ t. t || list_any (nat_eq x.birth) bs) apart ∙ not_above x.birth bs (above_lower x.birth b bs l r.0) in
-            ap concerned (of_later x xs (b ∷ bs) (l, above_lower x.birth b bs l r.0))
-            ∙ rest (b ∷ bs) r (covers_later (b ∷ bs) cov)
-            ∙ sym (put_by x xs (concerns x.subs) refl (missed (b ∷ bs) cov none)))
-          (λ le.
-            let same : x.birth ≡ b = omega (arith, ge, le) in
-            let above : AreAbove x.birth bs = subst (λ n. AreAbove n bs) (sym same) r.0 in
-            let others : concerned (of_births (x ∷ xs) bs) ≡ concerned xs =
-                ap concerned (of_later x xs bs above)
-                ∙ rest bs r.1 (λ d h. let later = found_later x.birth xs d o.0 h in let apart : nat_eq d b ≡ false = grind (arith, nat_tests) in or_right (nat_eq d b) (list_any (nat_eq d) bs) (covers_later (b ∷ bs) cov d h) apart) in
-            ap (λ (ss : List Subscription). concerned (subscriber b ss ∷ of_births (x ∷ xs) bs)) (here x xs b same)
-            ∙ ap (λ (n : ℕ). concerned (subscriber n x.subs ∷ of_births (x ∷ xs) bs)) (sym same)
-            ∙ ap (λ (ys : List Subscriber). cond (concerns x.subs) (x ∷ ys) ys) others)
-          (cases_lt x.birth b))
+        (λ l.
+        let apart : nat_eq x.birth b ≡ false = grind (arith, nat_tests) in
+        let none : list_any (nat_eq x.birth) (b ∷ bs) ≡ false = ap (λ t. t || list_any (nat_eq x.birth) bs) apart ∙ not_above x.birth bs (above_lower x.birth b bs l r.0) in
+        ap concerned (of_later x xs (b ∷ bs) (l, above_lower x.birth b bs l r.0))
+        ∙ rest (b ∷ bs) r (covers_later (b ∷ bs) cov)
+        ∙ sym (put_by x xs (concerns x.subs) refl (missed (b ∷ bs) cov none)))
+        (λ le.
+        let same : x.birth ≡ b = omega (arith, ge, le) in
+        let above : AreAbove x.birth bs = subst (λ n. AreAbove n bs) (sym same) r.0 in
+        let others : concerned (of_births (x ∷ xs) bs) ≡ concerned xs =
+        ap concerned (of_later x xs bs above)
+        ∙ rest bs r.1 (λ d h. let later = found_later x.birth xs d o.0 h in let apart : nat_eq d b ≡ false = grind (arith, nat_tests) in or_right (nat_eq d b) (list_any (nat_eq d) bs) (covers_later (b ∷ bs) cov d h) apart) in
+        ap (λ (ss : List Subscription). concerned (subscriber b ss ∷ of_births (x ∷ xs) bs)) (here x xs b same)
+        ∙ ap (λ (n : ℕ). concerned (subscriber n x.subs ∷ of_births (x ∷ xs) bs)) (sym same)
+        ∙ ap (λ (ys : List Subscriber). cond (concerns x.subs) (x ∷ ys) ys) others)
+        (cases_lt x.birth b))
         (cases_lt b x.birth)
 
   same_concerned : (xs : List Subscriber) → AreInOrder xs → (bs : List ℕ) → AreBirths bs → Covers xs bs → concerned (of_births xs bs) ≡ concerned xs

@@ -1,5 +1,5 @@
 -- Lemmas on all subscriptions in the order of their filters (MQTT 5.0, 4.7).
-use Rattle.std.proofs.Common.{◌≡◌, ℕ, zero, suc, ◌+◌, ◌<◌, ◌≤◌, Bool, true, false, cond, ◌&&◌, ◌||◌, List, [], ◌∷◌, ◌++◌, length, map, get_or, insert, refl, sym, ap, subst, ◌∙◌, nat_lt, nat_eq, arith, eqb-true}
+use Rattle.std.proofs.Common.{◌≡◌, ℕ, zero, suc, ◌+◌, ◌<◌, ◌≤◌, Bool, true, false, cond, ◌&&◌, ◌||◌, List, [], ◌∷◌, length, map, get_or, insert, refl, sym, ap, subst, ◌∙◌, nat_lt, nat_eq, arith, eqb-true}
 use Rattle.std.specs.List.{count_by, list_any}
 use Rattle.std.proofs.lemmas.Bool.Decides.{nat_tests}
 use Rattle.std.proofs.lemmas.List.Sums.{sum_by-cons, sum_by-insert}
@@ -7,7 +7,6 @@ use Rattle.mqtt_topic.specs.Levels.{levels}
 use Rattle.mqtt_tree.specs.Tree.{AreOrdered, IsPlace, in_order, once}
 use Rattle.mqtt_tree.proofs.PlaceLemmas.{order_itself, put_ordered, map_insert}
 use Rattle.mqtt_routes.specs.declared.spot.Spot.{Spot}
-use Rattle.mqtt_routes.specs.declared.subscription.Subscription.{Subscription}
 use Rattle.mqtt_routes.specs.Subscriptions.{Subscriber, subs_of}
 use Rattle.mqtt_routes.proofs.SpotLemmas.{split, lt-yes, lt-no, eq-yes, eq-below, eq-above}
 use Rattle.mqtt_routes.specs.Spots.{matched_at, text_of, texts_of, is_spot, IsFirst, AreRising, IsIndex}

@@ -1,5 +1,5 @@
 -- Lemmas on one subscription that leaves the order of filters: those of its session behind it move down (MQTT 5.0, 3.10.4, 4.7).
-use Rattle.std.proofs.Common.{◌≡◌, ℕ, zero, suc, ◌+◌, ◌-◌, ◌<◌, ◌≤◌, Bool, true, false, cond, not, ◌&&◌, ◌||◌, List, [], ◌∷◌, length, map, filter, refl, sym, ap, subst, ◌∙◌, nat_lt, nat_eq, arith, eqb-true}
+use Rattle.std.proofs.Common.{◌≡◌, ℕ, suc, ◌+◌, ◌-◌, ◌<◌, ◌≤◌, Bool, true, false, cond, not, ◌&&◌, List, [], ◌∷◌, length, map, filter, refl, sym, ap, subst, ◌∙◌, nat_lt, nat_eq, arith, eqb-true}
 use Rattle.std.specs.List.{count_by}
 use Rattle.std.proofs.lemmas.Bool.{and_parts}
 use Rattle.std.proofs.lemmas.Bool.Decides.{nat_tests}
@@ -41,7 +41,6 @@ module _ (b a : ℕ) (old new : List Subscriber)
     (above : (n : ℕ) → a < n → matched_at (subs_of b new) (n - 1) ≡ matched_at (subs_of b old) n)
     (long : suc (length (subs_of b new)) ≡ length (subs_of b old))
     (within : a < length (subs_of b old)) where
-
   moved_by : (d e : Bool) (s : Spot) → nat_eq b s.birth ≡ d → nat_lt a s.at ≡ e → (d && nat_eq a s.at) ≡ false →
       text_of new (cond (d && e) (record { birth = s.birth; at = s.at - 1 }) s) ≡ text_of old s
   moved_by true true s d e h =

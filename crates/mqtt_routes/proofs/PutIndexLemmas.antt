@@ -5,7 +5,7 @@ use Rattle.mqtt_topic.specs.Filters.{matching_part_of}
 use Rattle.mqtt_tree.specs.Tree.{IsPlace}
 use Rattle.mqtt_routes.specs.declared.spot.Spot.{Spot}
 use Rattle.mqtt_routes.specs.declared.subscription.Subscription.{Subscription}
-use Rattle.mqtt_routes.specs.Subscriptions.{Subscriber, AreInOrder, subs_of, with_subs, put, has_filter, subscribed, standing}
+use Rattle.mqtt_routes.specs.Subscriptions.{Subscriber, AreInOrder, subs_of, put, has_filter, subscribed, standing}
 use Rattle.mqtt_routes.specs.Spots.{matched_at, texts_of, IsIndex}
 use Rattle.mqtt_routes.proofs.PlaceLemmas.{put-push}
 use Rattle.mqtt_routes.proofs.SubsLemmas.{subs_of-with_subs, put_length, put_matched, push_matched, push_matched_last, length_push}

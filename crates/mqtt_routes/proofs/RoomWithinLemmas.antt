@@ -1,5 +1,5 @@
 -- Lemmas on room that is at most so much (MQTT 5.0, 3.8).
-use Rattle.std.proofs.Common.{◌≡◌, ℕ, suc, ◌+◌, ◌<◌, ◌≤◌, Bool, true, false, cond, List, [], ◌∷◌, min, refl, sym, ap, ◌∙◌, nat_eq, arith, Result, Ok, Err, OnOk, OnErr}
+use Rattle.std.proofs.Common.{◌≡◌, ℕ, ◌<◌, ◌≤◌, Bool, true, false, cond, List, [], ◌∷◌, min, refl, nat_eq, arith, Result, Ok, Err, OnOk, OnErr}
 use Rattle.std.specs.Prelude.{nat_le}
 use Rattle.std.proofs.lemmas.Bool.Decides.{nat_tests}
 use Rattle.mqtt_routes.specs.Subscriptions.{room_of}

@@ -1,5 +1,5 @@
 -- Lemmas on sessions by birth, as a map has them (MQTT 5.0, 3.8, 3.10).
-use Rattle.std.proofs.Common.{◌≡◌, ℕ, zero, suc, ◌<◌, ◌≤◌, ◌+◌, Bool, true, false, cond, List, [], ◌∷◌, ◌++◌, length, drop, insert, slice_index_or, slice_get, refl, sym, ap, subst, ◌∙◌, ⊎_elim, eqb-true, nat_lt, nat_eq, Option, Some, None, arith}
+use Rattle.std.proofs.Common.{◌≡◌, ℕ, zero, suc, ◌<◌, ◌≤◌, ◌+◌, Bool, true, false, cond, List, [], ◌∷◌, ◌++◌, length, drop, insert, slice_index_or, slice_get, refl, sym, ap, subst, ◌∙◌, ⊎_elim, eqb-true, nat_lt, nat_eq, Some, None, arith}
 use Rattle.std.proofs.lemmas.Bool.{cases_lt}
 use Rattle.std.proofs.lemmas.List.{length-map}
 use Rattle.std.proofs.lemmas.Bool.Decides.{nat_tests}

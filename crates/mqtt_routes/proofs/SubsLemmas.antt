@@ -1,5 +1,5 @@
 -- Lemmas on the subscriptions of a session once those of one have changed (MQTT 5.0, 3.8, 3.10).
-use Rattle.std.proofs.Common.{slice_get, Option, Some, None, ◌≡◌, ℕ, zero, suc, ◌+◌, ◌<◌, ◌≤◌, Bool, true, false, cond, not, ◌||◌, List, [], ◌∷◌, ◌++◌, length, refl, sym, ap, ◌∙◌, nat_lt, nat_eq, arith, bytes_eq}
+use Rattle.std.proofs.Common.{slice_get, Some, None, ◌≡◌, ℕ, zero, suc, ◌+◌, ◌<◌, ◌≤◌, Bool, true, false, cond, not, ◌||◌, List, [], ◌∷◌, ◌++◌, length, refl, sym, ap, ◌∙◌, nat_lt, nat_eq, arith}
 use Rattle.std.specs.List.{position, position_or_len}
 use Rattle.std.proofs.lemmas.Bool.Decides.{nat_tests}
 use Rattle.std.proofs.lemmas.Slice.Eq.{bytes_eq-Decides}
@@ -27,51 +27,51 @@ module _ (b c : ℕ) where
       (λ l. rw (eq-above c b l, lt-yes b c l) refl)
   subs_of-with_subs subs (x ∷ xs) o = split x.birth b
       (λ l. split x.birth c
-        (λ m. rw (lt-yes x.birth b l, lt-yes x.birth c m) (subs_of-with_subs subs xs o.1))
-        (λ s. rw (lt-yes x.birth b l, lt-no x.birth c (omega (arith, s)), eq-yes x.birth c s, eq-below c b (omega (arith, l, s))) refl)
-        (λ m. rw (lt-yes x.birth b l, lt-no x.birth c (omega (arith, m)), eq-above x.birth c m, eq-below c b (omega (arith, l, m))) refl))
+      (λ m. rw (lt-yes x.birth b l, lt-yes x.birth c m) (subs_of-with_subs subs xs o.1))
+      (λ s. rw (lt-yes x.birth b l, lt-no x.birth c (omega (arith, s)), eq-yes x.birth c s, eq-below c b (omega (arith, l, s))) refl)
+      (λ m. rw (lt-yes x.birth b l, lt-no x.birth c (omega (arith, m)), eq-above x.birth c m, eq-below c b (omega (arith, l, m))) refl))
       (λ e. split c b
-        (λ l. rw (lt-no x.birth b (omega (arith, e)), eq-yes x.birth b e, eq-below c b l, lt-no b c (omega (arith, l)), eq-above b c l, lt-no x.birth c (omega (arith, l, e)), eq-above x.birth c (omega (arith, l, e))) refl)
-        (λ s. rw (lt-no x.birth b (omega (arith, e)), eq-yes x.birth b e, eq-yes c b s, lt-no b c (omega (arith, s)), eq-yes b c (sym s)) refl)
-        (λ l. rw (lt-no x.birth b (omega (arith, e)), eq-yes x.birth b e, eq-above c b l, lt-yes b c l, lt-yes x.birth c (omega (arith, l, e))) refl))
+      (λ l. rw (lt-no x.birth b (omega (arith, e)), eq-yes x.birth b e, eq-below c b l, lt-no b c (omega (arith, l)), eq-above b c l, lt-no x.birth c (omega (arith, l, e)), eq-above x.birth c (omega (arith, l, e))) refl)
+      (λ s. rw (lt-no x.birth b (omega (arith, e)), eq-yes x.birth b e, eq-yes c b s, lt-no b c (omega (arith, s)), eq-yes b c (sym s)) refl)
+      (λ l. rw (lt-no x.birth b (omega (arith, e)), eq-yes x.birth b e, eq-above c b l, lt-yes b c l, lt-yes x.birth c (omega (arith, l, e))) refl))
       (λ l. split c b
-        (λ m. rw (lt-no x.birth b (omega (arith, l)), eq-above x.birth b l, eq-below c b m, lt-no b c (omega (arith, m)), eq-above b c m, lt-no x.birth c (omega (arith, l, m)), eq-above x.birth c (omega (arith, l, m))) refl)
-        (λ s. rw (lt-no x.birth b (omega (arith, l)), eq-above x.birth b l, eq-yes c b s, lt-no b c (omega (arith, s)), eq-yes b c (sym s)) refl)
-        (λ m. rw (lt-no x.birth b (omega (arith, l)), eq-above x.birth b l, eq-above c b m, lt-yes b c m) refl))
+      (λ m. rw (lt-no x.birth b (omega (arith, l)), eq-above x.birth b l, eq-below c b m, lt-no b c (omega (arith, m)), eq-above b c m, lt-no x.birth c (omega (arith, l, m)), eq-above x.birth c (omega (arith, l, m))) refl)
+      (λ s. rw (lt-no x.birth b (omega (arith, l)), eq-above x.birth b l, eq-yes c b s, lt-no b c (omega (arith, s)), eq-yes b c (sym s)) refl)
+      (λ m. rw (lt-no x.birth b (omega (arith, l)), eq-above x.birth b l, eq-above c b m, lt-yes b c m) refl))
 
   -- it loses the one to a filter
   pub subs_of-unsubscribed : (text : List ℕ) (xs : List Subscriber) → AreInOrder xs → subs_of c (unsubscribed b text xs) ≡ cond (nat_eq c b) (without text (subs_of b xs)) (subs_of c xs)
   subs_of-unsubscribed text [] o = none_either (nat_eq c b)
   subs_of-unsubscribed text (x ∷ xs) o = split x.birth b
       (λ l. split x.birth c
-        (λ m. rw (lt-yes x.birth b l, lt-yes x.birth c m) (subs_of-unsubscribed text xs o.1))
-        (λ s. rw (lt-yes x.birth b l, lt-no x.birth c (omega (arith, s)), eq-yes x.birth c s, eq-below c b (omega (arith, l, s))) refl)
-        (λ m. rw (lt-yes x.birth b l, lt-no x.birth c (omega (arith, m)), eq-above x.birth c m, eq-below c b (omega (arith, l, m))) refl))
+      (λ m. rw (lt-yes x.birth b l, lt-yes x.birth c m) (subs_of-unsubscribed text xs o.1))
+      (λ s. rw (lt-yes x.birth b l, lt-no x.birth c (omega (arith, s)), eq-yes x.birth c s, eq-below c b (omega (arith, l, s))) refl)
+      (λ m. rw (lt-yes x.birth b l, lt-no x.birth c (omega (arith, m)), eq-above x.birth c m, eq-below c b (omega (arith, l, m))) refl))
       (λ e. split c b
-        (λ l. rw (lt-no x.birth b (omega (arith, e)), eq-yes x.birth b e, eq-below c b l, lt-no b c (omega (arith, l)), eq-above b c l, lt-no x.birth c (omega (arith, l, e)), eq-above x.birth c (omega (arith, l, e))) refl)
-        (λ s. rw (lt-no x.birth b (omega (arith, e)), eq-yes x.birth b e, eq-yes c b s, lt-no b c (omega (arith, s)), eq-yes b c (sym s)) refl)
-        (λ l. rw (lt-no x.birth b (omega (arith, e)), eq-yes x.birth b e, eq-above c b l, lt-yes b c l, lt-yes x.birth c (omega (arith, l, e))) refl))
+      (λ l. rw (lt-no x.birth b (omega (arith, e)), eq-yes x.birth b e, eq-below c b l, lt-no b c (omega (arith, l)), eq-above b c l, lt-no x.birth c (omega (arith, l, e)), eq-above x.birth c (omega (arith, l, e))) refl)
+      (λ s. rw (lt-no x.birth b (omega (arith, e)), eq-yes x.birth b e, eq-yes c b s, lt-no b c (omega (arith, s)), eq-yes b c (sym s)) refl)
+      (λ l. rw (lt-no x.birth b (omega (arith, e)), eq-yes x.birth b e, eq-above c b l, lt-yes b c l, lt-yes x.birth c (omega (arith, l, e))) refl))
       (λ l. split c b
-        (λ m. rw (lt-no x.birth b (omega (arith, l)), eq-above x.birth b l, eq-below c b m) refl)
-        (λ s. rw (lt-no x.birth b (omega (arith, l)), eq-above x.birth b l, eq-yes c b s, lt-no x.birth c (omega (arith, l, s)), eq-above x.birth c (omega (arith, l, s))) refl)
-        (λ m. rw (lt-no x.birth b (omega (arith, l)), eq-above x.birth b l, eq-above c b m) refl))
+      (λ m. rw (lt-no x.birth b (omega (arith, l)), eq-above x.birth b l, eq-below c b m) refl)
+      (λ s. rw (lt-no x.birth b (omega (arith, l)), eq-above x.birth b l, eq-yes c b s, lt-no x.birth c (omega (arith, l, s)), eq-above x.birth c (omega (arith, l, s))) refl)
+      (λ m. rw (lt-no x.birth b (omega (arith, l)), eq-above x.birth b l, eq-above c b m) refl))
 
   -- it leaves
   pub subs_of-without_session : (xs : List Subscriber) → AreInOrder xs → subs_of c (without_session b xs) ≡ cond (nat_eq c b) [] (subs_of c xs)
   subs_of-without_session [] o = none_either (nat_eq c b)
   subs_of-without_session (x ∷ xs) o = split x.birth b
       (λ l. split x.birth c
-        (λ m. rw (lt-yes x.birth b l, lt-yes x.birth c m) (subs_of-without_session xs o.1))
-        (λ s. rw (lt-yes x.birth b l, lt-no x.birth c (omega (arith, s)), eq-yes x.birth c s, eq-below c b (omega (arith, l, s))) refl)
-        (λ m. rw (lt-yes x.birth b l, lt-no x.birth c (omega (arith, m)), eq-above x.birth c m, eq-below c b (omega (arith, l, m))) refl))
+      (λ m. rw (lt-yes x.birth b l, lt-yes x.birth c m) (subs_of-without_session xs o.1))
+      (λ s. rw (lt-yes x.birth b l, lt-no x.birth c (omega (arith, s)), eq-yes x.birth c s, eq-below c b (omega (arith, l, s))) refl)
+      (λ m. rw (lt-yes x.birth b l, lt-no x.birth c (omega (arith, m)), eq-above x.birth c m, eq-below c b (omega (arith, l, m))) refl))
       (λ e. split c b
-        (λ l. rw (lt-no x.birth b (omega (arith, e)), eq-yes x.birth b e, eq-below c b l, lt-no x.birth c (omega (arith, e, l)), eq-above x.birth c (omega (arith, e, l))) (none_before x.birth c xs (omega (arith, e, l)) o.0))
-        (λ s. rw (lt-no x.birth b (omega (arith, e)), eq-yes x.birth b e, eq-yes c b s) (none_before x.birth c xs (omega (arith, e, s)) o.0))
-        (λ l. rw (lt-no x.birth b (omega (arith, e)), eq-yes x.birth b e, eq-above c b l, lt-yes x.birth c (omega (arith, e, l))) refl))
+      (λ l. rw (lt-no x.birth b (omega (arith, e)), eq-yes x.birth b e, eq-below c b l, lt-no x.birth c (omega (arith, e, l)), eq-above x.birth c (omega (arith, e, l))) (none_before x.birth c xs (omega (arith, e, l)) o.0))
+      (λ s. rw (lt-no x.birth b (omega (arith, e)), eq-yes x.birth b e, eq-yes c b s) (none_before x.birth c xs (omega (arith, e, s)) o.0))
+      (λ l. rw (lt-no x.birth b (omega (arith, e)), eq-yes x.birth b e, eq-above c b l, lt-yes x.birth c (omega (arith, e, l))) refl))
       (λ l. split c b
-        (λ m. rw (lt-no x.birth b (omega (arith, l)), eq-above x.birth b l, eq-below c b m) refl)
-        (λ s. rw (lt-no x.birth b (omega (arith, l)), eq-above x.birth b l, eq-yes c b s, lt-no x.birth c (omega (arith, l, s)), eq-above x.birth c (omega (arith, l, s))) refl)
-        (λ m. rw (lt-no x.birth b (omega (arith, l)), eq-above x.birth b l, eq-above c b m) refl))
+      (λ m. rw (lt-no x.birth b (omega (arith, l)), eq-above x.birth b l, eq-below c b m) refl)
+      (λ s. rw (lt-no x.birth b (omega (arith, l)), eq-above x.birth b l, eq-yes c b s, lt-no x.birth c (omega (arith, l, s)), eq-above x.birth c (omega (arith, l, s))) refl)
+      (λ m. rw (lt-no x.birth b (omega (arith, l)), eq-above x.birth b l, eq-above c b m) refl))
 
 -- ---- a filter is subscribed again
 
@@ -141,12 +141,12 @@ module _ (text : List ℕ) where
   unsubscribed_none b [] h = refl
   unsubscribed_none b (x ∷ xs) h = split x.birth b
       (λ l. rw (lt-yes x.birth b l) (ap (λ (ys : List Subscriber). x ∷ ys)
-        (unsubscribed_none b xs (sym (ap (λ t. has_filter text (cond t (subs_of b xs) (cond (nat_eq x.birth b) x.subs []))) (lt-yes x.birth b l)) ∙ h))))
+      (unsubscribed_none b xs (sym (ap (λ t. has_filter text (cond t (subs_of b xs) (cond (nat_eq x.birth b) x.subs []))) (lt-yes x.birth b l)) ∙ h))))
       (λ e. rw (lt-no x.birth b (omega (arith, e)), eq-yes x.birth b e)
-        (ap (λ (ss : List Subscription). subscriber b ss ∷ xs) (without_none x.subs
-          (sym (ap (λ t. has_filter text (cond t (subs_of b xs) (cond (nat_eq x.birth b) x.subs []))) (lt-no x.birth b (omega (arith, e)))
-          ∙ ap (λ t. has_filter text (cond t x.subs [])) (eq-yes x.birth b e)) ∙ h))
-        ∙ ap (λ n. subscriber n x.subs ∷ xs) (sym e)))
+      (ap (λ (ss : List Subscription). subscriber b ss ∷ xs) (without_none x.subs
+      (sym (ap (λ t. has_filter text (cond t (subs_of b xs) (cond (nat_eq x.birth b) x.subs []))) (lt-no x.birth b (omega (arith, e)))
+      ∙ ap (λ t. has_filter text (cond t x.subs [])) (eq-yes x.birth b e)) ∙ h))
+      ∙ ap (λ n. subscriber n x.subs ∷ xs) (sym e)))
       (λ l. rw (lt-no x.birth b (omega (arith, l)), eq-above x.birth b l) refl)
 
   place_by : (t : Bool) (k len a : ℕ) → nat_lt k len ≡ t → cond t (Some k) None ≡ Some a → (k ≡ a) × (a < len)

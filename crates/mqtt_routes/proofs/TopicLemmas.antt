@@ -1,5 +1,5 @@
 -- Lemmas on the sessions that are found by the filters that match a topic (MQTT 5.0, 4.7).
-use Rattle.std.proofs.Common.{◌≡◌, ℕ, zero, suc, ◌+◌, ◌<◌, ◌≤◌, Bool, true, false, cond, ◌&&◌, ◌||◌, List, [], ◌∷◌, ◌++◌, length, map, take, get_or, refl, sym, ap, subst, ◌∙◌, nat_lt, nat_eq, arith, eqb-true}
+use Rattle.std.proofs.Common.{◌≡◌, ℕ, zero, suc, ◌+◌, ◌<◌, ◌≤◌, Bool, true, false, ◌&&◌, ◌||◌, List, [], ◌∷◌, ◌++◌, length, map, take, get_or, refl, sym, ap, ◌∙◌, nat_lt, nat_eq, arith, eqb-true}
 use Rattle.std.specs.List.{count_by, list_any}
 use Rattle.std.proofs.lemmas.Bool.{and_parts}
 use Rattle.std.proofs.lemmas.Bool.Decides.{nat_tests}
@@ -65,7 +65,7 @@ concerned_found p sessions spots found births index are pushed b h =
     let same_birth : b ≡ s.birth = eqb-true b s.birth parts.0 in
     let same_at : n ≡ s.at = eqb-true n s.at parts.1 in
     let text : get_or (texts_of sessions spots) k [] ≡ matched_at (subs_of b sessions) n =
-        text_at (text_of sessions) spots k at.1 ∙ sym (ap (λ c. matched_at (subs_of c sessions) n) same_birth ∙ ap (λ i. matched_at (subs_of s.birth sessions) i) same_at) in
+    text_at (text_of sessions) spots k at.1 ∙ sym (ap (λ c. matched_at (subs_of c sessions) n) same_birth ∙ ap (λ i. matched_at (subs_of s.birth sessions) i) same_at) in
     let within : nat_lt k (length (texts_of sessions spots)) ≡ true = let l = at.1 in let e = length-map spots (text_of sessions) in grind (arith, nat_tests) in
     let match : is_match (get_or (texts_of sessions spots) k []) p.topic ≡ true = ap (λ t. is_match t p.topic) text ∙ m.2 in
     let counted : count_by (nat_eq k) found ≡ 1 = are k ∙ ap (λ t. once (t && is_match (get_or (texts_of sessions spots) k []) p.topic)) within ∙ ap once match in

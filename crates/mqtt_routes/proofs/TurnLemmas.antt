@@ -1,5 +1,5 @@
 -- Lemmas on a walk over sessions, by birth (MQTT 5.0, 3.3.4, 4.8.2).
-use Rattle.std.proofs.Common.{◌≡◌, ℕ, ◌+◌, ◌<◌, List, [], ◌∷◌, ◌++◌, drop, get_or, length, Option, Some, ap, sym, ◌∙◌, append_assoc}
+use Rattle.std.proofs.Common.{◌≡◌, ℕ, ◌+◌, ◌<◌, List, ◌++◌, drop, get_or, length, Option, ap, sym, ◌∙◌, append_assoc}
 use Rattle.std.specs.Option.{option_to_list}
 use Rattle.std.proofs.lemmas.List.{drop_more}
 use Rattle.mqtt_routes.specs.Subscriptions.{Subscriber, subs_of}

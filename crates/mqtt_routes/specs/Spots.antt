@@ -1,5 +1,5 @@
 -- Subscriptions of all sessions in the order of the levels of their filters, as a tree has them (MQTT 5.0, 4.7).
-use Rattle.std.specs.Prelude.{◌≡◌, ⊤, ℕ, zero, suc, ◌+◌, ◌-◌, ◌<◌, Bool, true, false, cond, ◌&&◌, ◌||◌, not, List, [], ◌∷◌, length, map, min, nat_eq, nat_lt, Option, Some, None}
+use Rattle.std.specs.Prelude.{◌≡◌, ⊤, ℕ, zero, suc, ◌-◌, ◌<◌, Bool, true, false, cond, ◌&&◌, List, [], ◌∷◌, length, map, min, nat_eq, nat_lt, Option, Some, None}
 use Rattle.std.specs.List.{count_by, list_any, position}
 use Rattle.mqtt_topic.specs.Levels.{levels}
 use Rattle.mqtt_topic.specs.Filters.{matching_part_of}

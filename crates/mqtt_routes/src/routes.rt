@@ -149,9 +149,7 @@ impl<M: Drop> Routes<M> {
         if !has_room(at, direct.as_slice()) {
             return Err(RoutesFault::Full);
         }
-        let members = self
-            .subscribers
-            .members(&publication, births.as_slice())?;
+        let members = self.subscribers.members(&publication, births.as_slice())?;
         let served = serve(
             self.alloc,
             at,

@@ -182,9 +182,7 @@ impl Subscribers {
         ensures fault { IfErr result (λ fault. fault ≡ RoutesFault.Memory) }
     {
         match self.sessions.get(&birth) {
-            Some(subscriptions) => {
-                subscriptions.direct_copy(self.alloc, publication, at, birth)
-            }
+            Some(subscriptions) => { subscriptions.direct_copy(self.alloc, publication, at, birth) }
             None => Ok(None),
         }
     }

@@ -1,4 +1,4 @@
-use Rattle.std.proofs.Common.{◌≡◌, sym, ap, ◌∙◌}
+use Rattle.std.proofs.Common.{sym, ap, ◌∙◌}
 use Rattle.mqtt_topic.specs.Filters.{matching_part_of}
 use Rattle.mqtt_routes.specs.Spots.{matched_at}
 use Rattle.mqtt_routes.proofs.SubsLemmas.{matched_get, matched_none}

@@ -1,4 +1,4 @@
-use Rattle.std.proofs.Common.{◌≡◌, [], subst, sym, ap, ◌∙◌}
+use Rattle.std.proofs.Common.{◌≡◌, subst, sym, ap, ◌∙◌}
 use Rattle.mqtt_routes.specs.Subscriptions.{subs_of}
 use Rattle.mqtt_routes.proofs.SpotLemmas.{subs_of-found, subs_of-none}
 use Rattle.std.specs.Prelude.{OnOk}

@@ -1,4 +1,4 @@
-use Rattle.std.proofs.Common.{◌≡◌, ◌++◌, get_or, sym, ◌∙◌, ap, append-nil}
+use Rattle.std.proofs.Common.{◌≡◌, ◌++◌, sym, ◌∙◌, ap, append-nil}
 use Rattle.std.specs.Option.{option_to_list}
 use Rattle.mqtt_routes.proofs.TurnLemmas.{directs-next}
 use Rattle.mqtt_routes.proofs.subscribers.Subscribers.directs.Goals as goal

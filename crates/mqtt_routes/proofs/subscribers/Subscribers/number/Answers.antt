@@ -1,4 +1,4 @@
-use Rattle.std.proofs.Common.{◌≡◌, [], length, sym, ap, ◌∙◌}
+use Rattle.std.proofs.Common.{sym, ap, ◌∙◌}
 use Rattle.mqtt_routes.specs.Subscriptions.{has_filter, subs_of}
 use Rattle.mqtt_routes.proofs.SpotLemmas.{subs_of-found, subs_of-none}
 use Rattle.mqtt_routes.specs.Spots.{number_of}

@@ -3,7 +3,7 @@ use Rattle.std.specs.List.{list_any}
 use Rattle.std.proofs.lemmas.List.{take_all}
 use Rattle.std.proofs.lemmas.List.Sorted.{list_any-IsPermutation}
 use Rattle.mqtt_tree.specs.Tree.{AreOrdered, AreMatching}
-use Rattle.mqtt_routes.specs.Spots.{AreBirths, AreConcerned, IsIndex, births_once, texts_of}
+use Rattle.mqtt_routes.specs.Spots.{AreBirths, IsIndex, births_once, texts_of}
 use Rattle.mqtt_routes.proofs.IndexLemmas.{nowhere, ordered_from}
 use Rattle.mqtt_routes.proofs.BirthLemmas.{once_rises, once_keeps}
 use Rattle.mqtt_routes.proofs.TopicLemmas.{concerned_found, pushed_more, pushed_none}
@@ -29,7 +29,7 @@ returns-clause-births c =
     let are = subst (λ t. AreMatching (texts_of now.sessions now.spots) t found) (ap (λ x. x.topic) c.publication.view_is) c.in_ok-found.ensures in
     let end : length found ≤ c.loop-number.number-index = omega (arith, c.loop-number-test.false, ap length c.as_slice-number-items.ensures.value) in
     let pushed : (i : ℕ) → list_any (nat_eq i) found ≡ true → i < length now.spots → list_any (nat_eq (get_or now.spots i nowhere).birth) raw ≡ true =
-        λ i h l. c.loop-number.invariant i (ap (λ ns. list_any (nat_eq i) (take c.loop-number.number-index ns)) c.as_slice-number-items.ensures.value ∙ ap (list_any (nat_eq i)) (take_all c.loop-number.number-index found end) ∙ h) l in
+    λ i h l. c.loop-number.invariant i (ap (λ ns. list_any (nat_eq i) (take c.loop-number.number-index ns)) c.as_slice-number-items.ensures.value ∙ ap (list_any (nat_eq i)) (take_all c.loop-number.number-index found end) ∙ h) l in
     if_ok _ _ c.once_each.result
     (λ births e. record {
       rising = subst AreBirths (sym (e ∙ ap births_once c.as_slice-2.ensures.value)) (once_rises sorted c.sort_unstable.ensures.sorted);

@@ -1,8 +1,8 @@
 use Rattle.std.proofs.Common.{◌≡◌, ℕ, true, false, cond, not, nat_eq, [], subst, sym, ap, ◌∙◌, rules, arith}
 use Rattle.std.proofs.lemmas.Bool.Decides.{nat_tests}
 use Rattle.std.proofs.lemmas.Fn.{filter_same}
-use Rattle.mqtt_routes.specs.Subscriptions.{subs_of, without_session}
-use Rattle.mqtt_routes.specs.Spots.{IsIndex, without_birth}
+use Rattle.mqtt_routes.specs.Subscriptions.{subs_of}
+use Rattle.mqtt_routes.specs.Spots.{IsIndex}
 use Rattle.mqtt_routes.proofs.SubsLemmas.{subs_of-without_session}
 use Rattle.mqtt_routes.proofs.RemoveLemmas.{dropped_index, filter_birth}
 use Rattle.mqtt_routes.proofs.subscription_tree.SubscriptionTree.drop_session.Goals as goal

@@ -1,9 +1,9 @@
-use Rattle.std.proofs.Common.{◌≡◌, ◌-◌, ◌<◌, ◌≤◌, length, min, subst, sym, ap, ◌∙◌, arith}
+use Rattle.std.proofs.Common.{◌-◌, ◌<◌, ◌≤◌, length, subst, sym, ap, ◌∙◌, arith}
 use Rattle.std.specs.Prelude.{nat_le}
 use Rattle.std.specs.Vec.{vec_capacity, vec_len}
 use Rattle.std.proofs.lemmas.Result.{err_from_is_err_and, on_ok_weaker, on_err_weaker}
 use Rattle.mqtt_routes.specs.Subscriptions.{filters_of, room_of}
-use Rattle.mqtt_routes.specs.Spots.{IsIndex, rooms_within}
+use Rattle.mqtt_routes.specs.Spots.{IsIndex}
 use Rattle.mqtt_routes.proofs.RoomLemmas.{length-filters_of}
 use Rattle.mqtt_routes.proofs.RoomWithinLemmas.{by_result, room_within, both_rooms, less_room, less_most}
 use Rattle.mqtt_routes.proofs.PutIndexLemmas.{stood_index}

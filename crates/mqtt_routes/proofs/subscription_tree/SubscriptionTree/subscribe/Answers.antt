@@ -1,4 +1,4 @@
-use Rattle.std.proofs.Common.{◌≡◌, ◌+◌, ◌-◌, ◌<◌, ◌≤◌, suc, true, false, length, insert, min, subst, sym, ap, ◌∙◌, arith}
+use Rattle.std.proofs.Common.{◌≡◌, ◌-◌, ◌<◌, ◌≤◌, suc, true, false, length, insert, subst, sym, ap, ◌∙◌, arith}
 use Rattle.std.specs.Prelude.{nat_le}
 use Rattle.std.specs.Vec.{vec_capacity, vec_len}
 use Rattle.std.proofs.lemmas.Result.{err_from_is_err_and, on_ok_weaker, on_err_weaker}
@@ -7,7 +7,7 @@ use Rattle.mqtt_tree.specs.Tree.{AreOrdered, IsPlace}
 use Rattle.mqtt_topic.specs.Filters.{matching_part_of}
 use Rattle.mqtt_routes.specs.declared.spot.Spot.{Spot}
 use Rattle.mqtt_routes.specs.Subscriptions.{has_filter, subs_of, room_of, subscribed}
-use Rattle.mqtt_routes.specs.Spots.{IsIndex, texts_of, rooms_within}
+use Rattle.mqtt_routes.specs.Spots.{IsIndex, texts_of}
 use Rattle.mqtt_routes.proofs.IndexLemmas.{ordered_from}
 use Rattle.mqtt_routes.proofs.RoomWithinLemmas.{by_result, room_within, both_rooms, room_there, most_there}
 use Rattle.mqtt_routes.proofs.PutIndexLemmas.{replaced_index, put_index}
@@ -54,9 +54,10 @@ pub returns-then-at-ge-SUBSCRIPTION_LIMIT-clause-refused : goal.returns-then-at-
 returns-then-at-ge-SUBSCRIPTION_LIMIT-clause-refused c =
     let b = c.args.birth in
     let s = c.args.subscription in
-    let ss = ap (λ (x : _). subs_of b x.sessions) c.self.view_is in
-    (sym (ap (λ f. has_filter f (subs_of b c.self.inside.subscribers.sessions)) c.as_str.ensures.value ∙ ap (has_filter s.filter) ss) ∙ sym c.number.ensures.found ∙ sym c.is_some.ensures ∙ c.if-is_some.false,
-    sym (ap length ss) ∙ sym c.count-at.ensures.count ∙ (let l = c.if-at-ge-SUBSCRIPTION_LIMIT.true in let m = c.count-at.ensures.most in omega (arith, l, m)))
+    let ss = ap (λ (x : _). subs_of b x.sessions) c.self.view_is in (
+      sym (ap (λ f. has_filter f (subs_of b c.self.inside.subscribers.sessions)) c.as_str.ensures.value ∙ ap (has_filter s.filter) ss) ∙ sym c.number.ensures.found ∙ sym c.is_some.ensures ∙ c.if-is_some.false,
+      sym (ap length ss) ∙ sym c.count-at.ensures.count ∙ (let l = c.if-at-ge-SUBSCRIPTION_LIMIT.true in let m = c.count-at.ensures.most in omega (arith, l, m)),
+    )
 
 pub returns-in_err-reserve-clause-memory : goal.returns-in_err-reserve-clause-memory
 returns-in_err-reserve-clause-memory c = λ rest h.

@@ -1,8 +1,8 @@
-use Rattle.std.proofs.Common.{◌≡◌, ◌-◌, ◌<◌, ◌≤◌, ℕ, suc, true, false, cond, not, length, nat_eq, map, subst, sym, ap, ◌∙◌, rules, arith}
+use Rattle.std.proofs.Common.{◌≡◌, ◌-◌, ◌<◌, ℕ, suc, true, false, cond, not, length, nat_eq, map, subst, sym, ap, ◌∙◌, rules, arith}
 use Rattle.std.specs.Option.{is_some}
 use Rattle.std.proofs.lemmas.Bool.Decides.{nat_tests}
 use Rattle.std.proofs.lemmas.Fn.{filter_same}
-use Rattle.mqtt_routes.specs.Subscriptions.{has_filter, subs_of, unsubscribed, without}
+use Rattle.mqtt_routes.specs.Subscriptions.{has_filter, subs_of, without}
 use Rattle.mqtt_routes.specs.Spots.{IsIndex, is_spot, matched_at, moved_down}
 use Rattle.mqtt_routes.proofs.SubsLemmas.{subs_of-unsubscribed, unsubscribed_none, place_of, without_below, without_above, without_long}
 use Rattle.mqtt_routes.proofs.LeaveLemmas.{left_index, left_and_moved}
@@ -40,7 +40,7 @@ invariant_of-self c =
     let own : subs_of b new ≡ without text subs = ap (subs_of b) is ∙ subs_of-unsubscribed b b text old c.show_order.ensures ∙ ap (λ t. cond t (without text subs) (subs_of b old)) (itself b) in
     let below : (n : ℕ) → n < a → matched_at (subs_of b new) n ≡ matched_at subs n = λ n l. ap (λ ss. matched_at ss n) own ∙ without_below text subs n (omega (arith, l, place.0)) in
     let above : (n : ℕ) → a < n → matched_at (subs_of b new) (n - 1) ≡ matched_at subs n = λ n l.
-        ap (λ ss. matched_at ss (n - 1)) own ∙ without_above text subs (n - 1) (omega (arith, l, place.0)) ∙ ap (matched_at subs) (let e : suc (n - 1) ≡ n = omega (arith, l) in e) in
+    ap (λ ss. matched_at ss (n - 1)) own ∙ without_above text subs (n - 1) (omega (arith, l, place.0)) ∙ ap (matched_at subs) (let e : suc (n - 1) ≡ n = omega (arith, l) in e) in
     let long : suc (length (subs_of b new)) ≡ length subs = ap (λ ss. suc (length ss)) own ∙ without_long text subs (omega (arith, place.0, place.1)) in
     let left = filter_same _ (λ s. not (is_spot b a s)) _ (λ s t f r. search rules) _ _ c.retain.ensures.filtered in
     subst (IsIndex new) (sym (c.move_down.ensures.items ∙ ap (map (moved_down b a)) left ∙ left_and_moved b a spots))
