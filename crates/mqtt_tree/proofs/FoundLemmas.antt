@@ -69,6 +69,31 @@ none_yet from i = ⊎_elim
     and_no true = refl
     and_no false = refl
 
+-- ---- the numbers of a run that pass a test, tried one by one
+
+both_by : (a e b m k : Bool) → once a + once e ≡ once b → (e ≡ true → m ≡ k) → once (a && m) + once (e && k) ≡ once (b && m)
+both_by true true true m k sum same = omega (arith, sum)
+both_by true true false m k sum same = omega (arith, sum)
+both_by true false true m k sum same = omega arith
+both_by true false false m k sum same = omega (arith, sum)
+both_by false true true m k sum same = let is = ap (λ t. once t) (same refl) in omega (arith, is)
+both_by false true false m k sum same = omega (arith, sum)
+both_by false false true m k sum same = omega (arith, sum)
+both_by false false false m k sum same = omega arith
+
+same_number : (i n : ℕ) → nat_eq i n ≡ true → i ≡ n
+same_number i n e = grind (arith, nat_tests)
+
+pub one_tried : (test : ℕ → Bool) (from n i : ℕ) → from ≤ n → once ((nat_le from i && nat_lt i n) && test i) + once (nat_eq i n && test n) ≡ once ((nat_le from i && nat_lt i (n + 1)) && test i)
+one_tried test from n i l = both_by (nat_le from i && nat_lt i n) (nat_eq i n) (nat_le from i && nat_lt i (n + 1)) (test i) (test n) (one_longer from n i l) (λ e. ap test (same_number i n e))
+
+none_by : (a m : Bool) → once a ≡ 0 → once (a && m) ≡ 0
+none_by true m h = omega (arith, h)
+none_by false m h = refl
+
+pub none_tried : (test : ℕ → Bool) (from i : ℕ) → once ((nat_le from i && nat_lt i from) && test i) ≡ 0
+none_tried test from i = none_by (nat_le from i && nat_lt i from) (test i) (none_yet from i)
+
 -- ---- a run that is narrowed
 
 abbrev pub others_of : List (List ℕ) → List (List ℕ)

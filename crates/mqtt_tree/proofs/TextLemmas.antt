@@ -92,6 +92,16 @@ pub begins_within : (end : Option ℕ) (l text : List ℕ) → begins_with l (le
 begins_within None l text h = let s = begins_short l text h in omega (arith, s)
 begins_within (Some k) l text h = ends_by (nat_lt k (length text)) k l text refl h
 
+-- what is left of a text where its next level was taken off
+pub next_begins : (at : Option ℕ) (l text : List ℕ) (old new : List (List ℕ)) → old ≡ levels_behind at text → old ≡ l ∷ new → begins_with l (levels_behind at text) ≡ true
+next_begins at l text old new is next = subst (λ ls. begins_with l ls ≡ true) (sym next ∙ is) ((bytes_eq-Decides l l).1 refl)
+
+same_tail : (l : List ℕ) (xs ys : List (List ℕ)) → l ∷ xs ≡ l ∷ ys → xs ≡ ys
+same_tail l xs ys e = cc
+
+pub next_behind : (at : Option ℕ) (l text : List ℕ) (old new : List (List ℕ)) → old ≡ levels_behind at text → old ≡ l ∷ new → new ≡ levels_behind (Some (end_of at l)) text
+next_behind at l text old new is next = same_tail l new (levels_behind (Some (end_of at l)) text) (sym next ∙ is ∙ begins_more at l text (next_begins at l text old new is next))
+
 -- ---- the first level as it is found
 
 pub no_slash_more : (text : List ℕ) (i : ℕ) → i < length text → All (λ c. eqb c 47 ≡ false) (take i text) → eqb (get_or text i 0) 47 ≡ false → All (λ c. eqb c 47 ≡ false) (take (i + 1) text)

@@ -1,6 +1,7 @@
 //! Levels of a filter behind others (MQTT 5.0, 4.7.1.1).
 ghost use Rattle.std.specs.Prelude.{◌≡◌, ◌∷◌, [], length, true, Some, IfNone, IfSome};
 ghost use Rattle.mqtt_topic.specs.Levels.{levels};
+ghost use Rattle.mqtt_topic.specs.Matching.{matches_levels};
 ghost use Rattle.mqtt_tree.specs.Tree.{begins_with, end_of, is_before, levels_behind};
 
 use std::cmp::Ordering;
@@ -48,8 +49,8 @@ pub(crate) fn is_before(text: &str, end: Option<usize>, also: bool, level: &str)
     }
 }
 
-/// Where a level of a text ends. Takes no memory.
-pub(crate) fn end_of(text: &str, end: Option<usize>, level: &str) -> usize
+/// Where a level of bytes ends. Takes no memory.
+fn end_in(text: &[u8], end: Option<usize>, level: &[u8]) -> usize
     requires { begins_with level.now (levels_behind end text.now) ≡ true }
     ensures { result ≡ end_of end level.now }
 {
@@ -58,4 +59,40 @@ pub(crate) fn end_of(text: &str, end: Option<usize>, level: &str) -> usize
         None => level.len(),
         Some(end) => end + 1 + level.len(),
     }
+}
+
+/// Where a level of a text ends. Takes no memory.
+pub(crate) fn end_of(text: &str, end: Option<usize>, level: &str) -> usize
+    requires { begins_with level.now (levels_behind end text.now) ≡ true }
+    ensures { result ≡ end_of end level.now }
+{
+    end_in(text.as_bytes(), end, level.as_bytes())
+}
+
+/// Whether the levels of a filter behind the one that ends at a byte match those of a name behind
+/// one that ends at another. Takes no memory.
+pub(crate) fn matches_behind(
+    filter: &[u8],
+    end: Option<usize>,
+    name: &[u8],
+    at: Option<usize>,
+) -> bool
+    ensures { result ≡ matches_levels (levels_behind end filter.now) (levels_behind at name.now) }
+{
+    let mut reached = end;
+    let mut taken = at;
+    while let Some(level) = level_behind(filter, reached) {
+        if level == b"#".as_slice() {
+            return true;
+        }
+        let Some(own) = level_behind(name, taken) else {
+            return false;
+        };
+        if level != b"+".as_slice() && level != own {
+            return false;
+        }
+        reached = Some(end_in(filter, reached, level));
+        taken = Some(end_in(name, taken, own));
+    }
+    level_behind(name, taken).is_none()
 }

@@ -85,3 +85,18 @@ pub(crate) fn push_all(numbers: &mut Vec<usize>, run: Run) -> Result<(), TreeFau
     }
     Ok(())
 }
+
+/// Adds a number to others where it was found.
+pub(crate) fn push_if(
+    found: &mut Vec<usize>,
+    number: usize,
+    is_found: bool,
+) -> Result<(), TreeFault>
+    ensures { OnOk result ((i : ℕ) → count_by (nat_eq i) found.new.items
+        ≡ count_by (nat_eq i) found.old.items + once (nat_eq i number && is_found)) }
+{
+    if is_found {
+        found.push(number)?;
+    }
+    Ok(())
+}

@@ -1,10 +1,11 @@
-use Rattle.std.proofs.Common.{◌≡◌, ◌∷◌, ◌&&◌, ℕ, true, cond, [], None, get_or, nat_eq, nat_le, nat_lt, subst, sym, ap, ◌∙◌, arith}
+use Rattle.std.proofs.Common.{◌≡◌, ◌∷◌, ◌&&◌, ℕ, true, cond, [], Some, None, get_or, nat_eq, nat_le, nat_lt, subst, sym, ap, ◌∙◌, arith}
 use Rattle.std.proofs.lemmas.Bool.Decides.{nat_tests}
 use Rattle.mqtt_topic.specs.Levels.{levels}
 use Rattle.mqtt_topic.specs.Matching.{dollar, is_first, is_match}
 use Rattle.mqtt_tree.specs.declared.run.Run.{Run}
-use Rattle.mqtt_tree.specs.Tree.{ArePlain, is_within, once}
+use Rattle.mqtt_tree.specs.Tree.{ArePlain, is_within, levels_behind, once}
 use Rattle.mqtt_tree.proofs.RunLemmas.{within_parts}
+use Rattle.mqtt_tree.proofs.TextLemmas.{next_begins, next_behind}
 use Rattle.mqtt_tree.proofs.FoundLemmas.{narrowed_found}
 use Rattle.mqtt_tree.proofs.NameLemmas.{plain_levels, by_own, found_by}
 use Rattle.mqtt_tree.proofs.walk.start.Goals as goal
@@ -36,3 +37,11 @@ returns-in-Some-clause-found g c = λ i.
     ∙ found_by (is_within i all) (is_match (get_or texts i []) name)
     ∙ ap (λ b. once ((b && nat_lt i c.count.result) && is_match (get_or texts i []) name)) (at_start i)
     ∙ ap (λ n. once (nat_lt i n && is_match (get_or texts i []) name)) c.count.ensures
+
+pub end_of-at-requires : goal.end_of-at-requires
+end_of-at-requires g c = next_begins None c.in-Some.level.now c.args.name.now c.args.rest.now c.next.new.self c.requires.levels c.in-Some.ensures.some
+
+pub returns-in-Some-clause-behind : goal.returns-in-Some-clause-behind
+returns-in-Some-clause-behind g c =
+    next_behind None c.in-Some.level.now c.args.name.now c.args.rest.now c.next.new.self c.requires.levels c.in-Some.ensures.some
+    ∙ ap (λ (n : ℕ). levels_behind (Some n) c.args.name.now) (sym c.end_of-at.ensures)
