@@ -2,8 +2,6 @@
 #![tactic(auto)]
 
 #[cfg(test)]
-mod agrees;
-#[cfg(test)]
 mod deep;
 #[cfg(test)]
 mod faults;
