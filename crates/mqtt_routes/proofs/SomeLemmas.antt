@@ -1,11 +1,11 @@
 -- Lemmas on sessions without subscriptions (MQTT 5.0, 3.1.2.11, 3.3.4).
-use Rattle.std.proofs.Common.{◌≡◌, ℕ, ◌<◌, ◌≤◌, Bool, true, false, cond, not, ◌||◌, List, [], ◌∷◌, ◌++◌, refl, ap, sym, ◌∙◌, nat_lt, nat_eq, arith}
+use Rattle.std.proofs.Common.{◌≡◌, ℕ, ◌<◌, Bool, true, false, cond, not, ◌||◌, List, [], ◌∷◌, ◌++◌, refl, ap, sym, ◌∙◌, nat_lt, nat_eq, arith}
 use Rattle.std.proofs.lemmas.Bool.Decides.{nat_tests}
 use Rattle.std.specs.List.{list_all}
 use Rattle.mqtt_routes.specs.declared.subscription.Subscription.{Subscription}
 use Rattle.mqtt_routes.specs.Subscriptions.{Subscriber, subscriber, AreAfter, AreInOrder, subs_of, with_subs, without_session, beside, with_some, standing}
-use Rattle.mqtt_routes.specs.Intended.{Publication, Answers, Copy, Member, copies_for, hits_of, directs, members_with, members_after, members, is_none, is_wanted}
-use Rattle.mqtt_routes.specs.Acceptance.{has_room, routed_beside, routed, RouteAlike}
+use Rattle.mqtt_routes.specs.Intended.{Publication, Answers, Copy, Member, copies_for, hits_of, directs, members_with, members_after, members, is_none}
+use Rattle.mqtt_routes.specs.Acceptance.{has_room, routed_beside, RouteAlike}
 
 directs_beside : (at : Answers) (p : Publication) (subs : List Subscription) (x : Subscriber) (rest : List Subscriber) → x.subs ≡ subs → directs at p (x ∷ rest) ≡ directs at p (beside subs x rest)
 directs_beside at p [] x rest e = rw e refl
