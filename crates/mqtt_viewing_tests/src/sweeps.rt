@@ -68,11 +68,7 @@ fn all_changes(
 }
 
 /// How many of all fronts have one view.
-fn all_fronts(
-    alloc: Global,
-    written: &mut Vec<u8>,
-    again: &mut Vec<u8>,
-) -> Result<u32, ViewFault> {
+fn all_fronts(alloc: Global, written: &mut Vec<u8>, again: &mut Vec<u8>) -> Result<u32, ViewFault> {
     let mut count: u32 = 0;
     for vector in known_vectors() {
         let more = fronts_of(alloc, vector.frame, written, again)?;

@@ -34,11 +34,7 @@ pub(crate) fn why(fault: ViewFault) -> &'static str {
 }
 
 /// Writes the view of an input that comes a byte a read.
-fn view_bytewise(
-    alloc: Global,
-    input: &[u8],
-    written: &mut Vec<u8>,
-) -> Result<Status, ViewFault> {
+fn view_bytewise(alloc: Global, input: &[u8], written: &mut Vec<u8>) -> Result<Status, ViewFault> {
     let mut reader = Bytewise { bytes: input };
     let status = view(alloc, &mut reader, written, false);
     drop(reader);
