@@ -3,4 +3,5 @@ pub mod Escapes
 pub mod Examples
 pub mod Lines
 pub mod OneView
+pub mod RightVectors
 pub mod Texts

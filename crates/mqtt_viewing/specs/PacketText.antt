@@ -3,7 +3,6 @@ use Rattle.std.specs.Prelude.{ℕ, ◌<◌, ◌≤◌, ◌/◌, ◌%◌, ◌==�
 use Rattle.std.specs.List.{flat_map}
 use Rattle.std.specs.Fmt.{decimal, digit_glyph}
 use Rattle.hex.specs.Hex.{encode_lower}
-use Rattle.mqtt_props.specs.Properties.{Prop}
 use Rattle.mqtt_codec.specs.declared.ack.Ack.{Ack}
 use Rattle.mqtt_codec.specs.declared.connack.Connack.{Connack}
 use Rattle.mqtt_connect.specs.declared.connect.Connect.{Connect}
@@ -17,6 +16,7 @@ use Rattle.mqtt_subscribe.specs.declared.unsubscribe.Unsubscribe.{Unsubscribe}
 use Rattle.mqtt_codec.specs.declared.packet.Packet.{Packet}
 use Rattle.mqtt_codec.specs.declared.packet.Packet.TheVariants as packets
 use Rattle.mqtt_codec.specs.Heads.{bit}
+use Rattle.mqtt_codec.specs.Packets.{properties_of}
 use Rattle.mqtt_codec.specs.Subscriptions.{Subscription}
 use Rattle.mqtt_viewing.specs.declared.packet_text.TheConstants.{HEAD_SIZE}
 
@@ -151,25 +151,7 @@ fields_text packets.Pingresp = []
 fields_text (packets.Disconnect n) = notice_text n
 fields_text (packets.Auth n) = notice_text n
 
--- the packet's own properties, not those of its Will
-abbrev pub own_properties : Packet → List Prop
-own_properties (packets.Connect c) = c.properties
-own_properties (packets.Connack c) = c.properties
-own_properties (packets.Publish p) = p.properties
-own_properties (packets.Puback a) = a.properties
-own_properties (packets.Pubrec a) = a.properties
-own_properties (packets.Pubrel a) = a.properties
-own_properties (packets.Pubcomp a) = a.properties
-own_properties (packets.Subscribe s) = s.properties
-own_properties (packets.Suback s) = s.properties
-own_properties (packets.Unsubscribe u) = u.properties
-own_properties (packets.Unsuback s) = s.properties
-own_properties packets.Pingreq = []
-own_properties packets.Pingresp = []
-own_properties (packets.Disconnect n) = n.properties
-own_properties (packets.Auth n) = n.properties
-
--- their count, where there are some
+-- how many properties the packet's own block has, and not a Will's, where there are some
 abbrev pub count_text : ℕ → List ℕ
 count_text n = if n == 0 then [] else codes " props=" ++ decimal n
 
@@ -186,4 +168,4 @@ payload_text with_payload p = []
 abbrev pub packet_text : Bool → ℕ → Packet → List ℕ
 packet_text with_payload size p =
     codes " " ++ name_text p ++ codes " " ++ decimal size ++ fields_text p
-    ++ count_text (length (own_properties p)) ++ payload_text with_payload p
+    ++ count_text (length (properties_of p)) ++ payload_text with_payload p
