@@ -112,6 +112,7 @@ impl Ack {
     pub(crate) fn fits(&self, kind: Kind, place: Place) -> bool
         ensures { IsTrue result ↔ FitsAck kind place self.now }
     {
+        // This shows that the number fits into its two bytes.
         let _identifier = self.identifier;
         let lent = self.properties.lend();
         self.reason.allowed(kind) && stands(&lent, place)

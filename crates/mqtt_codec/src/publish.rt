@@ -258,6 +258,7 @@ impl Delivery {
         match self {
             Delivery::AtMostOnce => true,
             Delivery::AtLeastOnce { identifier, .. } | Delivery::ExactlyOnce { identifier, .. } => {
+                // This shows that the number fits into its two bytes.
                 let _identifier = identifier;
                 true
             }
@@ -271,6 +272,7 @@ impl Publish {
     pub(crate) fn fits(&self) -> bool
         ensures { IsTrue result ↔ FitsPublish self.now }
     {
+        // This shows that the topic has a spelling.
         let _ = self.topic.as_str();
         let lent = self.properties.lend();
         self.delivery.fits() && stands(&lent, Place::Publish)

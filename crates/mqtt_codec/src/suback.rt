@@ -123,6 +123,7 @@ impl Suback {
     pub(crate) fn fits(&self, kind: Kind, place: Place) -> bool
         ensures { IsTrue result ↔ FitsSuback kind place self.now }
     {
+        // This shows that the number fits into its two bytes.
         let _identifier = self.identifier;
         let lent = self.properties.lend();
         stands(&lent, place) && are_codes(kind, self.codes.as_slice())

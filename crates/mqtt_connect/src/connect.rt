@@ -293,6 +293,7 @@ impl Will {
     fn fits(&self) -> bool
         ensures { IsTrue result ↔ FitsWill self.now }
     {
+        // These show that the topic and the payload have a spelling.
         let _ = self.topic.as_str();
         let _ = self.payload.as_slice();
         stands(&self.properties.lend(), Place::Will)
@@ -520,6 +521,7 @@ impl Connect {
     pub fn fits(&self) -> bool
         ensures { IsTrue result ↔ FitsConnect self.now }
     {
+        // These show that the Keep Alive and the client identifier have a spelling.
         let _keep_alive = self.keep_alive;
         let _ = self.client_identifier.as_str();
         let lent = self.properties.lend();
@@ -546,6 +548,7 @@ fn user_name_fits(name: &Option<Text>) -> bool
 {
     match name {
         Some(name) => {
+            // This shows that the name has a spelling.
             let _ = name.as_str();
             true
         }
@@ -559,6 +562,7 @@ fn password_fits(password: &Option<Blob>) -> bool
 {
     match password {
         Some(password) => {
+            // This shows that the password has a spelling.
             let _ = password.as_slice();
             true
         }

@@ -118,8 +118,10 @@ impl Subscribe {
     pub fn fits(&self) -> bool
         ensures { IsTrue result ↔ FitsSubscribe self.now }
     {
+        // This shows that the number fits into its two bytes.
         let _identifier = self.identifier;
         let subscriptions = self.subscriptions.lend();
+        // This shows that each filter has a spelling.
         let _len = subscriptions.len();
         let lent = self.properties.lend();
         stands(&lent, Place::Subscribe)

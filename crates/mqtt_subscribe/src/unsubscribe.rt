@@ -117,8 +117,10 @@ impl Unsubscribe {
     pub fn fits(&self) -> bool
         ensures { IsTrue result ↔ FitsUnsubscribe self.now }
     {
+        // This shows that the number fits into its two bytes.
         let _identifier = self.identifier;
         let filters = self.filters.lend();
+        // This shows that each filter has a spelling.
         let _len = filters.len();
         let lent = self.properties.lend();
         stands(&lent, Place::Unsubscribe)
