@@ -2,7 +2,7 @@
 
 use crate::costly::judge_costly;
 use crate::judging::{How, judge_all};
-use crate::scripts::{clients, closing, filters, publishing, receiving, refusing};
+use crate::scripts::{clients, closing, filters, publishing, receiving, refusing, turning};
 use crate::sweeps::judge_sweeps;
 use crate::telling::Telling;
 use std::alloc::Global;
@@ -31,6 +31,7 @@ fn judge_subjects(wrong: &mut Telling, alloc: Global, hasher: RandomState, how: 
     judge_all(wrong, alloc, hasher, filters(), how);
     judge_all(wrong, alloc, hasher, publishing(), how);
     judge_all(wrong, alloc, hasher, receiving(), how);
+    judge_all(wrong, alloc, hasher, turning(), how);
 }
 
 /// Says what isn't so.
