@@ -4,8 +4,8 @@ use Rattle.mqtt_lines.specs.Quiet.{AreQuietBefore}
 use Rattle.mqtt_lines.specs.TheRules.State.{Broker}
 use Rattle.mqtt_engine.proofs.engine.Engine.bad_input_on.Goals as goal
 
-pub invariant_of-self : goal.invariant_of-self
-invariant_of-self g c =
+pub invariant_of-self-2 : goal.invariant_of-self-2
+invariant_of-self-2 g c =
     let before = subst (λ (b : Broker). AreQuietBefore c.self.inside.quiet b.records) (sym c.fault_at-done.ensures.start) c.self.invariant.4 in (
       search rules,
       search rules,
