@@ -11,6 +11,8 @@ mod costly;
 #[cfg(test)]
 mod engine;
 #[cfg(test)]
+mod faults;
+#[cfg(test)]
 mod judging;
 #[cfg(test)]
 mod kept;
