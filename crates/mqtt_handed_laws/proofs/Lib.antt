@@ -3,6 +3,7 @@ pub mod Doings
 pub mod Joins
 pub mod Handed
 pub mod Turns
+pub mod Known
 pub mod Answering
 pub mod Losing
 pub mod Marks

@@ -6,6 +6,7 @@ mod call_laws;
 mod copy_laws;
 mod drain_laws;
 mod laws;
+mod ready_laws;
 
 pub use call_laws::{
     a_clean_start_is_a_step_of_the_hop, a_new_session_is_a_step_of_the_hop,
@@ -20,3 +21,4 @@ pub use laws::{
     a_lost_line_is_a_step_of_the_hop, a_run_of_the_hop_hands_over_once,
     answers_of_a_receiver_are_steps_of_the_hop, own_doings_of_a_receiver_are_steps_of_the_hop,
 };
+pub use ready_laws::{a_connected_session_may_receive_more, a_receivers_session_may_receive_more};
