@@ -15,6 +15,7 @@ pub mod Resuming
 pub mod Beginning
 pub mod Renewing
 pub mod Entering
+pub mod Others
 pub mod Examples
 pub mod DrainRuns
 pub mod DrainExamples
