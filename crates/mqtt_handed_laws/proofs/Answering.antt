@@ -23,6 +23,7 @@ use Rattle.mqtt_flow.specs.Receiver.{Answer, Output, disconnect, puback, pubrec,
 use Rattle.mqtt_inbound.specs.Identifiers.{ids_without}
 use Rattle.mqtt_inbound.specs.Line.{sent_on}
 use Rattle.mqtt_laws.specs.Ends.{Back, Receiver, answers, wire_back}
+use Rattle.mqtt_laws.specs.Hops.{IsOnly}
 use Rattle.mqtt_laws.specs.Lines.{Down, copy_in, is_one_of, sent_to, unless_closed}
 use Rattle.mqtt_laws.specs.Seen.{is_linked}
 use Rattle.mqtt_laws.proofs.Names.{BeginNone, named_is, only_deeds}
@@ -46,9 +47,11 @@ use Rattle.mqtt_rules.specs.Step.{Input, at_moment, deeds, env_of, next_packet, 
 use Rattle.mqtt_rules.specs.declared.Limits.{Limits}
 use Rattle.mqtt_records.specs.Records.{changed_all}
 use Rattle.mqtt_rules.proofs.Copies.{each_append}
+use Rattle.mqtt_handed_laws.specs.Entering.{AreKnown, IsReceiving, Receives}
 use Rattle.mqtt_handed_laws.specs.Handing.{IsAloneOn, IsListening, IsRun, RunsOn, after_answer, reads_answer}
 use Rattle.mqtt_handed_laws.specs.Seen.{AreQueued, Numbering, StandOn, answered, handed_in, heard_in, lot_on, seen, still_standing, went_in}
 use Rattle.mqtt_handed_laws.specs.Tags.{AreNumbered, AreTagged, IsTagged, id_of}
+use Rattle.mqtt_handed_laws.proofs.Known.{known_left, known_marked, receives_after}
 use Rattle.mqtt_handed_laws.proofs.Refusals.{run_append}
 use Rattle.mqtt_handed_laws.proofs.Turns.{ids_after, left_lots, none_left, released_lots, renewed_lots, repeated_lots, same_entries, unknown_lots}
 
@@ -219,7 +222,7 @@ linked_now r l s b c =
 pub named_now : (r : Receiver) (l : BrokerLine) (s : Session) (b : Broker) → IsListening r l s b → session_named r.client b.records ≡ Some s
 named_now r l s b c = named_is r.client s.birth b.records s c.only c.session c.client
 
-went_now : (r : Receiver) (l : BrokerLine) (s : Session) (b : Broker) → IsListening r l s b → went_in s.birth b ≡ Some l.went
+pub went_now : (r : Receiver) (l : BrokerLine) (s : Session) (b : Broker) → IsListening r l s b → went_in s.birth b ≡ Some l.went
 went_now r l s b c = ap (option_map (λ (x : BrokerLine). x.went)) c.its_line
 
 pub standing_by : (copies : List Lot) (r : Receiver) (l : BrokerLine) (s : Session) (b : Broker) → AreQueued copies (session_named r.client b.records) b → IsListening r l s b
@@ -298,6 +301,7 @@ module _ (number : Numbering) (largest : ℕ) (copies : List Lot) (limits : Limi
     pub birth : session.birth ≡ s.birth
     pub begins : BeginNone r.client s.birth ds
     pub queued : StandOn copies2 session.queue (its_went s.birth (after_all ds at_first).lines)
+    pub known : AreKnown s.queue (Some l.went) → AreKnown session.queue (its_went s.birth (after_all ds at_first).lines)
     pub linked : linked_of (session_on n (after_all ds at_first).lines) ≡ not shut
     pub heard : (new : Broker) → filter_map (heard_in number) (sent_to (Some n) new (filter_map output ds)) ≡ ps
     pub tagged : (new : Broker) → AllByRecursion (IsTagged number (map id_of copies)) (sent_to (Some n) new (filter_map output ds))
@@ -403,6 +407,7 @@ module _ (number : Numbering) (largest : ℕ) (copies : List Lot) (limits : Limi
     birth = refl;
     begins = (tt, tt);
     queued = subst (λ (o : Option (List ℕ)). StandOn copies2 s.queue o) (sym went_here) is;
+    known = subst (AreKnown s.queue) (sym went_here);
     linked = ap linked_of on_here;
     heard = λ new. refl;
     tagged = λ new. tt;
@@ -419,6 +424,7 @@ module _ (number : Numbering) (largest : ℕ) (copies : List Lot) (limits : Limi
     birth = refl;
     begins = (tt, (tt, tt));
     queued = subst (λ (o : Option (List ℕ)). StandOn copies2 s.queue o) (sym went_here) (ap still_standing is ∙ standing_now);
+    known = subst (AreKnown s.queue) (sym went_here);
     linked = ap linked_of on_here;
     heard = λ new. ap (filter_map (heard_in number)) (sent_one n new (packets.pubrel i code));
     tagged = λ new. subst (AllByRecursion (IsTagged number (map id_of copies))) (sym (sent_one n new (packets.pubrel i code))) (tt, tt);
@@ -434,6 +440,7 @@ module _ (number : Numbering) (largest : ℕ) (copies : List Lot) (limits : Limi
     birth = refl;
     begins = (tt, (tt, (tt, tt)));
     queued = subst (λ (o : Option (List ℕ)). StandOn (lots_after (turns.Release place i order) copies) (change_row copy_place place (in_phase (Released i order)) s.queue) o) (sym went_here) (released_lots copies l.went place i order s.queue c.places standing_now);
+    known = λ k. subst (AreKnown (change_row copy_place place (in_phase (Released i order)) s.queue)) (sym went_here) (known_marked place (Released i order) s.queue (Some l.went) k);
     linked = ap linked_of on_here;
     heard = λ new. ap (filter_map (heard_in number)) (sent_one n new (packets.pubrel i success));
     tagged = λ new. subst (AllByRecursion (IsTagged number (map id_of copies))) (sym (sent_one n new (packets.pubrel i success))) (tt, tt);
@@ -455,6 +462,7 @@ module _ (number : Numbering) (largest : ℕ) (copies : List Lot) (limits : Limi
         birth = refl;
         begins = (tt, (tt, tt));
         queued = subst (λ (o : Option (List ℕ)). StandOn (lots_after (turns.Leave e.place ending) copies) (remove_row copy_place e.place s.queue) o) (sym went) (left_lots copies l.went e.place ending s.queue standing_now);
+        known = λ k. subst (AreKnown (remove_row copy_place e.place s.queue)) (sym went) (known_left e.place s.queue (Some l.went) k);
         linked = ap linked_of on;
         heard = λ new. refl;
         tagged = λ new. tt;
@@ -473,6 +481,7 @@ module _ (number : Numbering) (largest : ℕ) (copies : List Lot) (limits : Limi
         birth = refl;
         begins = (tt, (tt, (tt, (tt, tt))));
         queued = subst (λ (o : Option (List ℕ)). StandOn copies s.queue o) (sym went) (ap (map renewed) standing_now ∙ renewed_lots l.went s.queue);
+        known = λ k. subst (AreKnown s.queue) (sym went) tt;
         linked = ap linked_of (line_none n once_heard.lines);
         heard = λ new. ap (filter_map (heard_in number)) (sent_one n new (packets.disconnect code));
         tagged = λ new. subst (AllByRecursion (IsTagged number (map id_of copies))) (sym (sent_one n new (packets.disconnect code))) (tt, tt);
@@ -554,6 +563,13 @@ module _ (number : Numbering) (largest : ℕ) (copies : List Lot) (limits : Limi
       → step largest w (to_broker false) ≡ replied x left_up w → Result_of
   answer_runs h x ok e hop = becomes_run h (copies_by x copies) (told_by x) (shut_by x) (answer_becomes x ok e) (ids_by x copies) (answer_replied x ok ∙ sym hop)
 
+  pub answer_receives : (q : Receiver) → r.client ≡ q.client → AreKnown s.queue (went_in s.birth b) → (x : rules.Answer) → IsReply x → next_packet (env_of limits choice b) l packet s once_heard ≡ on_answer x (env_of limits choice b) l s once_heard
+      → Receives q (after_answer limits choice now n a r b)
+  answer_receives q same known x ok e =
+      let y = answer_becomes x ok e in
+      receives_after q s.birth limits choice now (Input n packet) b y.session y.found (y.client ∙ same) y.birth
+      (subst (λ (name : List ℕ). IsOnly name s.birth (after_all done_deeds at_first).records) same (only_deeds r.client s.birth done_deeds at_first y.begins c.only)) (y.known (subst (AreKnown s.queue) (went_now r l s b c) known))
+
   -- the hop has the same queue
   pub same_queue : queue_of copies ≡ queue_on l.went s
   same_queue = same_entries copies l.went s.queue standing_now
@@ -589,3 +605,26 @@ pubcomp_runs number largest copies limits choice now i code rest r l s b h c up 
     answer_runs number largest copies limits choice now (pubcomp i code) rest r l s b (standing_by copies r l s b h.queue_is c) c up h (rules.pubcomp i q) (reply_pubcomp (holder i q)) refl
     (ap (λ (xs : List Answer). up_comes false xs w) (ap (filter_map answered) up)
     ∙ ap (λ (es : List FlowEntry). replied (rules.pubcomp i es) (filter_map answered rest) w) (same_queue number largest copies limits choice now (pubcomp i code) rest r l s b (standing_by copies r l s b h.queue_is c) c up))
+
+-- ---- and its session may receive more
+
+pub puback_receives : (number : Numbering) (largest : ℕ) (copies : List Lot) (limits : Limits) (choice : MemberChoice) (now i code : ℕ) (rest : List Back) (r : Receiver) (l : BrokerLine) (s : Session) (b : Broker)
+    → IsRun number largest copies r b → IsListening r l s b → IsReceiving r s b → r.line.up ≡ answers (puback i code) ∷ rest
+    → Receives (reads_answer limits choice now l.number (puback i code) r b) (after_answer limits choice now l.number (puback i code) r b)
+puback_receives number largest copies limits choice now i code rest r l s b h c x there =
+    let q = queue_on l.went s in
+    answer_receives number largest copies limits choice now (puback i code) rest r l s b (standing_by copies r l s b h.queue_is c) c there (reads_answer limits choice now l.number (puback i code) r b) refl x.known (rules.puback i code q) (reply_puback code (holder i q)) refl
+
+pub pubrec_receives : (number : Numbering) (largest : ℕ) (copies : List Lot) (limits : Limits) (choice : MemberChoice) (now i code : ℕ) (rest : List Back) (r : Receiver) (l : BrokerLine) (s : Session) (b : Broker)
+    → IsRun number largest copies r b → IsListening r l s b → IsReceiving r s b → r.line.up ≡ answers (pubrec i code) ∷ rest
+    → Receives (reads_answer limits choice now l.number (pubrec i code) r b) (after_answer limits choice now l.number (pubrec i code) r b)
+pubrec_receives number largest copies limits choice now i code rest r l s b h c x there =
+    let q = queue_on l.went s in
+    answer_receives number largest copies limits choice now (pubrec i code) rest r l s b (standing_by copies r l s b h.queue_is c) c there (reads_answer limits choice now l.number (pubrec i code) r b) refl x.known (rules.pubrec i code q) (reply_pubrec i code (next_order q) (holder i q)) refl
+
+pub pubcomp_receives : (number : Numbering) (largest : ℕ) (copies : List Lot) (limits : Limits) (choice : MemberChoice) (now i code : ℕ) (rest : List Back) (r : Receiver) (l : BrokerLine) (s : Session) (b : Broker)
+    → IsRun number largest copies r b → IsListening r l s b → IsReceiving r s b → r.line.up ≡ answers (pubcomp i code) ∷ rest
+    → Receives (reads_answer limits choice now l.number (pubcomp i code) r b) (after_answer limits choice now l.number (pubcomp i code) r b)
+pubcomp_receives number largest copies limits choice now i code rest r l s b h c x there =
+    let q = queue_on l.went s in
+    answer_receives number largest copies limits choice now (pubcomp i code) rest r l s b (standing_by copies r l s b h.queue_is c) c there (reads_answer limits choice now l.number (pubcomp i code) r b) refl x.known (rules.pubcomp i q) (reply_pubcomp (holder i q)) refl

@@ -42,11 +42,13 @@ use Rattle.mqtt_rules.specs.Step.{Input, at_moment, deeds, env_of, stepped}
 use Rattle.mqtt_rules.specs.declared.Limits.{Limits}
 use Rattle.mqtt_topic.specs.Names.{is_empty}
 use Rattle.mqtt_handed_laws.specs.Calls.{IsBeginning}
+use Rattle.mqtt_handed_laws.specs.Entering.{AreKnown, Receives}
 use Rattle.mqtt_handed_laws.specs.Handing.{IsRun, RunsOn, after_answer, reads_answer}
 use Rattle.mqtt_handed_laws.specs.Seen.{Numbering, StandOn, answered, heard_in, seen, still_standing}
 use Rattle.mqtt_handed_laws.specs.Tags.{AreNumbered, AreTagged, IsTagged, id_of}
 use Rattle.mqtt_handed_laws.proofs.Answering.{its_went}
 use Rattle.mqtt_handed_laws.proofs.Calling.{Makes, called_queue, called_seen, called_tags, hop_called}
+use Rattle.mqtt_handed_laws.proofs.Known.{receives_after}
 use Rattle.mqtt_handed_laws.proofs.Pumps.{down_first}
 use Rattle.mqtt_handed_laws.proofs.Refusals.{run_append}
 use Rattle.mqtt_handed_laws.proofs.Resuming.{IsOffIt, call_is, greeted_went, greeting, refused_not, went_at, went_at_heard}
@@ -166,6 +168,11 @@ module _ (number : Numbering) (largest : ℕ) (copies : List Lot) (limits : Limi
     closes_are : filter_map closing all_deeds ≡ ns
     closes_are = c.closings begins refl
 
+    went_ends : its_went birth (after_all (deeds limits choice now (Input n packet) b) first).lines ≡ Some []
+    went_ends =
+        ap (λ (ds : List Deed). its_went birth (after_all ds first).lines) c.deeds_are
+        ∙ (ap (λ (x : Broker). its_went birth x.lines) ends ∙ greeted_went d.now n birth 0 r.window 0xffffffff d.lines c.off c.went)
+
     makes : Makes number copies2 ids limits choice now (Input n packet) q n birth b (connack false ∷ []) false (is_one_of r.line.old_number ns)
     makes = record {
       number_is = number_is;
@@ -175,10 +182,7 @@ module _ (number : Numbering) (largest : ℕ) (copies : List Lot) (limits : Limi
       birth_is = refl;
       only = subst (λ (ds : List Deed). IsOnly r.client birth (after_all ds first).records) (sym c.deeds_are) (subst (λ (x : Broker). IsOnly r.client birth x.records) (sym ends) only_end);
       queued =
-          let went : its_went birth (after_all (deeds limits choice now (Input n packet) b) first).lines ≡ Some [] =
-          ap (λ (ds : List Deed). its_went birth (after_all ds first).lines) c.deeds_are
-          ∙ (ap (λ (x : Broker). its_went birth x.lines) ends ∙ greeted_went d.now n birth 0 r.window 0xffffffff d.lines c.off c.went) in
-          subst (λ (z : Option (List ℕ)). StandOn copies2 [] z) (sym went) (still_cut copies);
+          subst (λ (z : Option (List ℕ)). StandOn copies2 [] z) (sym went_ends) (still_cut copies);
       linked = ap (λ (ds : List Deed). linked_of (session_on n (after_all ds first).lines)) c.deeds_are
           ∙ (ap (λ (x : Broker). linked_of (session_on n x.lines)) ends ∙ ap linked_of (greeted_line d.now n birth 0 r.window 0xffffffff d.lines c.waits));
       heard = ap (λ (ds : List Deed). filter_map (heard_in number) (sent_to (Some n) new (filter_map output ds))) c.deeds_are ∙ told_is;
@@ -186,6 +190,12 @@ module _ (number : Numbering) (largest : ℕ) (copies : List Lot) (limits : Limi
       closes = ap (λ (ds : List Deed). is_one_of (Some n) (filter_map closing ds)) c.deeds_are ∙ (ap (is_one_of (Some n)) closes_are ∙ c.open_still);
       closes_old = ap (λ (ds : List Deed). is_one_of r.line.old_number (filter_map closing ds)) c.deeds_are ∙ ap (is_one_of r.line.old_number) closes_are;
     }
+
+    pub begins_receives : Receives (reads_answer limits choice now l.number (connect clean) r b) (after_answer limits choice now l.number (connect clean) r b)
+    begins_receives =
+        let m = makes in
+        receives_after (reads_answer limits choice now l.number (connect clean) r b) birth limits choice now (Input n packet) b m.session m.found m.client m.birth_is m.only
+        (subst (AreKnown m.session.queue) (sym went_ends) tt)
 
     -- the hop makes a new session too
     pub begins_run : r.line.up ≡ answers (connect clean) ∷ rest → step largest w (to_broker false) ≡ made_new (filter_map answered rest) w
@@ -252,15 +262,18 @@ off_heard k now n (l ∷ ls) h = by (nat_eq l.number n) (off_heard k now n ls h.
     by true g = (h.0, h.1)
     by false g = (h.0, g)
 
-pub first_begins : (number : Numbering) (largest : ℕ) (copies : List Lot) (limits : Limits) (choice : MemberChoice) (now : ℕ) (clean : Bool) (rest : List Back) (r : Receiver) (l : BrokerLine) (b : Broker)
-    → IsRun number largest copies r b → IsBeginning limits r l b → nat_lt (length b.records.sessions) limits.sessions ≡ true → r.line.up ≡ answers (connect clean) ∷ rest
-    → RunsOn number largest copies (reads_answer limits choice now l.number (connect clean) r b) (after_answer limits choice now l.number (connect clean) r b)
-first_begins number largest copies limits choice now clean rest r l b h a room up =
+abbrev FirstClears : Numbering → ℕ → List Lot → Limits → MemberChoice → ℕ → Bool → List Back → Receiver → BrokerLine → Broker → Type 0
+FirstClears number largest copies limits choice now clean rest r l b =
+    (h : IsRun number largest copies r b) → (a : IsBeginning limits r l b) → nat_lt (length b.records.sessions) limits.sessions ≡ true
+    → Clears number largest copies limits choice now clean rest r l b h a.number [] []
+
+first_clears : (number : Numbering) (largest : ℕ) (copies : List Lot) (limits : Limits) (choice : MemberChoice) (now : ℕ) (clean : Bool) (rest : List Back) (r : Receiver) (l : BrokerLine) (b : Broker)
+    → FirstClears number largest copies limits choice now clean rest r l b
+first_clears number largest copies limits choice now clean rest r l b h a room =
     let n = l.number in
     let first = at_moment now b in
     let heard_first = heard_of now n b in
     let env = env_of limits choice b in
-    let w = seen number copies r b in
     let on : session_on n b.lines ≡ Some None = ap (option_map (λ (x : BrokerLine). x.session)) a.line ∙ ap Some a.waits in
     let less = ltb-true (length b.records.sessions) limits.sessions room in
     let within = a.within in
@@ -269,7 +282,7 @@ first_begins number largest copies limits choice now clean rest r l b h a room u
     ≡ On n Hear ∷ begin l (greeting clean r.client r.window) false r.client (suc b.records.births) =
     call_is limits choice now clean r.client r.window l b a.line a.waits
     ∙ (ap (λ (ds : List Deed). On n Hear ∷ ds) (append-nil (on_connect env l (greeting clean r.client r.window) heard_first)) ∙ ap (λ (ds : List Deed). On n Hear ∷ ds) begun) in
-    begins_run number largest copies limits choice now clean rest r l b h a.number [] [] (record {
+    record {
       deeds_are = is;
       none = a.none;
       births = a.births;
@@ -281,6 +294,20 @@ first_begins number largest copies limits choice now clean rest r l b h a room u
       closings = λ ds none. none;
       open_still = refl;
       old = ap (λ (t : Bool). filter_map answered (unless_closed t r.line.old)) (none_closed r.line.old_number) ∙ a.old;
-    }) up
+    }
+
+pub first_begins : (number : Numbering) (largest : ℕ) (copies : List Lot) (limits : Limits) (choice : MemberChoice) (now : ℕ) (clean : Bool) (rest : List Back) (r : Receiver) (l : BrokerLine) (b : Broker)
+    → IsRun number largest copies r b → IsBeginning limits r l b → nat_lt (length b.records.sessions) limits.sessions ≡ true → r.line.up ≡ answers (connect clean) ∷ rest
+    → RunsOn number largest copies (reads_answer limits choice now l.number (connect clean) r b) (after_answer limits choice now l.number (connect clean) r b)
+first_begins number largest copies limits choice now clean rest r l b h a room up =
+    let w = seen number copies r b in
+    begins_run number largest copies limits choice now clean rest r l b h a.number [] [] (first_clears number largest copies limits choice now clean rest r l b h a room) up
     (ap (λ (xs : List Answer). up_comes false xs w) (ap (filter_map answered) up)
     ∙ ap (λ (z : Bool). connects z clean false (filter_map answered rest) w) (ap is_some a.none))
+
+-- and it may receive more
+pub first_receives : (number : Numbering) (largest : ℕ) (copies : List Lot) (limits : Limits) (choice : MemberChoice) (now : ℕ) (clean : Bool) (rest : List Back) (r : Receiver) (l : BrokerLine) (b : Broker)
+    → IsRun number largest copies r b → IsBeginning limits r l b → nat_lt (length b.records.sessions) limits.sessions ≡ true → r.line.up ≡ answers (connect clean) ∷ rest
+    → Receives (reads_answer limits choice now l.number (connect clean) r b) (after_answer limits choice now l.number (connect clean) r b)
+first_receives number largest copies limits choice now clean rest r l b h a room up =
+    begins_receives number largest copies limits choice now clean rest r l b h a.number [] [] (first_clears number largest copies limits choice now clean rest r l b h a room)

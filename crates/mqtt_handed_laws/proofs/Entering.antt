@@ -41,7 +41,7 @@ use Rattle.mqtt_records.specs.Records.{changed_all}
 use Rattle.mqtt_records.specs.Session.{birth_of, copy_place, with_copy, without_copy}
 use Rattle.mqtt_records.specs.declared.session.Session.{Session}
 use Rattle.mqtt_routes.specs.Intended.{greatest}
-use Rattle.mqtt_rows.proofs.LookUps.{put_row-last, row_at-remove_row}
+use Rattle.mqtt_rows.proofs.LookUps.{put_row-last}
 use Rattle.mqtt_rows.proofs.OrderLemmas.{apart}
 use Rattle.mqtt_rows.specs.Order.{IsBelow, has_row, put_row, remove_row, row_at}
 use Rattle.mqtt_rules.proofs.FlightRows.{change_row-here, found_key}
@@ -56,6 +56,7 @@ use Rattle.mqtt_handed_laws.specs.Handing.{IsRun}
 use Rattle.mqtt_handed_laws.specs.Seen.{AreQueued, Numbering, StandOn, content_of, lot_on, seen, still_standing, went_in}
 use Rattle.mqtt_handed_laws.specs.Tags.{AreNumbered, AreTagged, IsTagged, IsTaggedBy, IsTaggedWith, Names, WasTagged, id_of}
 use Rattle.mqtt_handed_laws.proofs.Answering.{its_went, went_left}
+use Rattle.mqtt_handed_laws.proofs.Known.{known_left}
 use Rattle.mqtt_handed_laws.proofs.Marks.{lots_by}
 use Rattle.mqtt_handed_laws.proofs.Refusals.{run_append}
 use Rattle.mqtt_handed_laws.proofs.Resuming.{renewed_standing, still_renewed}
@@ -108,19 +109,6 @@ left_stand place ending lots queue None h =
     sym (still_renewed (lots_after (turns.Leave place ending) lots))
     ∙ (renewed_leave place ending lots ∙ left_lots (map renewed lots) [] place ending queue (still_renewed lots ∙ h))
 left_stand place ending lots queue (Some went) h = left_lots lots went place ending queue h
-
--- the places on a line are those of copies that stand
-known_left : (place : ℕ) (queue : List CopyRow) (o : Option (List ℕ)) → AreKnown queue o → AreKnown (remove_row copy_place place queue) (option_map (ids_without place) o)
-known_left place queue None h = tt
-known_left place queue (Some []) h = tt
-known_left place queue (Some (p ∷ ps)) h = elim (cases_Bool (nat_eq p place)) [
-  | inl goes ↦ rw goes (known_left place queue (Some ps) h.1)
-  | inr stays ↦
-      let other : nat_eq place p ≡ false = apart place p (λ same. let yes : nat_eq p place ≡ true = ap (λ (k : ℕ). nat_eq k place) (sym same) ∙ nat_eq_equiv.refl place in let clash : true ≡ false = sym yes ∙ stays in absurd cc) in
-      let there : has_row copy_place p (remove_row copy_place place queue) ≡ true =
-      ap is_some (row_at-remove_row copy_place p place queue ∙ ap (λ (c : Bool). cond c None (row_at copy_place p queue)) other) ∙ h.0 in
-      rw stays (there, known_left place queue (Some ps) h.1)
-]
 
 below_has : (n p : ℕ) (queue : List CopyRow) → IsBelow copy_place n queue → has_row copy_place p queue ≡ true → p < n
 below_has n p [] low there = absurd cc

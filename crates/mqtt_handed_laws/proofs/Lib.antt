@@ -3,6 +3,7 @@ pub mod Doings
 pub mod Joins
 pub mod Handed
 pub mod Turns
+pub mod Known
 pub mod Answering
 pub mod Losing
 pub mod Marks
@@ -14,6 +15,7 @@ pub mod Resuming
 pub mod Beginning
 pub mod Renewing
 pub mod Entering
+pub mod Others
 pub mod Examples
 pub mod DrainRuns
 pub mod DrainExamples

@@ -1,8 +1,9 @@
 -- A receiver's line is lost: it is that event of its hop.
-use Rattle.std.proofs.Common.{◌≡◌, ℕ, Bool, List, [], ◌∷◌, ◌++◌, map, Option, Some, None, bytes_eq, sym, ap, subst, ◌∙◌}
+use Rattle.std.proofs.Common.{◌≡◌, ℕ, Bool, List, [], ◌∷◌, ◌++◌, map, Option, Some, None, bytes_eq, refl, sym, ap, subst, ◌∙◌}
 use Rattle.std.specs.Prelude.{filter_map, find, is_some}
 use Rattle.mqtt_flow.specs.OutboundWorld.{Lot, World as Hop, break_line, renewed, start, step}
 use Rattle.mqtt_laws.specs.Ends.{Receiver}
+use Rattle.mqtt_laws.specs.Hops.{IsOnly}
 use Rattle.mqtt_laws.specs.Lines.{is_one_of, unless_closed}
 use Rattle.mqtt_laws.proofs.Breaks.{lost_is}
 use Rattle.mqtt_laws.proofs.Names.{named_is, only_deeds}
@@ -10,13 +11,15 @@ use Rattle.mqtt_laws.proofs.Seeing.{done_lines, done_sessions}
 use Rattle.mqtt_records.specs.Session.{with_columns}
 use Rattle.mqtt_records.specs.declared.session.Session.{Session}
 use Rattle.mqtt_rules.specs.Deeds.{At, Close, Deed, Gone, after_all, closing, rows_of_all, whose}
-use Rattle.mqtt_rules.specs.State.{Line as BrokerLine, Broker, MemberChoice, session_named}
+use Rattle.mqtt_rules.specs.State.{Line as BrokerLine, Broker, MemberChoice, session_at, session_named}
 use Rattle.mqtt_rules.specs.Step.{Lost, at_moment, deeds, stepped}
 use Rattle.mqtt_rules.specs.declared.Limits.{Limits}
+use Rattle.mqtt_handed_laws.specs.Entering.{AreKnown, Receives}
 use Rattle.mqtt_handed_laws.specs.Handing.{IsListening, IsRun, receiver_lost}
 use Rattle.mqtt_handed_laws.specs.Seen.{AreQueued, Numbering, StandOn, answered, seen, went_in}
 use Rattle.mqtt_handed_laws.proofs.Refusals.{run_append}
 use Rattle.mqtt_handed_laws.proofs.Answering.{closed_row, its_went, named_now, session_closed, standing_by, went_gone}
+use Rattle.mqtt_handed_laws.proofs.Known.{receives_after}
 use Rattle.mqtt_handed_laws.proofs.Turns.{renewed_lots}
 
 pub losing_runs : (number : Numbering) (largest : ℕ) (copies : List Lot) (limits : Limits) (choice : MemberChoice) (now : ℕ) (r : Receiver) (l : BrokerLine) (s : Session) (b : Broker)
@@ -54,3 +57,19 @@ losing_runs number largest copies limits choice now r l s b h x =
       numbered = h.numbered;
       tagged = record { down = tt; ledger = h.tagged.ledger; once = h.tagged.once };
     }
+
+-- without a line, its session may receive more
+pub losing_receives : (limits : Limits) (choice : MemberChoice) (now : ℕ) (r : Receiver) (l : BrokerLine) (s : Session) (b : Broker)
+    → IsListening r l s b → Receives (receiver_lost limits choice now l.number r b) (stepped limits choice now (Lost l.number) b)
+losing_receives limits choice now r l s b x =
+    let ds = deeds limits choice now (Lost l.number) b in
+    let first = at_moment now b in
+    let out : List Deed = Gone l.number ∷ At (whose s) (Close first.now) ∷ [] in
+    let is : ds ≡ out = lost_is limits choice now l s b x.line x.connected x.session x.no_will x.no_end in
+    let after_s = with_columns (closed_row first.now s) s in
+    let only = only_deeds r.client s.birth out first (tt, (tt, tt)) x.only in
+    let went : its_went s.birth (after_all out first).lines ≡ None = went_gone s.birth l.number b.lines x.alone in
+    receives_after (receiver_lost limits choice now l.number r b) s.birth limits choice now (Lost l.number) b after_s
+    (ap (λ (xs : List Deed). session_at s.birth (after_all xs first).records) is ∙ session_closed s first.now b.records x.session) x.client refl
+    (subst (λ (xs : List Deed). IsOnly r.client s.birth (after_all xs first).records) (sym is) only)
+    (subst (λ (xs : List Deed). AreKnown s.queue (its_went s.birth (after_all xs first).lines)) (sym is) (subst (AreKnown s.queue) (sym went) tt))

@@ -25,10 +25,11 @@ use Rattle.mqtt_rules.specs.Step.{Input, at_moment, deeds, env_of, next_packet, 
 use Rattle.mqtt_rules.specs.declared.Limits.{Limits}
 use Rattle.mqtt_laws.proofs.OwnStep.{heard_of}
 use Rattle.mqtt_handed_laws.specs.Calls.{IsLingering, reads_old_answer, turned_back}
+use Rattle.mqtt_handed_laws.specs.Entering.{AreKnown, IsReceiving, Receives}
 use Rattle.mqtt_handed_laws.specs.Handing.{IsRun, RunsOn, after_answer}
 use Rattle.mqtt_handed_laws.specs.Seen.{AreQueued, Numbering, StandOn, answered, handed_in, heard_in, lot_on, seen, still_standing, went_in}
 use Rattle.mqtt_handed_laws.specs.Tags.{AreNumbered, AreTagged, IsTagged, id_of}
-use Rattle.mqtt_handed_laws.proofs.Answering.{IsAsideOf, IsReply, answer_becomes, copies_by, ids_by, its_went, named_now, reply_puback, reply_pubcomp, reply_pubrec, shut_by, standing_by}
+use Rattle.mqtt_handed_laws.proofs.Answering.{IsAsideOf, IsReply, answer_becomes, answer_receives, copies_by, ids_by, its_went, named_now, reply_puback, reply_pubcomp, reply_pubrec, shut_by, standing_by}
 use Rattle.mqtt_handed_laws.proofs.Refusals.{run_append}
 use Rattle.mqtt_handed_laws.proofs.Turns.{same_entries}
 
@@ -197,6 +198,11 @@ module _ (number : Numbering) (largest : ℕ) (copies : List Lot) (limits : Limi
         };
       }
 
+  pub old_answer_receives : AreKnown s.queue (went_in s.birth b) → (x : rules.Answer) → IsReply x → next_packet (env_of limits choice b) l packet s (heard_of now n b) ≡ on_answer x (env_of limits choice b) l s (heard_of now n b)
+      → Receives (reads_old_answer limits choice now n a r b) (after_answer limits choice now n a r b)
+  old_answer_receives known x ok e =
+      answer_receives number largest copies limits choice now a rest (turned_back r) l s b still c old (reads_old_answer limits choice now n a r b) refl known x ok e
+
 -- ---- the three answers
 
 pub old_puback_runs : (number : Numbering) (largest : ℕ) (copies : List Lot) (limits : Limits) (choice : MemberChoice) (now i code : ℕ) (rest : List Back) (r : Receiver) (l : BrokerLine) (s : Session) (b : Broker)
@@ -231,3 +237,26 @@ old_pubcomp_runs number largest copies limits choice now i code rest r l s b h c
     answer_there number largest copies limits choice now (pubcomp i code) rest r l s b h c old (rules.pubcomp i q) (reply_pubcomp (holder i q)) refl
     (ap (λ (xs : List Answer). old_comes false xs w) (ap (filter_map answered) old)
     ∙ ap (λ (es : List FlowEntry). replied_old (rules.pubcomp i es) (filter_map answered rest) w) (same_entries copies l.went s.queue there))
+
+-- ---- and its session may receive more
+
+pub old_puback_receives : (number : Numbering) (largest : ℕ) (copies : List Lot) (limits : Limits) (choice : MemberChoice) (now i code : ℕ) (rest : List Back) (r : Receiver) (l : BrokerLine) (s : Session) (b : Broker)
+    → IsRun number largest copies r b → IsLingering r l s b → IsReceiving r s b → r.line.old ≡ answers (puback i code) ∷ rest
+    → Receives (reads_old_answer limits choice now l.number (puback i code) r b) (after_answer limits choice now l.number (puback i code) r b)
+old_puback_receives number largest copies limits choice now i code rest r l s b h c x there =
+    let q = queue_on l.went s in
+    old_answer_receives number largest copies limits choice now (puback i code) rest r l s b h c there x.known (rules.puback i code q) (reply_puback code (holder i q)) refl
+
+pub old_pubrec_receives : (number : Numbering) (largest : ℕ) (copies : List Lot) (limits : Limits) (choice : MemberChoice) (now i code : ℕ) (rest : List Back) (r : Receiver) (l : BrokerLine) (s : Session) (b : Broker)
+    → IsRun number largest copies r b → IsLingering r l s b → IsReceiving r s b → r.line.old ≡ answers (pubrec i code) ∷ rest
+    → Receives (reads_old_answer limits choice now l.number (pubrec i code) r b) (after_answer limits choice now l.number (pubrec i code) r b)
+old_pubrec_receives number largest copies limits choice now i code rest r l s b h c x there =
+    let q = queue_on l.went s in
+    old_answer_receives number largest copies limits choice now (pubrec i code) rest r l s b h c there x.known (rules.pubrec i code q) (reply_pubrec i code (next_order q) (holder i q)) refl
+
+pub old_pubcomp_receives : (number : Numbering) (largest : ℕ) (copies : List Lot) (limits : Limits) (choice : MemberChoice) (now i code : ℕ) (rest : List Back) (r : Receiver) (l : BrokerLine) (s : Session) (b : Broker)
+    → IsRun number largest copies r b → IsLingering r l s b → IsReceiving r s b → r.line.old ≡ answers (pubcomp i code) ∷ rest
+    → Receives (reads_old_answer limits choice now l.number (pubcomp i code) r b) (after_answer limits choice now l.number (pubcomp i code) r b)
+old_pubcomp_receives number largest copies limits choice now i code rest r l s b h c x there =
+    let q = queue_on l.went s in
+    old_answer_receives number largest copies limits choice now (pubcomp i code) rest r l s b h c there x.known (rules.pubcomp i q) (reply_pubcomp (holder i q)) refl

@@ -1,6 +1,6 @@
 -- What a pump makes of a session's queue and of its line, and what it tells: it does the turns of the hop.
 use Rattle.std.proofs.Common.{◌≡◌, ℕ, zero, suc, ◌+◌, ◌<◌, ◌≤◌, Bool, true, false, cond, List, [], ◌∷◌, ◌++◌, map, Option, Some, None, nat_eq, refl, sym, ap, subst, ◌∙◌, arith, inl, inr}
-use Rattle.std.specs.Prelude.{⊤, filter_map, option_map, slice_get}
+use Rattle.std.specs.Prelude.{⊤, filter_map, is_some, option_map, slice_get}
 use Rattle.std.specs.List.{AllByRecursion, cons_option}
 use Rattle.std.proofs.lemmas.Bool.{cases_Bool, eqb-true}
 use Rattle.std.proofs.lemmas.Cmp.{nat_eq_equiv}
@@ -32,7 +32,7 @@ use Rattle.mqtt_records.specs.Records.{changed_all}
 use Rattle.mqtt_records.specs.Session.{birth_of, copy_place, in_phase, with_phase, without_copy}
 use Rattle.mqtt_records.specs.declared.records.Records.{Records}
 use Rattle.mqtt_records.specs.declared.session.Session.{Session}
-use Rattle.mqtt_rows.specs.Order.{IsAbove, IsAscending, change_row, remove_row, row_at}
+use Rattle.mqtt_rows.specs.Order.{IsAbove, IsAscending, change_row, has_row, remove_row, row_at}
 use Rattle.mqtt_rows.proofs.LookUps.{row_at-remove_row}
 use Rattle.mqtt_rows.proofs.OrderLemmas.{apart, change-ascending, remove-ascending}
 use Rattle.mqtt_rules.proofs.FlightPump.{Ahead}
@@ -43,10 +43,12 @@ use Rattle.mqtt_rules.specs.Packets as packets_of
 use Rattle.mqtt_rules.specs.Packets.{delivery_by, properties_sent, publish_of}
 use Rattle.mqtt_rules.specs.State.{Line as BrokerLine, Broker, entry_on, is_of, session_at}
 use Rattle.mqtt_rules.specs.Step.{copy_of}
+use Rattle.mqtt_handed_laws.specs.Entering.{AreKnown}
 use Rattle.mqtt_handed_laws.specs.Handing.{IsAloneOn}
 use Rattle.mqtt_handed_laws.specs.Seen.{Numbering, content_of, heard_in, lot_on, number_of, publish_heard, still_standing}
 use Rattle.mqtt_handed_laws.specs.Tags.{IsTagged, IsTaggedBy, Names, id_of}
 use Rattle.mqtt_handed_laws.proofs.Answering.{its_went, went_left}
+use Rattle.mqtt_handed_laws.proofs.Known.{known_left, known_marked, known_sent}
 use Rattle.mqtt_handed_laws.proofs.Marks.{lots_by, outgrown_lots, outputs_of, resent_lots, sent_as, sent_lots}
 use Rattle.mqtt_handed_laws.proofs.Turns.{ids_after, left_lots}
 
@@ -171,7 +173,7 @@ publish_tag number ids n new c ExactlyOnce dup i its is = subst (Names number id
 abbrev pub IsRowGranted : CopyRow → Type 0
 IsRowGranted e = is_granted e.copy.qos ≡ true
 
-module _ (number : Numbering) (n now : ℕ) (s : Session) (ids : List CopyId) (numbered : (k : ℕ) (copy : CopyId) → slice_get ids k ≡ Some copy → number copy ≡ k) where
+module _ (number : Numbering) (n now : ℕ) (s : Session) (went_then : List ℕ) (ids : List CopyId) (numbered : (k : ℕ) (copy : CopyId) → slice_get ids k ≡ Some copy → number copy ≡ k) where
   -- the session with this queue
   abbrev pub holds : List CopyRow → Session
   holds queue = record s { queue = queue }
@@ -185,6 +187,7 @@ module _ (number : Numbering) (n now : ℕ) (s : Session) (ids : List CopyId) (n
     pub alone : AllByRecursion (IsAloneOn s.birth n) b.lines
     pub standing : still_standing lots ≡ map (lot_on went) queue
     pub ids_are : map id_of lots ≡ ids
+    pub known : AreKnown s.queue (Some went_then) → AreKnown queue (Some went)
 
   -- what these deeds, which are these turns, make of it; the copies below the place k stay as they are
   pub record Goes (ds : List Deed) (ts : List Turn) (k : ℕ) (queue : List CopyRow) (lots : List Lot) (b : Broker) : Type 0 where
@@ -212,10 +215,10 @@ module _ (number : Numbering) (n now : ℕ) (s : Session) (ids : List CopyId) (n
       ap (λ (o : Option Session). session_at s.birth (changed_all (part_rows_of (Leave e ending) o) r)) is
       ∙ change_row-here birth_of s.birth (without_copy e.place) (holds queue) r.sessions (λ y. refl) is
 
-  tracks_sent : (place i : ℕ) (packet : Packet) (queue : List CopyRow) (went : List ℕ) (lots : List Lot) (b : Broker) → Tracks queue went lots b
+  tracks_sent : (place i : ℕ) (packet : Packet) (queue : List CopyRow) (went : List ℕ) (lots : List Lot) (b : Broker) → has_row copy_place place queue ≡ true → Tracks queue went lots b
       → Tracks (change_row copy_place place (in_phase (Sent i)) queue) (went ++ place ∷ []) (lots_after (turns.Send place i) lots)
       (after_all (At (whose s) (Mark place (Sent i)) ∷ On n (Went place) ∷ Send n packet ∷ []) b)
-  tracks_sent place i packet queue went lots b h = record {
+  tracks_sent place i packet queue went lots b there h = record {
     session = stored_marked place (Sent i) queue b.records h.session;
     places = change-ascending copy_place place (in_phase (Sent i)) queue (λ y. refl) h.places;
     went_is = went_more s.birth n b.now place went b.lines h.alone h.on h.went_is;
@@ -223,11 +226,12 @@ module _ (number : Numbering) (n now : ℕ) (s : Session) (ids : List CopyId) (n
     alone = alone_went s.birth n b.now place b.lines h.alone;
     standing = sent_lots lots went place i queue h.places h.standing;
     ids_are = ids_after (turns.Send place i) lots ∙ h.ids_are;
+    known = λ k. known_marked place (Sent i) queue (Some (went ++ place ∷ [])) (known_sent place queue went there (h.known k));
   }
 
-  tracks_resent : (place i : ℕ) (packet : Packet) (queue : List CopyRow) (went : List ℕ) (lots : List Lot) (b : Broker) → Tracks queue went lots b
+  tracks_resent : (place i : ℕ) (packet : Packet) (queue : List CopyRow) (went : List ℕ) (lots : List Lot) (b : Broker) → has_row copy_place place queue ≡ true → Tracks queue went lots b
       → Tracks queue (went ++ place ∷ []) (lots_after (turns.Resend place i) lots) (after_all (On n (Went place) ∷ Send n packet ∷ []) b)
-  tracks_resent place i packet queue went lots b h = record {
+  tracks_resent place i packet queue went lots b there h = record {
     session = h.session;
     places = h.places;
     went_is = went_more s.birth n b.now place went b.lines h.alone h.on h.went_is;
@@ -235,6 +239,7 @@ module _ (number : Numbering) (n now : ℕ) (s : Session) (ids : List CopyId) (n
     alone = alone_went s.birth n b.now place b.lines h.alone;
     standing = resent_lots lots went place i queue h.places h.standing;
     ids_are = ids_after (turns.Resend place i) lots ∙ h.ids_are;
+    known = λ k. known_sent place queue went there (h.known k);
   }
 
   tracks_outgrown : (place i order : ℕ) (packet : Packet) (queue : List CopyRow) (went : List ℕ) (lots : List Lot) (b : Broker) → Tracks queue went lots b
@@ -248,6 +253,7 @@ module _ (number : Numbering) (n now : ℕ) (s : Session) (ids : List CopyId) (n
     alone = h.alone;
     standing = outgrown_lots lots went place i order queue h.places h.standing;
     ids_are = ids_after (turns.Outgrow place i order) lots ∙ h.ids_are;
+    known = λ k. known_marked place (Oversize i order) queue (Some went) (h.known k);
   }
 
   tracks_left : (e : CopyRow) (ending : Ending) (queue : List CopyRow) (went : List ℕ) (lots : List Lot) (b : Broker) → Tracks queue went lots b
@@ -260,6 +266,7 @@ module _ (number : Numbering) (n now : ℕ) (s : Session) (ids : List CopyId) (n
     alone = alone_left s.birth n s.birth e.place b.lines h.alone;
     standing = left_lots lots went e.place ending queue h.standing;
     ids_are = ids_after (turns.Leave e.place ending) lots ∙ h.ids_are;
+    known = λ k. known_left e.place queue (Some went) (h.known k);
   }
 
   -- ---- a PUBLISH goes out
@@ -423,14 +430,14 @@ module _ (number : Numbering) (n now : ℕ) (s : Session) (ids : List CopyId) (n
         (go_send e i k (rest (paced t e.phase p)) queue went lots b at.was at.there at.granted at.from at.tracks
         (next (paced t e.phase p) (change_row copy_place e.place (in_phase (Sent i)) queue) (went ++ e.place ∷ []) (lots_after t lots)
         (after_all (At (whose s) (Mark e.place (Sent i)) ∷ On n (Went e.place) ∷ Send n packet ∷ []) b)
-        (ahead_marked e.place (Sent i) queue es at.above at.ahead) (tracks_sent e.place i packet queue went lots b at.tracks)))
+        (ahead_marked e.place (Sent i) queue es at.above at.ahead) (tracks_sent e.place i packet queue went lots b (ap is_some at.there) at.tracks)))
     takes (resend i) e es queue went lots b k p rest fit at next =
         let t = turns.Resend e.place i in
         let packet = publish_of now true i e.copy in
         by_room p.room t e.phase p rest k queue went lots b at.tracks
         (go_resend e i k (rest (paced t e.phase p)) queue went lots b at.was at.there at.granted fit at.from at.tracks
         (next (paced t e.phase p) queue (went ++ e.place ∷ []) (lots_after t lots) (after_all (On n (Went e.place) ∷ Send n packet ∷ []) b)
-        at.ahead (tracks_resent e.place i packet queue went lots b at.tracks)))
+        at.ahead (tracks_resent e.place i packet queue went lots b (ap is_some at.there) at.tracks)))
 
     takes_by : (left : ℕ) (v : Verdict) (e : CopyRow) (es queue : List CopyRow) (went : List ℕ) (lots : List Lot) (b : Broker) (k : ℕ) (p : Pacing) (rest : Pacing → List Turn)
         → Fits e.phase v → Reached e es queue went lots b k → Follows (suc e.place) es rest

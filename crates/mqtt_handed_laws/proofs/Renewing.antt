@@ -29,9 +29,10 @@ use Rattle.mqtt_rules.specs.Step.{Input, at_moment, deeds, env_of}
 use Rattle.mqtt_rules.specs.declared.Limits.{Limits}
 use Rattle.mqtt_topic.specs.Names.{is_empty}
 use Rattle.mqtt_handed_laws.specs.Calls.{IsRenewing}
+use Rattle.mqtt_handed_laws.specs.Entering.{Receives}
 use Rattle.mqtt_handed_laws.specs.Handing.{IsRun, RunsOn, after_answer, reads_answer}
 use Rattle.mqtt_handed_laws.specs.Seen.{Numbering, answered, seen}
-use Rattle.mqtt_handed_laws.proofs.Beginning.{begins_run, off_heard}
+use Rattle.mqtt_handed_laws.proofs.Beginning.{Clears, begins_receives, begins_run, off_heard}
 use Rattle.mqtt_handed_laws.proofs.Resuming.{IsOffIt, call_is, greeting, left_closes, left_lines, left_untold, lines_without, refused_not, went_at, went_at_heard, went_at_left}
 
 -- ---- the deeds of the CONNECT
@@ -167,15 +168,18 @@ ended_closes o s now ds none =
 
 -- ---- the step
 
-pub renewal_runs : (number : Numbering) (largest : ℕ) (copies : List Lot) (limits : Limits) (choice : MemberChoice) (now : ℕ) (rest : List Back) (r : Receiver) (l : BrokerLine) (s : Session) (b : Broker)
-    → IsRun number largest copies r b → IsRenewing limits r l s b → r.line.up ≡ answers (connect true) ∷ rest
-    → RunsOn number largest copies (reads_answer limits choice now l.number (connect true) r b) (after_answer limits choice now l.number (connect true) r b)
-renewal_runs number largest copies limits choice now rest r l s b h a up =
+record Renews (number : Numbering) (largest : ℕ) (copies : List Lot) (limits : Limits) (choice : MemberChoice) (now : ℕ) (rest : List Back) (r : Receiver) (l : BrokerLine) (s : Session) (b : Broker)
+    (h : IsRun number largest copies r b) (a : IsRenewing limits r l s b) : Type 0 where
+  pub front : List Deed
+  pub clears : Clears number largest copies limits choice now true rest r l b h a.resuming.number front (lines_left (line_of s.birth b))
+
+renewed_clears : (number : Numbering) (largest : ℕ) (copies : List Lot) (limits : Limits) (choice : MemberChoice) (now : ℕ) (rest : List Back) (r : Receiver) (l : BrokerLine) (s : Session) (b : Broker)
+    → (h : IsRun number largest copies r b) → (a : IsRenewing limits r l s b) → Renews number largest copies limits choice now rest r l s b h a
+renewed_clears number largest copies limits choice now rest r l s b h a =
     let n = l.number in
     let first = at_moment now b in
     let heard_first = heard_of now n b in
     let env = env_of limits choice b in
-    let w = seen number copies r b in
     let heard_line = heard_line_of s.birth n now b (line_of s.birth b) refl a.resuming.taken in
     let o = heard_line.0 in
     let t = heard_line.2 in
@@ -210,19 +214,38 @@ renewal_runs number largest copies limits choice now rest r l s b h a up =
     call_is limits choice now true r.client r.window l b a.resuming.line a.resuming.waits
     ∙ (ap (λ (ds : List Deed). On n Hear ∷ ds) (append-nil (on_connect env l (greeting true r.client r.window) heard_first))
     ∙ ap (λ (ds : List Deed). On n Hear ∷ ds) (connect_is o env l r.client r.window s heard_first heard_line.1 t kept a.some clears.none fits)) in
+    record {
+      front = front;
+      clears = record {
+        deeds_are = is;
+        none = clears.none;
+        births = given_all front heard_first (ending_next front heard_first clears.ending) a.births;
+        room = omega (arith, fewer, room, within);
+        waits = end.waits;
+        went = end.went;
+        off = subst (λ (k : ℕ). AllByRecursion (IsOffIt (suc k)) d.lines) (sym end.births_are) end.off;
+        untold = λ new ds. ended_untold o s heard_first.now n new ds t;
+        closings = λ ds none. ended_closes o s heard_first.now ds none ∙ heard_line.3;
+        open_still = not_left (line_of s.birth b) s.birth n a.resuming.taken;
+        old = a.resuming.old;
+      };
+    }
+
+pub renewal_runs : (number : Numbering) (largest : ℕ) (copies : List Lot) (limits : Limits) (choice : MemberChoice) (now : ℕ) (rest : List Back) (r : Receiver) (l : BrokerLine) (s : Session) (b : Broker)
+    → IsRun number largest copies r b → IsRenewing limits r l s b → r.line.up ≡ answers (connect true) ∷ rest
+    → RunsOn number largest copies (reads_answer limits choice now l.number (connect true) r b) (after_answer limits choice now l.number (connect true) r b)
+renewal_runs number largest copies limits choice now rest r l s b h a up =
+    let w = seen number copies r b in
+    let x = renewed_clears number largest copies limits choice now rest r l s b h a in
     let stands : is_some (session_named r.client b.records) ≡ true = ap is_some (named_is r.client s.birth b.records s a.resuming.kept.only a.resuming.kept.session a.resuming.kept.name) in
-    begins_run number largest copies limits choice now true rest r l b h a.resuming.number front (lines_left (line_of s.birth b)) (record {
-      deeds_are = is;
-      none = clears.none;
-      births = given_all front heard_first (ending_next front heard_first clears.ending) a.births;
-      room = omega (arith, fewer, room, within);
-      waits = end.waits;
-      went = end.went;
-      off = subst (λ (k : ℕ). AllByRecursion (IsOffIt (suc k)) d.lines) (sym end.births_are) end.off;
-      untold = λ new ds. ended_untold o s heard_first.now n new ds t;
-      closings = λ ds none. ended_closes o s heard_first.now ds none ∙ heard_line.3;
-      open_still = not_left (line_of s.birth b) s.birth n a.resuming.taken;
-      old = a.resuming.old;
-    }) up
+    begins_run number largest copies limits choice now true rest r l b h a.resuming.number x.front (lines_left (line_of s.birth b)) x.clears up
     (ap (λ (xs : List Answer). up_comes false xs w) (ap (filter_map answered) up)
     ∙ ap (λ (z : Bool). connects z true false (filter_map answered rest) w) stands)
+
+-- and it may receive more
+pub renewal_receives : (number : Numbering) (largest : ℕ) (copies : List Lot) (limits : Limits) (choice : MemberChoice) (now : ℕ) (rest : List Back) (r : Receiver) (l : BrokerLine) (s : Session) (b : Broker)
+    → IsRun number largest copies r b → IsRenewing limits r l s b → r.line.up ≡ answers (connect true) ∷ rest
+    → Receives (reads_answer limits choice now l.number (connect true) r b) (after_answer limits choice now l.number (connect true) r b)
+renewal_receives number largest copies limits choice now rest r l s b h a up =
+    let x = renewed_clears number largest copies limits choice now rest r l s b h a in
+    begins_receives number largest copies limits choice now true rest r l b h a.resuming.number x.front (lines_left (line_of s.birth b)) x.clears

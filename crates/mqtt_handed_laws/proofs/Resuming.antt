@@ -45,11 +45,13 @@ use Rattle.mqtt_rules.specs.State.{Line as BrokerLine, Broker, Env, MemberChoice
 use Rattle.mqtt_rules.specs.Step.{Input, at_moment, deeds, env_of, on_packet, stepped}
 use Rattle.mqtt_rules.specs.declared.Limits.{Limits}
 use Rattle.mqtt_handed_laws.specs.Calls.{IsOnlyAt, IsResuming}
+use Rattle.mqtt_handed_laws.specs.Entering.{AreKnown, Receives}
 use Rattle.mqtt_handed_laws.specs.Handing.{IsRun, RunsOn, after_answer, reads_answer}
 use Rattle.mqtt_handed_laws.specs.Seen.{AreQueued, Numbering, StandOn, answered, heard_in, lot_on, seen, still_standing, went_in}
 use Rattle.mqtt_handed_laws.specs.Tags.{AreNumbered, AreTagged, IsTagged, id_of}
 use Rattle.mqtt_handed_laws.proofs.Answering.{its_went}
 use Rattle.mqtt_handed_laws.proofs.Calling.{AreInside, Makes, called_queue, called_seen, called_tags, hop_called, inside_begins, inside_closes, inside_turns}
+use Rattle.mqtt_handed_laws.proofs.Known.{receives_after}
 use Rattle.mqtt_handed_laws.proofs.Pumps.{down_first, its_session}
 use Rattle.mqtt_handed_laws.proofs.Refusals.{run_append}
 use Rattle.mqtt_handed_laws.proofs.Turns.{renewed_lots, same_entries}
@@ -368,6 +370,9 @@ module _ (number : Numbering) (largest : ℕ) (copies : List Lot) (limits : Limi
         ap (λ (k : ℕ). its_went s.birth (on_line left.now n (Greet k 0 r.window 0xffffffff) left.lines)) birth_same
         ∙ greeted_went left.now n s.birth 0 r.window 0xffffffff left.lines off went
 
+    went_ends : its_went s.birth (after_all (deeds limits choice now (Input n packet) b) first).lines ≡ Some []
+    went_ends = ap (λ (ds : List Deed). its_went s.birth (after_all ds first).lines) deeds_are ∙ (ap (λ (d : Broker). its_went s.birth d.lines) ends ∙ went_end)
+
     on_end : session_on n end.lines ≡ Some (Some x.birth)
     on_end = greeted_line left.now n x.birth 0 r.window 0xffffffff left.lines waits_still
 
@@ -416,9 +421,7 @@ module _ (number : Numbering) (largest : ℕ) (copies : List Lot) (limits : Limi
       only = subst (λ (ds : List Deed). IsOnly r.client s.birth (after_all ds first).records) (sym deeds_are)
           (only_deeds r.client s.birth all_deeds first (tt, left_begins r.client s.birth o s heard_first.now resumes (inside_begins r.client s.birth resumes inside)) a.kept.only);
       queued =
-          let went : its_went s.birth (after_all (deeds limits choice now (Input n packet) b) first).lines ≡ Some [] =
-          ap (λ (ds : List Deed). its_went s.birth (after_all ds first).lines) deeds_are ∙ (ap (λ (d : Broker). its_went s.birth d.lines) ends ∙ went_end) in
-          subst (λ (z : Option (List ℕ)). StandOn copies2 x.queue z) (sym went) (still_now ∙ ap (map (lot_on [])) (sym (taken_queue o heard_first.now s)));
+          subst (λ (z : Option (List ℕ)). StandOn copies2 x.queue z) (sym went_ends) (still_now ∙ ap (map (lot_on [])) (sym (taken_queue o heard_first.now s)));
       linked = ap (λ (ds : List Deed). linked_of (session_on n (after_all ds first).lines)) deeds_are ∙ (ap (λ (d : Broker). linked_of (session_on n d.lines)) ends ∙ ap linked_of on_end);
       heard = ap (λ (ds : List Deed). filter_map (heard_in number) (sent_to (Some n) new (filter_map output ds))) deeds_are ∙ told_is;
       tagged = subst (λ (ds : List Deed). AllByRecursion (IsTagged number ids) (sent_to (Some n) new (filter_map output ds))) (sym deeds_are) tagged_are;
@@ -455,7 +458,19 @@ module _ (number : Numbering) (largest : ℕ) (copies : List Lot) (limits : Limi
           };
         }
 
+    resumes_receives : Receives (reads_answer limits choice now n (connect false) r b) (after_answer limits choice now n (connect false) r b)
+    resumes_receives =
+        let m = makes in
+        receives_after (reads_answer limits choice now n (connect false) r b) s.birth limits choice now (Input n packet) b m.session m.found m.client m.birth_is m.only
+        (subst (AreKnown m.session.queue) (sym went_ends) tt)
+
   pub connect_runs : RunsOn number largest copies (reads_answer limits choice now l.number (connect false) r b) (after_answer limits choice now l.number (connect false) r b)
   connect_runs =
       let heard_line = heard_line_of s.birth n now b (line_of s.birth b) refl a.taken in
       resumes_run heard_line.0 heard_line.1 heard_line.2 heard_line.3
+
+  -- and its session may receive more
+  pub connect_receives : Receives (reads_answer limits choice now l.number (connect false) r b) (after_answer limits choice now l.number (connect false) r b)
+  connect_receives =
+      let heard_line = heard_line_of s.birth n now b (line_of s.birth b) refl a.taken in
+      resumes_receives heard_line.0 heard_line.1 heard_line.2 heard_line.3

@@ -31,11 +31,13 @@ use Rattle.mqtt_rules.specs.State.{Line as BrokerLine, Broker, MemberChoice, que
 use Rattle.mqtt_rules.specs.Step.{Pump, at_moment, deeds, on_pump, stepped}
 use Rattle.mqtt_rules.specs.declared.Limits.{Limits}
 use Rattle.mqtt_handed_laws.specs.Calls.{receiver_called}
+use Rattle.mqtt_handed_laws.specs.Entering.{AreKnown, Receives}
 use Rattle.mqtt_handed_laws.specs.Handing.{IsListening, IsRun, RunsOn}
-use Rattle.mqtt_handed_laws.specs.Seen.{Numbering, StandOn, heard_in, lot_on, seen, still_standing}
+use Rattle.mqtt_handed_laws.specs.Seen.{Numbering, StandOn, heard_in, lot_on, seen, still_standing, went_in}
 use Rattle.mqtt_handed_laws.specs.Tags.{AreNumbered, AreTagged, IsTagged, id_of}
-use Rattle.mqtt_handed_laws.proofs.Answering.{its_went, linked_now, named_now, standing_by}
+use Rattle.mqtt_handed_laws.proofs.Answering.{its_went, linked_now, named_now, standing_by, went_now}
 use Rattle.mqtt_handed_laws.proofs.Calling.{Makes, called_queue, called_seen, called_tags, finds, hop_called, inside_begins, inside_closes, inside_turns}
+use Rattle.mqtt_handed_laws.proofs.Known.{receives_after}
 use Rattle.mqtt_handed_laws.proofs.Marks.{lots_by, outputs_of, turns_made}
 use Rattle.mqtt_handed_laws.proofs.Pumps.{Finds, Goes, IsRowGranted, Tracks, pump_goes}
 use Rattle.mqtt_handed_laws.proofs.Refusals.{run_append}
@@ -102,7 +104,7 @@ module _ (number : Numbering) (largest : ℕ) (copies : List Lot) (limits : Limi
   standing_now : still_standing copies ≡ map (lot_on l.went) s.queue
   standing_now = standing_by copies r l s b h.queue_is c
 
-  at_start : Tracks number n first.now s ids h.numbered s.queue l.went copies first
+  at_start : Tracks number n first.now s l.went ids h.numbered s.queue l.went copies first
   at_start = record {
     session = c.session;
     places = c.places;
@@ -111,12 +113,13 @@ module _ (number : Numbering) (largest : ℕ) (copies : List Lot) (limits : Limi
     alone = c.alone;
     standing = standing_now;
     ids_are = refl;
+    known = λ k. k;
   }
 
-  goes : Goes number n first.now s ids h.numbered (pump_deeds l first.now s) ts 0 s.queue copies first
+  goes : Goes number n first.now s l.went ids h.numbered (pump_deeds l first.now s) ts 0 s.queue copies first
   goes =
       let all = all_found copy_place s.queue c.places in
-      pump_goes number n first.now s ids h.numbered (way_of l first.now) l.went 0 s.queue c.places all (queue_granted number largest copies l.went s.queue r b h standing_now) (all_zero s.queue)
+      pump_goes number n first.now s l.went ids h.numbered (way_of l first.now) l.went 0 s.queue c.places all (queue_granted number largest copies l.went s.queue r b h standing_now) (all_zero s.queue)
       (rules.pace (way_of l first.now) (queue_on l.went s)) s.queue l.went copies first all at_start
 
   abbrev last : Session
@@ -187,3 +190,10 @@ module _ (number : Numbering) (largest : ℕ) (copies : List Lot) (limits : Limi
               (called_tags number copies2 ids limits choice now (Pump n) r n s.birth b (outputs_of ts copies) false false makes h.tagged);
         };
       }
+
+  pub pump_receives : AreKnown s.queue (went_in s.birth b) → Receives (receiver_called limits choice now (Pump l.number) r b) (stepped limits choice now (Pump l.number) b)
+  pump_receives known_here =
+      let x = makes in
+      let known_last : AreKnown goes.last (Some goes.went) = goes.tracks.known (subst (AreKnown s.queue) (went_now r l s b c) known_here) in
+      receives_after (receiver_called limits choice now (Pump l.number) r b) s.birth limits choice now (Pump n) b last found_last c.client refl x.only
+      (subst (λ (ds : List Deed). AreKnown goes.last (its_went s.birth (after_all ds first).lines)) (sym pumps_are) (subst (AreKnown goes.last) (sym goes.tracks.went_is) known_last))

@@ -30,6 +30,11 @@ pub record IsReceiving (r : Receiver) (s : Session) (b : Broker) : Type 0 where
   pub only : IsOnly r.client s.birth b.records
   pub known : AreKnown s.queue (went_in s.birth b)
 
+-- one of its name stands so
+pub record Receives (r : Receiver) (b : Broker) : Type 0 where
+  pub session : Session
+  pub receiving : IsReceiving r session b
+
 -- a copy of QoS 1 or 2, for which the queue has room
 pub record MayEnter (env : Env) (copy : MessageCopy) (s : Session) : Type 0 where
   pub granted : is_granted copy.qos ≡ true
