@@ -1,0 +1,10 @@
+use Rattle.std.proofs.Common.{◌∙◌, ap, map, sym, List}
+use Rattle.mqtt_ends.specs.declared.fates.Fate.{Fate}
+use Rattle.mqtt_ends.specs.Fates.{fates_of, on_heard}
+use Rattle.mqtt_ends.proofs.Hearing.{all_hear}
+use Rattle.mqtt_ends.proofs.handshakes.Handshakes.hear.Goals as goal
+
+pub returns : goal.returns
+returns c =
+    ap fates_of c.hear_all.ensures ∙ all_hear c.args.heard c.deref_mut.result.now
+    ∙ ap (λ (fs : List Fate). map (on_heard c.args.heard) (fates_of fs)) c.deref_mut.ensures.value ∙ ap (map (on_heard c.args.heard)) c.self.view_is
