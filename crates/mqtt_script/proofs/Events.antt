@@ -12,7 +12,7 @@ use Rattle.mqtt_script.specs.declared.fault.ScriptFault.{ScriptFault}
 use Rattle.mqtt_script.specs.declared.fault.ScriptFault.TheVariants.{Memory}
 use Rattle.mqtt_script.specs.Words.{words_of, flag_word, qos_word, handling_word}
 use Rattle.mqtt_script.specs.Lines.{first_word, asking_word, AskingFollows, IsAsking, Follows, IsLineOf, IsNoLine}
-use Rattle.mqtt_script.specs.Reading.{◌>>=◌, IsReadAs, name_at, flag_at, qos_at, handling_at, number_at, window_at, identifier_at, payload_at, alone, receiver_in, connect_in, publish_in, options_in, wish_in, subscribe_in, clock_in, asking_named, asking_in, asked, is_asking_word, end_named, event_named, event_in}
+use Rattle.mqtt_script.specs.Reading.{◌>>=◌, IsReadAs, name_at, flag_at, qos_at, handling_at, number_at, window_at, identifier_at, payload_at, alone, receiver_in, connect_in, draft_in, publish_in, options_in, wish_in, subscribe_in, clock_in, asking_named, asking_in, asked, is_asking_word, end_named, event_named, event_in}
 use Rattle.mqtt_script.proofs.Askings as askings
 use Rattle.mqtt_script.proofs.Askings.{one_name_is_read, by_name, asking_named_says, asking_says, asking_named_is_read, asking_is_read}
 use Rattle.mqtt_script.proofs.Cases.{same_some, bound, named, either, nothing}
@@ -47,13 +47,14 @@ connect_says (client ∷ clean ∷ []) e is =
 connect_says words e is = cc
 
 publish_says : (words : List (List ℕ)) (e : Event) → publish_in words ≡ Some e → Says (codes "publish") words e
-unfolding publish_in
+unfolding publish_in draft_in
 publish_says (client ∷ qos ∷ retain ∷ topic ∷ payload ∷ []) e is =
-    let q = bound (qos_at qos) _ e is in
-    let r = bound (flag_at retain) _ e q.2 in
-    let c = bound (name_at client) _ e r.2 in
-    let t = bound (name_at topic) _ e c.2 in
-    let p = bound (payload_at payload) _ e t.2 in
+    let d = bound (draft_in qos retain topic payload) _ e is in
+    let q = bound (qos_at qos) _ d.0 d.1 in
+    let r = bound (flag_at retain) _ d.0 q.2 in
+    let t = bound (name_at topic) _ d.0 r.2 in
+    let p = bound (payload_at payload) _ d.0 t.2 in
+    let c = bound (name_at client) _ e d.2 in
     let name = name_says client c.0 c.1 in
     let about = name_says topic t.0 t.1 in
     let qos_is : qos ≡ qos_word q.0 = qos_says qos q.0 q.1 in
@@ -62,7 +63,7 @@ publish_says (client ∷ qos ∷ retain ∷ topic ∷ payload ∷ []) e is =
     let topic_is : topic ≡ t.0 = about.0 in
     let draft : Draft = record { qos = q.0; content = record { retain = r.0; topic = t.0; payload = p.0 } } in
     subst (λ (e : Event). Says (codes "publish") (client ∷ qos ∷ retain ∷ topic ∷ payload ∷ []) e)
-    (same_some (Publish c.0 draft) e p.2)
+    (ap (λ (x : Draft). Publish c.0 x) (same_some draft d.0 p.2) ∙ same_some (Publish c.0 d.0) e c.2)
     (refl, (payload, (cc), name.1, about.1, payload_says payload p.0 p.1))
 publish_says words e is = cc
 
@@ -196,7 +197,7 @@ asked_is_read : (a : Asking) (more : List (List ℕ)) → AskingFollows a more
 asked_is_read a more is = ap (λ o. o >>= (λ a. Some (asked a))) (asking_named_is_read a more is)
 
 event_named_is_read : (e : Event) (more : List (List ℕ)) → Follows e more → event_named (first_word e) more ≡ Some e
-unfolding event_named end_named receiver_in connect_in publish_in options_in wish_in subscribe_in clock_in alone
+unfolding event_named end_named receiver_in connect_in draft_in publish_in options_in wish_in subscribe_in clock_in alone
 event_named_is_read (Publisher client) more is = rw (one_name_is_read more client is)
 event_named_is_read (Receiver client window) more (max, is, name, most) =
     rw (is, window_is_read max window most, name_is_read client name)
@@ -209,9 +210,9 @@ event_named_is_read (Publish client draft) more (hex, is, name, topic, payload) 
       is,
       qos_is_read draft.qos,
       flag_is_read c.retain,
-      name_is_read client name,
       name_is_read c.topic topic,
       payload_is_read hex c.payload payload,
+      name_is_read client name,
     )
 event_named_is_read (Subscribe client wish) more (number, is, name, filter, identifier) =
     let o = wish.options in

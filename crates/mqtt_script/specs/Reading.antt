@@ -15,6 +15,7 @@ use Rattle.mqtt_base.specs.declared.session.RetainHandling.{RetainHandling}
 use Rattle.mqtt_base.specs.declared.session.RetainHandling.TheVariants.{SendAlways, SendIfNew, DoNotSend}
 use Rattle.mqtt_script.specs.declared.event.Asking.{Asking}
 use Rattle.mqtt_script.specs.declared.event.Asking.TheVariants as asking
+use Rattle.mqtt_script.specs.declared.event.Draft.{Draft}
 use Rattle.mqtt_script.specs.declared.event.Event.{Event}
 use Rattle.mqtt_script.specs.declared.event.Event.TheVariants.{Publisher, Receiver, Connect, GiveUp, Publish, Subscribe, ToBroker, ToEnd, Break, Pump, Clock, Tick, Restart, StopBefore, StopAfter, Stranger, Drain}
 use Rattle.mqtt_script.specs.declared.event.Wish.{Wish}
@@ -114,14 +115,19 @@ connect_in (client ∷ clean ∷ []) = do
   Some (Connect name clean_start)
 connect_in words = None
 
-unfoldable pub publish_in : List (List ℕ) → Option Event
-publish_in (client ∷ qos ∷ retain ∷ topic ∷ payload ∷ []) = do
+unfoldable pub draft_in : List ℕ → List ℕ → List ℕ → List ℕ → Option Draft
+draft_in qos retain topic payload = do
   q ← qos_at qos
   r ← flag_at retain
-  c ← name_at client
   t ← name_at topic
   p ← payload_at payload
-  Some (Publish c (record { qos = q; content = record { retain = r; topic = t; payload = p } }))
+  Some (record { qos = q; content = record { retain = r; topic = t; payload = p } })
+
+unfoldable pub publish_in : List (List ℕ) → Option Event
+publish_in (client ∷ qos ∷ retain ∷ topic ∷ payload ∷ []) = do
+  d ← draft_in qos retain topic payload
+  c ← name_at client
+  Some (Publish c d)
 publish_in words = None
 
 unfoldable pub options_in : List ℕ → List ℕ → List ℕ → List ℕ → Option SubscriptionOptions

@@ -3,7 +3,7 @@
 ghost use Rattle.std.specs.Prelude.{◌≡◌, ◌≢◌, IfOk, IfErr};
 ghost use Rattle.mqtt_script.specs.Lines.{IsLineOf, IsNoLine, is_passed_over};
 ghost use Rattle.mqtt_script.specs.Words.{words_of};
-ghost use Rattle.mqtt_script.specs.Reading.{IsReadAs, alone, asked, asking_in, asking_named, clock_in, connect_in, end_named, event_in, event_named, is_asking_word, late_in, one_name_in, options_in, publish_in, receiver_in, stranger_in, subscribe_in, texts, tick_in, to_broker_in, wish_in};
+ghost use Rattle.mqtt_script.specs.Reading.{IsReadAs, alone, asked, asking_in, asking_named, clock_in, connect_in, draft_in, end_named, event_in, event_named, is_asking_word, late_in, one_name_in, options_in, publish_in, receiver_in, stranger_in, subscribe_in, texts, tick_in, to_broker_in, wish_in};
 
 use crate::event::{Asking, Content, Draft, Event, Wish};
 use crate::fault::ScriptFault;
@@ -201,16 +201,19 @@ fn connect_read(alloc: Global, words: &[&str]) -> Result<Event, ScriptFault>
     })
 }
 
-#[tactic(auto, unfolding(crate::specs::Reading::publish_in))]
-fn publish_read(alloc: Global, words: &[&str]) -> Result<Event, ScriptFault>
-    ensures { IsReadAs (publish_in (texts words.now)) result }
+/// Reads a message from its words.
+#[tactic(auto, unfolding(crate::specs::Reading::draft_in))]
+fn draft_read(
+    alloc: Global,
+    qos: &str,
+    retain: &str,
+    topic: &str,
+    payload: &str,
+) -> Result<Draft, ScriptFault>
+    ensures { IsReadAs (draft_in qos.now retain.now topic.now payload.now) result }
 {
-    let [client, qos, retain, topic, payload] = words else {
-        return Err(ScriptFault::NoEvent);
-    };
     let qos = qos_read(qos)?;
     let retain = flag_read(retain)?;
-    let client = name_read(alloc, client)?;
     let topic = name_read(alloc, topic)?;
     let payload = payload_read(alloc, payload)?;
     let content = Content {
@@ -218,7 +221,18 @@ fn publish_read(alloc: Global, words: &[&str]) -> Result<Event, ScriptFault>
         topic,
         payload,
     };
-    let draft = Draft { qos, content };
+    Ok(Draft { qos, content })
+}
+
+#[tactic(auto, unfolding(crate::specs::Reading::publish_in))]
+fn publish_read(alloc: Global, words: &[&str]) -> Result<Event, ScriptFault>
+    ensures { IsReadAs (publish_in (texts words.now)) result }
+{
+    let [client, qos, retain, topic, payload] = words else {
+        return Err(ScriptFault::NoEvent);
+    };
+    let draft = draft_read(alloc, qos, retain, topic, payload)?;
+    let client = name_read(alloc, client)?;
     Ok(Event::Publish { client, draft })
 }
 
