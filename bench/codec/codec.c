@@ -598,6 +598,20 @@ __attribute__((noinline)) static uint8_t *encode(const struct packet *p, size_t 
     return frame;
 }
 
+enum { GREATEST = 65536 };
+
+/* The size of the packet that the bytes begin with; 0: not known yet; -1: there is none; -3: it is too
+   large. Of use where frames come one behind the other, as in bench/framing and bench/view. */
+static long size_of(const uint8_t *s, size_t len) {
+    size_t left = 0;
+    for (size_t i = 1; i < len && i < 5; i++) {
+        left |= (size_t)(s[i] & 0x7f) << 7 * (i - 1);
+        if (s[i] < 0x80)
+            return 1 + i + left <= GREATEST ? (long)(1 + i + left) : -3;
+    }
+    return len < 5 ? 0 : -1;
+}
+
 #define FRAME(s) {(bytes_t)(s), sizeof(s) - 1}
 static const struct span FRAMES[10] = {
     FRAME("\xc0\x00"),

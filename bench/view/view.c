@@ -7,7 +7,7 @@
 #include <fcntl.h>
 #include <unistd.h>
 
-enum { GREATEST = 65536, CHUNK = 4096 };
+enum { CHUNK = 4096 };
 
 /* As many whole packets of bench/codec's mix, in turn, as fit. */
 static int make(size_t bytes) {
@@ -163,17 +163,6 @@ static void say_packet(uint64_t place, size_t size, struct packet *p) {
     if (props > 0)
         say_field(" props=", props);
     say("\n");
-}
-
-/* The size of the packet that the bytes begin with; 0: not known yet; -1: there is none. */
-static long size_of(const uint8_t *s, size_t len) {
-    size_t left = 0;
-    for (size_t i = 1; i < len && i < 5; i++) {
-        left |= (size_t)(s[i] & 0x7f) << 7 * (i - 1);
-        if (s[i] < 0x80)
-            return 1 + i + left <= GREATEST ? (long)(1 + i + left) : -3;
-    }
-    return len < 5 ? 0 : -1;
 }
 
 static int fault_at(uint64_t place, int fault) {

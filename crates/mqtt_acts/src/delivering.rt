@@ -8,6 +8,7 @@ ghost use Rattle.mqtt_turns.specs.Entering.{HasEnteredAt, HasRoomAt};
 ghost use Rattle.mqtt_acts.specs.Delivering.{addressed, addressed_all, delivers_all, HasRoomIn, SameSessions};
 
 use crate::offering::offer_copy;
+use crate::sharing::Encoded;
 use mqtt_base::Qos;
 use mqtt_records::MessageCopy;
 use mqtt_turns::{Step, StepFault, enter};
@@ -24,8 +25,14 @@ fn is_queued(qos: Qos) -> bool
 }
 
 /// A copy, whose PUBLISH has a spelling, enters its session's queue, which has room for it, and where that is full
-/// the oldest that wait make way for it; one of QoS 0 goes out at once (4.3).
-pub fn deliver(alloc: Global, step: &mut Step, copy: MessageCopy) -> Result<(), StepFault>
+/// the oldest that wait make way for it; one of QoS 0 goes out at once (4.3), and shares the bytes that were encoded last
+/// where they are the same.
+fn deliver(
+    alloc: Global,
+    step: &mut Step,
+    copy: MessageCopy,
+    last: &mut Option<Encoded>,
+) -> Result<(), StepFault>
     requires spelled { IsSpelled copy }
     requires room { is_queued (addressed copy) ≡ true → HasRoomAt copy.id.birth step.old }
     ensures ok { OnOk result (Does (λ env. deliver env (addressed copy)) step.old step.new) }
@@ -38,12 +45,12 @@ pub fn deliver(alloc: Global, step: &mut Step, copy: MessageCopy) -> Result<(), 
     if is_queued(copy.qos) {
         enter(alloc, step, birth, copy)
     } else {
-        offer_copy(alloc, step, birth, &copy)
+        offer_copy(alloc, step, birth, copy, last)
     }
 }
 
 /// Copies, whose PUBLISH have spellings, are handed over in order. Each queue has room for those that are
-/// to enter it, and where it is full the oldest that wait make way.
+/// to enter it, and where it is full the oldest that wait make way. Those of QoS 0 that say the same share one encoding.
 pub fn deliver_all(
     alloc: Global,
     step: &mut Step,
@@ -58,8 +65,9 @@ pub fn deliver_all(
     ensures left { IfErr result (λ fault. Leaves
         (delivers_all (addressed_all copies.items)) fault step.old step.new) }
 {
+    let mut last = None;
     for copy in copies {
-        deliver(alloc, step, copy)?;
+        deliver(alloc, step, copy, &mut last)?;
     }
     Ok(())
 }

@@ -9,10 +9,11 @@ mod publishing;
 mod releasing;
 mod retaining;
 mod router;
+mod sharing;
 mod taking;
 
 pub use answering::{answer, open_by, publish_again};
-pub use delivering::{deliver, deliver_all};
+pub use delivering::deliver_all;
 pub use mqtt_turns::{
     Answered, EngineError, Limits, LineState, Message, Outcome, Report, Step, StepFault, Unmeant,
     assigned_name, commit, commit_kept, drop_code, expire, expiry_due, expiry_of, fault_code,
@@ -21,7 +22,6 @@ pub use mqtt_turns::{
     retained_copy, room, settling_due, subscription_of, subscription_to, takes_refusal,
     wants_retained, will_of, window_of,
 };
-pub use offering::offer_copy;
 pub use ping::pingreq;
 pub use publishing::publish;
 pub use releasing::pubrel;

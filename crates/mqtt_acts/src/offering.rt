@@ -5,7 +5,8 @@ ghost use Rattle.mqtt_turns.specs.TheRules.State.{is_of, line_of};
 ghost use Rattle.mqtt_turns.specs.TheTables.Stepping.{Did, IsLeft};
 ghost use Rattle.mqtt_acts.specs.Delivering.{offers};
 
-use mqtt_outputs::{publish, publish_len};
+use crate::sharing::{Encoded, encoding};
+use mqtt_outputs::publish_len;
 use mqtt_records::MessageCopy;
 use mqtt_turns::{LineState, Step, StepFault};
 use std::alloc::Global;
@@ -28,24 +29,26 @@ fn line_of(step: &Step, birth: u64) -> Option<&LineState>
 }
 
 /// A copy of QoS 0, whose PUBLISH has a spelling, goes out at once, if its session is connected; it is left
-/// out where it is larger than the client takes (3.1.2.11.4, 4.3.1).
-pub fn offer_copy(
+/// out where it is larger than the client takes (3.1.2.11.4, 4.3.1). It shares the bytes that were encoded last where they
+/// are the same.
+pub(crate) fn offer_copy(
     alloc: Global,
     step: &mut Step,
     birth: u64,
-    copy: &MessageCopy,
+    copy: MessageCopy,
+    last: &mut Option<Encoded>,
 ) -> Result<(), StepFault>
-    requires { IsSpelled copy.now }
-    ensures ok { OnOk result (Did (offers birth copy.now) step.old step.new) }
-    ensures left { IfErr result (λ fault. IsLeft (offers birth copy.now) fault step.old step.new) }
+    requires { IsSpelled copy }
+    ensures ok { OnOk result (Did (offers birth copy) step.old step.new) }
+    ensures left { IfErr result (λ fault. IsLeft (offers birth copy) fault step.old step.new) }
 {
     let Some(line) = line_of(step, birth) else {
         return Ok(());
     };
-    if publish_len(copy) > line.largest() as usize {
+    if publish_len(&copy) > line.largest() as usize {
         return Ok(());
     }
     let number = line.number();
-    let bytes = publish(alloc, step.moment(), false, 0, copy)?;
+    let bytes = encoding(alloc, step.moment(), copy, last)?;
     step.send_spelled(number, bytes)
 }

@@ -219,37 +219,43 @@ varint_rereads n rest lt = varint_again n (varint n) rest (varint_is n lt)
 
 -- ---- a greater number has no shorter spelling
 
-size_at_most_1 : (n : ℕ) → n < 2 ^ 7 → length (varint n) ≤ 1
+pub size_first : (n : ℕ) → n < 2 ^ 7 → length (varint n) ≡ 1
 unfolding varint
-size_at_most_1 n a = rw (lt-ltb n (2 ^ 7) a) (omega arith)
+size_first n a = rw (lt-ltb n (2 ^ 7) a) refl
 
-size_at_most_2 : (n : ℕ) → n < 2 ^ 14 → length (varint n) ≤ 2
+pub size_second : (n : ℕ) → 2 ^ 7 ≤ n → n < 2 ^ 14 → length (varint n) ≡ 2
 unfolding varint
-size_at_most_2 n b =
-    elim (cases_lt n (2 ^ 7)) [
-      | inl a ↦ rw (lt-ltb n (2 ^ 7) a) (omega arith)
-      | inr a ↦ rw (le-ltb n (2 ^ 7) a, lt-ltb n (2 ^ 14) b) (omega arith)
-    ]
+size_second n a b = rw (le-ltb n (2 ^ 7) a, lt-ltb n (2 ^ 14) b) refl
 
-size_third : (n : ℕ) → 2 ^ 14 ≤ n → n < 2 ^ 21 → length (varint n) ≤ 3
+pub size_third : (n : ℕ) → 2 ^ 14 ≤ n → n < 2 ^ 21 → length (varint n) ≡ 3
 unfolding varint
 size_third n b c =
     let a : 2 ^ 7 ≤ n = omega (arith, b) in
-    rw (le-ltb n (2 ^ 7) a, le-ltb n (2 ^ 14) b, lt-ltb n (2 ^ 21) c) (omega arith)
+    rw (le-ltb n (2 ^ 7) a, le-ltb n (2 ^ 14) b, lt-ltb n (2 ^ 21) c) refl
 
-size_at_most_3 : (n : ℕ) → n < 2 ^ 21 → length (varint n) ≤ 3
-size_at_most_3 n c =
-    elim (cases_lt n (2 ^ 14)) [
-      | inl b ↦ omega (arith, size_at_most_2 n b)
-      | inr b ↦ size_third n b c
-    ]
-
-size_fourth : (n : ℕ) → 2 ^ 21 ≤ n → length (varint n) ≡ 4
+pub size_fourth : (n : ℕ) → 2 ^ 21 ≤ n → length (varint n) ≡ 4
 unfolding varint
 size_fourth n c =
     let a : 2 ^ 7 ≤ n = omega (arith, c) in
     let b : 2 ^ 14 ≤ n = omega (arith, c) in
     rw (le-ltb n (2 ^ 7) a, le-ltb n (2 ^ 14) b, le-ltb n (2 ^ 21) c) refl
+
+size_at_most_1 : (n : ℕ) → n < 2 ^ 7 → length (varint n) ≤ 1
+size_at_most_1 n a = omega (arith, size_first n a)
+
+size_at_most_2 : (n : ℕ) → n < 2 ^ 14 → length (varint n) ≤ 2
+size_at_most_2 n b =
+    elim (cases_lt n (2 ^ 7)) [
+      | inl a ↦ omega (arith, size_first n a)
+      | inr a ↦ omega (arith, size_second n a b)
+    ]
+
+size_at_most_3 : (n : ℕ) → n < 2 ^ 21 → length (varint n) ≤ 3
+size_at_most_3 n c =
+    elim (cases_lt n (2 ^ 14)) [
+      | inl b ↦ omega (arith, size_at_most_2 n b)
+      | inr b ↦ omega (arith, size_third n b c)
+    ]
 
 size_at_most_4 : (n : ℕ) → length (varint n) ≤ 4
 size_at_most_4 n =

@@ -115,7 +115,7 @@ pub fn varint_len(value: u32) -> usize
 }
 
 /// Writes the variable byte integer to the front, and answers how many bytes it takes, one to
-/// four. The bytes behind it are 00.
+/// four. What stands behind it is no part of it.
 pub fn varint_write(value: u32, out: &mut [u8; 4]) -> usize
     requires { value < 2 ^ 28 }
     ensures len { result ≡ length (varint value) }

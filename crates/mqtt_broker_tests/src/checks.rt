@@ -2,10 +2,10 @@
 
 use crate::costly::judge_costly;
 use crate::judging::{How, judge_all};
-use crate::scripts::{clients, closing, filters, publishing, receiving, refusing};
+use crate::scripts::{clients, closing, filters, publishing, receiving, refusing, turning};
 use crate::sweeps::judge_sweeps;
 use crate::telling::Telling;
-use std::alloc::Global;
+use std::alloc::{AllocError, Global};
 use std::hash::RandomState;
 use std::test::Fail;
 
@@ -18,11 +18,34 @@ pub enum What {
     Refusals,
     /// Whether a device that fails leaves whole steps.
     Failures,
+    /// Whether a store that can't be read is given back as it was.
+    Unread,
+    /// Whether what memory was wanting for is done when it is asked again, and leaves the same rows: to be run with each
+    /// growth refused in turn.
+    Wanting,
     /// Whether cut and changed frames are taken as the framer alone takes them, as a line's first bytes and behind a CONNECT.
     Frames,
     /// Whether a SUBSCRIBE of 64 KB gets all that is retained for each of its filters.
     Costly,
 }
+
+/// Scripts that are short enough to be played once for each of their growths.
+const SHORT: &str = "\
+-- a client without a name is given one
+-- a publisher comes on a new line, and its old line is read first
+-- a publisher comes on a new line, and its CONNECT is read first
+-- a Will waits for its delay or for its session's end, whichever is first
+-- a restart closes every session that was connected
+-- overlapping subscriptions make one copy with all identifiers
+-- members of a group take turns
+-- twenty identifiers may be open, and stay so over a restart
+-- an alias stands for its topic
+-- the oldest copy that waits gives way in a queue that drops
+-- a retained message goes to who subscribes later, until an empty one comes
+-- a copy is sent again with its identifier after a restart
+-- a copy that waits expires
+-- a copy that was sent in time does not expire
+";
 
 /// Plays the scripts of what isn't refused.
 fn judge_subjects(wrong: &mut Telling, alloc: Global, hasher: RandomState, how: How) {
@@ -31,6 +54,7 @@ fn judge_subjects(wrong: &mut Telling, alloc: Global, hasher: RandomState, how: 
     judge_all(wrong, alloc, hasher, filters(), how);
     judge_all(wrong, alloc, hasher, publishing(), how);
     judge_all(wrong, alloc, hasher, receiving(), how);
+    judge_all(wrong, alloc, hasher, turning(), how);
 }
 
 /// Says what isn't so.
@@ -45,17 +69,19 @@ fn judge_what(
         What::Scripts => judge_subjects(wrong, alloc, hasher, How::InMemory),
         What::Refusals => judge_all(wrong, alloc, hasher, refusing(), How::WithRefusals),
         What::Failures => judge_subjects(wrong, alloc, hasher, How::WithFailures),
+        What::Unread => judge_subjects(wrong, alloc, hasher, How::Unread),
+        What::Wanting => judge_subjects(wrong, alloc, hasher, How::Twice(SHORT)),
         What::Frames => judge_sweeps(wrong, script, alloc, hasher),
         What::Costly => judge_costly(wrong, script, alloc, hasher),
     }
 }
 
-/// Fails by what was said, or where memory was wanting for some of it.
+/// Fails where memory was wanting, since what was said may be cut short then; else by what was said.
 fn verdict_of(wrong: &Telling) -> Result<(), Fail> {
-    if wrong.as_str() != "" {
+    if wrong.is_short() {
+        Err(Fail::from(AllocError))
+    } else if wrong.as_str() != "" {
         Err(Fail::new(wrong.as_str()))
-    } else if wrong.is_short() {
-        Err(Fail::new("memory was wanting"))
     } else {
         Ok(())
     }

@@ -1,8 +1,9 @@
-//! Whether scripts are played as they say: over a store in memory, with and without what is refused, and over a store whose
-//! device fails.
+//! Whether scripts are played as they say: over a store in memory, with and without what is refused, over a store whose
+//! device fails, and over one that can't be read.
 
 use crate::run::{Part, Played, play_over};
 use crate::telling::Telling;
+use crate::unread::UnreadKeep;
 use mqtt_broker::MemKeep;
 use mqtt_records::faulty::{Failure, FaultyKeep};
 use std::alloc::{AllocError, Global};
@@ -13,13 +14,16 @@ use std::hash::RandomState;
 pub enum How {
     /// Over a store in memory.
     InMemory,
-    /// The same, but only those of these names.
-    Some(&'static str),
+    /// The same twice, those of these names alone: both leave the same rows.
+    Twice(&'static str),
     /// Over a store in memory, with and without what is refused: both leave the same rows.
     WithRefusals,
     /// Over stores whose steps fail in turn, their changes made or not: each leaves the rows before its step or after it.
     /// Only those whose lines are one step each.
     WithFailures,
+    /// Over stores that can't be read when they are opened for the first time, the second and so on: each is given back as
+    /// it was, and opened again.
+    Unread,
 }
 
 /// Plays a script over a store in memory that has nothing yet.
@@ -147,6 +151,9 @@ fn judge_refusal(
 ) -> Result<(), AllocError> {
     let played = play_in_memory(alloc, hasher, script, Part::whole())?;
     judge(wrong, script, &played);
+    if played.kept.is_short() {
+        wrong.shorten();
+    }
     let judged = judge_without(wrong, alloc, hasher, script, played.kept.as_str());
     drop(played);
     judged
@@ -160,11 +167,7 @@ pub fn is_kept_after(
     count: usize,
     kept: &str,
 ) -> Result<bool, AllocError> {
-    let part = Part {
-        count,
-        passed_over: "-",
-    };
-    let played = play_in_memory(alloc, hasher, script, part)?;
+    let played = play_in_memory(alloc, hasher, script, Part::of(count))?;
     let is_same = played.kept.as_str() == kept;
     drop(played);
     Ok(is_same)
@@ -191,6 +194,21 @@ pub fn judge_failure(
     Ok(())
 }
 
+/// Says the same where the store has failed; answers whether it has.
+fn judge_failed(
+    wrong: &mut Telling,
+    alloc: Global,
+    hasher: RandomState,
+    script: &str,
+    played: &Played,
+) -> Result<bool, AllocError> {
+    if played.failures == 0 {
+        return Ok(false);
+    }
+    judge_failure(wrong, alloc, hasher, script, played, played.kept.as_str())?;
+    Ok(true)
+}
+
 /// Plays a script over a store that fails once; answers whether it failed.
 fn judge_failing(
     wrong: &mut Telling,
@@ -201,15 +219,9 @@ fn judge_failing(
     failure: Failure,
 ) -> Result<bool, AllocError> {
     let played = play_failing(alloc, hasher, script, until, failure)?;
-    let has_failed = played.failures != 0;
-    let judged = if has_failed {
-        judge_failure(wrong, alloc, hasher, script, &played, played.kept.as_str())
-    } else {
-        Ok(())
-    };
+    let judged = judge_failed(wrong, alloc, hasher, script, &played);
     drop(played);
-    judged?;
-    Ok(has_failed)
+    judged
 }
 
 fn judge_failures(
@@ -228,6 +240,42 @@ fn judge_failures(
     Ok(())
 }
 
+/// Plays a script over a store that can't be read once, and opens a broker over the store that was given back; answers
+/// whether it couldn't be read.
+fn judge_unread(
+    wrong: &mut Telling,
+    alloc: Global,
+    hasher: RandomState,
+    script: &str,
+    until: u64,
+) -> Result<bool, AllocError> {
+    let keep = UnreadKeep::new(alloc, until)?;
+    let (keep, played) = play_over(alloc, hasher, keep, script, Part::whole());
+    let (keep, again) = play_over(alloc, hasher, keep, script, Part::of(0));
+    drop(keep);
+    if !again.is_right {
+        blame(wrong, script, &again, " is not opened again, and tells ");
+    }
+    drop(again);
+    let judged = judge_failed(wrong, alloc, hasher, script, &played);
+    drop(played);
+    judged
+}
+
+fn judge_each_unread(
+    wrong: &mut Telling,
+    alloc: Global,
+    hasher: RandomState,
+    script: &str,
+) -> Result<(), AllocError> {
+    for until in 0..100 {
+        if !judge_unread(wrong, alloc, hasher, script, until)? {
+            return Ok(());
+        }
+    }
+    Ok(())
+}
+
 fn judge_one(
     wrong: &mut Telling,
     alloc: Global,
@@ -237,14 +285,15 @@ fn judge_one(
 ) -> Result<(), AllocError> {
     match how {
         How::InMemory => judge_in_memory(wrong, alloc, hasher, script),
-        How::Some(names) if names.contains(name_of(script)) => {
-            judge_in_memory(wrong, alloc, hasher, script)
+        How::Twice(names) if names.contains(name_of(script)) => {
+            judge_refusal(wrong, alloc, hasher, script)
         }
         How::WithRefusals => judge_refusal(wrong, alloc, hasher, script),
         How::WithFailures if !script.contains("times ") => {
             judge_failures(wrong, alloc, hasher, script)
         }
-        How::Some(_) | How::WithFailures => Ok(()),
+        How::Unread => judge_each_unread(wrong, alloc, hasher, script),
+        How::Twice(_) | How::WithFailures => Ok(()),
     }
 }
 

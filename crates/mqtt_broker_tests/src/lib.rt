@@ -1,5 +1,5 @@
 //! Tests of the broker over its public calls, as scripts: what it tells, what it refuses, streams that are cut, changed or made
-//! to cost much, a store that fails (MQTT 5.0, 2.1, 3, 4).
+//! to cost much, want of memory, a store that fails or can't be read (MQTT 5.0, 2.1, 3, 4).
 #![tactic(auto)]
 
 #[cfg(test)]
@@ -10,6 +10,8 @@ mod checks;
 mod costly;
 #[cfg(test)]
 mod engine;
+#[cfg(test)]
+mod faults;
 #[cfg(test)]
 mod judging;
 #[cfg(test)]
@@ -30,3 +32,5 @@ mod streams;
 mod sweeps;
 #[cfg(test)]
 mod telling;
+#[cfg(test)]
+mod unread;

@@ -23,6 +23,18 @@ fn a_device_that_fails_leaves_whole_steps(rt: HostRuntime) -> Result<(), Fail> {
 }
 
 #[test]
+fn a_store_that_cannot_be_read_is_given_back_as_it_was(rt: HostRuntime) -> Result<(), Fail> {
+    let hasher = RandomState::new(&rt)?;
+    check(rt.alloc(), hasher, What::Unread)
+}
+
+#[test]
+fn what_memory_was_wanting_for_is_done_when_it_is_asked_again(rt: HostRuntime) -> Result<(), Fail> {
+    let hasher = RandomState::new(&rt)?;
+    check(rt.alloc(), hasher, What::Wanting)
+}
+
+#[test]
 fn cut_and_changed_frames_are_taken_as_the_framer_takes_them(rt: HostRuntime) -> Result<(), Fail> {
     let hasher = RandomState::new(&rt)?;
     check(rt.alloc(), hasher, What::Frames)

@@ -20,8 +20,13 @@ pub struct Part {
 impl Part {
     /// The script as it is.
     pub fn whole() -> Part {
+        Part::of(usize::MAX)
+    }
+
+    /// So many lines of it.
+    pub fn of(count: usize) -> Part {
         Part {
-            count: usize::MAX,
+            count,
             passed_over: "-",
         }
     }
@@ -38,7 +43,7 @@ pub struct Played {
     pub told: Telling,
     /// What the store has.
     pub kept: Telling,
-    /// How many failures the store has counted.
+    /// How many failures the store had counted by then.
     pub failures: u64,
 }
 
@@ -168,9 +173,9 @@ pub fn play_over<K: Keep>(
     }
     drop(turned);
     let mut keep = keep;
+    let failures = keep.failures();
     let mut kept = Telling::new(alloc);
     tell_kept(alloc, &mut kept, &mut keep);
-    let failures = keep.failures();
     let (lines, told) = play.end();
     let played = Played {
         lines,

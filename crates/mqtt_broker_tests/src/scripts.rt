@@ -7,6 +7,7 @@ mod publishes;
 mod receives;
 mod refusals;
 mod subscribes;
+mod turns;
 
 pub use closes::closing;
 pub use connects::clients;
@@ -14,3 +15,4 @@ pub use publishes::publishing;
 pub use receives::receiving;
 pub use refusals::refusing;
 pub use subscribes::filters;
+pub use turns::turning;

@@ -29,8 +29,7 @@ use Rattle.mqtt_closing.specs.TheRules.Numbers.{IsTimed}
 use Rattle.mqtt_closing.specs.TheRules.State.{Broker, MemberChoice, entry_on}
 use Rattle.mqtt_closing.specs.TheRules.Step.{Call, at_moment, deeds, is_opening_spent, is_step_spent, opened, opening_deeds, rows_written, stepped, unopened}
 use Rattle.mqtt_closing.proofs.TheRules.Copies.{each_filter, each_more}
-use Rattle.mqtt_closing.proofs.TheRules.FlightRows.{all_at, found_behind}
-use Rattle.mqtt_closing.proofs.TheRules.NumberCopies.{each_put, each_change}
+use Rattle.mqtt_closing.proofs.TheRules.FlightRows.{all_at, found_behind, all_put, all_changed}
 use Rattle.mqtt_closing.proofs.TheRules.RowsFit.{step_fits, opening_fits}
 use Rattle.mqtt_closing.proofs.TheRules.StoredLaw.{rows_store}
 use Rattle.mqtt_closing.specs.TheTables.Subscribing.{HasEachFilterOnce, HaveFiltersOnce}
@@ -52,7 +51,7 @@ same_queue : (s t : Session) → t.queue ≡ s.queue → AreKept s → AreKept t
 same_queue s t same h = subst (λ (q : List CopyRow). AllByRecursion IsKept q) (sym same) h
 
 kept_in : (birth : ℕ) (f : Session → Session) (ss : List Session) → ((s : Session) → AreKept s → AreKept (f s)) → AllByRecursion AreKept ss → AllByRecursion AreKept (change_row birth_of birth f ss)
-kept_in birth f ss kept h = each_change birth_of AreKept birth f ss kept h
+kept_in birth f ss kept h = all_changed birth_of AreKept birth f ss kept h
 
 kept_counter : (counter : Counter) (value : ℕ) (r : Records) → HaveKept r → HaveKept (with_counter counter value r)
 kept_counter Births value r h = h
@@ -69,7 +68,7 @@ kept_session : (row : Columns) (ss : List Session) → AllByRecursion AreKept ss
 kept_session row ss h =
     each_cond (has_row birth_of row.birth ss) (change_row birth_of row.birth (with_columns row) ss) (put_row birth_of SESSION_LIMIT (fresh row) ss)
     (kept_in row.birth (with_columns row) ss (λ s q. same_queue s (with_columns row s) refl q) h)
-    (each_put birth_of AreKept SESSION_LIMIT (fresh row) ss tt h)
+    (all_put birth_of AreKept SESSION_LIMIT (fresh row) ss tt h)
 
 -- a change that fits brings no order above the last number
 kept_changed : (change : Change) (r : Records) → Fits change r → HaveKept r → HaveKept (changed change r)
@@ -83,8 +82,8 @@ kept_changed (PutSubscription birth x) r fit h = kept_in birth (with_subscriptio
 kept_changed (RemoveSubscription birth text) r fit h = kept_in birth (without_subscription text) r.sessions (λ s q. same_queue s (without_subscription text s) refl q) h
 kept_changed (PutInbound birth id) r fit h = kept_in birth (with_open id) r.sessions (λ s q. same_queue s (with_open id s) refl q) h
 kept_changed (RemoveInbound birth id) r fit h = kept_in birth (without_open id) r.sessions (λ s q. same_queue s (without_open id s) refl q) h
-kept_changed (PutCopy birth row) r fit h = kept_in birth (with_copy row) r.sessions (λ s q. each_put copy_place IsKept QUEUE_LIMIT row s.queue fit.1.order q) h
-kept_changed (SetCopy birth place phase) r fit h = kept_in birth (with_phase place phase) r.sessions (λ s q. each_change copy_place IsKept place (in_phase phase) s.queue (λ e old. fit.1) q) h
+kept_changed (PutCopy birth row) r fit h = kept_in birth (with_copy row) r.sessions (λ s q. all_put copy_place IsKept QUEUE_LIMIT row s.queue fit.1.order q) h
+kept_changed (SetCopy birth place phase) r fit h = kept_in birth (with_phase place phase) r.sessions (λ s q. all_changed copy_place IsKept place (in_phase phase) s.queue (λ e old. fit.1) q) h
 kept_changed (RemoveCopy birth place) r fit h = kept_in birth (without_copy place) r.sessions (λ s q. each_filter IsKept (λ e. not (nat_eq (copy_place e) place)) s.queue q) h
 kept_changed (PutRetained kept) r fit h = h
 kept_changed (RemoveRetained place) r fit h = h

@@ -169,7 +169,7 @@ drops_keeps false birth s s1 is =
 
 -- ---- dropped or kept, closed, settled
 
-settle_absent : (birth : ℕ) (env : Env) (b : Broker) → session_at birth b.records ≡ None → settle env birth b ≡ []
+pub settle_absent : (birth : ℕ) (env : Env) (b : Broker) → session_at birth b.records ≡ None → settle env birth b ≡ []
 settle_absent birth env b none =
     ap (λ ds. then ds (series (settles_end b.now birth ∷ [])) b) (will_none b none)
     ∙ ap (λ ds. then ds (series []) b) (end_none b none)

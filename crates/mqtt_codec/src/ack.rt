@@ -12,7 +12,7 @@ use mqtt_props::{Place, PropList, PropsRef};
 use std::alloc::{AllocError, Global};
 
 /// A packet of a handshake (3.4 to 3.7).
-#[derive(Drop)]
+#[derive(Debug, Drop)]
 pub struct Ack {
     /// The packet identifier; lawful from 1 (2.2.1).
     pub identifier: u16,
@@ -23,7 +23,7 @@ pub struct Ack {
 }
 
 /// A packet of a handshake that stands in a frame.
-#[derive(Drop)]
+#[derive(Debug, Drop)]
 pub struct AckRef<'a> {
     /// The packet identifier; lawful from 1 (2.2.1).
     pub identifier: u16,
@@ -112,6 +112,7 @@ impl Ack {
     pub(crate) fn fits(&self, kind: Kind, place: Place) -> bool
         ensures { IsTrue result ↔ FitsAck kind place self.now }
     {
+        // This shows that the number fits into its two bytes.
         let _identifier = self.identifier;
         let lent = self.properties.lend();
         self.reason.allowed(kind) && stands(&lent, place)

@@ -11,7 +11,7 @@ use mqtt_props::{Place, PropList, PropsRef, layout_read};
 use std::alloc::{AllocError, Global};
 
 /// The answer to a CONNECT (3.2).
-#[derive(Drop)]
+#[derive(Debug, Drop)]
 pub struct Connack {
     /// Whether the session was resumed (3.2.2.1.1).
     pub session_present: bool,
@@ -22,7 +22,7 @@ pub struct Connack {
 }
 
 /// A CONNACK that stands in a frame.
-#[derive(Drop)]
+#[derive(Debug, Drop)]
 pub struct ConnackRef<'a> {
     /// Whether the session was resumed (3.2.2.1.1).
     pub session_present: bool,

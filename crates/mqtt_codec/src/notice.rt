@@ -13,7 +13,7 @@ use mqtt_props::{Place, PropList, PropName, PropsRef, layout_read};
 use std::alloc::{AllocError, Global};
 
 /// A DISCONNECT or an AUTH (3.14, 3.15).
-#[derive(Drop)]
+#[derive(Debug, Drop)]
 pub struct Notice {
     /// The reason code: one of the packet's set (2.4).
     pub reason: Reason,
@@ -22,7 +22,7 @@ pub struct Notice {
 }
 
 /// A DISCONNECT or an AUTH that stands in a frame.
-#[derive(Drop)]
+#[derive(Debug, Drop)]
 pub struct NoticeRef<'a> {
     /// The reason code: one of the packet's set (2.4).
     pub reason: Reason,

@@ -16,7 +16,7 @@ use mqtt_subscribe::{Subscribe, SubscribeRef, Unsubscribe, UnsubscribeRef};
 use std::alloc::{AllocError, Global};
 
 /// A control packet (2.1.2).
-#[derive(Drop)]
+#[derive(Debug, Drop)]
 pub enum Packet {
     /// A client asks for a connection (3.1).
     Connect(Connect),
@@ -51,7 +51,7 @@ pub enum Packet {
 }
 
 /// A control packet that stands in a frame, and lends its parts out of it (2.1.2).
-#[derive(Drop)]
+#[derive(Debug, Drop)]
 pub enum PacketRef<'a> {
     /// A client asks for a connection (3.1).
     Connect(ConnectRef<'a>),

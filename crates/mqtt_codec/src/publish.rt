@@ -36,7 +36,7 @@ pub enum Delivery {
 }
 
 /// A PUBLISH (3.3).
-#[derive(Drop)]
+#[derive(Debug, Drop)]
 pub struct Publish {
     /// Its QoS, with the packet identifier (3.3.1.2, 3.3.2.2).
     pub delivery: Delivery,
@@ -51,7 +51,7 @@ pub struct Publish {
 }
 
 /// A PUBLISH that stands in a frame.
-#[derive(Drop)]
+#[derive(Debug, Drop)]
 pub struct PublishRef<'a> {
     /// Its QoS, with the packet identifier (3.3.1.2, 3.3.2.2).
     pub delivery: Delivery,
@@ -258,6 +258,7 @@ impl Delivery {
         match self {
             Delivery::AtMostOnce => true,
             Delivery::AtLeastOnce { identifier, .. } | Delivery::ExactlyOnce { identifier, .. } => {
+                // This shows that the number fits into its two bytes.
                 let _identifier = identifier;
                 true
             }
@@ -271,6 +272,7 @@ impl Publish {
     pub(crate) fn fits(&self) -> bool
         ensures { IsTrue result ↔ FitsPublish self.now }
     {
+        // This shows that the topic has a spelling.
         let _ = self.topic.as_str();
         let lent = self.properties.lend();
         self.delivery.fits() && stands(&lent, Place::Publish)

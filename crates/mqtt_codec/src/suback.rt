@@ -12,7 +12,7 @@ use mqtt_props::{Place, PropList, PropsRef, layout_read};
 use std::alloc::{AllocError, Global};
 
 /// A SUBACK or an UNSUBACK (3.9, 3.11).
-#[derive(Drop)]
+#[derive(Debug, Drop)]
 pub struct Suback {
     /// The packet identifier; lawful from 1 (2.2.1).
     pub identifier: u16,
@@ -23,7 +23,7 @@ pub struct Suback {
 }
 
 /// A SUBACK or an UNSUBACK that stands in a frame.
-#[derive(Drop)]
+#[derive(Debug, Drop)]
 pub struct SubackRef<'a> {
     /// The packet identifier; lawful from 1 (2.2.1).
     pub identifier: u16,
@@ -123,6 +123,7 @@ impl Suback {
     pub(crate) fn fits(&self, kind: Kind, place: Place) -> bool
         ensures { IsTrue result ↔ FitsSuback kind place self.now }
     {
+        // This shows that the number fits into its two bytes.
         let _identifier = self.identifier;
         let lent = self.properties.lend();
         stands(&lent, place) && are_codes(kind, self.codes.as_slice())

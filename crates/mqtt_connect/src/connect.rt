@@ -16,7 +16,7 @@ use mqtt_props::{Place, PropList, PropsRef, layout_read};
 use std::alloc::{AllocError, Global};
 
 /// A Will: what is published when a connection ends without DISCONNECT 00 (3.1.2.5).
-#[derive(Drop)]
+#[derive(Debug, Drop)]
 pub struct Will {
     /// At which it is published (3.1.2.6).
     pub qos: Qos,
@@ -31,7 +31,7 @@ pub struct Will {
 }
 
 /// A Will that stands in a frame.
-#[derive(Drop)]
+#[derive(Debug, Drop)]
 pub struct WillRef<'a> {
     /// At which it is published (3.1.2.6).
     pub qos: Qos,
@@ -46,7 +46,7 @@ pub struct WillRef<'a> {
 }
 
 /// A CONNECT (3.1).
-#[derive(Drop)]
+#[derive(Debug, Drop)]
 pub struct Connect {
     /// Whether an earlier session is given up (3.1.2.4).
     pub clean_start: bool,
@@ -65,7 +65,7 @@ pub struct Connect {
 }
 
 /// A CONNECT that stands in a frame.
-#[derive(Drop)]
+#[derive(Debug, Drop)]
 pub struct ConnectRef<'a> {
     /// Whether an earlier session is given up (3.1.2.4).
     pub clean_start: bool,
@@ -293,6 +293,7 @@ impl Will {
     fn fits(&self) -> bool
         ensures { IsTrue result ↔ FitsWill self.now }
     {
+        // These show that the topic and the payload have a spelling.
         let _ = self.topic.as_str();
         let _ = self.payload.as_slice();
         stands(&self.properties.lend(), Place::Will)
@@ -520,6 +521,7 @@ impl Connect {
     pub fn fits(&self) -> bool
         ensures { IsTrue result ↔ FitsConnect self.now }
     {
+        // These show that the Keep Alive and the client identifier have a spelling.
         let _keep_alive = self.keep_alive;
         let _ = self.client_identifier.as_str();
         let lent = self.properties.lend();
@@ -546,6 +548,7 @@ fn user_name_fits(name: &Option<Text>) -> bool
 {
     match name {
         Some(name) => {
+            // This shows that the name has a spelling.
             let _ = name.as_str();
             true
         }
@@ -559,6 +562,7 @@ fn password_fits(password: &Option<Blob>) -> bool
 {
     match password {
         Some(password) => {
+            // This shows that the password has a spelling.
             let _ = password.as_slice();
             true
         }

@@ -8,7 +8,7 @@ use Rattle.mqtt_records.specs.Session.{birth_of}
 use Rattle.mqtt_routes.specs.Subscriptions.{Subscriber}
 use Rattle.mqtt_rows.specs.Order.{row_at}
 use Rattle.mqtt_base.specs.Codes.{session_taken_over}
-use Rattle.mqtt_closing.specs.TheRules.Closing.{drop_line, end_session, has_due_end, has_due_will, publish_will, settle}
+use Rattle.mqtt_closing.specs.TheRules.Closing.{drop_line, end_session, publish_will, settle}
 use Rattle.mqtt_closing.specs.TheRules.Connect.{clear, of_client, prepare, take_over}
 use Rattle.mqtt_closing.specs.TheRules.Contents.{IsWilled}
 use Rattle.mqtt_closing.specs.TheRules.Deeds.{Act, Deed, after_all, always, only_if, series, then, with_line, with_session}
@@ -26,6 +26,7 @@ use Rattle.mqtt_closing.specs.Wills.{ChoosesOnce, will_at}
 use Rattle.mqtt_closing.proofs.Settled.{does_nothing}
 use Rattle.mqtt_connecting.specs.Preparing.{IsOnly, clears, clears_if, settles, settles_and_clears, takes_over}
 use Rattle.mqtt_connecting.proofs.Steady.{IsSteady, IsGone, IsKept, OnlyIn, SubsIn, WillIn, gone_kept, only_kept, subs_kept, will_kept, steady_keeps, steady_publish_will, steady_settle, steady_take_over}
+use Rattle.mqtt_closing.proofs.Closed.{settle_absent}
 
 -- ---- what stays over an act
 
@@ -97,15 +98,8 @@ over_is client birth x env b only found =
     ∙ (ap (λ o. with_session o (take_over env) b) found
     ∙ ap (λ n. takes_over n env b) (found_birth birth b.records.sessions x found)))
 
-settle_none : (birth : ℕ) (env : Env) (b : Broker) → session_at birth b.records ≡ None → settle env birth b ≡ []
-settle_none birth env b none =
-    let will : Act = λ c. with_session (session_at birth c.records) (λ s. only_if (has_due_will b.now s) (publish_will env s)) c in
-    let end : Act = λ c. with_session (session_at birth c.records) (λ s. only_if (has_due_end b.now s) (always (end_session s))) c in
-    ap (λ ds. then ds (series (end ∷ [])) b) (ap (λ o. with_session o (λ s. only_if (has_due_will b.now s) (publish_will env s)) b) none)
-    ∙ ap (λ ds. then ds (series []) b) (ap (λ o. with_session o (λ s. only_if (has_due_end b.now s) (always (end_session s))) b) none)
-
 settle_by : (birth : ℕ) (env : Env) (b : Broker) (o : Option Session) → session_at birth b.records ≡ o → settles birth env b ≡ with_session o (λ s. settle env s.birth) b
-settle_by birth env b None found = settle_none birth env b found
+settle_by birth env b None found = settle_absent birth env b found
 settle_by birth env b (Some x) found = ap (λ n. settle env n b) (sym (found_birth birth b.records.sessions x found))
 
 settle_is : (client : List ℕ) (birth : ℕ) (env : Env) (b : Broker) → IsOnly client birth b.records → settles birth env b ≡ of_client client (λ s. settle env s.birth) b
@@ -181,7 +175,7 @@ over_once birth l s new found once = elim once [
 
 -- where the session doesn't stand
 pub settles_nothing : (birth : ℕ) (s : Stepping) → session_at birth s.broker.records ≡ None → Does (settles birth) s s
-settles_nothing birth s none = does_nothing (settles birth) s (λ env. settle_none birth env s.broker none)
+settles_nothing birth s none = does_nothing (settles birth) s (λ env. settle_absent birth env s.broker none)
 
 pub clears_nothing : (birth : ℕ) (s : Stepping) → session_at birth s.broker.records ≡ None → Does (clears birth) s s
 clears_nothing birth s none = does_nothing (clears birth) s (λ env. clear_gone birth env s.broker none)

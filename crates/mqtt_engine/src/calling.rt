@@ -6,6 +6,7 @@ ghost use Rattle.mqtt_lines.specs.TheRules.Routing.{subscribers};
 ghost use Rattle.mqtt_lines.specs.TheRules.Step.{BadInput, Input, Lost, Pump, Tick};
 ghost use Rattle.mqtt_lines.specs.TheTables.Stepping.{at_rest};
 ghost use Rattle.mqtt_lines.specs.Doing.{IsCalled};
+ghost use Rattle.mqtt_lines.specs.Quiet.{AreQuietBefore};
 ghost use Rattle.mqtt_lines.specs.Sound.{IsSound};
 ghost use Rattle.mqtt_router.specs.Indexing.{Serves};
 ghost use Rattle.mqtt_engine.specs.Calling.{Called};
@@ -17,7 +18,9 @@ use crate::outcome::Outcome;
 use mqtt_base::Reason;
 use mqtt_codec::Packet;
 use mqtt_inputs::input;
-use mqtt_lines::{EngineError, Step, StepFault, fault_at, first_at, lost_at, pump_at, tick_at};
+use mqtt_lines::{
+    EngineError, Step, StepFault, fault_at, first_at, lost_at, pump_at, quiet_before, tick_at,
+};
 use mqtt_records::Keep;
 use mqtt_router::Index;
 use std::alloc::Global;
@@ -94,22 +97,37 @@ fn tick_once(
     index: &mut Index,
     step: &mut Step,
     moment: u64,
+    quiet: u64,
     again: &mut bool,
 ) -> Result<(), StepFault>
     requires rest { step.old ≡ at_rest step.old.limits step.old.broker }
     requires sound { IsSound step.old.limits step.old.broker }
     requires serves { Serves index.old.sessions (subscribers step.old.broker.records) }
+    requires quiet { AreQuietBefore quiet step.old.broker.records }
     ensures called { IsCalled moment Tick again.new result step.new }
     ensures start { step.new.start ≡ step.old.broker }
     ensures limits { step.new.limits ≡ step.old.limits }
     ensures serves { Serves index.new.sessions (subscribers step.old.broker.records) }
 {
-    match tick_at(alloc, index, step, moment) {
+    match tick_at(alloc, index, step, moment, quiet) {
         Ok(more) => {
             *again = more;
             Ok(())
         }
         Err(fault) => Err(fault),
+    }
+}
+
+/// The moment before which nothing that is stored is due, after a turn of the clock: where it has come and nothing was
+/// due, it is sought anew. Takes no memory.
+fn later_quiet(step: &Step, quiet: u64, was_due: bool) -> u64
+    requires { AreQuietBefore quiet step.now.broker.records }
+    ensures { AreQuietBefore result step.now.broker.records }
+{
+    if was_due || step.moment() < quiet {
+        quiet
+    } else {
+        quiet_before(step)
     }
 }
 
@@ -143,6 +161,7 @@ impl<K: Keep> Engine<K> {
             &mut self.step,
             &mut self.index,
             &mut self.is_stale,
+            &mut self.quiet,
             done,
             false,
         );
@@ -195,6 +214,7 @@ impl<K: Keep> Engine<K> {
             &mut self.step,
             &mut self.index,
             &mut self.is_stale,
+            &mut self.quiet,
             done,
             false,
         );
@@ -242,6 +262,7 @@ impl<K: Keep> Engine<K> {
             &mut self.step,
             &mut self.index,
             &mut self.is_stale,
+            &mut self.quiet,
             done,
             false,
         );
@@ -276,6 +297,7 @@ impl<K: Keep> Engine<K> {
             &mut self.step,
             &mut self.index,
             &mut self.is_stale,
+            &mut self.quiet,
             done,
             again,
         );
@@ -314,16 +336,18 @@ impl<K: Keep> Engine<K> {
         )?;
         let mut again = false;
         let (alloc, index, step) = (self.alloc, &mut self.index, &mut self.step);
-        let done = tick_once(alloc, index, step, moment, &mut again);
+        let done = tick_once(alloc, index, step, moment, self.quiet, &mut again);
         let answer = finish(
             &mut self.keep,
             &mut self.step,
             &mut self.index,
             &mut self.is_stale,
+            &mut self.quiet,
             done,
             again,
         );
         self.stopped = has_failed(&answer);
+        self.quiet = later_quiet(&self.step, self.quiet, again);
         answer
     }
 }

@@ -29,6 +29,7 @@ pub struct Engine<K: Keep> {
     pub(crate) index: Index,
     pub(crate) is_stale: bool,
     pub(crate) stopped: bool,
+    pub(crate) quiet: u64,
 }
 
 impl<K: Keep> Model for Engine<K> {
@@ -37,6 +38,7 @@ impl<K: Keep> Model for Engine<K> {
     ghost use Rattle.mqtt_lines.specs.TheRules.Routing.{subscribers};
     ghost use Rattle.mqtt_lines.specs.TheTables.Stepping.{at_rest};
     ghost use Rattle.mqtt_engine.specs.Running.{Running};
+    ghost use Rattle.mqtt_lines.specs.Quiet.{AreQuietBefore};
     ghost use Rattle.mqtt_lines.specs.Sound.{IsSound};
 
     ghost Value = { Running K };
@@ -49,11 +51,13 @@ impl<K: Keep> Model for Engine<K> {
     } };
 
     // Between calls no step is under way; while the store hasn't failed it holds what is stored; and the index is that of
-    // the subscriptions that stand, unless it is to be made anew.
+    // the subscriptions that stand, unless it is to be made anew. Nothing that is stored is due before the moment
+    // `quiet`.
     ghost invariant = { λ e. (e.step ≡ at_rest e.step.limits e.step.broker)
         × IsSound e.step.limits e.step.broker
         × (e.stopped ≡ false → K.is_loaded e.keep × K.holds e.keep e.step.broker.records)
-        × (e.is_stale ≡ false → Serves e.index.sessions (subscribers e.step.broker.records)) };
+        × (e.is_stale ≡ false → Serves e.index.sessions (subscribers e.step.broker.records))
+        × AreQuietBefore e.quiet e.step.broker.records };
 }
 
 impl<K: Keep> Engine<K> {
@@ -80,6 +84,7 @@ impl<K: Keep> Engine<K> {
             index,
             is_stale: false,
             stopped: false,
+            quiet: 0,
         }
     }
 

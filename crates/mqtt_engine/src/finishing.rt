@@ -12,10 +12,11 @@ ghost use Rattle.mqtt_lines.specs.TheTables.Stepping.{at_rest};
 ghost use Rattle.mqtt_lines.specs.TheTables.declared.fault.StepFault.TheVariants.{Spent};
 ghost use Rattle.mqtt_engine.specs.Calling.{IsAnswered, IsLeftBy};
 ghost use Rattle.mqtt_lines.specs.Doing.{DidCall, IsCalled};
+ghost use Rattle.mqtt_lines.specs.Quiet.{AreQuietBefore};
 ghost use Rattle.mqtt_lines.specs.Sound.{IsSound};
 
 use crate::outcome::{Outcome, answered};
-use mqtt_lines::{EngineError, Outcome as StepOutcome, Step, StepFault, commit};
+use mqtt_lines::{EngineError, Outcome as StepOutcome, Step, StepFault, commit, quiet_after};
 use mqtt_records::Keep;
 use mqtt_router::Index;
 
@@ -48,6 +49,7 @@ fn tell<K: Keep>(
     step: &mut Step,
     index: &mut Index,
     is_stale: &mut bool,
+    quiet: &mut u64,
 ) -> Result<StepOutcome, EngineError>
     requires loaded { K.is_loaded keep.old }
     requires holds { K.holds keep.old step.old.start.records }
@@ -71,15 +73,20 @@ fn tell<K: Keep>(
     ensures crash { (left : Records) → K.leaves keep.new left
         → (left ≡ step.old.start.records) ⊎ (left ≡ step.old.broker.records) }
     ensures serves { is_stale.new ≡ false → Serves index.new.sessions (subscribers step.new.broker.records) }
+    ensures quiet { AreQuietBefore quiet.old step.old.start.records
+        → AreQuietBefore quiet.new step.new.broker.records }
 {
     if follow(index, step).is_err() {
         *is_stale = true;
         step.take_back();
         return Err(EngineError::Memory);
     }
+    let after = quiet_after(*quiet, step.rows());
     let told = commit(keep, step);
     if told.is_err() {
         *is_stale = true;
+    } else {
+        *quiet = after;
     }
     told
 }
@@ -90,6 +97,7 @@ fn store<K: Keep>(
     step: &mut Step,
     index: &mut Index,
     is_stale: &mut bool,
+    quiet: &mut u64,
     again: bool,
 ) -> Result<Outcome, EngineError>
     requires loaded { K.is_loaded keep.old }
@@ -112,9 +120,11 @@ fn store<K: Keep>(
         → (left : Records) → K.leaves keep.new left
         → IsLeftBy step.old.limits step.old.start now call left }
     ensures serves { is_stale.new ≡ false → Serves index.new.sessions (subscribers step.new.broker.records) }
+    ensures quiet { AreQuietBefore quiet.old step.old.start.records
+        → AreQuietBefore quiet.new step.new.broker.records }
 {
     match step.stamp() {
-        Ok(()) => match tell(keep, step, index, is_stale) {
+        Ok(()) => match tell(keep, step, index, is_stale, quiet) {
             Ok(told) => Ok(answered(told, again)),
             Err(error) => Err(error),
         },
@@ -133,6 +143,7 @@ pub fn finish<K: Keep>(
     step: &mut Step,
     index: &mut Index,
     is_stale: &mut bool,
+    quiet: &mut u64,
     done: Result<(), StepFault>,
     again: bool,
 ) -> Result<Outcome, EngineError>
@@ -169,9 +180,13 @@ pub fn finish<K: Keep>(
 
     // The index is that of the subscriptions that stand, or is to be made anew.
     ensures serves { is_stale.new ≡ false → Serves index.new.sessions (subscribers step.new.broker.records) }
+
+    // Nothing that is stored is due before that moment still.
+    ensures quiet { AreQuietBefore quiet.old step.old.start.records
+        → AreQuietBefore quiet.new step.new.broker.records }
 {
     match done {
-        Ok(()) => store(keep, step, index, is_stale, again),
+        Ok(()) => store(keep, step, index, is_stale, quiet, again),
         Err(fault) => {
             step.take_back();
             Err(refusal(fault))

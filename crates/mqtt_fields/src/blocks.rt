@@ -10,6 +10,7 @@ use mqtt_props::{Place, PropsRef};
 pub fn stands(properties: &PropsRef<'_>, place: Place) -> bool
     ensures { IsTrue result ↔ Stands place properties.now }
 {
+    // This shows that the block has a spelling.
     let _len = properties.block_len();
     properties.may_stand_in(place)
 }

@@ -83,6 +83,21 @@ fresh_at row ss new less =
 
 -- ---- a session begins after these deeds
 
+-- what comes before: no session of the name is left, and there is a place for a new one, which nobody has had
+pub record Clears (limits : Limits) (choice : MemberChoice) (now : ℕ) (clean : Bool) (r : Receiver) (l : BrokerLine) (b : Broker) (front : List Deed) (ns : List ℕ) : Type 0 where
+  pub deeds_are : deeds limits choice now (Input l.number (wire_back r.client r.window (answers (connect clean)))) b
+      ≡ On l.number Hear ∷ (front ++ begin l (greeting clean r.client r.window) false r.client (suc (after_all front (heard_of now l.number b)).records.births))
+  pub none : session_named r.client (after_all front (heard_of now l.number b)).records ≡ None
+  pub births : HasGivenBirths (after_all front (heard_of now l.number b)).records
+  pub room : length (after_all front (heard_of now l.number b)).records.sessions < SESSION_LIMIT
+  pub waits : session_on l.number (after_all front (heard_of now l.number b)).lines ≡ Some None
+  pub went : went_at l.number (after_all front (heard_of now l.number b)).lines ≡ Some []
+  pub off : AllByRecursion (IsOffIt (suc (after_all front (heard_of now l.number b)).records.births)) (after_all front (heard_of now l.number b)).lines
+  pub untold : (new : Broker) (ds : List Deed) → sent_to (Some l.number) new (filter_map output (front ++ ds)) ≡ sent_to (Some l.number) new (filter_map output ds)
+  pub closings : (ds : List Deed) → filter_map closing ds ≡ [] → filter_map closing (front ++ ds) ≡ ns
+  pub open_still : is_one_of (Some l.number) ns ≡ false
+  pub old : filter_map answered (unless_closed (is_one_of r.line.old_number ns) r.line.old) ≡ spared (filter_map answered r.line.old)
+
 module _ (number : Numbering) (largest : ℕ) (copies : List Lot) (limits : Limits) (choice : MemberChoice) (now : ℕ) (clean : Bool) (rest : List Back) (r : Receiver)
     (l : BrokerLine) (b : Broker) (h : IsRun number largest copies r b) (number_is : r.line.number ≡ Some l.number) where
   abbrev n : ℕ
@@ -112,22 +127,7 @@ module _ (number : Numbering) (largest : ℕ) (copies : List Lot) (limits : Limi
   abbrev w : Hop
   w = seen number copies r b
 
-  -- what comes before: no session of the name is left, and there is a place for a new one, which nobody has had
-  pub record Clears (front : List Deed) (ns : List ℕ) : Type 0 where
-    pub deeds_are : deeds limits choice now (Input l.number (wire_back r.client r.window (answers (connect clean)))) b
-        ≡ On l.number Hear ∷ (front ++ begin l (greeting clean r.client r.window) false r.client (suc (after_all front (heard_of now l.number b)).records.births))
-    pub none : session_named r.client (after_all front (heard_of now l.number b)).records ≡ None
-    pub births : HasGivenBirths (after_all front (heard_of now l.number b)).records
-    pub room : length (after_all front (heard_of now l.number b)).records.sessions < SESSION_LIMIT
-    pub waits : session_on l.number (after_all front (heard_of now l.number b)).lines ≡ Some None
-    pub went : went_at l.number (after_all front (heard_of now l.number b)).lines ≡ Some []
-    pub off : AllByRecursion (IsOffIt (suc (after_all front (heard_of now l.number b)).records.births)) (after_all front (heard_of now l.number b)).lines
-    pub untold : (new : Broker) (ds : List Deed) → sent_to (Some l.number) new (filter_map output (front ++ ds)) ≡ sent_to (Some l.number) new (filter_map output ds)
-    pub closings : (ds : List Deed) → filter_map closing ds ≡ [] → filter_map closing (front ++ ds) ≡ ns
-    pub open_still : is_one_of (Some l.number) ns ≡ false
-    pub old : filter_map answered (unless_closed (is_one_of r.line.old_number ns) r.line.old) ≡ spared (filter_map answered r.line.old)
-
-  module _ (front : List Deed) (ns : List ℕ) (c : Clears front ns) where
+  module _ (front : List Deed) (ns : List ℕ) (c : Clears limits choice now clean r l b front ns) where
     abbrev d : Broker
     d = after_all front heard_first
 
@@ -223,7 +223,7 @@ module _ (number : Numbering) (largest : ℕ) (copies : List Lot) (limits : Limi
 
 -- ---- no session of its name stands: one begins
 
-prepare_none : (env : Env) (clean : Bool) (client : List ℕ) (window : ℕ) (b : Broker) → session_named client b.records ≡ None → prepare env (greeting clean client window) b ≡ []
+pub prepare_none : (env : Env) (clean : Bool) (client : List ℕ) (window : ℕ) (b : Broker) → session_named client b.records ≡ None → prepare env (greeting clean client window) b ≡ []
 prepare_none env clean client window b none =
     let first : Act = of_client client (take_over env) in
     let second : Act = of_client client (λ z. settle env z.birth) in
@@ -262,14 +262,9 @@ off_heard k now n (l ∷ ls) h = by (nat_eq l.number n) (off_heard k now n ls h.
     by true g = (h.0, h.1)
     by false g = (h.0, g)
 
-abbrev FirstClears : Numbering → ℕ → List Lot → Limits → MemberChoice → ℕ → Bool → List Back → Receiver → BrokerLine → Broker → Type 0
-FirstClears number largest copies limits choice now clean rest r l b =
-    (h : IsRun number largest copies r b) → (a : IsBeginning limits r l b) → nat_lt (length b.records.sessions) limits.sessions ≡ true
-    → Clears number largest copies limits choice now clean rest r l b h a.number [] []
-
-first_clears : (number : Numbering) (largest : ℕ) (copies : List Lot) (limits : Limits) (choice : MemberChoice) (now : ℕ) (clean : Bool) (rest : List Back) (r : Receiver) (l : BrokerLine) (b : Broker)
-    → FirstClears number largest copies limits choice now clean rest r l b
-first_clears number largest copies limits choice now clean rest r l b h a room =
+pub first_clears : (limits : Limits) (choice : MemberChoice) (now : ℕ) (clean : Bool) (r : Receiver) (l : BrokerLine) (b : Broker)
+    → IsBeginning limits r l b → nat_lt (length b.records.sessions) limits.sessions ≡ true → Clears limits choice now clean r l b [] []
+first_clears limits choice now clean r l b a room =
     let n = l.number in
     let first = at_moment now b in
     let heard_first = heard_of now n b in
@@ -301,7 +296,7 @@ pub first_begins : (number : Numbering) (largest : ℕ) (copies : List Lot) (lim
     → RunsOn number largest copies (reads_answer limits choice now l.number (connect clean) r b) (after_answer limits choice now l.number (connect clean) r b)
 first_begins number largest copies limits choice now clean rest r l b h a room up =
     let w = seen number copies r b in
-    begins_run number largest copies limits choice now clean rest r l b h a.number [] [] (first_clears number largest copies limits choice now clean rest r l b h a room) up
+    begins_run number largest copies limits choice now clean rest r l b h a.number [] [] (first_clears limits choice now clean r l b a room) up
     (ap (λ (xs : List Answer). up_comes false xs w) (ap (filter_map answered) up)
     ∙ ap (λ (z : Bool). connects z clean false (filter_map answered rest) w) (ap is_some a.none))
 
@@ -310,4 +305,4 @@ pub first_receives : (number : Numbering) (largest : ℕ) (copies : List Lot) (l
     → IsRun number largest copies r b → IsBeginning limits r l b → nat_lt (length b.records.sessions) limits.sessions ≡ true → r.line.up ≡ answers (connect clean) ∷ rest
     → Receives (reads_answer limits choice now l.number (connect clean) r b) (after_answer limits choice now l.number (connect clean) r b)
 first_receives number largest copies limits choice now clean rest r l b h a room up =
-    begins_receives number largest copies limits choice now clean rest r l b h a.number [] [] (first_clears number largest copies limits choice now clean rest r l b h a room)
+    begins_receives number largest copies limits choice now clean rest r l b h a.number [] [] (first_clears limits choice now clean r l b a room)

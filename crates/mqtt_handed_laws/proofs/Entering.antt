@@ -200,7 +200,7 @@ map_push : {X Y : Type 0} (f : X → Y) (xs : List X) (x : X) → map f (xs ++ x
 map_push f [] x = refl
 map_push f (y ∷ ys) x = ap (λ (zs : List _). f y ∷ zs) (map_push f ys x)
 
-slice_more : (ids more : List CopyId) (n : ℕ) (c : CopyId) → slice_get ids n ≡ Some c → slice_get (ids ++ more) n ≡ Some c
+pub slice_more : (ids more : List CopyId) (n : ℕ) (c : CopyId) → slice_get ids n ≡ Some c → slice_get (ids ++ more) n ≡ Some c
 slice_more [] more n c h = absurd cc
 slice_more (x ∷ xs) more zero c h = h
 slice_more (x ∷ xs) more (suc n) c h = slice_more xs more n c h
@@ -334,7 +334,7 @@ module _ (client : List ℕ) (s : Session) (ids : List CopyId) (lines_first : Li
 
 -- ---- what the receiver sees of it
 
-linked_same : (o : Option ℕ) (b c : Broker) → ((m : ℕ) → session_on m c.lines ≡ session_on m b.lines) → is_linked o c ≡ is_linked o b
+pub linked_same : (o : Option ℕ) (b c : Broker) → ((m : ℕ) → session_on m c.lines ≡ session_on m b.lines) → is_linked o c ≡ is_linked o b
 linked_same None b c h = refl
 linked_same (Some m) b c h = linked_is m c ∙ (ap linked_of (h m) ∙ sym (linked_is m b))
 

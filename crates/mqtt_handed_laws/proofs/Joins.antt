@@ -17,7 +17,7 @@ use Rattle.mqtt_handed_laws.specs.Handing.{IsRun, MayComeBack, receiver_joined}
 use Rattle.mqtt_handed_laws.specs.Seen.{AreQueued, Numbering, StandOn, answered, handed_in, seen}
 use Rattle.mqtt_handed_laws.proofs.Refusals.{run_append}
 
-fresh_of_none : (birth n now : ℕ) (ls : List BrokerLine) → find (λ (l : BrokerLine). is_of l.session birth) (ls ++ fresh_line n now ∷ []) ≡ find (λ (l : BrokerLine). is_of l.session birth) ls
+pub fresh_of_none : (birth n now : ℕ) (ls : List BrokerLine) → find (λ (l : BrokerLine). is_of l.session birth) (ls ++ fresh_line n now ∷ []) ≡ find (λ (l : BrokerLine). is_of l.session birth) ls
 fresh_of_none birth n now [] = refl
 fresh_of_none birth n now (l ∷ ls) = by (is_of l.session birth) (fresh_of_none birth n now ls)
   where

@@ -141,7 +141,7 @@ begins_other client birth ns (Gone m) q = tt
 
 -- ---- other lines
 
-differ : (k m : ℕ) (ns : List ℕ) → is_one_of (Some k) ns ≡ false → is_one_of (Some m) ns ≡ true → nat_eq k m ≡ false
+pub differ : (k m : ℕ) (ns : List ℕ) → is_one_of (Some k) ns ≡ false → is_one_of (Some m) ns ≡ true → nat_eq k m ≡ false
 differ k m ns outside inside = elim (cases_Bool (nat_eq k m)) [
   | inl same ↦
       let is = eqb-true k m same in

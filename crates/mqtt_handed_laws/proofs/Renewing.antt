@@ -82,7 +82,7 @@ on_place n k place (l ∷ ls) = elim (cases_Bool (is_of l.session k)) [
   | inr other ↦ elim (cases_Bool (nat_eq l.number n)) [ inl here ↦ rw (other, here) refl | inr further ↦ rw (other, further) (on_place n k place ls) ]
 ]
 
-off_place : (birth k place : ℕ) (ls : List BrokerLine) → AllByRecursion (IsOffIt birth) ls → AllByRecursion (IsOffIt birth) (map (without_place k place) ls)
+pub off_place : (birth k place : ℕ) (ls : List BrokerLine) → AllByRecursion (IsOffIt birth) ls → AllByRecursion (IsOffIt birth) (map (without_place k place) ls)
 off_place birth k place [] h = tt
 off_place birth k place (l ∷ ls) h = (by (is_of l.session k), off_place birth k place ls h.1)
   where
@@ -168,14 +168,15 @@ ended_closes o s now ds none =
 
 -- ---- the step
 
-record Renews (number : Numbering) (largest : ℕ) (copies : List Lot) (limits : Limits) (choice : MemberChoice) (now : ℕ) (rest : List Back) (r : Receiver) (l : BrokerLine) (s : Session) (b : Broker)
-    (h : IsRun number largest copies r b) (a : IsRenewing limits r l s b) : Type 0 where
-  pub front : List Deed
-  pub clears : Clears number largest copies limits choice now true rest r l b h a.resuming.number front (lines_left (line_of s.birth b))
+pub record Renews (limits : Limits) (choice : MemberChoice) (now : ℕ) (r : Receiver) (l : BrokerLine) (s : Session) (b : Broker) : Type 0 where
+  pub its : Option BrokerLine  -- the line that the session is connected on, as it stands when the line has been heard of
+  pub taken : IsTaken its s.birth l.number
+  pub same : lines_left its ≡ lines_left (line_of s.birth b)
+  pub clears : Clears limits choice now true r l b (ended_by its s (heard_of now l.number b).now) (lines_left (line_of s.birth b))
+  pub births_are : (after_all (ended_by its s (heard_of now l.number b).now) (heard_of now l.number b)).records.births ≡ b.records.births
 
-renewed_clears : (number : Numbering) (largest : ℕ) (copies : List Lot) (limits : Limits) (choice : MemberChoice) (now : ℕ) (rest : List Back) (r : Receiver) (l : BrokerLine) (s : Session) (b : Broker)
-    → (h : IsRun number largest copies r b) → (a : IsRenewing limits r l s b) → Renews number largest copies limits choice now rest r l s b h a
-renewed_clears number largest copies limits choice now rest r l s b h a =
+pub renewed_clears : (limits : Limits) (choice : MemberChoice) (now : ℕ) (r : Receiver) (l : BrokerLine) (s : Session) (b : Broker) → IsRenewing limits r l s b → Renews limits choice now r l s b
+renewed_clears limits choice now r l s b a =
     let n = l.number in
     let first = at_moment now b in
     let heard_first = heard_of now n b in
@@ -215,7 +216,10 @@ renewed_clears number largest copies limits choice now rest r l s b h a =
     ∙ (ap (λ (ds : List Deed). On n Hear ∷ ds) (append-nil (on_connect env l (greeting true r.client r.window) heard_first))
     ∙ ap (λ (ds : List Deed). On n Hear ∷ ds) (connect_is o env l r.client r.window s heard_first heard_line.1 t kept a.some clears.none fits)) in
     record {
-      front = front;
+      its = o;
+      taken = t;
+      same = heard_line.3;
+      births_are = end.births_are;
       clears = record {
         deeds_are = is;
         none = clears.none;
@@ -236,9 +240,9 @@ pub renewal_runs : (number : Numbering) (largest : ℕ) (copies : List Lot) (lim
     → RunsOn number largest copies (reads_answer limits choice now l.number (connect true) r b) (after_answer limits choice now l.number (connect true) r b)
 renewal_runs number largest copies limits choice now rest r l s b h a up =
     let w = seen number copies r b in
-    let x = renewed_clears number largest copies limits choice now rest r l s b h a in
+    let x = renewed_clears limits choice now r l s b a in
     let stands : is_some (session_named r.client b.records) ≡ true = ap is_some (named_is r.client s.birth b.records s a.resuming.kept.only a.resuming.kept.session a.resuming.kept.name) in
-    begins_run number largest copies limits choice now true rest r l b h a.resuming.number x.front (lines_left (line_of s.birth b)) x.clears up
+    begins_run number largest copies limits choice now true rest r l b h a.resuming.number (ended_by x.its s (heard_of now l.number b).now) (lines_left (line_of s.birth b)) x.clears up
     (ap (λ (xs : List Answer). up_comes false xs w) (ap (filter_map answered) up)
     ∙ ap (λ (z : Bool). connects z true false (filter_map answered rest) w) stands)
 
@@ -247,5 +251,5 @@ pub renewal_receives : (number : Numbering) (largest : ℕ) (copies : List Lot) 
     → IsRun number largest copies r b → IsRenewing limits r l s b → r.line.up ≡ answers (connect true) ∷ rest
     → Receives (reads_answer limits choice now l.number (connect true) r b) (after_answer limits choice now l.number (connect true) r b)
 renewal_receives number largest copies limits choice now rest r l s b h a up =
-    let x = renewed_clears number largest copies limits choice now rest r l s b h a in
-    begins_receives number largest copies limits choice now true rest r l b h a.resuming.number x.front (lines_left (line_of s.birth b)) x.clears
+    let x = renewed_clears limits choice now r l s b a in
+    begins_receives number largest copies limits choice now true rest r l b h a.resuming.number (ended_by x.its s (heard_of now l.number b).now) (lines_left (line_of s.birth b)) x.clears

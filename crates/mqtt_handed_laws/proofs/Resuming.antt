@@ -12,17 +12,18 @@ use Rattle.mqtt_codec.specs.declared.packet.Packet.TheVariants.{Connect}
 use Rattle.mqtt_connect.specs.declared.connect.Connect.{Connect as Greeting}
 use Rattle.mqtt_flow.specs.Outbound.{due_from, due_of, resumed_with, unsent}
 use Rattle.mqtt_flow.specs.OutboundWorld.{Lot, World as Hop, all_packets, connects, past, queue_of, renewed, standing, start, step, to_broker, up_comes}
-use Rattle.mqtt_flow.specs.Receiver.{Answer, Output, connack, connect, pubrel, spared}
+use Rattle.mqtt_flow.specs.Receiver.{Answer, Output, connack, connect, disconnect, pubrel, spared}
 use Rattle.mqtt_flow.specs.declared.entry.Turn.{Turn}
 use Rattle.mqtt_flow.specs.declared.entry.Turn.TheVariants as turns
 use Rattle.mqtt_laws.specs.Ends.{Back, Receiver, answers, wire_back}
 use Rattle.mqtt_laws.specs.Hops.{IsKept, IsOnly, IsTaken, lines_left}
-use Rattle.mqtt_laws.specs.Lines.{is_one_of, sent_to}
+use Rattle.mqtt_laws.specs.Lines.{Down, is_one_of, sent_to}
 use Rattle.mqtt_laws.specs.World.{taken_up}
 use Rattle.mqtt_laws.proofs.Connects.{greeted_line, heard_line_of, heard_on_line, left_by, left_leaves, named_taken, not_left, prepare_front, taken_at, taken_birth, taken_client, taken_from}
 use Rattle.mqtt_laws.proofs.Names.{BeginNone, named_is, only_deeds}
 use Rattle.mqtt_laws.proofs.OwnStep.{heard_of}
-use Rattle.mqtt_laws.proofs.Quiet.{session_on}
+use Rattle.mqtt_laws.proofs.Publishes.{line_none}
+use Rattle.mqtt_laws.proofs.Quiet.{line_gone, line_on, session_on}
 use Rattle.mqtt_laws.proofs.Seeing.{linked_of}
 use Rattle.mqtt_message.specs.Queue.{CopyRow}
 use Rattle.mqtt_props.specs.Properties.{U16, U32}
@@ -42,16 +43,17 @@ use Rattle.mqtt_rules.specs.Outbound.{all_turn_deeds}
 use Rattle.mqtt_rules.specs.Packets.{property}
 use Rattle.mqtt_rules.specs.Packets as packets_of
 use Rattle.mqtt_rules.specs.State.{Line as BrokerLine, Broker, Env, MemberChoice, is_of, line_at, line_of, queue_on, session_at, session_named}
-use Rattle.mqtt_rules.specs.Step.{Input, at_moment, deeds, env_of, on_packet, stepped}
+use Rattle.mqtt_rules.specs.Step.{Call, Input, at_moment, deeds, env_of, on_packet, stepped}
 use Rattle.mqtt_rules.specs.declared.Limits.{Limits}
 use Rattle.mqtt_handed_laws.specs.Calls.{IsOnlyAt, IsResuming}
 use Rattle.mqtt_handed_laws.specs.Entering.{AreKnown, Receives}
 use Rattle.mqtt_handed_laws.specs.Handing.{IsRun, RunsOn, after_answer, reads_answer}
 use Rattle.mqtt_handed_laws.specs.Seen.{AreQueued, Numbering, StandOn, answered, heard_in, lot_on, seen, still_standing, went_in}
 use Rattle.mqtt_handed_laws.specs.Tags.{AreNumbered, AreTagged, IsTagged, id_of}
-use Rattle.mqtt_handed_laws.proofs.Answering.{its_went}
+use Rattle.mqtt_handed_laws.proofs.Answering.{IsAsideOf, its_went}
 use Rattle.mqtt_handed_laws.proofs.Calling.{AreInside, Makes, called_queue, called_seen, called_tags, hop_called, inside_begins, inside_closes, inside_turns}
 use Rattle.mqtt_handed_laws.proofs.Known.{receives_after}
+use Rattle.mqtt_handed_laws.proofs.OldAnswers.{aside_lines, untold}
 use Rattle.mqtt_handed_laws.proofs.Pumps.{down_first, its_session}
 use Rattle.mqtt_handed_laws.proofs.Refusals.{run_append}
 use Rattle.mqtt_handed_laws.proofs.Turns.{renewed_lots, same_entries}
@@ -83,7 +85,7 @@ resumed_same copies = rw (dues_renewed [] copies) refl
 -- ---- lines
 
 -- none but these has the session
-only_heard : (ns : List ℕ) (birth now n : ℕ) (ls : List BrokerLine) → AllByRecursion (IsOnlyAt ns birth) ls → AllByRecursion (IsOnlyAt ns birth) (on_line now n Hear ls)
+pub only_heard : (ns : List ℕ) (birth now n : ℕ) (ls : List BrokerLine) → AllByRecursion (IsOnlyAt ns birth) ls → AllByRecursion (IsOnlyAt ns birth) (on_line now n Hear ls)
 only_heard ns birth now n [] h = tt
 only_heard ns birth now n (l ∷ ls) h = by (nat_eq l.number n) (only_heard ns birth now n ls h.1)
   where
@@ -103,7 +105,7 @@ abbrev pub IsOffIt : ℕ → BrokerLine → Type 0
 IsOffIt birth l = is_of l.session birth ≡ false
 
 -- and those go
-none_has : (o : Option BrokerLine) (birth : ℕ) (ls : List BrokerLine) → AllByRecursion (IsOnlyAt (lines_left o) birth) ls → AllByRecursion (IsOffIt birth) (lines_without o ls)
+pub none_has : (o : Option BrokerLine) (birth : ℕ) (ls : List BrokerLine) → AllByRecursion (IsOnlyAt (lines_left o) birth) ls → AllByRecursion (IsOffIt birth) (lines_without o ls)
 none_has None birth [] h = tt
 none_has None birth (l ∷ ls) h = (first (is_of l.session birth) refl, none_has None birth ls h.1)
   where
@@ -230,7 +232,7 @@ greeting clean client window = record {
 pub refused_not : (clean : Bool) (client : List ℕ) (window : ℕ) (r : Records) → nat_lt 64 (length client) ≡ false → starts_with nat_eq client auto ≡ false → refusal (greeting clean client window) r ≡ None
 refused_not clean client window r short plain = rw (short, plain) refl
 
-connect_is : (o : Option BrokerLine) (env : Env) (l : BrokerLine) (client : List ℕ) (window : ℕ) (s : Session) (b : Broker) → line_of s.birth b ≡ o → IsTaken o s.birth l.number → IsKept client s b
+pub connect_is : (o : Option BrokerLine) (env : Env) (l : BrokerLine) (client : List ℕ) (window : ℕ) (s : Session) (b : Broker) → line_of s.birth b ≡ o → IsTaken o s.birth l.number → IsKept client s b
     → on_connect env l (greeting false client window) b ≡ left_by o s b.now ++ resume l (greeting false client window) b.now (taken_from o b.now s)
 connect_is o env l client window s b e t k =
     let c = greeting false client window in
@@ -280,10 +282,52 @@ session_resumed x r at =
     ap (λ (o : Option Session). session_at x.birth (changed_all (part_rows_of (Resume never None) o) r)) at
     ∙ change_row-here birth_of x.birth (with_will None) (with_columns (resumed_row x) x) set (λ y. refl) first
 
+-- ---- another line, which is told and closed where it is the one that the session was taken from
+
+pub record Beside (number : Numbering) (ids : List CopyId) (limits : Limits) (choice : MemberChoice) (now : ℕ) (call : Call) (m : ℕ) (b : Broker) (shut : Bool) : Type 0 where
+  pub told : filter_map (heard_in number) (sent_to (Some m) (stepped limits choice now call b) (filter_map output (deeds limits choice now call b))) ≡ cond shut (disconnect ∷ []) []
+  pub tagged : AllByRecursion (IsTagged number ids) (sent_to (Some m) (stepped limits choice now call b) (filter_map output (deeds limits choice now call b)))
+  pub line_is : session_on m (after_all (deeds limits choice now call b) (at_moment now b)).lines ≡ cond shut None (session_on m b.lines)
+
+left_told : (number : Numbering) (o : Option BrokerLine) (s : Session) (now m : ℕ) (new : Broker) (ds : List Deed) → sent_to (Some m) new (filter_map output ds) ≡ []
+    → filter_map (heard_in number) (sent_to (Some m) new (filter_map output (left_by o s now ++ ds))) ≡ cond (is_one_of (Some m) (lines_left o)) (disconnect ∷ []) []
+left_told number None s now m new ds none = ap (filter_map (heard_in number)) none
+left_told number (Some x) s now m new ds none = elim (cases_Bool (nat_eq x.number m)) [
+  | inl here ↦ rw here (ap (λ (ps : List Down). disconnect ∷ filter_map (heard_in number) ps) none)
+  | inr other ↦ rw other (ap (filter_map (heard_in number)) none)
+]
+
+left_tagged : (number : Numbering) (ids : List CopyId) (o : Option BrokerLine) (s : Session) (now m : ℕ) (new : Broker) (ds : List Deed) → sent_to (Some m) new (filter_map output ds) ≡ []
+    → AllByRecursion (IsTagged number ids) (sent_to (Some m) new (filter_map output (left_by o s now ++ ds)))
+left_tagged number ids None s now m new ds none = subst (AllByRecursion (IsTagged number ids)) (sym none) tt
+left_tagged number ids (Some x) s now m new ds none = elim (cases_Bool (nat_eq x.number m)) [
+  | inl here ↦ rw here (tt, subst (AllByRecursion (IsTagged number ids)) (sym none) tt)
+  | inr other ↦ rw other (subst (AllByRecursion (IsTagged number ids)) (sym none) tt)
+]
+
+left_on : (o : Option BrokerLine) (s : Session) (m : ℕ) (b : Broker) → session_on m (after_all (left_by o s b.now) b).lines ≡ cond (is_one_of (Some m) (lines_left o)) None (session_on m b.lines)
+left_on None s m b = refl
+left_on (Some x) s m b = elim (cases_Bool (nat_eq x.number m)) [
+  | inl here ↦ rw here (ap (λ (k : ℕ). session_on k (after_all (left_by (Some x) s b.now) b).lines) (sym (eqb-true x.number m here)) ∙ line_none x.number b.lines)
+  | inr other ↦ rw other (line_gone m x.number b.lines other)
+]
+
+-- what the call makes of the session, wherever the receiver is
+pub record Takes (number : Numbering) (copies : List Lot) (ids : List CopyId) (limits : Limits) (choice : MemberChoice) (now : ℕ) (call : Call) (name : List ℕ) (l : BrokerLine) (s : Session) (b : Broker) : Type 0 where
+  pub session : Session
+  pub found : session_at s.birth (after_all (deeds limits choice now call b) (at_moment now b)).records ≡ Some session
+  pub client : session.client ≡ name
+  pub birth_is : session.birth ≡ s.birth
+  pub only : IsOnly name s.birth (after_all (deeds limits choice now call b) (at_moment now b)).records
+  pub queued : StandOn (map renewed copies) session.queue (its_went s.birth (after_all (deeds limits choice now call b) (at_moment now b)).lines)
+  pub known : AreKnown session.queue (its_went s.birth (after_all (deeds limits choice now call b) (at_moment now b)).lines)
+  pub closes : filter_map closing (deeds limits choice now call b) ≡ lines_left (line_of s.birth b)
+  pub beside : (m : ℕ) → nat_eq l.number m ≡ false → Beside number ids limits choice now call m b (is_one_of (Some m) (lines_left (line_of s.birth b)))
+
 -- ---- the step
 
 module _ (number : Numbering) (largest : ℕ) (copies : List Lot) (limits : Limits) (choice : MemberChoice) (now : ℕ) (rest : List Back) (r : Receiver)
-    (l : BrokerLine) (s : Session) (b : Broker) (h : IsRun number largest copies r b) (a : IsResuming r l s b) (up : r.line.up ≡ answers (connect false) ∷ rest) where
+    (l : BrokerLine) (s : Session) (b : Broker) (queued : AreQueued copies (session_named r.client b.records) b) (a : IsResuming r l s b) (up : r.line.up ≡ answers (connect false) ∷ rest) where
   abbrev n : ℕ
   n = l.number
 
@@ -379,7 +423,7 @@ module _ (number : Numbering) (largest : ℕ) (copies : List Lot) (limits : Limi
     still_now : still_standing copies2 ≡ map (lot_on []) s.queue
     still_now =
         let named : session_named r.client b.records ≡ Some s = named_is r.client s.birth b.records s a.kept.only a.kept.session a.kept.name in
-        renewed_standing copies s.queue (went_in s.birth b) (subst (λ (z : Option Session). AreQueued copies z b) named h.queue_is)
+        renewed_standing copies s.queue (went_in s.birth b) (subst (λ (z : Option Session). AreQueued copies z b) named queued)
 
     turns_are : ts ≡ resumed_with (queue_of copies)
     turns_are =
@@ -440,8 +484,8 @@ module _ (number : Numbering) (largest : ℕ) (copies : List Lot) (limits : Limi
         ∙ (ap (λ (z : Bool). connects z false false (filter_map answered rest) w) (sym stands)
         ∙ ap (λ (xs : List Answer). up_comes false xs w) (sym (ap (filter_map answered) up))))
 
-    resumes_run : RunsOn number largest copies (reads_answer limits choice now n (connect false) r b) (after_answer limits choice now n (connect false) r b)
-    resumes_run =
+    resumes_run : IsRun number largest copies r b → RunsOn number largest copies (reads_answer limits choice now n (connect false) r b) (after_answer limits choice now n (connect false) r b)
+    resumes_run h =
         let e = to_broker false in
         record {
           after = copies2;
@@ -464,13 +508,74 @@ module _ (number : Numbering) (largest : ℕ) (copies : List Lot) (limits : Limi
         receives_after (reads_answer limits choice now n (connect false) r b) s.birth limits choice now (Input n packet) b m.session m.found m.client m.birth_is m.only
         (subst (AreKnown m.session.queue) (sym went_ends) tt)
 
-  pub connect_runs : RunsOn number largest copies (reads_answer limits choice now l.number (connect false) r b) (after_answer limits choice now l.number (connect false) r b)
-  connect_runs =
-      let heard_line = heard_line_of s.birth n now b (line_of s.birth b) refl a.taken in
-      resumes_run heard_line.0 heard_line.1 heard_line.2 heard_line.3
+    -- what becomes of another line
+    beside : (m : ℕ) → nat_eq n m ≡ false → Beside number ids limits choice now (Input n packet) m b (is_one_of (Some m) (lines_left (line_of s.birth b)))
+    beside m other =
+        let none = untold m new resumes aside_resumes in
+        let shut = is_one_of (Some m) (lines_left o) in
+        let alike : shut ≡ is_one_of (Some m) (lines_left (line_of s.birth b)) = ap (is_one_of (Some m)) same in
+        let told = left_told number o s heard_first.now m new resumes none.told in
+        let tags = left_tagged number ids o s heard_first.now m new resumes none.told in
+        let lines : session_on m (after_all all_deeds first).lines ≡ cond shut None (session_on m b.lines) =
+        ap (λ (d : Broker). session_on m d.lines) (after_append (left_by o s heard_first.now) resumes heard_first)
+        ∙ (aside_lines m resumes left aside_resumes
+        ∙ (left_on o s m heard_first ∙ ap (λ (z : Option (Option ℕ)). cond shut None z) (line_on first.now m n Hear b.lines (inr tt)))) in
+        subst (Beside number ids limits choice now (Input n packet) m b) alike (record {
+          told = ap (λ (ds : List Deed). filter_map (heard_in number) (sent_to (Some m) new (filter_map output ds))) deeds_are ∙ told;
+          tagged = subst (λ (ds : List Deed). AllByRecursion (IsTagged number ids) (sent_to (Some m) new (filter_map output ds))) (sym deeds_are) tags;
+          line_is = ap (λ (ds : List Deed). session_on m (after_all ds first).lines) deeds_are ∙ lines;
+        })
+      where
+        aside_repeats : (us : List Turn) → AllByRecursion IsRepeat us → AllByRecursion (IsAsideOf m) (all_turn_deeds heard_first.now n x us)
+        aside_repeats [] h = tt
+        aside_repeats (turns.Repeat i ∷ us) h = (other, aside_repeats us h.1)
+        aside_repeats (turns.Send place i ∷ us) h = absurd h.0
+        aside_repeats (turns.Resend place i ∷ us) h = absurd h.0
+        aside_repeats (turns.Release place i order ∷ us) h = absurd h.0
+        aside_repeats (turns.Outgrow place i order ∷ us) h = absurd h.0
+        aside_repeats (turns.Unknown i ∷ us) h = absurd h.0
+        aside_repeats (turns.Leave place ending ∷ us) h = absurd h.0
 
-  -- and its session may receive more
-  pub connect_receives : Receives (reads_answer limits choice now l.number (connect false) r b) (after_answer limits choice now l.number (connect false) r b)
-  connect_receives =
+        aside_resumes : AllByRecursion (IsAsideOf m) resumes
+        aside_resumes = (tt, (other, (other, aside_repeats ts are_repeats)))
+
+    takes : Takes number copies ids limits choice now (Input n packet) r.client l s b
+    takes =
+        let m = makes in
+        record {
+          session = m.session;
+          found = m.found;
+          client = m.client;
+          birth_is = m.birth_is;
+          only = m.only;
+          queued = m.queued;
+          known = subst (AreKnown m.session.queue) (sym went_ends) tt;
+          closes = ap (filter_map closing) deeds_are ∙ closes_are;
+          beside = beside;
+        }
+
+  pub connect_makes : Takes number copies ids limits choice now (Input n packet) r.client l s b
+  connect_makes =
+      let heard_line = heard_line_of s.birth n now b (line_of s.birth b) refl a.taken in
+      takes heard_line.0 heard_line.1 heard_line.2 heard_line.3
+
+  resumed_runs : IsRun number largest copies r b → RunsOn number largest copies (reads_answer limits choice now l.number (connect false) r b) (after_answer limits choice now l.number (connect false) r b)
+  resumed_runs h =
+      let heard_line = heard_line_of s.birth n now b (line_of s.birth b) refl a.taken in
+      resumes_run heard_line.0 heard_line.1 heard_line.2 heard_line.3 h
+
+  resumed_receives : Receives (reads_answer limits choice now l.number (connect false) r b) (after_answer limits choice now l.number (connect false) r b)
+  resumed_receives =
       let heard_line = heard_line_of s.birth n now b (line_of s.birth b) refl a.taken in
       resumes_receives heard_line.0 heard_line.1 heard_line.2 heard_line.3
+
+pub connect_runs : (number : Numbering) (largest : ℕ) (copies : List Lot) (limits : Limits) (choice : MemberChoice) (now : ℕ) (rest : List Back) (r : Receiver) (l : BrokerLine) (s : Session) (b : Broker)
+    → IsRun number largest copies r b → IsResuming r l s b → r.line.up ≡ answers (connect false) ∷ rest
+    → RunsOn number largest copies (reads_answer limits choice now l.number (connect false) r b) (after_answer limits choice now l.number (connect false) r b)
+connect_runs number largest copies limits choice now rest r l s b h a up = resumed_runs number largest copies limits choice now rest r l s b h.queue_is a up h
+
+-- and its session may receive more
+pub connect_receives : (number : Numbering) (largest : ℕ) (copies : List Lot) (limits : Limits) (choice : MemberChoice) (now : ℕ) (rest : List Back) (r : Receiver) (l : BrokerLine) (s : Session) (b : Broker)
+    → IsRun number largest copies r b → IsResuming r l s b → r.line.up ≡ answers (connect false) ∷ rest
+    → Receives (reads_answer limits choice now l.number (connect false) r b) (after_answer limits choice now l.number (connect false) r b)
+connect_receives number largest copies limits choice now rest r l s b h a up = resumed_receives number largest copies limits choice now rest r l s b h.queue_is a up

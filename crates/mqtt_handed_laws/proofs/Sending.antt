@@ -27,7 +27,7 @@ use Rattle.mqtt_rules.specs.Deeds.{Deed, after_all, closing, output, rows_of_all
 use Rattle.mqtt_rules.specs.Flight.{HasDistinctIdentifiers, IsFlight}
 use Rattle.mqtt_rules.specs.Inbound.{pump_deeds, pump_turns}
 use Rattle.mqtt_rules.specs.Outbound.{way_of}
-use Rattle.mqtt_rules.specs.State.{Line as BrokerLine, Broker, MemberChoice, queue_on, session_at}
+use Rattle.mqtt_rules.specs.State.{Line as BrokerLine, Broker, MemberChoice, line_at, queue_on, session_at}
 use Rattle.mqtt_rules.specs.Step.{Pump, at_moment, deeds, on_pump, stepped}
 use Rattle.mqtt_rules.specs.declared.Limits.{Limits}
 use Rattle.mqtt_handed_laws.specs.Calls.{receiver_called}
@@ -71,6 +71,13 @@ queue_granted number largest copies went queue r b h still =
 
 -- ---- the step
 
+pub pump_is : (limits : Limits) (choice : MemberChoice) (now : ℕ) (l : BrokerLine) (s : Session) (b : Broker) → line_at l.number b ≡ Some l → l.session ≡ Some s.birth → session_at s.birth b.records ≡ Some s
+    → deeds limits choice now (Pump l.number) b ≡ pump_deeds l (at_moment now b).now s
+pump_is limits choice now l s b line connected at =
+    let first = at_moment now b in
+    ap (λ (o : Option BrokerLine). with_line o (λ (x : BrokerLine). on_pump x x.session) first) line
+    ∙ (ap (λ (o : Option ℕ). on_pump l o first) connected ∙ ap (λ (o : Option Session). with_session o (λ (x : Session) (d : Broker). pump_deeds l first.now x) first) at)
+
 all_zero : (es : List CopyRow) → AllByRecursion (λ (e : CopyRow). 0 ≤ e.place) es
 all_zero [] = tt
 all_zero (e ∷ es) = (omega arith, all_zero es)
@@ -97,9 +104,7 @@ module _ (number : Numbering) (largest : ℕ) (copies : List Lot) (limits : Limi
   new = stepped limits choice now (Pump n) b
 
   pumps_are : deeds limits choice now (Pump n) b ≡ pump_deeds l first.now s
-  pumps_are =
-      ap (λ (o : Option BrokerLine). with_line o (λ (x : BrokerLine). on_pump x x.session) first) c.line
-      ∙ (ap (λ (o : Option ℕ). on_pump l o first) c.connected ∙ ap (λ (o : Option Session). with_session o (λ (x : Session) (d : Broker). pump_deeds l first.now x) first) c.session)
+  pumps_are = pump_is limits choice now l s b c.line c.connected c.session
 
   standing_now : still_standing copies ≡ map (lot_on l.went) s.queue
   standing_now = standing_by copies r l s b h.queue_is c

@@ -1,12 +1,13 @@
 -- Calls of the broker that a receiver sees: sending what waits for it, reading what it left on the line that it gave up, and
 -- its CONNECT (MQTT 5.0, 3.1.2.4, 4.4, 4.6, 4.9).
-use Rattle.std.specs.Prelude.{◌≡◌, ◌≤◌, ℕ, suc, true, false, List, [], filter_map, length, nat_eq, nat_lt, Some, None}
+use Rattle.std.specs.Prelude.{◌≡◌, ◌≤◌, ℕ, suc, true, false, List, [], ◌∷◌, filter_map, length, nat_eq, nat_lt, Some, None}
 use Rattle.std.specs.List.{AllByRecursion, starts_with}
 use Rattle.mqtt_base.specs.declared.limits.TheConstants.{CLIENT_LIMIT, SESSION_LIMIT}
 use Rattle.mqtt_flow.specs.Receiver.{Answer, spared}
 use Rattle.mqtt_laws.specs.Ends.{Receiver, answers, wire_back}
 use Rattle.mqtt_laws.specs.Hops.{IsKept, IsTaken, lines_left}
 use Rattle.mqtt_laws.specs.Lines.{is_one_of, unless_closed}
+use Rattle.mqtt_laws.specs.Seen.{is_linked}
 use Rattle.mqtt_laws.specs.World.{receiver_told, taken_old}
 use Rattle.mqtt_records.specs.Session.{auto}
 use Rattle.mqtt_records.specs.declared.session.Session.{Session}
@@ -88,3 +89,17 @@ pub record IsRenewing (limits : Limits) (r : Receiver) (l : BrokerLine) (s : Ses
   pub within : limits.sessions ≤ SESSION_LIMIT
   pub room : length b.records.sessions ≤ limits.sessions
   pub some : is_empty r.client ≡ false
+
+-- the line that it gave up waits for CONNECT, and its session stands, connected on the receiver's line if that is linked, or on
+-- at most one other
+pub record IsLate (r : Receiver) (l : BrokerLine) (s : Session) (b : Broker) : Type 0 where
+  pub number : r.line.old_number ≡ Some l.number
+  pub line : line_at l.number b ≡ Some l
+  pub waits : l.session ≡ None
+  pub fresh : l.went ≡ []
+  pub kept : IsKept r.client s b
+  pub taken : IsTaken (line_of s.birth b) s.birth l.number
+  pub alone : AllByRecursion (IsOnlyAt (lines_left (line_of s.birth b)) s.birth) b.lines
+  -- the receiver's line is another one
+  pub apart : is_one_of r.line.number (l.number ∷ []) ≡ false
+  pub linked : is_linked r.line.number b ≡ is_one_of r.line.number (lines_left (line_of s.birth b))

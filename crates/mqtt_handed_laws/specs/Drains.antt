@@ -51,9 +51,9 @@ abbrev pub turn_of : MemberChoice → Event → Turn
 turn_of choice e = record { event = e; choice = choice }
 
 -- the same event so many times
-abbrev pub times : ℕ → Turn → List Turn
-times zero t = []
-times (suc more) t = t ∷ times more t
+abbrev pub times : {E : Type 0} → ℕ → E → List E
+times zero e = []
+times (suc more) e = e ∷ times more e
 
 -- all packets that are under way to it, and then all that are under way from it
 abbrev pub all_to_end : MemberChoice → List ℕ → World → List Turn

@@ -4,4 +4,8 @@ pub mod Handing
 pub mod Calls
 pub mod Entering
 pub mod Others
+pub mod Served
+pub mod Restarts
+pub mod Own
 pub mod Drains
+pub mod Rounds

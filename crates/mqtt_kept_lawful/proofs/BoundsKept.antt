@@ -19,8 +19,7 @@ use Rattle.mqtt_calls.specs.TheRules.Numbers.{IsTimed}
 use Rattle.mqtt_calls.specs.TheRules.State.{Broker, MemberChoice, stored}
 use Rattle.mqtt_calls.specs.TheRules.Step.{Call, at_moment, deeds, is_opening_spent, is_step_spent, opened, opening_deeds, rows_written, stepped, unopened}
 use Rattle.mqtt_calls.proofs.TheRules.Copies.{each_filter}
-use Rattle.mqtt_calls.proofs.TheRules.FlightRows.{all_put}
-use Rattle.mqtt_calls.proofs.TheRules.NumberCopies.{each_change, each_put}
+use Rattle.mqtt_calls.proofs.TheRules.FlightRows.{all_put, all_changed}
 use Rattle.mqtt_calls.proofs.TheRules.RowsFit.{opening_fits, step_fits}
 use Rattle.mqtt_calls.proofs.TheRules.StoredLaw.{rows_store}
 use Rattle.mqtt_kept_lawful.specs.Bounds.{HasBounds, HaveBounds, IsBoundCopy}
@@ -59,11 +58,11 @@ hold_changed (PutInbound birth id) r fit h = hold_in birth (with_open id) r (λ 
 hold_changed (RemoveInbound birth id) r fit h = hold_in birth (without_open id) r (λ s same p. p) h
 hold_changed (PutCopy birth row) r fit h =
     hold_in birth (with_copy row) r
-    (λ s same p. each_put copy_place (IsBoundCopy s.birth) QUEUE_LIMIT row s.queue (record { session = fit.1.session ∙ sym same; place = fit.1.place; order = fit.1.order }) p) h
+    (λ s same p. all_put copy_place (IsBoundCopy s.birth) QUEUE_LIMIT row s.queue (record { session = fit.1.session ∙ sym same; place = fit.1.place; order = fit.1.order }) p) h
 hold_changed (SetCopy birth place phase) r fit h = hold_in birth (with_phase place phase) r
-    (λ s same p. each_change copy_place (IsBoundCopy s.birth) place (in_phase phase) s.queue (λ e q. record { session = q.session; place = q.place; order = fit.1 }) p) h
+    (λ s same p. all_changed copy_place (IsBoundCopy s.birth) place (in_phase phase) s.queue (λ e q. record { session = q.session; place = q.place; order = fit.1 }) p) h
 hold_changed (RemoveCopy birth place) r fit h = hold_in birth (without_copy place) r (λ s same p. each_filter (IsBoundCopy s.birth) (λ e. not (nat_eq (copy_place e) place)) s.queue p) h
-hold_changed (PutRetained kept) r fit h = record { sessions = h.sessions; retained = each_put kept_place (λ k. IsNumber k.place) RETAINED_LIMIT kept r.retained fit.2.place h.retained }
+hold_changed (PutRetained kept) r fit h = record { sessions = h.sessions; retained = all_put kept_place (λ k. IsNumber k.place) RETAINED_LIMIT kept r.retained fit.2.place h.retained }
 hold_changed (RemoveRetained place) r fit h = record { sessions = h.sessions; retained = each_filter (λ k. IsNumber k.place) (λ k. not (nat_eq (kept_place k) place)) r.retained h.retained }
 
 hold_all : (changes : List Change) (r : Records) → FitAll changes r → HaveBounds r → HaveBounds (changed_all changes r)

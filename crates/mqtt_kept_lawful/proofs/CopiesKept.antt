@@ -31,7 +31,7 @@ use Rattle.mqtt_calls.specs.TheRules.State.{Broker, Env, Line, line_of, queue_on
 use Rattle.mqtt_calls.proofs.TheRules.Copies.{Kinds, each_filter, each_more, kinds_at}
 use Rattle.mqtt_calls.proofs.TheRules.Goods.{AreGood, good_append, good_cond, good_flat, good_of_entry, good_with_session}
 use Rattle.mqtt_calls.proofs.TheRules.Leads.{Leads, leads_append}
-use Rattle.mqtt_calls.proofs.TheRules.NumberCopies.{each_put, each_change}
+use Rattle.mqtt_calls.proofs.TheRules.FlightRows.{all_put, all_changed}
 use Rattle.mqtt_calls.proofs.TheRules.NumberFacts.{Counts, counts, counts_after, counts_deed}
 use Rattle.mqtt_calls.proofs.TheRules.Ordered.{changed_all-ordered}
 use Rattle.mqtt_calls.proofs.TheRules.OrderedActs.{IsPlain, IsPlainPart}
@@ -111,7 +111,7 @@ module _ (n m : ℕ) where
   made_has : (part : Part) (s t : Session) → IsPlainPart part → Has t → Has (part_made part s t)
   made_has (Enter copy) s t plain h = absurd plain
   made_has (Mark place phase) s t plain h = record {
-    each = each_change copy_place (λ row. IsGivenCopy n m row.copy) place (in_phase phase) t.queue (λ row q. q) h.each;
+    each = all_changed copy_place (λ row. IsGivenCopy n m row.copy) place (in_phase phase) t.queue (λ row q. q) h.each;
     differ = subst AllDiffer (sym (mapped_same copy_place id_in place (in_phase phase) t.queue (λ row. refl))) h.differ;
   }
   made_has (Leave e ending) s t plain h =
@@ -132,7 +132,7 @@ module _ (n m : ℕ) where
 
   entered_has : (copy : MessageCopy) (s t : Session) → IsGivenCopy n m copy → HasBeside copy.id t → Has (part_made (Enter copy) s t)
   entered_has copy s t given h = record {
-    each = each_put copy_place (λ row. IsGivenCopy n m row.copy) QUEUE_LIMIT (new_entry copy s.queue) t.queue given h.0.each;
+    each = all_put copy_place (λ row. IsGivenCopy n m row.copy) QUEUE_LIMIT (new_entry copy s.queue) t.queue given h.0.each;
     differ = put_differ copy_place id_in QUEUE_LIMIT (new_entry copy s.queue) t.queue h.1 h.0.differ;
   }
 
@@ -217,7 +217,7 @@ record AreKept (n : ℕ) (ks : List RetainedMessage) : Type 0 where
 
 retained_deed : (d : Deed) (b : Broker) → Good d b → HaveIdentities b.records → AreKept (counts_after d (counts b.records)).publications (after d b).records.retained
 retained_deed (Keep kept) b g h = record {
-  given = each_put kept_place (λ k. IsUpTo b.records.publications k.publication) RETAINED_LIMIT kept b.records.retained g.publication h.retained;
+  given = all_put kept_place (λ k. IsUpTo b.records.publications k.publication) RETAINED_LIMIT kept b.records.retained g.publication h.retained;
   differ = put_differ kept_place (λ k. k.publication) RETAINED_LIMIT kept b.records.retained g.new h.differ;
 }
 retained_deed (Forget place) b g h =
@@ -272,7 +272,7 @@ IsQuiet Q (Send line packet) b = ⊤
 IsQuiet Q d b = ⊥
 
 absent_made : (id : CopyId) (Q : CopyId → Type 0) (who : Whose) (part : Part) (s t : Session) (b : Broker) → ((i : CopyId) → Q i → id ≢ i) → IsQuiet Q (At who part) b → IsAbsentIn id t → IsAbsentIn id (part_made part s t)
-absent_made id Q who (Enter copy) s t b apart quiet h = each_put copy_place (λ row. id ≢ id_in row) QUEUE_LIMIT (new_entry copy s.queue) t.queue (apart copy.id quiet) h
+absent_made id Q who (Enter copy) s t b apart quiet h = all_put copy_place (λ row. id ≢ id_in row) QUEUE_LIMIT (new_entry copy s.queue) t.queue (apart copy.id quiet) h
 absent_made id Q who (Leave e ending) s t b apart quiet h = each_filter (λ row. id ≢ id_in row) (λ row. not (nat_eq (copy_place row) e.place)) t.queue h
 absent_made id Q who (Mark place phase) s t b apart quiet h = absurd quiet
 absent_made id Q who (Resume expiry will) s t b apart quiet h = absurd quiet

@@ -15,8 +15,7 @@ use Rattle.mqtt_rows.specs.Order.{has_row, put_row, change_row}
 use Rattle.mqtt_calls.specs.TheRules.State.{Broker, session_at}
 use Rattle.mqtt_calls.specs.TheRules.Deeds.{Part, Resume, Close, SetExpiry, DropWill, Subscribe, Unsubscribe, Open, Release, Enter, Mark, Leave, Deed, Accept, Begin, Name, Count, At, Finish, Keep, Forget, RefuseWill, Link, On, Send, Gone, new_entry, part_rows, part_rows_of, after}
 use Rattle.mqtt_calls.proofs.TheRules.Copies.{each_filter, each_more}
-use Rattle.mqtt_calls.proofs.TheRules.FlightRows.{all_put}
-use Rattle.mqtt_calls.proofs.TheRules.NumberCopies.{each_put, each_change}
+use Rattle.mqtt_calls.proofs.TheRules.FlightRows.{all_put, all_changed}
 use Rattle.mqtt_calls.proofs.TheRules.OrderedRoom.{at_retained, begin_retained}
 
 -- what a part makes of a session; s is the one that was found
@@ -93,7 +92,7 @@ module _ (P Q : Session → Type 0) (more : (t : Session) → P t → Q t) where
   pub deed_each : (d : Deed) (b : Broker) → Makes d b → AllByRecursion P b.records.sessions → AllByRecursion Q (after d b).records.sessions
   deed_each (Begin row None) b g h = put_each row b.records.sessions g h
   deed_each (Begin row (Some w)) b g h =
-      each_change birth_of Q row.birth (with_will (Some w)) (put_session row b.records.sessions) (λ t q. g.will w t q) (put_each row b.records.sessions g h)
+      all_changed birth_of Q row.birth (with_will (Some w)) (put_session row b.records.sessions) (λ t q. g.will w t q) (put_each row b.records.sessions g h)
   deed_each (At who part) b g h = parts_each part (session_at who.birth b.records) b.records g h
   deed_each (Finish who) b g h = each_filter Q (λ s. not (nat_eq (birth_of s) who.birth)) b.records.sessions (each_more P Q more b.records.sessions h)
   deed_each (Accept number origin m) b g h = each_more P Q more b.records.sessions h
@@ -116,7 +115,7 @@ module _ (P : RetainedMessage → Type 0) where
   pub deed_kept : (d : Deed) (b : Broker) → Keeps d → AllByRecursion P b.records.retained → AllByRecursion P (after d b).records.retained
   deed_kept (Begin row will) b g h = subst (AllByRecursion P) (sym (begin_retained row will b.records)) h
   deed_kept (At who part) b g h = subst (AllByRecursion P) (sym (at_retained part b.records (session_at who.birth b.records))) h
-  deed_kept (Keep kept) b g h = each_put kept_place P RETAINED_LIMIT kept b.records.retained g h
+  deed_kept (Keep kept) b g h = all_put kept_place P RETAINED_LIMIT kept b.records.retained g h
   deed_kept (Forget place) b g h = each_filter P (λ k. not (nat_eq (kept_place k) place)) b.records.retained h
   deed_kept (Accept number origin m) b g h = h
   deed_kept (Name n) b g h = h

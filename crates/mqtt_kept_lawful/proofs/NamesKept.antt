@@ -27,6 +27,7 @@ use Rattle.mqtt_calls.proofs.TheRules.Copies.{each_more}
 use Rattle.mqtt_calls.proofs.TheRules.FitLaw.{all_among}
 use Rattle.mqtt_calls.proofs.TheRules.FlightRows.{all_at}
 use Rattle.mqtt_calls.proofs.TheRules.Leads.{found_among, found_passes}
+use Rattle.mqtt_calls.proofs.TheRules.Names.{unfront}
 use Rattle.mqtt_calls.proofs.TheRules.NumberFacts.{Counts, counts, counts_after, counts_deed}
 use Rattle.mqtt_calls.proofs.TheRules.Acts.{IsCallOf}
 use Rattle.mqtt_calls.specs.TheRules.Step.{NewLine, Input, BadInput, Lost, Pump, Tick}
@@ -34,14 +35,6 @@ use Rattle.mqtt_kept_lawful.specs.Names.{AreNamed}
 use Rattle.mqtt_kept_lawful.proofs.EachSession.{Makes, deed_each, part_made}
 
 -- ---- client identifiers that the broker assigns
-
-behind : List ℕ → List ℕ
-behind [] = []
-behind (x ∷ xs) = xs
-
-unfront : (xs ys : List ℕ) → auto ++ xs ≡ auto ++ ys → xs ≡ ys
-unfolding behind
-unfront xs ys same = ap (λ (zs : List ℕ). behind (behind (behind (behind (behind zs))))) same
 
 abbrev Named : ℕ → Session → Type 0
 Named autos s = IsAssigned autos s.client

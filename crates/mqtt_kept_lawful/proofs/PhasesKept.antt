@@ -42,10 +42,9 @@ use Rattle.mqtt_calls.specs.TheRules.Subscribe.{next_number, subscription}
 use Rattle.mqtt_calls.proofs.TheRules.Acts.{IsAnswer, Law, anyone, call_of_anyone, finds_anyone, is_alone, leads_call, leads_opening}
 use Rattle.mqtt_calls.proofs.TheRules.ByDeeds.{DeedLaw, TurnLaw, by_ends}
 use Rattle.mqtt_calls.proofs.TheRules.Copies.{each_filter, each_more}
-use Rattle.mqtt_calls.proofs.TheRules.FlightRows.{all_at, all_changed_at, all_found, change_row-here, change_row-other, found_behind, found_key}
+use Rattle.mqtt_calls.proofs.TheRules.FlightRows.{all_at, all_changed_at, all_found, change_row-here, change_row-other, found_behind, found_key, all_put}
 use Rattle.mqtt_calls.proofs.TheRules.Goods.{after_append}
 use Rattle.mqtt_calls.proofs.TheRules.Leads.{leads_end}
-use Rattle.mqtt_calls.proofs.TheRules.NumberCopies.{each_put}
 use Rattle.mqtt_calls.proofs.TheRules.Ordered.{changed_all-ordered}
 use Rattle.mqtt_kept_lawful.specs.Phases.{HasItsPhase, HasPhases, HavePhases, IsPhaseOf}
 use Rattle.mqtt_kept_lawful.proofs.EachSession.{Makes, deed_each, part_made}
@@ -80,7 +79,7 @@ made_phases (Unsubscribe text) s t u h = record { each = h.each; orders = h.orde
 made_phases (Open id) s t u h = record { each = h.each; orders = h.orders }
 made_phases (Release id) s t u h = record { each = h.each; orders = h.orders }
 made_phases (Enter copy) s t u h =
-    has_phases (part_made (Enter copy) s t) (each_put copy_place HasItsPhase QUEUE_LIMIT (new_entry copy s.queue) t.queue (waiting_fits copy.qos) h.each)
+    has_phases (part_made (Enter copy) s t) (all_put copy_place HasItsPhase QUEUE_LIMIT (new_entry copy s.queue) t.queue (waiting_fits copy.qos) h.each)
     (put_differ QUEUE_LIMIT (new_entry copy s.queue) t.queue refl (orders_of t h))
 made_phases (Mark place phase) s t u h = absurd u
 made_phases (Leave e ending) s t u h =

@@ -24,9 +24,8 @@ use Rattle.mqtt_calls.specs.TheRules.Subscribe as sub
 use Rattle.mqtt_calls.proofs.TheRules.Acts.{anyone, finds_anyone, is_alone, IsGranted}
 use Rattle.mqtt_calls.proofs.TheRules.ByDeeds.{DeedLaw, MarkLaw, leads_deeds, leads_opened}
 use Rattle.mqtt_calls.proofs.TheRules.Copies.{each_filter, each_map, each_more}
-use Rattle.mqtt_calls.proofs.TheRules.FlightRows.{all_at, found_key}
+use Rattle.mqtt_calls.proofs.TheRules.FlightRows.{all_at, found_key, all_put}
 use Rattle.mqtt_calls.proofs.TheRules.Leads.{found_among}
-use Rattle.mqtt_calls.proofs.TheRules.NumberCopies.{each_put}
 use Rattle.mqtt_calls.proofs.TheRules.NumberFacts.{Counts, counts, counts_after, counts_deed}
 use Rattle.mqtt_calls.proofs.TheRules.Ordered.{changed_all-ordered}
 use Rattle.mqtt_kept_lawful.specs.Places.{HasPlacesUpTo, HavePlacesApart, places_in}
@@ -86,7 +85,7 @@ subscribed_apart x s r there h own =
     let up = (all_at birth_of _ s.birth s r.sessions h.ordered.each there).subscriptions.ascending in
     changed_apart (with_subscription x) s r there
     (put-ascending place_of SUBSCRIPTION_LIMIT x (without_filter x.filter s.subscriptions) (filter-ascending place_of others s.subscriptions up))
-    (each_put place_of (λ y. IsOwnPlace y.place s r) SUBSCRIPTION_LIMIT x (without_filter x.filter s.subscriptions) own
+    (all_put place_of (λ y. IsOwnPlace y.place s r) SUBSCRIPTION_LIMIT x (without_filter x.filter s.subscriptions) own
     (each_filter (λ y. IsOwnPlace y.place s r) others s.subscriptions (own_among s r s.subscriptions (λ y among. place_among y s.subscriptions among)))) h.differ
 
 unsubscribed_apart : (text : List ℕ) (s : Session) (r : Records) → session_at s.birth r ≡ Some s → HavePlacesApart r → Apart (in_session s.birth (without_subscription text) r).sessions
@@ -155,7 +154,7 @@ module _ (n : ℕ) where
   made_given : (who : Whose) (part : Part) (s t : Session) (b : Broker) → b.records.subscribes ≡ n → Brings (At who part) b → Given t → Given (part_made part s t)
   made_given who (Subscribe x) s t b is g h =
       let up = g.1 in
-      each_put place_of (λ y. y.place ≤ n) SUBSCRIPTION_LIMIT x (without_filter x.filter t.subscriptions) (omega (arith, is, up)) (each_filter (λ y. y.place ≤ n) (λ y. not (bytes_eq y.filter x.filter)) t.subscriptions h)
+      all_put place_of (λ y. y.place ≤ n) SUBSCRIPTION_LIMIT x (without_filter x.filter t.subscriptions) (omega (arith, is, up)) (each_filter (λ y. y.place ≤ n) (λ y. not (bytes_eq y.filter x.filter)) t.subscriptions h)
   made_given who (Unsubscribe text) s t b is g h = each_filter (λ y. y.place ≤ n) (λ y. not (bytes_eq y.filter text)) t.subscriptions h
   made_given who (Resume expiry will) s t b is g h = h
   made_given who (Close moment) s t b is g h = h

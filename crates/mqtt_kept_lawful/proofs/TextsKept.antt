@@ -21,9 +21,8 @@ use Rattle.mqtt_calls.specs.TheRules.State.{Broker, MemberChoice, stored}
 use Rattle.mqtt_calls.specs.TheRules.Step.{Call, at_moment, deeds, env_of, opened, opening, stepped, unopened, with_moment}
 use Rattle.mqtt_calls.proofs.TheRules.Copies.{each_filter, each_map, each_more}
 use Rattle.mqtt_calls.proofs.TheRules.FitLaw.{all_among}
-use Rattle.mqtt_calls.proofs.TheRules.FlightRows.{all_at}
+use Rattle.mqtt_calls.proofs.TheRules.FlightRows.{all_at, all_changed, all_put}
 use Rattle.mqtt_calls.proofs.TheRules.Goods.{AreGood}
-use Rattle.mqtt_calls.proofs.TheRules.NumberCopies.{each_change, each_put}
 use Rattle.mqtt_topic.proofs.MatchLemmas.{and_both}
 use Rattle.mqtt_kept_lawful.specs.Identities.{HaveIdentities}
 use Rattle.mqtt_kept_lawful.specs.Texts.{HasFilter, HasTexts, HaveTexts, IsGroupOf}
@@ -80,7 +79,7 @@ made_texts DropWill s t g p h = record { named = h.named; inbound = h.inbound; s
 made_texts (Subscribe x) s t g p h = record {
   named = h.named;
   inbound = h.inbound;
-  subscriptions = each_put place_of HasFilter SUBSCRIPTION_LIMIT x (without_filter x.filter t.subscriptions) (record { filter = g.0; fits = g.1 })
+  subscriptions = all_put place_of HasFilter SUBSCRIPTION_LIMIT x (without_filter x.filter t.subscriptions) (record { filter = g.0; fits = g.1 })
       (each_filter HasFilter (λ y. not (bytes_eq y.filter x.filter)) t.subscriptions h.subscriptions);
   queue = h.queue;
 }
@@ -92,7 +91,7 @@ made_texts (Unsubscribe text) s t g p h = record {
 }
 made_texts (Open id) s t g p h = record {
   named = h.named;
-  inbound = each_put number_of (λ i. 1 ≤ i) OPEN_LIMIT id t.inbound g h.inbound;
+  inbound = all_put number_of (λ i. 1 ≤ i) OPEN_LIMIT id t.inbound g h.inbound;
   subscriptions = h.subscriptions;
   queue = h.queue;
 }
@@ -106,13 +105,13 @@ made_texts (Enter copy) s t g p h = record {
   named = h.named;
   inbound = h.inbound;
   subscriptions = h.subscriptions;
-  queue = each_put copy_place (λ row. IsGroupOf row.copy.id.cause) QUEUE_LIMIT (new_entry copy s.queue) t.queue g h.queue;
+  queue = all_put copy_place (λ row. IsGroupOf row.copy.id.cause) QUEUE_LIMIT (new_entry copy s.queue) t.queue g h.queue;
 }
 made_texts (Mark place phase) s t g p h = record {
   named = h.named;
   inbound = h.inbound;
   subscriptions = h.subscriptions;
-  queue = each_change copy_place (λ row. IsGroupOf row.copy.id.cause) place (in_phase phase) t.queue (λ row q. q) h.queue;
+  queue = all_changed copy_place (λ row. IsGroupOf row.copy.id.cause) place (in_phase phase) t.queue (λ row q. q) h.queue;
 }
 made_texts (Leave e ending) s t g p h = record {
   named = h.named;

@@ -25,9 +25,8 @@ use Rattle.mqtt_calls.proofs.TheRules.Acts.{anyone, finds_anyone, is_alone, IsGr
 use Rattle.mqtt_calls.proofs.TheRules.ByDeeds.{DeedLaw, MarkLaw, leads_deeds, leads_opened}
 use Rattle.mqtt_calls.proofs.TheRules.Copies.{IsMade, IsOf, each_filter, each_more}
 use Rattle.mqtt_calls.proofs.TheRules.FitLaw.{all_among}
-use Rattle.mqtt_calls.proofs.TheRules.FlightRows.{all_at}
+use Rattle.mqtt_calls.proofs.TheRules.FlightRows.{all_at, all_put, all_changed}
 use Rattle.mqtt_calls.proofs.TheRules.Leads.{found_among}
-use Rattle.mqtt_calls.proofs.TheRules.NumberCopies.{each_put, each_change}
 use Rattle.mqtt_calls.proofs.TheRules.StoredLaw.{stored_after_all}
 use Rattle.mqtt_kept_lawful.specs.Times.{AreTimely, IsTimely, IsTimelyCopy, IsTimelyKept}
 use Rattle.mqtt_kept_lawful.proofs.EachSession.{Keeps, Makes, deed_each, deed_kept, part_made}
@@ -60,7 +59,7 @@ module _ (now : ℕ) where
   made_timely who (Subscribe x) s t b is g p h = record {
     birth = h.birth;
     closed = h.closed;
-    subscriptions = each_put place_of (λ (y : Subscription). 1 ≤ y.place) SUBSCRIPTION_LIMIT x (without_filter x.filter t.subscriptions) g
+    subscriptions = all_put place_of (λ (y : Subscription). 1 ≤ y.place) SUBSCRIPTION_LIMIT x (without_filter x.filter t.subscriptions) g
         (each_filter (λ (y : Subscription). 1 ≤ y.place) (λ y. not (bytes_eq y.filter x.filter)) t.subscriptions h.subscriptions);
     queue = h.queue;
   }
@@ -76,14 +75,14 @@ module _ (now : ℕ) where
     birth = h.birth;
     closed = h.closed;
     subscriptions = h.subscriptions;
-    queue = each_put copy_place (IsTimelyCopy now) QUEUE_LIMIT (new_entry copy s.queue) t.queue
+    queue = all_put copy_place (IsTimelyCopy now) QUEUE_LIMIT (new_entry copy s.queue) t.queue
         (record { place = entry_place copy s.queue; arrived = subst (λ (n : ℕ). copy.content.arrived ≤ n) is g }) h.queue;
   }
   made_timely who (Mark place phase) s t b is g p h = record {
     birth = h.birth;
     closed = h.closed;
     subscriptions = h.subscriptions;
-    queue = each_change copy_place (IsTimelyCopy now) place (in_phase phase) t.queue (λ e q. record { place = q.place; arrived = q.arrived }) h.queue;
+    queue = all_changed copy_place (IsTimelyCopy now) place (in_phase phase) t.queue (λ e q. record { place = q.place; arrived = q.arrived }) h.queue;
   }
   made_timely who (Leave e ending) s t b is g p h = record {
     birth = h.birth;

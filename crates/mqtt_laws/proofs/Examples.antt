@@ -24,7 +24,8 @@ use Rattle.mqtt_laws.specs.Ends.{Sent, shake, Publisher, Receiver, Entry}
 use Rattle.mqtt_laws.specs.World.{Event, publisher, connect_end, give_up, publish, to_end, ask, break, restart, stop_before, stop_after, to_broker, old_to_broker, pump, stranger, publisher_named, receiver_named}
 use Rattle.mqtt_laws.specs.Run.{after, deeds_over, accepted_over}
 use Rattle.mqtt_laws.specs.World.{start}
-use Rattle.mqtt_laws.proofs.Scripts.{turns, p1, r1, draft, published, silent, sends_out, tellings}
+use Rattle.mqtt_laws.specs.Tellings.{silent}
+use Rattle.mqtt_laws.proofs.Scripts.{turns, p1, r1, draft, published, sends_out, tellings}
 
 -- the message is accepted, its PUBREC read, and its PUBREL under way on a line that is given up
 abbrev released : List Event

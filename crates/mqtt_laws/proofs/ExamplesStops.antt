@@ -18,7 +18,8 @@ use Rattle.mqtt_rules.specs.declared.Report.TheVariants.{Accepted, Entered, Ende
 use Rattle.mqtt_rules.proofs.Play.{bytes}
 use Rattle.mqtt_laws.specs.World.{Event, connect_end, to_end, ask, stop_before, stop_after, Asking, to_broker, pump, stranger}
 use Rattle.mqtt_laws.proofs.Examples.{stopped}
-use Rattle.mqtt_laws.proofs.Scripts.{p1, r1, first_copy, joins, exchange, round, published, pumped, Telling, silent, sends_out, tellings, Sum, comes_to}
+use Rattle.mqtt_laws.specs.Tellings.{Telling, silent}
+use Rattle.mqtt_laws.proofs.Scripts.{p1, r1, first_copy, joins, exchange, round, published, pumped, sends_out, tellings, Sum, comes_to}
 
 -- ---- a stop after the commit of a pump: the copy comes again, and is handed over once
 

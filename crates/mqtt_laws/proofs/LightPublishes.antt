@@ -126,7 +126,7 @@ abbrev pub Does : Effect → Handing → BrokerLine → Session → List Deed �
 Does (chooses choice) d l s ds b = GivesLight d (verdict_on (standing d s.inbound) choice) l s ds b
 Does (drops code) d l s ds b = Gives s.birth l.number ds b (closed_face b.now (face s)) None (DISCONNECT code ∷ []) true []
 
-no_alias : (t : Bool) (line : ℕ) (topic : List ℕ) → sets_alias t None line topic ≡ []
+pub no_alias : (t : Bool) (line : ℕ) (topic : List ℕ) → sets_alias t None line topic ≡ []
 no_alias true line topic = refl
 no_alias false line topic = refl
 

@@ -27,6 +27,7 @@ use Rattle.mqtt_rules.proofs.FlightRows.{found_key}
 use Rattle.mqtt_laws.specs.Ends.{heard}
 use Rattle.mqtt_laws.specs.Run.{client_number}
 use Rattle.mqtt_laws.proofs.Rows.{face_at, IsBeside, AreBeside, beside_changes}
+use Rattle.mqtt_rules.proofs.LineRows.{numbered}
 
 -- ---- quiet deeds
 
@@ -182,12 +183,6 @@ line_gone n m (l ∷ ls) q = elim (cases_Bool (nat_eq l.number m)) [
   ]
 ]
 
-kept_number : (now : ℕ) (part : LinePart) (l : Line) → (line_after now part l).number ≡ l.number
-kept_number now Hear l = refl
-kept_number now (Greet birth keep_alive window largest) l = refl
-kept_number now (SetAlias alias topic) l = refl
-kept_number now (Went place) l = refl
-
 kept_session : (now : ℕ) (part : LinePart) (l : Line) → IsQuietOn part → (line_after now part l).session ≡ l.session
 kept_session now Hear l q = refl
 kept_session now (Greet birth keep_alive window largest) l q = absurd q
@@ -205,7 +200,7 @@ line_on now n m part (l ∷ ls) q = elim (cases_Bool (nat_eq l.number m)) [
 ]
   where
     same_test : nat_eq (line_after now part l).number n ≡ nat_eq l.number n
-    same_test = ap (λ (k : ℕ). nat_eq k n) (kept_number now part l)
+    same_test = ap (λ (k : ℕ). nat_eq k n) (numbered now part l)
 
     line_first : (t : Bool) → IsQuietOn part
         → option_map (λ (x : Line). x.session) (cond t (Some (line_after now part l)) (find (λ (x : Line). nat_eq x.number n) ls))

@@ -1,21 +1,17 @@
 -- What the worked runs of the world share: a publisher, a receiver and their first events; what each event tells, and
 -- what a run comes to.
-use Rattle.std.proofs.Common.{ℕ, ◌+◌, true, false, Bool, List, [], ◌∷◌, ◌++◌, length, map, Option, Some, None}
-use Rattle.std.specs.Prelude.{codes, count_by, filter_map}
+use Rattle.std.proofs.Common.{ℕ, false, Bool, List, [], ◌∷◌, ◌++◌, length, map, None}
+use Rattle.std.specs.Prelude.{codes}
 use Rattle.mqtt_base.specs.declared.session.CopyId.{CopyId}
 use Rattle.mqtt_base.specs.declared.session.Cause.TheVariants.{Direct}
 use Rattle.mqtt_base.specs.declared.session.Qos.TheVariants.{ExactlyOnce}
-use Rattle.mqtt_inbound.specs.Publisher.{Fate, Finish, sent_1, ended_1, sent, released, ended, completed, refused, forgotten}
-use Rattle.mqtt_records.specs.declared.session.Session.{Session}
-use Rattle.mqtt_rules.specs.declared.Report.{Report}
-use Rattle.mqtt_rules.specs.Deeds.{Deed, report, output}
 use Rattle.mqtt_rules.specs.State.{session_named}
 use Rattle.mqtt_rules.proofs.Play.{usual, first, topic, hi, options}
-use Rattle.mqtt_laws.specs.Ends.{Publisher, Receiver, Draft, Wish}
-use Rattle.mqtt_laws.specs.World.{Setting, World, start, publisher_named, receiver_named}
-use Rattle.mqtt_laws.specs.World.{Event, publisher, receiver, connect_end, give_up, publish, subscribe, to_end, clock, ask, restart, stop_before, stop_after, to_broker, pump}
-use Rattle.mqtt_laws.specs.Run.{Turn, setting, turned, after, deeds_at}
-use Rattle.mqtt_laws.specs.Laws.{copies_in}
+use Rattle.mqtt_laws.specs.Ends.{Draft, Wish}
+use Rattle.mqtt_laws.specs.World.{World, start, publisher_named, receiver_named}
+use Rattle.mqtt_laws.specs.World.{Event, publisher, receiver, connect_end, publish, subscribe, to_end, ask, to_broker, pump}
+use Rattle.mqtt_laws.specs.Run.{Turn, setting, turned, after}
+use Rattle.mqtt_laws.specs.Tellings.{Telling, tells, handed_by, queue_length, messages_of, done_by}
 
 abbrev pub turn : Event → Turn
 turn e = record { event = e; choice = first }
@@ -67,34 +63,10 @@ published =
 abbrev pub pumped : List Event
 pumped = published ++ ask (to_broker p1) ∷ ask (pump r1) ∷ to_end r1 ∷ []
 
--- ---- what each event tells: reports, and how many packets went out; nothing of it where the broker stops or restarts
-
-pub record Telling : Type 0 where
-  pub reports : List Report
-  pub out : ℕ
-
-abbrev pub silent : Telling
-silent = record { reports = []; out = 0 }
+-- ---- what the events of a run tell
 
 abbrev pub sends_out : ℕ → Telling
 sends_out n = record { reports = []; out = n }
-
-abbrev pub telling : List Deed → Telling
-telling ds = record { reports = filter_map report ds; out = length (filter_map output ds) }
-
-abbrev pub tells : Setting → Event → World → Telling
-tells set (publisher client) w = silent
-tells set (receiver client window) w = silent
-tells set (connect_end client clean) w = telling (deeds_at set (connect_end client clean) w)
-tells set (give_up client) w = silent
-tells set (publish client d) w = silent
-tells set (subscribe client x) w = silent
-tells set (to_end client) w = silent
-tells set (clock wait) w = silent
-tells set (ask a) w = telling (deeds_at set (ask a) w)
-tells set restart w = silent
-tells set (stop_before a) w = silent
-tells set (stop_after a) w = silent
 
 abbrev pub tellings_from : List Event → World → List Telling
 tellings_from [] w = []
@@ -104,37 +76,6 @@ abbrev pub tellings : List Event → List Telling
 tellings es = tellings_from es start
 
 -- ---- what a run comes to
-
-abbrev is_completed : Finish → Bool
-is_completed completed = true
-is_completed refused = false
-is_completed forgotten = false
-
-abbrev is_done : Fate → Bool
-is_done (sent_1 id) = false
-is_done (ended_1 by) = is_completed by
-is_done (sent id) = false
-is_done (released id) = false
-is_done (ended by) = is_completed by
-
-abbrev publication_of : CopyId → ℕ
-publication_of c = c.publication
-
-abbrev handed_by : Option Receiver → List ℕ
-handed_by None = []
-handed_by (Some r) = map publication_of (copies_in r.ledger)
-
-abbrev queue_of : Option Session → ℕ
-queue_of None = 0
-queue_of (Some s) = length s.queue
-
-abbrev messages_of : Option Publisher → ℕ
-messages_of None = 0
-messages_of (Some p) = length p.fates + length p.unsent
-
-abbrev done_by : Option Publisher → ℕ
-done_by None = 0
-done_by (Some p) = count_by is_done p.fates
 
 -- the publications of which r1 was handed copies of QoS 2, and how many copies are in its queue; how many messages p1 has,
 -- and those whose handshake is completed; how many publications were accepted, and how many sessions stand
@@ -149,7 +90,7 @@ pub record Sum : Type 0 where
 abbrev pub sum_of : World → Sum
 sum_of w = record {
   handed = handed_by (receiver_named r1 w);
-  queue = queue_of (session_named r1 w.broker.records);
+  queue = queue_length (session_named r1 w.broker.records);
   messages = messages_of (publisher_named p1 w);
   done = done_by (publisher_named p1 w);
   publications = w.broker.records.publications;

@@ -33,6 +33,7 @@ use Rattle.mqtt_laws.specs.Seats.{Glance, HasNobody, IsElsewhere, IsIdle, glance
 use Rattle.mqtt_laws.proofs.Quiet.{IsQuietOn, IsQuiet, AreQuiet, heard_by, told_to, is_closing, closes, quiet_leave, quiet_deliveries, copies_of, quiet_copies}
 use Rattle.mqtt_laws.proofs.Far.{not_same, less_differs}
 use Rattle.mqtt_laws.proofs.Lists.{all_find}
+use Rattle.mqtt_rules.proofs.LineRows.{numbered}
 
 -- ---- deeds away from a line
 
@@ -48,12 +49,6 @@ AreAway n [] = ⊤
 AreAway n (d ∷ ds) = IsAway n d × AreAway n ds
 
 -- ---- what they leave of it
-
-kept_number : (now : ℕ) (part : LinePart) (l : Line) → (line_after now part l).number ≡ l.number
-kept_number now Hear l = refl
-kept_number now (Greet birth keep_alive window largest) l = refl
-kept_number now (SetAlias alias topic) l = refl
-kept_number now (Went place) l = refl
 
 kept_glance : (now : ℕ) (part : LinePart) (l : Line) → IsQuietOn part → glance (line_after now part l) ≡ glance l
 kept_glance now Hear l q = refl
@@ -72,7 +67,7 @@ glance_on now n m part (l ∷ ls) q = elim (cases_Bool (nat_eq l.number m)) [
 ]
   where
     same_test : nat_eq (line_after now part l).number n ≡ nat_eq l.number n
-    same_test = ap (λ (k : ℕ). nat_eq k n) (kept_number now part l)
+    same_test = ap (λ (k : ℕ). nat_eq k n) (numbered now part l)
 
     first : (t : Bool) → IsQuietOn part
         → option_map glance (cond t (Some (line_after now part l)) (find (λ (x : Line). nat_eq x.number n) ls))
@@ -154,7 +149,7 @@ glance_after n now (Gone m) ls q = glance_gone n m ls q
 idle_on : (now n m : ℕ) (part : LinePart) (ls : List Line) → (nat_eq m n ≡ false) ⊎ IsQuietOn part → AllByRecursion (HasNobody n) ls → AllByRecursion (HasNobody n) (on_line now m part ls)
 idle_on now n m part [] q h = tt
 idle_on now n m part (l ∷ ls) q h = elim (cases_Bool (nat_eq l.number m)) [
-  | inl this ↦ rw this ((λ e. here_is this q (sym (kept_number now part l) ∙ e)), h.1)
+  | inl this ↦ rw this ((λ e. here_is this q (sym (numbered now part l) ∙ e)), h.1)
   | inr other ↦ rw other (h.0, idle_on now n m part ls q h.1)
 ]
   where

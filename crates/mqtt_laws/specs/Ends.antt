@@ -225,17 +225,20 @@ abbrev pub identified : Option ℕ → List Prop
 identified None = []
 identified (Some n) = property SubscriptionIdentifier (VarInt n) ∷ []
 
+abbrev pub subscribe_with : Wish → Packet
+subscribe_with w = Subscribe (record {
+  identifier = 1;
+  properties = identified w.identifier;
+  subscriptions = record { filter = w.filter; options = options_byte w.options } ∷ [];
+})
+
 abbrev pub wire_back : List ℕ → ℕ → Back → Packet
 wire_back client window (answers (connect clean)) =
     connect_with client clean (property ReceiveMaximum (U16 window) ∷ [])
 wire_back client window (answers (puback i code)) = packets.puback i code
 wire_back client window (answers (pubrec i code)) = packets.pubrec i code
 wire_back client window (answers (pubcomp i code)) = packets.pubcomp i code
-wire_back client window (asks_for w) = Subscribe (record {
-  identifier = 1;
-  properties = identified w.identifier;
-  subscriptions = record { filter = w.filter; options = options_byte w.options } ∷ [];
-})
+wire_back client window (asks_for w) = subscribe_with w
 
 abbrev pub body_of : Bool → Publication → Body
 body_of twice p = record { twice = twice; topic = p.topic; payload = p.payload }

@@ -1,6 +1,6 @@
 -- The world: a broker, any number of conforming ends and strangers, and the lines between them; what can happen (MQTT
 -- 5.0, 4.2 to 4.4).
-use Rattle.std.specs.Prelude.{ℕ, zero, suc, ◌+◌, Bool, true, false, cond, not, ◌&&◌, ◌||◌, List, [], ◌∷◌, ◌++◌}
+use Rattle.std.specs.Prelude.{ℕ, zero, suc, ◌+◌, ◌^◌, Bool, true, false, cond, not, ◌&&◌, ◌||◌, List, [], ◌∷◌, ◌++◌}
 use Rattle.std.specs.Prelude.{length, drop, find, map, nat_eq, nat_lt, nat_le, bytes_eq, Option, Some, None, is_some}
 use Rattle.std.specs.Prelude.{is_none, option_map, Ok, Err}
 use Rattle.std.specs.List.{starts_with}
@@ -25,8 +25,8 @@ use Rattle.mqtt_rules.specs.Step.{Call, NewLine, Input, Lost, Pump, Tick, can_li
 use Rattle.mqtt_rules.specs.Step.{opened}
 use Rattle.mqtt_laws.specs.Lines.{Line, stands, left, gives_up, joined, restarted, told_by}
 use Rattle.mqtt_laws.specs.Ends.{Draft, Sent, shake, Publisher, new_publisher, publish_with, wire, published}
-use Rattle.mqtt_laws.specs.Ends.{publisher_reads, Wish, Back, answers, asks_for, Receiver, new_receiver, wire_back}
-use Rattle.mqtt_laws.specs.Ends.{receiver_reads, goes}
+use Rattle.mqtt_laws.specs.Ends.{publisher_reads, Wish, subscribe_with, Back, answers, asks_for, Receiver}
+use Rattle.mqtt_laws.specs.Ends.{new_receiver, wire_back, receiver_reads, goes}
 use Rattle.mqtt_records.specs.Session.{auto}
 
 -- a stranger sends any bytes on its line; those that are not answered yet are held
@@ -359,6 +359,18 @@ is_input packet = is_lawful packet && nat_le (size_of packet) PACKET_LIMIT
 abbrev pub message_packet : Draft → Packet
 message_packet d = publish_with (delivery_at d.qos) d.content
 
+-- a Subscription Identifier fits a Variable Byte Integer; that it isn't 0 is a law of the packet (3.8.2.1.2)
+abbrev pub fits_number : Option ℕ → Bool
+fits_number None = true
+fits_number (Some n) = nat_lt n (2 ^ 28)
+
+abbrev pub is_wish : Wish → Bool
+is_wish x = fits_number x.identifier && is_input (subscribe_with x)
+
+-- a Receive Maximum is two bytes, and not 0 (3.1.2.11.3)
+abbrev pub is_window : ℕ → Bool
+is_window window = nat_lt 0 window && nat_lt window (2 ^ 16)
+
 -- a stranger's CONNECT that names an end
 abbrev pub names_end : Packet → World → Bool
 names_end (Connect c) w = is_end c.client_identifier w
@@ -388,11 +400,11 @@ is_bad_asking (stranger name bytes) w =
 
 abbrev pub is_bad : Event → World → Bool
 is_bad (publisher client) w = is_bad_name client || is_taken client w
-is_bad (receiver client window) w = is_bad_name client || is_taken client w
+is_bad (receiver client window) w = is_bad_name client || (is_taken client w || not (is_window window))
 is_bad (connect_end client clean) w = not (is_away (link_of client w))
 is_bad (give_up client) w = not (has_line (link_of client w))
 is_bad (publish client d) w = is_none (publisher_named client w) || not (is_input (message_packet d))
-is_bad (subscribe client x) w = not (may_ask (receiver_named client w))
+is_bad (subscribe client x) w = not (may_ask (receiver_named client w)) || not (is_wish x)
 is_bad (to_end client) w = not (is_end client w)
 is_bad (clock wait) w = false
 is_bad (ask a) w = is_bad_asking a w

@@ -15,6 +15,7 @@ pub use losing::lost_at;
 pub use mqtt_calls::{
     EngineError, Limits, Outcome, Report, Step, StepFault, commit, commit_kept, settle,
 };
+pub use mqtt_ticking::{quiet_after, quiet_before};
 pub use pumping::pump_at;
 pub use refusing::fault_at;
 pub use ticking::tick_at;

@@ -1,11 +1,11 @@
 -- How many bytes the properties of a copy take, and what has a spelling (MQTT 5.0, 2.2.2, 3.3.2.3).
 use Rattle.std.proofs.Common.{◌≡◌, ℕ, ◌+◌, ◌^◌, ◌<◌, ◌≤◌, List, [], ◌∷◌, ◌++◌, length, map, refl, sym, ap, ◌∙◌, arith, inl, inr}
 use Rattle.std.specs.List.{AllByRecursion}
-use Rattle.std.proofs.lemmas.Bool.{cases_Bool, eqb-true, cases_lt, lt-ltb, le-ltb}
-use Rattle.std.proofs.lemmas.Grind.{flat_map-append}
+use Rattle.std.proofs.lemmas.Bool.{cases_Bool, eqb-true, cases_lt}
 use Rattle.std.proofs.lemmas.List.{length-append}
 use Rattle.std.proofs.lemmas.List.Concat.{flat_map-cons}
 use Rattle.mqtt_base.specs.Values.{varint}
+use Rattle.mqtt_base.proofs.Varints.{size_first, size_second, size_third, size_fourth}
 use Rattle.mqtt_props.specs.declared.table.PropName.{PropName}
 use Rattle.mqtt_props.specs.declared.table.PropName.TheVariants.{MessageExpiryInterval, UserProperty}
 use Rattle.mqtt_props.specs.Table.{property_row}
@@ -13,40 +13,24 @@ use Rattle.mqtt_props.specs.Properties.{Value, Byte, U16, U32, VarInt, Text, Bin
 use Rattle.mqtt_props.specs.Laws.{is_named}
 use Rattle.mqtt_props.specs.Edits.{only, without}
 use Rattle.mqtt_message.specs.PassedOn.{aged, identified, sent_after}
+use Rattle.mqtt_rules.proofs.PassedContents.{props_append}
+use Rattle.mqtt_rules.proofs.CopySizes.{all_aged}
 
 -- ---- sums
 
 pub props-cons : (p : Prop) (ps : List Prop) → length (props (p ∷ ps)) ≡ length (prop p) + length (props ps)
 props-cons p ps = ap length (flat_map-cons prop p ps) ∙ length-append (prop p) (props ps)
 
-pub props-append : (ps qs : List Prop) → length (props (ps ++ qs)) ≡ length (props ps) + length (props qs)
-props-append ps qs = ap length (flat_map-append prop ps qs) ∙ length-append (props ps) (props qs)
-
 pub props-three : (a b c : List Prop) → length (props (a ++ b ++ c)) ≡ length (props a) + length (props b) + length (props c)
-props-three a b c = let first = props-append (a ++ b) c in let second = props-append a b in omega (arith, first, second)
+props-three a b c = let first = props_append (a ++ b) c in let second = props_append a b in omega (arith, first, second)
 
 -- ---- ageing changes no size
-
-aged-length : (waited : ℕ) (p : Prop) → length (prop (aged waited p)) ≡ length (prop (aged 0 p))
-aged-length waited p = elim (cases_Bool (is_named MessageExpiryInterval p)) [
-  | inl named ↦ rw named refl
-  | inr other ↦ rw other refl
-]
-
-all_aged-length : (waited : ℕ) (ps : List Prop) → length (props (map (aged waited) ps)) ≡ length (props (map (aged 0) ps))
-all_aged-length waited [] = refl
-all_aged-length waited (p ∷ ps) =
-    let here = props-cons (aged waited p) (map (aged waited) ps) in
-    let there = props-cons (aged 0 p) (map (aged 0) ps) in
-    let one = aged-length waited p in
-    let rest = all_aged-length waited ps in
-    omega (arith, here, there, one, rest)
 
 pub sent-length : (waited : ℕ) (ids : List ℕ) (ps : List Prop) → length (props (sent_after waited ids ps)) ≡ length (props (sent_after 0 ids ps))
 sent-length waited ids ps =
     let here = props-three (map (aged waited) (without UserProperty ps)) (map identified ids) (only UserProperty ps) in
     let there = props-three (map (aged 0) (without UserProperty ps)) (map identified ids) (only UserProperty ps) in
-    let same = all_aged-length waited (without UserProperty ps) in
+    let same = all_aged waited (without UserProperty ps) in
     omega (arith, here, there, same)
 
 -- ---- what is sent at once takes as many bytes as what was passed on, and the identifiers
@@ -157,27 +141,6 @@ sent-fits ids ps each own few =
     record { each = each-sent ids ps each own.each; short = omega (arith, sum, few) }
 
 -- ---- a block's length tells how many bytes its pairs have
-
-size_first : (n : ℕ) → n < 2 ^ 7 → length (varint n) ≡ 1
-unfolding varint
-size_first n a = rw (lt-ltb n (2 ^ 7) a) refl
-
-size_second : (n : ℕ) → 2 ^ 7 ≤ n → n < 2 ^ 14 → length (varint n) ≡ 2
-unfolding varint
-size_second n a b = rw (le-ltb n (2 ^ 7) a, lt-ltb n (2 ^ 14) b) refl
-
-size_third : (n : ℕ) → 2 ^ 14 ≤ n → n < 2 ^ 21 → length (varint n) ≡ 3
-unfolding varint
-size_third n b c =
-    let a : 2 ^ 7 ≤ n = omega (arith, b) in
-    rw (le-ltb n (2 ^ 7) a, le-ltb n (2 ^ 14) b, lt-ltb n (2 ^ 21) c) refl
-
-size_fourth : (n : ℕ) → 2 ^ 21 ≤ n → length (varint n) ≡ 4
-unfolding varint
-size_fourth n c =
-    let a : 2 ^ 7 ≤ n = omega (arith, c) in
-    let b : 2 ^ 14 ≤ n = omega (arith, c) in
-    rw (le-ltb n (2 ^ 7) a, le-ltb n (2 ^ 14) b, le-ltb n (2 ^ 21) c) refl
 
 -- by the length b of a block, how many bytes n its pairs have
 pub record IsPairsOf (n b : ℕ) : Type 0 where

@@ -40,7 +40,7 @@ cut_join place stream [] ys end far rest left c d = subst (λ (p : ℕ). IsCut p
 cut_join place stream (i ∷ xs) ys end far rest left c d =
     (c.0, c.1, cut_join (place_after place i.size) (drop i.size stream) xs ys end far rest left c.2 d)
 
-same_item : (x y : Item) → x.place ≡ y.place → x.size ≡ y.size → x.packet ≡ y.packet → x ≡ y
+pub same_item : (x y : Item) → x.place ≡ y.place → x.size ≡ y.size → x.packet ≡ y.packet → x ≡ y
 same_item x y p s c =
     let by_place : ℕ → Item = λ k. record { place = k; size = x.size; packet = x.packet } in
     let by_size : ℕ → Item = λ k. record { place = y.place; size = k; packet = x.packet } in
@@ -64,7 +64,7 @@ cut_unique place stream (x ∷ xs) (y ∷ ys) d e r s a b p q =
     (ap (λ (i : Item). i ∷ xs) (same_item x y where_ size packet) ∙ ap (λ (l : List Item). y ∷ l) rest.0, rest.1, rest.2)
 
 -- no packet begins where a stream ends
-ended : (end : ℕ) (rest : List ℕ) (e : Ending) (x : Packet × ℕ) → EndsAs end rest e → first_of rest ≡ Ok (Some x) → ⊥
+pub ended : (end : ℕ) (rest : List ℕ) (e : Ending) (x : Packet × ℕ) → EndsAs end rest e → first_of rest ≡ Ok (Some x) → ⊥
 ended end rest (short_at p l) x h e = cc (sym h.2 ∙ e)
 ended end rest (fault_at p f) x h e = cc (sym h.1 ∙ e)
 

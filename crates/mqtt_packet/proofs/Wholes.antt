@@ -18,12 +18,12 @@ use Rattle.mqtt_codec.specs.declared.publish.Publish.{Publish}
 use Rattle.mqtt_codec.specs.Publish.{identifier_field}
 use Rattle.mqtt_props.specs.Properties.{block}
 use Rattle.mqtt_codec.specs.Heads.{first, head_of}
-use Rattle.mqtt_codec.specs.Packets.{head, framed, HasLayout, Spells}
+use Rattle.mqtt_codec.specs.Packets.{head, framed, HasLayout, Refusal, Spells}
 use Rattle.mqtt_codec.specs.Frames.{packet_at}
 use Rattle.mqtt_packet.specs.Front.{size_by, size_behind, size_at, with_size, first_by, first_of, GivesFirst, EndsWithPayload}
 use Rattle.mqtt_packet.specs.Stream.{place_after, IsCut, IsStream, short_at, AreSpelled, joined_bytes, items_from, end_from}
 use Rattle.mqtt_codec.proofs.HeadLemmas.{IsHead, is_head}
-use Rattle.mqtt_codec.proofs.FrameLemmas.{packet_takes, packet_again}
+use Rattle.mqtt_codec.proofs.FrameLemmas.{packet_takes, packet_again, packet_refused}
 use Rattle.mqtt_packet.proofs.Fronts.{found_size, found_packet, first_within}
 use Rattle.mqtt_packet.proofs.Cuts.{fault_stays}
 
@@ -172,3 +172,19 @@ first_none = refl
 
 pub joined_stream : (packets : List (Packet × List ℕ)) → AreSpelled packets → IsStream (joined_bytes packets) (items_from 0 packets) (short_at (end_from 0 packets) [])
 joined_stream packets s = (end_from 0 packets, [], joined_from 0 packets s, (refl, refl, first_none))
+
+-- ---- a whole frame that spells no packet
+
+refused_sized : (bytes : List ℕ) (n : ℕ) (fault : Fault) (read : Result Packet Fault) → packet_at (take n bytes) ≡ read → with_size n read ≡ Err fault → packet_at (take n bytes) ≡ Err fault
+refused_sized bytes n fault (Ok p) is e = absurd cc
+refused_sized bytes n fault (Err f) is e = cc
+
+refused_at : (bytes : List ℕ) (n : ℕ) (fault : Fault) → size_at bytes ≡ Ok (Some n) → first_of bytes ≡ Err fault → packet_at (take n bytes) ≡ Err fault
+unfolding first_of
+refused_at bytes n fault sized e = refused_sized bytes n fault (packet_at (take n bytes)) refl (sym (ap (first_by bytes) sized) ∙ e)
+
+-- it is refused for the reason that is due
+pub refused_whole : (bytes : List ℕ) (n : ℕ) (fault : Fault) → IsBytes bytes → size_at bytes ≡ Ok (Some n) → first_of bytes ≡ Err fault → Refusal fault (take n bytes)
+refused_whole bytes n fault are sized e =
+    let given : Result Packet Fault = Err fault in
+    packet_refused (λ p. p) (take n bytes) given (IsBytes-take n bytes are) (refused_at bytes n fault sized e)

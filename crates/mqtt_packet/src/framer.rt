@@ -1,6 +1,6 @@
 //! The cut of a stream of bytes into packets, however it comes (2.1).
 
-ghost use Rattle.std.specs.Prelude.{◌≡◌, ◌≢◌, ◌-◌, ◌<◌, ◌≤◌, ◌++◌, length, take, drop, min, IfOk, IfErr, IfNone, IfSome, OnErr, OnOk, OnSome, IsOk};
+ghost use Rattle.std.specs.Prelude.{◌≡◌, ◌≢◌, ◌-◌, ◌<◌, ◌≤◌, ◌++◌, length, take, drop, min, IfOk, IfErr, IfNone, IfSome, OnErr, OnOk, OnSome, IsOk, Ok, None};
 ghost use Rattle.mqtt_fields.specs.declared.fault.Fault.{Fault};
 ghost use Rattle.mqtt_base.specs.declared.limits.TheConstants.{PACKET_LIMIT};
 ghost use Rattle.mqtt_packet.specs.Front.{first_of};
@@ -135,6 +135,9 @@ impl Framer {
         ensures found { IfOk result (FindsSized (λ packet. packet) self.old) }
         ensures same { self.new ≡ self.old }
 
+        // Nothing is answered exactly where no packet is whole: then no memory is wanted.
+        ensures waits { first_of self.old.held ≡ Ok None → result ≡ Ok None }
+
         // Where no packet is whole, at least one more byte fits. A packet is among the held bytes.
         ensures partial { IfOk result (λ found. IfNone found (length self.old.held < PACKET_LIMIT)) }
         ensures within { IfOk result (λ found. IfSome found (λ x.
@@ -155,6 +158,9 @@ impl Framer {
     #[inline(always)]
     pub fn next(&mut self) -> Result<Option<(Packet, u64)>, (Fault, u64)>
         ensures found { IfOk result (λ found. Gives self.old found self.new) }
+
+        // Nothing is answered exactly where no packet is whole: then no memory is wanted.
+        ensures waits { first_of self.old.held ≡ Ok None → result ≡ Ok None }
 
         // Where no packet is whole, at least one more byte fits. With a packet there is less to hold.
         ensures partial { IfOk result (λ found. IfNone found (length self.new.held < PACKET_LIMIT)) }
@@ -202,6 +208,7 @@ impl Framer {
 fn first_owned(store: &mut Store, alloc: Global) -> Result<Option<(Packet, usize)>, Fault>
     ensures found { IfOk result (λ found. first_of store.old ≡ Ok found) }
     ensures same { store.new ≡ store.old }
+    ensures waits { first_of store.old ≡ Ok None → result ≡ Ok None }
     ensures partial { IfOk result (λ found. IfNone found (length store.old < PACKET_LIMIT)) }
     ensures within { IfOk result (λ found. IfSome found (λ x. (0 < x.1) × (x.1 ≤ length store.old))) }
     ensures stands { (fault : Fault) → first_of store.old ≡ Err fault → result ≡ Err fault }

@@ -8,9 +8,9 @@ ghost use Rattle.mqtt_fields.specs.declared.fault.Fault.TheVariants.{Malformed, 
 ghost use Rattle.mqtt_base.specs.declared.limits.TheConstants.{PACKET_LIMIT};
 ghost use Rattle.mqtt_codec.specs.declared.head.Head.{Head};
 ghost use Rattle.mqtt_codec.specs.declared.packet.Packet.{Packet};
-ghost use Rattle.mqtt_codec.specs.Packets.{Spells};
+ghost use Rattle.mqtt_codec.specs.Packets.{Refusal, Spells};
 ghost use Rattle.mqtt_codec.specs.Heads.{head_of};
-ghost use Rattle.mqtt_packet.specs.Front.{first_of};
+ghost use Rattle.mqtt_packet.specs.Front.{first_of, size_at};
 ghost use Rattle.mqtt_packet.specs.Stream.{AreSpelled, joined_bytes, items_from, end_from, Item, Ending, short_at, fault_at, IsCut, IsStream, Framing, Call, IsRun, taken_of, given_of, empty};
 
 /// A stream begins with a packet where it begins with a spelling, and where a fault stands no stream
@@ -44,7 +44,7 @@ pub fn one_cut()
 {}
 
 /// A fault stands with the byte that decides it, a packet with its last, and nothing that follows
-/// changes what stands.
+/// changes what stands. Of a whole frame it is the refusal that the definition has.
 pub fn moments()
     ensures first_byte { (b : ℕ) → head_of b ≡ None → first_of (b ∷ []) ≡ Err Malformed }
     ensures overlong { (b : ℕ) (head : Head) (len : List ℕ) → head_of b ≡ Some head
@@ -57,6 +57,11 @@ pub fn moments()
         → first_of (take more front) ≡ Ok (Some (packet, n)) }
     ensures stays { (front more : List ℕ)
         → (first_of front ≡ Ok None) ⊎ (first_of (front ++ more) ≡ first_of front) }
+
+    // A whole frame that spells no packet is refused for the reason that is due (4.13).
+    ensures due { (front : List ℕ) (n : ℕ) (fault : Fault)
+        → ((i : ℕ) → slice_index front i < 256) → size_at front ≡ Ok (Some n)
+        → first_of front ≡ Err fault → Refusal fault (take n front) }
 {}
 
 /// However a stream comes, the bytes that were taken, and not given back, are those of the packets

@@ -59,7 +59,7 @@ block_is ps bytes h =
       h.parts ∙ ap (λ (w : List ℕ). w ++ h.pairs) (v.0 ∙ ap varint size) ∙ ap (λ (w : List ℕ). varint (length (props ps)) ++ w) r.0,
     )
 
-block_of : (ps : List Prop) → FitsBlock ps → IsBlock ps (block ps)
+pub block_of : (ps : List Prop) → FitsBlock ps → IsBlock ps (block ps)
 block_of ps fits = record {
   len = varint (length (props ps));
   pairs = props ps;

@@ -4,6 +4,7 @@ ghost use Rattle.std.specs.Prelude.{◌≡◌, ◌⊎◌, ◌++◌, List, ℕ, d
 ghost use Rattle.mqtt_base.specs.Reading.{Reads};
 ghost use Rattle.mqtt_props.specs.Laws.{lawful_at, layout_at, Begins, IsLawful, Refuses};
 ghost use Rattle.mqtt_props.specs.Properties.{Prop, block};
+ghost use Rattle.mqtt_props.specs.Spelling.{IsBlock};
 
 use crate::fault::PropFault;
 use crate::list::{PropList, PropsRef, block_read};
@@ -60,11 +61,17 @@ pub fn read(alloc: Global, bytes: &[u8], place: Place) -> Result<(PropList, usiz
 }
 
 /// Writes the block of the list at the end.
+#[tactic(auto, using(crate::proofs::LawLemmas::block_of))]
 pub fn write(list: &PropList, out: &mut Vec<u8>) -> Result<(), PropFault>
     ensures ok { OnOk result (out.new.items ≡ out.old.items ++ block list.now) }
+    // The block spells the list (2.2.2).
+    ensures spelled { IsBlock list.now (block list.now) }
     ensures err { OnErr result (out.new.items ≡ out.old.items) }
     ensures fault { IsOkUnless result PropFault.Memory }
 {
-    list.lend().push_block(out)?;
+    let lent = list.lend();
+    // This shows that the list has a spelling.
+    let _len = lent.block_len();
+    lent.push_block(out)?;
     Ok(())
 }

@@ -23,8 +23,7 @@ use Rattle.mqtt_rows.specs.Order.{row_at, has_row, put_row, change_row}
 use Rattle.mqtt_acts.specs.TheRules.Laws.{HasTables}
 use Rattle.mqtt_acts.specs.TheRules.Routing.{routed_subscription, subscribers}
 use Rattle.mqtt_acts.proofs.TheRules.Copies.{each_filter}
-use Rattle.mqtt_acts.proofs.TheRules.FlightRows.{all_at}
-use Rattle.mqtt_acts.proofs.TheRules.NumberCopies.{each_put, each_change}
+use Rattle.mqtt_acts.proofs.TheRules.FlightRows.{all_at, all_put, all_changed}
 use Rattle.mqtt_acts.proofs.TheRules.Ordered.{changed-ordered}
 use Rattle.mqtt_acts.specs.TheTables.Subscribing.{HasEachFilterOnce}
 use Rattle.mqtt_acts.proofs.TheTables.FiltersKept.{once_all}
@@ -37,7 +36,7 @@ use Rattle.mqtt_router.proofs.Subscribers.{subscribers_of, births_in_order, same
 -- ---- what can be indexed stays so
 
 identifiers_in : (birth : ℕ) (f : Session → Session) (ss : List Session) → ((s : Session) → HasIdentifiers s → HasIdentifiers (f s)) → AllByRecursion HasIdentifiers ss → AllByRecursion HasIdentifiers (change_row birth_of birth f ss)
-identifiers_in birth f ss kept h = each_change birth_of HasIdentifiers birth f ss kept h
+identifiers_in birth f ss kept h = all_changed birth_of HasIdentifiers birth f ss kept h
 
 identifiers_if : (b : Bool) (ss ts : List Session) → AllByRecursion HasIdentifiers ss → AllByRecursion HasIdentifiers ts → AllByRecursion HasIdentifiers (cond b ss ts)
 identifiers_if true ss ts p q = p
@@ -54,11 +53,11 @@ identifiers_session : (row : Columns) (ss : List Session) → AllByRecursion Has
 identifiers_session row ss h =
     identifiers_if (has_row birth_of row.birth ss) (change_row birth_of row.birth (with_columns row) ss) (put_row birth_of SESSION_LIMIT (fresh row) ss)
     (identifiers_in row.birth (with_columns row) ss (λ s q. q) h)
-    (each_put birth_of HasIdentifiers SESSION_LIMIT (fresh row) ss tt h)
+    (all_put birth_of HasIdentifiers SESSION_LIMIT (fresh row) ss tt h)
 
 identifiers_put : (x : Subscription) (s : Session) → IsIdentifier x.identifier → HasIdentifiers s → HasIdentifiers (with_subscription x s)
 identifiers_put x s its h =
-    each_put place_of (λ (y : Subscription). IsIdentifier y.identifier) SUBSCRIPTION_LIMIT x (without_filter x.filter s.subscriptions) its
+    all_put place_of (λ (y : Subscription). IsIdentifier y.identifier) SUBSCRIPTION_LIMIT x (without_filter x.filter s.subscriptions) its
     (each_filter (λ (y : Subscription). IsIdentifier y.identifier) (λ (y : Subscription). not (bytes_eq y.filter x.filter)) s.subscriptions h)
 
 identifiers_changed : (change : Change) (r : Records) → CanBeFollowed change r → AllByRecursion HasIdentifiers r.sessions → AllByRecursion HasIdentifiers (changed change r).sessions

@@ -2,6 +2,7 @@
 use Rattle.std.proofs.Common.{◌≡◌, ℕ, ◌<◌, Bool, true, false, cond, List, [], ◌∷◌, refl, ap, sym, ◌∙◌, nat_lt, nat_eq, arith}
 use Rattle.std.proofs.lemmas.Bool.Decides.{nat_tests}
 use Rattle.mqtt_routes.specs.declared.subscription.Subscription.{Subscription}
+use Rattle.mqtt_routes.proofs.SpotLemmas.{after_later, after_same}
 use Rattle.mqtt_routes.specs.Subscriptions.{Subscriber, subscriber, AreAfter, AreInOrder, put, without, subs_of, with_subs, subscribed, unsubscribed, beside, with_some}
 
 -- ---- numbers
@@ -19,14 +20,6 @@ same_of : (k b : ℕ) → nat_eq k b ≡ true → k ≡ b
 same_of k b e = grind (arith, nat_tests)
 
 -- ---- order
-
-after_later : (b c : ℕ) (xs : List Subscriber) → b < c → AreAfter c xs → AreAfter b xs
-after_later b c [] l h = tt
-after_later b c (x ∷ xs) l h = (omega (arith, l, h.0), after_later b c xs l h.1)
-
-after_same : (b c : ℕ) (xs : List Subscriber) → c ≡ b → AreAfter c xs → AreAfter b xs
-after_same b c [] e h = tt
-after_same b c (x ∷ xs) e h = (omega (arith, e, h.0), after_same b c xs e h.1)
 
 after_some_by : (n : ℕ) (subs : List Subscription) (x : Subscriber) (xs : List Subscriber) → n < x.birth → AreAfter n xs → AreAfter n (beside subs x xs)
 after_some_by n [] x xs l h = h

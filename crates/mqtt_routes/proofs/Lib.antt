@@ -9,3 +9,13 @@ pub mod MemberLemmas
 pub mod ServeLemmas
 pub mod KeptLemmas
 mod Examples
+pub mod BirthLemmas
+pub mod ConcernLemmas
+pub mod SubsLemmas
+pub mod IndexLemmas
+pub mod RemoveLemmas
+pub mod MoveLemmas
+pub mod PutIndexLemmas
+pub mod LeaveLemmas
+pub mod RoomWithinLemmas
+pub mod TopicLemmas

@@ -1,5 +1,5 @@
 -- Lemmas on a set of subscriptions, of which no two have one filter (MQTT 5.0, 3.8.4, 3.10.4).
-use Rattle.std.proofs.Common.{◌≡◌, ℕ, Bool, true, false, cond, ◌||◌, if◌then◌else◌, List, [], ◌∷◌, ◌++◌, refl, ap, ◌∙◌, Option, Some, None}
+use Rattle.std.proofs.Common.{◌≡◌, ℕ, Bool, true, false, cond, ◌||◌, if◌then◌else◌, List, [], ◌∷◌, ◌++◌, refl, ap, ◌∙◌, Some}
 use Rattle.std.specs.Prelude.{find}
 use Rattle.std.specs.Set.{remove_key, swap_key}
 use Rattle.indexmap.specs.IndexSet.{replace_key}

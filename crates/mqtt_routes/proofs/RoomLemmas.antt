@@ -1,11 +1,10 @@
 -- Lemmas on the room of sessions for further subscriptions (MQTT 5.0, 3.8).
-use Rattle.std.proofs.Common.{◌≡◌, ℕ, suc, ◌+◌, ◌<◌, ◌≤◌, Bool, true, false, cond, List, [], ◌∷◌, length, eqb, map, refl, sym, ap, ◌∙◌, nat_eq, Option, Some, None, arith}
+use Rattle.std.proofs.Common.{◌≡◌, ℕ, suc, ◌+◌, ◌<◌, ◌≤◌, Bool, true, false, cond, List, [], ◌∷◌, length, eqb, refl, sym, ap, nat_eq, Some, None, arith}
 use Rattle.std.specs.Prelude.{nat_le}
 use Rattle.std.proofs.lemmas.Bool.Decides.{nat_tests}
-use Rattle.std.proofs.lemmas.List.{length-map}
 use Rattle.std.specs.Map.{lookup, set_value}
 use Rattle.mqtt_routes.specs.declared.subscription.Subscription.{Subscription}
-use Rattle.mqtt_routes.specs.Subscriptions.{Subscriber, Held, rooms, room_of, have_room, filters_of, subs_of, with_subs, standing}
+use Rattle.mqtt_routes.specs.Subscriptions.{Subscriber, Held, rooms, room_of, filters_of, subs_of, with_subs, standing}
 
 module _ (b : ℕ) where
   found_by : (t : Bool) (old : Held) (e : ℕ × Held) (es : List (ℕ × Held)) → Some old ≡ cond t (Some e.1) (lookup (nat_eq b) es) → (Some old ≡ lookup (nat_eq b) es → room_of b (rooms es) ≡ old.room)

@@ -1,11 +1,12 @@
 -- Lemmas on sessions without subscriptions (MQTT 5.0, 3.1.2.11, 3.3.4).
-use Rattle.std.proofs.Common.{◌≡◌, ℕ, ◌<◌, ◌≤◌, Bool, true, false, cond, not, ◌||◌, List, [], ◌∷◌, ◌++◌, refl, ap, sym, ◌∙◌, nat_lt, nat_eq, arith}
+use Rattle.std.proofs.Common.{◌≡◌, ℕ, ◌<◌, Bool, true, false, cond, not, ◌||◌, List, [], ◌∷◌, ◌++◌, refl, ap, sym, ◌∙◌, nat_lt, nat_eq, arith}
 use Rattle.std.proofs.lemmas.Bool.Decides.{nat_tests}
 use Rattle.std.specs.List.{list_all}
 use Rattle.mqtt_routes.specs.declared.subscription.Subscription.{Subscription}
 use Rattle.mqtt_routes.specs.Subscriptions.{Subscriber, subscriber, AreAfter, AreInOrder, subs_of, with_subs, without_session, beside, with_some, standing}
-use Rattle.mqtt_routes.specs.Intended.{Publication, Answers, Copy, Member, copies_for, hits_of, directs, members_with, members_after, members, is_none, is_wanted}
-use Rattle.mqtt_routes.specs.Acceptance.{has_room, routed_beside, routed, RouteAlike}
+use Rattle.mqtt_routes.specs.Intended.{Publication, Answers, Copy, Member, copies_for, hits_of, directs, members_with, members_after, members, is_none}
+use Rattle.mqtt_routes.proofs.SpotLemmas.{after_later, after_same}
+use Rattle.mqtt_routes.specs.Acceptance.{has_room, routed_beside, RouteAlike}
 
 directs_beside : (at : Answers) (p : Publication) (subs : List Subscription) (x : Subscriber) (rest : List Subscriber) → x.subs ≡ subs → directs at p (x ∷ rest) ≡ directs at p (beside subs x rest)
 directs_beside at p [] x rest e = rw e refl
@@ -52,14 +53,6 @@ dropped_after b (x ∷ xs) h = by x.subs refl (dropped_after b xs h.1)
         let lt : nat_lt x.birth b ≡ false = let l = h.0 in grind (arith, nat_tests) in
         let eq : nat_eq x.birth b ≡ false = let l = h.0 in grind (arith, nat_tests) in
         rw (lt, eq) refl
-
-after_later : (b c : ℕ) (xs : List Subscriber) → b < c → AreAfter c xs → AreAfter b xs
-after_later b c [] l h = tt
-after_later b c (x ∷ xs) l h = (omega (arith, l, h.0), after_later b c xs l h.1)
-
-after_same : (b c : ℕ) (xs : List Subscriber) → c ≡ b → AreAfter c xs → AreAfter b xs
-after_same b c [] e h = tt
-after_same b c (x ∷ xs) e h = (omega (arith, e, h.0), after_same b c xs e h.1)
 
 dropped_by : (lt eq : Bool) (b : ℕ) (subs : List Subscription) (x : Subscriber) (xs : List Subscriber) → nat_lt x.birth b ≡ lt → nat_eq x.birth b ≡ eq → x.subs ≡ subs → AreAfter x.birth xs → with_some (without_session b xs) ≡ without_session b (with_some xs)
     → with_some (cond lt (x ∷ without_session b xs) (cond eq xs (x ∷ xs))) ≡ without_session b (beside subs x (with_some xs))

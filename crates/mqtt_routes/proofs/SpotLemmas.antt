@@ -1,5 +1,5 @@
 -- Lemmas on sessions by birth, as a map has them (MQTT 5.0, 3.8, 3.10).
-use Rattle.std.proofs.Common.{◌≡◌, ℕ, zero, suc, ◌<◌, ◌≤◌, ◌+◌, Bool, true, false, cond, List, [], ◌∷◌, ◌++◌, length, drop, insert, slice_index_or, slice_get, refl, sym, ap, subst, ◌∙◌, ⊎_elim, eqb-true, nat_lt, nat_eq, Option, Some, None, arith}
+use Rattle.std.proofs.Common.{◌≡◌, ℕ, zero, suc, ◌<◌, ◌≤◌, ◌+◌, Bool, true, false, cond, List, [], ◌∷◌, ◌++◌, length, drop, insert, slice_index_or, slice_get, refl, sym, ap, subst, ◌∙◌, ⊎_elim, eqb-true, nat_lt, nat_eq, Some, None, arith}
 use Rattle.std.proofs.lemmas.Bool.{cases_lt}
 use Rattle.std.proofs.lemmas.List.{length-map}
 use Rattle.std.proofs.lemmas.Bool.Decides.{nat_tests}
@@ -17,9 +17,13 @@ Entries = List (ℕ × Held)
 
 -- ---- births rise
 
-after_later : (b c : ℕ) (xs : List Subscriber) → b < c → AreAfter c xs → AreAfter b xs
+pub after_later : (b c : ℕ) (xs : List Subscriber) → b < c → AreAfter c xs → AreAfter b xs
 after_later b c [] l h = tt
 after_later b c (x ∷ xs) l h = (omega (arith, l, h.0), after_later b c xs l h.1)
+
+pub after_same : (b c : ℕ) (xs : List Subscriber) → c ≡ b → AreAfter c xs → AreAfter b xs
+after_same b c [] e h = tt
+after_same b c (x ∷ xs) e h = (omega (arith, e, h.0), after_same b c xs e h.1)
 
 after-with_subs_by : (lt eq : Bool) (c b : ℕ) (subs : List Subscription) (x : Subscriber) (xs : List Subscriber) → c < b → AreAfter c (x ∷ xs) → AreAfter c (with_subs b subs xs) → AreAfter c (cond lt (x ∷ with_subs b subs xs) (cond eq (subscriber b subs ∷ xs) (subscriber b subs ∷ x ∷ xs)))
 after-with_subs_by true eq c b subs x xs l h more = (h.0, more)
@@ -80,22 +84,22 @@ order-without_session b (x ∷ xs) h = order-without_by (nat_lt x.birth b) (nat_
 -- ---- what the map finds
 
 -- a birth is before, at or after the one that is looked for
-split : {P : Type 0} (k b : ℕ) → (k < b → P) → (k ≡ b → P) → (b < k → P) → P
+pub split : {P : Type 0} (k b : ℕ) → (k < b → P) → (k ≡ b → P) → (b < k → P) → P
 split k b before here after = ⊎_elim before (λ from. ⊎_elim after (λ to. here (omega arith)) (cases_lt b k)) (cases_lt k b)
 
-lt-yes : (k b : ℕ) → k < b → nat_lt k b ≡ true
+pub lt-yes : (k b : ℕ) → k < b → nat_lt k b ≡ true
 lt-yes k b l = grind (arith, nat_tests)
 
-lt-no : (k b : ℕ) → b ≤ k → nat_lt k b ≡ false
+pub lt-no : (k b : ℕ) → b ≤ k → nat_lt k b ≡ false
 lt-no k b l = grind (arith, nat_tests)
 
-eq-yes : (k b : ℕ) → k ≡ b → nat_eq k b ≡ true
+pub eq-yes : (k b : ℕ) → k ≡ b → nat_eq k b ≡ true
 eq-yes k b e = grind (arith, nat_tests)
 
-eq-below : (k b : ℕ) → k < b → nat_eq k b ≡ false
+pub eq-below : (k b : ℕ) → k < b → nat_eq k b ≡ false
 eq-below k b l = grind (arith, nat_tests)
 
-eq-above : (k b : ℕ) → b < k → nat_eq k b ≡ false
+pub eq-above : (k b : ℕ) → b < k → nat_eq k b ≡ false
 eq-above k b l = grind (arith, nat_tests)
 
 -- no session before the first is there

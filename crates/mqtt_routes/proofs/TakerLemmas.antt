@@ -5,7 +5,7 @@ use Rattle.std.specs.List.{list_all}
 use Rattle.std.specs.Option.{option_and_then}
 use Rattle.mqtt_routes.specs.Subscriptions.{Subscriber}
 use Rattle.mqtt_routes.specs.Intended.{Publication, Answers, Copy, Member, directs, members, groups, groups_after, is_none}
-use Rattle.mqtt_routes.specs.Acceptance.{Served, Routed, has_room, first_choice, later_choices, serve_one, serve, with_direct, routed_beside, routed, TellsTakers}
+use Rattle.mqtt_routes.specs.Acceptance.{Served, Routed, has_room, first_choice, later_choices, serve_one, serve, with_direct, routed_beside, TellsTakers}
 
 one_more : (served : List Served) (s : Served) → is_none (served ++ s ∷ []) ≡ false
 one_more [] s = refl

@@ -1,5 +1,5 @@
 -- That subscriptions are told apart by their filters, and retained messages by their topics.
-use Rattle.std.proofs.Common.{◌≡◌, Bool, List, ℕ, bytes_eq, sym, ◌∙◌}
+use Rattle.std.proofs.Common.{Bool, ◌∙◌}
 use Rattle.std.specs.Cmp.{IsEquivalence}
 use Rattle.std.specs.Cmp.Lexicographic.{nat_list_eq_equiv}
 use Rattle.mqtt_routes.specs.declared.subscription.Subscription.{Subscription}

@@ -3,3 +3,4 @@ pub mod Intended
 pub mod Acceptance
 pub mod Retained
 pub mod Keys
+pub mod Spots

@@ -2,6 +2,7 @@
 ghost use Rattle.std.specs.Prelude.{◌≡◌};
 ghost use Rattle.mqtt_routes.specs.declared.fault.RoutesFault.TheVariants.{Memory};
 
+use mqtt_tree::TreeFault;
 use std::alloc::{AllocError, AllocFailed};
 use thiserror::Error;
 
@@ -28,6 +29,14 @@ impl<T: Drop> From<AllocFailed<T>> for RoutesFault {
     ghost from_gives = { λ _ fault. fault ≡ Memory };
 
     fn from(_: AllocFailed<T>) -> RoutesFault {
+        RoutesFault::Memory
+    }
+}
+
+impl From<TreeFault> for RoutesFault {
+    ghost from_gives = { λ _ fault. fault ≡ Memory };
+
+    fn from(_: TreeFault) -> RoutesFault {
         RoutesFault::Memory
     }
 }

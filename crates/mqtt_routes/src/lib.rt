@@ -14,9 +14,11 @@ mod row;
 mod serve;
 mod service;
 mod slot;
+mod spot;
 mod subscriber;
 mod subscribers;
 mod subscription;
+mod subscription_tree;
 
 pub use answers::Sessions;
 pub use copy::RoutedCopy;

@@ -13,8 +13,8 @@ use crate::retained::{Kept, KeptTable};
 use crate::routed::Routed;
 use crate::serve::{has_room, serve};
 use crate::service::service_of;
-use crate::subscribers::Subscribers;
 use crate::subscription::Subscription;
+use crate::subscription_tree::SubscriptionTree;
 use mqtt_topic::{SubFilter, TopicName};
 use std::alloc::Global;
 use std::hash::RandomState;
@@ -24,7 +24,7 @@ use std::marker::Model;
 #[derive(Drop)]
 pub struct Routes<M> {
     alloc: Global,
-    subscribers: Subscribers,
+    subscribers: SubscriptionTree,
     retained: KeptTable<M>,
 }
 
@@ -49,7 +49,7 @@ impl<M: Drop> Routes<M> {
     {
         Routes {
             alloc,
-            subscribers: Subscribers::new(alloc, hasher),
+            subscribers: SubscriptionTree::new(alloc, hasher),
             retained: KeptTable::new(alloc, hasher),
         }
     }
@@ -142,11 +142,14 @@ impl<M: Drop> Routes<M> {
             retain,
         };
         self.subscribers.show_order();
-        let direct = self.subscribers.directs(&publication, at)?;
+        let births = self.subscribers.births_to(&publication)?;
+        let direct = self
+            .subscribers
+            .directs(&publication, at, births.as_slice())?;
         if !has_room(at, direct.as_slice()) {
             return Err(RoutesFault::Full);
         }
-        let members = self.subscribers.members(&publication)?;
+        let members = self.subscribers.members(&publication, births.as_slice())?;
         let served = serve(
             self.alloc,
             at,

@@ -1,7 +1,9 @@
 //! The subscriptions of one session (MQTT 5.0, 3.8, 3.10).
-ghost use Rattle.std.specs.Prelude.{◌≡◌, ◌+◌, ◌<◌, ◌≤◌, [], false, true, IfErr, IfOk, OnErr, OnOk};
+ghost use Rattle.std.specs.Prelude.{◌≡◌, ◌+◌, ◌<◌, ◌≤◌, [], false, true, is_some, length, IfErr, IfOk, OnErr, OnOk};
 ghost use Rattle.std.specs.Option.{option_to_list};
 ghost use Rattle.mqtt_routes.specs.Intended.{copies_for, hits_of, members_with};
+ghost use Rattle.mqtt_routes.specs.Spots.{matched_at, number_of};
+ghost use Rattle.mqtt_base.specs.declared.limits.TheConstants.{SUBSCRIPTION_LIMIT};
 ghost use Rattle.mqtt_routes.specs.Subscriptions.{has_filter, takes_filter, put, without, RefusesPut};
 
 use crate::answers::Sessions;
@@ -105,6 +107,33 @@ impl Subscriptions {
         ensures room { self.old.room ≤ self.new.room }
     {
         self.rows.shift_remove(filter)
+    }
+
+    /// How many subscriptions there are. Takes no memory.
+    pub(crate) fn count(&self) -> usize
+        ensures count { result ≡ length self.now.subs }
+        ensures most { result ≤ SUBSCRIPTION_LIMIT }
+    {
+        self.rows.len()
+    }
+
+    /// The number of the subscription to a filter, if there is one. Takes no memory.
+    pub(crate) fn number(&self, filter: &str) -> Option<usize>
+        ensures number { result ≡ number_of filter.now self.now.subs }
+        ensures found { is_some result ≡ has_filter filter.now self.now.subs }
+    {
+        self.rows.get_index_of(filter)
+    }
+
+    /// The filter by which the subscription of a number is matched; none where there is none. Takes
+    /// no memory.
+    pub(crate) fn matched(&self, at: usize) -> &str
+        ensures { result.now ≡ matched_at self.now.subs at }
+    {
+        match self.rows.get_index(at) {
+            Some(row) => row.subscription.filter.filter(),
+            None => "",
+        }
     }
 
     /// The direct copy of a publication for the session, if a subscription is for it.

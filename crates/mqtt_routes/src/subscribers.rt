@@ -1,7 +1,10 @@
 //! The subscriptions of all sessions, by birth (MQTT 5.0, 3.8, 3.10).
-ghost use Rattle.std.specs.Prelude.{◌≡◌, ◌<◌, ◌∷◌, [], ℕ, List, false, true, length, slice_get, Some, IfErr, IfOk, OnErr, OnOk};
-ghost use Rattle.mqtt_routes.specs.Intended.{directs, members};
-ghost use Rattle.mqtt_routes.specs.Subscriptions.{has_filter, takes_filter, spot_of, subs_of, subscriber, subscribed, unsubscribed, without_session, standing, filters_of, have_room, AreInOrder, RefusesPut};
+ghost use Rattle.std.specs.Prelude.{◌≡◌, ◌≤◌, ◌∷◌, [], ℕ, List, false, true, is_some, length, IfErr, IfOk, OnErr, OnOk};
+ghost use Rattle.std.specs.Option.{option_to_list};
+ghost use Rattle.mqtt_routes.specs.Intended.{copies_for, directs, hits_of, members, members_with};
+ghost use Rattle.mqtt_routes.specs.Spots.{matched_at, number_of, of_births};
+ghost use Rattle.mqtt_base.specs.declared.limits.TheConstants.{SUBSCRIPTION_LIMIT};
+ghost use Rattle.mqtt_routes.specs.Subscriptions.{has_filter, takes_filter, spot_of, subs_of, subscribed, unsubscribed, without_session, standing, filters_of, have_room, AreInOrder, RefusesPut};
 
 use crate::answers::Sessions;
 use crate::copy::RoutedCopy;
@@ -133,47 +136,108 @@ impl Subscribers {
         let _sessions = &self.sessions;
     }
 
-    /// The session at a place.
-    fn session_at(&self, i: usize) -> (u64, &Subscriptions)
-        requires { i < length self.now.sessions }
-        ensures { slice_get self.now.sessions i ≡ Some (subscriber result.0 result.1.now.subs) }
+    /// How many subscriptions a session has. Takes no memory.
+    pub(crate) fn count(&self, birth: u64) -> usize
+        ensures count { result ≡ length (subs_of birth self.now.sessions) }
+        ensures most { result ≤ SUBSCRIPTION_LIMIT }
     {
-        let (birth, subscriptions) = self.sessions.get_index(i).unwrap();
-        (*birth, subscriptions)
+        match self.sessions.get(&birth) {
+            Some(subscriptions) => subscriptions.count(),
+            None => 0,
+        }
     }
 
-    /// The direct copies of a publication, by session birth.
+    /// The number of the subscription of a session to a filter, if there is one. Takes no memory.
+    pub(crate) fn number(&self, birth: u64, filter: &str) -> Option<usize>
+        ensures number { result ≡ number_of filter.now (subs_of birth self.now.sessions) }
+        ensures found { is_some result ≡ has_filter filter.now (subs_of birth self.now.sessions) }
+    {
+        match self.sessions.get(&birth) {
+            Some(subscriptions) => subscriptions.number(filter),
+            None => None,
+        }
+    }
+
+    /// The filter by which a session's subscription of a number is matched; none where it has none.
+    /// Takes no memory.
+    pub(crate) fn matched(&self, birth: u64, at: usize) -> &str
+        ensures { result.now ≡ matched_at (subs_of birth self.now.sessions) at }
+    {
+        match self.sessions.get(&birth) {
+            Some(subscriptions) => subscriptions.matched(at),
+            None => "",
+        }
+    }
+
+    /// The direct copy of a publication for a session, if a subscription is for it.
+    fn direct_copy<S: Sessions>(
+        &self,
+        publication: &Publication<'_>,
+        at: &S,
+        birth: u64,
+    ) -> Result<Option<RoutedCopy>, RoutesFault>
+        ensures copy { IfOk result (λ copy. option_to_list copy
+            ≡ copies_for publication.now birth
+            (hits_of (S.answers at.now) publication.now birth (subs_of birth self.now.sessions))) }
+        ensures fault { IfErr result (λ fault. fault ≡ RoutesFault.Memory) }
+    {
+        match self.sessions.get(&birth) {
+            Some(subscriptions) => { subscriptions.direct_copy(self.alloc, publication, at, birth) }
+            None => Ok(None),
+        }
+    }
+
+    /// Adds the shared subscriptions of a session that are to the topic of a publication.
+    fn add_members<'a>(
+        &'a self,
+        publication: &Publication<'_>,
+        birth: u64,
+        members: &mut Vec<Member<'a>>,
+    ) -> Result<(), RoutesFault>
+        ensures ok { OnOk result (members.new.items
+            ≡ members_with publication.now birth (subs_of birth self.now.sessions) members.old.items) }
+        ensures fault { IfErr result (λ fault. fault ≡ RoutesFault.Memory) }
+    {
+        match self.sessions.get(&birth) {
+            Some(subscriptions) => subscriptions.add_members(publication, birth, members),
+            None => Ok(()),
+        }
+    }
+
+    /// The direct copies of a publication for sessions of these births.
     pub(crate) fn directs<S: Sessions>(
         &self,
         publication: &Publication<'_>,
         at: &S,
+        births: &[u64],
     ) -> Result<Vec<RoutedCopy>, RoutesFault>
         ensures copies { IfOk result (λ copies. copies.items
-            ≡ directs (S.answers at.now) publication.now self.now.sessions) }
+            ≡ directs (S.answers at.now) publication.now (of_births self.now.sessions births.now)) }
         ensures fault { IfErr result (λ fault. fault ≡ RoutesFault.Memory) }
     {
         let mut copies = Vec::new(self.alloc);
-        for i in 0..self.sessions.len() {
-            let (birth, subscriptions) = self.session_at(i);
-            if let Some(copy) = subscriptions.direct_copy(self.alloc, publication, at, birth)? {
+        for birth in births {
+            if let Some(copy) = self.direct_copy(publication, at, *birth)? {
                 copies.push(copy)?;
             }
         }
         Ok(copies)
     }
 
-    /// The members of all groups that match the topic of a publication, as they joined.
+    /// The members of all groups that match the topic of a publication, as they joined, of the
+    /// sessions of these births.
     pub(crate) fn members<'a>(
         &'a self,
         publication: &Publication<'_>,
+        births: &[u64],
     ) -> Result<Vec<Member<'a>>, RoutesFault>
-        ensures members { IfOk result (λ found. found.items ≡ members publication.now self.now.sessions) }
+        ensures members { IfOk result (λ found. found.items
+            ≡ members publication.now (of_births self.now.sessions births.now)) }
         ensures fault { IfErr result (λ fault. fault ≡ RoutesFault.Memory) }
     {
         let mut found = Vec::new(self.alloc);
-        for i in 0..self.sessions.len() {
-            let (birth, subscriptions) = self.session_at(i);
-            subscriptions.add_members(publication, birth, &mut found)?;
+        for birth in births {
+            self.add_members(publication, *birth, &mut found)?;
         }
         Ok(found)
     }

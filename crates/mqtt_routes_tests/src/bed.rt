@@ -127,6 +127,19 @@ impl Bed {
         Ok(answer)
     }
 
+    /// The QoS and the identifiers of the first direct copy; no identifier where it hasn't three.
+    pub(crate) fn identifiers(&self) -> Result<(Qos, [u32; 3]), RoutesFault> {
+        let routed = self.routes.route("p", &self.topic, 2, false, &ALL)?;
+        let mut seen = (ZERO, [0; 3]);
+        if let Some(copy) = routed.direct().first() {
+            if let [first, second, third] = copy.identifiers() {
+                seen = (copy.qos(), [*first, *second, *third]);
+            }
+        }
+        drop(routed);
+        Ok(seen)
+    }
+
     /// The same, with the publication accepted.
     pub(crate) fn accept(&mut self, qos: u8, world: &World) -> Result<Seen, RoutesFault> {
         let routed = self.routes.route("p", &self.topic, qos, true, world)?;

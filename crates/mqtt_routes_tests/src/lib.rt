@@ -2,7 +2,11 @@
 #![tactic(auto)]
 
 #[cfg(test)]
+mod agrees;
+#[cfg(test)]
 mod bed;
+#[cfg(test)]
+mod deep;
 #[cfg(test)]
 mod faults;
 #[cfg(test)]

@@ -76,6 +76,29 @@ fn no_local_and_retain_are_told_by_subscription(rt: HostRuntime) -> Result<(), F
     done
 }
 
+/// Overlapping subscriptions to `#`, `a/+` and `a/b`, in this order, which isn't that of the texts.
+fn overlap(rt: &impl Abort, alloc: Global, bed: &mut Bed) -> Result<(), Fail> {
+    bed.routes.subscribe(1, identified(alloc, "#", 1, TWO, 3)?)?;
+    bed.routes
+        .subscribe(1, identified(alloc, "a/+", 2, TWO, 2)?)?;
+    bed.routes
+        .subscribe(1, identified(alloc, "a/b", 3, TWO, 1)?)?;
+    assert_eq!(rt; bed.identifiers()?, (TWO, [3, 2, 1]));
+    assert!(rt; bed.routes.unsubscribe(1, "a/+"));
+    assert_eq!(rt; bed.ask("p", 2, &ALL)?.direct, [(1, TWO, false, 2), NONE]);
+    bed.routes.drop_session(1);
+    assert!(rt; !bed.ask("p", 2, &ALL)?.taken);
+    Ok(())
+}
+
+#[test]
+fn identifiers_come_in_the_order_subscribed(rt: HostRuntime) -> Result<(), Fail> {
+    let mut bed = Bed::new(&rt)?;
+    let done = overlap(&rt, rt.alloc(), &mut bed);
+    drop(bed);
+    done
+}
+
 /// A publication's QoS above 2 counts as 2.
 fn ask_above(rt: &impl Abort, alloc: Global, bed: &mut Bed) -> Result<(), Fail> {
     subscribe_all(alloc, bed, 4, ONE)?;

@@ -19,9 +19,8 @@ use Rattle.mqtt_rules.specs.Deeds.{Part, Resume, Close, SetExpiry, DropWill, Sub
 use Rattle.mqtt_rules.specs.Numbers.{HasGivenBirths}
 use Rattle.mqtt_rules.specs.Laws.{IsOrdered, IsUnique, client_at, topic_at, IsAssignedUpTo, IsCoherentSession, IsCoherentMessage}
 use Rattle.mqtt_rules.proofs.Copies.{each_more, each_filter}
-use Rattle.mqtt_rules.proofs.FlightRows.{found_key, all_at, all_changed_at}
+use Rattle.mqtt_rules.proofs.FlightRows.{found_key, all_at, all_changed_at, all_put, all_changed}
 use Rattle.mqtt_rules.proofs.NumberBirths.{below_none, given_deed}
-use Rattle.mqtt_rules.proofs.NumberCopies.{each_put, each_change}
 use Rattle.mqtt_rules.proofs.NumberFacts.{Counts, counts, counts_after, counts_deed, GivesNext}
 use Rattle.mqtt_rules.proofs.Ordered.{changed_all-ordered}
 use Rattle.mqtt_rules.proofs.OrderedRoom.{at_retained, begin_retained}
@@ -108,7 +107,7 @@ module _ (a m : ℕ) where
   Hold ss = AllByRecursion (IsCoherentSession a m) ss
 
   held_in : (birth : ℕ) (f : Session → Session) (r : Records) → ((s : Session) → IsCoherentSession a m s → IsCoherentSession a m (f s)) → Hold r.sessions → Hold (in_session birth f r).sessions
-  held_in birth f r same h = each_change birth_of (IsCoherentSession a m) birth f r.sessions same h
+  held_in birth f r same h = all_changed birth_of (IsCoherentSession a m) birth f r.sessions same h
 
   held_cond : (t : Bool) (xs ys : List Session) → Hold xs → Hold ys → Hold (cond t xs ys)
   held_cond true xs ys p q = p
@@ -117,8 +116,8 @@ module _ (a m : ℕ) where
   held_put : (row : Columns) (ss : List Session) → IsAssignedUpTo a row.client → IsMoment row.closed → Hold ss → Hold (put_session row ss)
   held_put row ss name closed h =
       held_cond (has_row birth_of row.birth ss) (change_row birth_of row.birth (with_columns row) ss) (put_row birth_of SESSION_LIMIT (fresh row) ss)
-      (each_change birth_of (IsCoherentSession a m) row.birth (with_columns row) ss (λ s c. (name, c.1, closed)) h)
-      (each_put birth_of (IsCoherentSession a m) SESSION_LIMIT (fresh row) ss (name, tt, closed) h)
+      (all_changed birth_of (IsCoherentSession a m) row.birth (with_columns row) ss (λ s c. (name, c.1, closed)) h)
+      (all_put birth_of (IsCoherentSession a m) SESSION_LIMIT (fresh row) ss (name, tt, closed) h)
 
   held_columns : (row : Columns) (s : Session) (r : Records) → session_at row.birth r ≡ Some s → row.client ≡ s.client → IsMoment row.closed → Hold r.sessions → Hold (changed (SetSession row) r).sessions
   held_columns row s r there same closed h =
@@ -140,7 +139,7 @@ module _ (a m : ℕ) where
   held_part (Subscribe x) s r there fit is h =
       let up = (fit s there).1 in
       held_in s.birth (with_subscription x) r
-      (λ t c. (c.0, each_put place_of (λ y. y.place ≤ m) SUBSCRIPTION_LIMIT x (without_filter x.filter t.subscriptions) (omega (arith, up, is)) (each_filter (λ y. y.place ≤ m) (λ y. not (bytes_eq y.filter x.filter)) t.subscriptions c.1), c.2)) h
+      (λ t c. (c.0, all_put place_of (λ y. y.place ≤ m) SUBSCRIPTION_LIMIT x (without_filter x.filter t.subscriptions) (omega (arith, up, is)) (each_filter (λ y. y.place ≤ m) (λ y. not (bytes_eq y.filter x.filter)) t.subscriptions c.1), c.2)) h
   held_part (Unsubscribe text) s r there fit is h =
       held_in s.birth (without_subscription text) r (λ t c. (c.0, each_filter (λ y. y.place ≤ m) (λ y. not (bytes_eq y.filter text)) t.subscriptions c.1, c.2)) h
   held_part (Open id) s r there fit is h = held_in s.birth (with_open id) r (λ t c. c) h
@@ -166,7 +165,7 @@ sessions_deed (Begin row None) b fit h = held_put b.records.autos b.records.subs
 sessions_deed (Begin row (Some will)) b fit h =
     let a = b.records.autos in
     let m = b.records.subscribes in
-    each_change birth_of (IsCoherentSession a m) row.birth (with_will (Some will)) (put_session row b.records.sessions) (λ s c. c) (held_put a m row b.records.sessions fit.name (none_closed row fit.connected) h.sessions)
+    all_changed birth_of (IsCoherentSession a m) row.birth (with_will (Some will)) (put_session row b.records.sessions) (λ s c. c) (held_put a m row b.records.sessions fit.name (none_closed row fit.connected) h.sessions)
 sessions_deed (Name n) b fit h = sessions_more b.records.autos n b.records.subscribes b.records.subscribes b.records.sessions (omega (arith, fit)) (omega arith) h.sessions
 sessions_deed (Count n) b fit h = sessions_more b.records.autos b.records.autos b.records.subscribes n b.records.sessions (omega arith) (omega (arith, fit)) h.sessions
 sessions_deed (At who part) b fit h = held_part_of b.records.autos b.records.subscribes who.birth part b.records (session_at who.birth b.records) refl fit refl h.sessions
@@ -249,7 +248,7 @@ retained_deed (Accept number origin m) b fit h =
     each_more (IsCoherentMessage b.records.publications) (IsCoherentMessage number) (λ k c. let up = c.0 in (omega (arith, up, fit), c.1)) b.records.retained h.retained
 retained_deed (Begin row will) b fit h = subst (Messages b.records.publications) (sym (begin_retained row will b.records)) h.retained
 retained_deed (At who part) b fit h = subst (Messages b.records.publications) (sym (at_retained part b.records (session_at who.birth b.records))) h.retained
-retained_deed (Keep kept) b fit h = each_put kept_place (IsCoherentMessage b.records.publications) RETAINED_LIMIT kept b.records.retained (fit.publication, fit.arrived) h.retained
+retained_deed (Keep kept) b fit h = all_put kept_place (IsCoherentMessage b.records.publications) RETAINED_LIMIT kept b.records.retained (fit.publication, fit.arrived) h.retained
 retained_deed (Forget place) b fit h = each_filter (IsCoherentMessage b.records.publications) (λ k. not (nat_eq (kept_place k) place)) b.records.retained h.retained
 retained_deed (Name n) b fit h = h.retained
 retained_deed (Count n) b fit h = h.retained

@@ -28,7 +28,8 @@ use Rattle.mqtt_rules.proofs.Goods.{AreGood}
 use Rattle.mqtt_rules.proofs.Copies.{each_append, each_filter, each_more, each_map}
 use Rattle.mqtt_records.specs.declared.subscription.Subscription.{Subscription}
 use Rattle.mqtt_rules.proofs.Ordered.{put-table, filter-table}
-use Rattle.mqtt_rules.proofs.NumberCopies.{each_cond, each_put, each_change}
+use Rattle.mqtt_rules.proofs.FlightRows.{all_put, all_changed}
+use Rattle.mqtt_rules.proofs.NumberCopies.{each_cond}
 
 module _ (sizes : Sizes) where
   abbrev IsPublished : Content → Type 0
@@ -70,20 +71,20 @@ module _ (sizes : Sizes) where
 
   -- a part of a session changed
   changed_in : (birth : ℕ) (f : Session → Session) (r : Records) → ((s : Session) → HasContents s → HasContents (f s)) → HasLawfulContents r → HasLawfulContents (in_session birth f r)
-  changed_in birth f r kept h = record { sessions = each_change birth_of HasContents birth f r.sessions kept h.sessions; retained = h.retained }
+  changed_in birth f r kept h = record { sessions = all_changed birth_of HasContents birth f r.sessions kept h.sessions; retained = h.retained }
 
   session_put : (row : Columns) (ss : List Session) → AllByRecursion HasContents ss → AllByRecursion HasContents (put_session row ss)
   session_put row ss h =
       each_cond birth_of HasContents (has_row birth_of row.birth ss) (change_row birth_of row.birth (with_columns row) ss) (put_row birth_of SESSION_LIMIT (fresh row) ss)
-      (each_change birth_of HasContents row.birth (with_columns row) ss (λ s q. record { will = q.will; subscriptions = q.subscriptions; table = q.table; queue = q.queue }) h)
-      (each_put birth_of HasContents SESSION_LIMIT (fresh row) ss (record { will = tt; subscriptions = tt; table = record { ascending = tt; within = omega arith }; queue = tt }) h)
+      (all_changed birth_of HasContents row.birth (with_columns row) ss (λ s q. record { will = q.will; subscriptions = q.subscriptions; table = q.table; queue = q.queue }) h)
+      (all_put birth_of HasContents SESSION_LIMIT (fresh row) ss (record { will = tt; subscriptions = tt; table = record { ascending = tt; within = omega arith }; queue = tt }) h)
 
   subscribed : (sub : Subscription) (s : Session) → IsAskedFor sub → HasContents s → HasContents (with_subscription sub s)
   subscribed sub s q c =
       let others = without_filter sub.filter s.subscriptions in
       record {
         will = c.will;
-        subscriptions = each_put place_of IsAskedFor SUBSCRIPTION_LIMIT sub others q (each_filter IsAskedFor (λ x. not (bytes_eq x.filter sub.filter)) s.subscriptions c.subscriptions);
+        subscriptions = all_put place_of IsAskedFor SUBSCRIPTION_LIMIT sub others q (each_filter IsAskedFor (λ x. not (bytes_eq x.filter sub.filter)) s.subscriptions c.subscriptions);
         table = put-table place_of SUBSCRIPTION_LIMIT sub others (filter-table place_of SUBSCRIPTION_LIMIT (λ x. not (bytes_eq x.filter sub.filter)) s.subscriptions c.table);
         queue = c.queue;
       }
@@ -117,12 +118,12 @@ module _ (sizes : Sizes) where
   contents_changed (PutInbound birth id) r q h = changed_in birth (with_open id) r (λ s c. record { will = c.will; subscriptions = c.subscriptions; table = c.table; queue = c.queue }) h
   contents_changed (RemoveInbound birth id) r q h = changed_in birth (without_open id) r (λ s c. record { will = c.will; subscriptions = c.subscriptions; table = c.table; queue = c.queue }) h
   contents_changed (PutCopy birth e) r q h =
-      changed_in birth (with_copy e) r (λ s c. record { will = c.will; subscriptions = c.subscriptions; table = c.table; queue = each_put copy_place Copied QUEUE_LIMIT e s.queue q c.queue }) h
+      changed_in birth (with_copy e) r (λ s c. record { will = c.will; subscriptions = c.subscriptions; table = c.table; queue = all_put copy_place Copied QUEUE_LIMIT e s.queue q c.queue }) h
   contents_changed (SetCopy birth place phase) r q h =
-      changed_in birth (with_phase place phase) r (λ s c. record { will = c.will; subscriptions = c.subscriptions; table = c.table; queue = each_change copy_place Copied place (in_phase phase) s.queue (λ e u. u) c.queue }) h
+      changed_in birth (with_phase place phase) r (λ s c. record { will = c.will; subscriptions = c.subscriptions; table = c.table; queue = all_changed copy_place Copied place (in_phase phase) s.queue (λ e u. u) c.queue }) h
   contents_changed (RemoveCopy birth place) r q h =
       changed_in birth (without_copy place) r (λ s c. record { will = c.will; subscriptions = c.subscriptions; table = c.table; queue = each_filter Copied (λ e. not (nat_eq (copy_place e) place)) s.queue c.queue }) h
-  contents_changed (PutRetained kept) r q h = record { sessions = h.sessions; retained = each_put kept_place Retains RETAINED_LIMIT kept r.retained q h.retained }
+  contents_changed (PutRetained kept) r q h = record { sessions = h.sessions; retained = all_put kept_place Retains RETAINED_LIMIT kept r.retained q h.retained }
   contents_changed (RemoveRetained place) r q h =
       record { sessions = h.sessions; retained = each_filter Retains (λ k. not (nat_eq (kept_place k) place)) r.retained h.retained }
 

@@ -17,13 +17,14 @@ use Rattle.mqtt_props.specs.Edits.{only, without}
 use Rattle.mqtt_props.specs.declared.table.PropName.TheVariants.{UserProperty}
 use Rattle.mqtt_message.specs.PassedOn.{identified}
 use Rattle.mqtt_rules.specs.Packets.{delivery_by, properties_sent, publish_of, seconds_waited, size_of}
+use Rattle.mqtt_rules.proofs.PassedContents.{props_append}
 
 -- ---- properties
 
-aged_length : (waited : ℕ) (p : Prop) → length (prop (aged waited p)) ≡ length (prop (aged 0 p))
+pub aged_length : (waited : ℕ) (p : Prop) → length (prop (aged waited p)) ≡ length (prop (aged 0 p))
 aged_length waited p = elim (cases_Bool (is_named MessageExpiryInterval p)) [ inl named ↦ rw named refl | inr other ↦ rw other refl ]
 
-all_aged : (waited : ℕ) (ps : List Prop) → length (props (map (aged waited) ps)) ≡ length (props (map (aged 0) ps))
+pub all_aged : (waited : ℕ) (ps : List Prop) → length (props (map (aged waited) ps)) ≡ length (props (map (aged 0) ps))
 all_aged waited [] = refl
 all_aged waited (p ∷ ps) =
     let one = aged_length waited p in
@@ -31,14 +32,6 @@ all_aged waited (p ∷ ps) =
     let old = length-append (prop (aged waited p)) (props (map (aged waited) ps)) in
     let new = length-append (prop (aged 0 p)) (props (map (aged 0) ps)) in
     omega (arith, one, more, old, new)
-
-props_append : (ps qs : List Prop) → length (props (ps ++ qs)) ≡ length (props ps) + length (props qs)
-props_append [] qs = omega arith
-props_append (p ∷ ps) qs =
-    let rest = props_append ps qs in
-    let whole = length-append (prop p) (props (ps ++ qs)) in
-    let front = length-append (prop p) (props ps) in
-    omega (arith, rest, whole, front)
 
 props_sent : (waited : ℕ) (ids : List ℕ) (ps : List Prop) → length (props (sent_after waited ids ps)) ≡ length (props (sent_after 0 ids ps))
 props_sent waited ids ps =

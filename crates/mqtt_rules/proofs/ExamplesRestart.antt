@@ -151,10 +151,6 @@ puback_for_qos_2_closes : tells (at 0 (Input 1 (puback 1 0))) sent_again ≡ out
 unfolding varint
 puback_for_qos_2_closes = refl
 
-protocol_error_bytes : shortest_of (disconnect 0x82) ≡ bytes "e0 01 82"
-unfolding varint
-protocol_error_bytes = refl
-
 -- a refusal ends the copy, and frees its identifier for the next one
 refusal_read : packet_at (bytes "50 03 00 01 80") ≡ Ok (pubrec 1 0x80)
 unfolding packet_at frame_at lawful_at body_at ack_at tail_at varint_at groups_at

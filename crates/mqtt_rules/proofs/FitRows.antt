@@ -1,7 +1,7 @@
 -- The rows of deeds that fit, where room is, and what leaves or is marked stands, and no number is spent.
 use Rattle.std.proofs.Common.{◌≡◌, ℕ, zero, suc, ◌<◌, Bool, true, false, ◌||◌, List, [], ◌∷◌, ◌++◌, length, Option, Some, None, nat_lt, refl, sym, ap, subst, ◌∙◌, arith, inl, inr}
 use Rattle.std.specs.Prelude.{slice_index_or, is_some, option_map}
-use Rattle.std.specs.List.{AllByRecursion, All}
+use Rattle.std.specs.List.{All}
 use Rattle.std.proofs.lemmas.Bool.{lt-ltb, ltb-false}
 use Rattle.std.proofs.lemmas.Cmp.{nat_eq_equiv}
 use Rattle.mqtt_base.specs.declared.session.Phase.{Phase}
@@ -30,6 +30,7 @@ use Rattle.mqtt_rules.proofs.NumberFacts.{Counts, counts, counts_after, counts_d
 use Rattle.mqtt_rules.proofs.OrderedEnters.{RoomToEnter}
 use Rattle.mqtt_rules.proofs.Turns.{Stands}
 use Rattle.mqtt_rules.proofs.Coherent.{IsFitRow, IsFitPart, IsFit, Coheres, coheres_deed}
+use Rattle.mqtt_rules.proofs.FitLaw.{all_among}
 
 -- ---- numbers that are not spent
 
@@ -90,10 +91,6 @@ index_among (x ∷ xs) (suc k) d less = inr (index_among xs k d (omega (arith, l
 
 all_from : {X : Type 0} (P : X → Type 0) (xs : List X) → ((x : X) → IsAmong x xs → P x) → All P xs
 all_from P xs h k d less = h (slice_index_or xs k d) (index_among xs k d less)
-
-all_among : {X : Type 0} (P : X → Type 0) (x : X) (xs : List X) → AllByRecursion P xs → IsAmong x xs → P x
-all_among P x [] h among = absurd among
-all_among P x (y ∷ ys) h among = elim among [ inl it ↦ subst P it h.0 | inr more ↦ all_among P x ys h.1 more ]
 
 or_right : (x y : Bool) → y ≡ true → (x || y) ≡ true
 or_right true y is = refl

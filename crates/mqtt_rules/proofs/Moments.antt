@@ -155,10 +155,6 @@ a_late_interval_breaks_the_protocol : asks mortal (at 0 (Input 2 stays_longer)) 
 unfolding varint
 a_late_interval_breaks_the_protocol = refl
 
-protocol_error_bytes : shortest_of (disconnect 0x82) ≡ bytes "e0 01 82"
-unfolding varint
-protocol_error_bytes = refl
-
 a_late_interval_is_not_set : births (runs (mortal ++ at 0 (Input 2 stays_longer) ∷ []) blank) ≡ 1 ∷ []
 unfolding varint
 a_late_interval_is_not_set = refl

@@ -22,7 +22,8 @@ behind : List ℕ → List ℕ
 behind [] = []
 behind (x ∷ xs) = xs
 
-unfront : (xs ys : List ℕ) → auto ++ xs ≡ auto ++ ys → xs ≡ ys
+-- what follows the front of an assigned name
+pub unfront : (xs ys : List ℕ) → auto ++ xs ≡ auto ++ ys → xs ≡ ys
 unfolding behind
 unfront xs ys same = ap (λ (zs : List ℕ). behind (behind (behind (behind (behind zs))))) same
 

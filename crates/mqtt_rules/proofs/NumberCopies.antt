@@ -1,8 +1,7 @@
 -- Copies in queues and retained messages have numbers of accepted publications, deed by deed and over a step.
-use Rattle.std.proofs.Common.{◌≡◌, refl, ℕ, ◌≤◌, Bool, true, false, cond, not, ◌||◌, List, [], ◌∷◌, length, Option, Some, None, nat_eq, nat_lt, sym, subst, arith, inl, inr}
+use Rattle.std.proofs.Common.{◌≡◌, refl, ℕ, ◌≤◌, Bool, true, false, cond, not, List, [], ◌∷◌, Option, Some, None, nat_eq, sym, subst, arith, inl, inr}
 use Rattle.std.specs.Prelude.{⊤}
 use Rattle.std.specs.List.{AllByRecursion}
-use Rattle.std.proofs.lemmas.Bool.{cases_Bool}
 use Rattle.mqtt_message.specs.declared.message.MessageCopy.{MessageCopy}
 use Rattle.mqtt_message.specs.declared.message.RetainedMessage.{RetainedMessage}
 use Rattle.mqtt_message.specs.Queue.{CopyRow}
@@ -14,7 +13,7 @@ use Rattle.mqtt_records.specs.declared.change.Counter.{Counter}
 use Rattle.mqtt_records.specs.declared.change.Counter.TheVariants.{Births, Publications, Subscribes, Autos, Moment}
 use Rattle.mqtt_records.specs.declared.change.Change.{Change}
 use Rattle.mqtt_records.specs.declared.change.Change.TheVariants.{SetCounter, PutSession, SetSession, RemoveSession, PutWill, RemoveWill, PutSubscription, RemoveSubscription, PutInbound, RemoveInbound, PutCopy, SetCopy, RemoveCopy, PutRetained, RemoveRetained}
-use Rattle.mqtt_rows.specs.Order.{has_row, insert_row, put_row, change_row}
+use Rattle.mqtt_rows.specs.Order.{has_row, put_row, change_row}
 use Rattle.mqtt_records.specs.Session.{birth_of, copy_place, fresh, with_columns, with_will, with_subscription, without_subscription, with_open, without_open, with_copy, with_phase, without_copy, in_phase}
 use Rattle.mqtt_records.specs.Records.{changed, changed_all, put_session, with_counter, kept_place}
 use Rattle.mqtt_rules.specs.declared.Limits.{Limits}
@@ -23,6 +22,7 @@ use Rattle.mqtt_rules.specs.Deeds.{Whose, Part, Resume, Enter, Deed, Accept, Beg
 use Rattle.mqtt_rules.specs.Step.{Call, deeds, at_moment, env_of, with_moment, done, stepped, opening, unopened, opened}
 use Rattle.mqtt_rules.specs.Numbers.{HasCopiesUpTo, HasAcceptedNumbers}
 use Rattle.mqtt_rules.proofs.Copies.{IsOf, IsMade, Kinds, kinds_at, each_filter, each_more}
+use Rattle.mqtt_rules.proofs.FlightRows.{all_changed, all_put}
 use Rattle.mqtt_rules.proofs.Goods.{AreGood}
 use Rattle.mqtt_rules.proofs.Acts.{is_alone, anyone, finds_anyone}
 use Rattle.mqtt_rules.proofs.ByDeeds.{DeedLaw, MarkLaw, leads_deeds, leads_opened}
@@ -30,30 +30,9 @@ use Rattle.mqtt_rules.proofs.ByDeeds.{DeedLaw, MarkLaw, leads_deeds, leads_opene
 -- ---- what holds of each row, edit by edit
 
 module _ {X : Type 0} (key : X → ℕ) (P : X → Type 0) where
-  each_insert : (row : X) (xs : List X) → P row → AllByRecursion P xs → AllByRecursion P (insert_row key row xs)
-  each_insert row [] p h = (p, tt)
-  each_insert row (x ∷ xs) p h = elim (cases_Bool (nat_lt (key row) (key x))) [
-    | inl before ↦ rw before (p, h)
-    | inr after ↦ elim (cases_Bool (nat_eq (key row) (key x))) [
-      | inl same ↦ rw (after, same) (p, h.1)
-      | inr other ↦ rw (after, other) (h.0, each_insert row xs p h.1)
-    ]
-  ]
-
   pub each_cond : (t : Bool) (xs ys : List X) → AllByRecursion P xs → AllByRecursion P ys → AllByRecursion P (cond t xs ys)
   each_cond true xs ys p q = p
   each_cond false xs ys p q = q
-
-  pub each_put : (limit : ℕ) (row : X) (xs : List X) → P row → AllByRecursion P xs → AllByRecursion P (put_row key limit row xs)
-  each_put limit row xs p h =
-      each_cond (has_row key (key row) xs || nat_lt (length xs) limit) (insert_row key row xs) xs (each_insert row xs p h) h
-
-  pub each_change : (k : ℕ) (f : X → X) (xs : List X) → ((x : X) → P x → P (f x)) → AllByRecursion P xs → AllByRecursion P (change_row key k f xs)
-  each_change k f [] kept h = tt
-  each_change k f (x ∷ xs) kept h = elim (cases_Bool (nat_eq (key x) k)) [
-    | inl same ↦ rw same (kept x h.0, h.1)
-    | inr other ↦ rw other (h.0, each_change k f xs kept h.1)
-  ]
 
 -- ---- queues
 
@@ -78,8 +57,8 @@ queues_more n m ss le h =
 queues_put_session : (n : ℕ) (row : Columns) (ss : List Session) → QueuesUpTo n ss → QueuesUpTo n (put_session row ss)
 queues_put_session n row ss h =
     each_cond birth_of (HasCopiesUpTo n) (has_row birth_of row.birth ss) (change_row birth_of row.birth (with_columns row) ss) (put_row birth_of SESSION_LIMIT (fresh row) ss)
-    (each_change birth_of (HasCopiesUpTo n) row.birth (with_columns row) ss (λ s q. q) h)
-    (each_put birth_of (HasCopiesUpTo n) SESSION_LIMIT (fresh row) ss tt h)
+    (all_changed birth_of (HasCopiesUpTo n) row.birth (with_columns row) ss (λ s q. q) h)
+    (all_put birth_of (HasCopiesUpTo n) SESSION_LIMIT (fresh row) ss tt h)
 
 queues_counter : (counter : Counter) (value n : ℕ) (r : Records) → QueuesUpTo n r.sessions → QueuesUpTo n (with_counter counter value r).sessions
 queues_counter Births value n r h = h
@@ -90,7 +69,7 @@ queues_counter Moment value n r h = h
 
 -- a part of a session changed
 queues_in : (n birth : ℕ) (f : Session → Session) (ss : List Session) → ((s : Session) → HasCopiesUpTo n s → HasCopiesUpTo n (f s)) → QueuesUpTo n ss → QueuesUpTo n (change_row birth_of birth f ss)
-queues_in n birth f ss kept h = each_change birth_of (HasCopiesUpTo n) birth f ss kept h
+queues_in n birth f ss kept h = all_changed birth_of (HasCopiesUpTo n) birth f ss kept h
 
 queues_changed : (n : ℕ) (change : Change) (r : Records) → RowUpTo n change → QueuesUpTo n r.sessions → QueuesUpTo n (changed change r).sessions
 queues_changed n (SetCounter counter value) r fit h = queues_counter counter value n r h
@@ -103,9 +82,9 @@ queues_changed n (PutSubscription birth sub) r fit h = queues_in n birth (with_s
 queues_changed n (RemoveSubscription birth text) r fit h = queues_in n birth (without_subscription text) r.sessions (λ s q. q) h
 queues_changed n (PutInbound birth id) r fit h = queues_in n birth (with_open id) r.sessions (λ s q. q) h
 queues_changed n (RemoveInbound birth id) r fit h = queues_in n birth (without_open id) r.sessions (λ s q. q) h
-queues_changed n (PutCopy birth e) r fit h = queues_in n birth (with_copy e) r.sessions (λ s q. each_put copy_place (UpTo n) QUEUE_LIMIT e s.queue fit q) h
+queues_changed n (PutCopy birth e) r fit h = queues_in n birth (with_copy e) r.sessions (λ s q. all_put copy_place (UpTo n) QUEUE_LIMIT e s.queue fit q) h
 queues_changed n (SetCopy birth place phase) r fit h =
-    queues_in n birth (with_phase place phase) r.sessions (λ s q. each_change copy_place (UpTo n) place (in_phase phase) s.queue (λ e u. u) q) h
+    queues_in n birth (with_phase place phase) r.sessions (λ s q. all_changed copy_place (UpTo n) place (in_phase phase) s.queue (λ e u. u) q) h
 queues_changed n (RemoveCopy birth place) r fit h =
     queues_in n birth (without_copy place) r.sessions (λ s q. each_filter (UpTo n) (λ e. not (nat_eq (copy_place e) place)) s.queue q) h
 queues_changed n (PutRetained kept) r fit h = h
@@ -201,7 +180,7 @@ accepted_deed (Begin row (Some will)) b q h =
 accepted_deed (At who part) b q h = accepted_part who part b q h
 accepted_deed (Finish who) b q h = (each_filter (HasCopiesUpTo b.records.publications) (λ s. not (nat_eq (birth_of s) who.birth)) b.records.sessions h.0, h.1)
 accepted_deed (Keep kept) b q h =
-    (h.0, each_put kept_place (λ k. k.publication ≤ b.records.publications) RETAINED_LIMIT kept b.records.retained (omega (arith, q)) h.1)
+    (h.0, all_put kept_place (λ k. k.publication ≤ b.records.publications) RETAINED_LIMIT kept b.records.retained (omega (arith, q)) h.1)
 accepted_deed (Forget place) b q h = (h.0, each_filter (λ k. k.publication ≤ b.records.publications) (λ k. not (nat_eq (kept_place k) place)) b.records.retained h.1)
 accepted_deed d b q h = h
 

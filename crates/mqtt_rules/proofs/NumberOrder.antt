@@ -19,7 +19,7 @@ use Rattle.mqtt_rules.specs.Deeds.{Deed, rows_of, rows_of_all, after, after_all}
 use Rattle.mqtt_rules.specs.Step.{Call, deeds, at_moment, env_of, with_moment, done, stepped, opening, unopened, opened}
 use Rattle.mqtt_rules.specs.Numbers.{IsInOrder, AreInOrder}
 use Rattle.mqtt_rules.proofs.Copies.{each_filter}
-use Rattle.mqtt_rules.proofs.NumberCopies.{each_put, each_change}
+use Rattle.mqtt_rules.proofs.FlightRows.{all_put, all_changed}
 
 -- sessions, and what each has
 abbrev SessionsInOrder : List Session → Type 0
@@ -32,13 +32,13 @@ order_cond false xs ys p q = q
 order_put_session : (row : Columns) (ss : List Session) → SessionsInOrder ss → SessionsInOrder (put_session row ss)
 order_put_session row ss h =
     order_cond (has_row birth_of row.birth ss) (change_row birth_of row.birth (with_columns row) ss) (put_row birth_of SESSION_LIMIT (fresh row) ss)
-    (change-ascending birth_of row.birth (with_columns row) ss (λ s. refl) h.0, each_change birth_of IsInOrder row.birth (with_columns row) ss (λ s o. o) h.1)
-    (put-ascending birth_of SESSION_LIMIT (fresh row) ss h.0, each_put birth_of IsInOrder SESSION_LIMIT (fresh row) ss (tt, tt, tt) h.1)
+    (change-ascending birth_of row.birth (with_columns row) ss (λ s. refl) h.0, all_changed birth_of IsInOrder row.birth (with_columns row) ss (λ s o. o) h.1)
+    (put-ascending birth_of SESSION_LIMIT (fresh row) ss h.0, all_put birth_of IsInOrder SESSION_LIMIT (fresh row) ss (tt, tt, tt) h.1)
 
 -- a part of a session changed, which keeps its birth and its order
 order_in : (birth : ℕ) (f : Session → Session) (r : Records) → ((s : Session) → birth_of (f s) ≡ birth_of s) → ((s : Session) → IsInOrder s → IsInOrder (f s)) → AreInOrder r → AreInOrder (in_session birth f r)
 order_in birth f r same kept h =
-    (change-ascending birth_of birth f r.sessions same h.0, each_change birth_of IsInOrder birth f r.sessions kept h.1, h.2)
+    (change-ascending birth_of birth f r.sessions same h.0, all_changed birth_of IsInOrder birth f r.sessions kept h.1, h.2)
 
 order_counter : (counter : Counter) (value : ℕ) (r : Records) → AreInOrder r → AreInOrder (with_counter counter value r)
 order_counter Births value r h = h

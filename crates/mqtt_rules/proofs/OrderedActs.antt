@@ -18,12 +18,12 @@ use Rattle.mqtt_records.specs.declared.change.Change.{Change}
 use Rattle.mqtt_rows.specs.Order.{row_at}
 use Rattle.mqtt_records.specs.Session.{birth_of, copy_place, auto}
 use Rattle.mqtt_rules.specs.Packets.{connack}
-use Rattle.mqtt_rules.specs.State.{Line, Broker, Env, stored, session_at, session_named}
-use Rattle.mqtt_rules.specs.Deeds.{whose, Message, Origin, FromClient, Part, Resume, Close, Open, Enter, Leave, Hear, SetAlias, Deed, Accept, Begin, Name, Count, At, Finish, Keep, Forget, RefuseWill, Link, On, Send, Act, after, after_all, rows_of_all, stored_after, then, always, series, only_if, with_session, of_session, with_line, offer}
+use Rattle.mqtt_rules.specs.State.{Line, Broker, Env, stored, session_at}
+use Rattle.mqtt_rules.specs.Deeds.{whose, Message, Origin, FromClient, Part, Resume, Close, Open, Enter, Leave, Hear, SetAlias, Deed, Accept, Begin, Name, Count, At, Finish, Keep, Forget, RefuseWill, Link, On, Send, Act, after, after_all, rows_of_all, stored_after, then, always, series, with_session, of_session, offer}
 use Rattle.mqtt_rules.specs.Outbound.{of_entry, leave_deeds, turn_deeds, all_turn_deeds, room}
 use Rattle.mqtt_rules.specs.Routing.{CopyTo, accepted_copies, publish, is_queued}
 use Rattle.mqtt_rules.specs.Closing.{end_session}
-use Rattle.mqtt_rules.specs.Connect.{of_client, greet, expiry_of, will_of, connack_properties, fresh_row, begin, begin_named}
+use Rattle.mqtt_rules.specs.Connect.{greet, expiry_of, will_of, connack_properties, fresh_row, begin, begin_named}
 use Rattle.mqtt_rules.specs.Inbound.{pump_turns, pump_deeds}
 use Rattle.mqtt_rules.specs.Subscribe as sub
 use Rattle.mqtt_rules.proofs.Goods.{after_append, AreGood}
@@ -122,23 +122,12 @@ module _ (P : Records → Type 0) where
   keeps_map f h [] = tt
   keeps_map f h (x ∷ xs) = (h x, keeps_map f h xs)
 
-  pub keeps_if : (t : Bool) (act : Act) → Keeps act → Keeps (only_if t act)
-  keeps_if true act h b p = h b p
-  keeps_if false act h b p = p
-
   pub keeps_with : (s : Option Session) (f : Session → Act) → ((t : Session) → Keeps (f t)) → Keeps (with_session s f)
   keeps_with None f h b p = p
   keeps_with (Some s) f h b p = h s b p
 
   pub keeps_of : (birth : ℕ) (f : Session → Act) → ((t : Session) → Keeps (f t)) → Keeps (of_session birth f)
   keeps_of birth f h b p = keeps_with (session_at birth b.records) f h b p
-
-  pub keeps_client : (client : List ℕ) (f : Session → Act) → ((t : Session) → Keeps (f t)) → Keeps (of_client client f)
-  keeps_client client f h b p = keeps_with (session_named client b.records) f h b p
-
-  pub keeps_line : (l : Option Line) (f : Line → Act) → ((m : Line) → Keeps (f m)) → Keeps (with_line l f)
-  keeps_line None f h b p = p
-  keeps_line (Some l) f h b p = h l b p
 
 -- ---- what the deeds of a step have to keep
 

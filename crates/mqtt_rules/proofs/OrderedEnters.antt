@@ -211,7 +211,7 @@ record Left (birth : ℕ) (q : List CopyRow) (ss new : List Session) : Type 0 wh
   others : (other : ℕ) → nat_eq birth other ≡ false → row_at birth_of other new ≡ row_at birth_of other ss
 
 -- one leaves
-leave_found : (s now : Session) (place : ℕ) (ending : Ending) (b : Broker) (o : Option CopyRow) → row_at copy_place place s.queue ≡ o → is_some o ≡ true → session_at s.birth b.records ≡ Some now
+pub leave_found : (s now : Session) (place : ℕ) (ending : Ending) (b : Broker) (o : Option CopyRow) → row_at copy_place place s.queue ≡ o → is_some o ≡ true → session_at s.birth b.records ≡ Some now
     → (stored (after_all (of_entry o (λ e. At (whose s) (Leave e ending) ∷ [])) b)).sessions ≡ change_row birth_of s.birth (without_copy place) b.records.sessions
 leave_found s now place ending b None is there found = absurd cc
 leave_found s now place ending b (Some e) is there found =

@@ -103,7 +103,7 @@ naming_call (Lost n) b = λ l e. tt
 naming_call (Pump n) b = λ l e. tt
 naming_call Tick b = record { silent = λ l e. tt; wills = λ s e. tt; ends = λ s e. tt }
 
-queues_short : (ss : List Session) → AllByRecursion HasTables ss → AreShort QUEUE_LIMIT ss
+pub queues_short : (ss : List Session) → AllByRecursion HasTables ss → AreShort QUEUE_LIMIT ss
 queues_short [] h = tt
 queues_short (s ∷ ss) h = (h.0.queue.within, queues_short ss h.1)
 

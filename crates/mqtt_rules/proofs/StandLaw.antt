@@ -1,5 +1,5 @@
 -- In every step a copy that leaves stands in its queue, and so does one whose phase is set.
-use Rattle.std.proofs.Common.{◌≡◌, ℕ, suc, ◌≤◌, Bool, true, false, List, [], ◌∷◌, filter, map, Option, Some, None, ap, subst, ◌∙◌, arith, inl, inr}
+use Rattle.std.proofs.Common.{◌≡◌, ℕ, suc, ◌≤◌, Bool, true, false, List, [], ◌∷◌, filter, map, Option, Some, None, ap, ◌∙◌, arith}
 use Rattle.std.specs.Prelude.{flat_map, nat_le}
 use Rattle.std.specs.List.{AllByRecursion}
 use Rattle.mqtt_base.specs.declared.session.Ending.TheVariants.{SessionEnded}
@@ -34,6 +34,7 @@ use Rattle.mqtt_rules.proofs.FlightRows.{found_key, all_at, all_found}
 use Rattle.mqtt_rules.proofs.Ordered.{changed_all-ordered}
 use Rattle.mqtt_rules.proofs.Turns.{Stands, still_now, stands_turn, stands_turns, stands_leaves, stands_ended}
 use Rattle.mqtt_rules.proofs.TurnLists.{answers_rise, pumps_rise, lapses_rise, drops_rise}
+use Rattle.mqtt_rules.proofs.FitLaw.{all_among}
 
 abbrev pub Orders : Broker → Type 0
 Orders b = IsOrdered b.records
@@ -46,15 +47,11 @@ ordered_all (d ∷ ds) b h = ordered_all ds (after d b) (changed_all-ordered (ro
 led : (ds : List Deed) (b : Broker) → Orders b → AreGood Stands ds b → Leads Orders Stands ds b
 led ds b h good = (good, ordered_all ds b h)
 
-rising : (s : Session) (b : Broker) → Orders b → session_at s.birth b.records ≡ Some s → IsAscending copy_place s.queue
+pub rising : (s : Session) (b : Broker) → Orders b → session_at s.birth b.records ≡ Some s → IsAscending copy_place s.queue
 rising s b h there = (all_at birth_of HasTables s.birth s b.records.sessions h.each there).queue.ascending
 
 own : (birth : ℕ) (s : Session) (b : Broker) → session_at birth b.records ≡ Some s → session_at s.birth b.records ≡ Some s
 own birth s b there = ap (λ (n : ℕ). session_at n b.records) (found_key birth_of birth s b.records.sessions there) ∙ there
-
-all_among : {X : Type 0} (P : X → Type 0) (x : X) (xs : List X) → AllByRecursion P xs → IsAmong x xs → P x
-all_among P x [] h among = absurd among
-all_among P x (y ∷ ys) h among = elim among [ inl it ↦ subst P it h.0 | inr more ↦ all_among P x ys h.1 more ]
 
 here : (s : Session) (b : Broker) → Orders b → IsAmong s b.records.sessions → session_at s.birth b.records ≡ Some s
 here s b h among = all_among (λ (x : Session). session_at x.birth b.records ≡ Some x) s b.records.sessions (all_found birth_of b.records.sessions h.sessions.ascending) among

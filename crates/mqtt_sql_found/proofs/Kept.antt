@@ -1,21 +1,16 @@
 -- Rows that show the lines of items, in tables that obey their schema, are those that are written from them.
-use Rattle.std.proofs.Common.{◌≡◌, ℕ, pos, true, false, ◌&&◌, IsTrue, List, [], ◌∷◌, drop, refl, sym, ap, ◌∙◌, inl, inr, true≢false}
+use Rattle.std.proofs.Common.{◌≡◌, ℕ, pos, IsTrue, List, [], ◌∷◌, drop, refl, sym, ap, ◌∙◌, inl, inr}
 use Rattle.std.specs.Prelude.{Some, None}
-use Rattle.std.proofs.lemmas.Bool.{false_from_ne_true, and_from}
+use Rattle.std.proofs.lemmas.Bool.{and_from}
 use Rattle.sqlite_value.specs.declared.value.Value.{Value}
 use Rattle.sqlite_value.specs.declared.value.Value.TheVariants.{Null, Int, Text, Blob}
-use Rattle.sqlite_value.specs.Keys.{plain, first_key}
 use Rattle.sqlite_value.specs.Order.{Row, column}
 use Rattle.sqlite_trees.specs.Tree.{Trees, rowid}
 use Rattle.sqlite_trees.specs.View.{is_int}
-use Rattle.sqlite_schema.specs.declared.schema.Constraint.TheVariants.{Unique}
-use Rattle.sqlite_schema.specs.Rules.{differ, agree, Obeys}
+use Rattle.sqlite_schema.specs.Rules.{Obeys}
 use Rattle.sqlite_rules.specs.Edit.{id_in}
 use Rattle.sqlite_rules.specs.Lists.{Has}
-use Rattle.sqlite_rules.proofs.KeyLemmas.{agree_back, agree_chain}
-use Rattle.sqlite_rules.proofs.ListLemmas.{all_has, some_from}
-use Rattle.sqlite_rules.proofs.PlaceLemmas.{tied_same}
-use Rattle.sqlite_rules.proofs.RuleLemmas.{keeps_at}
+use Rattle.sqlite_rules.proofs.ListLemmas.{all_has}
 use Rattle.sqlite_rules.proofs.TableLemmas.{int_is}
 use Rattle.mqtt_message.specs.declared.message.RetainedMessage.{RetainedMessage}
 use Rattle.mqtt_message.specs.declared.message.Will.{Will as WillMessage}
@@ -27,9 +22,9 @@ use Rattle.mqtt_sql_schema.specs.Tables.{keep_schema, meta, will, sub, inbound, 
 use Rattle.mqtt_sql_schema.specs.declared.schema.StoreTable.{StoreTable}
 use Rattle.mqtt_sql_schema.specs.declared.schema.StoreTable.TheVariants.{Meta, Session, Will, Subscription, Inbound, Copy, Retained}
 use Rattle.mqtt_sql_rows.specs.Values.{or_zero}
-use Rattle.mqtt_sql_write.specs.Content.{is_text, IsShapedAt}
-use Rattle.mqtt_sql_write.proofs.SetCopy.{same_rowid, one_copy, own_number}
-use Rattle.mqtt_sql_write.proofs.SetNumber.{own_text}
+use Rattle.mqtt_sql_write.specs.Content.{IsShapedAt}
+use Rattle.mqtt_sql_write.proofs.SetCopy.{one_copy, own_number}
+use Rattle.mqtt_sql_write.proofs.SetNumber.{own_text, one_name}
 use Rattle.mqtt_sql_read.specs.Listing.{shown, tree_of}
 use Rattle.mqtt_sql_kept.specs.Items.{IsNumberRow, IsSessionRow, IsWillRow, IsSubscriptionRow, IsOpenRow, IsCopyRow, IsRetainedRow}
 use Rattle.mqtt_sql_kept.specs.Written.{AreWritten, HasRows, AreAllSingle, AreInOrder, KeepsRows}
@@ -131,26 +126,12 @@ module _ (db : Trees) (obeys : Obeys keep_schema db) (order : AreInOrder db) whe
 
   -- ---- no two rows have one key
 
-  one_name : (name : List ℕ) (x one : Row) → Has (db 0) x → Has (db 0) one → is_text 1 name x ≡ true → is_text 1 name one ≡ true → x ≡ one
-  unfolding first_key
-  one_name name x one hx ho px po =
-      let passes = keeps_at Unique keep_schema db meta one (obeys.rules Unique) (inl refl) ho in
-      let params = Text name ∷ [] in
-      let ax : agree plain (1 ∷ []) x (0 ∷ []) params ≡ true = and_from _ _ px refl in
-      let ao : agree plain (1 ∷ []) one (0 ∷ []) params ≡ true = and_from _ _ po refl in
-      let both : agree plain (1 ∷ []) x (1 ∷ []) one ≡ true = agree_chain plain (1 ∷ []) (0 ∷ []) (1 ∷ []) x params one ax (agree_back plain (1 ∷ []) (0 ∷ []) one params ao) in
-      let clash = λ (d : differ (rowid x) (rowid one) ≡ true). some_from (λ other. agree plain (1 ∷ []) other (1 ∷ []) one && differ (rowid other) (rowid one)) (db 0) x hx (and_from _ _ both d) in
-      let near : differ (rowid x) (rowid one) ≡ false = false_from_ne_true _ (λ d. let bad = rw (clash d) at passes in true≢false (sym bad)) in
-      let ix = int_is (rowid x) (int_of 0 x order.meta hx) in
-      let io = int_is (rowid one) (int_of 0 one order.meta ho) in
-      tied_same (db 0) x one order.meta.up hx ho (rw (ix, io) (same_rowid _ _ (rw (ix, io) at near)))
-
   singles : (r : Records) → HasLines db r → AreAllSingle db
   singles r h = record {
     numbers = λ a b ha hb same.
         let it = h.meta.only b hb in
         let name : column b 1 ≡ Text it.0.0 = ap (λ (l : Row). column l 0) it.2 in
-        one_name it.0.0 a b ha hb (rw (same ∙ name) (own_text it.0.0)) (rw name (own_text it.0.0));
+        one_name db it.0.0 a b obeys order.meta ha hb (rw (same ∙ name) (own_text it.0.0)) (rw name (own_text it.0.0));
     copies = λ a b ha hb same place.
         let it = h.copies.only b hb in
         let first : column b 1 ≡ Int (pos it.0.0) = ap (λ (l : Row). column l 0) it.2 in

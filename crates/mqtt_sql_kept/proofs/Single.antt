@@ -3,8 +3,8 @@ use Rattle.std.proofs.Common.{◌≡◌, ℕ, Bool, false, not, List, filter, sy
 use Rattle.sqlite_value.specs.Order.{Row, column}
 use Rattle.sqlite_trees.specs.Tree.{Trees}
 use Rattle.sqlite_rules.specs.Lists.{Has}
+use Rattle.sqlite_rules.proofs.ListLemmas.{has_filtered}
 use Rattle.mqtt_sql_write.specs.Put.{PutsInto}
-use Rattle.mqtt_sql_write.proofs.Removal.{has_filter}
 use Rattle.mqtt_sql_write.proofs.Stands.{put_new}
 use Rattle.mqtt_sql_kept.proofs.Kept.{Named, Placed}
 
@@ -35,5 +35,5 @@ module _ (tree : ℕ) (put : Row) (gone : Row → Bool) (old new : Trees) (h : P
 
 pub placed_left : (gone : Row → Bool) (old new : List Row) → new ≡ filter (λ r. not (gone r)) old → Placed old → Placed new
 placed_left gone old new same was a b ha hb one two =
-    let back = λ (x : Row) (there : Has new x). (has_filter (λ r. not (gone r)) old x (subst (λ (l : List Row). Has l x) same there)).0 in
+    let back = λ (x : Row) (there : Has new x). (has_filtered (λ r. not (gone r)) old x (subst (λ (l : List Row). Has l x) same there)).0 in
     was a b (back a ha) (back b hb) one two

@@ -1,6 +1,5 @@
 -- What the statement of a change makes of the rows, and what it asks stands.
-use Rattle.std.proofs.Common.{◌≡◌, ℕ, ℤ, pos, true, List, [], ◌∷◌, sym, subst, true≢false}
-use Rattle.std.specs.Prelude.{Option, Some, None, is_some}
+use Rattle.std.proofs.Common.{◌≡◌, ℕ, ℤ, pos, true, List, [], ◌∷◌, sym, subst}
 use Rattle.sqlite_value.specs.declared.value.Value.TheVariants.{Int}
 use Rattle.sqlite_trees.specs.Tree.{Trees}
 use Rattle.sqlite_rules.specs.Lists.{Has}
@@ -12,11 +11,12 @@ use Rattle.mqtt_records.specs.declared.change.Counter.{Counter}
 use Rattle.mqtt_records.specs.declared.session.Session.{Session}
 use Rattle.mqtt_records.specs.declared.subscription.Subscription.{Subscription}
 use Rattle.mqtt_records.specs.declared.records.Records.{Records}
-use Rattle.mqtt_records.specs.Records.{changed, changed_all, counter_of, Fits, FitAll, HasSome}
+use Rattle.mqtt_records.specs.Records.{changed, changed_all, counter_of, Fits, FitAll}
 use Rattle.mqtt_records.specs.Session.{birth_of, copy_place}
-use Rattle.mqtt_rows.specs.Order.{row_at, has_row}
+use Rattle.mqtt_rows.specs.Order.{has_row}
 use Rattle.mqtt_sql_members.specs.Members.{InQueue}
 use Rattle.mqtt_sql_members.proofs.Members.{found_has}
+use Rattle.mqtt_sql_members.proofs.Owns.{some_row}
 use Rattle.mqtt_sql_write.specs.Columns.{subscription_row}
 use Rattle.mqtt_sql_write.specs.Copy.{CopyColumns, copy_row}
 use Rattle.mqtt_sql_write.specs.Numbers.{number_row, SetsNumber}
@@ -125,13 +125,6 @@ statement_keeps (change.RemoveRetained place) s db next r k o fits say is does =
     (retained.removal_keeps db next r k o place h, retained.removal_order db next r k o place h)
 
 -- ---- what is set stands
-
-some_row : {X : Type 0} (key : X → ℕ) (k : ℕ) (xs : List X) → has_row key k xs ≡ true → HasSome (row_at key k xs) (λ _. Unit {0})
-some_row key k xs h = go (row_at key k xs) h
-  where
-    go : {X : Type 0} (o : Option X) → is_some o ≡ true → HasSome o (λ _. Unit {0})
-    go None h = absurd (true≢false (sym h))
-    go (Some x) h = tt
 
 -- the copy that a change sets
 copy_stands : (birth place : ℕ) (phase : Phase) (r : Records) → Fits (change.SetCopy birth place phase) r → (y : CopyRow) × InQueue r birth y × (y.place ≡ place)

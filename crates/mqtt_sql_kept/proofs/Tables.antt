@@ -3,8 +3,8 @@ use Rattle.std.proofs.Common.{◌≡◌, ◌⊎◌, ℕ, Bool, true, false, not,
 use Rattle.sqlite_value.specs.Order.{Row}
 use Rattle.sqlite_trees.specs.Tree.{Trees}
 use Rattle.sqlite_rules.specs.Lists.{Has}
+use Rattle.sqlite_rules.proofs.ListLemmas.{has_filtered, has_kept}
 use Rattle.mqtt_sql_write.specs.Put.{PutsInto, IsFree}
-use Rattle.mqtt_sql_write.proofs.Removal.{has_filter, filter_has}
 use Rattle.mqtt_sql_write.proofs.Stands.{put_new, put_old}
 use Rattle.mqtt_sql_kept.specs.Written.{AreWritten}
 
@@ -31,10 +31,10 @@ module _ {X : Type 0} (IsRow : X → Row → Type 0) (Item Next : X → Type 0) 
       each = λ x n.
           let was = to x n in
           let it = written.each x was.0 in
-          let stays = filter_has (λ r. not (gone r)) old it.0 it.1 (ap not (stay x it.0 was.0 it.1 it.2 was.1)) in
+          let stays = has_kept (λ r. not (gone r)) old it.0 it.1 (ap not (stay x it.0 was.0 it.1 it.2 was.1)) in
           (it.0, subst (λ (l : List Row). Has l it.0) (sym same) stays, it.2);
       only = λ row h.
-          let there = has_filter (λ r. not (gone r)) old row (subst (λ (l : List Row). Has l row) same h) in
+          let there = has_filtered (λ r. not (gone r)) old row (subst (λ (l : List Row). Has l row) same h) in
           let it = written.only row there.0 in
           (it.0, back it.0 (it.1, out it.0 row it.1 there.0 it.2 (untrue (gone row) there.1)), it.2);
     }

@@ -1,6 +1,5 @@
 -- The tables that a statement leaves alone, and the order of the rows after it.
-use Rattle.std.proofs.Common.{◌≡◌, ◌≢◌, ℕ, ℤ, Bool, not, ◌==◌, filter, refl, sym, subst, inl, inr, arith, IsTrue}
-use Rattle.std.proofs.lemmas.Bool.{cases_Bool, eqb-true, eqb-false}
+use Rattle.std.proofs.Common.{◌≡◌, ◌≢◌, ℕ, ℤ, Bool, not, filter, refl, arith, IsTrue}
 use Rattle.sqlite_value.specs.declared.value.Value.TheVariants.{Int}
 use Rattle.sqlite_value.specs.Order.{Row}
 use Rattle.sqlite_trees.specs.Tree.{Trees, rowid}
@@ -14,7 +13,7 @@ use Rattle.mqtt_sql_write.specs.Put.{PutsInto}
 use Rattle.mqtt_sql_write.specs.Removal.{RemovesFrom}
 use Rattle.mqtt_sql_write.proofs.RemovesSession.{not_tree}
 use Rattle.mqtt_sql_write.proofs.Removal.{shaped_left}
-use Rattle.mqtt_sql_write.proofs.Whole.{Spares}
+use Rattle.mqtt_sql_write.proofs.Whole.{Spares, at_tree, kept_shape}
 use Rattle.mqtt_sql_kept.specs.Written.{AreInOrder}
 
 -- ---- no table's tree is an index
@@ -63,15 +62,6 @@ module _ (tree : ℕ) (old new : Trees) (others : Spares tree old new) where
   retained_same other = others 11 other no_index_11
 
 -- ---- the rows rise after it
-
-at_tree : (a b : Trees) (t : ℕ) → b t ≡ a t → IsShapedAt a t → IsShapedAt b t
-at_tree a b t same h = record { up = rw same h.up; ints = rw same h.ints }
-
-kept_shape : (tree t : ℕ) (old new : Trees) → Spares tree old new → IsShapedAt new tree → IsNoIndex keep_schema t → IsShapedAt old t → IsShapedAt new t
-kept_shape tree t old new others own spared was = elim (cases_Bool (t == tree)) [
-  | inl same ↦ subst (IsShapedAt new) (sym (eqb-true t tree same)) own
-  | inr other ↦ at_tree old new t (others t (eqb-false t tree other) spared) was
-]
 
 in_order : (tree : ℕ) (old new : Trees) → Spares tree old new → IsShapedAt new tree → AreInOrder old → AreInOrder new
 in_order tree old new others own h =

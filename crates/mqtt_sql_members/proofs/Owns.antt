@@ -14,7 +14,8 @@ use Rattle.mqtt_records.specs.Records.{changed, HasSome, kept_place}
 use Rattle.mqtt_sql_members.specs.Members.{Has, HasColumns}
 use Rattle.mqtt_sql_members.proofs.Members.{changed_new, changed_old, inserted_new, inserted_old, removed_new, removed_old, found_has}
 
-some_row : {X : Type 0} (key : X → ℕ) (k : ℕ) (xs : List X) → has_row key k xs ≡ true → HasSome (row_at key k xs) (λ _. Unit {0})
+-- a row that stands is found
+pub some_row : {X : Type 0} (key : X → ℕ) (k : ℕ) (xs : List X) → has_row key k xs ≡ true → HasSome (row_at key k xs) (λ _. Unit {0})
 some_row key k xs h = go (row_at key k xs) h
   where
     go : {X : Type 0} (o : Option X) → is_some o ≡ true → HasSome o (λ _. Unit {0})

@@ -1,6 +1,5 @@
 -- DELETE by key from a table to which no other refers, from its text on.
-use Rattle.std.proofs.Common.{◌≡◌, ◌≢◌, ℕ, ℤ, Bool, true, false, not, ◌&&◌, List, [], ◌∷◌, filter, map, slice_get, codes, Some, None, Ok, Err, Result, OnOk, refl, sym, ap, ◌∙◌, subst, inl, inr, IsTrue, true≢false, arith}
-use Rattle.std.proofs.lemmas.Bool.{cases_Bool}
+use Rattle.std.proofs.Common.{◌≡◌, ◌≢◌, ℕ, ℤ, Bool, true, false, not, ◌&&◌, List, [], ◌∷◌, filter, map, slice_get, codes, Some, None, Ok, Err, Result, OnOk, refl, sym, ap, ◌∙◌, subst, inl, inr, IsTrue, arith}
 use Rattle.std.proofs.lemmas.List.Sorted.{IsPermutation-sym}
 use Rattle.sqlite_value.specs.declared.value.Value.TheVariants.{Null, Int}
 use Rattle.sqlite_value.specs.Keys.{joined}
@@ -16,7 +15,7 @@ use Rattle.sqlite_rules.specs.Lists.{Has}
 use Rattle.sqlite_rules.specs.Edit.{edit_of, id_in, taken_by, without_all}
 use Rattle.sqlite_rules.specs.Calls.{ids_of}
 use Rattle.sqlite_rules.specs.Action.{works}
-use Rattle.sqlite_rules.proofs.ListLemmas.{all_has}
+use Rattle.sqlite_rules.proofs.ListLemmas.{all_has, has_filtered, has_kept}
 use Rattle.sqlite_rules.proofs.TableLemmas.{int_is}
 use Rattle.sqlite_rules.specs.declared.error.Rowids.TheVariants.{Given}
 use Rattle.sqlite.specs.Command.TheVariants.{Delete}
@@ -36,22 +35,7 @@ use Rattle.mqtt_sql_write.proofs.Rows.{without_those, has_permuted, filter_alike
 use Rattle.mqtt_sql_write.proofs.Commands.{over, program, equals}
 use Rattle.mqtt_sql_write.proofs.Parts.{passes, shows, answers_over, deleted}
 use Rattle.mqtt_sql_write.proofs.RemovesSession.{not_tree}
-
-pub has_filter : {X : Type 0} (p : X → Bool) (xs : List X) (x : X) → Has (filter p xs) x → Has xs x × (p x ≡ true)
-has_filter p [] x h = absurd h
-has_filter p (y ∷ ys) x h = elim (cases_Bool (p y)) [
-  | inl stays ↦
-      let there : Has (y ∷ filter p ys) x = rw stays at h in
-      elim there [ inl here ↦ (inl here, ap p here ∙ stays) | inr later ↦ let it = has_filter p ys x later in (inr it.0, it.1) ]
-  | inr goes ↦ let there : Has (filter p ys) x = rw goes at h in let it = has_filter p ys x there in (inr it.0, it.1)
-]
-
-pub filter_has : {X : Type 0} (p : X → Bool) (xs : List X) (x : X) → Has xs x → p x ≡ true → Has (filter p xs) x
-filter_has p [] x h passes = absurd h
-filter_has p (y ∷ ys) x h passes = elim (cases_Bool (p y)) [
-  | inl stays ↦ let there : Has (y ∷ filter p ys) x = elim h [ inl here ↦ inl here | inr later ↦ inr (filter_has p ys x later passes) ] in rw stays there
-  | inr goes ↦ rw goes (elim h [ inl here ↦ absurd (true≢false (sym passes ∙ (ap p here ∙ goes))) | inr later ↦ filter_has p ys x later passes ])
-]
+use Rattle.mqtt_sql_write.proofs.Whole.{at_tree}
 
 pub has_map : {X Y : Type 0} (f : X → Y) (xs : List X) (y : Y) → Has (map f xs) y → (x : X) × Has xs x × (y ≡ f x)
 has_map f [] y h = absurd h
@@ -76,20 +60,17 @@ gone_are tree tests params db rows shaped a =
     (λ id h.
     let y = has_map (λ (r : Row). id_in (rowid r)) rows id h in
     let it = has_map (shows params numbers) found y.0 (has_permuted rows (map (shows params numbers) found) y.0 (IsPermutation-sym _ _ p) y.1) in
-    let r = has_filter (passes params tests) (db tree) it.0 it.1 in
+    let r = has_filtered (passes params tests) (db tree) it.0 it.1 in
     let number : id ≡ id_in (rowid it.0) = y.2 ∙ ap (λ (z : Row). id_in (rowid z)) it.2 in
     (it.0, r.0, r.1, int_is (rowid it.0) (all_has _ (db tree) it.0 shaped.ints r.0) ∙ ap Int (sym number)))
     (λ r id h same there.
-    let shown = has_permuted (map (shows params numbers) found) rows (shows params numbers r) p (map_has (shows params numbers) found r (filter_has (passes params tests) (db tree) r h same)) in
+    let shown = has_permuted (map (shows params numbers) found) rows (shows params numbers r) p (map_has (shows params numbers) found r (has_kept (passes params tests) (db tree) r h same)) in
     subst (Has (ids_of rows)) (ap id_in there) (map_has (λ (z : Row). id_in (rowid z)) rows (shows params numbers r) shown))
 
 pub shaped_left : (a b : Trees) (t : ℕ) (gone : Row → Bool) → b t ≡ filter (λ r. not (gone r)) (a t) → IsShapedAt a t → IsShapedAt b t
 shaped_left a b t gone same h =
     let both = IsShaped-filter TableShape (λ r. not (gone r)) (a t) (h.up, h.ints) in
     record { up = rw same both.0; ints = rw same both.1 }
-
-at_tree : (a b : Trees) (t : ℕ) → b t ≡ a t → IsShapedAt a t → IsShapedAt b t
-at_tree a b t same h = record { up = rw same h.up; ints = rw same h.ints }
 
 module _ (text : List ℕ) (at : ℕ) (table : Table) (tests : List Term) (params : Row) (is : command_of (understood keep_schema text) ≡ Delete at (program (over table.tree tests numbers))) (plain : IsPlain (understood keep_schema text))
     (is_at : slice_get keep_schema.tables at ≡ Some table) (childless : (olds : List Row) → works keep_schema Enforced 0 table.tree olds [] ≡ []) where

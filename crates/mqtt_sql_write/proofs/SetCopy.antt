@@ -57,6 +57,7 @@ use Rattle.mqtt_sql_write.proofs.Parts.{passes, shows, answers_over, updated}
 use Rattle.mqtt_sql_write.proofs.RemoveSession.{equal_ids, only_row}
 use Rattle.mqtt_sql_write.proofs.RemovesSession.{not_tree}
 use Rattle.mqtt_sql_write.proofs.SetAny.{any_whole}
+use Rattle.mqtt_sql_write.proofs.Whole.{at_tree}
 
 abbrev pub set_copy_text : List ℕ
 set_copy_text = codes "UPDATE copy SET pid = ?3, phase = ?4, rel = ?5 WHERE birth = ?1 AND place = ?2"
@@ -166,9 +167,6 @@ module _ (birth place phase : ℕ) (pid rel : Option ℕ) (db after : Trees) (c 
 
 abbrev set_program : Rattle.sqlite_schema.specs.declared.program.Program.Program
 set_program = program (over 9 set_tests set_project)
-
-at_tree : (a b : Trees) (t : ℕ) → b t ≡ a t → IsShapedAt a t → IsShapedAt b t
-at_tree a b t same h = record { up = rw same h.up; ints = rw same h.ints }
 
 pub sets_copy : (birth place phase : ℕ) (pid rel : Option ℕ) (old new : State) (id : ℤ) (c : CopyColumns) (r : Result ℕ Error) → IsReady old → Has (old.now.trees 9) (Int id ∷ copy_row birth place c)
     → ExecutesInside 0 set_copy_text (Int (pos birth) ∷ Int (pos place) ∷ number_or_null pid ∷ Int (pos phase) ∷ number_or_null rel ∷ []) old new r

@@ -83,7 +83,7 @@ unfolding binary
 own_text t = truth_of _ ∙ ap is_eq (tied_itself value_cmp_total (Text t))
 
 -- no two rows have one name
-one_name : (db : Trees) (name : List ℕ) (x one : Row) → Obeys keep_schema db → IsShapedAt db 0 → Has (db 0) x → Has (db 0) one → is_text 1 name x ≡ true → is_text 1 name one ≡ true → x ≡ one
+pub one_name : (db : Trees) (name : List ℕ) (x one : Row) → Obeys keep_schema db → IsShapedAt db 0 → Has (db 0) x → Has (db 0) one → is_text 1 name x ≡ true → is_text 1 name one ≡ true → x ≡ one
 unfolding first_key
 one_name db name x one obeys shaped hx ho px po =
     let passes = keeps_at Unique keep_schema db meta one (obeys.rules Unique) (inl refl) ho in

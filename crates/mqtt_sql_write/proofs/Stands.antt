@@ -7,13 +7,12 @@ use Rattle.sqlite_value.specs.Order.{Row, value_cmp}
 use Rattle.sqlite_trees.specs.Tree.{Trees, rowid, put_row}
 use Rattle.sqlite_rules.specs.Lists.{Has}
 use Rattle.sqlite_rules.specs.Edit.{next_rowid, is_taken}
-use Rattle.sqlite_rules.proofs.ListLemmas.{all_has, some_has}
+use Rattle.sqlite_rules.proofs.ListLemmas.{all_has, some_has, has_filtered, has_kept}
 use Rattle.sqlite_rules.proofs.TableLemmas.{has_put, put_has, put_all_keeps}
 use Rattle.mqtt_sql_write.specs.Content.{is_of, IsShapedAt}
 use Rattle.mqtt_sql_write.specs.Removal.{RemovesFrom}
 use Rattle.mqtt_sql_write.specs.Put.{PutsInto, numbered, IsFree}
 use Rattle.mqtt_sql_write.proofs.RemoveSession.{equal_ids}
-use Rattle.mqtt_sql_write.proofs.Removal.{has_filter, filter_has}
 use Rattle.mqtt_sql_write.proofs.Fresh.{apart}
 
 untrue : (b : Bool) → not b ≡ true → b ≡ false
@@ -22,10 +21,10 @@ untrue false h = refl
 
 module _ (gone : Row → Bool) (rows : List Row) (x : Row) where
   stays_new : Has (filter (λ r. not (gone r)) rows) x → Has rows x × (gone x ≡ false)
-  stays_new h = let it = has_filter (λ r. not (gone r)) rows x h in (it.0, untrue (gone x) it.1)
+  stays_new h = let it = has_filtered (λ r. not (gone r)) rows x h in (it.0, untrue (gone x) it.1)
 
   stays_old : Has rows x × (gone x ≡ false) → Has (filter (λ r. not (gone r)) rows) x
-  stays_old it = filter_has (λ r. not (gone r)) rows x it.0 (ap not it.1)
+  stays_old it = has_kept (λ r. not (gone r)) rows x it.0 (ap not it.1)
 
 module _ (tree : ℕ) (gone : Row → Bool) (before after : Trees) (x : Row) where
   pub removed_new : RemovesFrom tree gone before after → Has (after tree) x → Has (before tree) x × (gone x ≡ false)
@@ -44,7 +43,7 @@ module _ (tree : ℕ) (gone : Row → Bool) (before after : Trees) (x : Row) whe
     untaken : IsFree put gone (before tree) → is_taken (filter (λ r. not (gone r)) (before tree)) put ≡ false
     untaken free = false_from_ne_true _ (λ taken.
         let one = some_has (λ r. is_eq (value_cmp (rowid r) (rowid put))) (filter (λ r. not (gone r)) (before tree)) taken in
-        let it = has_filter (λ r. not (gone r)) (before tree) one.0 one.1 in
+        let it = has_filtered (λ r. not (gone r)) (before tree) one.0 one.1 in
         true≢false (sym one.2 ∙ free one.0 it.0 (untrue (gone one.0) it.1)))
 
     pub put_old : PutsInto tree put gone before after → IsFree put gone (before tree) → (x ≡ put) ⊎ (Has (before tree) x × (gone x ≡ false)) → Has (after tree) x

@@ -12,10 +12,12 @@ use Rattle.mqtt_sql_write.proofs.RemovesSession.{not_tree}
 abbrev pub Spares : ℕ → Trees → Trees → Type 0
 Spares tree old new = (t : ℕ) → t ≢ tree → IsNoIndex keep_schema t → new t ≡ old t
 
-at_tree : (a b : Trees) (t : ℕ) → b t ≡ a t → IsShapedAt a t → IsShapedAt b t
+-- a tree that is left alone keeps its shape
+pub at_tree : (a b : Trees) (t : ℕ) → b t ≡ a t → IsShapedAt a t → IsShapedAt b t
 at_tree a b t same h = record { up = rw same h.up; ints = rw same h.ints }
 
-kept_shape : (tree t : ℕ) (old new : Trees) → Spares tree old new → IsShapedAt new tree → IsNoIndex keep_schema t → IsShapedAt old t → IsShapedAt new t
+-- so does each but the one that a statement is about
+pub kept_shape : (tree t : ℕ) (old new : Trees) → Spares tree old new → IsShapedAt new tree → IsNoIndex keep_schema t → IsShapedAt old t → IsShapedAt new t
 kept_shape tree t old new others own spared was = elim (cases_Bool (t == tree)) [
   | inl same ↦ subst (IsShapedAt new) (sym (eqb-true t tree same)) own
   | inr other ↦ at_tree old new t (others t (eqb-false t tree other) spared) was

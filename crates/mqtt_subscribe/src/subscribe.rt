@@ -12,7 +12,7 @@ use mqtt_props::{Place, PropList, PropsRef, layout_read};
 use std::alloc::{AllocError, Global};
 
 /// A SUBSCRIBE (3.8).
-#[derive(Drop)]
+#[derive(Debug, Drop)]
 pub struct Subscribe {
     /// The packet identifier; lawful from 1 (2.2.1).
     pub identifier: u16,
@@ -23,7 +23,7 @@ pub struct Subscribe {
 }
 
 /// A SUBSCRIBE that stands in a frame.
-#[derive(Drop)]
+#[derive(Debug, Drop)]
 pub struct SubscribeRef<'a> {
     /// The packet identifier; lawful from 1 (2.2.1).
     pub identifier: u16,
@@ -118,8 +118,10 @@ impl Subscribe {
     pub fn fits(&self) -> bool
         ensures { IsTrue result ↔ FitsSubscribe self.now }
     {
+        // This shows that the number fits into its two bytes.
         let _identifier = self.identifier;
         let subscriptions = self.subscriptions.lend();
+        // This shows that each filter has a spelling.
         let _len = subscriptions.len();
         let lent = self.properties.lend();
         stands(&lent, Place::Subscribe)

@@ -12,7 +12,7 @@ use mqtt_props::{Place, PropList, PropsRef, layout_read};
 use std::alloc::{AllocError, Global};
 
 /// An UNSUBSCRIBE (3.10).
-#[derive(Drop)]
+#[derive(Debug, Drop)]
 pub struct Unsubscribe {
     /// The packet identifier; lawful from 1 (2.2.1).
     pub identifier: u16,
@@ -23,7 +23,7 @@ pub struct Unsubscribe {
 }
 
 /// An UNSUBSCRIBE that stands in a frame.
-#[derive(Drop)]
+#[derive(Debug, Drop)]
 pub struct UnsubscribeRef<'a> {
     /// The packet identifier; lawful from 1 (2.2.1).
     pub identifier: u16,
@@ -117,8 +117,10 @@ impl Unsubscribe {
     pub fn fits(&self) -> bool
         ensures { IsTrue result ↔ FitsUnsubscribe self.now }
     {
+        // This shows that the number fits into its two bytes.
         let _identifier = self.identifier;
         let filters = self.filters.lend();
+        // This shows that each filter has a spelling.
         let _len = filters.len();
         let lent = self.properties.lend();
         stands(&lent, Place::Unsubscribe)

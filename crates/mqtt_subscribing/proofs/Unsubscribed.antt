@@ -10,7 +10,6 @@ use Rattle.mqtt_acts.specs.TheRules.Deeds.{Act, Deed, always, of_session, with_s
 use Rattle.mqtt_acts.specs.TheRules.Packets.{unsuback}
 use Rattle.mqtt_acts.specs.TheRules.Subscribe.{drop_codes, unsubscribes, unsubscribe_by, on_unsubscribe}
 use Rattle.mqtt_acts.specs.TheTables.declared.fault.StepFault.{StepFault}
-use Rattle.mqtt_acts.specs.TheTables.declared.fault.StepFault.TheVariants.{Memory, Spent}
 use Rattle.mqtt_acts.specs.TheTables.Stepping.{Stepping, did, Did, IsLeft}
 use Rattle.mqtt_acts.proofs.TheTables.Doing.{did_none}
 use Rattle.mqtt_acts.proofs.TheTables.Then.{same_act, same_left, did_then, left_first, left_then}
@@ -25,12 +24,6 @@ with_found birth f x b found = ap (λ o. with_session o f b) (sym found)
 
 pub nobody : (birth : ℕ) (f : Session → Act) (s : Stepping) → session_at birth s.broker.records ≡ None → Did (of_session birth f) s s
 nobody birth f s none = record { is = sym (did_none s) ∙ ap (λ ds. did ds s) (sym (ap (λ o. with_session o f s.broker) none)) }
-
-pub memory_left : (act : Act) (fault : StepFault) (s : Stepping) → fault ≡ Memory → IsLeft act fault s s
-memory_left act fault s is = record { start = refl; limits = refl; spent = λ e. absurd (never (sym is ∙ e)) }
-  where
-    never : Memory ≡ Spent → ⊥
-    never e = absurd cc
 
 -- ---- as many codes as filters
 

@@ -18,7 +18,7 @@ use Rattle.mqtt_records.specs.Session.{birth_of, place_of, fresh, without_filter
 use Rattle.mqtt_records.specs.Records.{changed, changed_all, put_session, with_counter}
 use Rattle.mqtt_rules.specs.Subscribe.{Wish, is_to, place_of as place_by, subscription}
 use Rattle.mqtt_rules.proofs.Copies.{each_filter}
-use Rattle.mqtt_rules.proofs.NumberCopies.{each_put, each_change}
+use Rattle.mqtt_rules.proofs.FlightRows.{all_put, all_changed}
 use Rattle.mqtt_tables.specs.Subscribing.{filter_of, HasEachFilterOnce, HaveFiltersOnce, MaySubscribe}
 use Rattle.mqtt_tables.proofs.Filters.{text_same}
 
@@ -87,7 +87,7 @@ once_without : (f : List ℕ) (s : Session) → HasEachFilterOnce s → HasEachF
 once_without f s h = record { differ = differ_filtered (λ (y : Subscription). not (bytes_eq y.filter f)) s.subscriptions h.differ }
 
 once_in : (birth : ℕ) (f : Session → Session) (ss : List Session) → ((s : Session) → HasEachFilterOnce s → HasEachFilterOnce (f s)) → AllByRecursion HasEachFilterOnce ss → AllByRecursion HasEachFilterOnce (change_row birth_of birth f ss)
-once_in birth f ss kept h = each_change birth_of HasEachFilterOnce birth f ss kept h
+once_in birth f ss kept h = all_changed birth_of HasEachFilterOnce birth f ss kept h
 
 same_once : (s t : Session) → t.subscriptions ≡ s.subscriptions → HasEachFilterOnce s → HasEachFilterOnce t
 same_once s t same h = record { differ = subst (λ (xs : List Subscription). AllDiffer (map filter_of xs)) (sym same) h.differ }
@@ -107,7 +107,7 @@ once_session : (row : Columns) (ss : List Session) → AllByRecursion HasEachFil
 once_session row ss h =
     each_cond (has_row birth_of row.birth ss) (change_row birth_of row.birth (with_columns row) ss) (put_row birth_of SESSION_LIMIT (fresh row) ss)
     (once_in row.birth (with_columns row) ss (λ s q. same_once s (with_columns row s) refl q) h)
-    (each_put birth_of HasEachFilterOnce SESSION_LIMIT (fresh row) ss (record { differ = tt }) h)
+    (all_put birth_of HasEachFilterOnce SESSION_LIMIT (fresh row) ss (record { differ = tt }) h)
 
 once_changed : (change : Change) (r : Records) → HaveFiltersOnce r → HaveFiltersOnce (changed change r)
 once_changed (SetCounter counter value) r h = once_counter counter value r h

@@ -12,7 +12,7 @@ taken_back_push (x ∷ us) u b = ap (undone x) (taken_back_push us u b)
 pub start_stays : (us us2 : List Undo) (u : Undo) (b b2 : Broker) → us2 ≡ us ++ u ∷ [] → undone u b2 ≡ b → taken_back us2 b2 ≡ taken_back us b
 start_stays us us2 u b b2 us_is back = ap (λ xs. taken_back xs b2) us_is ∙ (taken_back_push us u b2 ∙ ap (taken_back us) back)
 
-two : {A B R : Type 0} (mk : A → B → R) {a1 a2 : A} {b1 b2 : B} → a1 ≡ a2 → b1 ≡ b2 → mk a1 b1 ≡ mk a2 b2
+pub two : {A B R : Type 0} (mk : A → B → R) {a1 a2 : A} {b1 b2 : B} → a1 ≡ a2 → b1 ≡ b2 → mk a1 b1 ≡ mk a2 b2
 two mk p q = cc
 
 abbrev changes : Broker → Broker → Changing

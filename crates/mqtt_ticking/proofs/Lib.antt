@@ -1,4 +1,5 @@
 pub mod Found
+pub mod Quiets
 pub mod Nonempty
 pub mod Told
 pub mod Ticked

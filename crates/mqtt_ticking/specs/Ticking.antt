@@ -1,6 +1,7 @@
 -- What is due, and what is done of it, by numbers of lines, births and places (MQTT 5.0, 3.1.2.10, 3.1.2.11.2,
 -- 3.1.3.2.2, 3.3.2.3.3).
 use Rattle.std.specs.Prelude.{ℕ, List, [], ◌∷◌, Option, Some, None, option_map}
+use Rattle.mqtt_records.specs.declared.records.Records.{Records}
 use Rattle.mqtt_closing.specs.TheRules.Deeds.{Act, Forget, with_line}
 use Rattle.mqtt_closing.specs.TheRules.State.{Broker, Env, line_at}
 use Rattle.mqtt_closing.specs.TheRules.Tick.{silence}
@@ -21,15 +22,18 @@ first_of [] = None
 first_of (Some due ∷ rest) = Some due
 first_of (None ∷ rest) = first_of rest
 
+-- what is due of what is stored
+abbrev pub stored_in : ℕ → Records → List (Option Due)
+stored_in now r =
+    option_map Will (will_due_in now r)
+    ∷ option_map End (end_due_in now r)
+    ∷ option_map Stale (stale_in now r)
+    ∷ option_map Lapse (lapsed_in now r)
+    ∷ []
+
 -- the first of the five that is due
 abbrev pub due_in : Broker → Option Due
-due_in b = first_of (
-    option_map Silence (silent_number_in b)
-    ∷ option_map Will (will_due_in b.now b.records)
-    ∷ option_map End (end_due_in b.now b.records)
-    ∷ option_map Stale (stale_in b.now b.records)
-    ∷ option_map Lapse (lapsed_in b.now b.records)
-    ∷ [])
+due_in b = first_of (option_map Silence (silent_number_in b) ∷ stored_in b.now b.records)
 
 -- a line that is silent closes, if it stands
 abbrev pub silences : ℕ → Env → Act

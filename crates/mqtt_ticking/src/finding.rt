@@ -7,7 +7,8 @@ ghost use Rattle.mqtt_closing.specs.TheRules.Step.{Tick, deeds_of, is_again};
 ghost use Rattle.mqtt_closing.specs.TheTables.Lines.{line_number};
 ghost use Rattle.mqtt_closing.specs.TheTables.Undoing.{moment_of};
 ghost use Rattle.mqtt_closing.specs.Ticking.{will_due_in, end_due_in, lapsed_in, stale_in};
-ghost use Rattle.mqtt_ticking.specs.Ticking.{silent_number_in, due_in, does_first};
+ghost use Rattle.mqtt_ticking.specs.Quiet.{AreQuietBefore};
+ghost use Rattle.mqtt_ticking.specs.Ticking.{silent_number_in, first_of, stored_in, due_in, does_first};
 
 use mqtt_closing::{Step, has_due_end, has_due_will, has_lapsed, is_stale, silent_line};
 use mqtt_records::{Boxed, Session};
@@ -110,14 +111,11 @@ fn in_order(step: &Step)
     step.lines();
 }
 
-/// The first of these that is due: a line is silent for too long; a Will; an end; a retained message has expired;
-/// copies that wait have expired. Each is the first of its kind. Takes no memory.
-fn first_due(step: &Step) -> Option<Due>
-    ensures { result ≡ due_in step.now.broker }
+/// The first of these that is due: a Will; an end; a retained message has expired; copies that wait have expired. Each
+/// is the first of its kind. It looks at all that is stored. Takes no memory.
+fn stored_due(step: &Step) -> Option<Due>
+    ensures { result ≡ first_of (stored_in (moment_of step.now.broker) step.now.broker.records) }
 {
-    if let Some(line) = silent_number(step) {
-        return Some(Due::Silence { line });
-    }
     if let Some(birth) = due_will(step) {
         return Some(Due::Will { birth });
     }
@@ -133,10 +131,27 @@ fn first_due(step: &Step) -> Option<Due>
     }
 }
 
+/// The first of these that is due: a line is silent for too long; what is stored, which isn't looked at before the
+/// moment `quiet`. Takes no memory.
+fn first_due(step: &Step, quiet: u64) -> Option<Due>
+    requires { AreQuietBefore quiet step.now.broker.records }
+    ensures { result ≡ due_in step.now.broker }
+{
+    if let Some(line) = silent_number(step) {
+        return Some(Due::Silence { line });
+    }
+    if step.moment() < quiet {
+        None
+    } else {
+        stored_due(step)
+    }
+}
+
 /// What is due, and nothing else is done in a turn of the clock: the first of these, where each is the first of its
 /// kind: a line is silent for too long; a Will; an end; a retained message has expired; copies that wait have expired.
-/// Takes no memory.
-pub fn next_due(step: &Step) -> Option<Due>
+/// Before the moment `quiet` nothing that is stored is due, and only lines are looked at. Takes no memory.
+pub fn next_due(step: &Step, quiet: u64) -> Option<Due>
+    requires { AreQuietBefore quiet step.now.broker.records }
     ensures exact { result ≡ due_in step.now.broker }
     ensures deeds { (env : Env) → deeds_of env Tick step.now.broker
         ≡ does_first result env step.now.broker }
@@ -144,5 +159,5 @@ pub fn next_due(step: &Step) -> Option<Due>
         ≡ is_some result }
 {
     in_order(step);
-    first_due(step)
+    first_due(step, quiet)
 }

@@ -3,7 +3,9 @@
 #![tactic(auto)]
 
 mod finding;
+mod quiet;
 mod ticking;
 
 pub use finding::{Due, due_end, due_will, lapsed_session, next_due, silent_number, stale_message};
+pub use quiet::{quiet_after, quiet_before};
 pub use ticking::tick;

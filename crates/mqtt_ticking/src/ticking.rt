@@ -7,6 +7,7 @@ ghost use Rattle.mqtt_closing.specs.TheRules.State.{Env};
 ghost use Rattle.mqtt_closing.specs.TheRules.Step.{Tick, deeds_of, is_again};
 ghost use Rattle.mqtt_closing.specs.Choosing.{DoesSome, LeavesSome};
 ghost use Rattle.mqtt_closing.specs.Wills.{will_at};
+ghost use Rattle.mqtt_ticking.specs.Quiet.{AreQuietBefore};
 ghost use Rattle.mqtt_ticking.specs.Ticking.{silences, does_due};
 
 use crate::finding::{Due, next_due};
@@ -53,8 +54,15 @@ fn act<R: Router>(alloc: Global, router: &mut R, step: &mut Step, due: Due) -> R
 }
 
 /// A turn of the clock: what is due is done, and the answer is whether anything was, so that there may be more
-/// (3.1.2.10, 3.1.2.11.2, 3.1.3.2.2, 3.3.2.3.3).
-pub fn tick<R: Router>(alloc: Global, router: &mut R, step: &mut Step) -> Result<bool, StepFault>
+/// (3.1.2.10, 3.1.2.11.2, 3.1.3.2.2, 3.3.2.3.3). Before the moment `quiet` nothing that is stored is due, and only lines
+/// are looked at.
+pub fn tick<R: Router>(
+    alloc: Global,
+    router: &mut R,
+    step: &mut Step,
+    quiet: u64,
+) -> Result<bool, StepFault>
+    requires quiet { AreQuietBefore quiet step.old.broker.records }
     requires serves { R.serves router.old (subscribers step.old.broker.records) }
     requires lawful { (birth : ℕ) → IsWilled (will_at birth step.old.broker.records) }
     ensures ok { OnOk result (DoesSome (λ env. deeds_of env Tick) step.old step.new) }
@@ -65,7 +73,7 @@ pub fn tick<R: Router>(alloc: Global, router: &mut R, step: &mut Step) -> Result
     ensures serves { (sessions : List Subscriber) → R.serves router.old sessions
         → R.serves router.new sessions }
 {
-    match next_due(step) {
+    match next_due(step, quiet) {
         Some(due) => {
             act(alloc, router, step, due)?;
             Ok(true)

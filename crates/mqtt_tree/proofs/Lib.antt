@@ -1,9 +1,6 @@
-mod Examples
-pub mod ChangeLemmas
-pub mod ChildLemmas
+pub mod OrderLemmas
+pub mod TextLemmas
+pub mod RunLemmas
 pub mod FoundLemmas
-pub mod GrowLemmas
-pub mod KeepLemmas
 pub mod NameLemmas
 pub mod PlaceLemmas
-pub mod WalkLemmas

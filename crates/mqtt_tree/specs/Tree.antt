@@ -1,183 +1,104 @@
--- A tree of the levels of filters, its nodes in one table by number, and the walk by the levels of a name (MQTT 5.0, 4.7).
-use Rattle.std.specs.Prelude.{◌≡◌, ⊤, ℕ, ◌+◌, Bool, true, false, cond, ◌&&◌, List, [], ◌∷◌, ◌++◌, bytes_eq, nat_eq, get_or, slice_index_or, Option, Some, None, IsSome, map, count_by}
-use Rattle.std.specs.declared.string.String.{String}
-use Rattle.std.specs.String.{string_bytes}
+-- Filters in the order of their levels, so that those which begin with the same levels are neighbours, as in a tree (MQTT 5.0, 4.7).
+use Rattle.std.specs.Prelude.{◌≡◌, ⊤, ℕ, ◌+◌, ◌<◌, ◌≤◌, Bool, true, false, cond, ◌&&◌, List, [], ◌∷◌, length, drop, get_or, nat_lt, nat_le, nat_eq, bytes_eq, Option, Some, None}
+use Rattle.std.specs.List.{All, count_by}
+use Rattle.std.specs.declared.cmp.Ordering.{Ordering}
+use Rattle.std.specs.declared.cmp.Ordering.TheVariants.{Less, Equal, Greater}
+use Rattle.std.specs.Ordering.{nat_cmp}
+use Rattle.std.specs.Cmp.Lexicographic.{slice_cmp}
 use Rattle.mqtt_topic.specs.Names.{has_wildcard}
 use Rattle.mqtt_topic.specs.Levels.{levels}
-use Rattle.mqtt_topic.specs.Filters.{is_plus, is_hash, are_filter_levels, is_filter}
-use Rattle.mqtt_topic.specs.Matching.{dollar, is_first, is_match}
+use Rattle.mqtt_tree.specs.declared.run.Run.{Run}
+use Rattle.mqtt_topic.specs.Matching.{matches_levels, is_match}
 
--- what ends at a node, what ends at it by a `#`, and the numbers of the nodes behind it: by `+`, and by a level's text
-pub record Node (X : Type 0) : Type 0 where
-  pub here : List X
-  pub below : List X
-  pub plus : Option ℕ
-  pub children : List (List ℕ × ℕ)
+-- ---- the order
 
--- an item with the levels of its filter
-pub record Planted (X : Type 0) : Type 0 where
-  pub levels : List (List ℕ)
-  pub item : X
+-- by the comparison of their first levels, or else of the others
+abbrev pub by_first : Ordering → Bool → Bool
+by_first Less rest = true
+by_first Equal rest = rest
+by_first Greater rest = false
 
--- children by the texts of their levels
-abbrev pub texts : {A : Type 0} → List (String A × ℕ) → List (List ℕ × ℕ)
-texts es = map (λ e. (string_bytes e.0, e.1)) es
+-- some levels don't come after others: level by level, in the order of their bytes, and fewer before more
+abbrev pub in_order : List (List ℕ) → List (List ℕ) → Bool
+in_order [] gs = true
+in_order (f ∷ fs) [] = false
+in_order (f ∷ fs) (g ∷ gs) = by_first (slice_cmp nat_cmp f g) (in_order fs gs)
 
--- the number behind a level's text
-abbrev pub child : List ℕ → List (List ℕ × ℕ) → Option ℕ
-child level [] = None
-child level (c ∷ cs) = cond (bytes_eq c.0 level) (Some c.1) (child level cs)
+-- some levels come before all that begin with a level; with `also`, those that begin with it too
+abbrev pub is_before : Bool → List ℕ → List (List ℕ) → Bool
+is_before also level [] = true
+is_before also level (f ∷ fs) = by_first (slice_cmp nat_cmp f level) also
 
--- two filters have the same levels
-abbrev pub are_same : List (List ℕ) → List (List ℕ) → Bool
-are_same [] [] = true
-are_same [] (g ∷ gs) = false
-are_same (f ∷ fs) [] = false
-are_same (f ∷ fs) (g ∷ gs) = bytes_eq f g && are_same fs gs
+abbrev pub begins_with : List ℕ → List (List ℕ) → Bool
+begins_with level [] = false
+begins_with level (f ∷ fs) = bytes_eq f level
 
-module _ {X : Type 0} where
-  -- where no node has a number, nothing stands
-  abbrev pub no_node : Node X
-  no_node = record { here = []; below = []; plus = None; children = [] }
+-- the levels of a text: all, or those behind the one that ends at a byte, which is that of a slash; at the text's end there are none
+abbrev pub levels_behind : Option ℕ → List ℕ → List (List ℕ)
+levels_behind None text = levels text
+levels_behind (Some end) text = cond (nat_lt end (length text)) (levels (drop (end + 1) text)) []
 
-  abbrev pub node : List (Node X) → ℕ → Node X
-  node nodes n = get_or nodes n no_node
+-- the byte at which they begin, and the one at which a level there ends
+abbrev pub start_behind : Option ℕ → ℕ
+start_behind None = 0
+start_behind (Some end) = end + 1
 
-  -- where no node stands, there is one without anything
-  abbrev pub node_or : Option (Node X) → Node X
-  node_or None = no_node
-  node_or (Some at) = at
+abbrev pub end_of : Option ℕ → List ℕ → ℕ
+end_of end level = start_behind end + length level
 
-  -- the table of some places, of which not all have a node
-  abbrev pub nodes_of : List (Option (Node X)) → List (Node X)
-  nodes_of places = map node_or places
+-- filters stand in the order of their levels
+abbrev pub AreOrdered : List (List ℕ) → Type 0
+AreOrdered texts = (i j : ℕ) → i ≤ j → j < length texts → in_order (levels (get_or texts i [])) (levels (get_or texts j [])) ≡ true
 
-  abbrev pub Stands : List (Option (Node X)) → ℕ → Type 0
-  Stands places n = IsSome (slice_index_or places n None)
+-- ---- neighbours
 
-  -- the number behind a level of a filter
-  abbrev pub behind : List ℕ → Node X → Option ℕ
-  behind level at = cond (is_plus level) at.plus (child level at.children)
+abbrev pub is_within : ℕ → Run → Bool
+is_within i run = nat_le run.from i && nat_lt i run.to
 
-  -- the number at the end of a way, which is a filter's levels without `#`, from a node on
-  abbrev pub reach : List (Node X) → List (List ℕ) → Option ℕ → Option ℕ
-  reach nodes fs None = None
-  reach nodes [] (Some n) = Some n
-  reach nodes (f ∷ fs) (Some n) = reach nodes fs (behind f (node nodes n))
+-- the levels of a filter that a run's filters don't have in common
+abbrev pub rest_of : List (List ℕ) → Run → ℕ → List (List ℕ)
+rest_of texts run i = levels_behind run.end (get_or texts i [])
 
-  -- `#` is the last level
-  abbrev pub ended : List (List ℕ) → Node X → List X
-  ended [] at = at.below
-  ended (f ∷ fs) at = []
+-- its filters stand, and what they don't have in common is in order
+pub record IsRun (texts : List (List ℕ)) (run : Run) : Type 0 where
+  pub some : run.from ≤ run.to
+  pub within : run.to ≤ length texts
+  pub ordered : (i j : ℕ) → run.from ≤ i → i ≤ j → j < run.to → in_order (rest_of texts run i) (rest_of texts run j) ≡ true
 
-  -- what stands at the levels of a filter, from a node on
-  abbrev pub standing : List (Node X) → List (List ℕ) → Option ℕ → List X
-  standing nodes fs None = []
-  standing nodes [] (Some n) = (node nodes n).here
-  standing nodes (f ∷ fs) (Some n) = cond (is_hash f) (ended fs (node nodes n)) (standing nodes fs (behind f (node nodes n)))
-
-  -- what a walk by the levels of a name finds, from a node on
-  abbrev pub walk : List (Node X) → List (List ℕ) → Option ℕ → List X
-  walk nodes ls None = []
-  walk nodes [] (Some n) = (node nodes n).below ++ (node nodes n).here
-  walk nodes (l ∷ ls) (Some n) = (node nodes n).below ++ (walk nodes ls (node nodes n).plus ++ walk nodes ls (child l (node nodes n).children))
-
-  -- how many of the items that walks from several nodes find pass a test
-  abbrev pub count_from : (X → Bool) → List (Node X) → List (List ℕ) → List ℕ → ℕ
-  count_from test nodes ls [] = 0
-  count_from test nodes ls (n ∷ ns) = count_by test (walk nodes ls (Some n)) + count_from test nodes ls ns
-
-  -- the items whose levels pass a test, in order
-  abbrev pub items_where : (List (List ℕ) → Bool) → List (Planted X) → List X
-  items_where test [] = []
-  items_where test (s ∷ ss) = cond (test s.levels) (s.item ∷ items_where test ss) (items_where test ss)
-
-  -- from a node on the table holds these items: at the levels of each filter those that have it, in their order
-  abbrev pub Holds : List (Node X) → Option ℕ → List (Planted X) → Type 0
-  Holds nodes from planted = (fs : List (List ℕ)) → standing nodes fs from ≡ items_where (λ ls. are_same ls fs) planted
-
-  -- their levels are those of filters
-  abbrev pub AreFilters : List (Planted X) → Type 0
-  AreFilters [] = ⊤
-  AreFilters (s ∷ ss) = (are_filter_levels s.levels ≡ true) × AreFilters ss
+abbrev pub AreRuns : List (List ℕ) → List Run → Type 0
+AreRuns texts runs = All (IsRun texts) runs
 
 -- levels of a name: without wildcards
 abbrev pub ArePlain : List (List ℕ) → Type 0
 ArePlain [] = ⊤
 ArePlain (l ∷ ls) = (has_wildcard l ≡ false) × ArePlain ls
 
--- ---- filters and names as texts
+-- ---- what matches
 
--- an item with its filter
-pub record Filed (X : Type 0) : Type 0 where
-  pub filter : List ℕ
-  pub item : X
+-- how often something is found: once where a test holds, or not at all
+abbrev pub once : Bool → ℕ
+once holds = cond holds 1 0
 
-module _ {X : Type 0} where
-  abbrev pub planted : List (Filed X) → List (Planted X)
-  planted [] = []
-  planted (s ∷ ss) = record { levels = levels s.filter; item = s.item } ∷ planted ss
+-- how often a filter is found in a run whose rest matches levels of a name: once, or not at all
+abbrev pub found_in : List (List ℕ) → List (List ℕ) → ℕ → Run → ℕ
+found_in texts ls i run = once (is_within i run && matches_levels (rest_of texts run i) ls)
 
-  -- each is a filter
-  abbrev pub AreFiled : List (Filed X) → Type 0
-  AreFiled [] = ⊤
-  AreFiled (s ∷ ss) = (is_filter s.filter ≡ true) × AreFiled ss
+abbrev pub found_in_all : List (List ℕ) → List (List ℕ) → ℕ → List Run → ℕ
+found_in_all texts ls i [] = 0
+found_in_all texts ls i (r ∷ rs) = found_in texts ls i r + found_in_all texts ls i rs
 
-  -- the items whose filters match a name, in order
-  abbrev pub items_for : List ℕ → List (Filed X) → List X
-  items_for name [] = []
-  items_for name (s ∷ ss) = cond (is_match s.filter name) (s.item ∷ items_for name ss) (items_for name ss)
+-- how often a number is to be found: once where a filter of this number matches the name
+abbrev pub is_found : List (List ℕ) → List ℕ → ℕ → ℕ
+is_found texts name i = once (nat_lt i (length texts) && is_match (get_or texts i []) name)
 
-  -- a walk by a name; one that begins with `$` goes by its own first level alone (4.7.2)
-  abbrev pub walk_first : List (Node X) → Bool → List (List ℕ) → Option ℕ → List X
-  walk_first nodes false ls from = walk nodes ls from
-  walk_first nodes true ls None = []
-  walk_first nodes true [] (Some n) = []
-  walk_first nodes true (l ∷ ls) (Some n) = walk nodes ls (child l (node nodes n).children)
+-- each number of a filter that matches the name is there once, and no other
+abbrev pub AreMatching : List (List ℕ) → List ℕ → List ℕ → Type 0
+AreMatching texts name numbers = (i : ℕ) → count_by (nat_eq i) numbers ≡ is_found texts name i
 
-  abbrev pub walk_name : List (Node X) → List ℕ → Option ℕ → List X
-  walk_name nodes name from = walk_first nodes (is_first (nat_eq dollar) name) (levels name) from
+-- ---- where a filter is put
 
--- ---- a tree
-
--- a table of nodes, and the number of the root, if there is one
-pub record NodeTable (X : Type 0) : Type 0 where
-  pub nodes : List (Node X)
-  pub root : Option ℕ
-
--- the levels of a way have no `#`
-abbrev pub AreWay : List (List ℕ) → Type 0
-AreWay [] = ⊤
-AreWay (f ∷ fs) = (is_hash f ≡ false) × AreWay fs
-
-module _ {X : Type 0} where
-  -- it is a tree: each way from the root ends at a node that stands, and no other way ends there
-  pub record IsTree (places : List (Option (Node X))) (root : Option ℕ) : Type 0 where
-    pub stands : (fs : List (List ℕ)) (n : ℕ) → reach (nodes_of places) fs root ≡ Some n → Stands places n
-    pub one_way : (fs gs : List (List ℕ)) (n : ℕ) → reach (nodes_of places) fs root ≡ Some n → reach (nodes_of places) gs root ≡ Some n → fs ≡ gs
-
-  -- a way that ends at a node
-  pub record Leads (tree : NodeTable X) (fs : List (List ℕ)) (n : ℕ) : Type 0 where
-    pub ends : reach tree.nodes fs tree.root ≡ Some n
-    pub plain : AreWay fs
-
-  -- what stands at the levels of each filter is what stood there
-  abbrev pub IsSame : NodeTable X → NodeTable X → Type 0
-  IsSame old new = (fs : List (List ℕ)) → standing new.nodes fs new.root ≡ standing old.nodes fs old.root
-
-  -- what stands at these levels has changed, and nothing elsewhere
-  abbrev pub ChangesAt : NodeTable X → NodeTable X → List (List ℕ) → (List X → List X) → Type 0
-  ChangesAt old new fs change =
-      (gs : List (List ℕ)) → standing new.nodes gs new.root ≡ cond (are_same fs gs) (change (standing old.nodes gs old.root)) (standing old.nodes gs old.root)
-
-  -- the tree has these items, each at its filter, and those of one filter in the order in which they came
-  pub record Keeps (tree : NodeTable X) (filed : List (Filed X)) : Type 0 where
-    pub holds : Holds tree.nodes tree.root (planted filed)
-    pub filters : AreFiled filed
-
-  -- an item comes last
-  abbrev pub with_last : X → List X → List X
-  with_last x xs = xs ++ x ∷ []
-
-  abbrev pub filed_with : List ℕ → X → List (Filed X) → List (Filed X)
-  filed_with filter item filed = filed ++ record { filter = filter; item = item } ∷ []
+-- a place for a filter: those before it don't come after it, and it doesn't come after the others
+pub record IsPlace (texts : List (List ℕ)) (filter : List ℕ) (place : ℕ) : Type 0 where
+  pub within : place ≤ length texts
+  pub before : (i : ℕ) → i < place → in_order (levels (get_or texts i [])) (levels filter) ≡ true
+  pub after : (i : ℕ) → place ≤ i → i < length texts → in_order (levels filter) (levels (get_or texts i [])) ≡ true

@@ -1,10 +1,9 @@
 -- What a copy's entering leaves: its session's queue is within the limit, with room for at most one copy less.
-use Rattle.std.proofs.Common.{◌≡◌, ℕ, suc, ◌+◌, ◌-◌, ◌<◌, ◌≤◌, Bool, true, false, ◌||◌, cond, List, [], ◌∷◌, ◌++◌, length, map, Option, Some, None, nat_eq, nat_lt, refl, ap, sym, subst, ◌∙◌, arith, inl, inr}
+use Rattle.std.proofs.Common.{◌≡◌, ℕ, suc, ◌+◌, ◌-◌, ◌<◌, ◌≤◌, Bool, true, false, ◌||◌, cond, List, [], ◌∷◌, ◌++◌, length, map, Option, Some, nat_eq, nat_lt, refl, ap, sym, subst, ◌∙◌, arith, inl, inr}
 use Rattle.std.specs.Prelude.{flat_map, is_some, find}
 use Rattle.std.specs.List.{AllByRecursion}
 use Rattle.std.proofs.lemmas.Bool.{cases_Bool, lt-ltb, ltb-true, ltb-false}
 use Rattle.mqtt_base.specs.declared.limits.TheConstants.{QUEUE_LIMIT}
-use Rattle.mqtt_base.specs.declared.session.Ending.{Ending}
 use Rattle.mqtt_flow.specs.declared.entry.Entry.{Entry as FlowEntry}
 use Rattle.mqtt_flow.specs.declared.entry.Turn.{Turn}
 use Rattle.mqtt_flow.specs.declared.entry.Turn.TheVariants as turns
@@ -19,14 +18,15 @@ use Rattle.mqtt_rows.proofs.LookUps.{put_row-last}
 use Rattle.mqtt_records.specs.Session.{birth_of, copy_place, with_copy, without_copy}
 use Rattle.mqtt_records.specs.Records.{changed_all}
 use Rattle.mqtt_tables.specs.TheRules.State.{Broker, Env, session_at, entry_on, queue_on, next_of}
-use Rattle.mqtt_tables.specs.TheRules.Deeds.{At, Enter, Leave, whose, after, after_all, part_rows_of, new_entry}
+use Rattle.mqtt_tables.specs.TheRules.Deeds.{At, Enter, whose, after, after_all, part_rows_of, new_entry}
 use Rattle.mqtt_tables.specs.TheRules.Laws.{HasEntered}
-use Rattle.mqtt_tables.specs.TheRules.Outbound.{of_entry, leave_deeds, enter_deeds, first_given, queue_limits, room, since}
+use Rattle.mqtt_tables.specs.TheRules.Outbound.{leave_deeds, enter_deeds, first_given, queue_limits, room, since}
 use Rattle.mqtt_tables.proofs.TheRules.FlightRows.{found_key}
 use Rattle.mqtt_tables.proofs.TheRules.Goods.{after_append}
 use Rattle.mqtt_tables.proofs.TheRules.NumberBirths.{below_none}
 use Rattle.mqtt_tables.proofs.TheRules.OrderedEnters.{change_here, change_other, new_of}
 use Rattle.mqtt_tables.proofs.TheRules.OrderedQueues.{GivesWay, below_own, dropped_gives, first_place, leaving, leaving_flow, length-append_one, length-mapped, stay, stay_is, stay_more}
+use Rattle.mqtt_rules.proofs.OrderedEnters.{leave_found}
 
 -- ---- the copies that make way leave
 
@@ -37,21 +37,13 @@ record Left (birth : ℕ) (q : List CopyRow) (ss new : List Session) : Type 0 wh
   others : (other : ℕ) → nat_eq birth other ≡ false → row_at birth_of other new ≡ row_at birth_of other ss
 
 -- one leaves
-one_leaves : (s now : Session) (place : ℕ) (ending : Ending) (b : Broker) (o : Option CopyRow) → row_at copy_place place s.queue ≡ o → is_some o ≡ true → session_at s.birth b.records ≡ Some now
-    → (after_all (of_entry o (λ e. At (whose s) (Leave e ending) ∷ [])) b).records.sessions ≡ change_row birth_of s.birth (without_copy place) b.records.sessions
-one_leaves s now place ending b None is there found = absurd cc
-one_leaves s now place ending b (Some e) is there found =
-    ap (λ (o : Option Session). (changed_all (part_rows_of (Leave e ending) o) b.records).sessions) found
-    ∙ (ap (λ (n : ℕ). change_row birth_of n (without_copy e.place) b.records.sessions) (found_key birth_of s.birth now b.records.sessions found)
-    ∙ ap (λ (n : ℕ). change_row birth_of s.birth (without_copy n) b.records.sessions) (found_key copy_place place e s.queue is))
-
 all_leave : (first : ℕ) (s : Session) (ts : List Turn) (now : Session) (b : Broker) → AllByRecursion (GivesWay first s.queue) ts → session_at s.birth b.records ≡ Some now
     → Left s.birth (leaving ts now.queue) b.records.sessions (after_all (flat_map (leave_deeds s) ts) b).records.sessions
 all_leave first s [] now b all found = record { mine = now; found = found; queue = refl; others = λ other differ. refl }
 all_leave first s (turns.Leave place ending ∷ ts) now b all found =
     let ds = leave_deeds s (turns.Leave place ending) in
     let c = after_all ds b in
-    let is : c.records.sessions ≡ change_row birth_of s.birth (without_copy place) b.records.sessions = one_leaves s now place ending b (row_at copy_place place s.queue) refl all.0.0 found in
+    let is : c.records.sessions ≡ change_row birth_of s.birth (without_copy place) b.records.sessions = leave_found s now place ending b (row_at copy_place place s.queue) refl all.0.0 found in
     let next : session_at s.birth c.records ≡ Some (without_copy place now) =
     ap (row_at birth_of s.birth) is ∙ change_here birth_of s.birth (without_copy place) b.records.sessions now (λ x. refl) found in
     let rest = all_leave first s ts (without_copy place now) c all.1 next in

@@ -21,6 +21,8 @@ use Rattle.mqtt_tables.specs.Stepping.{Stepping, did, Did, IsLeft}
 use Rattle.mqtt_tables.proofs.Doing.{did_none, found_birth}
 use Rattle.mqtt_turns.specs.Turning.{takes_turn, takes_turns}
 use Rattle.mqtt_tables.proofs.Then.{same_act, same_left, did_then, left_first, left_then}
+use Rattle.mqtt_rules.proofs.NumberFacts.{now_stays}
+use Rattle.mqtt_tables.proofs.Journal.{two}
 
 some_is : {X : Type 0} (x y : X) → Some x ≡ Some y → x ≡ y
 some_is x y e = cc
@@ -49,9 +51,6 @@ client_turn moment line birth x (turns.Unknown id) b = refl
 client_turn moment line birth x (turns.Leave place ending) b =
     clients_entry birth (whose x) (row_at copy_place place x.queue) (λ e. At (whose x) (Leave e ending) ∷ []) b
     (λ e. client_at_part (whose x) (Leave e ending) birth b.records)
-
-two : {A B R : Type 0} (mk : A → B → R) {a1 a2 : A} {b1 b2 : B} → a1 ≡ a2 → b1 ≡ b2 → mk a1 b1 ≡ mk a2 b2
-two mk p q = cc
 
 abbrev whose_of : ℕ → List ℕ → Whose
 whose_of birth client = record { birth = birth; client = client }
@@ -118,10 +117,6 @@ turn_is line birth t ts first s None found stays = by (session_at birth s.broker
     by (Some y) is = absurd cc
 turn_is line birth t ts first s (Some x) found stays = same_there line birth t ts x first s (session_at birth s.broker.records) refl stays
 
-moments_stay : (ds : List Deed) (b : Broker) → (after_all ds b).now ≡ b.now
-moments_stay [] b = refl
-moments_stay (d ∷ ds) b = moments_stay ds (after d b)
-
 -- after one of them
 stays_on : (line birth : ℕ) (t : Turn) (ts : List Turn) (first s s2 : Stepping) (o : Option Session)
     → s2.broker ≡ after_all (with_session o (λ x. always (turn_deeds first.broker.now line x t)) first.broker) s.broker
@@ -131,7 +126,7 @@ stays_on line birth t ts first s s2 (Some x) is made =
     let one = stands_turn first.broker.now line x t ts made.n s.broker made.still made.rises in
     record {
       n = one.1.0;
-      moment = ap (λ (b : Broker). b.now) is ∙ (moments_stay (turn_deeds first.broker.now line x t) s.broker ∙ made.moment);
+      moment = ap (λ (b : Broker). b.now) is ∙ (now_stays (turn_deeds first.broker.now line x t) s.broker ∙ made.moment);
       key = made.key;
       client = ap (λ (b : Broker). client_at birth b.records) is ∙ (client_turn first.broker.now line birth x t s.broker ∙ made.client);
       still = subst (λ (b : Broker). IsStill one.1.0 x b) (sym is) one.1.1;

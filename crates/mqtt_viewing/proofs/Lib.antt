@@ -1,6 +1,6 @@
 -- Lemmas on views.
-pub mod Escapes
 pub mod Examples
 pub mod Lines
 pub mod OneView
+pub mod RightVectors
 pub mod Texts

@@ -1,5 +1,5 @@
 -- What a view has read and written so far, from one step to the next.
-use Rattle.std.proofs.Common.{◌≡◌, ℕ, ◌-◌, ◌<◌, ◌≤◌, Bool, List, [], ◌∷◌, ◌++◌, length, take, drop, Option, None, Some, Ok, Err, IfSome, refl, ap, sym, ◌∙◌, subst, arith, append_assoc, append-nil, length-drop}
+use Rattle.std.proofs.Common.{◌≡◌, ℕ, ◌<◌, ◌≤◌, min, Bool, List, [], ◌∷◌, ◌++◌, length, take, drop, Option, None, Some, Ok, Err, IfSome, refl, ap, sym, ◌∙◌, subst, arith, append_assoc, append-nil}
 use Rattle.std.specs.List.{flat_map}
 use Rattle.std.proofs.lemmas.List.{take-append-le}
 use Rattle.std.proofs.lemmas.Grind.{flat_map-append}
@@ -8,7 +8,7 @@ use Rattle.std.proofs.KnownBytes.{Appends-trans, Consumes-trans, Appends-nil, Co
 use Rattle.mqtt_fields.specs.declared.fault.Fault.{Fault}
 use Rattle.mqtt_codec.specs.declared.packet.Packet.{Packet}
 use Rattle.mqtt_packet.specs.Front.{first_of, size_at}
-use Rattle.mqtt_packet.specs.Stream.{Framing, Item, short_at, fault_at, after, place_after, IsCut, Gives}
+use Rattle.mqtt_packet.specs.Stream.{Framing, Item, short_at, fault_at, after, place_after, IsCut}
 use Rattle.mqtt_packet.proofs.Fronts.{first_within}
 use Rattle.mqtt_packet.proofs.Cuts.{cut_more, cut_next, cut_join, fault_stays}
 use Rattle.mqtt_viewing.specs.View.{line, fault_line, rest_line}
@@ -23,22 +23,22 @@ lines_more with_payload items i start text h =
     ap (λ (xs : List ℕ). xs ++ line with_payload i) h ∙ append_assoc start (flat_map (line with_payload) items) (line with_payload i)
     ∙ ap (λ (xs : List ℕ). start ++ xs) (ap (λ (xs : List ℕ). flat_map (line with_payload) items ++ xs) (sym (append-nil (line with_payload i))) ∙ sym (flat_map-append (line with_payload) items (i ∷ [])))
 
--- one more packet was given, and its line was added
+-- one more packet was shown and taken away
 pub lines_next : (with_payload : Bool) (old mid new : Framing) (start text longer : List ℕ) (packet : Packet) (size place : ℕ)
-    → AddsLines with_payload old [] mid start text → Gives mid (Some (packet, place)) new → size ≡ length mid.held - length new.held
+    → AddsLines with_payload old [] mid start text → first_of mid.held ≡ Ok (Some (packet, size)) → place ≡ mid.place → new ≡ after (min size (length mid.held)) mid
     → longer ≡ text ++ line with_payload (record { place = place; size = size; packet = packet }) → AddsLines with_payload old [] new start longer
-lines_next with_payload old mid new start text longer packet size place so_far (n, first, at, gone) sized grew =
-    let within = first_within mid.held packet n first in
-    let left : length new.held ≡ length mid.held - n = ap (λ (f : Framing). length f.held) gone ∙ length-drop n mid.held in
-    let whole : size ≡ n = omega (arith, within.0) in
+lines_next with_payload old mid new start text longer packet size place so_far first at gone grew =
+    let within = first_within mid.held packet size first in
+    let whole : min size (length mid.held) ≡ size = omega (arith, within.0) in
+    let left : new ≡ after size mid = gone ∙ ap (λ (k : ℕ). after k mid) whole in
     let i : Item = record { place = place; size = size; packet = packet } in
-    let same : i ≡ record { place = mid.place; size = n; packet = packet } =
-    ap (λ (k : ℕ). let j : Item = record { place = k; size = size; packet = packet } in j) at ∙ ap (λ (k : ℕ). let j : Item = record { place = mid.place; size = k; packet = packet } in j) whole in
-    let cut = cut_next old.place (old.held ++ []) so_far.items mid.place mid.held packet n so_far.cut first in
+    let same : i ≡ record { place = mid.place; size = size; packet = packet } =
+    ap (λ (k : ℕ). let j : Item = record { place = k; size = size; packet = packet } in j) at in
+    let cut = cut_next old.place (old.held ++ []) so_far.items mid.place mid.held packet size so_far.cut first in
     record {
       items = so_far.items ++ i ∷ [];
-      cut = subst (λ (f : Framing). IsCut old.place (old.held ++ []) (so_far.items ++ i ∷ []) f.place f.held) (sym gone)
-          (subst (λ (j : Item). IsCut old.place (old.held ++ []) (so_far.items ++ j ∷ []) (place_after mid.place n) (drop n mid.held)) (sym same) cut);
+      cut = subst (λ (f : Framing). IsCut old.place (old.held ++ []) (so_far.items ++ i ∷ []) f.place f.held) (sym left)
+          (subst (λ (j : Item). IsCut old.place (old.held ++ []) (so_far.items ++ j ∷ []) (place_after mid.place size) (drop size mid.held)) (sym same) cut);
       text = grew ∙ lines_more with_payload so_far.items i start text so_far.text;
     }
 
@@ -57,7 +57,7 @@ pub record ViewsSoFar (with_payload : Bool) (f : Framing) (input left : Option (
   pub room : length f.held < 65536
 
 -- no byte decides nothing
-nothing_first : first_of [] ≡ Ok None
+pub nothing_first : first_of [] ≡ Ok None
 unfolding first_of size_at
 nothing_first = refl
 

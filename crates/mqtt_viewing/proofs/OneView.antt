@@ -4,8 +4,8 @@ use Rattle.std.specs.List.{flat_map}
 use Rattle.std.proofs.lemmas.Grind.{flat_map-append}
 use Rattle.mqtt_codec.specs.declared.packet.Packet.{Packet}
 use Rattle.mqtt_packet.specs.Front.{first_of}
-use Rattle.mqtt_packet.specs.Stream.{Item, Ending, short_at, fault_at, IsCut, EndsAs, place_after}
-use Rattle.mqtt_packet.proofs.Cuts.{stream_exists, stream_unique}
+use Rattle.mqtt_packet.specs.Stream.{Item, Ending, IsCut, place_after}
+use Rattle.mqtt_packet.proofs.Cuts.{stream_exists, stream_unique, same_item, ended}
 use Rattle.mqtt_packet.proofs.Fronts.{found_size, found_packet}
 use Rattle.mqtt_viewing.specs.View.{line, last_line, view_text}
 use Rattle.mqtt_viewing.specs.Viewing.{Views, WritesFront, status_of}
@@ -31,17 +31,6 @@ only_view with_payload input before after other status another v w =
     )
 
 -- no packet begins where a stream ends
-none_first : (end : ℕ) (rest : List ℕ) (e : Ending) (x : Packet × ℕ) → EndsAs end rest e → first_of rest ≡ Ok (Some x) → ⊥
-none_first end rest (short_at p l) x h e = cc (sym h.2 ∙ e)
-none_first end rest (fault_at p f) x h e = cc (sym h.1 ∙ e)
-
-same_item : (x y : Item) → x.place ≡ y.place → x.size ≡ y.size → x.packet ≡ y.packet → x ≡ y
-same_item x y place size packet =
-    let by_place : ℕ → Item = λ k. record { place = k; size = x.size; packet = x.packet } in
-    let by_size : ℕ → Item = λ k. record { place = y.place; size = k; packet = x.packet } in
-    let by_packet : Packet → Item = λ k. record { place = y.place; size = y.size; packet = k } in
-    ap by_place place ∙ ap by_size size ∙ ap by_packet packet
-
 -- a cut begins every cut that goes as far as it can
 cut_begins : (place : ℕ) (stream : List ℕ) (xs ys : List Item) (d e : ℕ) (r s : List ℕ) → IsCut place stream xs d r → IsCut place stream ys e s
     → ((x : Packet × ℕ) → first_of s ≡ Ok (Some x) → ⊥) → (more : List Item) × (ys ≡ xs ++ more)
@@ -69,7 +58,7 @@ pub early_begins : (with_payload : Bool) (input before after early : List ℕ) (
     → (rest : List ℕ) × (after ≡ early ++ rest)
 early_begins with_payload input before after early status v w =
     let (end, rest, cut, ends) = v.stream in
-    let begins = cut_begins 0 input w.items v.items w.end end w.rest rest w.cut cut (λ x first. none_first end rest v.ending x ends first) in
+    let begins = cut_begins 0 input w.items v.items w.end end w.rest rest w.cut cut (λ x first. ended end rest v.ending x ends first) in
     let more = view_text with_payload begins.0 v.ending in (
       more,
       v.wrote ∙ ap (λ (xs : List Item). before ++ view_text with_payload xs v.ending) begins.1

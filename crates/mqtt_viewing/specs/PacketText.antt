@@ -1,9 +1,9 @@
 -- What the viewer shows of a packet: its name, its size, its fields and how many properties it has (ours).
-use Rattle.std.specs.Prelude.{ℕ, ◌<◌, ◌≤◌, ◌/◌, ◌%◌, ◌==◌, nat_le, Bool, true, false, not, ◌&&◌, if◌then◌else◌, List, [], ◌∷◌, ◌++◌, length, take, codes, is_some}
+use Rattle.std.specs.Prelude.{ℕ, ◌==◌, Bool, true, false, if◌then◌else◌, List, [], ◌∷◌, ◌++◌, length, take, codes, is_some}
 use Rattle.std.specs.List.{flat_map}
-use Rattle.std.specs.Fmt.{decimal, digit_glyph}
+use Rattle.std.specs.Fmt.{decimal}
 use Rattle.hex.specs.Hex.{encode_lower}
-use Rattle.mqtt_props.specs.Properties.{Prop}
+use Rattle.mqtt_escaped.specs.Escaped.{escaped, hex_byte}
 use Rattle.mqtt_codec.specs.declared.ack.Ack.{Ack}
 use Rattle.mqtt_codec.specs.declared.connack.Connack.{Connack}
 use Rattle.mqtt_connect.specs.declared.connect.Connect.{Connect}
@@ -17,38 +17,11 @@ use Rattle.mqtt_subscribe.specs.declared.unsubscribe.Unsubscribe.{Unsubscribe}
 use Rattle.mqtt_codec.specs.declared.packet.Packet.{Packet}
 use Rattle.mqtt_codec.specs.declared.packet.Packet.TheVariants as packets
 use Rattle.mqtt_codec.specs.Heads.{bit}
+use Rattle.mqtt_codec.specs.Packets.{properties_of}
 use Rattle.mqtt_codec.specs.Subscriptions.{Subscription}
 use Rattle.mqtt_viewing.specs.declared.packet_text.TheConstants.{HEAD_SIZE}
 
-abbrev pub percent : ℕ
-percent = 0x25
-
 -- ---- texts of packets
-
--- a byte in two lower-case hexadecimal digits
-abbrev pub hex_byte : ℕ → List ℕ
-hex_byte b = digit_glyph false (b / 16) ∷ digit_glyph false (b % 16) ∷ []
-
--- printable ASCII, but for the space and %
-abbrev pub is_plain : ℕ → Bool
-is_plain b = nat_le 0x21 b && nat_le b 0x7e && not (b == percent)
-
--- a plain byte stands for itself, any other is % and two digits
-abbrev pub escaped_byte : ℕ → List ℕ
-escaped_byte b = if is_plain b then b ∷ [] else percent ∷ hex_byte b
-
--- a text of a packet, in one word
-abbrev pub escaped : List ℕ → List ℕ
-escaped text = flat_map escaped_byte text
-
--- one word: printable ASCII and no space
-abbrev pub IsWord : List ℕ → Type 0
-IsWord [] = Unit {0}
-IsWord (b ∷ text) = (0x21 ≤ b) × (b ≤ 0x7e) × IsWord text
-
-abbrev pub AreBytes : List ℕ → Type 0
-AreBytes [] = Unit {0}
-AreBytes (b ∷ bytes) = (b < 256) × AreBytes bytes
 
 -- 0 or 1
 abbrev pub digit_text : Bool → List ℕ
@@ -151,25 +124,7 @@ fields_text packets.Pingresp = []
 fields_text (packets.Disconnect n) = notice_text n
 fields_text (packets.Auth n) = notice_text n
 
--- the packet's own properties, not those of its Will
-abbrev pub own_properties : Packet → List Prop
-own_properties (packets.Connect c) = c.properties
-own_properties (packets.Connack c) = c.properties
-own_properties (packets.Publish p) = p.properties
-own_properties (packets.Puback a) = a.properties
-own_properties (packets.Pubrec a) = a.properties
-own_properties (packets.Pubrel a) = a.properties
-own_properties (packets.Pubcomp a) = a.properties
-own_properties (packets.Subscribe s) = s.properties
-own_properties (packets.Suback s) = s.properties
-own_properties (packets.Unsubscribe u) = u.properties
-own_properties (packets.Unsuback s) = s.properties
-own_properties packets.Pingreq = []
-own_properties packets.Pingresp = []
-own_properties (packets.Disconnect n) = n.properties
-own_properties (packets.Auth n) = n.properties
-
--- their count, where there are some
+-- how many properties the packet's own block has, and not a Will's, where there are some
 abbrev pub count_text : ℕ → List ℕ
 count_text n = if n == 0 then [] else codes " props=" ++ decimal n
 
@@ -186,4 +141,4 @@ payload_text with_payload p = []
 abbrev pub packet_text : Bool → ℕ → Packet → List ℕ
 packet_text with_payload size p =
     codes " " ++ name_text p ++ codes " " ++ decimal size ++ fields_text p
-    ++ count_text (length (own_properties p)) ++ payload_text with_payload p
+    ++ count_text (length (properties_of p)) ++ payload_text with_payload p

@@ -1,7 +1,6 @@
 //! What holds of every view (ours).
 
 ghost use Rattle.std.specs.Prelude.{◌≡◌, ℕ, List, Bool, Some, ◌++◌};
-ghost use Rattle.mqtt_viewing.specs.PacketText.{AreBytes, IsWord, escaped};
 ghost use Rattle.mqtt_viewing.specs.Viewing.{Views, WritesFront};
 ghost use Rattle.mqtt_viewing.specs.declared.viewer.Status.{Status};
 
@@ -18,11 +17,4 @@ pub fn one_view()
         → Views payload input (Some before) (Some after) status
         → WritesFront payload input (Some before) (Some early)
         → (rest : List ℕ) × (after ≡ early ++ rest) }
-{}
-
-/// A text stands in a line as one word of printable ASCII, and two texts never as the same.
-pub fn one_word()
-    ensures word { (text : List ℕ) → AreBytes text → IsWord (escaped text) }
-    ensures only { (text other : List ℕ) → AreBytes text → AreBytes other
-        → escaped text ≡ escaped other → text ≡ other }
 {}

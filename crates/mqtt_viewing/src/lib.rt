@@ -10,6 +10,8 @@ mod vectors_report;
 mod vectors_table;
 mod viewer;
 
-pub use laws::{one_view, one_word};
-pub use vectors_checker::{VectorsFault, vectors};
+pub use laws::one_view;
+pub use mqtt_escaped::one_word;
+pub use vectors_checker::{VectorsFault, is_right, vectors};
+pub use vectors_table::{Gives, Vector, known_vectors};
 pub use viewer::{Status, ViewFault, view};

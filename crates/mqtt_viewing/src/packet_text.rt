@@ -1,19 +1,66 @@
 //! What the viewer shows of a packet (ours).
 
-ghost use Rattle.std.specs.Prelude.{◌≡◌, ◌++◌, ◌∷◌, [], Some, OnOk, length, List, ℕ};
+ghost use Rattle.std.specs.Prelude.{◌≡◌, ◌<◌, ◌≤◌, ◌++◌, ◌∷◌, [], false, OnOk, codes, length, take};
 ghost use Rattle.std.specs.List.{flat_map};
-ghost use Rattle.std.specs.String.{string_bytes};
-ghost use Rattle.mqtt_viewing.specs.PacketText.{is_plain, hex_byte, escaped_byte, escaped, head_text, digit_text, next_code, codes_text, connect_text, connack_text, dup_text, retain_text, delivery_text, publish_text, ack_text, subscription_text, subscribe_text, suback_text, filter_text, unsubscribe_text, notice_text, name_text, fields_text, own_properties, count_text, payload_text, packet_text};
+ghost use Rattle.std.specs.Fmt.{decimal, digit_glyph};
+ghost use Rattle.hex.specs.Hex.{encode_lower};
+ghost use Rattle.mqtt_connect.specs.Connect.{connect_of};
+ghost use Rattle.mqtt_subscribe.specs.Subscribe.{subscribe_of};
+ghost use Rattle.mqtt_subscribe.specs.SubscriptionViews.{subscription_of};
+ghost use Rattle.mqtt_subscribe.specs.Unsubscribe.{unsubscribe_of};
+ghost use Rattle.mqtt_codec.specs.Ack.{ack_of};
+ghost use Rattle.mqtt_codec.specs.Connack.{connack_of};
+ghost use Rattle.mqtt_codec.specs.Frames.{packet_of};
+ghost use Rattle.mqtt_codec.specs.Notice.{notice_of};
+ghost use Rattle.mqtt_codec.specs.Publish.{publish_of};
+ghost use Rattle.mqtt_codec.specs.Suback.{suback_of};
+ghost use Rattle.mqtt_escaped.specs.Escaped.{escaped, escaped_byte, hex_byte, is_plain};
+ghost use Rattle.mqtt_viewing.specs.PacketText.{head_text, digit_text, next_code, codes_text, connect_text, connack_text, dup_text, retain_text, delivery_text, publish_text, ack_text, subscription_text, subscribe_text, suback_text, filter_text, unsubscribe_text, notice_text, name_text, fields_text, count_text, payload_text, packet_text};
 
+use itoa::Buffer;
 use mqtt_packet::{
-    Ack, Connack, Connect, Delivery, Filters, Notice, Packet, Publish, Suback, Subscribe,
-    Subscriptions, Unsubscribe,
+    AckRef, ConnackRef, ConnectRef, Delivery, FiltersRef, NoticeRef, PacketRef, PublishRef,
+    SubackRef, SubscribeRef, SubscriptionRef, SubscriptionsRef, UnsubscribeRef,
 };
 use std::alloc::{AllocError, Global};
-use std::fmt;
 
 /// The most payload bytes that a line shows.
 pub const HEAD_SIZE: usize = 16;
+
+/// Adds a number in decimal digits.
+pub(crate) fn push_number(text: &mut Vec<u8>, number: u64) -> Result<(), AllocError>
+    ensures { OnOk result (text.new.items ≡ text.old.items ++ decimal number) }
+{
+    let mut digits = Buffer::new();
+    text.extend_from_slice(digits.format(number).as_bytes())
+}
+
+/// Adds the name of a field and its number.
+fn push_field(text: &mut Vec<u8>, name: &[u8], number: u64) -> Result<(), AllocError>
+    ensures { OnOk result (text.new.items ≡ text.old.items ++ name.now ++ decimal number) }
+{
+    text.extend_from_slice(name)?;
+    push_number(text, number)
+}
+
+/// A hexadecimal digit.
+fn hex_digit(value: u8) -> u8
+    requires { value < 16 }
+    ensures { result ≡ digit_glyph false value }
+{
+    if value < 10 {
+        b'0' + value
+    } else {
+        b'a' - 10 + value
+    }
+}
+
+/// Adds a byte in two hexadecimal digits.
+fn push_hex(text: &mut Vec<u8>, byte: u8) -> Result<(), AllocError>
+    ensures { OnOk result (text.new.items ≡ text.old.items ++ hex_byte byte) }
+{
+    text.extend_from_slice(&[hex_digit(byte / 16), hex_digit(byte % 16)])
+}
 
 /// Whether a byte of a text stands for itself: it is printable ASCII, and neither a space nor `%`.
 fn is_plain(byte: u8) -> bool
@@ -22,296 +69,345 @@ fn is_plain(byte: u8) -> bool
     b'!' <= byte && byte <= b'~' && byte != b'%'
 }
 
-/// A byte in two hexadecimal digits.
-#[derive(Clone, Copy)]
-struct HexByte(u8);
+/// How many bytes at the front stand for themselves, up to the first that doesn't.
+#[tactic(auto, using(crate::proofs::Texts::run_first, crate::proofs::Texts::run_more))]
+fn plain_len(bytes: &[u8]) -> usize
+    ensures within { result ≤ length bytes.now }
+    ensures plain { escaped (take result bytes.now) ≡ take result bytes.now }
+{
+    let mut len = 0;
+    let mut rest = bytes;
+    while let Some((first, after)) = rest.split_first() {
+        if !is_plain(*first) {
+            return len;
+        }
+        len += 1;
+        rest = after;
+    }
+    len
+}
 
-impl fmt::Display for HexByte {
-    ghost output = { λ t. Some (hex_byte t.0) };
-
-    fn fmt<W: fmt::Write>(&self, f: &mut fmt::Formatter<W>) -> fmt::Result {
-        let byte = self.0;
-        write!(f, "{byte:02x}")
+/// Adds a byte of a text: itself, or `%` and two hexadecimal digits.
+fn push_escaped_byte(text: &mut Vec<u8>, byte: u8) -> Result<(), AllocError>
+    ensures { OnOk result (text.new.items ≡ text.old.items ++ escaped_byte byte) }
+{
+    if is_plain(byte) {
+        text.extend_from_slice(&[byte])
+    } else {
+        text.extend_from_slice(&[b'%', hex_digit(byte / 16), hex_digit(byte % 16)])
     }
 }
 
-/// A byte of a text: itself, or `%` and two hexadecimal digits.
-#[derive(Clone, Copy)]
-struct EscapedByte(u8);
-
-impl fmt::Display for EscapedByte {
-    ghost output = { λ t. Some (escaped_byte t.0) };
-
-    fn fmt<W: fmt::Write>(&self, f: &mut fmt::Formatter<W>) -> fmt::Result {
-        let byte = self.0;
-        if is_plain(byte) {
-            write!(f, "{}", char::from(byte))
-        } else {
-            write!(f, "%{}", HexByte(byte))
-        }
+/// Adds a text of a packet in one word, whatever its bytes; those that stand for themselves in runs.
+#[tactic(auto, using(crate::proofs::Texts::runs_next, crate::proofs::Texts::runs_end))]
+fn push_escaped(text: &mut Vec<u8>, value: &str) -> Result<(), AllocError>
+    ensures { OnOk result (text.new.items ≡ text.old.items ++ escaped value.now) }
+{
+    let mut rest = value.as_bytes();
+    'runs: loop {
+        let (run, other) = rest.split_at(plain_len(rest));
+        text.extend_from_slice(run)?;
+        let Some((byte, after)) = other.split_first() else {
+            return Ok(());
+        };
+        push_escaped_byte(text, *byte)?;
+        rest = after;
     }
 }
 
-/// A text in one word, whatever its bytes.
-#[derive(Clone, Copy)]
-struct Escaped<'a>(&'a str);
-
-impl fmt::Display for Escaped<'_> {
-    ghost output = { λ t. Some (escaped t.0.now) };
-
-    fn fmt<W: fmt::Write>(&self, f: &mut fmt::Formatter<W>) -> fmt::Result {
-        for byte in self.0.as_bytes() {
-            write!(f, "{}", EscapedByte(*byte))?;
-        }
-        Ok(())
-    }
+/// Adds a comma and a code in two hexadecimal digits.
+fn push_next_code(text: &mut Vec<u8>, code: u8) -> Result<(), AllocError>
+    ensures { OnOk result (text.new.items ≡ text.old.items ++ next_code code) }
+{
+    text.extend_from_slice(&[b',', hex_digit(code / 16), hex_digit(code % 16)])
 }
 
-/// Bytes in two hexadecimal digits each, a comma before each.
-#[derive(Clone, Copy)]
-struct NextCodes<'a>(&'a [u8]);
-
-impl fmt::Display for NextCodes<'_> {
-    ghost output = { λ t. Some (flat_map next_code t.0.now) };
-
-    fn fmt<W: fmt::Write>(&self, f: &mut fmt::Formatter<W>) -> fmt::Result {
-        for byte in self.0 {
-            write!(f, ",{}", HexByte(*byte))?;
-        }
-        Ok(())
+/// Adds codes with a comma before each.
+fn push_next_codes(text: &mut Vec<u8>, codes: &[u8]) -> Result<(), AllocError>
+    ensures { OnOk result (text.new.items
+        ≡ text.old.items ++ flat_map next_code codes.now) }
+{
+    let mut rest = codes;
+    while let Some((first, after)) = rest.split_first() {
+        push_next_code(text, *first)?;
+        rest = after;
     }
+    Ok(())
 }
 
 /// Adds codes in two hexadecimal digits each, commas between them.
-fn push_codes(text: &mut String, codes: &[u8]) -> Result<(), AllocError>
-    ensures { OnOk result (string_bytes text.new ≡ string_bytes text.old ++ codes_text codes.now) }
+#[tactic(auto, using(std::proofs::lemmas::List::append_assoc))]
+fn push_codes(text: &mut Vec<u8>, codes: &[u8]) -> Result<(), AllocError>
+    ensures { OnOk result (text.new.items ≡ text.old.items ++ codes_text codes.now) }
 {
-    match codes {
-        [] => Ok(()),
-        [first, rest @ ..] => write!(text, "{}{}", HexByte(*first), NextCodes(rest)),
+    let Some((first, rest)) = codes.split_first() else {
+        return Ok(());
+    };
+    push_hex(text, *first)?;
+    push_next_codes(text, rest)
+}
+
+#[tactic(auto, using(std::proofs::lemmas::List::append_assoc))]
+fn push_connect(text: &mut Vec<u8>, connect: &ConnectRef<'_>) -> Result<(), AllocError>
+    ensures { OnOk result (text.new.items
+        ≡ text.old.items ++ connect_text (connect_of connect.now)) }
+{
+    text.extend_from_slice(b" client=")?;
+    push_escaped(text, connect.client_identifier)?;
+    push_field(text, b" clean=", u64::from(connect.clean_start))?;
+    push_field(text, b" keep=", u64::from(connect.keep_alive))?;
+    push_field(text, b" will=", u64::from(connect.will.is_some()))
+}
+
+/// Adds a reason code (2.4).
+fn push_code(text: &mut Vec<u8>, code: u8) -> Result<(), AllocError>
+    ensures { OnOk result (text.new.items ≡ text.old.items ++ codes " code=" ++ hex_byte code) }
+{
+    text.extend_from_slice(b" code=")?;
+    push_hex(text, code)
+}
+
+#[tactic(auto, using(std::proofs::lemmas::List::append_assoc))]
+fn push_connack(text: &mut Vec<u8>, connack: &ConnackRef<'_>) -> Result<(), AllocError>
+    ensures { OnOk result (text.new.items
+        ≡ text.old.items ++ connack_text (connack_of connack.now)) }
+{
+    push_field(text, b" present=", u64::from(connack.session_present))?;
+    push_code(text, connack.reason.0)
+}
+
+fn push_dup(text: &mut Vec<u8>, dup: bool) -> Result<(), AllocError>
+    ensures { OnOk result (text.new.items ≡ text.old.items ++ dup_text dup) }
+{
+    if dup {
+        text.extend_from_slice(b" dup")
+    } else {
+        Ok(())
     }
 }
 
-fn push_connect(text: &mut String, connect: &Connect) -> Result<(), AllocError>
-    ensures { OnOk result (string_bytes text.new ≡ string_bytes text.old ++ connect_text connect.now) }
+fn push_retain(text: &mut Vec<u8>, retain: bool) -> Result<(), AllocError>
+    ensures { OnOk result (text.new.items ≡ text.old.items ++ retain_text retain) }
 {
-    let client = Escaped(connect.client_identifier.as_str());
-    let clean = u8::from(connect.clean_start);
-    let keep = connect.keep_alive;
-    let will = u8::from(connect.will.is_some());
-    write!(
-        text,
-        " client={client} clean={clean} keep={keep} will={will}"
-    )
+    if retain {
+        text.extend_from_slice(b" retain")
+    } else {
+        Ok(())
+    }
 }
 
-fn push_connack(text: &mut String, connack: &Connack) -> Result<(), AllocError>
-    ensures { OnOk result (string_bytes text.new ≡ string_bytes text.old ++ connack_text connack.now) }
-{
-    let present = u8::from(connack.session_present);
-    let code = HexByte(connack.reason.0);
-    write!(text, " present={present} code={code}")
-}
-
-fn push_delivery(text: &mut String, delivery: Delivery) -> Result<(), AllocError>
-    ensures { OnOk result (string_bytes text.new ≡ string_bytes text.old ++ delivery_text delivery) }
+#[tactic(auto, using(std::proofs::lemmas::List::append_assoc))]
+fn push_delivery(text: &mut Vec<u8>, delivery: Delivery) -> Result<(), AllocError>
+    ensures { OnOk result (text.new.items ≡ text.old.items ++ delivery_text delivery) }
 {
     match delivery {
-        Delivery::AtMostOnce => text.push_str(" qos=0"),
+        Delivery::AtMostOnce => text.extend_from_slice(b" qos=0"),
         Delivery::AtLeastOnce { dup, identifier } => {
-            let dup = if dup { " dup" } else { "" };
-            write!(text, " qos=1 id={identifier}{dup}")
+            push_field(text, b" qos=1 id=", u64::from(identifier))?;
+            push_dup(text, dup)
         }
         Delivery::ExactlyOnce { dup, identifier } => {
-            let dup = if dup { " dup" } else { "" };
-            write!(text, " qos=2 id={identifier}{dup}")
+            push_field(text, b" qos=2 id=", u64::from(identifier))?;
+            push_dup(text, dup)
         }
     }
 }
 
 #[tactic(auto, using(std::proofs::lemmas::List::append_assoc))]
-fn push_publish(text: &mut String, publish: &Publish) -> Result<(), AllocError>
-    ensures { OnOk result (string_bytes text.new ≡ string_bytes text.old ++ publish_text publish.now) }
+fn push_publish(text: &mut Vec<u8>, publish: &PublishRef<'_>) -> Result<(), AllocError>
+    ensures { OnOk result (text.new.items
+        ≡ text.old.items ++ publish_text (publish_of publish.now)) }
 {
     push_delivery(text, publish.delivery)?;
-    let retain = if publish.retain { " retain" } else { "" };
-    let topic = Escaped(publish.topic.as_str());
-    let len = publish.payload.len();
-    write!(text, "{retain} topic={topic} payload={len}")
+    push_retain(text, publish.retain)?;
+    text.extend_from_slice(b" topic=")?;
+    push_escaped(text, publish.topic)?;
+    push_field(text, b" payload=", publish.payload.len() as u64)
 }
 
-fn push_ack(text: &mut String, ack: &Ack) -> Result<(), AllocError>
-    ensures { OnOk result (string_bytes text.new ≡ string_bytes text.old ++ ack_text ack.now) }
+#[tactic(auto, using(std::proofs::lemmas::List::append_assoc))]
+fn push_ack(text: &mut Vec<u8>, ack: &AckRef<'_>) -> Result<(), AllocError>
+    ensures { OnOk result (text.new.items ≡ text.old.items ++ ack_text (ack_of ack.now)) }
 {
-    let id = ack.identifier;
-    let code = HexByte(ack.reason.0);
-    write!(text, " id={id} code={code}")
+    push_field(text, b" id=", u64::from(ack.identifier))?;
+    push_code(text, ack.reason.0)
 }
 
-fn push_subscriptions(text: &mut String, subscriptions: &Subscriptions) -> Result<(), AllocError>
-    ensures { OnOk result (string_bytes text.new
-        ≡ string_bytes text.old ++ flat_map subscription_text subscriptions.now) }
+#[tactic(auto, using(std::proofs::lemmas::List::append_assoc))]
+fn push_subscription(
+    text: &mut Vec<u8>,
+    subscription: &SubscriptionRef<'_>,
+) -> Result<(), AllocError>
+    ensures { OnOk result (text.new.items
+        ≡ text.old.items ++ subscription_text (subscription_of subscription.now)) }
 {
-    let mut rest = subscriptions.lend();
+    text.extend_from_slice(b" filter=")?;
+    push_escaped(text, subscription.filter)?;
+    text.extend_from_slice(b":")?;
+    push_hex(text, subscription.options)
+}
+
+fn push_subscriptions(
+    text: &mut Vec<u8>,
+    subscriptions: &SubscriptionsRef<'_>,
+) -> Result<(), AllocError>
+    ensures { OnOk result (text.new.items
+        ≡ text.old.items ++ flat_map subscription_text subscriptions.now) }
+{
+    let mut rest = subscriptions.again();
     while let Some((first, after)) = rest.split_first() {
-        let filter = Escaped(first.filter);
-        let options = HexByte(first.options);
-        write!(text, " filter={filter}:{options}")?;
+        push_subscription(text, &first)?;
         rest = after;
     }
     Ok(())
 }
 
 #[tactic(auto, using(std::proofs::lemmas::List::append_assoc))]
-fn push_subscribe(text: &mut String, subscribe: &Subscribe) -> Result<(), AllocError>
-    ensures { OnOk result (string_bytes text.new ≡ string_bytes text.old ++ subscribe_text subscribe.now) }
+fn push_subscribe(text: &mut Vec<u8>, subscribe: &SubscribeRef<'_>) -> Result<(), AllocError>
+    ensures { OnOk result (text.new.items
+        ≡ text.old.items ++ subscribe_text (subscribe_of subscribe.now)) }
 {
-    let id = subscribe.identifier;
-    write!(text, " id={id}")?;
+    push_field(text, b" id=", u64::from(subscribe.identifier))?;
     push_subscriptions(text, &subscribe.subscriptions)
 }
 
 #[tactic(auto, using(std::proofs::lemmas::List::append_assoc))]
-fn push_suback(text: &mut String, suback: &Suback) -> Result<(), AllocError>
-    ensures { OnOk result (string_bytes text.new ≡ string_bytes text.old ++ suback_text suback.now) }
+fn push_suback(text: &mut Vec<u8>, suback: &SubackRef<'_>) -> Result<(), AllocError>
+    ensures { OnOk result (text.new.items
+        ≡ text.old.items ++ suback_text (suback_of suback.now)) }
 {
-    let id = suback.identifier;
-    write!(text, " id={id} codes=")?;
-    push_codes(text, suback.codes.as_slice())
+    push_field(text, b" id=", u64::from(suback.identifier))?;
+    text.extend_from_slice(b" codes=")?;
+    push_codes(text, suback.codes)
 }
 
-fn push_filters(text: &mut String, filters: &Filters) -> Result<(), AllocError>
-    ensures { OnOk result (string_bytes text.new
-        ≡ string_bytes text.old ++ flat_map filter_text filters.now) }
+fn push_filter(text: &mut Vec<u8>, filter: &str) -> Result<(), AllocError>
+    ensures { OnOk result (text.new.items ≡ text.old.items ++ filter_text filter.now) }
 {
-    let mut rest = filters.lend();
+    text.extend_from_slice(b" filter=")?;
+    push_escaped(text, filter)
+}
+
+fn push_filters(text: &mut Vec<u8>, filters: &FiltersRef<'_>) -> Result<(), AllocError>
+    ensures { OnOk result (text.new.items
+        ≡ text.old.items ++ flat_map filter_text filters.now) }
+{
+    let mut rest = filters.again();
     while let Some((first, after)) = rest.split_first() {
-        write!(text, " filter={}", Escaped(first))?;
+        push_filter(text, first)?;
         rest = after;
     }
     Ok(())
 }
 
 #[tactic(auto, using(std::proofs::lemmas::List::append_assoc))]
-fn push_unsubscribe(text: &mut String, unsubscribe: &Unsubscribe) -> Result<(), AllocError>
-    ensures { OnOk result (string_bytes text.new
-        ≡ string_bytes text.old ++ unsubscribe_text unsubscribe.now) }
+fn push_unsubscribe(text: &mut Vec<u8>, unsubscribe: &UnsubscribeRef<'_>) -> Result<(), AllocError>
+    ensures { OnOk result (text.new.items
+        ≡ text.old.items ++ unsubscribe_text (unsubscribe_of unsubscribe.now)) }
 {
-    let id = unsubscribe.identifier;
-    write!(text, " id={id}")?;
+    push_field(text, b" id=", u64::from(unsubscribe.identifier))?;
     push_filters(text, &unsubscribe.filters)
 }
 
-fn push_notice(text: &mut String, notice: &Notice) -> Result<(), AllocError>
-    ensures { OnOk result (string_bytes text.new ≡ string_bytes text.old ++ notice_text notice.now) }
+fn push_notice(text: &mut Vec<u8>, notice: &NoticeRef<'_>) -> Result<(), AllocError>
+    ensures { OnOk result (text.new.items
+        ≡ text.old.items ++ notice_text (notice_of notice.now)) }
 {
-    let code = HexByte(notice.reason.0);
-    write!(text, " code={code}")
+    push_code(text, notice.reason.0)
 }
 
-/// The standard's name of a packet (2.1.2).
-fn name(packet: &Packet) -> &'static str
-    ensures { result.now ≡ name_text packet.now }
+/// The standard's name of a packet (2.1.2), a space before and behind it.
+fn spaced_name(packet: &PacketRef<'_>) -> &'static [u8]
+    ensures { result.now ≡ codes " " ++ name_text (packet_of packet.now) ++ codes " " }
 {
     match packet {
-        Packet::Connect(_) => "CONNECT",
-        Packet::Connack(_) => "CONNACK",
-        Packet::Publish(_) => "PUBLISH",
-        Packet::Puback(_) => "PUBACK",
-        Packet::Pubrec(_) => "PUBREC",
-        Packet::Pubrel(_) => "PUBREL",
-        Packet::Pubcomp(_) => "PUBCOMP",
-        Packet::Subscribe(_) => "SUBSCRIBE",
-        Packet::Suback(_) => "SUBACK",
-        Packet::Unsubscribe(_) => "UNSUBSCRIBE",
-        Packet::Unsuback(_) => "UNSUBACK",
-        Packet::Pingreq => "PINGREQ",
-        Packet::Pingresp => "PINGRESP",
-        Packet::Disconnect(_) => "DISCONNECT",
-        Packet::Auth(_) => "AUTH",
+        PacketRef::Connect(_) => b" CONNECT ",
+        PacketRef::Connack(_) => b" CONNACK ",
+        PacketRef::Publish(_) => b" PUBLISH ",
+        PacketRef::Puback(_) => b" PUBACK ",
+        PacketRef::Pubrec(_) => b" PUBREC ",
+        PacketRef::Pubrel(_) => b" PUBREL ",
+        PacketRef::Pubcomp(_) => b" PUBCOMP ",
+        PacketRef::Subscribe(_) => b" SUBSCRIBE ",
+        PacketRef::Suback(_) => b" SUBACK ",
+        PacketRef::Unsubscribe(_) => b" UNSUBSCRIBE ",
+        PacketRef::Unsuback(_) => b" UNSUBACK ",
+        PacketRef::Pingreq => b" PINGREQ ",
+        PacketRef::Pingresp => b" PINGRESP ",
+        PacketRef::Disconnect(_) => b" DISCONNECT ",
+        PacketRef::Auth(_) => b" AUTH ",
     }
 }
 
 /// Adds the fields of a packet.
-fn push_fields(text: &mut String, packet: &Packet) -> Result<(), AllocError>
-    ensures { OnOk result (string_bytes text.new ≡ string_bytes text.old ++ fields_text packet.now) }
+fn push_fields(text: &mut Vec<u8>, packet: &PacketRef<'_>) -> Result<(), AllocError>
+    ensures { OnOk result (text.new.items
+        ≡ text.old.items ++ fields_text (packet_of packet.now)) }
 {
     match packet {
-        Packet::Connect(connect) => push_connect(text, connect),
-        Packet::Connack(connack) => push_connack(text, connack),
-        Packet::Publish(publish) => push_publish(text, publish),
-        Packet::Puback(ack) => push_ack(text, ack),
-        Packet::Pubrec(ack) => push_ack(text, ack),
-        Packet::Pubrel(ack) => push_ack(text, ack),
-        Packet::Pubcomp(ack) => push_ack(text, ack),
-        Packet::Subscribe(subscribe) => push_subscribe(text, subscribe),
-        Packet::Suback(suback) => push_suback(text, suback),
-        Packet::Unsubscribe(unsubscribe) => push_unsubscribe(text, unsubscribe),
-        Packet::Unsuback(suback) => push_suback(text, suback),
-        Packet::Pingreq | Packet::Pingresp => Ok(()),
-        Packet::Disconnect(notice) => push_notice(text, notice),
-        Packet::Auth(notice) => push_notice(text, notice),
+        PacketRef::Connect(connect) => push_connect(text, connect),
+        PacketRef::Connack(connack) => push_connack(text, connack),
+        PacketRef::Publish(publish) => push_publish(text, publish),
+        PacketRef::Puback(ack)
+        | PacketRef::Pubrec(ack)
+        | PacketRef::Pubrel(ack)
+        | PacketRef::Pubcomp(ack) => push_ack(text, ack),
+        PacketRef::Subscribe(subscribe) => push_subscribe(text, subscribe),
+        PacketRef::Suback(suback) | PacketRef::Unsuback(suback) => push_suback(text, suback),
+        PacketRef::Unsubscribe(unsubscribe) => push_unsubscribe(text, unsubscribe),
+        PacketRef::Pingreq | PacketRef::Pingresp => Ok(()),
+        PacketRef::Disconnect(notice) | PacketRef::Auth(notice) => push_notice(text, notice),
     }
 }
 
-/// How many properties the packet's own block has.
-fn own_count(packet: &Packet) -> usize
-    ensures { result ≡ length (own_properties packet.now) }
-{
-    match packet {
-        Packet::Connect(connect) => connect.properties.lend().len(),
-        Packet::Connack(connack) => connack.properties.lend().len(),
-        Packet::Publish(publish) => publish.properties.lend().len(),
-        Packet::Puback(ack) | Packet::Pubrec(ack) | Packet::Pubrel(ack) | Packet::Pubcomp(ack) =>
-            ack.properties.lend().len(),
-        Packet::Subscribe(subscribe) => subscribe.properties.lend().len(),
-        Packet::Unsubscribe(unsubscribe) => unsubscribe.properties.lend().len(),
-        Packet::Suback(suback) | Packet::Unsuback(suback) => suback.properties.lend().len(),
-        Packet::Pingreq | Packet::Pingresp => 0,
-        Packet::Disconnect(notice) | Packet::Auth(notice) => notice.properties.lend().len(),
-    }
-}
-
-fn push_count(text: &mut String, count: usize) -> Result<(), AllocError>
-    ensures { OnOk result (string_bytes text.new ≡ string_bytes text.old ++ count_text count) }
+fn push_count(text: &mut Vec<u8>, count: usize) -> Result<(), AllocError>
+    ensures { OnOk result (text.new.items ≡ text.old.items ++ count_text count) }
 {
     if count == 0 {
         Ok(())
     } else {
-        write!(text, " props={count}")
+        push_field(text, b" props=", count as u64)
     }
+}
+
+/// Adds bytes in hexadecimal.
+#[tactic(auto, using(std::proofs::lemmas::List::append_assoc))]
+fn push_shown(alloc: Global, text: &mut Vec<u8>, bytes: &[u8]) -> Result<(), AllocError>
+    ensures { OnOk result (text.new.items
+        ≡ text.old.items ++ (codes " head=" ++ encode_lower bytes.now)) }
+{
+    let shown = hex::encode(alloc, bytes)?;
+    text.extend_from_slice(b" head=")?;
+    text.extend_from_slice(shown.as_bytes())
 }
 
 /// Adds the first bytes of a payload, where they are asked for.
 fn push_head(
     alloc: Global,
-    text: &mut String,
+    text: &mut Vec<u8>,
     with_payload: bool,
     payload: &[u8],
 ) -> Result<(), AllocError>
-    ensures { OnOk result (string_bytes text.new
-        ≡ string_bytes text.old ++ head_text with_payload payload.now) }
+    ensures { OnOk result (text.new.items
+        ≡ text.old.items ++ head_text with_payload payload.now) }
 {
     if !with_payload {
         return Ok(());
     }
-    let head = hex::encode(alloc, &payload[..HEAD_SIZE.min(payload.len())])?;
-    write!(text, " head={head}")
+    push_shown(alloc, text, &payload[..HEAD_SIZE.min(payload.len())])
 }
 
 fn push_payload(
     alloc: Global,
-    text: &mut String,
+    text: &mut Vec<u8>,
     with_payload: bool,
-    packet: &Packet,
+    packet: &PacketRef<'_>,
 ) -> Result<(), AllocError>
-    ensures { OnOk result (string_bytes text.new
-        ≡ string_bytes text.old ++ payload_text with_payload packet.now) }
+    ensures { OnOk result (text.new.items
+        ≡ text.old.items ++ payload_text with_payload (packet_of packet.now)) }
 {
     match packet {
-        Packet::Publish(publish) => {
-            push_head(alloc, text, with_payload, publish.payload.as_slice())
-        }
+        PacketRef::Publish(publish) => push_head(alloc, text, with_payload, publish.payload),
         _ => Ok(()),
     }
 }
@@ -320,17 +416,16 @@ fn push_payload(
 #[tactic(auto, using(std::proofs::lemmas::List::append_assoc))]
 pub fn push_packet_text(
     alloc: Global,
-    text: &mut String,
+    text: &mut Vec<u8>,
     with_payload: bool,
     size: usize,
-    packet: &Packet,
+    packet: &PacketRef<'_>,
 ) -> Result<(), AllocError>
-    ensures { OnOk result (string_bytes text.new
-        ≡ string_bytes text.old ++ packet_text with_payload size packet.now) }
+    ensures { OnOk result (text.new.items
+        ≡ text.old.items ++ packet_text with_payload size (packet_of packet.now)) }
 {
-    let name = name(packet);
-    write!(text, " {name} {size}")?;
+    push_field(text, spaced_name(packet), size as u64)?;
     push_fields(text, packet)?;
-    push_count(text, own_count(packet))?;
+    push_count(text, packet.properties().len())?;
     push_payload(alloc, text, with_payload, packet)
 }

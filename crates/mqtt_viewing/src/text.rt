@@ -1,35 +1,35 @@
 //! The lines of `view` (ours).
 
 ghost use Rattle.std.specs.Prelude.{◌≡◌, ◌++◌, OnOk};
-ghost use Rattle.std.specs.String.{string_bytes};
+ghost use Rattle.mqtt_codec.specs.Frames.{packet_of};
 ghost use Rattle.mqtt_viewing.specs.View.{line, fault_line, rest_line};
 
-use crate::packet_text::push_packet_text;
-use mqtt_packet::{Fault, Packet};
+use crate::packet_text::{push_number, push_packet_text};
+use mqtt_packet::{Fault, PacketRef};
 use std::alloc::{AllocError, Global};
 
 /// Adds a packet's line.
 #[tactic(auto, using(std::proofs::lemmas::List::append_assoc))]
 pub fn push_packet(
     alloc: Global,
-    text: &mut String,
+    text: &mut Vec<u8>,
     with_payload: bool,
     place: u64,
     size: usize,
-    packet: &Packet,
+    packet: &PacketRef<'_>,
 ) -> Result<(), AllocError>
-    ensures { OnOk result (string_bytes text.new ≡ string_bytes text.old ++ line with_payload
-        (record { place = place; size = size; packet = packet.now })) }
+    ensures { OnOk result (text.new.items ≡ text.old.items ++ line with_payload
+        (record { place = place; size = size; packet = packet_of packet.now })) }
 {
-    write!(text, "{place}")?;
+    push_number(text, place)?;
     push_packet_text(alloc, text, with_payload, size, packet)?;
-    text.push('\n')
+    text.extend_from_slice(b"\n")
 }
 
 /// Adds the line of a fault.
-pub fn push_fault(text: &mut String, place: u64, fault: Fault) -> Result<(), AllocError>
-    ensures { OnOk result (string_bytes text.new
-        ≡ string_bytes text.old ++ fault_line place fault) }
+#[tactic(auto, using(std::proofs::lemmas::List::append_assoc))]
+pub fn push_fault(text: &mut Vec<u8>, place: u64, fault: Fault) -> Result<(), AllocError>
+    ensures { OnOk result (text.new.items ≡ text.old.items ++ fault_line place fault) }
 {
     let name = match fault {
         Fault::Malformed => " fault Malformed",
@@ -38,17 +38,19 @@ pub fn push_fault(text: &mut String, place: u64, fault: Fault) -> Result<(), All
         Fault::Version => " fault Version",
         Fault::Memory => "",
     };
-    writeln!(text, "{place}{name}")
+    push_number(text, place)?;
+    text.extend_from_slice(name.as_bytes())?;
+    text.extend_from_slice(b"\n")
 }
 
 /// Adds the line of an input that ends inside a packet, of which `left` bytes have come.
-pub fn push_rest(text: &mut String, place: u64, left: usize) -> Result<(), AllocError>
-    ensures { OnOk result (string_bytes text.new
-        ≡ string_bytes text.old ++ rest_line place left) }
+#[tactic(auto, using(std::proofs::lemmas::List::append_assoc))]
+pub fn push_rest(text: &mut Vec<u8>, place: u64, left: usize) -> Result<(), AllocError>
+    ensures { OnOk result (text.new.items ≡ text.old.items ++ rest_line place left) }
 {
     if left == 0 {
-        Ok(())
-    } else {
-        writeln!(text, "{place} short")
+        return Ok(());
     }
+    push_number(text, place)?;
+    text.extend_from_slice(b" short\n")
 }

@@ -1,15 +1,18 @@
 //! Whether this program finds of each vector what is known of it (ours).
 
-ghost use Rattle.std.specs.Prelude.{◌≡◌, ◌≢◌, ◌<◌, IfOk, IfErr, OnOk, length};
+ghost use Rattle.std.specs.Prelude.{◌≡◌, ◌≢◌, ◌<◌, ◌↔◌, false, IfOk, IfErr, OnOk, IsTrue, length};
 ghost use Rattle.std.specs.String.{string_bytes};
 ghost use Rattle.std.specs.Io.KnownBytes.{Appends, Keeps};
-ghost use Rattle.mqtt_viewing.specs.Vectors.{Reports, report};
+ghost use Rattle.mqtt_codec.specs.Packets.{HasSpelling, shortest_of};
+ghost use Rattle.mqtt_packet.specs.Stream.{empty};
+ghost use Rattle.mqtt_viewing.specs.PacketText.{packet_text};
+ghost use Rattle.mqtt_viewing.specs.Vectors.{AreJudged, FindsWhole, IsRight, IsShown, Reports, report};
 
 use crate::packet_text::push_packet_text;
 use crate::vectors_report::{push_report, status_of};
-use crate::vectors_table::{Gives, Vector, table};
+use crate::vectors_table::{Gives, Vector, known_vectors};
 use crate::viewer::Status;
-use mqtt_packet::{Fault, Framer, Packet, decode, encode, lawful};
+use mqtt_packet::{Fault, Framer, Packet, encode, lawful};
 use std::alloc::{AllocError, Global};
 use std::io::Write;
 use thiserror::Error;
@@ -42,7 +45,7 @@ pub fn vectors<W: Write>(alloc: Global, writer: &mut W) -> Result<Status, Vector
     ensures memory { IfErr result (λ fault. fault ≢ VectorsFault.Write
         → Keeps (W.contents writer.old) (W.contents writer.new)) }
 {
-    let rights = checked(alloc, table())?;
+    let rights = checked(alloc, known_vectors())?;
     let status = status_of(rights.as_slice());
     let text = report_text(alloc, rights.as_slice());
     drop(rights);
@@ -79,8 +82,10 @@ fn write_report<W: Write>(writer: &mut W, text: String) -> Result<(), VectorsFau
 }
 
 /// Whether each vector is right.
+#[tactic(auto, using(crate::proofs::RightVectors::judged_first, crate::proofs::RightVectors::judged_next, crate::proofs::RightVectors::judged_all))]
 fn checked(alloc: Global, vectors: &[Vector]) -> Result<Vec<bool>, AllocError>
-    ensures { IfOk result (λ rights. length rights.items ≡ length vectors.now) }
+    ensures judged { IfOk result (λ rights. AreJudged vectors.now rights.items) }
+    ensures count { IfOk result (λ rights. length rights.items ≡ length vectors.now) }
 {
     let mut rights = Vec::new(alloc);
     let mut rest = vectors;
@@ -91,100 +96,110 @@ fn checked(alloc: Global, vectors: &[Vector]) -> Result<Vec<bool>, AllocError>
     Ok(rights)
 }
 
-/// Whether a vector gives what is known of it, in one piece and byte by byte. Only a framer tells
-/// that a packet is too large.
-fn is_right(alloc: Global, vector: &Vector) -> Result<bool, AllocError> {
-    let whole = match vector.gives {
-        Gives::Refusal(Fault::TooLarge) => in_one_piece(alloc, vector.frame),
-        _ => decode(alloc, vector.frame).map(Some),
-    };
-    if !is_known(alloc, vector, whole)? {
-        return Ok(false);
+/// Whether a frame gives what is known of it, in one piece and byte by byte.
+pub fn is_right(alloc: Global, vector: &Vector) -> Result<bool, AllocError>
+    ensures { IfOk result (λ right. IsTrue right ↔ IsRight vector.now.frame.now vector.now.gives) }
+{
+    if is_right_in_pieces(alloc, vector, usize::MAX)? {
+        is_right_in_pieces(alloc, vector, 1)
+    } else {
+        Ok(false)
     }
-    is_known(alloc, vector, byte_by_byte(alloc, vector.frame))
 }
 
-/// The packet that a framer gives of a frame that comes in one piece.
-fn in_one_piece(alloc: Global, frame: &[u8]) -> Result<Option<Packet>, Fault> {
+/// The same, in pieces of so many bytes.
+#[tactic(auto, using(crate::proofs::RightVectors::refused_right, crate::proofs::RightVectors::none_right, crate::proofs::RightVectors::shown_right))]
+fn is_right_in_pieces(alloc: Global, vector: &Vector, step: usize) -> Result<bool, AllocError>
+    requires { 0 < step }
+    ensures { IfOk result (λ right. IsTrue right ↔ IsRight vector.now.frame.now vector.now.gives) }
+{
     let mut framer = Framer::new(alloc);
-    next_of(&mut framer, frame)
-}
-
-/// The packet that a framer gives with the last byte of a frame, and with no byte before.
-fn byte_by_byte(alloc: Global, frame: &[u8]) -> Result<Option<Packet>, Fault> {
-    let mut framer = Framer::new(alloc);
-    let mut rest = frame;
-    while let Some((first, after)) = rest.split_first() {
-        if let Some(packet) = next_of(&mut framer, &[*first])? {
-            if after.is_empty() {
-                return Ok(Some(packet));
-            }
+    let found = whole_of(&mut framer, vector.frame, step);
+    drop(framer);
+    match found {
+        Err(Fault::Memory) => Err(AllocError),
+        Err(fault) => Ok(is_refusal(&vector.gives, fault)),
+        Ok(None) => Ok(false),
+        Ok(Some(packet)) => {
+            let is_shown = is_shown(alloc, &vector.gives, vector.frame.len(), &packet);
             drop(packet);
-            return Ok(None);
+            is_shown
         }
-        rest = after;
+    }
+}
+
+/// The packet that a frame is by a framer that holds nothing, in pieces of so many bytes; none where it
+/// ends inside a packet or goes on behind one.
+fn whole_of(framer: &mut Framer, frame: &[u8], step: usize) -> Result<Option<Packet>, Fault>
+    requires start { framer.old ≡ empty }
+    requires some { 0 < step }
+    ensures { FindsWhole frame.now result }
+{
+    let mut rest = frame;
+    while !rest.is_empty() {
+        let (piece, _) = rest.split_at(step.min(rest.len()));
+        let count = match framer.feed(piece) {
+            Ok(count) => count,
+            Err((fault, _)) => return Err(fault),
+        };
+        let (_, after) = rest.split_at(count);
+        match framer.next() {
+            Ok(None) => rest = after,
+            Ok(Some((packet, _))) => {
+                if after.len() + framer.held() == 0 {
+                    return Ok(Some(packet));
+                }
+                drop(packet);
+                return Ok(None);
+            }
+            Err((fault, _)) => return Err(fault),
+        }
     }
     Ok(None)
 }
 
-/// The packet that is whole with this piece.
-fn next_of(framer: &mut Framer, piece: &[u8]) -> Result<Option<Packet>, Fault> {
-    if let Err((fault, _)) = framer.feed(piece) {
-        return Err(fault);
-    }
-    match framer.next() {
-        Ok(None) => Ok(None),
-        Ok(Some((packet, _))) => Ok(Some(packet)),
-        Err((fault, _)) => Err(fault),
+/// Whether a frame is known to be refused so.
+fn is_refusal(gives: &Gives, fault: Fault) -> bool
+    ensures { IsTrue result ↔ (gives.now ≡ Gives.Refusal fault) }
+{
+    match gives {
+        Gives::Packet { .. } => false,
+        Gives::Refusal(known) => *known == fault,
     }
 }
 
-/// Whether what was found is what is known.
-fn is_known(
-    alloc: Global,
-    vector: &Vector,
-    found: Result<Option<Packet>, Fault>,
-) -> Result<bool, AllocError> {
-    match found {
-        Ok(Some(packet)) => {
-            let is_known = is_known_packet(alloc, vector, &packet);
-            drop(packet);
-            is_known
-        }
-        Ok(None) => Ok(false),
-        Err(Fault::Memory) => Err(AllocError),
-        Err(fault) => match vector.gives {
-            Gives::Refusal(known) => Ok(fault == known),
-            Gives::Packet { .. } => Ok(false),
-        },
-    }
-}
-
-/// Whether a packet is the one that is known.
-fn is_known_packet(alloc: Global, vector: &Vector, packet: &Packet) -> Result<bool, AllocError> {
-    match vector.gives {
-        Gives::Packet { line, shortest } => {
-            is_shown(alloc, packet, vector.frame.len(), line, shortest)
-        }
-        Gives::Refusal(_) => Ok(false),
-    }
-}
-
-/// Whether a packet of this size has this line, and this shortest spelling.
-fn is_shown(
-    alloc: Global,
-    packet: &Packet,
-    size: usize,
-    line: &[u8],
-    shortest: &[u8],
-) -> Result<bool, AllocError> {
+/// Whether a frame is known to give this packet of this size.
+fn is_shown(alloc: Global, gives: &Gives, size: usize, packet: &Packet) -> Result<bool, AllocError>
+    ensures { IfOk result (λ shown. IsTrue shown ↔ IsShown gives.now size packet.now) }
+{
+    let Gives::Packet { line, shortest } = *gives else {
+        return Ok(false);
+    };
     if !lawful(packet) {
         return Ok(false);
     }
-    let mut text = String::new(alloc);
-    push_packet_text(alloc, &mut text, false, size, packet)?;
+    Ok(has_line(alloc, packet, size, line)? && has_spelling(alloc, packet, shortest)?)
+}
+
+/// Whether this is the line of a packet of this size, without its place.
+fn has_line(alloc: Global, packet: &Packet, size: usize, line: &[u8]) -> Result<bool, AllocError>
+    ensures { IfOk result (λ is. IsTrue is ↔ (line.now ≡ packet_text false size packet.now)) }
+{
+    let mut text = Vec::new(alloc);
+    let pushed = push_packet_text(alloc, &mut text, false, size, &packet.lend());
+    let is_line = text.as_slice() == line;
+    drop(text);
+    pushed?;
+    Ok(is_line)
+}
+
+/// Whether this is the shortest spelling of a packet.
+fn has_spelling(alloc: Global, packet: &Packet, shortest: &[u8]) -> Result<bool, AllocError>
+    requires { HasSpelling packet.now }
+    ensures { IfOk result (λ is. IsTrue is ↔ (shortest.now ≡ shortest_of packet.now)) }
+{
     match encode(alloc, packet) {
-        Ok(frame) => Ok(text.as_str().as_bytes() == line && frame.as_slice() == shortest),
+        Ok(frame) => Ok(frame.as_slice() == shortest),
         Err(_) => Err(AllocError),
     }
 }

@@ -28,7 +28,7 @@ pub struct Vector {
 }
 
 /// The vectors, the first of which is number 1.
-pub fn table() -> &'static [Vector]
+pub fn known_vectors() -> &'static [Vector]
     ensures { length result.now ≡ 22 }
 {
     &VECTORS

@@ -1,7 +1,6 @@
 //! The view of a stream of packets, a line each (ours).
 
 ghost use Rattle.std.specs.Prelude.{◌≡◌, ◌≢◌, ◌==◌, if◌then◌else◌, ◌+◌, ◌<◌, ◌≤◌, ◌++◌, [], length, OnOk, IfOk, IfErr, IfSome, Ok};
-ghost use Rattle.std.specs.String.{string_bytes};
 ghost use Rattle.std.specs.Io.KnownBytes.{Appends, Keeps};
 ghost use Rattle.mqtt_packet.specs.Front.{first_of};
 ghost use Rattle.mqtt_packet.specs.Stream.{empty};
@@ -10,13 +9,16 @@ ghost use Rattle.mqtt_viewing.specs.Viewing.{IsDrained, AddsLines, WritesLines, 
 
 use crate::text::{push_fault, push_packet, push_rest};
 use mqtt_base::PACKET_LIMIT;
-use mqtt_packet::{Fault, Framer, Packet};
+use mqtt_packet::{Fault, Framer};
 use std::alloc::{AllocError, Global};
 use std::io::{ErrorKind, Read, Write};
 use thiserror::Error;
 
 /// The most bytes that one read takes.
 const CHUNK_SIZE: usize = 4_096;
+
+/// Room for the lines of one read, so that they seldom have to move.
+const LINES_SIZE: usize = 5 * CHUNK_SIZE;
 
 /// What a stream ended with.
 #[derive(Clone, Copy, Debug, PartialEq, Eq)]
@@ -144,52 +146,35 @@ fn write_packets<W: Write>(
     if framer.feed(piece).is_err() {
         return Err(ViewFault::Memory);
     }
-    let mut text = String::new(alloc);
-    let fault = push_packets(alloc, framer, &mut text, payload)?;
-    write_text(writer, text.as_str())?;
+    let mut lines = Vec::with_capacity(alloc, LINES_SIZE)?;
+    let fault = push_packets(alloc, framer, &mut lines, payload)?;
+    write_text(writer, lines.as_slice())?;
     Ok(fault)
 }
 
 /// Adds a line for each whole packet that is held, up to a fault, which it answers with its place.
+/// The packets are lent, and what is shown is held no longer.
 fn push_packets(
     alloc: Global,
     framer: &mut Framer,
-    text: &mut String,
+    text: &mut Vec<u8>,
     payload: bool,
 ) -> Result<Option<(Fault, u64)>, AllocError>
     ensures lines { OnOk result (AddsLines payload framer.old [] framer.new
-        (string_bytes text.old) (string_bytes text.new)) }
+        text.old.items text.new.items) }
     ensures drained { IfOk result (IsDrained framer.new) }
 {
     'packets: loop {
-        let before = framer.held();
-        match framer.next() {
+        let size = match framer.look_sized() {
             Ok(None) => return Ok(None),
-            Ok(Some((packet, place))) => {
-                let size = before - framer.held();
-                push_given(alloc, text, payload, place, size, packet)?;
+            Ok(Some((packet, place, size))) => {
+                push_packet(alloc, text, payload, place, size, &packet)?;
+                size
             }
-            Err((Fault::Memory, _)) => return Err(AllocError),
             Err(fault) => return Ok(Some(fault)),
-        }
+        };
+        framer.skip(size);
     }
-}
-
-/// Adds the line of a packet, which is needed no longer.
-fn push_given(
-    alloc: Global,
-    text: &mut String,
-    payload: bool,
-    place: u64,
-    size: usize,
-    packet: Packet,
-) -> Result<(), AllocError>
-    ensures { OnOk result (string_bytes text.new ≡ string_bytes text.old ++ line payload
-        (record { place = place; size = size; packet = packet })) }
-{
-    let pushed = push_packet(alloc, text, payload, place, size, &packet);
-    drop(packet);
-    pushed
 }
 
 /// Writes the line of a fault.
@@ -204,9 +189,9 @@ fn write_fault<W: Write>(
     ensures memory { IfErr result (λ e. e ≢ ViewFault.Write
         → Keeps (W.contents writer.old) (W.contents writer.new)) }
 {
-    let mut text = String::new(alloc);
+    let mut text = Vec::new(alloc);
     push_fault(&mut text, place, fault)?;
-    write_text(writer, text.as_str())
+    write_text(writer, text.as_slice())
 }
 
 /// Writes the line of an input that ends inside a packet, if any bytes are left.
@@ -221,17 +206,17 @@ fn write_rest<W: Write>(
     ensures memory { IfErr result (λ e. e ≢ ViewFault.Write
         → Keeps (W.contents writer.old) (W.contents writer.new)) }
 {
-    let mut text = String::new(alloc);
+    let mut text = Vec::new(alloc);
     push_rest(&mut text, place, left)?;
-    write_text(writer, text.as_str())
+    write_text(writer, text.as_slice())
 }
 
 /// Writes a text.
-fn write_text<W: Write>(writer: &mut W, text: &str) -> Result<(), ViewFault>
+fn write_text<W: Write>(writer: &mut W, text: &[u8]) -> Result<(), ViewFault>
     ensures ok { OnOk result (Appends (W.contents writer.old) (W.contents writer.new) text.now) }
     ensures fault { IfErr result (λ e. e ≡ ViewFault.Write) }
 {
-    match writer.write_all(text.as_bytes()) {
+    match writer.write_all(text) {
         Ok(()) => Ok(()),
         Err(_) => Err(ViewFault::Write),
     }

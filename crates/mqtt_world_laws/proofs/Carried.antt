@@ -13,7 +13,6 @@ use Rattle.mqtt_records.specs.Session.{birth_of}
 use Rattle.mqtt_rules.specs.declared.Limits.{Limits}
 use Rattle.mqtt_rules.specs.State.{Line as BrokerLine, Broker, line_at, session_at}
 use Rattle.mqtt_rules.specs.Deeds.{Message, Deed}
-use Rattle.mqtt_rules.specs.Laws.{IsAmong}
 use Rattle.mqtt_rules.specs.Step.{Input, deeds, unopened, env_of}
 use Rattle.mqtt_rules.proofs.FlightRows.{found_key}
 use Rattle.mqtt_rules.proofs.Leads.{row_among}
@@ -34,6 +33,7 @@ use Rattle.mqtt_world_laws.proofs.Said.{AreSaid, said_append, unsaid, said_messa
 use Rattle.mqtt_world_laws.proofs.Numbered.{AreOf, IsNumbered, Moves}
 use Rattle.mqtt_world_laws.proofs.Moves.{Moved, event_moved}
 use Rattle.mqtt_world_laws.proofs.Runs.{either, both_true, turn_stays, new_stays}
+use Rattle.mqtt_rules.proofs.FitLaw.{all_among}
 
 -- ---- what was accepted stays carried
 
@@ -66,17 +66,12 @@ tells_moved (Some p) y from m h =
 
 -- ---- whose the session is that is connected on his line
 
-among_all : {X : Type 0} (P : X → Type 0) (x : X) (xs : List X) → AllByRecursion P xs → IsAmong x xs → P x
-among_all P x [] a among = absurd among
-among_all P x (y ∷ ys) a (inl is) = subst P is a.0
-among_all P x (y ∷ ys) a (inr further) = among_all P x ys a.1 further
-
 own_named : (client : List ℕ) (birth k : ℕ) (b : Broker) → Own client birth k b → connected_at k b.lines ≡ Some (Some birth)
     → (l : BrokerLine) (found : ℕ) (s : Session) → line_at k b ≡ Some l → l.session ≡ Some found → session_at found b.records ≡ Some s → s.client ≡ client
 own_named client birth k b own there l found s line on at =
     let it : Some (Some found) ≡ Some (Some birth) = ap Some (sym on) ∙ (sym (ap (option_map (λ (x : BrokerLine). x.session)) line) ∙ there) in
     let same : found ≡ birth = cc in
-    let ours = among_all (IsOurs client birth) s b.records.sessions own.sessions (row_among birth_of found s b.records.sessions at) in
+    let ours = all_among (IsOurs client birth) s b.records.sessions own.sessions (row_among birth_of found s b.records.sessions at) in
     ours.name (found_key birth_of found s b.records.sessions at ∙ same)
 
 -- the number of a line on which his session is connected

@@ -2,19 +2,17 @@
 -- publications are numbered one after the other.
 use Rattle.std.proofs.Common.{ℕ, List, [], ◌∷◌, ◌++◌, refl, sym, ap, subst, arith}
 use Rattle.std.specs.Prelude.{filter_map}
-use Rattle.std.specs.List.{AllByRecursion}
 use Rattle.std.proofs.lemmas.List.Elements.{filter_map-append}
 use Rattle.mqtt_base.specs.declared.limits.TheConstants.{QUEUE_LIMIT}
 use Rattle.mqtt_base.specs.declared.session.CopyId.{CopyId}
-use Rattle.mqtt_records.specs.declared.session.Session.{Session}
 use Rattle.mqtt_records.specs.declared.records.Records.{Records}
 use Rattle.mqtt_rules.specs.declared.Limits.{Limits}
 use Rattle.mqtt_rules.specs.State.{Broker, MemberChoice}
 use Rattle.mqtt_rules.specs.Deeds.{Deed, after_all, rows_of_all}
-use Rattle.mqtt_rules.specs.Laws.{AreWithin, HasTables, IsOrdered}
+use Rattle.mqtt_rules.specs.Laws.{AreWithin, IsOrdered}
 use Rattle.mqtt_rules.specs.Step.{Call, at_moment, env_of, deeds, stepped, opened, opening, unopened}
 use Rattle.mqtt_rules.proofs.OrderedActs.{leads_all, leads_open}
-use Rattle.mqtt_rules.proofs.OrderedEnters.{ShortQueues, RoomToEnter, AreShort}
+use Rattle.mqtt_rules.proofs.OrderedEnters.{ShortQueues, RoomToEnter}
 use Rattle.mqtt_rules.proofs.OrderedFull.{queues_keeping}
 use Rattle.mqtt_rules.proofs.StandLaw.{stands_call, stands_opening}
 use Rattle.mqtt_laws.specs.World.{World}
@@ -27,15 +25,12 @@ use Rattle.mqtt_rules.specs.Numbers.{CountsOn, publication_given}
 use Rattle.mqtt_rules.proofs.NumberSteps.{step_counts, opening_counts}
 use Rattle.mqtt_world_laws.proofs.Counting.{N, Balances, then_balances, all_balance}
 use Rattle.mqtt_world_laws.proofs.Walks.{Walk, run_walks}
+use Rattle.mqtt_rules.proofs.RowsFit.{queues_short}
 
 -- ---- a call, and an opening
 
-short_queues : (ss : List Session) → AllByRecursion HasTables ss → AreShort QUEUE_LIMIT ss
-short_queues [] h = tt
-short_queues (s ∷ ss) h = (h.0.queue.within, short_queues ss h.1)
-
 short : (r : Records) → IsOrdered r → ShortQueues QUEUE_LIMIT r
-short r h = record { ordered = h; short = short_queues r.sessions h.each }
+short r h = record { ordered = h; short = queues_short r.sessions h.each }
 
 module _ (c : CopyId) (limits : Limits) (within : AreWithin limits) where
   call_balances : (choice : MemberChoice) (now : ℕ) (call : Call) (b : Broker) → IsSteady limits b → Balances c (deeds limits choice now call b) b (stepped limits choice now call b)

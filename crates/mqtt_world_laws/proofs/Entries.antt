@@ -23,7 +23,7 @@ use Rattle.mqtt_rules.specs.Subscribe as sub
 use Rattle.mqtt_rules.proofs.Acts.{brought_to}
 use Rattle.mqtt_rules.proofs.Copies.{IsBeside, IsNumbered, Kinds, kinds, kinds_at, kinds_deed, beside_deliver, each_filter, each_more, routed_numbered}
 use Rattle.mqtt_rules.proofs.Goods.{AreGood, after_append}
-use Rattle.mqtt_rules.proofs.NumberCopies.{each_put}
+use Rattle.mqtt_rules.proofs.FlightRows.{all_put}
 use Rattle.mqtt_rules.proofs.StandLaw.{Orders}
 use Rattle.mqtt_laws.specs.Run.{entered_in}
 use Rattle.mqtt_laws.specs.Laws.{count_of}
@@ -218,7 +218,7 @@ module _ (c : CopyId) where
         publications = refl;
         subscribes = refl;
         kept = record {
-          given = each_put kept_place (λ x. x.publication ≤ b.records.publications) RETAINED_LIMIT new b.records.retained (omega arith) k.given;
+          given = all_put kept_place (λ x. x.publication ≤ b.records.publications) RETAINED_LIMIT new b.records.retained (omega arith) k.given;
           differ = put_differ kept_place number_of RETAINED_LIMIT new b.records.retained (new_number b.records.publications b.records.retained less) k.differ;
         };
       }

@@ -12,7 +12,7 @@ use Rattle.mqtt_rules.specs.State.{Broker, session_named}
 use Rattle.mqtt_rules.specs.Laws.{IsAmong}
 use Rattle.mqtt_laws.specs.Lines.{Line, gives_up}
 use Rattle.mqtt_laws.specs.Ends.{Draft, Sent, Publisher, new_publisher, published, publisher_reads, Wish, Back, Receiver, new_receiver, receiver_reads}
-use Rattle.mqtt_laws.specs.World.{World, Setting, publisher, receiver, give_up, publish, subscribe, to_end, clock, happens, is_bad, is_bad_name, is_taken, link_by, publisher_named, receiver_named, with_publisher, is_open_line, asks_wish}
+use Rattle.mqtt_laws.specs.World.{World, Setting, publisher, receiver, give_up, publish, subscribe, to_end, clock, happens, is_bad, is_bad_name, is_taken, is_window, link_by, publisher_named, receiver_named, with_publisher, is_open_line, asks_wish}
 use Rattle.mqtt_laws.specs.Run.{is_asked, is_clean, carries_clean}
 use Rattle.mqtt_laws.specs.Seen.{open_in, seen}
 use Rattle.mqtt_laws.specs.Hops.{MayGiveUp}
@@ -125,8 +125,9 @@ pub receiver_comes : (c d : List ℕ) (window : ℕ) (set : Setting) (his accept
     → Holds c set.limits his accepted (happens set (receiver d window) w)
 receiver_comes c d window set his accepted w h good =
     let new = new_receiver d window w.broker.records.births in
-    let name = either (is_bad_name d) (is_taken d w) good in
-    let free = either (is_some (publisher_named d w) || is_some (receiver_named d w)) (is_some (session_named d w.broker.records)) name.1 in
+    let name = either (is_bad_name d) (is_taken d w || not (is_window window)) good in
+    let there = either (is_taken d w) (not (is_window window)) name.1 in
+    let free = either (is_some (publisher_named d w) || is_some (receiver_named d w)) (is_some (session_named d w.broker.records)) there.0 in
     let ends = either (is_some (publisher_named d w)) (is_some (receiver_named d w)) free.0 in
     record {
       around = record {

@@ -41,12 +41,13 @@ use Rattle.mqtt_rules.specs.Inbound.{pump_turns, pump_deeds}
 use Rattle.mqtt_rules.specs.Subscribe as sub
 use Rattle.mqtt_rules.specs.Step.{Call, deeds_of, opening}
 use Rattle.mqtt_rules.specs.Tick.{lapses, lapse_deeds}
-use Rattle.mqtt_rules.specs.Laws.{IsAmong, HasTables, IsOrdered}
+use Rattle.mqtt_rules.specs.Laws.{IsAmong, IsOrdered}
 use Rattle.mqtt_rules.proofs.Goods.{AreGood, good_append, good_cond, good_with_session}
 use Rattle.mqtt_rules.proofs.Leads.{Leads}
 use Rattle.mqtt_rules.proofs.Acts.{anyone, call_of_anyone, finds_anyone, is_alone, closing_session, closing_on, closing, brought_to, Law, leads_call, leads_opening}
-use Rattle.mqtt_rules.proofs.FlightRows.{found_key, all_at, all_found, change_row-here}
-use Rattle.mqtt_rules.proofs.StandLaw.{Orders, ordered_all}
+use Rattle.mqtt_rules.proofs.FlightRows.{found_key, all_found, change_row-here}
+use Rattle.mqtt_rules.proofs.StandLaw.{Orders, ordered_all, rising}
+use Rattle.mqtt_rules.proofs.FitLaw.{all_among}
 
 -- ---- what is said
 
@@ -385,15 +386,8 @@ here_end s b up there =
 led : (ds : List Deed) (b : Broker) → Orders b → AreGood Here ds b → Leads Orders Here ds b
 led ds b h good = (good, ordered_all ds b h)
 
-among_here : {X : Type 0} (P : X → Type 0) (x : X) (xs : List X) → AllByRecursion P xs → IsAmong x xs → P x
-among_here P x [] h among = absurd among
-among_here P x (y ∷ ys) h among = elim among [ inl it ↦ subst P it h.0 | inr more ↦ among_here P x ys h.1 more ]
-
 stands_here : (s : Session) (b : Broker) → Orders b → IsAmong s b.records.sessions → session_at s.birth b.records ≡ Some s
-stands_here s b h among = among_here (λ (x : Session). session_at x.birth b.records ≡ Some x) s b.records.sessions (all_found birth_of b.records.sessions h.sessions.ascending) among
-
-rising : (s : Session) (b : Broker) → Orders b → session_at s.birth b.records ≡ Some s → IsAscending copy_place s.queue
-rising s b h there = (all_at birth_of HasTables s.birth s b.records.sessions h.each there).queue.ascending
+stands_here s b h among = all_among (λ (x : Session). session_at x.birth b.records ≡ Some x) s b.records.sessions (all_found birth_of b.records.sessions h.sessions.ascending) among
 
 here_law : (env : Env) → Law env anyone Orders Here
 here_law env = record {

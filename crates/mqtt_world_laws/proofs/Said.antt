@@ -16,7 +16,7 @@ use Rattle.mqtt_rules.specs.declared.Limits.{Limits}
 use Rattle.mqtt_rules.specs.Deeds.{whose, Message, FromClient, FromWill, Close, Hear, Deed, Accept, At, On, Send, Gone, Begin, Name, Count, Finish, Keep, Forget, RefuseWill, Link, after, after_all, always, series, with_line, with_session}
 use Rattle.mqtt_rules.specs.Routing.{CopyTo, accepted_copies, next_publication}
 use Rattle.mqtt_rules.specs.Closing.{close_session, close_connected, close, drop_line, settle}
-use Rattle.mqtt_rules.specs.Inbound.{Meaning, Means, Wrong, named, meaning, sets_alias, standing, answer, opens, publish_new, publish_by, message_of, publish_meant, on_publish}
+use Rattle.mqtt_rules.specs.Inbound.{Meaning, Means, Wrong, named, meaning, standing, answer, opens, publish_new, publish_by, message_of, publish_meant, on_publish}
 use Rattle.mqtt_rules.specs.Packets.{disconnect}
 use Rattle.mqtt_rules.specs.Step.{Input, at_moment, env_of, deeds, on_packet}
 use Rattle.mqtt_laws.specs.Ends.{Content, publish_with}
@@ -24,6 +24,7 @@ use Rattle.mqtt_laws.specs.Run.{client_number, client_message}
 use Rattle.mqtt_laws.specs.Laws.{Carries}
 use Rattle.mqtt_laws.proofs.Quiet.{numbers, calm, copies_of, quiet_copies}
 use Rattle.mqtt_world_laws.proofs.OpeningNumbers.{AcceptsNone, none_append, none_settle, none_with}
+use Rattle.mqtt_laws.proofs.LightPublishes.{no_alias}
 
 -- ---- of deeds
 
@@ -121,10 +122,6 @@ none_opens : (s : Session) (d : Delivery) → AcceptsNone (opens s d)
 none_opens s delivery.AtMostOnce = refl
 none_opens s (delivery.AtLeastOnce dup id) = refl
 none_opens s (delivery.ExactlyOnce dup id) = refl
-
-no_alias : (t : Bool) (line : ℕ) (topic : List ℕ) → sets_alias t None line topic ≡ []
-no_alias true line topic = refl
-no_alias false line topic = refl
 
 module _ (env : Env) (l : BrokerLine) (s : Session) (d : Delivery) (c : Content) where
   abbrev P : Message → Type 0

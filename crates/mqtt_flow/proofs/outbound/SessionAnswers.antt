@@ -23,7 +23,7 @@ use Rattle.mqtt_flow.specs.OutboundWorld.{TopicAndPayload, Lot, standing, past, 
 use Rattle.mqtt_inbound.proofs.Identifiers.{test_cases, same_id}
 use Rattle.mqtt_flow.proofs.outbound.Stages.{holding, held}
 use Rattle.mqtt_flow.proofs.outbound.SessionLives.{life, life_by, seen, life-append, IsAt, split-after, placed-after}
-use Rattle.mqtt_flow.proofs.outbound.SessionQueues.{IsGranted, Fit, AllFit, fit_here, Sound}
+use Rattle.mqtt_flow.proofs.outbound.SessionQueues.{IsGranted, Fit, AllFit, fit_here, Sound, left}
 
 -- where the copy with an identifier stands
 pub data Found (i : ℕ) (ls : List Lot) : Type 0 where
@@ -155,9 +155,6 @@ code_end code = ⊎_elim
     (λ (t : is_refusal code ≡ false). let z = taken_code code t in rw (t, z) refl)
     (test_cases (is_refusal code))
 
-leaving : (place : ℕ) (ending : Ending) (e : Entry) (m : TopicAndPayload) → e.place ≡ place → lot_after (Leave place ending) (standing e m) ≡ past ending e m
-leaving place ending e m h = let same = same_id place in rw (h, same) refl
-
 releasing : (i order : ℕ) (e : Entry) (m : TopicAndPayload) → lot_after (Release e.place i order) (standing e m) ≡ standing (record e { phase = Released i order }) m
 releasing i order e m = let same = same_id e.place in rw same refl
 
@@ -187,7 +184,7 @@ agree_puback i code w largest s u = go (found i w.copies)
             by_qos AtMostOnce z granted = absurd granted
             by_qos ExactlyOnce z granted = both_wrong (rw (f, ph, t, z) refl) (rw (h, ph, z) refl)
             by_qos AtLeastOnce z granted = by_turn (Leave e.place (ending_by (is_refusal code))) [] (rw (f, ph, t, z) refl) (rw (h, ph, z) refl) refl tt
-                (settled i g (Leave e.place (ending_by (is_refusal code))) xs e m ys w.copies (past (ending_by (is_refusal code)) e m) q s.placed refl (leaving e.place (ending_by (is_refusal code)) e m refl) (c g) rest
+                (settled i g (Leave e.place (ending_by (is_refusal code))) xs e m ys w.copies (past (ending_by (is_refusal code)) e m) q s.placed refl (left e.place (ending_by (is_refusal code)) e m refl) (c g) rest
                 (rw (ph, t, z) (ap (λ x. ended x (record { twice = false; topic = m.topic; payload = m.payload })) (code_end code))))
 
 pub agree_pubrec : (i code : ℕ) (w : World) (largest : ℕ) → Sound largest w → Unique i w → Agrees i (on_pubrec code) (pubrec_reply i code (find i (map life w.copies))) (rules.pubrec i code (queue_of w.copies)) w
@@ -232,7 +229,7 @@ agree_pubrec i code w largest s u = go (found i w.copies)
             by_qos ExactlyOnce k granted = ⊎_elim
                 (λ (b : is_refusal code ≡ true). let b' = refused_code code b in
                 by_turn (Leave e.place Refused) [] (rw (f, ph, t, k, b') refl) (rw (h, ph, k, b) refl) refl tt
-                (settled i g (Leave e.place Refused) xs e m ys w.copies (past Refused e m) q s.placed refl (leaving e.place Refused e m refl) (c g) rest (rw (ph, t, k, b') refl)))
+                (settled i g (Leave e.place Refused) xs e m ys w.copies (past Refused e m) q s.placed refl (left e.place Refused e m refl) (c g) rest (rw (ph, t, k, b') refl)))
                 (λ (b : is_refusal code ≡ false). let b' = taken_code code b in
                 by_turn (Release e.place j order) (pubrel i 0 ∷ []) (rw (f, ph, t, k, b') refl) (rw (h, ph, k, b) refl) (rw z refl) tt
                 (settled i g (Release e.place j order) xs e m ys w.copies (standing (record e { phase = Released j order }) m) q s.placed refl (releasing j order e m) (c g) rest (rw (ph, t, k, b') refl)))
@@ -257,11 +254,11 @@ agree_pubcomp i w largest s u = go (found i w.copies)
         by_phase (Released j x) ph o =
             let t = own_id i j o in
             by_turn (Leave e.place Taken) [] (rw (f, ph, t) refl) (rw (h, ph) refl) refl tt
-            (settled i g (Leave e.place Taken) xs e m ys w.copies (past Taken e m) q s.placed refl (leaving e.place Taken e m refl) (c g) rest (rw (ph, t) refl))
+            (settled i g (Leave e.place Taken) xs e m ys w.copies (past Taken e m) q s.placed refl (left e.place Taken e m refl) (c g) rest (rw (ph, t) refl))
         by_phase (Oversize j x) ph o =
             let t = own_id i j o in
             by_turn (Leave e.place TooLarge) [] (rw (f, ph, t) refl) (rw (h, ph) refl) refl tt
-            (settled i g (Leave e.place TooLarge) xs e m ys w.copies (past TooLarge e m) q s.placed refl (leaving e.place TooLarge e m refl) (c g) rest (rw (ph, t) refl))
+            (settled i g (Leave e.place TooLarge) xs e m ys w.copies (past TooLarge e m) q s.placed refl (left e.place TooLarge e m refl) (c g) rest (rw (ph, t) refl))
 
 -- what goes out
 pub sent_on_none : (l : Bool) (down : List Output) → sent_on l down [] ≡ down

@@ -78,7 +78,7 @@ pub fit_here : (largest : ℕ) (xs : List Lot) (e : Entry) (m : TopicAndPayload)
 fit_here largest xs e m ys h = fit-at largest xs (standing e m) ys h
 
 -- a copy that waits ends
-left : (place : ℕ) (ending : Ending) (e : Entry) (m : TopicAndPayload) → e.place ≡ place → lot_after (Leave place ending) (standing e m) ≡ past ending e m
+pub left : (place : ℕ) (ending : Ending) (e : Entry) (m : TopicAndPayload) → e.place ≡ place → lot_after (Leave place ending) (standing e m) ≡ past ending e m
 left place ending e m h = let same = same_id place in rw (h, same) refl
 
 pub lapse_copies : (l : Lapse) (xs : List Lot) (e : Entry) (m : TopicAndPayload) (ys ls : List Lot) → ls ≡ xs ++ standing e m ∷ ys → Ascends (queue_of ls) → lots_after (Leave e.place (cause l)) ls ≡ xs ++ past (cause l) e m ∷ ys

@@ -9,7 +9,7 @@ use Rattle.mqtt_acts.proofs.offering.offer_copy.Goals as goal
 pub returns-clause-ok : goal.returns-clause-ok
 returns-clause-ok c =
     let s = c.args.step.now in
-    let copy = c.args.copy.now in
+    let copy = c.args.copy in
     let packet = publish_of (moment_of s.broker) false 0 copy in
     let bytes : c.in_ok-bytes.bytes ≡ shortest_of packet = c.in_ok-bytes.ensures ∙ ap (λ t. shortest_of (publish_of t false 0 copy)) c.moment.ensures in
     let size = c.publish_len.ensures.exact (moment_of s.broker) 0 false in
@@ -23,7 +23,7 @@ returns-clause-ok c =
 pub returns-clause-left : goal.returns-clause-left
 returns-clause-left c =
     let s = c.args.step.now in
-    let copy = c.args.copy.now in
+    let copy = c.args.copy in
     let packet = publish_of (moment_of s.broker) false 0 copy in
     let size = c.publish_len.ensures.exact (moment_of s.broker) 0 false in
     let largest = c.largest.ensures in

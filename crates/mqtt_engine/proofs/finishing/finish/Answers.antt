@@ -1,7 +1,9 @@
-use Rattle.std.proofs.Common.{refl, subst}
+use Rattle.std.proofs.Common.{◌≡◌, rules, refl, sym, subst}
 use Rattle.std.specs.Prelude.{⊤, Result}
 use Rattle.mqtt_lines.specs.TheTables.declared.fault.StepFault.{StepFault}
 use Rattle.mqtt_lines.specs.Doing.{IsCalled}
+use Rattle.mqtt_lines.specs.Quiet.{AreQuietBefore}
+use Rattle.mqtt_lines.specs.TheTables.Stepping.{Stepping, at_rest}
 use Rattle.mqtt_engine.proofs.Called.{sound_after, spent_fault}
 use Rattle.mqtt_engine.proofs.finishing.finish.Goals as goal
 
@@ -19,3 +21,9 @@ returns-in-Err-clause-spent g c = λ now call called is. (
       (spent_fault c.in-Err.fault c.refusal.result c.refusal.ensures.memory is),
   refl,
 )
+
+pub returns-in-Err-clause-quiet : goal.returns-in-Err-clause-quiet
+returns-in-Err-clause-quiet g c = λ before.
+    let s = c.args.step.now in
+    let is : c.take_back.new.self ≡ at_rest s.limits s.start = search rules in
+    subst (λ (t : Stepping). AreQuietBefore c.args.quiet.now t.broker.records) (sym is) before

@@ -1,9 +1,10 @@
-use Rattle.std.proofs.Common.{◌≡◌, ◌⊎◌, ap, sym, subst, ◌∙◌}
+use Rattle.std.proofs.Common.{◌≡◌, ◌⊎◌, rules, ap, sym, subst, ◌∙◌}
 use Rattle.mqtt_records.specs.Records.{FitAll}
 use Rattle.mqtt_records.specs.Saying.{AllSayable}
 use Rattle.mqtt_lines.specs.TheRules.Step.{is_spent}
 use Rattle.mqtt_router.specs.Following.{CanAllBeFollowed, CanBeIndexed}
-use Rattle.mqtt_lines.specs.TheTables.Stepping.{Stepping, with_stamp}
+use Rattle.mqtt_lines.specs.Quiet.{AreQuietBefore}
+use Rattle.mqtt_lines.specs.TheTables.Stepping.{Stepping, at_rest, with_stamp}
 use Rattle.mqtt_engine.proofs.Called.{call_answered, call_fits, call_followed, call_sayable, call_stored, sound_indexed}
 use Rattle.mqtt_engine.proofs.finishing.store.Goals as goal
 
@@ -54,3 +55,21 @@ returns-in-Ok-tell-clause-crash g c = λ now call called left may.
     let is : c.stamp.new.self ≡ with_stamp s = c.in-Ok.ensures.ok in
     call_stored now call c.args.again s called (ap (λ (t : Stepping). is_spent t.rows) (sym is) ∙ c.tell.ensures.unspent) left
     (subst (λ (t : Stepping). (left ≡ t.start.records) ⊎ (left ≡ t.broker.records)) is (c.tell.ensures.crash left may))
+
+pub returns-in-Ok-tell-clause-quiet : goal.returns-in-Ok-tell-clause-quiet
+returns-in-Ok-tell-clause-quiet g c = λ before.
+    let s = c.args.step.now in
+    let is : c.stamp.new.self ≡ with_stamp s = c.in-Ok.ensures.ok in
+    c.tell.ensures.quiet (subst (λ (t : Stepping). AreQuietBefore c.args.quiet.now t.start.records) (sym is) before)
+
+pub returns-in-Err-tell-clause-quiet : goal.returns-in-Err-tell-clause-quiet
+returns-in-Err-tell-clause-quiet g c = λ before.
+    let s = c.args.step.now in
+    let is : c.stamp.new.self ≡ with_stamp s = c.in-Ok.ensures.ok in
+    c.tell.ensures.quiet (subst (λ (t : Stepping). AreQuietBefore c.args.quiet.now t.start.records) (sym is) before)
+
+pub returns-in-Err-clause-quiet : goal.returns-in-Err-clause-quiet
+returns-in-Err-clause-quiet g c = λ before.
+    let s = c.args.step.now in
+    let is : c.take_back.new.self ≡ at_rest s.limits s.start = search rules in
+    subst (λ (t : Stepping). AreQuietBefore c.args.quiet.now t.broker.records) (sym is) before

@@ -4,6 +4,7 @@ use Rattle.mqtt_calls.specs.TheRules.Step.{Tick, deeds_of}
 use Rattle.mqtt_calls.specs.Wills.{will_at}
 use Rattle.mqtt_calls.proofs.SomeCalls.{again_some, limits_some, spent_some, start_some}
 use Rattle.mqtt_calls.proofs.WilledBrokers.{willed}
+use Rattle.mqtt_ticking.specs.Quiet.{AreQuietBefore}
 use Rattle.mqtt_lines.proofs.Begun.{at_begun, begun_is}
 use Rattle.mqtt_lines.proofs.ticking.tick_at.Goals as goal
 
@@ -13,6 +14,13 @@ tick-requires-clause-serves g c =
     let s1 = c.begin.new.self in
     let same = begun_is c.args.moment s s1 c.requires.rest c.in-Ok.ensures.ok in
     at_begun (λ r. g.R.Router.serves c.args.router.now (subscribers r)) s.limits c.args.moment s.broker s1 same c.requires.serves
+
+pub tick-requires-clause-quiet : goal.tick-requires-clause-quiet
+tick-requires-clause-quiet g c =
+    let s = c.args.step.now in
+    let s1 = c.begin.new.self in
+    let same = begun_is c.args.moment s s1 c.requires.rest c.in-Ok.ensures.ok in
+    at_begun (AreQuietBefore c.args.quiet) s.limits c.args.moment s.broker s1 same c.requires.quiet
 
 pub tick-requires-clause-lawful : goal.tick-requires-clause-lawful
 tick-requires-clause-lawful g c = λ birth.

@@ -1,6 +1,7 @@
 use Rattle.mqtt_packet.proofs.Fronts.{first_stays}
 use Rattle.mqtt_packet.proofs.Shorter.{first_less}
 use Rattle.mqtt_packet.proofs.Runs.{at_first_byte, at_overlong, at_length}
+use Rattle.mqtt_packet.proofs.Wholes.{refused_whole}
 use Rattle.mqtt_packet.proofs.laws.moments.Goals as goal
 
 pub returns-clause-first_byte : goal.returns-clause-first_byte
@@ -17,3 +18,6 @@ returns-clause-stays c = first_stays
 
 pub returns-clause-last_byte : goal.returns-clause-last_byte
 returns-clause-last_byte c = first_less
+
+pub returns-clause-due : goal.returns-clause-due
+returns-clause-due c = refused_whole

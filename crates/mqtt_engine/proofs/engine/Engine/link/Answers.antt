@@ -4,6 +4,7 @@ use Rattle.mqtt_lines.specs.TheRules.State.{Broker}
 use Rattle.mqtt_lines.specs.TheRules.Step.{NewLine, at_moment}
 use Rattle.mqtt_lines.specs.TheTables.Doing.{after_act, links}
 use Rattle.mqtt_lines.specs.TheTables.Stepping.{Stepping, at_rest}
+use Rattle.mqtt_lines.specs.Quiet.{AreQuietBefore}
 use Rattle.mqtt_lines.specs.Sound.{IsSound}
 use Rattle.mqtt_router.specs.Indexing.{Serves}
 use Rattle.mqtt_lines.specs.TheRules.Routing.{subscribers}
@@ -24,6 +25,7 @@ invariant_of-self g c =
         subst (λ (r : Records). g.K.Keep.holds c.self.inside.keep r) (sym kept) (c.self.invariant.2 running).1,
       ),
       λ fresh. subst (λ (r : Records). Serves c.self.inside.index.sessions (subscribers r)) (sym kept) (c.self.invariant.3 fresh),
+      subst (λ (r : Records). AreQuietBefore c.self.inside.quiet r) (sym kept) c.self.invariant.4,
     )
 
 pub returns-clause-step : goal.returns-clause-step

@@ -1,7 +1,8 @@
-use Rattle.std.proofs.Common.{◌≡◌, rules, ap, sym, ◌∙◌, inl}
+use Rattle.std.proofs.Common.{◌≡◌, rules, ap, sym, subst, ◌∙◌, inl}
 use Rattle.mqtt_lines.specs.TheRules.State.{Broker}
 use Rattle.mqtt_lines.specs.TheRules.Step.{at_moment}
-use Rattle.mqtt_lines.specs.TheTables.Stepping.{Stepping}
+use Rattle.mqtt_lines.specs.Quiet.{AreQuietBefore}
+use Rattle.mqtt_lines.specs.TheTables.Stepping.{Stepping, at_rest}
 use Rattle.mqtt_engine.proofs.Linked.{passed_over}
 use Rattle.mqtt_engine.proofs.engine.Engine.skip.Goals as goal
 
@@ -22,3 +23,14 @@ returns g c = λ call on.
       still = search rules;
       crash = search rules;
     }
+
+pub invariant_of-self : goal.invariant_of-self
+invariant_of-self g c =
+    let s = c.self.inside.step in
+    let is : c.rest_at.new.self ≡ at_rest s.limits (at_moment c.args.moment s.broker) = c.rest_at.ensures in (
+      search rules,
+      search rules,
+      search rules,
+      search rules,
+      subst (λ (t : Stepping). AreQuietBefore c.self.inside.quiet t.broker.records) (sym is) c.self.invariant.4,
+    )

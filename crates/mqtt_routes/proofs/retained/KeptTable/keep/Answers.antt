@@ -1,4 +1,4 @@
-use Rattle.std.proofs.Common.{◌≡◌, ◌+◌, ◌<◌, ◌≤◌, ◌&&◌, true, false, not, nat_lt, if◌then◌else◌, length, sym, ◌∙◌, ap, is_some, arith}
+use Rattle.std.proofs.Common.{◌≡◌, ◌+◌, ◌&&◌, false, not, nat_lt, if◌then◌else◌, length, sym, ◌∙◌, ap, is_some, arith}
 use Rattle.std.proofs.lemmas.Result.{err_from_is_err_and}
 use Rattle.mqtt_base.specs.declared.limits.TheConstants.{RETAINED_LIMIT}
 use Rattle.mqtt_routes.specs.Retained.{keep, has_topic}

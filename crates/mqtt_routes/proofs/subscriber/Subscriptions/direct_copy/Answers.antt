@@ -1,5 +1,5 @@
 -- One subscription after the other.
-use Rattle.std.proofs.Common.{◌≡◌, ◌+◌, Bool, true, cond, not, ◌||◌, List, ◌∷◌, drop, sym, ap, ◌∙◌}
+use Rattle.std.proofs.Common.{◌≡◌, ◌+◌, Bool, true, cond, not, ◌||◌, List, drop, sym, ap, ◌∙◌}
 use Rattle.mqtt_routes.specs.declared.subscription.Subscription.{Subscription}
 use Rattle.mqtt_routes.specs.Intended.{Copy, add_to, hits_of, is_hit, is_none}
 use Rattle.mqtt_routes.proofs.CopyLemmas.{with_all, hit_step, hits_next, for_step}

@@ -1,4 +1,4 @@
-use Rattle.std.proofs.Common.{◌≡◌, ◌≤◌, Some, true, sym, ◌∙◌, ap, true≢false, is_some, arith}
+use Rattle.std.proofs.Common.{◌≡◌, Some, true, sym, ◌∙◌, ap, true≢false, is_some, arith}
 use Rattle.std.specs.Prelude.{find}
 use Rattle.mqtt_routes.specs.Subscriptions.{is_to, has_filter, put}
 use Rattle.mqtt_routes.proofs.PlaceLemmas.{put-replace_key}

@@ -1,4 +1,4 @@
-use Rattle.std.proofs.Common.{◌≡◌, ◌<◌, ◌≤◌, ℕ, List, [], length, nat_eq, subst, sym, ◌∙◌, ap, arith, true, false, eqb}
+use Rattle.std.proofs.Common.{◌≡◌, ◌<◌, ◌≤◌, ℕ, List, length, nat_eq, subst, sym, ◌∙◌, ap, arith, false, eqb}
 use Rattle.std.proofs.lemmas.Result.{err_from_is_err_and, on_ok_weaker, on_err_weaker}
 use Rattle.std.specs.Prelude.{nat_le}
 use Rattle.indexmap.specs.IndexMap.{insert_entry, insert_index, move_index}

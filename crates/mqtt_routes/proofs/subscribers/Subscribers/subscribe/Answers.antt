@@ -1,6 +1,5 @@
-use Rattle.std.proofs.Common.{◌≡◌, ◌≤◌, ℕ, List, true, [], ◌∷◌, length, nat_eq, subst, sym, ◌∙◌, ap, refl, lit<, arith, IfErr, OnOk}
+use Rattle.std.proofs.Common.{◌≡◌, ℕ, List, true, ◌∷◌, length, nat_eq, subst, sym, ◌∙◌, ap, refl, lit<, arith, IfErr, OnOk}
 use Rattle.std.proofs.lemmas.Result.{err_from_is_err_and, on_ok_weaker, on_err_weaker}
-use Rattle.std.specs.Map.{set_value}
 use Rattle.indexmap.specs.IndexMap.{insert_entry, insert_index, move_index}
 use Rattle.mqtt_routes.specs.Subscriptions.{AreInOrder, Held, subscribers, rooms, room_of, spot_of, subs_of, with_subs, put, subscribed, takes_filter, RefusesPut}
 use Rattle.std.specs.Prelude.{nat_le}

@@ -1,5 +1,4 @@
-use Rattle.std.proofs.Common.{◌≡◌, [], None, nat_eq, subst, sym, ◌∙◌, ap}
-use Rattle.std.specs.Map.{lookup}
+use Rattle.std.proofs.Common.{subst, sym, ◌∙◌, ap}
 use Rattle.mqtt_routes.specs.Subscriptions.{AreInOrder, subscribers, has_filter, subs_of, unsubscribed}
 use Rattle.mqtt_routes.proofs.SpotLemmas.{order-unsubscribed, subs_of-found, subs_of-none, unsubscribed-found, unsubscribed-none}
 use Rattle.mqtt_routes.proofs.subscribers.Subscribers.unsubscribe.Goals as goal

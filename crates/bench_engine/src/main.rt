@@ -1,0 +1,237 @@
+//! Publishes to the broker over the store in memory, without sockets, and tells the time of each kind of step; for
+//! bench/engine/run. Words: how many batches of 16 publications, sessions that went away, filters of each, copies that wait
+//! in each, and readers.
+#![tactic(auto)]
+
+mod bed;
+mod packets;
+
+use crate::bed::{Crowd, Lines, Step, Tally, gather, make};
+use mqtt_broker::{Engine, Full, KeepError, Limits, MemKeep};
+use std::alloc::Global;
+use std::env;
+use std::hash::RandomState;
+use std::time::{CpuClock, Duration};
+
+/// How many there are of each.
+#[derive(Clone, Copy)]
+struct Sizes {
+    batches: u64,
+    crowd: Crowd,
+    readers: u64,
+}
+
+/// Steps of one kind: of which publications, which, how many, and how long they took.
+#[derive(Clone, Copy)]
+struct Part {
+    of: &'static str,
+    name: &'static str,
+    step: Step,
+    tally: Tally,
+    time: Duration,
+}
+
+fn part_of(of: &'static str, name: &'static str, step: Step) -> Part {
+    Part {
+        of,
+        name,
+        step,
+        tally: Tally::new(),
+        time: Duration::ZERO,
+    }
+}
+
+/// A batch at each QoS, one after the other, and turns where there is nothing to do.
+fn parts() -> [Part; 11] {
+    [
+        part_of("qos0", "PUBLISH", Step::PublishAtOnce),
+        part_of("qos1", "PUBLISH", Step::Publish(0x32)),
+        part_of("qos1", "pump", Step::Pump),
+        part_of("qos1", "PUBACK", Step::Answer(0x40)),
+        part_of("qos2", "PUBLISH", Step::Publish(0x34)),
+        part_of("qos2", "pump", Step::Pump),
+        part_of("qos2", "PUBREC", Step::Answer(0x50)),
+        part_of("qos2", "PUBCOMP", Step::Answer(0x70)),
+        part_of("qos2", "PUBREL", Step::Release),
+        part_of("idle", "pump", Step::IdlePump),
+        part_of("idle", "tick", Step::IdleTick),
+    ]
+}
+
+/// A broker over a store in memory that has nothing yet.
+fn opened(alloc: Global, hasher: RandomState) -> Result<Engine<MemKeep>, KeepError> {
+    let limits = Limits {
+        full: Full::Refuse,
+        queue: 1000,
+        sessions: 1000,
+        retained: 1000,
+    };
+    match Engine::open(alloc, MemKeep::new(alloc)?, 0, limits, hasher) {
+        Ok(engine) => Ok(engine),
+        Err((keep, fault)) => {
+            drop(keep);
+            Err(fault)
+        }
+    }
+}
+
+/// Makes steps of one kind, and adds their time.
+fn timed(
+    rt: &impl CpuClock,
+    engine: &mut Engine<MemKeep>,
+    lines: Lines,
+    part: &mut Part,
+) -> anyhow::Result<()> {
+    let start = rt.process_cpu_time()?;
+    make(engine, &mut part.tally, lines, part.step)?;
+    let end = rt.process_cpu_time()?;
+    part.time = part.time.saturating_add(end.saturating_sub(start));
+    Ok(())
+}
+
+/// Prints what was done on standard output, and the seconds that it took on standard error.
+fn report(rt: &(impl Print + Eprint), course: &str, part: &Part) -> anyhow::Result<()> {
+    println!(rt;
+        "{course} {} {} steps={} sent={}",
+        part.of, part.name, part.tally.steps, part.tally.sent
+    )?;
+    eprintln!(rt;
+        "{course} {} {} {} {}.{:09}",
+        part.of,
+        part.name,
+        part.tally.steps,
+        part.time.as_secs(),
+        part.time.subsec_nanos()
+    )?;
+    Ok(())
+}
+
+/// Makes one batch.
+fn make_batch(
+    rt: &impl CpuClock,
+    engine: &mut Engine<MemKeep>,
+    lines: Lines,
+    parts: &mut [Part],
+) -> anyhow::Result<()> {
+    for part in parts.iter_mut() {
+        timed(rt, engine, lines, part)?;
+    }
+    Ok(())
+}
+
+/// Prints all parts.
+fn report_all(rt: &(impl Print + Eprint), course: &str, parts: &[Part]) -> anyhow::Result<()> {
+    for part in parts {
+        report(rt, course, part)?;
+    }
+    Ok(())
+}
+
+/// Makes batches with a broker that nobody has connected to, and tells the time of each kind of step.
+fn measure(
+    rt: &(impl Print + Eprint + CpuClock),
+    engine: &mut Engine<MemKeep>,
+    course: &str,
+    sizes: Sizes,
+) -> anyhow::Result<()> {
+    let lines = gather(engine, sizes.crowd, sizes.readers)?;
+    let mut parts = parts();
+    for _ in 0..sizes.batches {
+        make_batch(rt, engine, lines, &mut parts)?;
+    }
+    report_all(rt, course, &parts)
+}
+
+/// The same with a new broker.
+fn run(
+    rt: &(impl Print + Eprint + CpuClock),
+    alloc: Global,
+    hasher: RandomState,
+    course: &str,
+    sizes: Sizes,
+) -> anyhow::Result<()> {
+    let mut engine = opened(alloc, hasher)?;
+    let measured = measure(rt, &mut engine, course, sizes);
+    drop(engine.close());
+    measured
+}
+
+/// Sizes with a part of the crowd.
+fn beside(sizes: Sizes, filters: u64, copies: u64) -> Sizes {
+    let sessions = if filters > 0 || copies > 0 {
+        sizes.crowd.sessions
+    } else {
+        0
+    };
+    let crowd = Crowd {
+        sessions,
+        filters,
+        copies,
+    };
+    Sizes {
+        crowd,
+        readers: 1,
+        ..sizes
+    }
+}
+
+/// One to one alone, one to many, and one to one beside each crowd that throughput must not fall with.
+fn run_all(
+    rt: &(impl Print + Eprint + CpuClock),
+    alloc: Global,
+    hasher: RandomState,
+    sizes: Sizes,
+) -> anyhow::Result<()> {
+    let Crowd {
+        filters,
+        copies,
+        ..
+    } = sizes.crowd;
+    let alone = beside(sizes, 0, 0);
+    run(rt, alloc, hasher, "alone", alone)?;
+    let many = Sizes {
+        batches: sizes.batches / 32 + 1,
+        readers: sizes.readers,
+        ..alone
+    };
+    run(rt, alloc, hasher, "many", many)?;
+    run(rt, alloc, hasher, "filters", beside(sizes, filters, 0))?;
+    let few = beside(sizes, 0, copies.min(10));
+    run(rt, alloc, hasher, "few-copies", few)?;
+    run(rt, alloc, hasher, "copies", beside(sizes, 0, copies))
+}
+
+/// The number that a word says, or this one where there is no word.
+fn number(word: Option<&String>, other: u64) -> anyhow::Result<u64> {
+    match word {
+        Some(word) => Ok(word.parse::<u64>()?),
+        None => Ok(other),
+    }
+}
+
+/// What the command line asks for.
+fn sizes_of(words: &[String]) -> anyhow::Result<Sizes> {
+    let batches = number(words.get(1), 2)?;
+    let sessions = number(words.get(2), 10)?;
+    let filters = number(words.get(3), 3)?;
+    let copies = number(words.get(4), 12)?;
+    let readers = number(words.get(5), 3)?;
+    let crowd = Crowd {
+        sessions,
+        filters,
+        copies,
+    };
+    Ok(Sizes {
+        batches,
+        crowd,
+        readers,
+    })
+}
+
+fn main(rt: HostRuntime) -> anyhow::Result<()> {
+    let hasher = RandomState::new(&rt)?;
+    let words: Vec<String> = env::args(&rt)?.collect(rt.alloc())?;
+    let sizes = sizes_of(&words);
+    drop(words);
+    run_all(&rt, rt.alloc(), hasher, sizes?)
+}

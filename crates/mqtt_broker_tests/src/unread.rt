@@ -1,0 +1,64 @@
+//! A store that can't be read once.
+
+use mqtt_records::{Change, Keep, KeepError, MemKeep, Records};
+use std::alloc::{AllocError, Global};
+
+/// A store in memory of which one `load` answers Disk.
+#[derive(Drop)]
+pub(crate) struct UnreadKeep {
+    keep: MemKeep,
+    /// How many loads are made before the one that fails; none: no further load fails.
+    until: Option<u64>,
+    failures: u64,
+}
+
+impl UnreadKeep {
+    /// A store that has nothing yet. `until` loads are made, the next fails, later ones are made again.
+    pub(crate) fn new(alloc: Global, until: u64) -> Result<UnreadKeep, AllocError> {
+        Ok(UnreadKeep {
+            keep: MemKeep::new(alloc)?,
+            until: Some(until),
+            failures: 0,
+        })
+    }
+}
+
+impl Keep for UnreadKeep {
+    ghost use Rattle.std.specs.Prelude.{◌≡◌};
+    ghost use Rattle.std.proofs.Common.{◌∙◌};
+
+    ghost holds = { λ store r. store.keep ≡ r };
+
+    ghost is_loaded = { λ _. Unit {0} };
+
+    ghost is_sound = { λ _. Unit {0} };
+
+    ghost leaves = { λ store left. left ≡ store.keep };
+
+    ghost counted = { λ store. store.failures };
+
+    ghost refuses = { λ _ _. Unit {0} };
+
+    fn load(&mut self, alloc: Global) -> Result<Records, KeepError> {
+        match self.until {
+            Some(0) => {
+                self.until = None;
+                self.failures = self.failures.wrapping_add(1);
+                return Err(KeepError::Disk);
+            }
+            Some(until) => self.until = Some(until - 1),
+            None => {}
+        }
+        self.keep.load(alloc)
+    }
+
+    fn apply(&mut self, changes: &[Change]) -> Result<(), KeepError> {
+        self.keep.apply(changes)
+    }
+
+    fn failures(&self) -> u64 {
+        self.failures
+    }
+
+    ghost leaves_held = { λ store left r has found. found ∙ has };
+}

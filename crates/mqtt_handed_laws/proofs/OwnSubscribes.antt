@@ -1,0 +1,533 @@
+-- The broker reads a receiver's SUBSCRIBE: the copies of retained messages that its filter brings enter its queue, the
+-- answer goes out, and the two stay in step.
+use Rattle.std.proofs.Common.{◌≡◌, ℕ, suc, ◌-◌, ◌≤◌, Bool, true, false, cond, not, List, [], ◌∷◌, ◌++◌, drop, filter, length, map, Option, Some, None, nat_eq, nat_lt, refl, sym, ap, subst, ◌∙◌, append-nil, append_assoc, arith, inl, inr}
+use Rattle.std.specs.Prelude.{⊤, ◌&&◌, ◌||◌, filter_map, flat_map, is_some, nat_le}
+use Rattle.std.specs.List.{AllByRecursion}
+use Rattle.std.proofs.lemmas.Bool.{cases_Bool, leb-true}
+use Rattle.mqtt_base.specs.Codes.{identifier_in_use, quota_exceeded, topic_filter_invalid}
+use Rattle.mqtt_base.specs.declared.limits.TheConstants.{QUEUE_LIMIT, SUBSCRIPTION_LIMIT}
+use Rattle.mqtt_base.specs.declared.session.CopyId.{CopyId}
+use Rattle.mqtt_codec.specs.declared.packet.Packet.{Packet}
+use Rattle.mqtt_codec.specs.declared.packet.Packet.TheVariants as packets
+use Rattle.mqtt_codec.specs.Options.{options_byte}
+use Rattle.mqtt_codec.specs.Subscriptions.{Subscription as Asked}
+use Rattle.mqtt_codec.specs.declared.publish.Delivery.TheVariants as delivery
+use Rattle.mqtt_flow.specs.OutboundWorld.{Lot}
+use Rattle.mqtt_flow.specs.Receiver.{Output}
+use Rattle.mqtt_inbound.specs.Identifiers.{is_among}
+use Rattle.mqtt_laws.specs.Ends.{Back, Receiver, Wish, asks_for, identified, wire_back}
+use Rattle.mqtt_laws.specs.Hops.{IsIts, IsOnly, IsOurs}
+use Rattle.mqtt_laws.specs.Lines.{copy_in, is_one_of, sent_to, unless_closed}
+use Rattle.mqtt_laws.specs.World.{receiver_told, taken_up}
+use Rattle.mqtt_laws.proofs.Joins.{none_closed}
+use Rattle.mqtt_laws.proofs.Names.{named_is, only_deeds}
+use Rattle.mqtt_laws.proofs.OwnStep.{heard_of, input_is}
+use Rattle.mqtt_laws.proofs.Quiet.{quiet_line, session_on}
+use Rattle.mqtt_message.specs.declared.message.RetainedMessage.{RetainedMessage}
+use Rattle.mqtt_props.specs.declared.table.PropName.TheVariants.{SubscriptionIdentifier}
+use Rattle.mqtt_records.specs.Records.{changed_all}
+use Rattle.mqtt_records.specs.Session.{birth_of, with_subscription}
+use Rattle.mqtt_records.specs.declared.session.Session.{Session}
+use Rattle.mqtt_records.specs.declared.subscription.Subscription.{Subscription}
+use Rattle.mqtt_routes.specs.Retained.{kept_for}
+use Rattle.mqtt_rules.proofs.Acts.{brought_to}
+use Rattle.mqtt_rules.proofs.Copies.{each_append}
+use Rattle.mqtt_rules.proofs.FlightRows.{all_at, all_more, change_row-here, found_key}
+use Rattle.mqtt_rules.proofs.Goods.{after_append}
+use Rattle.mqtt_rules.proofs.OrderedEnters.{ShortQueues, enters, own_stay, still_short}
+use Rattle.mqtt_rules.proofs.OrderedQueues.{stay_is}
+use Rattle.mqtt_rules.specs.Deeds.{At, Count, Deed, Hear, On, Send, after, after_all, always, closing, offer, output, part_rows_of, rows_of_all, series, stored_after, whose, with_session}
+use Rattle.mqtt_rules.specs.Deeds as deeds
+use Rattle.mqtt_rules.specs.Laws.{HasTables}
+use Rattle.mqtt_rules.specs.Outbound.{enter_deeds, room, since}
+use Rattle.mqtt_rules.specs.Packets.{number_at, publish_of, size_of, suback}
+use Rattle.mqtt_rules.specs.Routing.{CopyTo, deliver, deliver_by, is_queued}
+use Rattle.mqtt_rules.specs.State.{Line as BrokerLine, Broker, Env, MemberChoice, line_at, session_at, session_named}
+use Rattle.mqtt_rules.specs.Step.{Call, Input, at_moment, deeds as deeds_in, env_of, outcome_of, stepped}
+use Rattle.mqtt_rules.specs.Subscribe.{on_subscribe}
+use Rattle.mqtt_rules.specs.Subscribe as sub
+use Rattle.mqtt_rules.specs.declared.Limits.{Limits}
+use Rattle.mqtt_subscribe.specs.declared.subscribe.Subscribe.{Subscribe as Asking}
+use Rattle.mqtt_topic.specs.Filters.{is_filter}
+use Rattle.mqtt_handed_laws.specs.Entering.{AreKnown, IsReceiving}
+use Rattle.mqtt_handed_laws.specs.Handing.{IsListening, IsRun, receiver_after}
+use Rattle.mqtt_handed_laws.specs.Own.{IsBroughtCopy, IsInStep, Subscribed}
+use Rattle.mqtt_handed_laws.specs.Seen.{AreQueued, Numbering, StandOn, answered, heard, heard_in, publish_heard, seen}
+use Rattle.mqtt_handed_laws.specs.Served.{HasLines, IsServed, IsTidy, RunsFor, RunsWithAll}
+use Rattle.mqtt_handed_laws.specs.Tags.{AreNumbered, IsTagged, IsTaggedBy, IsTaggedWith, id_of}
+use Rattle.mqtt_handed_laws.proofs.Answering.{all_join, heard_append, its_went, went_heard}
+use Rattle.mqtt_handed_laws.proofs.CallsOfOthers.{done_all, first_runs, moment_served}
+use Rattle.mqtt_handed_laws.proofs.Entering.{linked_same}
+use Rattle.mqtt_handed_laws.proofs.Own.{safe_served, session_is, some_is}
+use Rattle.mqtt_handed_laws.proofs.Serving.{AreOfQueue, served_parts}
+use Rattle.mqtt_handed_laws.proofs.Walk.{entered_runs, queue_enter, unheard_of}
+
+-- ---- its session, changed otherwise than in its queue
+
+record Stands (r : Receiver) (s s2 : Session) (b c : Broker) : Type 0 where
+  pub found : session_at s.birth c.records ≡ Some s2
+  pub client : s2.client ≡ r.client
+  pub birth : s2.birth ≡ s.birth
+  pub queue : s2.queue ≡ s.queue
+  pub only : IsOnly r.client s.birth c.records
+  pub went : its_went s.birth c.lines ≡ its_went s.birth b.lines
+  pub lines : (m : ℕ) → session_on m c.lines ≡ session_on m b.lines
+
+moved_run : (number : Numbering) (largest : ℕ) (copies : List Lot) (r : Receiver) (s s2 : Session) (b c : Broker) → IsRun number largest copies r b → IsReceiving r s b → Stands r s s2 b c → IsRun number largest copies r c
+moved_run number largest copies r s s2 b c h x m =
+    let before : session_named r.client b.records ≡ Some s = named_is r.client s.birth b.records s x.only x.session x.client in
+    let last : session_named r.client c.records ≡ Some s2 = named_is r.client s.birth c.records s2 m.only m.found m.client in
+    let stands : is_some (session_named r.client c.records) ≡ is_some (session_named r.client b.records) = ap is_some last ∙ sym (ap is_some before) in
+    let linked = linked_same r.line.number b c m.lines in
+    let same : seen number copies r c ≡ seen number copies r b = λ i. record (seen number copies r b) { stands = stands i; linked = linked i } in
+    let first : StandOn copies s.queue (its_went s.birth b.lines) = subst (λ (o : Option Session). AreQueued copies o b) before h.queue_is in
+    let second : StandOn copies s.queue (its_went s.birth c.lines) = subst (StandOn copies s.queue) (sym m.went) first in
+    let third : StandOn copies s2.queue (its_went s2.birth c.lines) =
+    subst (λ (k : ℕ). StandOn copies s2.queue (its_went k c.lines)) (sym m.birth) (subst (λ (q : _). StandOn copies q (its_went s.birth c.lines)) (sym m.queue) second) in
+    record {
+      events = h.events;
+      seen_is = same ∙ h.seen_is;
+      queue_is = subst (λ (o : Option Session). AreQueued copies o c) (sym last) third;
+      numbered = h.numbered;
+      tagged = h.tagged;
+    }
+
+moved_receiving : (r : Receiver) (s s2 : Session) (b c : Broker) → IsReceiving r s b → Stands r s s2 b c → IsReceiving r s2 c
+moved_receiving r s s2 b c x m = record {
+  session = ap (λ (k : ℕ). session_at k c.records) m.birth ∙ m.found;
+  client = m.client;
+  only = subst (λ (k : ℕ). IsOnly r.client k c.records) (sym m.birth) m.only;
+  known = subst (λ (k : ℕ). AreKnown s2.queue (its_went k c.lines)) (sym m.birth)
+      (subst (λ (q : _). AreKnown q (its_went s.birth c.lines)) (sym m.queue) (subst (AreKnown s.queue) (sym m.went) x.known));
+}
+
+moved_for : (largest : ℕ) (ids : List CopyId) (birth : ℕ) (ns : List ℕ) (r : Receiver) (s s2 : Session) (b c : Broker) → IsServed r.client birth ns b → session_at s.birth b.records ≡ Some s → s.client ≡ r.client → s.birth ≡ birth
+    → Stands r s s2 b c → RunsFor largest ids birth r b → RunsFor largest ids birth r c
+moved_for largest ids birth ns r s s2 b c v at client its m f number numbered =
+    let h = f number numbered in
+    let x = session_is largest birth ids ns number r s b v at client h in
+    record {
+      after = h.after;
+      same = h.same;
+      run_is = moved_run number largest h.after r s s2 b c h.run_is x m;
+      session = s2;
+      birth_is = m.birth ∙ its;
+      receiving = moved_receiving r s s2 b c x m;
+    }
+
+-- ---- what goes out about it is none of its copies
+
+abbrev IsHush : Packet → Type 0
+IsHush (packets.Suback a) = ⊤
+IsHush (packets.Publish p) = p.delivery ≡ delivery.AtMostOnce
+IsHush packet = ⊥
+
+abbrev IsHushed : Deed → Type 0
+IsHushed (Send m packet) = IsHush packet
+IsHushed (deeds.Gone m) = ⊥
+IsHushed d = ⊤
+
+hush_heard : (number : Numbering) (copy : Option CopyId) (packet : Packet) → IsHush packet → heard number copy packet ≡ None
+hush_heard number copy (packets.Suback a) q = refl
+hush_heard number copy (packets.Publish p) q = ap (publish_heard number copy p) q
+hush_heard number copy packet q = absurd q
+
+hush_tagged : (number : Numbering) (ids : List CopyId) (copy : Option CopyId) (packet : Packet) → IsHush packet → IsTaggedWith number ids copy packet
+hush_tagged number ids copy (packets.Suback a) q = tt
+hush_tagged number ids copy (packets.Publish p) q = subst (IsTaggedBy number ids copy) (sym q) tt
+hush_tagged number ids copy packet q = absurd q
+
+record IsHushedOn (number : Numbering) (ids : List CopyId) (o : Option ℕ) (new : Broker) (ds : List Deed) : Type 0 where
+  pub heard_is : filter_map (heard_in number) (sent_to o new (filter_map output ds)) ≡ []
+  pub tagged : AllByRecursion (IsTagged number ids) (sent_to o new (filter_map output ds))
+
+hushed : (number : Numbering) (ids : List CopyId) (m : ℕ) (new : Broker) (ds : List Deed) → AllByRecursion IsHushed ds → IsHushedOn number ids (Some m) new ds
+hushed number ids m new [] q = record { heard_is = refl; tagged = tt }
+hushed number ids m new (d ∷ ds) q = by d q.0 (hushed number ids m new ds q.1)
+  where
+    by : (x : Deed) → IsHushed x → IsHushedOn number ids (Some m) new ds → IsHushedOn number ids (Some m) new (x ∷ ds)
+    by (Send k packet) hush rest = elim (cases_Bool (nat_eq k m)) [
+      | inl here ↦
+          let none = hush_heard number (copy_in m new packet) packet hush in
+          record { heard_is = rw here (rw none rest.heard_is); tagged = rw here (hush_tagged number ids (copy_in m new packet) packet hush, rest.tagged) }
+      | inr other ↦ record { heard_is = rw other rest.heard_is; tagged = rw other rest.tagged }
+    ]
+    by x hush rest = record { heard_is = rest.heard_is; tagged = rest.tagged }
+
+hushed_on : (number : Numbering) (ids : List CopyId) (o : Option ℕ) (new : Broker) (ds : List Deed) → AllByRecursion IsHushed ds → IsHushedOn number ids o new ds
+hushed_on number ids None new ds q = record { heard_is = refl; tagged = tt }
+hushed_on number ids (Some m) new ds q = hushed number ids m new ds q
+
+hush_closes : (ds : List Deed) → AllByRecursion IsHushed ds → filter_map closing ds ≡ []
+hush_closes [] q = refl
+hush_closes (deeds.Gone m ∷ ds) q = absurd q.0
+hush_closes (Send m packet ∷ ds) q = hush_closes ds q.1
+hush_closes (deeds.Accept n origin m ∷ ds) q = hush_closes ds q.1
+hush_closes (deeds.Begin row will ∷ ds) q = hush_closes ds q.1
+hush_closes (deeds.Name n ∷ ds) q = hush_closes ds q.1
+hush_closes (Count n ∷ ds) q = hush_closes ds q.1
+hush_closes (At who part ∷ ds) q = hush_closes ds q.1
+hush_closes (deeds.Finish who ∷ ds) q = hush_closes ds q.1
+hush_closes (deeds.Keep kept ∷ ds) q = hush_closes ds q.1
+hush_closes (deeds.Forget place ∷ ds) q = hush_closes ds q.1
+hush_closes (deeds.RefuseWill who ∷ ds) q = hush_closes ds q.1
+hush_closes (deeds.Link n ∷ ds) q = hush_closes ds q.1
+hush_closes (On m part ∷ ds) q = hush_closes ds q.1
+
+hush_queue : (ds : List Deed) → AreOfQueue ds → AllByRecursion IsHushed ds
+hush_queue [] q = tt
+hush_queue (At who part ∷ ds) q = (tt, hush_queue ds q.1)
+hush_queue (d ∷ ds) q = absurd q.0
+
+-- the SUBSCRIBE is taken off its line, and nothing of copies comes to it
+told_hushed : (number : Numbering) (largest : ℕ) (all : List CopyId) (birth : ℕ) (r : Receiver) (call : Call) (w : Wish) (rest : List Back) (ds : List Deed) (new : Broker) → AllByRecursion IsHushed ds
+    → r.line.up ≡ asks_for w ∷ rest → RunsWithAll number largest all birth r new → RunsWithAll number largest all birth (receiver_told new (outcome_of call ds) (record r { line = taken_up r.line })) new
+told_hushed number largest all birth r call w rest ds new hush up h =
+    let ids = map id_of h.after in
+    let x = hushed_on number ids r.line.number new ds hush in
+    let none = hush_closes ds hush in
+    let out = outcome_of call ds in
+    let q = receiver_told new out (record r { line = taken_up r.line }) in
+    let sent = sent_to r.line.number new (filter_map output ds) in
+    let ups : filter_map answered (unless_closed (is_one_of r.line.number (filter_map closing ds)) (drop 1 r.line.up)) ≡ filter_map answered r.line.up =
+    ap (λ (t : Bool). filter_map answered (unless_closed t (drop 1 r.line.up))) (ap (is_one_of r.line.number) none ∙ none_closed r.line.number)
+    ∙ (ap (λ (xs : List Back). filter_map answered (drop 1 xs)) up ∙ sym (ap (filter_map answered) up)) in
+    let olds : filter_map answered (unless_closed (is_one_of r.line.old_number (filter_map closing ds)) r.line.old) ≡ filter_map answered r.line.old =
+    ap (λ (t : Bool). filter_map answered (unless_closed t r.line.old)) (ap (is_one_of r.line.old_number) none ∙ none_closed r.line.old_number) in
+    let downs : filter_map (heard_in number) (r.line.down ++ sent) ≡ filter_map (heard_in number) r.line.down =
+    heard_append number r.line.down sent ∙ (ap (λ (xs : List Output). filter_map (heard_in number) r.line.down ++ xs) x.heard_is ∙ append-nil (filter_map (heard_in number) r.line.down)) in
+    let same : seen number h.after q new ≡ seen number h.after r new = λ i. record (seen number h.after r new) { up = ups i; down = downs i; old = olds i } in
+    record {
+      after = h.after;
+      same = h.same;
+      run_is = record {
+        events = h.run_is.events;
+        seen_is = same ∙ h.run_is.seen_is;
+        queue_is = h.run_is.queue_is;
+        numbered = h.run_is.numbered;
+        tagged = record { down = all_join (IsTagged number ids) r.line.down sent h.run_is.tagged.down x.tagged; ledger = h.run_is.tagged.ledger; once = h.run_is.tagged.once };
+      };
+      session = h.session;
+      birth_is = h.birth_is;
+      receiving = record { session = h.receiving.session; client = h.receiving.client; only = h.receiving.only; known = h.receiving.known };
+    }
+
+-- ---- copies enter one after the other
+
+module _ (largest : ℕ) (env : Env) (small : env.limits.queue ≤ QUEUE_LIMIT) (r : Receiver) (birth : ℕ) (ns : List ℕ) (ids : List CopyId) (has : HasLines ns r) where
+  record Going (more : List CopyId) (b : Broker) : Type 0 where
+    pub served : IsServed r.client birth ns b
+    pub queues : ShortQueues env.limits.queue b.records
+    pub session : Session
+    pub found : session_at birth b.records ≡ Some session
+    pub runs : RunsFor largest (ids ++ more) birth r b
+
+  abbrev HasRoom : ℕ → Broker → Type 0
+  HasRoom n b = (x : Session) → session_at birth b.records ≡ Some x → n ≤ env.limits.queue - own_stay env x
+
+  -- by these deeds so many copies entered, and so many more may
+  record Grows (ds : List Deed) (n : ℕ) (more : List CopyId) (b : Broker) : Type 0 where
+    pub going : Going more (after_all ds b)
+    pub room : HasRoom n (after_all ds b)
+    pub hush : AllByRecursion IsHushed ds
+
+  enter_one : (d : CopyTo) (n : ℕ) (more : List CopyId) (b : Broker) → d.birth ≡ birth → is_queued d ≡ true → HasRoom (suc n) b → Going more b → Grows (deliver env d b) n (more ++ d.copy.id ∷ []) b
+  enter_one d n more b to queued room k =
+      let s = k.session in
+      let is : s.birth ≡ birth = found_key birth_of birth s b.records.sessions k.found in
+      let at : session_at d.birth b.records ≡ Some s = ap (λ (j : ℕ). session_at j b.records) to ∙ k.found in
+      let own_at : session_at s.birth b.records ≡ Some s = ap (λ (j : ℕ). session_at j b.records) is ∙ k.found in
+      let ds = enter_deeds env d.copy s in
+      let deeds_are : deliver env d b ≡ ds = ap (λ (t : Bool). deliver_by t env d b) queued ∙ ap (λ (o : Option Session). with_session o (λ (x : Session). always (enter_deeds env d.copy x)) b) at in
+      let all = room s k.found in
+      let tables = all_at birth_of HasTables birth s b.records.sessions k.queues.ordered.each k.found in
+      let made = enters env.limits.queue env d.copy s b (omega arith) small tables own_at (omega (arith, all)) k.queues in
+      let parts = queue_enter env d.copy s in
+      let served = served_parts r.client birth ns ds b parts k.served in
+      let e = made.0 in
+      let last : session_at birth (after_all ds b).records ≡ Some e.mine = ap (λ (j : ℕ). session_at j (after_all ds b).records) (sym is) ∙ e.found in
+      let stays = e.stays in
+      subst (λ (zs : List Deed). Grows zs n (more ++ d.copy.id ∷ []) b) (sym deeds_are) (record {
+        going = record { served = served; queues = made.1; session = e.mine; found = last; runs = entered_runs largest env small r birth ns ids has d.copy s b more queued (omega (arith, all)) is own_at served k.runs };
+        room = λ x there.
+            let it : e.mine ≡ x = some_is e.mine x (sym last ∙ there) in
+            subst (λ (y : Session). n ≤ env.limits.queue - own_stay env y) it (omega (arith, all, stays));
+        hush = hush_queue ds parts;
+      })
+
+  abbrev IsToIt : CopyTo → Type 0
+  IsToIt d = (d.birth ≡ birth) × (is_queued d ≡ true)
+
+  abbrev id_in : CopyTo → CopyId
+  id_in d = d.copy.id
+
+  enter_all : (ds : List CopyTo) (more : List CopyId) (b : Broker) → AllByRecursion IsToIt ds → HasRoom (length ds) b → Going more b → Grows (series (map (deliver env) ds) b) 0 (more ++ map id_in ds) b
+  enter_all [] more b q room k = record { going = subst (λ (ms : List CopyId). Going ms b) (sym (append-nil more)) k; room = room; hush = tt }
+  enter_all (d ∷ ds) more b q room k =
+      let first = deliver env d b in
+      let c = after_all first b in
+      let one = enter_one d (length ds) more b q.0.0 q.0.1 room k in
+      let rest = enter_all ds (more ++ d.copy.id ∷ []) c q.1 one.room one.going in
+      let others = series (map (deliver env) ds) c in
+      let end = after_append first others b in
+      record {
+        going = subst (λ (z : Broker). Going (more ++ map id_in (d ∷ ds)) z) (sym end) (subst (λ (ms : List CopyId). Going ms (after_all others c)) (append_assoc more (d.copy.id ∷ []) (map id_in ds)) rest.going);
+        room = subst (λ (z : Broker). HasRoom 0 z) (sym end) rest.room;
+        hush = each_append IsHushed first others one.hush rest.hush;
+      }
+
+  -- ---- a filter is granted
+
+  subscribed_is : (x : Subscription) (n : ℕ) (s : Session) (b : Broker) → session_at birth b.records ≡ Some s
+      → session_at birth (after_all (Count n ∷ At (whose s) (deeds.Subscribe x) ∷ []) b).records ≡ Some (with_subscription x s)
+  subscribed_is x n s b at =
+      let c = after_all (Count n ∷ At (whose s) (deeds.Subscribe x) ∷ []) b in
+      let is : s.birth ≡ birth = found_key birth_of birth s b.records.sessions at in
+      let own_at : session_at s.birth b.records ≡ Some s = ap (λ (j : ℕ). session_at j b.records) is ∙ at in
+      ap (λ (j : ℕ). session_at j c.records) (sym is)
+      ∙ (ap (λ (o : Option Session). session_at s.birth (changed_all (part_rows_of (deeds.Subscribe x) o) (stored_after (Count n) b.records))) own_at
+      ∙ change_row-here birth_of s.birth (with_subscription x) s b.records.sessions (λ y. refl) own_at)
+
+  subscribed : (x : Subscription) (n : ℕ) (s : Session) (b : Broker) → Going [] b → session_at birth b.records ≡ Some s → Going [] (after_all (Count n ∷ At (whose s) (deeds.Subscribe x) ∷ []) b)
+  subscribed x n s b k at =
+      let first : List Deed = Count n ∷ At (whose s) (deeds.Subscribe x) ∷ [] in
+      let c = after_all first b in
+      let is : s.birth ≡ birth = found_key birth_of birth s b.records.sessions at in
+      let own_at : session_at s.birth b.records ≡ Some s = ap (λ (j : ℕ). session_at j b.records) is ∙ at in
+      let v = k.served in
+      let client : s.client ≡ r.client = (all_at birth_of (IsOurs r.client birth) birth s b.records.sessions v.sessions at).name is in
+      let last = subscribed_is x n s b at in
+      let only_before : IsOnly r.client s.birth b.records =
+      subst (λ (j : ℕ). IsOnly r.client j b.records) (sym is) (all_more (IsOurs r.client birth) (IsIts r.client birth) b.records.sessions (λ y p. p.named) v.sessions) in
+      let stands : Stands r s (with_subscription x s) b c = record {
+        found = ap (λ (j : ℕ). session_at j c.records) is ∙ last;
+        client = client;
+        birth = refl;
+        queue = refl;
+        only = only_deeds r.client s.birth first b (tt, (tt, tt)) only_before;
+        went = refl;
+        lines = λ m. refl;
+      } in
+      record {
+        served = safe_served r.client birth ns first b (tt, (tt, tt)) v;
+        queues = still_short env.limits.queue (At (whose s) (deeds.Subscribe x)) (stored_after (Count n) b.records) tt (still_short env.limits.queue (Count n) b.records tt k.queues);
+        session = with_subscription x s;
+        found = last;
+        runs = moved_for largest (ids ++ []) birth ns r s (with_subscription x s) b c v own_at client is stands k.runs;
+      }
+
+  -- what becomes of a filter: nothing, or it is granted, with the copies that it brings
+  record Grants (g : sub.FilterAnswer) (n : ℕ) (b : Broker) : Type 0 where
+    pub more : List CopyId
+    pub new : AllByRecursion (IsBroughtCopy birth n) more
+    pub going : Going more (after_all g.deeds b)
+    pub hush : AllByRecursion IsHushed g.deeds
+    pub late : AllByRecursion (λ (d : CopyTo). is_queued d ≡ false) g.late
+
+  refuses : (code n : ℕ) (b : Broker) → Going [] b → Grants (sub.refused_filter code) n b
+  refuses code n b k = record { more = []; new = tt; going = k; hush = tt; late = tt }
+
+  not_queued : (t : Bool) → (t ≡ true → ⊥) → t ≡ false
+  not_queued true h = absurd (h refl)
+  not_queued false h = refl
+
+  late_ones : (ds : List CopyTo) → AllByRecursion (λ (d : CopyTo). is_queued d ≡ false) (filter (λ (d : CopyTo). not (is_queued d)) ds)
+  late_ones [] = tt
+  late_ones (d ∷ ds) = elim (cases_Bool (is_queued d)) [
+    | inl so ↦ rw so (late_ones ds)
+    | inr not_so ↦ rw not_so (not_so, late_ones ds)
+  ]
+
+  -- of the copies that the filter brings
+  abbrev IsMade : ℕ → CopyTo → Type 0
+  IsMade n d = (d.birth ≡ birth) × IsBroughtCopy birth n d.copy.id
+
+  brought_made : (t : Bool) (now n : ℕ) (s : Session) (w : sub.Wish) (ks : List RetainedMessage) → s.birth ≡ birth → AllByRecursion (IsMade n) (sub.brought_if t now n s w ks)
+  brought_made false now n s w ks is = tt
+  brought_made true now n s w ks is = each s.birth is (filter (sub.is_brought now s w) (map sub.message_in (kept_for w.filter (map sub.kept_of ks))))
+    where
+      each : (j : ℕ) → j ≡ birth → (xs : List RetainedMessage) → AllByRecursion (IsMade n) (map (sub.retained_copy_to j n w) xs)
+      each j e [] = tt
+      each j e (x ∷ xs) = ((e, record { birth_is = e; cause_is = refl }), each j e xs)
+
+  queued_to : (n : ℕ) (ds : List CopyTo) → AllByRecursion (IsMade n) ds → AllByRecursion IsToIt (filter is_queued ds)
+  queued_to n [] h = tt
+  queued_to n (d ∷ ds) h = elim (cases_Bool (is_queued d)) [
+    | inl so ↦ rw so ((h.0.0, so), queued_to n ds h.1)
+    | inr not_so ↦ rw not_so (queued_to n ds h.1)
+  ]
+
+  queued_new : (n : ℕ) (ds : List CopyTo) → AllByRecursion (IsMade n) ds → AllByRecursion (IsBroughtCopy birth n) (map id_in (filter is_queued ds))
+  queued_new n [] h = tt
+  queued_new n (d ∷ ds) h = elim (cases_Bool (is_queued d)) [
+    | inl so ↦ rw so (h.0.1, queued_new n ds h.1)
+    | inr not_so ↦ rw not_so (queued_new n ds h.1)
+  ]
+
+  right_true : (x y : Bool) → (x && y) ≡ true → y ≡ true
+  right_true true y e = e
+  right_true false y e = absurd cc
+
+  grants : (w : sub.Wish) (s : Session) (b : Broker) → Going [] b → session_at birth b.records ≡ Some s
+      → length (filter is_queued (brought_to w s b)) ≤ room env s → Grants (sub.granted_filter env (sub.next_number b.records) s w (brought_to w s b) b) (sub.next_number b.records) b
+  grants w s b k at fits =
+      let n = sub.next_number b.records in
+      let x = sub.subscription n s w in
+      let is : s.birth ≡ birth = found_key birth_of birth s b.records.sessions at in
+      let first : List Deed = Count n ∷ At (whose s) (deeds.Subscribe x) ∷ [] in
+      let c = after_all first b in
+      let all = brought_to w s b in
+      let ds = filter is_queued all in
+      let made : AllByRecursion (IsMade n) all = brought_made _ b.now n s w b.records.retained is in
+      let going = subscribed x n s b k at in
+      let same = stay_is env.limits.full (since env s) s.birth s.queue in
+      let room_first : HasRoom (length ds) c = λ y there.
+      let it : with_subscription x s ≡ y = some_is (with_subscription x s) y (sym (subscribed_is x n s b at) ∙ there) in
+      let bound : length ds ≤ env.limits.queue - own_stay env s = omega (arith, same, fits) in
+      subst (λ (z : Session). length ds ≤ env.limits.queue - own_stay env z) it bound in
+      let rest = enter_all ds [] c (queued_to n all made) room_first going in
+      let others = series (map (deliver env) ds) c in
+      record {
+        more = map id_in ds;
+        new = queued_new n all made;
+        going = subst (Going (map id_in ds)) (sym (after_append first others b)) rest.going;
+        hush = each_append IsHushed first others (tt, (tt, tt)) rest.hush;
+        late = late_ones all;
+      }
+
+  answers_by : (t u : Bool) (w : sub.Wish) (s : Session) (b : Broker) → Going [] b → session_at birth b.records ≡ Some s → (u ≡ true → length (filter is_queued (brought_to w s b)) ≤ room env s)
+      → Grants (sub.answer_by t u env (sub.next_number b.records) s w (brought_to w s b) b) (sub.next_number b.records) b
+  answers_by false u w s b k at fits = refuses topic_filter_invalid (sub.next_number b.records) b k
+  answers_by true false w s b k at fits = refuses quota_exceeded (sub.next_number b.records) b k
+  answers_by true true w s b k at fits = grants w s b k at (fits refl)
+
+  filter_grants : (o : Option sub.Wish) (s : Session) (b : Broker) → Going [] b → session_at birth b.records ≡ Some s → Grants (sub.filter_answer_of env o b (Some s)) (sub.next_number b.records) b
+  filter_grants None s b k at = refuses topic_filter_invalid (sub.next_number b.records) b k
+  filter_grants (Some w) s b k at =
+      let fits = nat_le (length (filter is_queued (brought_to w s b))) (room env s) in
+      let free = sub.has_filter w.filter s || nat_lt (length s.subscriptions) SUBSCRIPTION_LIMIT in
+      answers_by (is_filter w.filter) (free && fits) w s b k at (λ e. leb-true (length (filter is_queued (brought_to w s b))) (room env s) (right_true free fits e))
+
+  -- ---- what is told of it
+
+  abbrev IsTelling : Deed → Type 0
+  IsTelling (Send m packet) = IsHush packet
+  IsTelling d = ⊥
+
+  telling_after : (ds : List Deed) (b : Broker) → AllByRecursion IsTelling ds → after_all ds b ≡ b
+  telling_after [] b q = refl
+  telling_after (Send m packet ∷ ds) b q = telling_after ds b q.1
+  telling_after (d ∷ ds) b q = absurd q.0
+
+  telling_hush : (ds : List Deed) → AllByRecursion IsTelling ds → AllByRecursion IsHushed ds
+  telling_hush [] q = tt
+  telling_hush (Send m packet ∷ ds) q = (q.0, telling_hush ds q.1)
+  telling_hush (d ∷ ds) q = absurd q.0
+
+  telling_offer : (o : Option BrokerLine) (packet : Packet) → IsHush packet → AllByRecursion IsTelling (offer o packet)
+  telling_offer None packet q = tt
+  telling_offer (Some l) packet q = by (nat_le (size_of packet) l.largest)
+    where
+      by : (t : Bool) → AllByRecursion IsTelling (cond t (Send l.number packet ∷ []) [])
+      by true = (q, tt)
+      by false = tt
+
+  telling_late : (n now : ℕ) (b : Broker) (ds : List CopyTo) → AllByRecursion (λ (d : CopyTo). is_queued d ≡ false) ds → AllByRecursion IsTelling (flat_map (λ (d : CopyTo). sub.late_sends n now d b) ds)
+  telling_late n now b [] q = tt
+  telling_late n now b (d ∷ ds) q =
+      each_append IsTelling (sub.late_sends n now d b) (flat_map (λ (x : CopyTo). sub.late_sends n now x b) ds) (telling_offer (line_at n b) (publish_of now false 0 d.copy) (unheard_of d.copy.qos q.0)) (telling_late n now b ds q.1)
+
+  -- ---- the packet
+
+  record Does (ds : List Deed) (n : ℕ) (b : Broker) : Type 0 where
+    pub more : List CopyId
+    pub new : AllByRecursion (IsBroughtCopy birth n) more
+    pub going : Going more (after_all ds b)
+    pub hush : AllByRecursion IsHushed ds
+
+  subscribes_by : (t : Bool) (line : ℕ) (s : Session) (w : Wish) (p : Asking) (a : Asked) (b : Broker) → p.subscriptions ≡ a ∷ [] → Going [] b → s.birth ≡ birth → session_at birth b.records ≡ Some s
+      → Does (sub.subscribe_by t env line s p b) (sub.next_number b.records) b
+  subscribes_by true line s w p a b is k its at =
+      let packet = suback p.identifier (map (λ (x : Asked). identifier_in_use) p.subscriptions) in
+      let tells = offer (line_at line b) packet in
+      let q = telling_offer (line_at line b) packet tt in
+      record { more = []; new = tt; going = subst (Going []) (sym (telling_after tells b q)) k; hush = telling_hush tells q }
+  subscribes_by false line s w p a b is k its at =
+      let identifier = number_at SubscriptionIdentifier p.properties in
+      let n = sub.next_number b.records in
+      let g = sub.filter_answer_of env (sub.wish_of identifier a) b (Some s) in
+      let there : session_at s.birth b.records ≡ Some s = ap (λ (j : ℕ). session_at j b.records) its ∙ at in
+      let one : Grants g n b = filter_grants (sub.wish_of identifier a) s b k at in
+      let of : sub.filter_answers env s.birth identifier p.subscriptions b ≡ sub.before g (record { codes = []; deeds = []; late = [] }) =
+      ap (λ (xs : List Asked). sub.filter_answers env s.birth identifier xs b) is
+      ∙ ap (λ (o : Option Session). sub.before (sub.filter_answer_of env (sub.wish_of identifier a) b o) (record { codes = []; deeds = []; late = [] })) there in
+      let tells : List Deed = offer (line_at line b) (suback p.identifier (g.code ∷ [])) ++ flat_map (λ (d : CopyTo). sub.late_sends line b.now d b) (g.late ++ []) in
+      let late = each_append (λ (d : CopyTo). is_queued d ≡ false) g.late [] one.late tt in
+      let q = each_append IsTelling (offer (line_at line b) (suback p.identifier (g.code ∷ []))) (flat_map (λ (d : CopyTo). sub.late_sends line b.now d b) (g.late ++ []))
+      (telling_offer (line_at line b) (suback p.identifier (g.code ∷ [])) tt) (telling_late line b.now b (g.late ++ []) late) in
+      let front : List Deed = g.deeds ++ [] in
+      let end : after_all (front ++ tells) b ≡ after_all g.deeds b =
+      after_append front tells b ∙ (telling_after tells (after_all front b) q ∙ ap (λ (xs : List Deed). after_all xs b) (append-nil g.deeds)) in
+      let made : Does (front ++ tells) n b = record {
+        more = one.more;
+        new = one.new;
+        going = subst (Going one.more) (sym end) one.going;
+        hush = each_append IsHushed front tells (each_append IsHushed g.deeds [] one.hush tt) (telling_hush tells q);
+      } in
+      subst (λ (x : sub.FilterAnswers). Does (x.deeds ++ offer (line_at line b) (suback p.identifier x.codes) ++ flat_map (λ (d : CopyTo). sub.late_sends line b.now d b) x.late) n b) (sym of)
+      (subst (λ (zs : List Deed). Does zs n b) (sym (append_assoc front (offer (line_at line b) (suback p.identifier (g.code ∷ []))) (flat_map (λ (d : CopyTo). sub.late_sends line b.now d b) (g.late ++ [])))) made)
+
+-- ---- the call
+
+pub subscribes_in_step : (largest : ℕ) (ids : List CopyId) (limits : Limits) (choice : MemberChoice) (now birth : ℕ) (ns : List ℕ) (w : Wish) (rest : List Back) (r : Receiver) (l : BrokerLine) (s : Session) (b : Broker)
+    → IsInStep largest ids birth ns r b → IsListening r l s b → IsTidy limits b → r.line.up ≡ asks_for w ∷ rest
+    → Subscribed largest ids birth ns (suc b.records.subscribes) (receiver_after limits choice now (Input l.number (wire_back r.client r.window (asks_for w))) r b) (stepped limits choice now (Input l.number (wire_back r.client r.window (asks_for w))) b)
+subscribes_in_step largest ids limits choice now birth ns w rest r l s b k a tidy up =
+    let env = env_of limits choice b in
+    let n = l.number in
+    let packet = wire_back r.client r.window (asks_for w) in
+    let call = Input n packet in
+    let first = at_moment now b in
+    let c = heard_of now n b in
+    let v = k.served in
+    let its : s.birth ≡ birth = (all_at birth_of (IsOurs r.client birth) s.birth s b.records.sessions v.sessions a.session).named a.client in
+    let at : session_at birth b.records ≡ Some s = ap (λ (j : ℕ). session_at j b.records) (sym its) ∙ a.session in
+    let served : IsServed r.client birth ns first = record { sessions = v.sessions; lines = v.lines; births = v.births; given = v.given } in
+    let runs : RunsFor largest (ids ++ []) birth r first = λ number m.
+    first_runs number largest (ids ++ []) birth r now b (subst (λ (all : List CopyId). RunsWithAll number largest all birth r b) (sym (append-nil ids)) (k.runs number (subst (AreNumbered number) (append-nil ids) m))) in
+    let stands : Stands r s s first c = record {
+      found = a.session;
+      client = a.client;
+      birth = refl;
+      queue = refl;
+      only = a.only;
+      went = went_heard s.birth first.now n b.lines;
+      lines = λ m. quiet_line s.birth m first.now (On n Hear) b.lines tt;
+    } in
+    let going : Going largest env tidy.within r birth ns ids k.lines [] c = record {
+      served = safe_served r.client birth ns (On n Hear ∷ []) first (tt, tt) served;
+      queues = record { ordered = tidy.ordered; short = tidy.queues };
+      session = s;
+      found = at;
+      runs = moved_for largest (ids ++ []) birth ns r s s first c served a.session a.client its stands runs;
+    } in
+    let p : Asking = record { identifier = 1; properties = identified w.identifier; subscriptions = record { filter = w.filter; options = options_byte w.options } ∷ [] } in
+    let own = on_subscribe env n s p c in
+    let does = subscribes_by largest env tidy.within r birth ns ids k.lines (is_among 1 s.inbound) n s w p (record { filter = w.filter; options = options_byte w.options }) c refl going its at in
+    let ds = deeds_in limits choice now call b in
+    let is : ds ≡ On n Hear ∷ (own ++ []) = input_is limits choice now packet l s b a.line a.connected a.session in
+    let end : after_all ds first ≡ after_all own c = ap (λ (xs : List Deed). after_all xs first) is ∙ ap (λ (xs : List Deed). after_all xs c) (append-nil own) in
+    let hush : AllByRecursion IsHushed ds = subst (AllByRecursion IsHushed) (sym is) (tt, each_append IsHushed own [] does.hush tt) in
+    let rows = rows_of_all ds first.records in
+    let last = after_all ds first in
+    let whole : Going largest env tidy.within r birth ns ids k.lines does.more last = subst (Going largest env tidy.within r birth ns ids k.lines does.more) (sym end) does.going in
+    record {
+      more = does.more;
+      new = does.new;
+      in_step = record {
+        runs = λ number m.
+            told_hushed number largest (ids ++ does.more) birth r call w rest ds (stepped limits choice now call b) hush up (done_all number largest (ids ++ does.more) birth r rows last (whole.runs number m));
+        served = moment_served r.client birth ns rows last whole.served;
+        lines = record { own = k.lines.own; old = k.lines.old };
+      };
+    }

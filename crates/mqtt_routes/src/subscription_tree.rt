@@ -1,0 +1,206 @@
+//! The subscriptions of all sessions, found by the levels of their filters (MQTT 5.0, 3.8, 3.10, 4.7).
+ghost use Rattle.std.specs.Prelude.{◌≡◌, ◌<◌, ◌∷◌, [], ℕ, List, false, true, length, get_or, IfErr, IfOk, OnErr, OnOk};
+ghost use Rattle.mqtt_routes.specs.Intended.{directs, members};
+ghost use Rattle.mqtt_routes.specs.Spots.{AreConcerned, texts_of};
+ghost use Rattle.mqtt_routes.specs.Subscriptions.{has_filter, takes_filter, subs_of, subscribed, unsubscribed, without_session, standing, filters_of, have_room, AreInOrder, RefusesPut};
+
+use crate::answers::Sessions;
+use crate::copy::RoutedCopy;
+use crate::fault::RoutesFault;
+use crate::member::Member;
+use crate::publication::Publication;
+use crate::spot::{Spot, move_down, once_each};
+use crate::subscribers::Subscribers;
+use crate::subscription::Subscription;
+use mqtt_base::SUBSCRIPTION_LIMIT;
+use mqtt_topic::TopicName;
+use mqtt_tree::{Filters, matching, place};
+use std::alloc::Global;
+use std::hash::RandomState;
+use std::marker::Model;
+
+/// The subscriptions of all sessions, and where each stands in the order of the levels of its
+/// filter, which is the tree of the filters laid flat.
+#[derive(Drop)]
+pub(crate) struct SubscriptionTree {
+    alloc: Global,
+    subscribers: Subscribers,
+    /// Each subscription once.
+    spots: Vec<Spot>,
+}
+
+impl Model for SubscriptionTree {
+    ghost use Rattle.std.specs.Prelude.{◌-◌};
+    ghost use Rattle.std.specs.Vec.{vec_capacity, vec_len};
+    ghost use Rattle.mqtt_routes.specs.Spots.{IsIndex, SpottedSessions, rooms_within};
+
+    ghost Value = { SpottedSessions };
+
+    ghost view = { λ t. record {
+      sessions = t.subscribers.sessions;
+      room = rooms_within (vec_capacity t.spots - vec_len t.spots) t.subscribers.room;
+      spots = t.spots.items;
+    } };
+
+    ghost invariant = { λ t. IsIndex t.subscribers.sessions t.spots.items };
+}
+
+impl Filters for SubscriptionTree {
+    ghost texts = { λ t. texts_of t.sessions t.spots };
+
+    fn count(&self) -> usize {
+        self.spots.len()
+    }
+
+    fn text(&self, number: usize) -> &str {
+        let spot = self.spots[number];
+        self.subscribers.matched(spot.birth, spot.at)
+    }
+}
+
+impl SubscriptionTree {
+    /// No session. Filters, which strangers choose, are hashed by `hasher`.
+    pub(crate) fn new(alloc: Global, hasher: RandomState) -> SubscriptionTree
+        ensures { result.sessions ≡ [] }
+    {
+        SubscriptionTree {
+            alloc,
+            subscribers: Subscribers::new(alloc, hasher),
+            spots: Vec::new(alloc),
+        }
+    }
+
+    /// Makes room for subscriptions of a session, which stands in the table from then on.
+    pub(crate) fn make_room(&mut self, birth: u64, new: &[Subscription]) -> Result<(), RoutesFault>
+        ensures ok { OnOk result (self.new.sessions ≡ standing birth (filters_of new.now) self.old.sessions) }
+        ensures err { OnErr result (self.new.sessions ≡ self.old.sessions) }
+        ensures room { OnOk result (have_room birth (filters_of new.now) self.new.room ≡ true) }
+        ensures fault { IfErr result (λ fault. fault ≡ RoutesFault.Memory) }
+        ensures memory { OnErr result (have_room birth (filters_of new.now) self.old.room ≡ false) }
+    {
+        self.subscribers.show_order();
+        self.spots.reserve(new.len())?;
+        self.subscribers.make_room(birth, new)
+    }
+
+    /// Puts a subscription of a session.
+    pub(crate) fn subscribe(
+        &mut self,
+        birth: u64,
+        subscription: Subscription,
+    ) -> Result<(), RoutesFault>
+        ensures ok { OnOk result (self.new.sessions
+            ≡ subscribed birth subscription self.old.sessions) }
+        ensures only { OnOk result (takes_filter subscription.filter
+            (subs_of birth self.old.sessions) ≡ true) }
+        ensures err { OnErr result (self.new.sessions ≡ self.old.sessions) }
+        ensures refused { IfErr result (RefusesPut subscription (subs_of birth self.old.sessions)) }
+        ensures memory { (rest : List (List ℕ))
+            → have_room birth (subscription.filter ∷ rest) self.old.room ≡ true
+            → IfErr result (λ fault. fault ≡ RoutesFault.Full) }
+        ensures room { (rest : List (List ℕ))
+            → have_room birth (subscription.filter ∷ rest) self.old.room ≡ true
+            → have_room birth rest self.new.room ≡ true }
+    {
+        self.subscribers.show_order();
+        if self
+            .subscribers
+            .number(birth, subscription.filter.as_str())
+            .is_some()
+        {
+            return self.subscribers.subscribe(birth, subscription);
+        }
+        let at = self.subscribers.count(birth);
+        if at >= SUBSCRIPTION_LIMIT {
+            return Err(RoutesFault::Full);
+        }
+        self.spots.reserve(1)?;
+        let number = place(self, &subscription.filter);
+        self.subscribers.subscribe(birth, subscription)?;
+        self.spots.insert(number, Spot { birth, at })?;
+        Ok(())
+    }
+
+    /// Removes the subscription of a session to a filter, if there is one. Takes no memory.
+    pub(crate) fn unsubscribe(&mut self, birth: u64, filter: &str) -> bool
+        ensures found { result ≡ has_filter filter.now (subs_of birth self.old.sessions) }
+        ensures after { self.new.sessions ≡ unsubscribed birth filter.now self.old.sessions }
+    {
+        self.subscribers.show_order();
+        let Some(at) = self.subscribers.number(birth, filter) else {
+            return false;
+        };
+        self.subscribers.unsubscribe(birth, filter);
+        self.spots
+            .retain(|spot| !(birth == spot.birth && at == spot.at));
+        move_down(&mut self.spots, birth, at);
+        true
+    }
+
+    /// Removes the subscriptions of a session. Takes no memory.
+    pub(crate) fn drop_session(&mut self, birth: u64)
+        ensures { self.new.sessions ≡ without_session birth self.old.sessions }
+    {
+        self.subscribers.show_order();
+        self.spots.retain(|spot| spot.birth != birth);
+        self.subscribers.drop_session(birth);
+    }
+
+    /// Shows that the sessions are in the order of their births. Takes no memory.
+    pub(crate) fn show_order(&self)
+        ensures { AreInOrder self.now.sessions }
+    {
+        self.subscribers.show_order();
+    }
+
+    /// The births of the sessions that have a subscription to a topic, in order.
+    pub(crate) fn births_to(&self, publication: &Publication<'_>) -> Result<Vec<u64>, RoutesFault>
+        ensures births { IfOk result (λ births. AreConcerned publication.now self.now.sessions births.items) }
+        ensures fault { IfErr result (λ fault. fault ≡ RoutesFault.Memory) }
+    {
+        let found = matching(self.alloc, self, publication.topic)?;
+        let mut births = Vec::new(self.alloc);
+        for number in found.as_slice() {
+            if let Some(spot) = self.spots.as_slice().get(*number) {
+                births.push(spot.birth)?;
+            }
+        }
+        births.sort_unstable();
+        once_each(self.alloc, births.as_slice())
+    }
+
+    /// The direct copies of a publication, by session birth.
+    pub(crate) fn directs<S: Sessions>(
+        &self,
+        publication: &Publication<'_>,
+        at: &S,
+        births: &[u64],
+    ) -> Result<Vec<RoutedCopy>, RoutesFault>
+        requires { AreConcerned publication.now self.now.sessions births.now }
+        ensures copies { IfOk result (λ copies. copies.items
+            ≡ directs (S.answers at.now) publication.now self.now.sessions) }
+        ensures fault { IfErr result (λ fault. fault ≡ RoutesFault.Memory) }
+    {
+        self.subscribers.show_order();
+        self.subscribers.directs(publication, at, births)
+    }
+
+    /// The members of all groups that match the topic of a publication, as they joined.
+    pub(crate) fn members<'a>(
+        &'a self,
+        publication: &Publication<'_>,
+        births: &[u64],
+    ) -> Result<Vec<Member<'a>>, RoutesFault>
+        requires { AreConcerned publication.now self.now.sessions births.now }
+        ensures members { IfOk result (λ found. found.items ≡ members publication.now self.now.sessions) }
+        ensures fault { IfErr result (λ fault. fault ≡ RoutesFault.Memory) }
+    {
+        self.subscribers.show_order();
+        self.subscribers.members(publication, births)
+    }
+
+    /// Notes which member a group, named by its filter, chose last. Takes no memory.
+    pub(crate) fn note_turn(&self, filter: &str, turn: u64) {
+        self.subscribers.note_turn(filter, turn);
+    }
+}

@@ -1,0 +1,168 @@
+//! A moment before which nothing is due of what is stored (MQTT 5.0, 3.1.2.11.2, 3.1.3.2.2, 3.3.2.3.3).
+ghost use Rattle.std.specs.Prelude.{◌≡◌, ◌≤◌, ◌<◌, ◌+◌, ℕ, false};
+ghost use Rattle.std.specs.List.{AllByRecursion};
+ghost use Rattle.mqtt_base.specs.declared.limits.TheConstants.{LAST_NUMBER};
+ghost use Rattle.mqtt_flow.specs.Outbound.{is_waiting};
+ghost use Rattle.mqtt_records.specs.declared.records.Records.{Records};
+ghost use Rattle.mqtt_records.specs.Records.{changed_all};
+ghost use Rattle.mqtt_closing.specs.TheRules.Closing.{is_due};
+ghost use Rattle.mqtt_closing.specs.TheRules.Packets.{is_expired};
+ghost use Rattle.mqtt_closing.specs.TheRules.Tick.{is_stale};
+ghost use Rattle.mqtt_ticking.specs.Quiet.{AreQuietBefore, BringsNothing, IsFresh, IsQuiet, IsSettled};
+
+use mqtt_base::{LAST_NUMBER, Phase};
+use mqtt_closing::{Step, expiry_due, settling_due};
+use mqtt_records::{Boxed, Change, Columns, Content, CopyRow, RetainedMessage, Session};
+
+/// Past each moment.
+const NEVER: u64 = LAST_NUMBER + 1;
+
+/// The earlier of two moments.
+fn sooner(one: u64, other: u64) -> u64
+    ensures { (now : ℕ) → now < result → (now < one) × (now < other) }
+{
+    if one < other { one } else { other }
+}
+
+/// The moment, or one past each where it is not set.
+fn or_never(moment: Option<u64>) -> u64
+    ensures quiet { (now : ℕ) → now < result → is_due now moment ≡ false }
+    ensures within { result ≤ LAST_NUMBER + 1 }
+{
+    match moment {
+        Some(moment) => moment.min(NEVER),
+        None => NEVER,
+    }
+}
+
+/// Before which moment a message hasn't expired (3.3.2.3.3).
+fn content_before(content: &Content) -> u64
+    ensures { (now : ℕ) → now < result → is_expired now content.now ≡ false }
+{
+    or_never(expiry_due(content))
+}
+
+/// Whether a copy is still to be sent for the first time.
+fn is_waiting(phase: Phase) -> bool
+    ensures { result ≡ is_waiting phase }
+{
+    match phase {
+        Phase::Waiting => true,
+        Phase::Sent { .. } | Phase::Released { .. } | Phase::Oversize { .. } => false,
+    }
+}
+
+/// Before which moment a copy doesn't wait, or hasn't expired.
+fn row_before(row: &CopyRow) -> u64
+    ensures { (now : ℕ) → now < result → IsFresh now row.now }
+{
+    if is_waiting(row.phase()) {
+        content_before(&row.copy().content)
+    } else {
+        NEVER
+    }
+}
+
+/// Before which moment no copy of a queue that waits has expired.
+fn queue_before(queue: &[Boxed<CopyRow>]) -> u64
+    ensures { (now : ℕ) → now < result → AllByRecursion (IsFresh now) queue.now }
+{
+    let mut least = NEVER;
+    let mut rest = queue;
+    while let Some((row, after)) = rest.split_first() {
+        least = sooner(least, row_before(row.get()));
+        rest = after;
+    }
+    least
+}
+
+/// Before which moment nothing is due of a session.
+fn session_before(session: &Session) -> u64
+    ensures { (now : ℕ) → now < result → IsQuiet now session.now }
+{
+    sooner(
+        or_never(settling_due(session)),
+        queue_before(session.queue.as_slice()),
+    )
+}
+
+/// Before which moment nothing is due of any session.
+fn sessions_before(sessions: &[Boxed<Session>]) -> u64
+    ensures { (now : ℕ) → now < result → AllByRecursion (IsQuiet now) sessions.now }
+{
+    let mut least = NEVER;
+    let mut rest = sessions;
+    while let Some((session, after)) = rest.split_first() {
+        least = sooner(least, session_before(session.get()));
+        rest = after;
+    }
+    least
+}
+
+/// Before which moment no retained message has expired.
+fn retained_before(retained: &[Boxed<RetainedMessage>]) -> u64
+    ensures { (now : ℕ) → now < result → AllByRecursion (λ k. is_stale now k ≡ false) retained.now }
+{
+    let mut least = NEVER;
+    let mut rest = retained;
+    while let Some((kept, after)) = rest.split_first() {
+        least = sooner(least, content_before(&kept.get().content));
+        rest = after;
+    }
+    least
+}
+
+/// A moment before which nothing is due of what is stored: it looks at all of it. Takes no memory.
+pub fn quiet_before(step: &Step) -> u64
+    ensures { AreQuietBefore result step.now.broker.records }
+{
+    sooner(
+        sessions_before(step.all_sessions()),
+        retained_before(step.all_retained()),
+    )
+}
+
+/// Before which moment nothing is due of a session with this row: it isn't closed, or is closed then.
+fn columns_before(row: &Columns) -> u64
+    ensures { (now : ℕ) → now < result → IsSettled now row.now }
+{
+    match row.closed {
+        Some(closed) => closed.min(LAST_NUMBER),
+        None => NEVER,
+    }
+}
+
+/// Before which moment a change brings nothing that is due. Of a new session, and of a Will, nothing is said.
+fn change_before(change: &Change) -> u64
+    ensures { (now : ℕ) → now < result → BringsNothing now change.now }
+{
+    match change {
+        Change::SetSession { row } => columns_before(row),
+        Change::PutSession { .. } | Change::PutWill { .. } => 0,
+        Change::PutCopy { row, .. } => row_before(row.get()),
+        Change::SetCopy { phase, .. } => { if is_waiting(*phase) { 0 } else { NEVER } }
+        Change::PutRetained { kept } => content_before(&kept.get().content),
+        Change::SetCounter { .. }
+        | Change::RemoveSession { .. }
+        | Change::RemoveWill { .. }
+        | Change::PutSubscription { .. }
+        | Change::RemoveSubscription { .. }
+        | Change::PutInbound { .. }
+        | Change::RemoveInbound { .. }
+        | Change::RemoveCopy { .. }
+        | Change::RemoveRetained { .. } => NEVER,
+    }
+}
+
+/// The moment before which nothing is due, after so many changes: it looks at them alone. Takes no memory.
+pub fn quiet_after(quiet: u64, changes: &[Change]) -> u64
+    ensures { (r : Records) → AreQuietBefore quiet r → AreQuietBefore result (changed_all changes.now r) }
+{
+    let mut least = quiet;
+    let mut rest = changes;
+    while let Some((change, after)) = rest.split_first() {
+        least = sooner(least, change_before(change));
+        rest = after;
+    }
+    least
+}
