@@ -314,7 +314,8 @@ fn serve_one<S: Sessions>(
     };
     let member = &members[i];
     let copy = shared_copy(alloc, publication, member)?;
-    let chosen = member.row.subscription.place;
+    let row = member.row;
+    let chosen = row.subscription.place;
     served(alloc, whole, Some(copy), members, turn, chosen)
 }
 
