@@ -19,11 +19,12 @@ use Rattle.mqtt_rules.specs.State.{Broker, MemberChoice, session_named}
 use Rattle.mqtt_rules.specs.Step.{Call, Input, Outcome, Pump, stepped, told}
 use Rattle.mqtt_rules.specs.declared.Limits.{Limits}
 use Rattle.mqtt_world_laws.proofs.Ends.{find_publisher, find_receiver, named_receiver, only_receiver}
-use Rattle.mqtt_handed_laws.specs.Drains.{after_round, all_to_broker, all_to_end, copies_by, copies_left, downs_by, drain_turns, drained, is_none_left, is_over, line_stands, round_turns, rounds_taken, times, turn_of, ups_by}
+use Rattle.mqtt_handed_laws.specs.Drains.{after_round, all_to_broker, all_to_end, copies_by, copies_left, downs_by, drain_turns, drained, enough_rounds, is_none_left, is_over, line_stands, round_turns, rounds_taken, times, turn_of, ups_by}
 use Rattle.mqtt_handed_laws.specs.Handing.{IsRun}
 use Rattle.mqtt_handed_laws.specs.Rounds as rounds
 use Rattle.mqtt_handed_laws.specs.Rounds.{EndsBy}
 use Rattle.mqtt_handed_laws.specs.Seen.{Numbering, answered, seen}
+use Rattle.mqtt_handed_laws.specs.Served.{RunsWithAll}
 use Rattle.mqtt_handed_laws.specs.Tags.{AreNumbered, id_of}
 use Rattle.mqtt_handed_laws.specs.WorldRounds.{ComesTo, IsAnswer, IsDrained, MayDrain, moment_of, moments_of}
 use Rattle.mqtt_handed_laws.proofs.Answering.{named_now, standing_by}
@@ -336,3 +337,37 @@ module _ (largest window : ℕ) (ids : List CopyId) (birth : ℕ) (ns : List ℕ
   drain_is_empty room differ may enough =
       let x = may.connected.in_step.runs (place_in ids) (numbers_all ids differ) in
       drain_empty (place_in ids) largest window ids birth ns limits choice client x.after r w may x.same x.run_is most room enough
+
+  -- where it may be drained only after a round
+  pub drain_within_later : 1 ≤ window → AllDiffer ids → MayDrain largest window ids birth ns client r (after_round limits choice client w) → rounds_taken limits choice client most w ≤ enough_rounds (copies_left client (after_round limits choice client w))
+  drain_within_later room differ may = by most
+    where
+      x : RunsWithAll (place_in ids) largest ids birth r (after_round limits choice client w).broker
+      x = may.connected.in_step.runs (place_in ids) (numbers_all ids differ)
+
+      by : (k : ℕ) → rounds_taken limits choice client k w ≤ enough_rounds (copies_left client (after_round limits choice client w))
+      by zero = omega arith
+      by (suc more) = ⊎_elim
+          (λ (o : is_over client w ≡ true). rw o (omega arith))
+          (λ (o : is_over client w ≡ false).
+          let few = drain_within (place_in ids) largest window ids birth ns limits choice client x.after r (after_round limits choice client w) may x.same x.run_is more room in
+          rw o (omega (arith, few)))
+          (test_cases (is_over client w))
+
+  pub drain_over_later : 1 ≤ window → AllDiffer ids → MayDrain largest window ids birth ns client r (after_round limits choice client w) → enough_rounds (copies_left client (after_round limits choice client w)) ≤ most
+      → is_over client (drained limits choice client most w) ≡ true
+  drain_over_later room differ may enough = by most enough
+    where
+      x : RunsWithAll (place_in ids) largest ids birth r (after_round limits choice client w).broker
+      x = may.connected.in_step.runs (place_in ids) (numbers_all ids differ)
+
+      by : (k : ℕ) → enough_rounds (copies_left client (after_round limits choice client w)) ≤ k → is_over client (drained limits choice client k w) ≡ true
+      by zero few = absurd (omega (arith, few))
+      by (suc more) few = ⊎_elim
+          (λ (o : is_over client w ≡ true). rw o o)
+          (λ (o : is_over client w ≡ false).
+          let v = after_round limits choice client w in
+          let none = drain_empty (place_in ids) largest window ids birth ns limits choice client x.after r v may x.same x.run_is more room (omega (arith, few)) in
+          rw o (subst (λ (u : World). is_over client u ≡ true) (sym (run_append limits (round_turns limits choice client w) (drain_turns limits choice client more v) w))
+          (ap (λ (j : ℕ). is_none_left j || not (line_stands (receiver_named client (drained limits choice client more v)) (drained limits choice client more v))) none)))
+          (test_cases (is_over client w))

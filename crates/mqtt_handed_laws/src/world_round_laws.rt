@@ -1,8 +1,8 @@
 //! Laws of drains of the world: of a receiver that is in step and connected (4.3, 4.4, 4.6).
-ghost use Rattle.std.specs.Prelude.{◌*◌, ◌≡◌, ◌≤◌, ℕ, List, map};
+ghost use Rattle.std.specs.Prelude.{◌*◌, ◌≡◌, ◌≤◌, ℕ, List, map, true};
 ghost use Rattle.mqtt_base.specs.declared.session.CopyId.{CopyId};
 ghost use Rattle.mqtt_flow.specs.OutboundWorld.{Lot};
-ghost use Rattle.mqtt_handed_laws.specs.Drains.{after_round, copies_left, drained, rounds_taken};
+ghost use Rattle.mqtt_handed_laws.specs.Drains.{after_round, copies_left, drained, enough_rounds, is_over, rounds_taken};
 ghost use Rattle.mqtt_handed_laws.specs.Handing.{IsRun};
 ghost use Rattle.mqtt_handed_laws.specs.Rounds as rounds;
 ghost use Rattle.mqtt_handed_laws.specs.Seen.{Numbering, seen};
@@ -29,6 +29,8 @@ pub fn a_round_of_a_drain_is_one_of_the_hop()
 /// So a drain of such a receiver takes at most two rounds for each copy that stands in its queue, and its queue is empty
 /// after so many, whatever its Receive Maximum (`window`, at least 1). It may be drained again: the two are in step, and its
 /// line is connected, with the same copies. Each copy that ended in the drain was taken, has expired, or is too large.
+/// Where it may be drained so only after the first round, one round more is enough: then its queue is empty, or the broker
+/// has closed its line.
 pub fn a_drain_ends()
     ensures is_within { (largest window : ℕ) (ids : List CopyId) (birth : ℕ) (ns : List ℕ) (limits : Limits)
         → (choice : MemberChoice) (client : List ℕ) (most : ℕ) (r : Receiver) (w : World)
@@ -43,4 +45,14 @@ pub fn a_drain_ends()
         → (w : World) → 1 ≤ window → MayDrain largest window ids birth ns client r w
         → map id_of copies ≡ ids → IsRun number largest copies r w.broker
         → IsDrained number largest window ids birth ns client copies (drained limits choice client most w) }
+    ensures is_within_later { (largest window : ℕ) (ids : List CopyId) (birth : ℕ) (ns : List ℕ) (limits : Limits)
+        → (choice : MemberChoice) (client : List ℕ) (most : ℕ) (r : Receiver) (w : World) → 1 ≤ window → AllDiffer ids
+        → MayDrain largest window ids birth ns client r (after_round limits choice client w)
+        → rounds_taken limits choice client most w
+        ≤ enough_rounds (copies_left client (after_round limits choice client w)) }
+    ensures is_over_later { (largest window : ℕ) (ids : List CopyId) (birth : ℕ) (ns : List ℕ) (limits : Limits)
+        → (choice : MemberChoice) (client : List ℕ) (most : ℕ) (r : Receiver) (w : World) → 1 ≤ window → AllDiffer ids
+        → MayDrain largest window ids birth ns client r (after_round limits choice client w)
+        → enough_rounds (copies_left client (after_round limits choice client w)) ≤ most
+        → is_over client (drained limits choice client most w) ≡ true }
 {}
