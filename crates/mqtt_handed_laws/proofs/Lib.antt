@@ -4,6 +4,7 @@ pub mod Joins
 pub mod Handed
 pub mod Turns
 pub mod Known
+pub mod Follows
 pub mod Answering
 pub mod Losing
 pub mod Marks
@@ -41,4 +42,8 @@ pub mod Unsent
 pub mod RoundFurther
 pub mod DrainCauses
 pub mod HopRounds
+pub mod WorldRoundLines
+pub mod WorldRoundSteps
+pub mod WorldRoundReads
+pub mod WorldRounds
 pub mod DrainExamples
