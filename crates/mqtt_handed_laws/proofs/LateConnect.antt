@@ -36,7 +36,7 @@ use Rattle.mqtt_handed_laws.proofs.Serving.{gone_own}
 
 -- ---- the deeds of the tick
 
-late_deeds : (env : Env) (n : ℕ) (l : BrokerLine) (b : Broker) → IsIdle n b → find (λ (x : BrokerLine). is_silent b.now x.session x) b.lines ≡ Some l → l.number ≡ n → deeds_of env Tick b ≡ Gone n ∷ []
+pub late_deeds : (env : Env) (n : ℕ) (l : BrokerLine) (b : Broker) → IsIdle n b → find (λ (x : BrokerLine). is_silent b.now x.session x) b.lines ≡ Some l → l.number ≡ n → deeds_of env Tick b ≡ Gone n ∷ []
 late_deeds env n l b idle e is =
     let both = all_find (HasNobody n) (λ (y : BrokerLine). is_silent b.now y.session y) l b.lines idle.lines e in
     let none : l.session ≡ None = both.0 is in
@@ -115,10 +115,10 @@ sent_none (Some m) b = refl
 
 -- ---- what is seen of it
 
-abbrev shut : ℕ → Receiver → Broker → Receiver
+abbrev pub shut : ℕ → Receiver → Broker → Receiver
 shut n r b = receiver_told (after (Gone n) b) (outcome_of Tick (Gone n ∷ [])) r
 
-closing_runs : (number : Numbering) (largest : ℕ) (copies : List Lot) (n : ℕ) (r : Receiver) (b : Broker) → IsIdle n b → IsRun number largest copies r b → IsRun number largest copies (shut n r b) (after (Gone n) b)
+pub closing_runs : (number : Numbering) (largest : ℕ) (copies : List Lot) (n : ℕ) (r : Receiver) (b : Broker) → IsIdle n b → IsRun number largest copies r b → IsRun number largest copies (shut n r b) (after (Gone n) b)
 closing_runs number largest copies n r b idle h =
     let new = after (Gone n) b in
     let w = seen number copies r b in
