@@ -339,8 +339,7 @@ others_awaiting largest ids limits choice now call ns r b k none plain its =
     let unnamed : session_named r.client new.records ≡ None =
     ap (λ (ss : List Session). find (λ (x : Session). bytes_eq x.client r.client) ss) (done_sessions rows last)
     ∙ still_none r.client ds first (strangers_call r.client env call first plain (of_another ns r.client call first its)) none in
-    let linked : is_linked r.line.number new ≡ is_linked r.line.number b = free_unlinked ns r.line.number new k.lines.own free ∙ sym (free_unlinked ns r.line.number b k.lines.own k.free) in
-    (
+    let linked : is_linked r.line.number new ≡ is_linked r.line.number b = free_unlinked ns r.line.number new k.lines.own free ∙ sym (free_unlinked ns r.line.number b k.lines.own k.free) in (
       record {
         runs = λ number n.
             let h = k.runs number n in

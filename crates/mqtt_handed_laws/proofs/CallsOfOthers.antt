@@ -274,7 +274,7 @@ told_run number largest copies ns r call ds b new has mute h =
       };
     }
 
-told_all : (number : Numbering) (largest : ℕ) (all : List CopyId) (birth : ℕ) (ns : List ℕ) (r : Receiver) (call : Call) (ds : List Deed) (b new : Broker) → HasLines ns r → AreGood (IsMuteHere ns) ds b
+pub told_all : (number : Numbering) (largest : ℕ) (all : List CopyId) (birth : ℕ) (ns : List ℕ) (r : Receiver) (call : Call) (ds : List Deed) (b new : Broker) → HasLines ns r → AreGood (IsMuteHere ns) ds b
     → RunsWithAll number largest all birth r new → RunsWithAll number largest all birth (receiver_told new (outcome_of call ds) r) new
 told_all number largest all birth ns r call ds b new has mute h = record {
   after = h.after;

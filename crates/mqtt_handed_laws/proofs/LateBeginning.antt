@@ -1,6 +1,6 @@
 -- The broker reads a receiver's CONNECT on the line that it gave up, where no session of its name stands, or with Clean Start: a
 -- session begins there, with which the two are in step; or there is no place for one, and the receiver awaits it as before.
-use Rattle.std.proofs.Common.{◌≡◌, ℕ, suc, ◌≤◌, Bool, true, false, cond, List, [], ◌∷◌, ◌++◌, drop, length, map, Option, Some, None, nat_eq, nat_lt, refl, sym, ap, subst, ◌∙◌, append-nil}
+use Rattle.std.proofs.Common.{◌≡◌, ℕ, suc, ◌≤◌, Bool, true, false, cond, List, [], ◌∷◌, ◌++◌, drop, length, map, Option, Some, None, nat_lt, refl, sym, ap, subst, ◌∙◌, append-nil}
 use Rattle.std.specs.Prelude.{filter_map, is_some}
 use Rattle.std.specs.List.{AllByRecursion}
 use Rattle.std.proofs.lemmas.Cmp.{nat_eq_equiv}
@@ -19,7 +19,7 @@ use Rattle.mqtt_laws.proofs.OwnStep.{heard_of}
 use Rattle.mqtt_records.specs.declared.session.Session.{Session}
 use Rattle.mqtt_rules.specs.Deeds.{Deed, after_all, closing, output}
 use Rattle.mqtt_rules.specs.State.{Line as BrokerLine, Broker, MemberChoice, line_of, session_named}
-use Rattle.mqtt_rules.specs.Step.{Input, at_moment, deeds, stepped}
+use Rattle.mqtt_rules.specs.Step.{Input, at_moment, deeds}
 use Rattle.mqtt_rules.specs.declared.Limits.{Limits}
 use Rattle.mqtt_handed_laws.specs.Calls.{IsBeginning, IsRenewing, reads_old_answer}
 use Rattle.mqtt_handed_laws.specs.Entering.{Receives}

@@ -156,7 +156,7 @@ closing_receives n r s b idle x = record {
   known = subst (AreKnown s.queue) (sym (gone_went s.birth n b.lines idle.lines)) x.known;
 }
 
-closing_goes_on : (largest : ℕ) (ids : List CopyId) (birth n : ℕ) (r : Receiver) (b : Broker) → IsIdle n b → RunsFor largest ids birth r b → RunsFor largest ids birth (shut n r b) (after (Gone n) b)
+pub closing_goes_on : (largest : ℕ) (ids : List CopyId) (birth n : ℕ) (r : Receiver) (b : Broker) → IsIdle n b → RunsFor largest ids birth r b → RunsFor largest ids birth (shut n r b) (after (Gone n) b)
 closing_goes_on largest ids birth n r b idle f = λ number numbered.
     let h = f number numbered in
     record {
@@ -168,7 +168,7 @@ closing_goes_on largest ids birth n r b idle f = λ number numbered.
       receiving = closing_receives n r h.session b idle h.receiving;
     }
 
-closing_served : (client : List ℕ) (birth : ℕ) (ns : List ℕ) (n : ℕ) (b : Broker) → IsServed client birth ns b → IsServed client birth ns (after (Gone n) b)
+pub closing_served : (client : List ℕ) (birth : ℕ) (ns : List ℕ) (n : ℕ) (b : Broker) → IsServed client birth ns b → IsServed client birth ns (after (Gone n) b)
 closing_served client birth ns n b v = record { sessions = v.sessions; lines = gone_own client birth ns n b.lines v.lines; births = v.births; given = v.given }
 
 -- ---- the tick

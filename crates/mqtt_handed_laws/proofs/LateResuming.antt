@@ -1,7 +1,7 @@
 -- The broker reads a receiver's CONNECT without Clean Start on the line that it gave up, while its session stands: it is resumed
 -- there, and its own line is closed if the session was connected on it; what the receiver sees of it is that event of its hop
 -- (MQTT 5.0, 3.1.4, 4.4).
-use Rattle.std.proofs.Common.{◌≡◌, ℕ, Bool, true, false, List, [], ◌∷◌, map, Some, None, refl, sym, ap, ◌∙◌}
+use Rattle.std.proofs.Common.{◌≡◌, ℕ, Bool, true, false, List, ◌∷◌, map, Some, refl, sym, ap, ◌∙◌}
 use Rattle.std.specs.Prelude.{filter_map, is_some}
 use Rattle.mqtt_base.specs.declared.session.CopyId.{CopyId}
 use Rattle.mqtt_flow.specs.OutboundWorld.{Lot, World as Hop, connects_old, old_comes, old_to_broker, renewed, step}
@@ -14,7 +14,7 @@ use Rattle.mqtt_laws.proofs.Names.{named_is}
 use Rattle.mqtt_records.specs.Session.{birth_of}
 use Rattle.mqtt_records.specs.declared.session.Session.{Session}
 use Rattle.mqtt_rules.proofs.FlightRows.{all_at}
-use Rattle.mqtt_rules.specs.State.{Line as BrokerLine, Broker, MemberChoice, line_of, session_named}
+use Rattle.mqtt_rules.specs.State.{Line as BrokerLine, Broker, MemberChoice, line_of}
 use Rattle.mqtt_rules.specs.Step.{Input}
 use Rattle.mqtt_rules.specs.declared.Limits.{Limits}
 use Rattle.mqtt_handed_laws.specs.Calls.{IsLate, IsResuming, reads_old_answer}

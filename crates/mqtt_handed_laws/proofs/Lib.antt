@@ -23,6 +23,7 @@ pub mod CallsOfOthers
 pub mod LateConnect
 pub mod LateCalls
 pub mod AwaitingOthers
+pub mod IdleLines
 pub mod Restarting
 pub mod Stopping
 pub mod OwnCalls

@@ -1,6 +1,6 @@
 -- What is read on the line that a receiver gave up: a SUBSCRIBE, and a CONNECT by which a session begins or is renewed (MQTT
 -- 5.0, 3.1.2.4, 3.1.4, 3.8).
-use Rattle.std.specs.Prelude.{ℕ, List, [], None}
+use Rattle.std.specs.Prelude.{ℕ, [], None}
 use Rattle.mqtt_laws.specs.Ends.{Receiver, Wish, asks_for, wire_back}
 use Rattle.mqtt_laws.specs.World.{taken_old}
 use Rattle.mqtt_rules.specs.State.{Broker, MemberChoice}

@@ -5,18 +5,19 @@ ghost use Rattle.std.specs.List.{starts_with};
 ghost use Rattle.mqtt_base.specs.declared.session.CopyId.{CopyId};
 ghost use Rattle.mqtt_flow.specs.Receiver.{connect};
 ghost use Rattle.mqtt_handed_laws.specs.Calls.{IsBeginning, IsLate, IsLingering, IsRenewing, reads_old_answer, receiver_called};
-ghost use Rattle.mqtt_handed_laws.specs.Handing.{after_answer};
+ghost use Rattle.mqtt_handed_laws.specs.Handing.{after_answer, receiver_lost};
 ghost use Rattle.mqtt_handed_laws.specs.Late.{left_alone, reads_old_wish};
 ghost use Rattle.mqtt_handed_laws.specs.Own.{IsAwaiting, IsInStep, Subscribed};
 ghost use Rattle.mqtt_handed_laws.specs.Served.{IsCallOfOthers, IsOverdue, IsTidy};
 ghost use Rattle.mqtt_laws.specs.Ends.{Back, Receiver, Wish, answers, asks_for, wire_back};
 ghost use Rattle.mqtt_laws.specs.Hops.{lines_left};
 ghost use Rattle.mqtt_laws.specs.Lines.{is_one_of};
+ghost use Rattle.mqtt_laws.specs.Seats.{IsIdle};
 ghost use Rattle.mqtt_laws.specs.Seen.{is_linked};
 ghost use Rattle.mqtt_records.specs.Session.{auto};
 ghost use Rattle.mqtt_records.specs.declared.session.Session.{Session};
 ghost use Rattle.mqtt_rules.specs.State.{Broker, Line, MemberChoice, line_of, session_named};
-ghost use Rattle.mqtt_rules.specs.Step.{Call, Input, Tick, at_moment, stepped};
+ghost use Rattle.mqtt_rules.specs.Step.{Call, Input, Lost, Pump, Tick, at_moment, stepped};
 ghost use Rattle.mqtt_rules.specs.declared.Limits.{Limits};
 
 /// A call of the broker that is made for others, while no session of a receiver's name stands, leaves the receiver awaiting
@@ -82,4 +83,30 @@ pub fn a_subscribe_on_the_line_given_up_leaves_a_receiver_in_step()
         → Subscribed largest ids birth ns (suc b.records.subscribes)
         (reads_old_wish limits choice now l.number w r b)
         (stepped limits choice now (Input l.number (wire_back r.client r.window (asks_for w))) b) }
+{}
+
+/// The broker is to send on a receiver's line, or loses that line, while nobody is connected there: its CONNECT is not read yet,
+/// or the broker has closed the line. Nothing is sent; the receiver leaves a line that is lost; and the two stay in step, or
+/// the receiver awaits its session as before (3.1, 4.4).
+pub fn a_line_without_session_leaves_a_receiver_as_it_is()
+    ensures sends { (largest : ℕ) (ids : List CopyId) (birth : ℕ) (ns : List ℕ) (limits : Limits) (choice : MemberChoice)
+        → (now n : ℕ) (r : Receiver) (b : Broker)
+        → IsInStep largest ids birth ns r b → IsIdle n b
+        → IsInStep largest ids birth ns (receiver_called limits choice now (Pump n) r b)
+        (stepped limits choice now (Pump n) b) }
+    ensures loses { (largest : ℕ) (ids : List CopyId) (birth : ℕ) (ns : List ℕ) (limits : Limits) (choice : MemberChoice)
+        → (now n : ℕ) (r : Receiver) (b : Broker)
+        → IsInStep largest ids birth ns r b → IsIdle n b
+        → IsInStep largest ids birth ns (receiver_lost limits choice now n r b)
+        (stepped limits choice now (Lost n) b) }
+    ensures sends_awaiting { (largest : ℕ) (ids : List CopyId) (ns : List ℕ) (limits : Limits) (choice : MemberChoice)
+        → (now n : ℕ) (r : Receiver) (b : Broker)
+        → IsAwaiting largest ids ns r b → IsIdle n b
+        → IsAwaiting largest ids ns (receiver_called limits choice now (Pump n) r b)
+        (stepped limits choice now (Pump n) b) }
+    ensures loses_awaiting { (largest : ℕ) (ids : List CopyId) (ns : List ℕ) (limits : Limits) (choice : MemberChoice)
+        → (now n : ℕ) (r : Receiver) (b : Broker)
+        → IsAwaiting largest ids ns r b → IsIdle n b
+        → IsAwaiting largest ids ns (receiver_lost limits choice now n r b)
+        (stepped limits choice now (Lost n) b) }
 {}
