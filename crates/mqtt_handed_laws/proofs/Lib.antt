@@ -42,6 +42,7 @@ pub mod Unsent
 pub mod RoundFurther
 pub mod DrainCauses
 pub mod HopRounds
+pub mod Numbers
 pub mod WorldRoundLines
 pub mod WorldRoundSteps
 pub mod WorldRoundReads

@@ -1,5 +1,5 @@
 -- Rounds of a drain of the world are rounds of its receiver's hop, so that it ends as the hop's does.
-use Rattle.std.proofs.Common.{◌≡◌, ◌≢◌, inl, inr, ⊎_elim, ℕ, zero, suc, ◌*◌, ◌≤◌, Bool, true, false, cond, not, ◌||◌, List, [], ◌∷◌, length, map, Option, Some, None, bytes_eq, refl, sym, ap, subst, ◌∙◌, arith}
+use Rattle.std.proofs.Common.{◌≡◌, inl, inr, ⊎_elim, ℕ, zero, suc, ◌*◌, ◌≤◌, Bool, true, false, cond, not, ◌||◌, List, [], ◌∷◌, length, map, Option, Some, None, bytes_eq, refl, sym, ap, subst, ◌∙◌, arith}
 use Rattle.std.specs.Prelude.{find, filter_map, is_some, option_map, slice_get}
 use Rattle.std.specs.List.{AllByRecursion}
 use Rattle.std.proofs.lemmas.Bool.{cases_Bool}
@@ -9,7 +9,6 @@ use Rattle.mqtt_flow.specs.OutboundWorld as hop
 use Rattle.mqtt_flow.specs.Receiver.{Answer}
 use Rattle.mqtt_inbound.proofs.Identifiers.{test_cases}
 use Rattle.mqtt_laws.specs.Ends.{Back, Publisher, Receiver, answers, asks_for, publisher_reads, receiver_reads, wire_back}
-use Rattle.mqtt_laws.specs.Laws.{is_copy}
 use Rattle.mqtt_laws.specs.Lines.{stands}
 use Rattle.mqtt_laws.specs.Run.{run, turned}
 use Rattle.mqtt_laws.specs.World.{Setting, World, ask, calls, end_reads, publisher_named, publisher_told, pump, receiver_named, receiver_told, taken_up, to_broker, to_end, with_line}
@@ -25,12 +24,12 @@ use Rattle.mqtt_handed_laws.specs.Rounds as rounds
 use Rattle.mqtt_handed_laws.specs.Rounds.{EndsBy}
 use Rattle.mqtt_handed_laws.specs.Seen.{Numbering, answered, seen}
 use Rattle.mqtt_handed_laws.specs.Served.{RunsWithAll}
-use Rattle.mqtt_handed_laws.specs.Tags.{AreNumbered, id_of}
+use Rattle.mqtt_handed_laws.specs.Tags.{id_of}
 use Rattle.mqtt_handed_laws.specs.WorldRounds.{ComesTo, IsAnswer, IsDrained, MayDrain, moment_of, moments_of}
 use Rattle.mqtt_handed_laws.proofs.Answering.{named_now, standing_by}
 use Rattle.mqtt_handed_laws.proofs.DrainCauses.{causes_of_run}
 use Rattle.mqtt_handed_laws.proofs.DrainRuns.{run_append}
-use Rattle.mqtt_handed_laws.proofs.Handed.{copy_is, copy_itself}
+use Rattle.mqtt_handed_laws.proofs.Numbers.{place_of, places_number}
 use Rattle.mqtt_handed_laws.proofs.OwnDoings.{keeps_reading}
 use Rattle.mqtt_handed_laws.proofs.RoundFurther.{drain_empties, round_run, rounds_within, two_each}
 use Rattle.mqtt_handed_laws.proofs.Turns.{same_entries}
@@ -255,28 +254,6 @@ module _ (limits : Limits) (choice : MemberChoice) (client : List ℕ) where
     moments_length zero w = refl
     moments_length (suc more) w = ap suc (moments_length more (after_round limits choice client w))
 
--- ---- numbers for copies of which no two are one
-
-abbrev place_in : List CopyId → CopyId → ℕ
-place_in [] c = 0
-place_in (x ∷ xs) c = cond (is_copy x c) 0 (suc (place_in xs c))
-
-differs_from : (x c : CopyId) (xs : List CopyId) (n : ℕ) → AllByRecursion (λ (y : CopyId). x ≢ y) xs → slice_get xs n ≡ Some c → x ≡ c → ⊥
-differs_from x c [] n h at e = absurd cc
-differs_from x c (y ∷ ys) zero h at e = let is : y ≡ c = cc in h.0 (e ∙ sym is)
-differs_from x c (y ∷ ys) (suc n) h at e = differs_from x c ys n h.1 at e
-
-numbers_all : (ids : List CopyId) → AllDiffer ids → AreNumbered (place_in ids) ids
-numbers_all [] differ n c at = absurd cc
-numbers_all (x ∷ xs) differ zero c at =
-    let is : x ≡ c = cc in
-    let its : is_copy x c ≡ true = ap (is_copy x) (sym is) ∙ copy_itself x in
-    ap (λ (z : Bool). cond z 0 (suc (place_in xs c))) its
-numbers_all (x ∷ xs) differ (suc n) c at = elim (cases_Bool (is_copy x c)) [
-  | inl its ↦ absurd (differs_from x c xs n differ.0 at (copy_is x c its))
-  | inr other ↦ ap (λ (z : Bool). cond z 0 (suc (place_in xs c))) other ∙ ap suc (numbers_all xs differ.1 n c at)
-]
-
 -- ---- the laws
 
 module _ (number : Numbering) (largest window : ℕ) (ids : List CopyId) (birth : ℕ) (ns : List ℕ) (limits : Limits) (choice : MemberChoice) (client : List ℕ) (copies : List Lot) (r : Receiver) (w : World)
@@ -330,27 +307,27 @@ module _ (number : Numbering) (largest window : ℕ) (ids : List CopyId) (birth 
 module _ (largest window : ℕ) (ids : List CopyId) (birth : ℕ) (ns : List ℕ) (limits : Limits) (choice : MemberChoice) (client : List ℕ) (most : ℕ) (r : Receiver) (w : World) where
   pub drain_is_within : 1 ≤ window → AllDiffer ids → MayDrain largest window ids birth ns client r w → rounds_taken limits choice client most w ≤ 2 * copies_left client w
   drain_is_within room differ may =
-      let x = may.connected.in_step.runs (place_in ids) (numbers_all ids differ) in
-      drain_within (place_in ids) largest window ids birth ns limits choice client x.after r w may x.same x.run_is most room
+      let x = may.connected.in_step.runs (place_of ids) (places_number ids differ) in
+      drain_within (place_of ids) largest window ids birth ns limits choice client x.after r w may x.same x.run_is most room
 
   pub drain_is_empty : 1 ≤ window → AllDiffer ids → MayDrain largest window ids birth ns client r w → 2 * copies_left client w ≤ most → copies_left client (drained limits choice client most w) ≡ 0
   drain_is_empty room differ may enough =
-      let x = may.connected.in_step.runs (place_in ids) (numbers_all ids differ) in
-      drain_empty (place_in ids) largest window ids birth ns limits choice client x.after r w may x.same x.run_is most room enough
+      let x = may.connected.in_step.runs (place_of ids) (places_number ids differ) in
+      drain_empty (place_of ids) largest window ids birth ns limits choice client x.after r w may x.same x.run_is most room enough
 
   -- where it may be drained only after a round
   pub drain_within_later : 1 ≤ window → AllDiffer ids → MayDrain largest window ids birth ns client r (after_round limits choice client w) → rounds_taken limits choice client most w ≤ enough_rounds (copies_left client (after_round limits choice client w))
   drain_within_later room differ may = by most
     where
-      x : RunsWithAll (place_in ids) largest ids birth r (after_round limits choice client w).broker
-      x = may.connected.in_step.runs (place_in ids) (numbers_all ids differ)
+      x : RunsWithAll (place_of ids) largest ids birth r (after_round limits choice client w).broker
+      x = may.connected.in_step.runs (place_of ids) (places_number ids differ)
 
       by : (k : ℕ) → rounds_taken limits choice client k w ≤ enough_rounds (copies_left client (after_round limits choice client w))
       by zero = omega arith
       by (suc more) = ⊎_elim
           (λ (o : is_over client w ≡ true). rw o (omega arith))
           (λ (o : is_over client w ≡ false).
-          let few = drain_within (place_in ids) largest window ids birth ns limits choice client x.after r (after_round limits choice client w) may x.same x.run_is more room in
+          let few = drain_within (place_of ids) largest window ids birth ns limits choice client x.after r (after_round limits choice client w) may x.same x.run_is more room in
           rw o (omega (arith, few)))
           (test_cases (is_over client w))
 
@@ -358,8 +335,8 @@ module _ (largest window : ℕ) (ids : List CopyId) (birth : ℕ) (ns : List ℕ
       → is_over client (drained limits choice client most w) ≡ true
   drain_over_later room differ may enough = by most enough
     where
-      x : RunsWithAll (place_in ids) largest ids birth r (after_round limits choice client w).broker
-      x = may.connected.in_step.runs (place_in ids) (numbers_all ids differ)
+      x : RunsWithAll (place_of ids) largest ids birth r (after_round limits choice client w).broker
+      x = may.connected.in_step.runs (place_of ids) (places_number ids differ)
 
       by : (k : ℕ) → enough_rounds (copies_left client (after_round limits choice client w)) ≤ k → is_over client (drained limits choice client k w) ≡ true
       by zero few = absurd (omega (arith, few))
@@ -367,7 +344,7 @@ module _ (largest window : ℕ) (ids : List CopyId) (birth : ℕ) (ns : List ℕ
           (λ (o : is_over client w ≡ true). rw o o)
           (λ (o : is_over client w ≡ false).
           let v = after_round limits choice client w in
-          let none = drain_empty (place_in ids) largest window ids birth ns limits choice client x.after r v may x.same x.run_is more room (omega (arith, few)) in
+          let none = drain_empty (place_of ids) largest window ids birth ns limits choice client x.after r v may x.same x.run_is more room (omega (arith, few)) in
           rw o (subst (λ (u : World). is_over client u ≡ true) (sym (run_append limits (round_turns limits choice client w) (drain_turns limits choice client more v) w))
           (ap (λ (j : ℕ). is_none_left j || not (line_stands (receiver_named client (drained limits choice client more v)) (drained limits choice client more v))) none)))
           (test_cases (is_over client w))
