@@ -10,3 +10,4 @@ pub mod Own
 pub mod Drains
 pub mod Rounds
 pub mod WorldRounds
+pub mod Late
