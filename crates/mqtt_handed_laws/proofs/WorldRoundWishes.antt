@@ -1,0 +1,109 @@
+-- A receiver that is connected and in step: the broker reads its SUBSCRIBE, and it is so again, with the copies of retained
+-- messages that the filter brings.
+use Rattle.std.proofs.Common.{◌≡◌, ℕ, suc, ◌≤◌, Bool, true, false, cond, List, [], ◌∷◌, ◌++◌, drop, map, Option, Some, None, refl, sym, ap, subst, ◌∙◌, arith}
+use Rattle.std.specs.Prelude.{◌≢◌, flat_map, nat_le}
+use Rattle.std.specs.List.{AllByRecursion}
+use Rattle.mqtt_base.specs.declared.session.Cause.TheVariants.{Retained}
+use Rattle.mqtt_base.specs.declared.session.CopyId.{CopyId}
+use Rattle.mqtt_codec.specs.declared.packet.Packet.{Packet}
+use Rattle.mqtt_codec.specs.Subscriptions.{Subscription as Asked}
+use Rattle.mqtt_base.specs.Codes.{identifier_in_use}
+use Rattle.mqtt_inbound.specs.Identifiers.{is_among}
+use Rattle.mqtt_laws.specs.Ends.{Back, Receiver, Wish, asks_for, wire_back}
+use Rattle.mqtt_laws.specs.Lines.{is_one_of}
+use Rattle.mqtt_laws.specs.Seen.{is_linked}
+use Rattle.mqtt_laws.proofs.OwnStep.{heard_of, input_is}
+use Rattle.mqtt_laws.proofs.Quiet.{session_on}
+use Rattle.mqtt_laws.proofs.Seeing.{done_lines, linked_is, linked_of}
+use Rattle.mqtt_message.specs.declared.message.RetainedMessage.{RetainedMessage}
+use Rattle.mqtt_props.specs.declared.table.PropName.TheVariants.{SubscriptionIdentifier}
+use Rattle.mqtt_records.specs.declared.session.Session.{Session}
+use Rattle.mqtt_rows.specs.Distinct.{AllDiffer}
+use Rattle.mqtt_rules.proofs.Acts.{brought_to}
+use Rattle.mqtt_rules.proofs.Goods.{AreGood, good_append}
+use Rattle.mqtt_rules.proofs.LineActs.{quiet_grants}
+use Rattle.mqtt_rules.proofs.LineRows.{IsQuiet, leaves, still_quiet}
+use Rattle.mqtt_rules.specs.Deeds.{Deed, Hear, On, Send, after_all, offer, rows_of_all}
+use Rattle.mqtt_rules.specs.Packets.{number_at, publish_of, size_of, suback}
+use Rattle.mqtt_rules.specs.Routing.{CopyTo}
+use Rattle.mqtt_rules.specs.State.{Line as BrokerLine, Broker, Env, MemberChoice, line_at, session_at}
+use Rattle.mqtt_rules.specs.Step.{Call, Input, at_moment, deeds, env_of, next_packet, stepped}
+use Rattle.mqtt_rules.specs.Subscribe as sub
+use Rattle.mqtt_rules.specs.declared.Limits.{Limits}
+use Rattle.mqtt_subscribe.specs.declared.subscribe.Subscribe.{Subscribe as Asking}
+use Rattle.mqtt_world_laws.proofs.CopiesApart.{number_of}
+use Rattle.mqtt_world_laws.proofs.Differ.{AreApart, differ_join}
+use Rattle.mqtt_handed_laws.specs.Handing.{receiver_after}
+use Rattle.mqtt_handed_laws.specs.Own.{IsBroughtCopy}
+use Rattle.mqtt_handed_laws.specs.Served.{IsTidy}
+use Rattle.mqtt_handed_laws.specs.WorldRounds.{IsConnected}
+use Rattle.mqtt_handed_laws.proofs.OwnSubscribes.{wished}
+use Rattle.mqtt_handed_laws.proofs.WorldRoundSteps.{called_again, is_linked_now, listens_now, stays_up}
+
+-- ---- its deeds connect, close and end nobody
+
+quiet_offer : (o : Option BrokerLine) (packet : Packet) (b : Broker) → AreGood IsQuiet (offer o packet) b
+quiet_offer None packet b = tt
+quiet_offer (Some l) packet b = by (nat_le (size_of packet) l.largest)
+  where
+    by : (t : Bool) → AreGood IsQuiet (cond t (Send l.number packet ∷ []) []) b
+    by true = (tt, tt)
+    by false = tt
+
+quiet_late : (n now : ℕ) (c b : Broker) (ds : List CopyTo) → AreGood IsQuiet (flat_map (λ (d : CopyTo). sub.late_sends n now d c) ds) b
+quiet_late n now c b [] = tt
+quiet_late n now c b (d ∷ ds) =
+    let first = sub.late_sends n now d c in
+    let rest = flat_map (λ (x : CopyTo). sub.late_sends n now x c) ds in
+    good_append IsQuiet first rest b (quiet_offer (line_at n c) (publish_of now false 0 d.copy) b) (quiet_late n now c (after_all first b) ds)
+
+quiet_answer_by : (t u : Bool) (env : Env) (w : sub.Wish) (s : Session) (b : Broker) → AreGood IsQuiet (sub.answer_by t u env (sub.next_number b.records) s w (brought_to w s b) b).deeds b
+quiet_answer_by false u env w s b = tt
+quiet_answer_by true false env w s b = tt
+quiet_answer_by true true env w s b = quiet_grants env w s b
+
+quiet_filter : (env : Env) (o : Option sub.Wish) (x : Option Session) (b : Broker) → AreGood IsQuiet (sub.filter_answer_of env o b x).deeds b
+quiet_filter env o None b = tt
+quiet_filter env None (Some s) b = tt
+quiet_filter env (Some w) (Some s) b = quiet_answer_by _ _ env w s b
+
+quiet_filters : (env : Env) (birth : ℕ) (identifier : Option ℕ) (xs : List Asked) (b : Broker) → AreGood IsQuiet (sub.filter_answers env birth identifier xs b).deeds b
+quiet_filters env birth identifier [] b = tt
+quiet_filters env birth identifier (a ∷ rest) b =
+    let g = sub.filter_answer_of env (sub.wish_of identifier a) b (session_at birth b.records) in
+    good_append IsQuiet g.deeds (sub.filter_answers env birth identifier rest (after_all g.deeds b)).deeds b (quiet_filter env (sub.wish_of identifier a) (session_at birth b.records) b)
+    (quiet_filters env birth identifier rest (after_all g.deeds b))
+
+quiet_subscribe : (t : Bool) (env : Env) (line : ℕ) (s : Session) (p : Asking) (b : Broker) → AreGood IsQuiet (sub.subscribe_by t env line s p b) b
+quiet_subscribe true env line s p b = quiet_offer (line_at line b) (suback p.identifier (map (λ (a : Asked). identifier_in_use) p.subscriptions)) b
+quiet_subscribe false env line s p b =
+    let a = sub.filter_answers env s.birth (number_at SubscriptionIdentifier p.properties) p.subscriptions b in
+    let answer = offer (line_at line b) (suback p.identifier a.codes) in
+    let late = flat_map (λ (d : CopyTo). sub.late_sends line b.now d b) a.late in
+    let c = after_all a.deeds b in
+    good_append IsQuiet a.deeds (answer ++ late) b (quiet_filters env s.birth (number_at SubscriptionIdentifier p.properties) p.subscriptions b)
+    (good_append IsQuiet answer late c (quiet_offer (line_at line b) (suback p.identifier a.codes) c) (quiet_late line b.now b (after_all answer c) a.late))
+
+-- ---- copies that are brought differ from those before them
+
+-- for a filter that was granted before
+abbrev pub IsOlder : ℕ → CopyId → Type 0
+IsOlder subscribes id = (n : ℕ) → id.cause ≡ Retained n → n ≤ subscribes
+
+unlike : (birth subscribes : ℕ) (id : CopyId) (more : List CopyId) → IsOlder subscribes id → AllByRecursion (IsBroughtCopy birth (suc subscribes)) more → AllByRecursion (λ (y : CopyId). id ≢ y) more
+unlike birth subscribes id [] older new = tt
+unlike birth subscribes id (y ∷ ys) older new =
+    ((λ e. let low = older (suc subscribes) (ap (λ (x : CopyId). x.cause) e ∙ new.0.cause_is) in absurd (omega (arith, low))), unlike birth subscribes id ys older new.1)
+
+pub differ_on : (birth subscribes : ℕ) (ids more : List CopyId) → AllDiffer ids → AllByRecursion (IsOlder subscribes) ids → AllByRecursion (IsBroughtCopy birth (suc subscribes)) more → AllDiffer more → AllDiffer (ids ++ more)
+differ_on birth subscribes [] more differ older new fresh = fresh
+differ_on birth subscribes (x ∷ ids) more differ older new fresh =
+    (all_on ids differ.0, differ_on birth subscribes ids more differ.1 older.1 new fresh)
+  where
+    all_on : (ys : List CopyId) → AllByRecursion (λ (y : CopyId). x ≢ y) ys → AllByRecursion (λ (y : CopyId). x ≢ y) (ys ++ more)
+    all_on [] h = unlike birth subscribes x more older.0 new
+    all_on (y ∷ ys) h = (h.0, all_on ys h.1)
+
+-- ---- the step
+
+module _ (number : _) where
