@@ -77,7 +77,7 @@ module _ (number : Numbering) (largest window : ℕ) (ids : List CopyId) (birth 
     pub agrees : is_linked r.line.number b ≡ stands r.line.number b
     pub number_is : (k : ℕ) → r.line.number ≡ Some k → first.line.number ≡ Some k
     pub old_number : (k : ℕ) → r.line.old_number ≡ Some k → first.line.old_number ≡ Some k
-    pub answering : AllByRecursion IsAnswer r.line.up
+    pub answering : AllByRecursion IsAnswer first.line.up → AllByRecursion IsAnswer r.line.up
 
   abbrev pub next_read : Receiver → Receiver
   next_read r = receiver_reads (stands r.line.number b) r.line.down r
@@ -100,7 +100,7 @@ module _ (number : Numbering) (largest window : ℕ) (ids : List CopyId) (birth 
         agrees = by q.line.number refl;
         number_is = λ j e. x.number_is j (k.number j e);
         old_number = λ j e. x.old_number j (k.old_number j e);
-        answering = reading_up t r.line.down r x.answering;
+        answering = λ h. reading_up t r.line.down r (x.answering h);
       }
     where
       by : (o : Option ℕ) → (next_read r).line.number ≡ o → is_linked (next_read r).line.number b ≡ stands (next_read r).line.number b
@@ -181,8 +181,12 @@ module _ (number : Numbering) (largest window : ℕ) (ids : List CopyId) (birth 
 
 -- ---- and is connected still
 
+pub record HasRead (number : Numbering) (largest window : ℕ) (ids : List CopyId) (birth : ℕ) (ns : List ℕ) (hop : Hop) (r q : Receiver) (b : Broker) : Type 0 where
+  pub at : At number largest window ids birth ns hop q b
+  pub answering : AllByRecursion IsAnswer r.line.up → AllByRecursion IsAnswer q.line.up
+
 pub reads_at : (number : Numbering) (largest window : ℕ) (ids : List CopyId) (birth : ℕ) (ns : List ℕ) (hop : Hop) (r : Receiver) (b : Broker) → At number largest window ids birth ns hop r b
-    → At number largest window ids birth ns (run largest (times (length hop.down) to_end) hop) (all_read number largest window ids birth ns r b (length r.line.down) r) b
+    → HasRead number largest window ids birth ns (run largest (times (length hop.down) to_end) hop) r (all_read number largest window ids birth ns r b (length r.line.down) r) b
 reads_at number largest window ids birth ns hop r b x =
     let c = x.connected in
     let k = length r.line.down in
@@ -199,16 +203,19 @@ reads_at number largest window ids birth ns hop r b x =
       agrees = is_linked_now number largest window ids birth ns r b c ∙ sym standing;
       number_is = λ j e. e;
       old_number = λ j e. e;
-      answering = c.answering;
+      answering = λ h. h;
     } in
     let y = reads_all number largest window ids birth ns r b k m hop r before (omega arith) (omega arith) in
     let linked : is_linked q.line.number b ≡ true = ap (λ (w : Hop). w.linked) y.seen_is ∙ (ends_back largest hop (reached number largest window ids birth ns hop r b x) (hop_linked number largest window ids birth ns hop r b x)).0 in
     record {
-      connected = connected_again number largest window ids birth ns r q b b c y.in_step (same_number q.line.number y.number_is linked) (apart q.line.old_number y.old_number) linked refl c.unique c.ordered c.distinct y.answering;
-      copies = y.copies;
-      same = y.same;
-      run_is = y.run_is;
-      seen_is = y.seen_is;
+      at = record {
+        connected = connected_again number largest window ids birth ns r q b b c y.in_step (same_number q.line.number y.number_is linked) (apart q.line.old_number y.old_number) linked refl c.unique c.ordered c.distinct;
+        copies = y.copies;
+        same = y.same;
+        run_is = y.run_is;
+        seen_is = y.seen_is;
+      };
+      answering = y.answering;
     }
   where
     same_number : (o : Option ℕ) → ((j : ℕ) → o ≡ Some j → r.line.number ≡ Some j) → is_linked o b ≡ true → o ≡ r.line.number

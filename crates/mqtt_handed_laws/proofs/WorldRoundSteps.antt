@@ -94,8 +94,8 @@ module _ (number : Numbering) (largest window : ℕ) (ids : List CopyId) (birth 
   -- another receiver on the same line, or the same broker later
   pub connected_again : (r q : Receiver) (b d : Broker) (c : IsConnected largest window ids birth ns r b) → IsInStep largest ids birth ns q d → q.line.number ≡ r.line.number
       → is_one_of q.line.old_number (c.line.number ∷ []) ≡ false → is_linked q.line.number d ≡ true → way_on c.line.number d.lines ≡ way_on c.line.number b.lines
-      → HasUniqueLines d → IsOrdered d.records → HasDistinctIdentifiers d.records → AllByRecursion IsAnswer q.line.up → IsConnected largest window ids birth ns q d
-  connected_again r q b d c k same apart linked way unique ordered distinct up =
+      → HasUniqueLines d → IsOrdered d.records → HasDistinctIdentifiers d.records → IsConnected largest window ids birth ns q d
+  connected_again r q b d c k same apart linked way unique ordered distinct =
       let n = c.line.number in
       let number : q.line.number ≡ Some n = same ∙ c.number in
       let x = line_there (line_at n d) (ap (λ (o : Option ℕ). is_linked o d) (sym number) ∙ linked) in
@@ -117,7 +117,6 @@ module _ (number : Numbering) (largest window : ℕ) (ids : List CopyId) (birth 
         unique = unique;
         ordered = ordered;
         distinct = distinct;
-        answering = up;
       }
 
   -- ---- a call that closes no line and connects nobody
@@ -127,12 +126,23 @@ module _ (number : Numbering) (largest window : ℕ) (ids : List CopyId) (birth 
     stays_up ups = ap (λ (z : Bool). unless_closed z ups) (ap (is_one_of r.line.number) (none_closed (deeds limits choice now call b) (at_moment now b) quiet) ∙ none_of r.line.number)
 
     pub called_again : (q : Receiver) (c : IsConnected largest window ids birth ns r b) → IsInStep largest ids birth ns q (stepped limits choice now call b) → q.line.number ≡ r.line.number → q.line.old_number ≡ r.line.old_number
-        → is_linked q.line.number (stepped limits choice now call b) ≡ true → AllByRecursion IsAnswer q.line.up → IsConnected largest window ids birth ns q (stepped limits choice now call b)
-    called_again q c k same old linked up =
+        → is_linked q.line.number (stepped limits choice now call b) ≡ true → IsConnected largest window ids birth ns q (stepped limits choice now call b)
+    called_again q c k same old linked =
         connected_again r q b (stepped limits choice now call b) c k same (ap (λ (o : Option ℕ). is_one_of o (c.line.number ∷ [])) old ∙ c.apart) linked
-        (quiet_way c.line.number limits choice now call b quiet) (quiet_unique limits choice now call b quiet c.unique) (step-ordered limits choice now call b c.ordered) (step_keeps limits choice now call b c.distinct) up
+        (quiet_way c.line.number limits choice now call b quiet) (quiet_unique limits choice now call b quiet c.unique) (step-ordered limits choice now call b c.ordered) (step_keeps limits choice now call b c.distinct)
 
   -- ---- the broker sends
+
+  quiet_sending : (limits : Limits) (choice : MemberChoice) (now : ℕ) (r : Receiver) (b : Broker) (c : IsConnected largest window ids birth ns r b) → AreGood IsQuiet (deeds limits choice now (Pump c.line.number) b) (at_moment now b)
+  quiet_sending limits choice now r b c =
+      let a = listens_now r b c in
+      let s = a.session in
+      let first = at_moment now b in
+      subst (λ (ds : List Deed). AreGood IsQuiet ds first) (sym (pump_is limits choice now c.line s b a.listening.line a.listening.connected a.listening.session)) (quiet_pump c.line first.now s first)
+
+  -- what is under way from it stays so
+  pub pump_up : (limits : Limits) (choice : MemberChoice) (now : ℕ) (r : Receiver) (b : Broker) (c : IsConnected largest window ids birth ns r b) → (receiver_called limits choice now (Pump c.line.number) r b).line.up ≡ r.line.up
+  pump_up limits choice now r b c = stays_up limits choice now (Pump c.line.number) r b (quiet_sending limits choice now r b c) r.line.up
 
   pub pump_at : (limits : Limits) (choice : MemberChoice) (now : ℕ) (hop : Hop) (r : Receiver) (b : Broker) (x : At number largest window ids birth ns hop r b)
       → At number largest window ids birth ns (step largest hop (pump window (at_moment now b).now)) (receiver_called limits choice now (Pump x.connected.line.number) r b) (stepped limits choice now (Pump x.connected.line.number) b)
@@ -149,11 +159,9 @@ module _ (number : Numbering) (largest window : ℕ) (ids : List CopyId) (birth 
       let seen_is : seen number f.after q new ≡ step largest hop (pump window first.now) =
       f.seen_is ∙ (ap (λ (w : Hop). step largest w (pump l.window first.now)) x.seen_is ∙ ap (λ (k : ℕ). step largest hop (pump k first.now)) c.window_is) in
       let linked : is_linked q.line.number new ≡ true = ap (λ (w : Hop). w.linked) seen_is ∙ (turns_linked (rules.pump (record { window = window; largest = largest; now = first.now }) (queue_of hop.copies)) hop ∙ hop_linked hop r b x) in
-      let quiet : AreGood IsQuiet (deeds limits choice now call b) first =
-      subst (λ (ds : List Deed). AreGood IsQuiet ds first) (sym (pump_is limits choice now l s b a.listening.line a.listening.connected a.listening.session)) (quiet_pump l first.now s first) in
+      let quiet = quiet_sending limits choice now r b c in
       record {
-        connected = called_again limits choice now call r b quiet q c (pump_in_step largest ids birth ns limits choice now r l s b c.in_step a.listening c.largest_is c.distinct) refl refl linked
-            (subst (AllByRecursion IsAnswer) (sym (stays_up limits choice now call r b quiet r.line.up)) c.answering);
+        connected = called_again limits choice now call r b quiet q c (pump_in_step largest ids birth ns limits choice now r l s b c.in_step a.listening c.largest_is c.distinct) refl refl linked;
         copies = f.after;
         same = f.same ∙ x.same;
         run_is = run_follows number largest x.copies (pump l.window first.now) r b q new x.run_is f;
@@ -202,10 +210,9 @@ module _ (number : Numbering) (largest window : ℕ) (ids : List CopyId) (birth 
       let quiet : AreGood IsQuiet (deeds limits choice now call b) (at_moment now b) =
       subst (λ (ds : List Deed). AreGood IsQuiet ds (at_moment now b)) (sym (input_is limits choice now packet l s b li.line li.connected li.session)) (tt, good_append IsQuiet (next_packet env l packet s heard) [] heard own tt) in
       let ups : q.line.up ≡ rest = stays_up limits choice now call r b quiet (drop 1 r.line.up) ∙ ap (drop 1) up in
-      let more : AllByRecursion IsAnswer (answers a ∷ rest) = subst (AllByRecursion IsAnswer) up c.answering in
       record {
         at = record {
-          connected = called_again limits choice now call r b quiet q c k refl refl linked (subst (AllByRecursion IsAnswer) (sym ups) more.1);
+          connected = called_again limits choice now call r b quiet q c k refl refl linked;
           copies = f.after;
           same = f.same ∙ x.same;
           run_is = run_follows number largest x.copies (to_broker false) r b q new x.run_is f;

@@ -34,7 +34,7 @@ use Rattle.mqtt_handed_laws.proofs.OwnDoings.{keeps_reading}
 use Rattle.mqtt_handed_laws.proofs.RoundFurther.{drain_empties, round_run, rounds_within, two_each}
 use Rattle.mqtt_handed_laws.proofs.Turns.{same_entries}
 use Rattle.mqtt_handed_laws.proofs.WorldRoundReads.{all_read, reads_at}
-use Rattle.mqtt_handed_laws.proofs.WorldRoundSteps.{At, answer_at, hop_linked, listens_now, pump_at}
+use Rattle.mqtt_handed_laws.proofs.WorldRoundSteps.{At, answer_at, hop_linked, listens_now, pump_at, pump_up}
 
 -- ---- who is found by the name, where one is changed
 
@@ -67,6 +67,15 @@ module _ (client : List ℕ) (set : Setting) (call : Call) (w : World) where
   pub publisher_called_is : publisher_named client w ≡ None → publisher_named client (calls set call w) ≡ None
   publisher_called_is e = find_publisher client (publisher_told new out) (λ p. refl) w.publishers ∙ ap (option_map (publisher_told new out)) e
 
+-- ---- the receiver of the name, with the hop that is seen and what is under way from it
+
+pub record Here (number : Numbering) (largest window : ℕ) (ids : List CopyId) (birth : ℕ) (ns : List ℕ) (client : List ℕ) (ups : List Back) (h : Hop) (w : World) : Type 0 where
+  pub receiver : Receiver
+  pub named : receiver_named client w ≡ Some receiver
+  pub alone : publisher_named client w ≡ None
+  pub at : At number largest window ids birth ns h receiver w.broker
+  pub up : receiver.line.up ≡ ups
+
 -- ---- the events of a round
 
 module _ (limits : Limits) (choice : MemberChoice) (client : List ℕ) where
@@ -90,28 +99,25 @@ module _ (limits : Limits) (choice : MemberChoice) (client : List ℕ) where
     abbrev Comes : Hop → World → Type 0
     Comes h w = ComesTo number largest window ids birth ns client h w
 
+    abbrev Sees : List Back → Hop → World → Type 0
+    Sees ups h w = Here number largest window ids birth ns client ups h w
+
     abbrev at_of : (h : Hop) (w : World) (x : Comes h w) → At number largest window ids birth ns h x.receiver w.broker
     at_of h w x = record { connected = x.may.connected; copies = x.copies; same = x.same; run_is = x.run_is; seen_is = x.seen_is }
 
-    abbrev comes : (h : Hop) (w : World) (r : Receiver) → receiver_named client w ≡ Some r → publisher_named client w ≡ None → At number largest window ids birth ns h r w.broker → Comes h w
-    comes h w r named alone y = record {
-      receiver = r;
-      may = record { named = named; alone = alone; connected = y.connected };
-      copies = y.copies;
-      same = y.same;
-      run_is = y.run_is;
-      seen_is = y.seen_is;
-    }
-
-    pumps : (h : Hop) (w : World) → Comes h w → Comes (step largest h (hop.pump window (moment_of w))) (turned limits (turn_of choice (ask (pump client))) w)
-    pumps h w x =
-        let n = x.may.connected.line.number in
+    pub pumps : (ups : List Back) (h : Hop) (w : World) → Sees ups h w → Sees ups (step largest h (hop.pump window (moment_of w))) (turned limits (turn_of choice (ask (pump client))) w)
+    pumps ups h w x =
+        let n = x.at.connected.line.number in
         let call = Pump n in
         let later = calls set call w in
-        let y = pump_at number largest window ids birth ns limits choice w.now h x.receiver w.broker (at_of h w x) in
-        subst (Comes (step largest h (hop.pump window (moment_of w)))) (sym (pump_is w x.receiver n x.may.named x.may.alone x.may.connected.number))
-        (comes (step largest h (hop.pump window (moment_of w))) later (receiver_told later.broker (told limits choice w.now call w.broker) x.receiver)
-        (receiver_called_is client set call w x.receiver x.may.named) (publisher_called_is client set call w x.may.alone) y)
+        let y : Sees ups (step largest h (hop.pump window (moment_of w))) later = record {
+          receiver = receiver_told later.broker (told limits choice w.now call w.broker) x.receiver;
+          named = receiver_called_is client set call w x.receiver x.named;
+          alone = publisher_called_is client set call w x.alone;
+          at = pump_at number largest window ids birth ns limits choice w.now h x.receiver w.broker x.at;
+          up = pump_up number largest window ids birth ns limits choice w.now x.receiver w.broker x.at.connected ∙ x.up;
+        } in
+        subst (Sees ups (step largest h (hop.pump window (moment_of w)))) (sym (pump_is w x.receiver n x.named x.alone x.at.connected.number)) y
 
     -- ---- the receiver reads
 
@@ -139,37 +145,54 @@ module _ (limits : Limits) (choice : MemberChoice) (client : List ℕ) where
             × (publisher_named client (run limits (times j (turn_of choice (to_end client))) u) ≡ None)
             × ((run limits (times j (turn_of choice (to_end client))) u).broker ≡ w.broker)) (sym (reading_is v q named alone)) rest
 
-    reads : (h : Hop) (w : World) → Comes h w → Comes (hop.run largest (rounds.all_to_end h) h) (run limits (all_to_end choice client w) w)
-    reads h w x =
+    -- with what is under way from it then
+    pub record Answered (before : List Back) (h : Hop) (w : World) : Type 0 where
+      pub ups : List Back
+      pub sees : Sees ups h w
+      pub answering : AllByRecursion IsAnswer before → AllByRecursion IsAnswer ups
+
+    pub reads : (ups : List Back) (h : Hop) (w : World) → Sees ups h w → Answered ups (hop.run largest (rounds.all_to_end h) h) (run limits (all_to_end choice client w) w)
+    reads ups h w x =
         let r = x.receiver in
         let k = length r.line.down in
-        let all = reads_are k w r x.may.named x.may.alone in
+        let all = reads_are k w r x.named x.alone in
         let later = run limits (times k (turn_of choice (to_end client))) w in
-        let y = reads_at number largest window ids birth ns h r w.broker (at_of h w x) in
+        let y = reads_at number largest window ids birth ns h r w.broker x.at in
         let last = hop.run largest (rounds.all_to_end h) h in
         let q = all_read number largest window ids birth ns r w.broker k r in
-        subst (λ (o : Option Receiver). Comes last (run limits (times (downs_by o) (turn_of choice (to_end client))) w)) (sym x.may.named)
-        (comes last later q all.0 all.1 (subst (At number largest window ids birth ns last q) (sym all.2) y))
+        let z : Answered ups last later = record {
+          ups = q.line.up;
+          sees = record { receiver = q; named = all.0; alone = all.1; at = subst (At number largest window ids birth ns last q) (sym all.2) y.at; up = refl };
+          answering = λ a. y.answering (subst (AllByRecursion IsAnswer) (sym x.up) a);
+        } in
+        subst (λ (o : Option Receiver). Answered ups last (run limits (times (downs_by o) (turn_of choice (to_end client))) w)) (sym x.named) z
 
     -- ---- the broker reads
 
-    brokers_from : (ups : List Back) (h : Hop) (w : World) (x : Comes h w) → x.receiver.line.up ≡ ups → Comes (hop.run largest (times (length ups) (hop.to_broker false)) h) (run limits (times (length ups) (turn_of choice (ask (to_broker client)))) w)
-    brokers_from [] h w x e = x
-    brokers_from (asks_for wish ∷ rest) h w x e = let all : AllByRecursion IsAnswer (asks_for wish ∷ rest) = subst (AllByRecursion IsAnswer) e x.may.connected.answering in absurd all.0
-    brokers_from (answers a ∷ rest) h w x e =
+    pub answers_one : (a : Answer) (rest : List Back) (h : Hop) (w : World) → Sees (answers a ∷ rest) h w → Sees rest (step largest h (hop.to_broker false)) (turned limits (turn_of choice (ask (to_broker client))) w)
+    answers_one a rest h w x =
         let r = x.receiver in
-        let n = x.may.connected.line.number in
+        let n = x.at.connected.line.number in
         let call = Input n (wire_back r.client r.window (answers a)) in
         let before = taken_off w in
         let later = calls set call before in
-        let y = answer_at number largest window ids birth ns limits choice w.now a rest h r w.broker (at_of h w x) e in
+        let y = answer_at number largest window ids birth ns limits choice w.now a rest h r w.broker x.at x.up in
         let q = record r { line = taken_up r.line } in
-        let found : receiver_named client before ≡ Some q = receiver_changed client (λ (s : Receiver). record s { line = taken_up s.line }) r w.receivers (λ s. refl) x.may.named in
-        let nobody : publisher_named client before ≡ None = none_changed (λ (p : Publisher). bytes_eq p.client client) (λ (p : Publisher). record p { line = taken_up p.line }) w.publishers x.may.alone in
-        let z : Comes (step largest h (hop.to_broker false)) later =
-        comes (step largest h (hop.to_broker false)) later (receiver_told later.broker (told limits choice w.now call w.broker) q) (receiver_called_is client set call before q found) (publisher_called_is client set call before nobody) y.at in
-        subst (λ (u : World). Comes (hop.run largest (times (length rest) (hop.to_broker false)) (step largest h (hop.to_broker false))) (run limits (times (length rest) (turn_of choice (ask (to_broker client)))) u))
-        (sym (answer_is w r n a rest x.may.named x.may.alone x.may.connected.number e)) (brokers_from rest (step largest h (hop.to_broker false)) later z y.up)
+        let found : receiver_named client before ≡ Some q = receiver_changed client (λ (s : Receiver). record s { line = taken_up s.line }) r w.receivers (λ s. refl) x.named in
+        let nobody : publisher_named client before ≡ None = none_changed (λ (p : Publisher). bytes_eq p.client client) (λ (p : Publisher). record p { line = taken_up p.line }) w.publishers x.alone in
+        let z : Sees rest (step largest h (hop.to_broker false)) later = record {
+          receiver = receiver_told later.broker (told limits choice w.now call w.broker) q;
+          named = receiver_called_is client set call before q found;
+          alone = publisher_called_is client set call before nobody;
+          at = y.at;
+          up = y.up;
+        } in
+        subst (Sees rest (step largest h (hop.to_broker false))) (sym (answer_is w r n a rest x.named x.alone x.at.connected.number x.up)) z
+
+    pub brokers_from : (ups : List Back) (h : Hop) (w : World) → Sees ups h w → AllByRecursion IsAnswer ups → Sees [] (hop.run largest (times (length ups) (hop.to_broker false)) h) (run limits (times (length ups) (turn_of choice (ask (to_broker client)))) w)
+    brokers_from [] h w x a = x
+    brokers_from (asks_for wish ∷ rest) h w x a = absurd a.0
+    brokers_from (answers b ∷ rest) h w x a = brokers_from rest (step largest h (hop.to_broker false)) (turned limits (turn_of choice (ask (to_broker client))) w) (answers_one b rest h w x) a.1
 
     -- all that is under way is about copies
     as_many : (ups : List Back) → AllByRecursion IsAnswer ups → length (filter_map answered ups) ≡ length ups
@@ -177,14 +200,25 @@ module _ (limits : Limits) (choice : MemberChoice) (client : List ℕ) where
     as_many (answers x ∷ ups) a = ap suc (as_many ups a.1)
     as_many (asks_for x ∷ ups) a = absurd a.0
 
-    brokers : (h : Hop) (w : World) → Comes h w → Comes (hop.run largest (rounds.all_to_broker h) h) (run limits (all_to_broker choice client w) w)
-    brokers h w x =
+    brokers : (ups : List Back) (h : Hop) (w : World) → Sees ups h w → AllByRecursion IsAnswer ups → Sees [] (hop.run largest (rounds.all_to_broker h) h) (run limits (all_to_broker choice client w) w)
+    brokers ups h w x a =
         let r = x.receiver in
-        let ups = r.line.up in
-        let many : length h.up ≡ length ups = sym (ap (λ (v : Hop). length v.up) x.seen_is) ∙ as_many ups x.may.connected.answering in
-        let y = brokers_from ups h w x refl in
-        subst (λ (o : Option Receiver). Comes (hop.run largest (rounds.all_to_broker h) h) (run limits (times (ups_by o) (turn_of choice (ask (to_broker client)))) w)) (sym x.may.named)
-        (subst (λ (j : ℕ). Comes (hop.run largest (times j (hop.to_broker false)) h) (run limits (times (length ups) (turn_of choice (ask (to_broker client)))) w)) (sym many) y)
+        let many : length h.up ≡ length ups = sym (ap (λ (v : Hop). length v.up) x.at.seen_is) ∙ (ap (λ (us : List Back). length (filter_map answered us)) x.up ∙ as_many ups a) in
+        let y = brokers_from ups h w x a in
+        let last : ups_by (receiver_named client w) ≡ length ups = ap ups_by x.named ∙ ap length x.up in
+        subst (λ (j : ℕ). Sees [] (hop.run largest (rounds.all_to_broker h) h) (run limits (times j (turn_of choice (ask (to_broker client)))) w)) (sym last)
+        (subst (λ (j : ℕ). Sees [] (hop.run largest (times j (hop.to_broker false)) h) (run limits (times (length ups) (turn_of choice (ask (to_broker client)))) w)) (sym many) y)
+
+    -- nothing is under way from it
+    pub sees_comes : (h : Hop) (w : World) → Sees [] h w → Comes h w
+    sees_comes h w x = record {
+      receiver = x.receiver;
+      may = record { named = x.named; alone = x.alone; connected = x.at.connected; answering = subst (AllByRecursion IsAnswer) (sym x.up) tt };
+      copies = x.at.copies;
+      same = x.at.same;
+      run_is = x.at.run_is;
+      seen_is = x.at.seen_is;
+    }
 
     -- ---- a round
 
@@ -196,9 +230,11 @@ module _ (limits : Limits) (choice : MemberChoice) (client : List ℕ) where
         let ends = all_to_end choice client sent in
         let was = run limits ends sent in
         let h2 = hop.run largest (rounds.all_to_end h1) h1 in
-        let x1 : Comes h1 sent = pumps h w x in
-        let x2 : Comes h2 was = reads h1 sent x1 in
-        let x3 = brokers h2 was x2 in
+        let ups = x.receiver.line.up in
+        let x1 = pumps ups h w (record { receiver = x.receiver; named = x.may.named; alone = x.may.alone; at = at_of h w x; up = refl }) in
+        let x2 = reads ups h1 sent x1 in
+        let h3 = hop.run largest (rounds.all_to_broker h2) h2 in
+        let x3 : Comes h3 (run limits (all_to_broker choice client was) was) = sees_comes h3 (run limits (all_to_broker choice client was) was) (brokers x2.ups h2 was x2.sees (x2.answering x.may.answering)) in
         let split : after_round limits choice client w ≡ run limits (all_to_broker choice client was) was = run_append limits ends (all_to_broker choice client was) sent in
         subst (λ (v : World). Comes (rounds.after_round largest window (moment_of w) h) v) (sym split)
         (subst (λ (g : Hop). Comes g (run limits (all_to_broker choice client was) was)) (sym (round_run largest window (moment_of w) h)) x3)

@@ -28,7 +28,7 @@ IsAnswer (answers a) = ⊤
 IsAnswer (asks_for w) = ⊥
 
 -- the two are in step, and its line is connected, with this Receive Maximum and Maximum Packet Size; lines and sessions are
--- in order, and only answers are under way from it
+-- in order
 pub record IsConnected (largest window : ℕ) (ids : List CopyId) (birth : ℕ) (ns : List ℕ) (r : Receiver) (b : Broker)
     : Type 0 where
   pub in_step : IsInStep largest ids birth ns r b
@@ -43,14 +43,14 @@ pub record IsConnected (largest window : ℕ) (ids : List CopyId) (birth : ℕ) 
   pub unique : HasUniqueLines b
   pub ordered : IsOrdered b.records
   pub distinct : HasDistinctIdentifiers b.records
-  pub answering : AllByRecursion IsAnswer r.line.up
 
--- it is the receiver of this name, which no publisher has
+-- it is the receiver of this name, which no publisher has, and only answers are under way from it
 pub record MayDrain (largest window : ℕ) (ids : List CopyId) (birth : ℕ) (ns : List ℕ) (client : List ℕ) (r : Receiver)
     (w : World) : Type 0 where
   pub named : receiver_named client w ≡ Some r
   pub alone : publisher_named client w ≡ None
   pub connected : IsConnected largest window ids birth ns r w.broker
+  pub answering : AllByRecursion IsAnswer r.line.up
 
 -- ---- what becomes of it
 
