@@ -50,5 +50,6 @@ pub mod Numbers
 pub mod WorldRoundLines
 pub mod WorldRoundSteps
 pub mod WorldRoundReads
+pub mod WorldRoundWishes
 pub mod WorldRounds
 pub mod DrainExamples

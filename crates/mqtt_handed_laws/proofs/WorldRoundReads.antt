@@ -15,7 +15,6 @@ use Rattle.mqtt_inbound.specs.Line.{Link, away, asked, live, sent_on}
 use Rattle.mqtt_laws.specs.Ends.{Back, Receiver, answers, greeted, hears, receiver_connack, receiver_reads, reads_publish}
 use Rattle.mqtt_laws.specs.Lines.{Down, is_one_of, left, stands}
 use Rattle.mqtt_laws.specs.Seen.{is_linked}
-use Rattle.mqtt_rules.proofs.Copies.{each_append}
 use Rattle.mqtt_rules.specs.State.{Broker}
 use Rattle.mqtt_handed_laws.specs.Drains.{times}
 use Rattle.mqtt_handed_laws.specs.Handing.{IsRun}
@@ -30,43 +29,49 @@ use Rattle.mqtt_handed_laws.proofs.WorldRoundSteps.{At, connected_again, hop_lin
 
 -- ---- what it leaves under way
 
--- after it has read the packet in front of these
-record Took (rest : List Down) (r q : Receiver) : Type 0 where
-  pub down : (q.line.down ≡ rest) ⊎ (q.line.down ≡ [])
-  pub up : AllByRecursion IsAnswer r.line.up → AllByRecursion IsAnswer q.line.up
+-- what holds of nothing, and stays so with each answer more behind
+pub record Grows (P : List Back → Type 0) : Type 0 where
+  pub none : P []
+  pub more : (up : List Back) (a : Answer) → P up → P (up ++ answers a ∷ [])
 
-abbrev taken : List Down → Receiver → Receiver
-taken rest r = record r { line = record r.line { down = rest } }
+module _ (P : List Back → Type 0) (grows : Grows P) where
+  -- after it has read the packet in front of these
+  record Took (rest : List Down) (r q : Receiver) : Type 0 where
+    pub down : (q.line.down ≡ rest) ⊎ (q.line.down ≡ [])
+    pub up : P r.line.up → P q.line.up
 
-answers_more : (t : Bool) (up : List Back) (a : Answer) → AllByRecursion IsAnswer up → AllByRecursion IsAnswer (sent_on t up (answers a ∷ []))
-answers_more true up a h = each_append IsAnswer up (answers a ∷ []) h (tt, tt)
-answers_more false up a h = h
+  abbrev taken : List Down → Receiver → Receiver
+  taken rest r = record r { line = record r.line { down = rest } }
 
-took_connack : (link : Link) (present : Bool) (code : ℕ) (rest : List Down) (r : Receiver) → Took rest r (receiver_connack link present code (taken rest r))
-took_connack away present code rest r = record { down = inl refl; up = λ h. h }
-took_connack live present code rest r = record { down = inl refl; up = λ h. h }
-took_connack asked present code rest r = by (nat_lt 0 code)
-  where
-    by : (z : Bool) → Took rest r (cond z (record (taken rest r) { line = left (record (taken rest r).line { clean = false }) })
-        (record (taken rest r) { line = greeted (taken rest r).line; asking = false; kept = if present then r.kept else [] }))
-    by true = record { down = inr refl; up = λ h. tt }
-    by false = record { down = inl refl; up = λ h. h }
+  answers_more : (t : Bool) (up : List Back) (a : Answer) → P up → P (sent_on t up (answers a ∷ []))
+  answers_more true up a h = grows.more up a h
+  answers_more false up a h = h
 
-took_publish : (t : Bool) (copy : Option CopyId) (p : Publication) (d : Delivery) (rest : List Down) (r : Receiver) → Took rest r (reads_publish t copy p d (taken rest r))
-took_publish t copy p delivery.AtMostOnce rest r = record { down = inl refl; up = λ h. h }
-took_publish t copy p (delivery.AtLeastOnce dup i) rest r = record { down = inl refl; up = λ h. answers_more t r.line.up _ h }
-took_publish t copy p (delivery.ExactlyOnce dup i) rest r = record { down = inl refl; up = λ h. answers_more t r.line.up _ h }
+  took_connack : (link : Link) (present : Bool) (code : ℕ) (rest : List Down) (r : Receiver) → Took rest r (receiver_connack link present code (taken rest r))
+  took_connack away present code rest r = record { down = inl refl; up = λ h. h }
+  took_connack live present code rest r = record { down = inl refl; up = λ h. h }
+  took_connack asked present code rest r = by (nat_lt 0 code)
+    where
+      by : (z : Bool) → Took rest r (cond z (record (taken rest r) { line = left (record (taken rest r).line { clean = false }) })
+          (record (taken rest r) { line = greeted (taken rest r).line; asking = false; kept = if present then r.kept else [] }))
+      by true = record { down = inr refl; up = λ h. grows.none }
+      by false = record { down = inl refl; up = λ h. h }
 
-took_packet : (t : Bool) (copy : Option CopyId) (x : Packet) (rest : List Down) (r : Receiver) → Took rest r (hears t copy x (taken rest r))
-took_packet t copy (packet.Connack a) rest r = took_connack r.line.link a.session_present a.reason.0 rest r
-took_packet t copy (packet.Publish p) rest r = took_publish t copy p p.delivery rest r
-took_packet t copy (packet.Pubrel a) rest r = record { down = inl refl; up = λ h. answers_more t r.line.up _ h }
-took_packet t copy (packet.Disconnect a) rest r = record { down = inr refl; up = λ h. tt }
-took_packet t copy x rest r = record { down = inl refl; up = λ h. h }
+  took_publish : (t : Bool) (copy : Option CopyId) (p : Publication) (d : Delivery) (rest : List Down) (r : Receiver) → Took rest r (reads_publish t copy p d (taken rest r))
+  took_publish t copy p delivery.AtMostOnce rest r = record { down = inl refl; up = λ h. h }
+  took_publish t copy p (delivery.AtLeastOnce dup i) rest r = record { down = inl refl; up = λ h. answers_more t r.line.up _ h }
+  took_publish t copy p (delivery.ExactlyOnce dup i) rest r = record { down = inl refl; up = λ h. answers_more t r.line.up _ h }
+
+  took_packet : (t : Bool) (copy : Option CopyId) (x : Packet) (rest : List Down) (r : Receiver) → Took rest r (hears t copy x (taken rest r))
+  took_packet t copy (packet.Connack a) rest r = took_connack r.line.link a.session_present a.reason.0 rest r
+  took_packet t copy (packet.Publish p) rest r = took_publish t copy p p.delivery rest r
+  took_packet t copy (packet.Pubrel a) rest r = record { down = inl refl; up = λ h. answers_more t r.line.up _ h }
+  took_packet t copy (packet.Disconnect a) rest r = record { down = inr refl; up = λ h. grows.none }
+  took_packet t copy x rest r = record { down = inl refl; up = λ h. h }
 
 -- ---- it reads one packet
 
-module _ (number : Numbering) (largest window : ℕ) (ids : List CopyId) (birth : ℕ) (ns : List ℕ) (first : Receiver) (b : Broker) where
+module _ (number : Numbering) (largest window : ℕ) (ids : List CopyId) (birth : ℕ) (ns : List ℕ) (P : List Back → Type 0) (grows : Grows P) (first : Receiver) (b : Broker) where
   -- since it was this one; its line stands at the broker exactly if it is connected there
   pub record Reading (hop : Hop) (r : Receiver) : Type 0 where
     pub in_step : IsInStep largest ids birth ns r b
@@ -77,14 +82,14 @@ module _ (number : Numbering) (largest window : ℕ) (ids : List CopyId) (birth 
     pub agrees : is_linked r.line.number b ≡ stands r.line.number b
     pub number_is : (k : ℕ) → r.line.number ≡ Some k → first.line.number ≡ Some k
     pub old_number : (k : ℕ) → r.line.old_number ≡ Some k → first.line.old_number ≡ Some k
-    pub answering : AllByRecursion IsAnswer first.line.up → AllByRecursion IsAnswer r.line.up
+    pub answering : P first.line.up → P r.line.up
 
   abbrev pub next_read : Receiver → Receiver
   next_read r = receiver_reads (stands r.line.number b) r.line.down r
 
-  reading_up : (t : Bool) (ds : List Down) (r : Receiver) → AllByRecursion IsAnswer r.line.up → AllByRecursion IsAnswer (receiver_reads t ds r).line.up
+  reading_up : (t : Bool) (ds : List Down) (r : Receiver) → P r.line.up → P (receiver_reads t ds r).line.up
   reading_up t [] r h = h
-  reading_up t (d ∷ rest) r h = (took_packet t d.copy d.packet rest r).up h
+  reading_up t (d ∷ rest) r h = (took_packet P grows t d.copy d.packet rest r).up h
 
   reads_one : (hop : Hop) (r : Receiver) → Reading hop r → Reading (run largest (first_reads number r.line.down) hop) (next_read r)
   reads_one hop r x =
@@ -139,7 +144,7 @@ module _ (number : Numbering) (largest window : ℕ) (ids : List CopyId) (birth 
         → (length (next_read r).line.down ≤ length rest) × (length (filter_map (heard_in number) (next_read r).line.down) ≤ length (filter_map (heard_in number) rest))
     low d rest is =
         let t = stands r.line.number b in
-        lesser rest (next_read r).line.down (subst (λ (ds : List Down). ((receiver_reads t ds r).line.down ≡ rest) ⊎ ((receiver_reads t ds r).line.down ≡ [])) (sym is) (took_packet t d.copy d.packet rest r).down)
+        lesser rest (next_read r).line.down (subst (λ (ds : List Down). ((receiver_reads t ds r).line.down ≡ rest) ⊎ ((receiver_reads t ds r).line.down ≡ [])) (sym is) (took_packet P grows t d.copy d.packet rest r).down)
 
     downs : (d : Down) (rest : List Down) (p : Output) → heard_in number d ≡ Some p → r.line.down ≡ d ∷ rest → length hop.down ≡ suc (length (filter_map (heard_in number) rest))
     downs d rest p e is =
@@ -181,20 +186,20 @@ module _ (number : Numbering) (largest window : ℕ) (ids : List CopyId) (birth 
 
 -- ---- and is connected still
 
-pub record HasRead (number : Numbering) (largest window : ℕ) (ids : List CopyId) (birth : ℕ) (ns : List ℕ) (hop : Hop) (r q : Receiver) (b : Broker) : Type 0 where
+pub record HasRead (number : Numbering) (largest window : ℕ) (ids : List CopyId) (birth : ℕ) (ns : List ℕ) (P : List Back → Type 0) (hop : Hop) (r q : Receiver) (b : Broker) : Type 0 where
   pub at : At number largest window ids birth ns hop q b
-  pub answering : AllByRecursion IsAnswer r.line.up → AllByRecursion IsAnswer q.line.up
+  pub answering : P r.line.up → P q.line.up
 
-pub reads_at : (number : Numbering) (largest window : ℕ) (ids : List CopyId) (birth : ℕ) (ns : List ℕ) (hop : Hop) (r : Receiver) (b : Broker) → At number largest window ids birth ns hop r b
-    → HasRead number largest window ids birth ns (run largest (times (length hop.down) to_end) hop) r (all_read number largest window ids birth ns r b (length r.line.down) r) b
-reads_at number largest window ids birth ns hop r b x =
+pub reads_at : (number : Numbering) (largest window : ℕ) (ids : List CopyId) (birth : ℕ) (ns : List ℕ) (P : List Back → Type 0) (grows : Grows P) (hop : Hop) (r : Receiver) (b : Broker) → At number largest window ids birth ns hop r b
+    → HasRead number largest window ids birth ns P (run largest (times (length hop.down) to_end) hop) r (all_read number largest window ids birth ns P grows r b (length r.line.down) r) b
+reads_at number largest window ids birth ns P grows hop r b x =
     let c = x.connected in
     let k = length r.line.down in
     let m = length hop.down in
-    let q = all_read number largest window ids birth ns r b k r in
+    let q = all_read number largest window ids birth ns P grows r b k r in
     let last = run largest (times m to_end) hop in
     let standing : stands r.line.number b ≡ true = ap (λ (o : Option ℕ). stands o b) c.number ∙ ap is_some c.there in
-    let before : Reading number largest window ids birth ns r b hop r = record {
+    let before : Reading number largest window ids birth ns P grows r b hop r = record {
       in_step = c.in_step;
       copies = x.copies;
       same = x.same;
@@ -205,11 +210,11 @@ reads_at number largest window ids birth ns hop r b x =
       old_number = λ j e. e;
       answering = λ h. h;
     } in
-    let y = reads_all number largest window ids birth ns r b k m hop r before (omega arith) (omega arith) in
+    let y = reads_all number largest window ids birth ns P grows r b k m hop r before (omega arith) (omega arith) in
     let linked : is_linked q.line.number b ≡ true = ap (λ (w : Hop). w.linked) y.seen_is ∙ (ends_back largest hop (reached number largest window ids birth ns hop r b x) (hop_linked number largest window ids birth ns hop r b x)).0 in
     record {
       at = record {
-        connected = connected_again number largest window ids birth ns r q b b c y.in_step (same_number q.line.number y.number_is linked) (apart q.line.old_number y.old_number) linked refl c.unique c.ordered c.distinct;
+        connected = connected_again number largest window ids birth ns ids r q b b c y.in_step (same_number q.line.number y.number_is linked) (apart q.line.old_number y.old_number) linked refl c.unique c.ordered c.distinct;
         copies = y.copies;
         same = y.same;
         run_is = y.run_is;

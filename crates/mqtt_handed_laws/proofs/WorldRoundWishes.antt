@@ -1,7 +1,7 @@
 -- A receiver that is connected and in step: the broker reads its SUBSCRIBE, and it is so again, with the copies of retained
 -- messages that the filter brings.
 use Rattle.std.proofs.Common.{◌≡◌, ℕ, suc, ◌≤◌, Bool, true, false, cond, List, [], ◌∷◌, ◌++◌, drop, map, Option, Some, None, refl, sym, ap, subst, ◌∙◌, arith}
-use Rattle.std.specs.Prelude.{◌≢◌, flat_map, nat_le}
+use Rattle.std.specs.Prelude.{◌≢◌, flat_map, nat_le, option_map}
 use Rattle.std.specs.List.{AllByRecursion}
 use Rattle.mqtt_base.specs.declared.session.Cause.TheVariants.{Retained}
 use Rattle.mqtt_base.specs.declared.session.CopyId.{CopyId}
@@ -35,6 +35,7 @@ use Rattle.mqtt_world_laws.proofs.CopiesApart.{number_of}
 use Rattle.mqtt_world_laws.proofs.Differ.{AreApart, differ_join}
 use Rattle.mqtt_handed_laws.specs.Handing.{receiver_after}
 use Rattle.mqtt_handed_laws.specs.Own.{IsBroughtCopy}
+use Rattle.mqtt_handed_laws.specs.Seen.{Numbering}
 use Rattle.mqtt_handed_laws.specs.Served.{IsTidy}
 use Rattle.mqtt_handed_laws.specs.WorldRounds.{IsConnected}
 use Rattle.mqtt_handed_laws.proofs.OwnSubscribes.{wished}
@@ -95,15 +96,57 @@ unlike birth subscribes id [] older new = tt
 unlike birth subscribes id (y ∷ ys) older new =
     ((λ e. let low = older (suc subscribes) (ap (λ (x : CopyId). x.cause) e ∙ new.0.cause_is) in absurd (omega (arith, low))), unlike birth subscribes id ys older new.1)
 
-pub differ_on : (birth subscribes : ℕ) (ids more : List CopyId) → AllDiffer ids → AllByRecursion (IsOlder subscribes) ids → AllByRecursion (IsBroughtCopy birth (suc subscribes)) more → AllDiffer more → AllDiffer (ids ++ more)
-differ_on birth subscribes [] more differ older new fresh = fresh
-differ_on birth subscribes (x ∷ ids) more differ older new fresh =
-    (all_on ids differ.0, differ_on birth subscribes ids more differ.1 older.1 new fresh)
-  where
-    all_on : (ys : List CopyId) → AllByRecursion (λ (y : CopyId). x ≢ y) ys → AllByRecursion (λ (y : CopyId). x ≢ y) (ys ++ more)
-    all_on [] h = unlike birth subscribes x more older.0 new
-    all_on (y ∷ ys) h = (h.0, all_on ys h.1)
+apart_from : (birth subscribes : ℕ) (ids more : List CopyId) → AllByRecursion (IsOlder subscribes) ids → AllByRecursion (IsBroughtCopy birth (suc subscribes)) more → AreApart ids more
+apart_from birth subscribes [] more older new = tt
+apart_from birth subscribes (x ∷ ids) more older new = (unlike birth subscribes x more older.0 new, apart_from birth subscribes ids more older.1 new)
 
 -- ---- the step
 
-module _ (number : _) where
+-- copies that differ, and retained messages that do; those of filters are of such as were granted
+pub record AreTold (ids : List CopyId) (b : Broker) : Type 0 where
+  pub differ : AllDiffer ids
+  pub older : AllByRecursion (IsOlder b.records.subscribes) ids
+  pub retained : AllDiffer (map number_of b.records.retained)
+
+module _ (number : Numbering) (largest window : ℕ) (ids : List CopyId) (birth : ℕ) (ns : List ℕ) where
+  abbrev asking : Receiver → ℕ → Wish → Call
+  asking r n w = Input n (wire_back r.client r.window (asks_for w))
+
+  -- connected with some copies more, of which no two are one
+  pub record HasWished (limits : Limits) (choice : MemberChoice) (now : ℕ) (w : Wish) (rest : List Back) (n : ℕ) (r : Receiver) (b : Broker) : Type 0 where
+    pub more : List CopyId
+    pub new : AllByRecursion (IsBroughtCopy birth (suc b.records.subscribes)) more
+    pub differ : AllDiffer (ids ++ more)
+    pub connected : IsConnected largest window (ids ++ more) birth ns (receiver_after limits choice now (asking r n w) r b) (stepped limits choice now (asking r n w) b)
+    pub up : (receiver_after limits choice now (asking r n w) r b).line.up ≡ rest
+
+  pub wish_at : (limits : Limits) (choice : MemberChoice) (now : ℕ) (w : Wish) (rest : List Back) (r : Receiver) (b : Broker) (c : IsConnected largest window ids birth ns r b) → IsTidy limits b → AreTold ids b
+      → r.line.up ≡ asks_for w ∷ rest → HasWished limits choice now w rest c.line.number r b
+  wish_at limits choice now w rest r b c tidy told up =
+      let l = c.line in
+      let n = l.number in
+      let call = asking r n w in
+      let packet = wire_back r.client r.window (asks_for w) in
+      let li = listens_now number largest window ids birth ns r b c in
+      let s = li.session in
+      let first = at_moment now b in
+      let heard = heard_of now n b in
+      let env = env_of limits choice b in
+      let q = receiver_after limits choice now call r b in
+      let new = stepped limits choice now call b in
+      let x = wished largest ids limits choice now birth ns w rest r l s b c.in_step li.listening tidy up in
+      let own : AreGood IsQuiet (next_packet env l packet s heard) heard = quiet_subscribe (is_among 1 s.inbound) env n s _ heard in
+      let ds = deeds limits choice now call b in
+      let quiet : AreGood IsQuiet ds first =
+      subst (λ (zs : List Deed). AreGood IsQuiet zs first) (sym (input_is limits choice now packet l s b li.listening.line li.listening.connected li.listening.session)) (tt, good_append IsQuiet (next_packet env l packet s heard) [] heard own tt) in
+      let on : session_on n new.lines ≡ Some (Some birth) =
+      ap (session_on n) (done_lines (rows_of_all ds first.records) (after_all ds first))
+      ∙ ((leaves ds first (still_quiet ds first quiet)).lines n ∙ (ap (option_map (λ (y : BrokerLine). y.session)) c.there ∙ ap Some c.connected)) in
+      let linked : is_linked q.line.number new ≡ true = ap (λ (o : Option ℕ). is_linked o new) c.number ∙ (linked_is n new ∙ ap linked_of on) in
+      record {
+        more = x.after.more;
+        new = x.after.new;
+        differ = differ_join ids x.after.more told.differ (x.differ told.retained) (apart_from birth b.records.subscribes ids x.after.more told.older x.after.new);
+        connected = called_again number largest window ids birth ns limits choice now call r b quiet (ids ++ x.after.more) q c x.after.in_step refl refl linked;
+        up = stays_up number largest window ids birth ns limits choice now call r b quiet (drop 1 r.line.up) ∙ ap (drop 1) up;
+      }

@@ -13,6 +13,7 @@ use Rattle.mqtt_laws.specs.Lines.{stands}
 use Rattle.mqtt_laws.specs.Run.{run, turned}
 use Rattle.mqtt_laws.specs.World.{Setting, World, ask, calls, end_reads, publisher_named, publisher_told, pump, receiver_named, receiver_told, taken_up, to_broker, to_end, with_line}
 use Rattle.mqtt_rows.specs.Distinct.{AllDiffer}
+use Rattle.mqtt_rules.proofs.Copies.{each_append}
 use Rattle.mqtt_rules.proofs.Leads.{found_passes}
 use Rattle.mqtt_rules.specs.State.{Broker, MemberChoice, session_named}
 use Rattle.mqtt_rules.specs.Step.{Call, Input, Outcome, Pump, stepped, told}
@@ -33,7 +34,7 @@ use Rattle.mqtt_handed_laws.proofs.Numbers.{place_of, places_number}
 use Rattle.mqtt_handed_laws.proofs.OwnDoings.{keeps_reading}
 use Rattle.mqtt_handed_laws.proofs.RoundFurther.{drain_empties, round_run, rounds_within, two_each}
 use Rattle.mqtt_handed_laws.proofs.Turns.{same_entries}
-use Rattle.mqtt_handed_laws.proofs.WorldRoundReads.{all_read, reads_at}
+use Rattle.mqtt_handed_laws.proofs.WorldRoundReads.{Grows, all_read, reads_at}
 use Rattle.mqtt_handed_laws.proofs.WorldRoundSteps.{At, answer_at, hop_linked, listens_now, pump_at, pump_up}
 
 -- ---- who is found by the name, where one is changed
@@ -91,9 +92,9 @@ module _ (limits : Limits) (choice : MemberChoice) (client : List ℕ) where
   abbrev taken_off : World → World
   taken_off w = with_line client taken_up taken_up w
 
-  answer_is : (w : World) (r : Receiver) (n : ℕ) (a : Answer) (rest : List Back) → receiver_named client w ≡ Some r → publisher_named client w ≡ None → r.line.number ≡ Some n → r.line.up ≡ answers a ∷ rest
-      → turned limits (turn_of choice (ask (to_broker client))) w ≡ calls set (Input n (wire_back r.client r.window (answers a))) (taken_off w)
-  answer_is w r n a rest named alone number up = rw (named, alone, number, up) refl
+  back_is : (w : World) (r : Receiver) (n : ℕ) (u : Back) (rest : List Back) → receiver_named client w ≡ Some r → publisher_named client w ≡ None → r.line.number ≡ Some n → r.line.up ≡ u ∷ rest
+      → turned limits (turn_of choice (ask (to_broker client))) w ≡ calls set (Input n (wire_back r.client r.window u)) (taken_off w)
+  back_is w r n u rest named alone number up = rw (named, alone, number, up) refl
 
   module _ (number : Numbering) (largest window : ℕ) (ids : List CopyId) (birth : ℕ) (ns : List ℕ) where
     abbrev Comes : Hop → World → Type 0
@@ -122,14 +123,14 @@ module _ (limits : Limits) (choice : MemberChoice) (client : List ℕ) where
     -- ---- the receiver reads
 
     -- so many times
-    reads_are : (k : ℕ) (w : World) (r : Receiver) → receiver_named client w ≡ Some r → publisher_named client w ≡ None
-        → (receiver_named client (run limits (times k (turn_of choice (to_end client))) w) ≡ Some (all_read number largest window ids birth ns r w.broker k r))
+    reads_are : (P : List Back → Type 0) (grows : Grows P) (k : ℕ) (w : World) (r : Receiver) → receiver_named client w ≡ Some r → publisher_named client w ≡ None
+        → (receiver_named client (run limits (times k (turn_of choice (to_end client))) w) ≡ Some (all_read number largest window ids birth ns P grows r w.broker k r))
         × (publisher_named client (run limits (times k (turn_of choice (to_end client))) w) ≡ None)
         × ((run limits (times k (turn_of choice (to_end client))) w).broker ≡ w.broker)
-    reads_are k w r named alone = go k w r named alone refl
+    reads_are P grows k w r named alone = go k w r named alone refl
       where
         go : (j : ℕ) (v : World) (q : Receiver) → receiver_named client v ≡ Some q → publisher_named client v ≡ None → v.broker ≡ w.broker
-            → (receiver_named client (run limits (times j (turn_of choice (to_end client))) v) ≡ Some (all_read number largest window ids birth ns r w.broker j q))
+            → (receiver_named client (run limits (times j (turn_of choice (to_end client))) v) ≡ Some (all_read number largest window ids birth ns P grows r w.broker j q))
             × (publisher_named client (run limits (times j (turn_of choice (to_end client))) v) ≡ None)
             × ((run limits (times j (turn_of choice (to_end client))) v).broker ≡ w.broker)
         go zero v q named alone same = (named, alone, same)
@@ -141,31 +142,31 @@ module _ (limits : Limits) (choice : MemberChoice) (client : List ℕ) where
             let read : g q ≡ receiver_reads (stands q.line.number w.broker) q.line.down q = ap (λ (b : Broker). receiver_reads (stands q.line.number b) q.line.down q) same in
             let nobody : publisher_named client later ≡ None = none_changed (λ (p : Publisher). bytes_eq p.client client) f v.publishers alone in
             let rest = go j later (receiver_reads (stands q.line.number w.broker) q.line.down q) (found ∙ ap Some read) nobody same in
-            subst (λ (u : World). (receiver_named client (run limits (times j (turn_of choice (to_end client))) u) ≡ Some (all_read number largest window ids birth ns r w.broker (suc j) q))
+            subst (λ (u : World). (receiver_named client (run limits (times j (turn_of choice (to_end client))) u) ≡ Some (all_read number largest window ids birth ns P grows r w.broker (suc j) q))
             × (publisher_named client (run limits (times j (turn_of choice (to_end client))) u) ≡ None)
             × ((run limits (times j (turn_of choice (to_end client))) u).broker ≡ w.broker)) (sym (reading_is v q named alone)) rest
 
     -- with what is under way from it then
-    pub record Answered (before : List Back) (h : Hop) (w : World) : Type 0 where
+    pub record Answered (P : List Back → Type 0) (before : List Back) (h : Hop) (w : World) : Type 0 where
       pub ups : List Back
       pub sees : Sees ups h w
-      pub answering : AllByRecursion IsAnswer before → AllByRecursion IsAnswer ups
+      pub answering : P before → P ups
 
-    pub reads : (ups : List Back) (h : Hop) (w : World) → Sees ups h w → Answered ups (hop.run largest (rounds.all_to_end h) h) (run limits (all_to_end choice client w) w)
-    reads ups h w x =
+    pub reads : (P : List Back → Type 0) (grows : Grows P) (ups : List Back) (h : Hop) (w : World) → Sees ups h w → Answered P ups (hop.run largest (rounds.all_to_end h) h) (run limits (all_to_end choice client w) w)
+    reads P grows ups h w x =
         let r = x.receiver in
         let k = length r.line.down in
-        let all = reads_are k w r x.named x.alone in
+        let all = reads_are P grows k w r x.named x.alone in
         let later = run limits (times k (turn_of choice (to_end client))) w in
-        let y = reads_at number largest window ids birth ns h r w.broker x.at in
+        let y = reads_at number largest window ids birth ns P grows h r w.broker x.at in
         let last = hop.run largest (rounds.all_to_end h) h in
-        let q = all_read number largest window ids birth ns r w.broker k r in
-        let z : Answered ups last later = record {
+        let q = all_read number largest window ids birth ns P grows r w.broker k r in
+        let z : Answered P ups last later = record {
           ups = q.line.up;
           sees = record { receiver = q; named = all.0; alone = all.1; at = subst (At number largest window ids birth ns last q) (sym all.2) y.at; up = refl };
-          answering = λ a. y.answering (subst (AllByRecursion IsAnswer) (sym x.up) a);
+          answering = λ a. y.answering (subst P (sym x.up) a);
         } in
-        subst (λ (o : Option Receiver). Answered ups last (run limits (times (downs_by o) (turn_of choice (to_end client))) w)) (sym x.named) z
+        subst (λ (o : Option Receiver). Answered P ups last (run limits (times (downs_by o) (turn_of choice (to_end client))) w)) (sym x.named) z
 
     -- ---- the broker reads
 
@@ -187,7 +188,7 @@ module _ (limits : Limits) (choice : MemberChoice) (client : List ℕ) where
           at = y.at;
           up = y.up;
         } in
-        subst (Sees rest (step largest h (hop.to_broker false))) (sym (answer_is w r n a rest x.named x.alone x.at.connected.number x.up)) z
+        subst (Sees rest (step largest h (hop.to_broker false))) (sym (back_is w r n (answers a) rest x.named x.alone x.at.connected.number x.up)) z
 
     pub brokers_from : (ups : List Back) (h : Hop) (w : World) → Sees ups h w → AllByRecursion IsAnswer ups → Sees [] (hop.run largest (times (length ups) (hop.to_broker false)) h) (run limits (times (length ups) (turn_of choice (ask (to_broker client)))) w)
     brokers_from [] h w x a = x
@@ -232,7 +233,7 @@ module _ (limits : Limits) (choice : MemberChoice) (client : List ℕ) where
         let h2 = hop.run largest (rounds.all_to_end h1) h1 in
         let ups = x.receiver.line.up in
         let x1 = pumps ups h w (record { receiver = x.receiver; named = x.may.named; alone = x.may.alone; at = at_of h w x; up = refl }) in
-        let x2 = reads ups h1 sent x1 in
+        let x2 = reads (AllByRecursion IsAnswer) (record { none = tt; more = λ us a all. each_append IsAnswer us (answers a ∷ []) all (tt, tt) }) ups h1 sent x1 in
         let h3 = hop.run largest (rounds.all_to_broker h2) h2 in
         let x3 : Comes h3 (run limits (all_to_broker choice client was) was) = sees_comes h3 (run limits (all_to_broker choice client was) was) (brokers x2.ups h2 was x2.sees (x2.answering x.may.answering)) in
         let split : after_round limits choice client w ≡ run limits (all_to_broker choice client was) was = run_append limits ends (all_to_broker choice client was) sent in
