@@ -1,6 +1,6 @@
 -- A receiver that is connected and in step reads all that is under way to it: it is so again; what it sees is its hop's receiver
 -- reading all.
-use Rattle.std.proofs.Common.{◌≡◌, ◌⊎◌, inl, inr, ℕ, zero, suc, ◌≤◌, Bool, true, false, cond, if◌then◌else◌, List, [], ◌∷◌, length, map, Option, Some, None, nat_lt, refl, sym, ap, subst, ◌∙◌, arith}
+use Rattle.std.proofs.Common.{◌≡◌, ◌⊎◌, inl, inr, ℕ, zero, suc, ◌≤◌, Bool, true, false, cond, if◌then◌else◌, List, [], ◌∷◌, ◌++◌, length, map, Option, Some, None, nat_lt, refl, sym, ap, subst, ◌∙◌, arith}
 use Rattle.std.specs.Prelude.{filter_map, is_some}
 use Rattle.std.specs.List.{AllByRecursion}
 use Rattle.mqtt_base.specs.declared.session.CopyId.{CopyId}

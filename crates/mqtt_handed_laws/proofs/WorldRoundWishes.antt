@@ -37,7 +37,7 @@ use Rattle.mqtt_handed_laws.specs.Handing.{receiver_after}
 use Rattle.mqtt_handed_laws.specs.Own.{IsBroughtCopy}
 use Rattle.mqtt_handed_laws.specs.Seen.{Numbering}
 use Rattle.mqtt_handed_laws.specs.Served.{IsTidy}
-use Rattle.mqtt_handed_laws.specs.WorldRounds.{IsConnected}
+use Rattle.mqtt_handed_laws.specs.WorldRounds.{AreTold, IsConnected, IsOlder}
 use Rattle.mqtt_handed_laws.proofs.OwnSubscribes.{wished}
 use Rattle.mqtt_handed_laws.proofs.WorldRoundSteps.{called_again, is_linked_now, listens_now, stays_up}
 
@@ -81,15 +81,12 @@ quiet_subscribe false env line s p b =
     let a = sub.filter_answers env s.birth (number_at SubscriptionIdentifier p.properties) p.subscriptions b in
     let answer = offer (line_at line b) (suback p.identifier a.codes) in
     let late = flat_map (λ (d : CopyTo). sub.late_sends line b.now d b) a.late in
-    let c = after_all a.deeds b in
-    good_append IsQuiet a.deeds (answer ++ late) b (quiet_filters env s.birth (number_at SubscriptionIdentifier p.properties) p.subscriptions b)
-    (good_append IsQuiet answer late c (quiet_offer (line_at line b) (suback p.identifier a.codes) c) (quiet_late line b.now b (after_all answer c) a.late))
+    let c = after_all (a.deeds ++ answer) b in
+    good_append IsQuiet (a.deeds ++ answer) late b
+    (good_append IsQuiet a.deeds answer b (quiet_filters env s.birth (number_at SubscriptionIdentifier p.properties) p.subscriptions b) (quiet_offer (line_at line b) (suback p.identifier a.codes) (after_all a.deeds b)))
+    (quiet_late line b.now b c a.late)
 
 -- ---- copies that are brought differ from those before them
-
--- for a filter that was granted before
-abbrev pub IsOlder : ℕ → CopyId → Type 0
-IsOlder subscribes id = (n : ℕ) → id.cause ≡ Retained n → n ≤ subscribes
 
 unlike : (birth subscribes : ℕ) (id : CopyId) (more : List CopyId) → IsOlder subscribes id → AllByRecursion (IsBroughtCopy birth (suc subscribes)) more → AllByRecursion (λ (y : CopyId). id ≢ y) more
 unlike birth subscribes id [] older new = tt
@@ -101,12 +98,6 @@ apart_from birth subscribes [] more older new = tt
 apart_from birth subscribes (x ∷ ids) more older new = (unlike birth subscribes x more older.0 new, apart_from birth subscribes ids more older.1 new)
 
 -- ---- the step
-
--- copies that differ, and retained messages that do; those of filters are of such as were granted
-pub record AreTold (ids : List CopyId) (b : Broker) : Type 0 where
-  pub differ : AllDiffer ids
-  pub older : AllByRecursion (IsOlder b.records.subscribes) ids
-  pub retained : AllDiffer (map number_of b.records.retained)
 
 module _ (number : Numbering) (largest window : ℕ) (ids : List CopyId) (birth : ℕ) (ns : List ℕ) where
   abbrev asking : Receiver → ℕ → Wish → Call

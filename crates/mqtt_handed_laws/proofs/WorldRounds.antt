@@ -1,5 +1,5 @@
 -- Rounds of a drain of the world are rounds of its receiver's hop, so that it ends as the hop's does.
-use Rattle.std.proofs.Common.{◌≡◌, inl, inr, ⊎_elim, ℕ, zero, suc, ◌*◌, ◌≤◌, Bool, true, false, cond, not, ◌||◌, List, [], ◌∷◌, length, map, Option, Some, None, bytes_eq, refl, sym, ap, subst, ◌∙◌, arith}
+use Rattle.std.proofs.Common.{◌≡◌, inl, inr, ⊎_elim, ℕ, zero, suc, ◌*◌, ◌≤◌, Bool, true, false, cond, not, ◌||◌, List, [], ◌∷◌, ◌++◌, length, map, Option, Some, None, bytes_eq, refl, sym, ap, subst, ◌∙◌, append-nil, arith}
 use Rattle.std.specs.Prelude.{find, filter_map, is_some, option_map, slice_get}
 use Rattle.std.specs.List.{AllByRecursion}
 use Rattle.std.proofs.lemmas.Bool.{cases_Bool}
@@ -8,9 +8,10 @@ use Rattle.mqtt_flow.specs.OutboundWorld.{Lot, World as Hop, queue_of, step}
 use Rattle.mqtt_flow.specs.OutboundWorld as hop
 use Rattle.mqtt_flow.specs.Receiver.{Answer}
 use Rattle.mqtt_inbound.proofs.Identifiers.{test_cases}
-use Rattle.mqtt_laws.specs.Ends.{Back, Publisher, Receiver, answers, asks_for, publisher_reads, receiver_reads, wire_back}
+use Rattle.mqtt_laws.specs.Ends.{Back, Publisher, Receiver, Wish, answers, asks_for, publisher_reads, receiver_reads, wire_back}
+use Rattle.mqtt_message.specs.declared.message.RetainedMessage.{RetainedMessage}
 use Rattle.mqtt_laws.specs.Lines.{stands}
-use Rattle.mqtt_laws.specs.Run.{run, turned}
+use Rattle.mqtt_laws.specs.Run.{Turn, run, turned}
 use Rattle.mqtt_laws.specs.World.{Setting, World, ask, calls, end_reads, publisher_named, publisher_told, pump, receiver_named, receiver_told, taken_up, to_broker, to_end, with_line}
 use Rattle.mqtt_rows.specs.Distinct.{AllDiffer}
 use Rattle.mqtt_rules.proofs.Copies.{each_append}
@@ -21,21 +22,25 @@ use Rattle.mqtt_rules.specs.declared.Limits.{Limits}
 use Rattle.mqtt_world_laws.proofs.Ends.{find_publisher, find_receiver, named_receiver, only_receiver}
 use Rattle.mqtt_handed_laws.specs.Drains.{after_round, all_to_broker, all_to_end, copies_by, copies_left, downs_by, drain_turns, drained, enough_rounds, is_none_left, is_over, line_stands, round_turns, rounds_taken, times, turn_of, ups_by}
 use Rattle.mqtt_handed_laws.specs.Handing.{IsRun}
+use Rattle.mqtt_handed_laws.specs.Own.{IsBroughtCopy}
 use Rattle.mqtt_handed_laws.specs.Rounds as rounds
 use Rattle.mqtt_handed_laws.specs.Rounds.{EndsBy}
 use Rattle.mqtt_handed_laws.specs.Seen.{Numbering, answered, seen}
-use Rattle.mqtt_handed_laws.specs.Served.{RunsWithAll}
+use Rattle.mqtt_handed_laws.specs.Served.{IsTidy, RunsWithAll}
 use Rattle.mqtt_handed_laws.specs.Tags.{id_of}
-use Rattle.mqtt_handed_laws.specs.WorldRounds.{ComesTo, IsAnswer, IsDrained, MayDrain, moment_of, moments_of}
+use Rattle.mqtt_handed_laws.specs.WorldRounds.{AreTold, AsksOnce, ComesTo, DrainsWith, IsAnswer, IsOlder, MayAsk, IsDrained, MayDrain, moment_of, moments_of}
 use Rattle.mqtt_handed_laws.proofs.Answering.{named_now, standing_by}
 use Rattle.mqtt_handed_laws.proofs.DrainCauses.{causes_of_run}
 use Rattle.mqtt_handed_laws.proofs.DrainRuns.{run_append}
 use Rattle.mqtt_handed_laws.proofs.Numbers.{place_of, places_number}
 use Rattle.mqtt_handed_laws.proofs.OwnDoings.{keeps_reading}
 use Rattle.mqtt_handed_laws.proofs.RoundFurther.{drain_empties, round_run, rounds_within, two_each}
+use Rattle.mqtt_handed_laws.proofs.Stopping.{step_tidy}
 use Rattle.mqtt_handed_laws.proofs.Turns.{same_entries}
+use Rattle.mqtt_handed_laws.proofs.WorldRoundLines.{HasSame}
+use Rattle.mqtt_handed_laws.proofs.WorldRoundWishes.{wish_at}
 use Rattle.mqtt_handed_laws.proofs.WorldRoundReads.{Grows, all_read, reads_at}
-use Rattle.mqtt_handed_laws.proofs.WorldRoundSteps.{At, answer_at, hop_linked, listens_now, pump_at, pump_up}
+use Rattle.mqtt_handed_laws.proofs.WorldRoundSteps.{At, answer_at, hop_linked, listens_now, pump_at, pump_same, pump_up}
 
 -- ---- who is found by the name, where one is changed
 
@@ -210,6 +215,11 @@ module _ (limits : Limits) (choice : MemberChoice) (client : List ℕ) where
         subst (λ (j : ℕ). Sees [] (hop.run largest (rounds.all_to_broker h) h) (run limits (times j (turn_of choice (ask (to_broker client)))) w)) (sym last)
         (subst (λ (j : ℕ). Sees [] (hop.run largest (times j (hop.to_broker false)) h) (run limits (times (length ups) (turn_of choice (ask (to_broker client)))) w)) (sym many) y)
 
+    reads_broker : (ups : List Back) (h : Hop) (w : World) → Sees ups h w → (run limits (all_to_end choice client w) w).broker ≡ w.broker
+    reads_broker ups h w x =
+        subst (λ (o : Option Receiver). (run limits (times (downs_by o) (turn_of choice (to_end client))) w).broker ≡ w.broker) (sym x.named)
+        (reads_are (AllByRecursion IsAnswer) (record { none = tt; more = λ us a all. each_append IsAnswer us (answers a ∷ []) all (tt, tt) }) (length x.receiver.line.down) w x.receiver x.named x.alone).2
+
     -- nothing is under way from it
     pub sees_comes : (h : Hop) (w : World) → Sees [] h w → Comes h w
     sees_comes h w x = record {
@@ -290,6 +300,135 @@ module _ (limits : Limits) (choice : MemberChoice) (client : List ℕ) where
     pub moments_length : (most : ℕ) (w : World) → length (moments_of limits choice client most w) ≡ most
     moments_length zero w = refl
     moments_length (suc more) w = ap suc (moments_length more (after_round limits choice client w))
+
+-- ---- the first round, where a SUBSCRIBE is under way
+
+-- tables are in order, and copies differ; so many filters were granted
+record Orderly (limits : Limits) (ids : List CopyId) (granted : ℕ) (w : World) : Type 0 where
+  pub tidy : IsTidy limits w.broker
+  pub told : AreTold ids w.broker
+  pub granted_is : w.broker.records.subscribes ≡ granted
+
+orderly_on : (limits : Limits) (ids : List CopyId) (granted : ℕ) (w v : World) → IsTidy limits v.broker → HasSame w.broker v.broker → Orderly limits ids granted w → Orderly limits ids granted v
+orderly_on limits ids granted w v tidy same o = record {
+  tidy = tidy;
+  told = record {
+    differ = o.told.differ;
+    older = subst (λ (j : ℕ). AllByRecursion (IsOlder j) ids) (sym same.subscribes) o.told.older;
+    retained = subst (λ (ks : List RetainedMessage). AllDiffer (map (λ (k : RetainedMessage). k.publication) ks)) (sym same.retained) o.told.retained;
+  };
+  granted_is = same.subscribes ∙ o.granted_is;
+}
+
+once_more : (up : List Back) (a : Answer) → AsksOnce up → AsksOnce (up ++ answers a ∷ [])
+once_more [] a h = tt
+once_more (answers b ∷ up) a h = once_more up a h
+once_more (asks_for w ∷ up) a h = each_append IsAnswer up (answers a ∷ []) h (tt, tt)
+
+module _ (limits : Limits) (choice : MemberChoice) (client : List ℕ) (number : Numbering) (largest window : ℕ) (ids : List CopyId) (birth : ℕ) (ns : List ℕ) (granted : ℕ) where
+  abbrev sends : Turn
+  sends = turn_of choice (ask (pump client))
+
+  abbrev reads_back : Turn
+  reads_back = turn_of choice (ask (to_broker client))
+
+  pump_orderly : (ups : List Back) (h : Hop) (w : World) → Here number largest window ids birth ns client ups h w → Orderly limits ids granted w → Orderly limits ids granted (turned limits sends w)
+  pump_orderly ups h w x o =
+      let n = x.at.connected.line.number in
+      let later = calls (record { limits = limits; choice = choice }) (Pump n) w in
+      subst (Orderly limits ids granted) (sym (pump_is limits choice client w x.receiver n x.named x.alone x.at.connected.number))
+      (orderly_on limits ids granted w later (step_tidy limits choice w.now (Pump n) w.broker o.tidy) (pump_same number largest window ids birth ns limits choice w.now x.receiver w.broker x.at.connected) o)
+
+  answer_orderly : (a : Answer) (rest : List Back) (h : Hop) (w : World) → Here number largest window ids birth ns client (answers a ∷ rest) h w → Orderly limits ids granted w → Orderly limits ids granted (turned limits reads_back w)
+  answer_orderly a rest h w x o =
+      let r = x.receiver in
+      let n = x.at.connected.line.number in
+      let call = Input n (wire_back r.client r.window (answers a)) in
+      let later = calls (record { limits = limits; choice = choice }) call (taken_off limits choice client w) in
+      subst (Orderly limits ids granted) (sym (back_is limits choice client w r n (answers a) rest x.named x.alone x.at.connected.number x.up))
+      (orderly_on limits ids granted w later (step_tidy limits choice w.now call w.broker o.tidy) (answer_at number largest window ids birth ns limits choice w.now a rest h r w.broker x.at x.up).same o)
+
+  -- the SUBSCRIBE is read, and what is behind it
+  wish_read : (u : Wish) (rest : List Back) (h : Hop) (w : World) → Here number largest window ids birth ns client (asks_for u ∷ rest) h w → Orderly limits ids granted w → AllByRecursion IsAnswer rest
+      → DrainsWith largest window ids birth ns client (suc granted) (run limits (times (length rest) reads_back) (turned limits reads_back w))
+  wish_read u rest h w x o all =
+      let r = x.receiver in
+      let n = x.at.connected.line.number in
+      let call = Input n (wire_back r.client r.window (asks_for u)) in
+      let set : Setting = record { limits = limits; choice = choice } in
+      let before = taken_off limits choice client w in
+      let later = calls set call before in
+      let y = wish_at number largest window ids birth ns limits choice w.now u rest r w.broker x.at.connected o.tidy o.told x.up in
+      let q = record r { line = taken_up r.line } in
+      let found : receiver_named client before ≡ Some q = receiver_changed client (λ (s : Receiver). record s { line = taken_up s.line }) r w.receivers (λ s. refl) x.named in
+      let nobody : publisher_named client before ≡ None = none_changed (λ (p : Publisher). bytes_eq p.client client) (λ (p : Publisher). record p { line = taken_up p.line }) w.publishers x.alone in
+      let ids2 = ids ++ y.more in
+      let number2 = place_of ids2 in
+      let k = y.connected.in_step.runs number2 (places_number ids2 y.differ) in
+      let last = receiver_told later.broker (told limits choice w.now call w.broker) q in
+      let hop2 = seen number2 k.after last later.broker in
+      let z : Here number2 largest window ids2 birth ns client rest hop2 later = record {
+        receiver = last;
+        named = receiver_called_is client set call before q found;
+        alone = publisher_called_is client set call before nobody;
+        at = record { connected = y.connected; copies = k.after; same = k.same; run_is = k.run_is; seen_is = refl };
+        up = y.up;
+      } in
+      let end = hop.run largest (times (length rest) (hop.to_broker false)) hop2 in
+      let there = run limits (times (length rest) reads_back) later in
+      let c = sees_comes limits choice client number2 largest window ids2 birth ns end there (brokers_from limits choice client number2 largest window ids2 birth ns rest hop2 later z all) in
+      subst (λ (v : World). DrainsWith largest window ids birth ns client (suc granted) (run limits (times (length rest) reads_back) v)) (sym (back_is limits choice client w r n (asks_for u) rest x.named x.alone x.at.connected.number x.up))
+      (record { more = y.more; new = subst (λ (j : ℕ). AllByRecursion (IsBroughtCopy birth (suc j)) y.more) o.granted_is y.new; differ = y.differ; receiver = c.receiver; may = c.may })
+
+  all_back : (ups : List Back) (h : Hop) (w : World) → Here number largest window ids birth ns client ups h w → Orderly limits ids granted w → AsksOnce ups
+      → DrainsWith largest window ids birth ns client (suc granted) (run limits (times (length ups) reads_back) w)
+  all_back [] h w x o once =
+      let c = sees_comes limits choice client number largest window ids birth ns h w x in
+      let none : ids ++ [] ≡ ids = append-nil ids in
+      record {
+        more = [];
+        new = tt;
+        differ = subst AllDiffer (sym none) o.told.differ;
+        receiver = c.receiver;
+        may = subst (λ (all : List CopyId). MayDrain largest window all birth ns client c.receiver w) (sym none) c.may;
+      }
+  all_back (asks_for u ∷ rest) h w x o once = wish_read u rest h w x o once
+  all_back (answers a ∷ rest) h w x o once =
+      all_back rest (step largest h (hop.to_broker false)) (turned limits reads_back w) (answers_one limits choice client number largest window ids birth ns a rest h w x) (answer_orderly a rest h w x o) once
+
+pub first_round : (largest window : ℕ) (ids : List CopyId) (birth : ℕ) (ns : List ℕ) (limits : Limits) (choice : MemberChoice) (client : List ℕ) (r : Receiver) (w : World) → MayAsk limits largest window ids birth ns client r w
+    → DrainsWith largest window ids birth ns client (suc w.broker.records.subscribes) (after_round limits choice client w)
+first_round largest window ids birth ns limits choice client r w may =
+    let number = place_of ids in
+    let k = may.connected.in_step.runs number (places_number ids may.told.differ) in
+    let h = seen number k.after r w.broker in
+    let granted = w.broker.records.subscribes in
+    let ups = r.line.up in
+    let sent = run limits (turn_of choice (ask (pump client)) ∷ []) w in
+    let h1 = step largest h (hop.pump window (moment_of w)) in
+    let ends = all_to_end choice client sent in
+    let was = run limits ends sent in
+    let h2 = hop.run largest (rounds.all_to_end h1) h1 in
+    let x0 : Here number largest window ids birth ns client ups h w = record {
+      receiver = r;
+      named = may.named;
+      alone = may.alone;
+      at = record { connected = may.connected; copies = k.after; same = k.same; run_is = k.run_is; seen_is = refl };
+      up = refl;
+    } in
+    let o0 : Orderly limits ids granted w = record { tidy = may.tidy; told = may.told; granted_is = refl } in
+    let x1 = pumps limits choice client number largest window ids birth ns ups h w x0 in
+    let o1 = pump_orderly limits choice client number largest window ids birth ns granted ups h w x0 o0 in
+    let x2 = reads limits choice client number largest window ids birth ns AsksOnce (record { none = tt; more = once_more }) ups h1 sent x1 in
+    let same : was.broker ≡ sent.broker = reads_broker limits choice client number largest window ids birth ns ups h1 sent x1 in
+    let o2 : Orderly limits ids granted was =
+    orderly_on limits ids granted sent was (subst (IsTidy limits) (sym same) o1.tidy) (record { retained = ap (λ (b : Broker). b.records.retained) same; subscribes = ap (λ (b : Broker). b.records.subscribes) same }) o1 in
+    let y = all_back limits choice client number largest window ids birth ns granted x2.ups h2 was x2.sees o2 (x2.answering may.asking) in
+    let last : ups_by (receiver_named client was) ≡ length x2.ups = ap ups_by x2.sees.named ∙ ap length x2.sees.up in
+    let z : DrainsWith largest window ids birth ns client (suc granted) (run limits (all_to_broker choice client was) was) =
+    subst (λ (j : ℕ). DrainsWith largest window ids birth ns client (suc granted) (run limits (times j (turn_of choice (ask (to_broker client)))) was)) (sym last) y in
+    let split : after_round limits choice client w ≡ run limits (all_to_broker choice client was) was = run_append limits ends (all_to_broker choice client was) sent in
+    subst (DrainsWith largest window ids birth ns client (suc granted)) (sym split) z
 
 -- ---- the laws
 

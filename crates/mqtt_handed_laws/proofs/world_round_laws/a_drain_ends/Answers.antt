@@ -1,5 +1,4 @@
 -- Round by round, the receiver's hop is drained.
-use Rattle.mqtt_handed_laws.proofs.WorldRoundWishes.{wish_at}
 use Rattle.mqtt_handed_laws.proofs.WorldRounds.{drain_is, drain_is_empty, drain_is_within, drain_over_later, drain_within_later}
 use Rattle.mqtt_handed_laws.proofs.world_round_laws.a_drain_ends.Goals as goal
 
