@@ -2,7 +2,6 @@
 -- reading all.
 use Rattle.std.proofs.Common.{◌≡◌, ◌⊎◌, inl, inr, ℕ, zero, suc, ◌≤◌, Bool, true, false, cond, if◌then◌else◌, List, [], ◌∷◌, ◌++◌, length, map, Option, Some, None, nat_lt, refl, sym, ap, subst, ◌∙◌, arith}
 use Rattle.std.specs.Prelude.{filter_map, is_some}
-use Rattle.std.specs.List.{AllByRecursion}
 use Rattle.mqtt_base.specs.declared.session.CopyId.{CopyId}
 use Rattle.mqtt_codec.specs.declared.packet.Packet.{Packet}
 use Rattle.mqtt_codec.specs.declared.packet.Packet.TheVariants as packet
@@ -21,7 +20,6 @@ use Rattle.mqtt_handed_laws.specs.Handing.{IsRun}
 use Rattle.mqtt_handed_laws.specs.Own.{IsInStep}
 use Rattle.mqtt_handed_laws.specs.Seen.{Numbering, heard_in, seen}
 use Rattle.mqtt_handed_laws.specs.Tags.{id_of}
-use Rattle.mqtt_handed_laws.specs.WorldRounds.{IsAnswer}
 use Rattle.mqtt_handed_laws.proofs.Doings.{doing_reads, first_reads, reads_by, reads_seen}
 use Rattle.mqtt_handed_laws.proofs.OwnDoings.{Keeps, keeps_reading, reads_in_step}
 use Rattle.mqtt_handed_laws.proofs.RoundPhases.{ends_back}

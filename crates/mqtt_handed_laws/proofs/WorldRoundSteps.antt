@@ -35,7 +35,7 @@ use Rattle.mqtt_handed_laws.specs.Own.{IsInStep, Listens}
 use Rattle.mqtt_handed_laws.specs.Seen.{Numbering, answered, seen}
 use Rattle.mqtt_handed_laws.specs.Served.{IsOwnLine}
 use Rattle.mqtt_handed_laws.specs.Tags.{id_of}
-use Rattle.mqtt_handed_laws.specs.WorldRounds.{IsAnswer, IsConnected}
+use Rattle.mqtt_handed_laws.specs.WorldRounds.{IsConnected}
 use Rattle.mqtt_handed_laws.proofs.Answering.{puback_follows, pubcomp_follows, pubrec_follows, same_queue, shut_by, standing_by}
 use Rattle.mqtt_handed_laws.proofs.Follows.{Follows, run_follows}
 use Rattle.mqtt_handed_laws.proofs.Further.{Reached, heard_up}

@@ -1,21 +1,18 @@
 -- A receiver that is connected and in step: the broker reads its SUBSCRIBE, and it is so again, with the copies of retained
 -- messages that the filter brings.
-use Rattle.std.proofs.Common.{◌≡◌, ℕ, suc, ◌≤◌, Bool, true, false, cond, List, [], ◌∷◌, ◌++◌, drop, map, Option, Some, None, refl, sym, ap, subst, ◌∙◌, arith}
+use Rattle.std.proofs.Common.{◌≡◌, ℕ, suc, Bool, true, false, cond, List, [], ◌∷◌, ◌++◌, drop, map, Option, Some, None, refl, sym, ap, subst, ◌∙◌, arith}
 use Rattle.std.specs.Prelude.{◌≢◌, flat_map, nat_le, option_map}
 use Rattle.std.specs.List.{AllByRecursion}
-use Rattle.mqtt_base.specs.declared.session.Cause.TheVariants.{Retained}
 use Rattle.mqtt_base.specs.declared.session.CopyId.{CopyId}
 use Rattle.mqtt_codec.specs.declared.packet.Packet.{Packet}
 use Rattle.mqtt_codec.specs.Subscriptions.{Subscription as Asked}
 use Rattle.mqtt_base.specs.Codes.{identifier_in_use}
 use Rattle.mqtt_inbound.specs.Identifiers.{is_among}
 use Rattle.mqtt_laws.specs.Ends.{Back, Receiver, Wish, asks_for, wire_back}
-use Rattle.mqtt_laws.specs.Lines.{is_one_of}
 use Rattle.mqtt_laws.specs.Seen.{is_linked}
 use Rattle.mqtt_laws.proofs.OwnStep.{heard_of, input_is}
 use Rattle.mqtt_laws.proofs.Quiet.{session_on}
 use Rattle.mqtt_laws.proofs.Seeing.{done_lines, linked_is, linked_of}
-use Rattle.mqtt_message.specs.declared.message.RetainedMessage.{RetainedMessage}
 use Rattle.mqtt_props.specs.declared.table.PropName.TheVariants.{SubscriptionIdentifier}
 use Rattle.mqtt_records.specs.declared.session.Session.{Session}
 use Rattle.mqtt_rows.specs.Distinct.{AllDiffer}
@@ -23,7 +20,7 @@ use Rattle.mqtt_rules.proofs.Acts.{brought_to}
 use Rattle.mqtt_rules.proofs.Goods.{AreGood, good_append}
 use Rattle.mqtt_rules.proofs.LineActs.{quiet_grants}
 use Rattle.mqtt_rules.proofs.LineRows.{IsQuiet, leaves, still_quiet}
-use Rattle.mqtt_rules.specs.Deeds.{Deed, Hear, On, Send, after_all, offer, rows_of_all}
+use Rattle.mqtt_rules.specs.Deeds.{Deed, Send, after_all, offer, rows_of_all}
 use Rattle.mqtt_rules.specs.Packets.{number_at, publish_of, size_of, suback}
 use Rattle.mqtt_rules.specs.Routing.{CopyTo}
 use Rattle.mqtt_rules.specs.State.{Line as BrokerLine, Broker, Env, MemberChoice, line_at, session_at}
@@ -31,7 +28,6 @@ use Rattle.mqtt_rules.specs.Step.{Call, Input, at_moment, deeds, env_of, next_pa
 use Rattle.mqtt_rules.specs.Subscribe as sub
 use Rattle.mqtt_rules.specs.declared.Limits.{Limits}
 use Rattle.mqtt_subscribe.specs.declared.subscribe.Subscribe.{Subscribe as Asking}
-use Rattle.mqtt_world_laws.proofs.CopiesApart.{number_of}
 use Rattle.mqtt_world_laws.proofs.Differ.{AreApart, differ_join}
 use Rattle.mqtt_handed_laws.specs.Handing.{receiver_after}
 use Rattle.mqtt_handed_laws.specs.Own.{IsBroughtCopy}
@@ -39,7 +35,7 @@ use Rattle.mqtt_handed_laws.specs.Seen.{Numbering}
 use Rattle.mqtt_handed_laws.specs.Served.{IsTidy}
 use Rattle.mqtt_handed_laws.specs.WorldRounds.{AreTold, IsConnected, IsOlder}
 use Rattle.mqtt_handed_laws.proofs.OwnSubscribes.{wished}
-use Rattle.mqtt_handed_laws.proofs.WorldRoundSteps.{called_again, is_linked_now, listens_now, stays_up}
+use Rattle.mqtt_handed_laws.proofs.WorldRoundSteps.{called_again, listens_now, stays_up}
 
 -- ---- its deeds connect, close and end nobody
 

@@ -55,5 +55,5 @@ pub use round_laws::{
 };
 pub use served_laws::{a_late_connect_is_a_step_of_the_hop, calls_of_others_are_steps_of_the_hop};
 pub use world_round_laws::{
-    a_drain_ends, a_round_of_a_drain_is_one_of_the_hop, a_subscribe_is_read_in_the_first_round,
+    a_drain_ends, a_drain_with_a_subscribe_ends, a_round_of_a_drain_is_one_of_the_hop,
 };

@@ -57,14 +57,25 @@ pub fn a_drain_ends()
         → is_over client (drained limits choice client most w) ≡ true }
 {}
 
-/// Where a SUBSCRIBE is under way from it, and no copy or retained message is there twice, a receiver that is in step and
-/// connected may be drained after a round: the copies of retained messages that the filter brings are behind those that
-/// entered before, and no two copies are one. So the drain of it is one that may be begun later (`a_drain_ends`), and of
-/// the copies that stand after its first round twice their number and one of rounds are enough (3.3.1.3, 3.8.4).
-pub fn a_subscribe_is_read_in_the_first_round()
+/// Where one SUBSCRIBE is under way from it too, a receiver that is in step and connected may be drained after the first
+/// round, and the copies of retained messages that the filter brings stand behind those that entered before; no two copies
+/// are one, where none were and no two retained messages are of one publication. So of the copies that stand after the
+/// first round, twice their number and one of rounds are enough: then its queue is empty, or the broker has closed its line
+/// (3.3.1.3, 3.8.4).
+pub fn a_drain_with_a_subscribe_ends()
     ensures first { (largest window : ℕ) (ids : List CopyId) (birth : ℕ) (ns : List ℕ) (limits : Limits)
         → (choice : MemberChoice) (client : List ℕ) (r : Receiver) (w : World)
         → MayAsk limits largest window ids birth ns client r w
         → DrainsWith largest window ids birth ns client (suc w.broker.records.subscribes)
         (after_round limits choice client w) }
+    ensures is_within { (largest window : ℕ) (ids : List CopyId) (birth : ℕ) (ns : List ℕ) (limits : Limits)
+        → (choice : MemberChoice) (client : List ℕ) (most : ℕ) (r : Receiver) (w : World) → 1 ≤ window
+        → MayAsk limits largest window ids birth ns client r w
+        → rounds_taken limits choice client most w
+        ≤ enough_rounds (copies_left client (after_round limits choice client w)) }
+    ensures is_over { (largest window : ℕ) (ids : List CopyId) (birth : ℕ) (ns : List ℕ) (limits : Limits)
+        → (choice : MemberChoice) (client : List ℕ) (most : ℕ) (r : Receiver) (w : World) → 1 ≤ window
+        → MayAsk limits largest window ids birth ns client r w
+        → enough_rounds (copies_left client (after_round limits choice client w)) ≤ most
+        → is_over client (drained limits choice client most w) ≡ true }
 {}
