@@ -73,6 +73,11 @@ module _ (client : List ℕ) (set : Setting) (call : Call) (w : World) where
   pub publisher_called_is : publisher_named client w ≡ None → publisher_named client (calls set call w) ≡ None
   publisher_called_is e = find_publisher client (publisher_told new out) (λ p. refl) w.publishers ∙ ap (option_map (publisher_told new out)) e
 
+-- ---- what is about copies stays so with an answer more
+
+answers_grow : Grows (AllByRecursion IsAnswer)
+answers_grow = record { none = tt; more = λ up a all. each_append IsAnswer up (answers a ∷ []) all (tt, tt) }
+
 -- ---- the receiver of the name, with the hop that is seen and what is under way from it
 
 pub record Here (number : Numbering) (largest window : ℕ) (ids : List CopyId) (birth : ℕ) (ns : List ℕ) (client : List ℕ) (ups : List Back) (h : Hop) (w : World) : Type 0 where
@@ -218,7 +223,7 @@ module _ (limits : Limits) (choice : MemberChoice) (client : List ℕ) where
     reads_broker : (ups : List Back) (h : Hop) (w : World) → Sees ups h w → (run limits (all_to_end choice client w) w).broker ≡ w.broker
     reads_broker ups h w x =
         subst (λ (o : Option Receiver). (run limits (times (downs_by o) (turn_of choice (to_end client))) w).broker ≡ w.broker) (sym x.named)
-        (reads_are (AllByRecursion IsAnswer) (record { none = tt; more = λ us a all. each_append IsAnswer us (answers a ∷ []) all (tt, tt) }) (length x.receiver.line.down) w x.receiver x.named x.alone).2
+        (reads_are (AllByRecursion IsAnswer) answers_grow (length x.receiver.line.down) w x.receiver x.named x.alone).2
 
     -- nothing is under way from it
     pub sees_comes : (h : Hop) (w : World) → Sees [] h w → Comes h w
@@ -243,7 +248,7 @@ module _ (limits : Limits) (choice : MemberChoice) (client : List ℕ) where
         let h2 = hop.run largest (rounds.all_to_end h1) h1 in
         let ups = x.receiver.line.up in
         let x1 = pumps ups h w (record { receiver = x.receiver; named = x.may.named; alone = x.may.alone; at = at_of h w x; up = refl }) in
-        let x2 = reads (AllByRecursion IsAnswer) (record { none = tt; more = λ us a all. each_append IsAnswer us (answers a ∷ []) all (tt, tt) }) ups h1 sent x1 in
+        let x2 = reads (AllByRecursion IsAnswer) answers_grow ups h1 sent x1 in
         let h3 = hop.run largest (rounds.all_to_broker h2) h2 in
         let x3 : Comes h3 (run limits (all_to_broker choice client was) was) = sees_comes h3 (run limits (all_to_broker choice client was) was) (brokers x2.ups h2 was x2.sees (x2.answering x.may.answering)) in
         let split : after_round limits choice client w ≡ run limits (all_to_broker choice client was) was = run_append limits ends (all_to_broker choice client was) sent in
