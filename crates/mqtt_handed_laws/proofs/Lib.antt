@@ -46,8 +46,10 @@ pub mod Unsent
 pub mod RoundFurther
 pub mod DrainCauses
 pub mod HopRounds
+pub mod Numbers
 pub mod WorldRoundLines
 pub mod WorldRoundSteps
 pub mod WorldRoundReads
+pub mod WorldRoundWishes
 pub mod WorldRounds
 pub mod DrainExamples

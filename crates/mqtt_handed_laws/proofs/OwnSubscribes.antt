@@ -36,6 +36,7 @@ use Rattle.mqtt_rules.proofs.FlightRows.{all_at, all_more, change_row-here, foun
 use Rattle.mqtt_rules.proofs.Goods.{after_append}
 use Rattle.mqtt_rules.proofs.OrderedEnters.{ShortQueues, enters, own_stay, still_short}
 use Rattle.mqtt_rules.proofs.OrderedQueues.{stay_is}
+use Rattle.mqtt_rows.specs.Distinct.{AllDiffer}
 use Rattle.mqtt_rules.specs.Deeds.{At, Count, Deed, Hear, On, Send, after, after_all, always, closing, offer, output, part_rows_of, rows_of_all, series, stored_after, whose, with_session}
 use Rattle.mqtt_rules.specs.Deeds as deeds
 use Rattle.mqtt_rules.specs.Laws.{HasTables}
@@ -49,6 +50,7 @@ use Rattle.mqtt_rules.specs.Subscribe as sub
 use Rattle.mqtt_rules.specs.declared.Limits.{Limits}
 use Rattle.mqtt_subscribe.specs.declared.subscribe.Subscribe.{Subscribe as Asking}
 use Rattle.mqtt_topic.specs.Filters.{is_filter}
+use Rattle.mqtt_world_laws.proofs.CopiesApart.{brought_differ, number_of, queued_differ}
 use Rattle.mqtt_handed_laws.specs.Entering.{AreKnown, IsReceiving}
 use Rattle.mqtt_handed_laws.specs.Calls.{IsLingering, turned_back}
 use Rattle.mqtt_handed_laws.specs.Handing.{IsListening, IsRun, receiver_after}
@@ -324,10 +326,11 @@ module _ (largest : ℕ) (env : Env) (small : env.limits.queue ≤ QUEUE_LIMIT) 
     pub new : AllByRecursion (IsBroughtCopy birth n) more
     pub going : Going more (after_all g.deeds b)
     pub hush : AllByRecursion IsHushed g.deeds
+    pub differ : AllDiffer (map number_of b.records.retained) → AllDiffer more
     pub late : AllByRecursion (λ (d : CopyTo). is_queued d ≡ false) g.late
 
   refuses : (code n : ℕ) (b : Broker) → Going [] b → Grants (sub.refused_filter code) n b
-  refuses code n b k = record { more = []; new = tt; going = k; hush = tt; late = tt }
+  refuses code n b k = record { more = []; new = tt; going = k; hush = tt; differ = λ apart. tt; late = tt }
 
   not_queued : (t : Bool) → (t ≡ true → ⊥) → t ≡ false
   not_queued true h = absurd (h refl)
@@ -394,6 +397,7 @@ module _ (largest : ℕ) (env : Env) (small : env.limits.queue ≤ QUEUE_LIMIT) 
         new = queued_new n all made;
         going = subst (Going (map id_in ds)) (sym (after_append first others b)) rest.going;
         hush = each_append IsHushed first others (tt, (tt, tt)) rest.hush;
+        differ = λ apart. queued_differ all (brought_differ w s b apart);
         late = late_ones all;
       }
 
@@ -446,6 +450,7 @@ module _ (largest : ℕ) (env : Env) (small : env.limits.queue ≤ QUEUE_LIMIT) 
     pub new : AllByRecursion (IsBroughtCopy birth n) more
     pub going : Going more (after_all ds b)
     pub hush : AllByRecursion IsHushed ds
+    pub differ : AllDiffer (map number_of b.records.retained) → AllDiffer more
 
   subscribes_by : (t : Bool) (line : ℕ) (s : Session) (w : Wish) (p : Asking) (a : Asked) (b : Broker) → p.subscriptions ≡ a ∷ [] → Going [] b → s.birth ≡ birth → session_at birth b.records ≡ Some s
       → Does (sub.subscribe_by t env line s p b) (sub.next_number b.records) b
@@ -453,7 +458,7 @@ module _ (largest : ℕ) (env : Env) (small : env.limits.queue ≤ QUEUE_LIMIT) 
       let packet = suback p.identifier (map (λ (x : Asked). identifier_in_use) p.subscriptions) in
       let tells = offer (line_at line b) packet in
       let q = telling_offer (line_at line b) packet tt in
-      record { more = []; new = tt; going = subst (Going []) (sym (telling_after tells b q)) k; hush = telling_hush tells q }
+      record { more = []; new = tt; going = subst (Going []) (sym (telling_after tells b q)) k; hush = telling_hush tells q; differ = λ apart. tt }
   subscribes_by false line s w p a b is k its at =
       let identifier = number_at SubscriptionIdentifier p.properties in
       let n = sub.next_number b.records in
@@ -475,6 +480,7 @@ module _ (largest : ℕ) (env : Env) (small : env.limits.queue ≤ QUEUE_LIMIT) 
         new = one.new;
         going = subst (Going one.more) (sym end) one.going;
         hush = each_append IsHushed front tells (each_append IsHushed g.deeds [] one.hush tt) (telling_hush tells q);
+        differ = one.differ;
       } in
       subst (λ (x : sub.FilterAnswers). Does (x.deeds ++ offer (line_at line b) (suback p.identifier x.codes) ++ flat_map (λ (d : CopyTo). sub.late_sends line b.now d b) x.late) n b) (sym of)
       (subst (λ (zs : List Deed). Does zs n b) (sym (append_assoc front (offer (line_at line b) (suback p.identifier (g.code ∷ []))) (flat_map (λ (d : CopyTo). sub.late_sends line b.now d b) (g.late ++ [])))) made)
@@ -491,6 +497,7 @@ record Brings (largest : ℕ) (ids : List CopyId) (limits : Limits) (choice : Me
   pub runs : RunsFor largest (ids ++ more) birth r (stepped limits choice now (asking w r n) b)
   pub served : IsServed r.client birth ns (stepped limits choice now (asking w r n) b)
   pub hush : AllByRecursion IsHushed (deeds_in limits choice now (asking w r n) b)
+  pub differ : AllDiffer (map number_of b.records.retained) → AllDiffer more
 
 -- with its session connected on the line of this receiver of its name
 brings : (largest : ℕ) (ids : List CopyId) (limits : Limits) (choice : MemberChoice) (now birth : ℕ) (ns : List ℕ) (w : Wish) (r there : Receiver) (l : BrokerLine) (s : Session) (b : Broker)
@@ -540,24 +547,37 @@ brings largest ids limits choice now birth ns w r there l s b k name a tidy =
       runs = λ number m. done_all number largest (ids ++ does.more) birth r rows last (whole.runs number m);
       served = moment_served r.client birth ns rows last whole.served;
       hush = hush;
+      differ = does.differ;
+    }
+
+-- the two are in step, with copies that differ, where no two retained messages are of one publication
+pub record Wished (largest : ℕ) (ids : List CopyId) (limits : Limits) (choice : MemberChoice) (now birth : ℕ) (ns : List ℕ) (w : Wish) (r : Receiver) (n : ℕ) (b : Broker) : Type 0 where
+  pub after : Subscribed largest ids birth ns (suc b.records.subscribes) (receiver_after limits choice now (Input n (wire_back r.client r.window (asks_for w))) r b) (stepped limits choice now (Input n (wire_back r.client r.window (asks_for w))) b)
+  pub differ : AllDiffer (map number_of b.records.retained) → AllDiffer after.more
+
+pub wished : (largest : ℕ) (ids : List CopyId) (limits : Limits) (choice : MemberChoice) (now birth : ℕ) (ns : List ℕ) (w : Wish) (rest : List Back) (r : Receiver) (l : BrokerLine) (s : Session) (b : Broker)
+    → IsInStep largest ids birth ns r b → IsListening r l s b → IsTidy limits b → r.line.up ≡ asks_for w ∷ rest → Wished largest ids limits choice now birth ns w r l.number b
+wished largest ids limits choice now birth ns w rest r l s b k a tidy up =
+    let call = asking w r l.number in
+    let x = brings largest ids limits choice now birth ns w r r l s b k refl a tidy in
+    let same : filter_map answered (drop 1 r.line.up) ≡ filter_map answered r.line.up = ap (λ (xs : List Back). filter_map answered (drop 1 xs)) up ∙ sym (ap (filter_map answered) up) in
+    record {
+      after = record {
+        more = x.more;
+        new = x.new;
+        in_step = record {
+          runs = λ number m. told_hushed number largest (ids ++ x.more) birth r call (drop 1 r.line.up) r.line.old (deeds_in limits choice now call b) (stepped limits choice now call b) x.hush same refl (x.runs number m);
+          served = x.served;
+          lines = record { own = k.lines.own; old = k.lines.old };
+        };
+      };
+      differ = x.differ;
     }
 
 pub subscribes_in_step : (largest : ℕ) (ids : List CopyId) (limits : Limits) (choice : MemberChoice) (now birth : ℕ) (ns : List ℕ) (w : Wish) (rest : List Back) (r : Receiver) (l : BrokerLine) (s : Session) (b : Broker)
     → IsInStep largest ids birth ns r b → IsListening r l s b → IsTidy limits b → r.line.up ≡ asks_for w ∷ rest
     → Subscribed largest ids birth ns (suc b.records.subscribes) (receiver_after limits choice now (Input l.number (wire_back r.client r.window (asks_for w))) r b) (stepped limits choice now (Input l.number (wire_back r.client r.window (asks_for w))) b)
-subscribes_in_step largest ids limits choice now birth ns w rest r l s b k a tidy up =
-    let call = asking w r l.number in
-    let x = brings largest ids limits choice now birth ns w r r l s b k refl a tidy in
-    let same : filter_map answered (drop 1 r.line.up) ≡ filter_map answered r.line.up = ap (λ (xs : List Back). filter_map answered (drop 1 xs)) up ∙ sym (ap (filter_map answered) up) in
-    record {
-      more = x.more;
-      new = x.new;
-      in_step = record {
-        runs = λ number m. told_hushed number largest (ids ++ x.more) birth r call (drop 1 r.line.up) r.line.old (deeds_in limits choice now call b) (stepped limits choice now call b) x.hush same refl (x.runs number m);
-        served = x.served;
-        lines = record { own = k.lines.own; old = k.lines.old };
-      };
-    }
+subscribes_in_step largest ids limits choice now birth ns w rest r l s b k a tidy up = (wished largest ids limits choice now birth ns w rest r l s b k a tidy up).after
 
 -- on the line that it gave up
 pub old_subscribes_in_step : (largest : ℕ) (ids : List CopyId) (limits : Limits) (choice : MemberChoice) (now birth : ℕ) (ns : List ℕ) (w : Wish) (rest : List Back) (r : Receiver) (l : BrokerLine) (s : Session) (b : Broker)

@@ -1,8 +1,7 @@
 -- A receiver that is connected and in step reads all that is under way to it: it is so again; what it sees is its hop's receiver
 -- reading all.
-use Rattle.std.proofs.Common.{◌≡◌, ◌⊎◌, inl, inr, ℕ, zero, suc, ◌≤◌, Bool, true, false, cond, if◌then◌else◌, List, [], ◌∷◌, length, map, Option, Some, None, nat_lt, refl, sym, ap, subst, ◌∙◌, arith}
+use Rattle.std.proofs.Common.{◌≡◌, ◌⊎◌, inl, inr, ℕ, zero, suc, ◌≤◌, Bool, true, false, cond, if◌then◌else◌, List, [], ◌∷◌, ◌++◌, length, map, Option, Some, None, nat_lt, refl, sym, ap, subst, ◌∙◌, arith}
 use Rattle.std.specs.Prelude.{filter_map, is_some}
-use Rattle.std.specs.List.{AllByRecursion}
 use Rattle.mqtt_base.specs.declared.session.CopyId.{CopyId}
 use Rattle.mqtt_codec.specs.declared.packet.Packet.{Packet}
 use Rattle.mqtt_codec.specs.declared.packet.Packet.TheVariants as packet
@@ -15,14 +14,12 @@ use Rattle.mqtt_inbound.specs.Line.{Link, away, asked, live, sent_on}
 use Rattle.mqtt_laws.specs.Ends.{Back, Receiver, answers, greeted, hears, receiver_connack, receiver_reads, reads_publish}
 use Rattle.mqtt_laws.specs.Lines.{Down, is_one_of, left, stands}
 use Rattle.mqtt_laws.specs.Seen.{is_linked}
-use Rattle.mqtt_rules.proofs.Copies.{each_append}
 use Rattle.mqtt_rules.specs.State.{Broker}
 use Rattle.mqtt_handed_laws.specs.Drains.{times}
 use Rattle.mqtt_handed_laws.specs.Handing.{IsRun}
 use Rattle.mqtt_handed_laws.specs.Own.{IsInStep}
 use Rattle.mqtt_handed_laws.specs.Seen.{Numbering, heard_in, seen}
 use Rattle.mqtt_handed_laws.specs.Tags.{id_of}
-use Rattle.mqtt_handed_laws.specs.WorldRounds.{IsAnswer}
 use Rattle.mqtt_handed_laws.proofs.Doings.{doing_reads, first_reads, reads_by, reads_seen}
 use Rattle.mqtt_handed_laws.proofs.OwnDoings.{Keeps, keeps_reading, reads_in_step}
 use Rattle.mqtt_handed_laws.proofs.RoundPhases.{ends_back}
@@ -30,43 +27,49 @@ use Rattle.mqtt_handed_laws.proofs.WorldRoundSteps.{At, connected_again, hop_lin
 
 -- ---- what it leaves under way
 
--- after it has read the packet in front of these
-record Took (rest : List Down) (r q : Receiver) : Type 0 where
-  pub down : (q.line.down ≡ rest) ⊎ (q.line.down ≡ [])
-  pub up : AllByRecursion IsAnswer r.line.up → AllByRecursion IsAnswer q.line.up
+-- what holds of nothing, and stays so with each answer more behind
+pub record Grows (P : List Back → Type 0) : Type 0 where
+  pub none : P []
+  pub more : (up : List Back) (a : Answer) → P up → P (up ++ answers a ∷ [])
 
-abbrev taken : List Down → Receiver → Receiver
-taken rest r = record r { line = record r.line { down = rest } }
+module _ (P : List Back → Type 0) (grows : Grows P) where
+  -- after it has read the packet in front of these
+  record Took (rest : List Down) (r q : Receiver) : Type 0 where
+    pub down : (q.line.down ≡ rest) ⊎ (q.line.down ≡ [])
+    pub up : P r.line.up → P q.line.up
 
-answers_more : (t : Bool) (up : List Back) (a : Answer) → AllByRecursion IsAnswer up → AllByRecursion IsAnswer (sent_on t up (answers a ∷ []))
-answers_more true up a h = each_append IsAnswer up (answers a ∷ []) h (tt, tt)
-answers_more false up a h = h
+  abbrev taken : List Down → Receiver → Receiver
+  taken rest r = record r { line = record r.line { down = rest } }
 
-took_connack : (link : Link) (present : Bool) (code : ℕ) (rest : List Down) (r : Receiver) → Took rest r (receiver_connack link present code (taken rest r))
-took_connack away present code rest r = record { down = inl refl; up = λ h. h }
-took_connack live present code rest r = record { down = inl refl; up = λ h. h }
-took_connack asked present code rest r = by (nat_lt 0 code)
-  where
-    by : (z : Bool) → Took rest r (cond z (record (taken rest r) { line = left (record (taken rest r).line { clean = false }) })
-        (record (taken rest r) { line = greeted (taken rest r).line; asking = false; kept = if present then r.kept else [] }))
-    by true = record { down = inr refl; up = λ h. tt }
-    by false = record { down = inl refl; up = λ h. h }
+  answers_more : (t : Bool) (up : List Back) (a : Answer) → P up → P (sent_on t up (answers a ∷ []))
+  answers_more true up a h = grows.more up a h
+  answers_more false up a h = h
 
-took_publish : (t : Bool) (copy : Option CopyId) (p : Publication) (d : Delivery) (rest : List Down) (r : Receiver) → Took rest r (reads_publish t copy p d (taken rest r))
-took_publish t copy p delivery.AtMostOnce rest r = record { down = inl refl; up = λ h. h }
-took_publish t copy p (delivery.AtLeastOnce dup i) rest r = record { down = inl refl; up = λ h. answers_more t r.line.up _ h }
-took_publish t copy p (delivery.ExactlyOnce dup i) rest r = record { down = inl refl; up = λ h. answers_more t r.line.up _ h }
+  took_connack : (link : Link) (present : Bool) (code : ℕ) (rest : List Down) (r : Receiver) → Took rest r (receiver_connack link present code (taken rest r))
+  took_connack away present code rest r = record { down = inl refl; up = λ h. h }
+  took_connack live present code rest r = record { down = inl refl; up = λ h. h }
+  took_connack asked present code rest r = by (nat_lt 0 code)
+    where
+      by : (z : Bool) → Took rest r (cond z (record (taken rest r) { line = left (record (taken rest r).line { clean = false }) })
+          (record (taken rest r) { line = greeted (taken rest r).line; asking = false; kept = if present then r.kept else [] }))
+      by true = record { down = inr refl; up = λ h. grows.none }
+      by false = record { down = inl refl; up = λ h. h }
 
-took_packet : (t : Bool) (copy : Option CopyId) (x : Packet) (rest : List Down) (r : Receiver) → Took rest r (hears t copy x (taken rest r))
-took_packet t copy (packet.Connack a) rest r = took_connack r.line.link a.session_present a.reason.0 rest r
-took_packet t copy (packet.Publish p) rest r = took_publish t copy p p.delivery rest r
-took_packet t copy (packet.Pubrel a) rest r = record { down = inl refl; up = λ h. answers_more t r.line.up _ h }
-took_packet t copy (packet.Disconnect a) rest r = record { down = inr refl; up = λ h. tt }
-took_packet t copy x rest r = record { down = inl refl; up = λ h. h }
+  took_publish : (t : Bool) (copy : Option CopyId) (p : Publication) (d : Delivery) (rest : List Down) (r : Receiver) → Took rest r (reads_publish t copy p d (taken rest r))
+  took_publish t copy p delivery.AtMostOnce rest r = record { down = inl refl; up = λ h. h }
+  took_publish t copy p (delivery.AtLeastOnce dup i) rest r = record { down = inl refl; up = λ h. answers_more t r.line.up _ h }
+  took_publish t copy p (delivery.ExactlyOnce dup i) rest r = record { down = inl refl; up = λ h. answers_more t r.line.up _ h }
+
+  took_packet : (t : Bool) (copy : Option CopyId) (x : Packet) (rest : List Down) (r : Receiver) → Took rest r (hears t copy x (taken rest r))
+  took_packet t copy (packet.Connack a) rest r = took_connack r.line.link a.session_present a.reason.0 rest r
+  took_packet t copy (packet.Publish p) rest r = took_publish t copy p p.delivery rest r
+  took_packet t copy (packet.Pubrel a) rest r = record { down = inl refl; up = λ h. answers_more t r.line.up _ h }
+  took_packet t copy (packet.Disconnect a) rest r = record { down = inr refl; up = λ h. grows.none }
+  took_packet t copy x rest r = record { down = inl refl; up = λ h. h }
 
 -- ---- it reads one packet
 
-module _ (number : Numbering) (largest window : ℕ) (ids : List CopyId) (birth : ℕ) (ns : List ℕ) (first : Receiver) (b : Broker) where
+module _ (number : Numbering) (largest window : ℕ) (ids : List CopyId) (birth : ℕ) (ns : List ℕ) (P : List Back → Type 0) (grows : Grows P) (first : Receiver) (b : Broker) where
   -- since it was this one; its line stands at the broker exactly if it is connected there
   pub record Reading (hop : Hop) (r : Receiver) : Type 0 where
     pub in_step : IsInStep largest ids birth ns r b
@@ -77,14 +80,14 @@ module _ (number : Numbering) (largest window : ℕ) (ids : List CopyId) (birth 
     pub agrees : is_linked r.line.number b ≡ stands r.line.number b
     pub number_is : (k : ℕ) → r.line.number ≡ Some k → first.line.number ≡ Some k
     pub old_number : (k : ℕ) → r.line.old_number ≡ Some k → first.line.old_number ≡ Some k
-    pub answering : AllByRecursion IsAnswer r.line.up
+    pub answering : P first.line.up → P r.line.up
 
   abbrev pub next_read : Receiver → Receiver
   next_read r = receiver_reads (stands r.line.number b) r.line.down r
 
-  reading_up : (t : Bool) (ds : List Down) (r : Receiver) → AllByRecursion IsAnswer r.line.up → AllByRecursion IsAnswer (receiver_reads t ds r).line.up
+  reading_up : (t : Bool) (ds : List Down) (r : Receiver) → P r.line.up → P (receiver_reads t ds r).line.up
   reading_up t [] r h = h
-  reading_up t (d ∷ rest) r h = (took_packet t d.copy d.packet rest r).up h
+  reading_up t (d ∷ rest) r h = (took_packet P grows t d.copy d.packet rest r).up h
 
   reads_one : (hop : Hop) (r : Receiver) → Reading hop r → Reading (run largest (first_reads number r.line.down) hop) (next_read r)
   reads_one hop r x =
@@ -100,7 +103,7 @@ module _ (number : Numbering) (largest window : ℕ) (ids : List CopyId) (birth 
         agrees = by q.line.number refl;
         number_is = λ j e. x.number_is j (k.number j e);
         old_number = λ j e. x.old_number j (k.old_number j e);
-        answering = reading_up t r.line.down r x.answering;
+        answering = λ h. reading_up t r.line.down r (x.answering h);
       }
     where
       by : (o : Option ℕ) → (next_read r).line.number ≡ o → is_linked (next_read r).line.number b ≡ stands (next_read r).line.number b
@@ -139,7 +142,7 @@ module _ (number : Numbering) (largest window : ℕ) (ids : List CopyId) (birth 
         → (length (next_read r).line.down ≤ length rest) × (length (filter_map (heard_in number) (next_read r).line.down) ≤ length (filter_map (heard_in number) rest))
     low d rest is =
         let t = stands r.line.number b in
-        lesser rest (next_read r).line.down (subst (λ (ds : List Down). ((receiver_reads t ds r).line.down ≡ rest) ⊎ ((receiver_reads t ds r).line.down ≡ [])) (sym is) (took_packet t d.copy d.packet rest r).down)
+        lesser rest (next_read r).line.down (subst (λ (ds : List Down). ((receiver_reads t ds r).line.down ≡ rest) ⊎ ((receiver_reads t ds r).line.down ≡ [])) (sym is) (took_packet P grows t d.copy d.packet rest r).down)
 
     downs : (d : Down) (rest : List Down) (p : Output) → heard_in number d ≡ Some p → r.line.down ≡ d ∷ rest → length hop.down ≡ suc (length (filter_map (heard_in number) rest))
     downs d rest p e is =
@@ -181,16 +184,20 @@ module _ (number : Numbering) (largest window : ℕ) (ids : List CopyId) (birth 
 
 -- ---- and is connected still
 
-pub reads_at : (number : Numbering) (largest window : ℕ) (ids : List CopyId) (birth : ℕ) (ns : List ℕ) (hop : Hop) (r : Receiver) (b : Broker) → At number largest window ids birth ns hop r b
-    → At number largest window ids birth ns (run largest (times (length hop.down) to_end) hop) (all_read number largest window ids birth ns r b (length r.line.down) r) b
-reads_at number largest window ids birth ns hop r b x =
+pub record HasRead (number : Numbering) (largest window : ℕ) (ids : List CopyId) (birth : ℕ) (ns : List ℕ) (P : List Back → Type 0) (hop : Hop) (r q : Receiver) (b : Broker) : Type 0 where
+  pub at : At number largest window ids birth ns hop q b
+  pub answering : P r.line.up → P q.line.up
+
+pub reads_at : (number : Numbering) (largest window : ℕ) (ids : List CopyId) (birth : ℕ) (ns : List ℕ) (P : List Back → Type 0) (grows : Grows P) (hop : Hop) (r : Receiver) (b : Broker) → At number largest window ids birth ns hop r b
+    → HasRead number largest window ids birth ns P (run largest (times (length hop.down) to_end) hop) r (all_read number largest window ids birth ns P grows r b (length r.line.down) r) b
+reads_at number largest window ids birth ns P grows hop r b x =
     let c = x.connected in
     let k = length r.line.down in
     let m = length hop.down in
-    let q = all_read number largest window ids birth ns r b k r in
+    let q = all_read number largest window ids birth ns P grows r b k r in
     let last = run largest (times m to_end) hop in
     let standing : stands r.line.number b ≡ true = ap (λ (o : Option ℕ). stands o b) c.number ∙ ap is_some c.there in
-    let before : Reading number largest window ids birth ns r b hop r = record {
+    let before : Reading number largest window ids birth ns P grows r b hop r = record {
       in_step = c.in_step;
       copies = x.copies;
       same = x.same;
@@ -199,16 +206,19 @@ reads_at number largest window ids birth ns hop r b x =
       agrees = is_linked_now number largest window ids birth ns r b c ∙ sym standing;
       number_is = λ j e. e;
       old_number = λ j e. e;
-      answering = c.answering;
+      answering = λ h. h;
     } in
-    let y = reads_all number largest window ids birth ns r b k m hop r before (omega arith) (omega arith) in
+    let y = reads_all number largest window ids birth ns P grows r b k m hop r before (omega arith) (omega arith) in
     let linked : is_linked q.line.number b ≡ true = ap (λ (w : Hop). w.linked) y.seen_is ∙ (ends_back largest hop (reached number largest window ids birth ns hop r b x) (hop_linked number largest window ids birth ns hop r b x)).0 in
     record {
-      connected = connected_again number largest window ids birth ns r q b b c y.in_step (same_number q.line.number y.number_is linked) (apart q.line.old_number y.old_number) linked refl c.unique c.ordered c.distinct y.answering;
-      copies = y.copies;
-      same = y.same;
-      run_is = y.run_is;
-      seen_is = y.seen_is;
+      at = record {
+        connected = connected_again number largest window ids birth ns ids r q b b c y.in_step (same_number q.line.number y.number_is linked) (apart q.line.old_number y.old_number) linked refl c.unique c.ordered c.distinct;
+        copies = y.copies;
+        same = y.same;
+        run_is = y.run_is;
+        seen_is = y.seen_is;
+      };
+      answering = y.answering;
     }
   where
     same_number : (o : Option ℕ) → ((j : ℕ) → o ≡ Some j → r.line.number ≡ Some j) → is_linked o b ≡ true → o ≡ r.line.number

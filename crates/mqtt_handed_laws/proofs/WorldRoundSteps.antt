@@ -15,6 +15,7 @@ use Rattle.mqtt_laws.specs.Seen.{has_session, is_linked}
 use Rattle.mqtt_laws.proofs.Lists.{all_find}
 use Rattle.mqtt_laws.proofs.OwnStep.{heard_of, input_is}
 use Rattle.mqtt_records.specs.declared.session.Session.{Session}
+use Rattle.mqtt_rules.proofs.Copies.{each_append}
 use Rattle.mqtt_rules.proofs.FlightStep.{step_keeps}
 use Rattle.mqtt_rules.proofs.Goods.{AreGood, good_append}
 use Rattle.mqtt_rules.proofs.LineActs.{quiet_pump, quiet_turn}
@@ -22,7 +23,7 @@ use Rattle.mqtt_rules.proofs.LineRows.{IsQuiet}
 use Rattle.mqtt_rules.proofs.OrderedSteps.{step-ordered}
 use Rattle.mqtt_rules.specs.Deeds.{Deed, closing}
 use Rattle.mqtt_rules.specs.Flight.{HasDistinctIdentifiers}
-use Rattle.mqtt_rules.specs.Inbound.{on_answer}
+use Rattle.mqtt_rules.specs.Inbound.{on_answer, pump_turns}
 use Rattle.mqtt_rules.specs.Laws.{IsOrdered}
 use Rattle.mqtt_rules.specs.Lines.{HasUniqueLines}
 use Rattle.mqtt_rules.specs.State.{Line as BrokerLine, Broker, Env, MemberChoice, line_at, queue_on}
@@ -34,7 +35,7 @@ use Rattle.mqtt_handed_laws.specs.Own.{IsInStep, Listens}
 use Rattle.mqtt_handed_laws.specs.Seen.{Numbering, answered, seen}
 use Rattle.mqtt_handed_laws.specs.Served.{IsOwnLine}
 use Rattle.mqtt_handed_laws.specs.Tags.{id_of}
-use Rattle.mqtt_handed_laws.specs.WorldRounds.{IsAnswer, IsConnected}
+use Rattle.mqtt_handed_laws.specs.WorldRounds.{IsConnected}
 use Rattle.mqtt_handed_laws.proofs.Answering.{puback_follows, pubcomp_follows, pubrec_follows, same_queue, shut_by, standing_by}
 use Rattle.mqtt_handed_laws.proofs.Follows.{Follows, run_follows}
 use Rattle.mqtt_handed_laws.proofs.Further.{Reached, heard_up}
@@ -42,7 +43,7 @@ use Rattle.mqtt_handed_laws.proofs.Listening.{listens_in_step}
 use Rattle.mqtt_handed_laws.proofs.OwnCalls.{puback_in_step, pubcomp_in_step, pubrec_in_step, pump_in_step}
 use Rattle.mqtt_handed_laws.proofs.RoundPhases.{turns_linked, up_linked}
 use Rattle.mqtt_handed_laws.proofs.Sending.{pump_follows, pump_is}
-use Rattle.mqtt_handed_laws.proofs.WorldRoundLines.{none_closed, quiet_unique, quiet_way, way_on}
+use Rattle.mqtt_handed_laws.proofs.WorldRoundLines.{HasSame, IsOfTurn, call_same, none_closed, of_turn, of_turns, quiet_unique, quiet_way, way_on}
 
 -- ---- lines
 
@@ -92,10 +93,10 @@ module _ (number : Numbering) (largest window : ℕ) (ids : List CopyId) (birth 
   listens_now r b c = listens_in_step largest ids birth ns c.line.number birth r c.line b c.in_step c.unique c.ordered c.number c.there c.connected c.apart
 
   -- another receiver on the same line, or the same broker later
-  pub connected_again : (r q : Receiver) (b d : Broker) (c : IsConnected largest window ids birth ns r b) → IsInStep largest ids birth ns q d → q.line.number ≡ r.line.number
+  pub connected_again : (later : List CopyId) (r q : Receiver) (b d : Broker) (c : IsConnected largest window ids birth ns r b) → IsInStep largest later birth ns q d → q.line.number ≡ r.line.number
       → is_one_of q.line.old_number (c.line.number ∷ []) ≡ false → is_linked q.line.number d ≡ true → way_on c.line.number d.lines ≡ way_on c.line.number b.lines
-      → HasUniqueLines d → IsOrdered d.records → HasDistinctIdentifiers d.records → AllByRecursion IsAnswer q.line.up → IsConnected largest window ids birth ns q d
-  connected_again r q b d c k same apart linked way unique ordered distinct up =
+      → HasUniqueLines d → IsOrdered d.records → HasDistinctIdentifiers d.records → IsConnected largest window later birth ns q d
+  connected_again later r q b d c k same apart linked way unique ordered distinct =
       let n = c.line.number in
       let number : q.line.number ≡ Some n = same ∙ c.number in
       let x = line_there (line_at n d) (ap (λ (o : Option ℕ). is_linked o d) (sym number) ∙ linked) in
@@ -117,7 +118,6 @@ module _ (number : Numbering) (largest window : ℕ) (ids : List CopyId) (birth 
         unique = unique;
         ordered = ordered;
         distinct = distinct;
-        answering = up;
       }
 
   -- ---- a call that closes no line and connects nobody
@@ -126,13 +126,32 @@ module _ (number : Numbering) (largest window : ℕ) (ids : List CopyId) (birth 
     pub stays_up : (ups : List Back) → unless_closed (is_one_of r.line.number (filter_map closing (deeds limits choice now call b))) ups ≡ ups
     stays_up ups = ap (λ (z : Bool). unless_closed z ups) (ap (is_one_of r.line.number) (none_closed (deeds limits choice now call b) (at_moment now b) quiet) ∙ none_of r.line.number)
 
-    pub called_again : (q : Receiver) (c : IsConnected largest window ids birth ns r b) → IsInStep largest ids birth ns q (stepped limits choice now call b) → q.line.number ≡ r.line.number → q.line.old_number ≡ r.line.old_number
-        → is_linked q.line.number (stepped limits choice now call b) ≡ true → AllByRecursion IsAnswer q.line.up → IsConnected largest window ids birth ns q (stepped limits choice now call b)
-    called_again q c k same old linked up =
-        connected_again r q b (stepped limits choice now call b) c k same (ap (λ (o : Option ℕ). is_one_of o (c.line.number ∷ [])) old ∙ c.apart) linked
-        (quiet_way c.line.number limits choice now call b quiet) (quiet_unique limits choice now call b quiet c.unique) (step-ordered limits choice now call b c.ordered) (step_keeps limits choice now call b c.distinct) up
+    pub called_again : (later : List CopyId) (q : Receiver) (c : IsConnected largest window ids birth ns r b) → IsInStep largest later birth ns q (stepped limits choice now call b) → q.line.number ≡ r.line.number → q.line.old_number ≡ r.line.old_number
+        → is_linked q.line.number (stepped limits choice now call b) ≡ true → IsConnected largest window later birth ns q (stepped limits choice now call b)
+    called_again later q c k same old linked =
+        connected_again later r q b (stepped limits choice now call b) c k same (ap (λ (o : Option ℕ). is_one_of o (c.line.number ∷ [])) old ∙ c.apart) linked
+        (quiet_way c.line.number limits choice now call b quiet) (quiet_unique limits choice now call b quiet c.unique) (step-ordered limits choice now call b c.ordered) (step_keeps limits choice now call b c.distinct)
 
   -- ---- the broker sends
+
+  quiet_sending : (limits : Limits) (choice : MemberChoice) (now : ℕ) (r : Receiver) (b : Broker) (c : IsConnected largest window ids birth ns r b) → AreGood IsQuiet (deeds limits choice now (Pump c.line.number) b) (at_moment now b)
+  quiet_sending limits choice now r b c =
+      let a = listens_now r b c in
+      let s = a.session in
+      let first = at_moment now b in
+      subst (λ (ds : List Deed). AreGood IsQuiet ds first) (sym (pump_is limits choice now c.line s b a.listening.line a.listening.connected a.listening.session)) (quiet_pump c.line first.now s first)
+
+  pub pump_same : (limits : Limits) (choice : MemberChoice) (now : ℕ) (r : Receiver) (b : Broker) (c : IsConnected largest window ids birth ns r b) → HasSame b (stepped limits choice now (Pump c.line.number) b)
+  pump_same limits choice now r b c =
+      let a = listens_now r b c in
+      let s = a.session in
+      let first = at_moment now b in
+      call_same limits choice now (Pump c.line.number) b
+      (subst (AllByRecursion IsOfTurn) (sym (pump_is limits choice now c.line s b a.listening.line a.listening.connected a.listening.session)) (of_turns first.now c.line.number s (pump_turns c.line first.now s)))
+
+  -- what is under way from it stays so
+  pub pump_up : (limits : Limits) (choice : MemberChoice) (now : ℕ) (r : Receiver) (b : Broker) (c : IsConnected largest window ids birth ns r b) → (receiver_called limits choice now (Pump c.line.number) r b).line.up ≡ r.line.up
+  pump_up limits choice now r b c = stays_up limits choice now (Pump c.line.number) r b (quiet_sending limits choice now r b c) r.line.up
 
   pub pump_at : (limits : Limits) (choice : MemberChoice) (now : ℕ) (hop : Hop) (r : Receiver) (b : Broker) (x : At number largest window ids birth ns hop r b)
       → At number largest window ids birth ns (step largest hop (pump window (at_moment now b).now)) (receiver_called limits choice now (Pump x.connected.line.number) r b) (stepped limits choice now (Pump x.connected.line.number) b)
@@ -149,11 +168,9 @@ module _ (number : Numbering) (largest window : ℕ) (ids : List CopyId) (birth 
       let seen_is : seen number f.after q new ≡ step largest hop (pump window first.now) =
       f.seen_is ∙ (ap (λ (w : Hop). step largest w (pump l.window first.now)) x.seen_is ∙ ap (λ (k : ℕ). step largest hop (pump k first.now)) c.window_is) in
       let linked : is_linked q.line.number new ≡ true = ap (λ (w : Hop). w.linked) seen_is ∙ (turns_linked (rules.pump (record { window = window; largest = largest; now = first.now }) (queue_of hop.copies)) hop ∙ hop_linked hop r b x) in
-      let quiet : AreGood IsQuiet (deeds limits choice now call b) first =
-      subst (λ (ds : List Deed). AreGood IsQuiet ds first) (sym (pump_is limits choice now l s b a.listening.line a.listening.connected a.listening.session)) (quiet_pump l first.now s first) in
+      let quiet = quiet_sending limits choice now r b c in
       record {
-        connected = called_again limits choice now call r b quiet q c (pump_in_step largest ids birth ns limits choice now r l s b c.in_step a.listening c.largest_is c.distinct) refl refl linked
-            (subst (AllByRecursion IsAnswer) (sym (stays_up limits choice now call r b quiet r.line.up)) c.answering);
+        connected = called_again limits choice now call r b quiet ids q c (pump_in_step largest ids birth ns limits choice now r l s b c.in_step a.listening c.largest_is c.distinct) refl refl linked;
         copies = f.after;
         same = f.same ∙ x.same;
         run_is = run_follows number largest x.copies (pump l.window first.now) r b q new x.run_is f;
@@ -171,10 +188,16 @@ module _ (number : Numbering) (largest window : ℕ) (ids : List CopyId) (birth 
   quiet_answer (Ok (Some t)) env l s c h = quiet_turn c.now l.number s t c
   quiet_answer (Err fault) env l s c h = absurd cc
 
+  turn_answer : (x : rules.Answer) (env : Env) (l : BrokerLine) (s : Session) (c : Broker) → shut_by x ≡ false → AllByRecursion IsOfTurn (on_answer x env l s c)
+  turn_answer (Ok None) env l s c h = tt
+  turn_answer (Ok (Some t)) env l s c h = of_turn c.now l.number s t
+  turn_answer (Err fault) env l s c h = absurd cc
+
   -- the two after it, with what is under way behind it
   pub record Read (limits : Limits) (choice : MemberChoice) (now : ℕ) (a : Answer) (rest : List Back) (hop : Hop) (n : ℕ) (r : Receiver) (b : Broker) : Type 0 where
     pub at : At number largest window ids birth ns (step largest hop (to_broker false)) (reads_answer limits choice now n a r b) (after_answer limits choice now n a r b)
     pub up : (reads_answer limits choice now n a r b).line.up ≡ rest
+    pub same : HasSame b (after_answer limits choice now n a r b)
 
   answered_at : (limits : Limits) (choice : MemberChoice) (now : ℕ) (a : Answer) (rest : List Back) (hop : Hop) (r : Receiver) (b : Broker) (x : At number largest window ids birth ns hop r b) (y : rules.Answer)
       → r.line.up ≡ answers a ∷ rest → (s : Session) → IsListening r x.connected.line s b
@@ -201,17 +224,20 @@ module _ (number : Numbering) (largest window : ℕ) (ids : List CopyId) (birth 
       let own : AreGood IsQuiet (next_packet env l packet s heard) heard = subst (λ (ds : List Deed). AreGood IsQuiet ds heard) (sym e) (quiet_answer y env l s heard stands) in
       let quiet : AreGood IsQuiet (deeds limits choice now call b) (at_moment now b) =
       subst (λ (ds : List Deed). AreGood IsQuiet ds (at_moment now b)) (sym (input_is limits choice now packet l s b li.line li.connected li.session)) (tt, good_append IsQuiet (next_packet env l packet s heard) [] heard own tt) in
+      let own_turn : AllByRecursion IsOfTurn (next_packet env l packet s heard) = subst (AllByRecursion IsOfTurn) (sym e) (turn_answer y env l s heard stands) in
+      let all : AllByRecursion IsOfTurn (deeds limits choice now call b) =
+      subst (AllByRecursion IsOfTurn) (sym (input_is limits choice now packet l s b li.line li.connected li.session)) (tt, each_append IsOfTurn (next_packet env l packet s heard) [] own_turn tt) in
       let ups : q.line.up ≡ rest = stays_up limits choice now call r b quiet (drop 1 r.line.up) ∙ ap (drop 1) up in
-      let more : AllByRecursion IsAnswer (answers a ∷ rest) = subst (AllByRecursion IsAnswer) up c.answering in
       record {
         at = record {
-          connected = called_again limits choice now call r b quiet q c k refl refl linked (subst (AllByRecursion IsAnswer) (sym ups) more.1);
+          connected = called_again limits choice now call r b quiet ids q c k refl refl linked;
           copies = f.after;
           same = f.same ∙ x.same;
           run_is = run_follows number largest x.copies (to_broker false) r b q new x.run_is f;
           seen_is = seen_is;
         };
         up = ups;
+        same = call_same limits choice now call b all;
       }
 
   pub answer_at : (limits : Limits) (choice : MemberChoice) (now : ℕ) (a : Answer) (rest : List Back) (hop : Hop) (r : Receiver) (b : Broker) (x : At number largest window ids birth ns hop r b)

@@ -1,12 +1,15 @@
 -- A drain of the world as the hop of its receiver sees it: from where receiver and broker are in step and its line is
 -- connected (MQTT 5.0, 4.3, 4.4, 4.6).
-use Rattle.std.specs.Prelude.{◌≡◌, ℕ, ⊤, zero, suc, false, List, [], ◌∷◌, map, None, Some, slice_get}
+use Rattle.std.specs.Prelude.{◌≡◌, ◌≤◌, ◌++◌, ℕ, ⊤, zero, suc, false, List, [], ◌∷◌, map, None, Some, slice_get}
 use Rattle.std.specs.List.{AllByRecursion}
+use Rattle.mqtt_base.specs.declared.session.Cause.TheVariants.{Retained}
 use Rattle.mqtt_base.specs.declared.session.CopyId.{CopyId}
 use Rattle.mqtt_flow.specs.OutboundWorld.{Lot, World as Hop}
 use Rattle.mqtt_laws.specs.Ends.{Back, Receiver, answers, asks_for}
 use Rattle.mqtt_laws.specs.Lines.{is_one_of}
 use Rattle.mqtt_laws.specs.World.{World, publisher_named, receiver_named}
+use Rattle.mqtt_message.specs.declared.message.RetainedMessage.{RetainedMessage}
+use Rattle.mqtt_rows.specs.Distinct.{AllDiffer}
 use Rattle.mqtt_rules.specs.Flight.{HasDistinctIdentifiers}
 use Rattle.mqtt_rules.specs.Laws.{IsOrdered}
 use Rattle.mqtt_rules.specs.Lines.{HasUniqueLines}
@@ -15,9 +18,10 @@ use Rattle.mqtt_rules.specs.Step.{at_moment}
 use Rattle.mqtt_rules.specs.declared.Limits.{Limits}
 use Rattle.mqtt_handed_laws.specs.Drains.{after_round}
 use Rattle.mqtt_handed_laws.specs.Handing.{IsRun}
-use Rattle.mqtt_handed_laws.specs.Own.{IsInStep}
+use Rattle.mqtt_handed_laws.specs.Own.{IsBroughtCopy, IsInStep}
 use Rattle.mqtt_handed_laws.specs.Rounds.{EndsBy}
 use Rattle.mqtt_handed_laws.specs.Seen.{Numbering, seen}
+use Rattle.mqtt_handed_laws.specs.Served.{IsTidy}
 use Rattle.mqtt_handed_laws.specs.Tags.{id_of}
 
 -- ---- whence a receiver may be drained
@@ -28,7 +32,7 @@ IsAnswer (answers a) = ⊤
 IsAnswer (asks_for w) = ⊥
 
 -- the two are in step, and its line is connected, with this Receive Maximum and Maximum Packet Size; lines and sessions are
--- in order, and only answers are under way from it
+-- in order
 pub record IsConnected (largest window : ℕ) (ids : List CopyId) (birth : ℕ) (ns : List ℕ) (r : Receiver) (b : Broker)
     : Type 0 where
   pub in_step : IsInStep largest ids birth ns r b
@@ -43,14 +47,51 @@ pub record IsConnected (largest window : ℕ) (ids : List CopyId) (birth : ℕ) 
   pub unique : HasUniqueLines b
   pub ordered : IsOrdered b.records
   pub distinct : HasDistinctIdentifiers b.records
-  pub answering : AllByRecursion IsAnswer r.line.up
 
--- it is the receiver of this name, which no publisher has
+-- it is the receiver of this name, which no publisher has, and only answers are under way from it
 pub record MayDrain (largest window : ℕ) (ids : List CopyId) (birth : ℕ) (ns : List ℕ) (client : List ℕ) (r : Receiver)
     (w : World) : Type 0 where
   pub named : receiver_named client w ≡ Some r
   pub alone : publisher_named client w ≡ None
   pub connected : IsConnected largest window ids birth ns r w.broker
+  pub answering : AllByRecursion IsAnswer r.line.up
+
+-- ---- whence it may be drained after a round, in which its SUBSCRIBE is read
+
+-- at most one SUBSCRIBE is under way from it
+abbrev pub AsksOnce : List Back → Type 0
+AsksOnce [] = ⊤
+AsksOnce (answers a ∷ up) = AsksOnce up
+AsksOnce (asks_for w ∷ up) = AllByRecursion IsAnswer up
+
+-- if it is of a retained message, the filter that brought it has a number that was given
+abbrev pub IsOlder : ℕ → CopyId → Type 0
+IsOlder subscribes id = (n : ℕ) → id.cause ≡ Retained n → n ≤ subscribes
+
+-- no two copies are one, and no two retained messages are of one publication
+pub record AreTold (ids : List CopyId) (b : Broker) : Type 0 where
+  pub differ : AllDiffer ids
+  pub older : AllByRecursion (IsOlder b.records.subscribes) ids
+  pub retained : AllDiffer (map (λ (k : RetainedMessage). k.publication) b.records.retained)
+
+-- as `MayDrain`, but that a SUBSCRIBE may be under way
+pub record MayAsk (limits : Limits) (largest window : ℕ) (ids : List CopyId) (birth : ℕ) (ns : List ℕ)
+    (client : List ℕ) (r : Receiver) (w : World) : Type 0 where
+  pub named : receiver_named client w ≡ Some r
+  pub alone : publisher_named client w ≡ None
+  pub connected : IsConnected largest window ids birth ns r w.broker
+  pub tidy : IsTidy limits w.broker
+  pub told : AreTold ids w.broker
+  pub asking : AsksOnce r.line.up
+
+-- it may be drained, with the copies that a filter brought behind those that entered before, or with none more
+pub record DrainsWith (largest window : ℕ) (ids : List CopyId) (birth : ℕ) (ns : List ℕ) (client : List ℕ) (number : ℕ)
+    (w : World) : Type 0 where
+  pub more : List CopyId
+  pub new : AllByRecursion (IsBroughtCopy birth number) more
+  pub differ : AllDiffer (ids ++ more)
+  pub receiver : Receiver
+  pub may : MayDrain largest window (ids ++ more) birth ns client receiver w
 
 -- ---- what becomes of it
 

@@ -54,4 +54,6 @@ pub use round_laws::{
     a_drain_of_a_hop_ends, a_round_takes_a_copy_further, what_is_due_is_under_way,
 };
 pub use served_laws::{a_late_connect_is_a_step_of_the_hop, calls_of_others_are_steps_of_the_hop};
-pub use world_round_laws::{a_drain_ends, a_round_of_a_drain_is_one_of_the_hop};
+pub use world_round_laws::{
+    a_drain_ends, a_drain_with_a_subscribe_ends, a_round_of_a_drain_is_one_of_the_hop,
+};

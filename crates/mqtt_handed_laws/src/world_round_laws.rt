@@ -1,5 +1,5 @@
 //! Laws of drains of the world: of a receiver that is in step and connected (4.3, 4.4, 4.6).
-ghost use Rattle.std.specs.Prelude.{◌*◌, ◌≡◌, ◌≤◌, ℕ, List, map, true};
+ghost use Rattle.std.specs.Prelude.{◌*◌, ◌≡◌, ◌≤◌, ℕ, List, map, suc, true};
 ghost use Rattle.mqtt_base.specs.declared.session.CopyId.{CopyId};
 ghost use Rattle.mqtt_flow.specs.OutboundWorld.{Lot};
 ghost use Rattle.mqtt_handed_laws.specs.Drains.{after_round, copies_left, drained, enough_rounds, is_over, rounds_taken};
@@ -7,7 +7,7 @@ ghost use Rattle.mqtt_handed_laws.specs.Handing.{IsRun};
 ghost use Rattle.mqtt_handed_laws.specs.Rounds as rounds;
 ghost use Rattle.mqtt_handed_laws.specs.Seen.{Numbering, seen};
 ghost use Rattle.mqtt_handed_laws.specs.Tags.{id_of};
-ghost use Rattle.mqtt_handed_laws.specs.WorldRounds.{ComesTo, IsDrained, MayDrain, moment_of};
+ghost use Rattle.mqtt_handed_laws.specs.WorldRounds.{ComesTo, DrainsWith, IsDrained, MayAsk, MayDrain, moment_of};
 ghost use Rattle.mqtt_laws.specs.Ends.{Receiver};
 ghost use Rattle.mqtt_laws.specs.World.{World};
 ghost use Rattle.mqtt_rows.specs.Distinct.{AllDiffer};
@@ -53,6 +53,29 @@ pub fn a_drain_ends()
     ensures is_over_later { (largest window : ℕ) (ids : List CopyId) (birth : ℕ) (ns : List ℕ) (limits : Limits)
         → (choice : MemberChoice) (client : List ℕ) (most : ℕ) (r : Receiver) (w : World) → 1 ≤ window → AllDiffer ids
         → MayDrain largest window ids birth ns client r (after_round limits choice client w)
+        → enough_rounds (copies_left client (after_round limits choice client w)) ≤ most
+        → is_over client (drained limits choice client most w) ≡ true }
+{}
+
+/// Where one SUBSCRIBE is under way from it too, a receiver that is in step and connected may be drained after the first
+/// round, and the copies of retained messages that the filter brings stand behind those that entered before; no two copies
+/// are one, where none were and no two retained messages are of one publication. So of the copies that stand after the
+/// first round, twice their number and one of rounds are enough: then its queue is empty, or the broker has closed its line
+/// (3.3.1.3, 3.8.4).
+pub fn a_drain_with_a_subscribe_ends()
+    ensures first { (largest window : ℕ) (ids : List CopyId) (birth : ℕ) (ns : List ℕ) (limits : Limits)
+        → (choice : MemberChoice) (client : List ℕ) (r : Receiver) (w : World)
+        → MayAsk limits largest window ids birth ns client r w
+        → DrainsWith largest window ids birth ns client (suc w.broker.records.subscribes)
+        (after_round limits choice client w) }
+    ensures is_within { (largest window : ℕ) (ids : List CopyId) (birth : ℕ) (ns : List ℕ) (limits : Limits)
+        → (choice : MemberChoice) (client : List ℕ) (most : ℕ) (r : Receiver) (w : World) → 1 ≤ window
+        → MayAsk limits largest window ids birth ns client r w
+        → rounds_taken limits choice client most w
+        ≤ enough_rounds (copies_left client (after_round limits choice client w)) }
+    ensures is_over { (largest window : ℕ) (ids : List CopyId) (birth : ℕ) (ns : List ℕ) (limits : Limits)
+        → (choice : MemberChoice) (client : List ℕ) (most : ℕ) (r : Receiver) (w : World) → 1 ≤ window
+        → MayAsk limits largest window ids birth ns client r w
         → enough_rounds (copies_left client (after_round limits choice client w)) ≤ most
         → is_over client (drained limits choice client most w) ≡ true }
 {}
