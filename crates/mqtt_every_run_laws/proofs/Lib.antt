@@ -1,0 +1,4 @@
+pub mod Around
+pub mod Numbers
+pub mod Like
+pub mod Comings
