@@ -21,10 +21,14 @@ pub mod Theirs
 pub mod Walk
 pub mod CallsOfOthers
 pub mod LateConnect
+pub mod LateCalls
+pub mod AwaitingOthers
+pub mod IdleLines
 pub mod Restarting
 pub mod Stopping
 pub mod OwnCalls
 pub mod LateResuming
+pub mod LateBeginning
 pub mod Own
 pub mod OwnConnects
 pub mod OwnDoings

@@ -18,7 +18,7 @@ use Rattle.mqtt_inbound.specs.Identifiers.{is_among}
 use Rattle.mqtt_laws.specs.Ends.{Back, Receiver, Wish, asks_for, identified, wire_back}
 use Rattle.mqtt_laws.specs.Hops.{IsIts, IsOnly, IsOurs}
 use Rattle.mqtt_laws.specs.Lines.{copy_in, is_one_of, sent_to, unless_closed}
-use Rattle.mqtt_laws.specs.World.{receiver_told, taken_up}
+use Rattle.mqtt_laws.specs.World.{receiver_told}
 use Rattle.mqtt_laws.proofs.Joins.{none_closed}
 use Rattle.mqtt_laws.proofs.Names.{named_is, only_deeds}
 use Rattle.mqtt_laws.proofs.OwnStep.{heard_of, input_is}
@@ -50,7 +50,9 @@ use Rattle.mqtt_rules.specs.declared.Limits.{Limits}
 use Rattle.mqtt_subscribe.specs.declared.subscribe.Subscribe.{Subscribe as Asking}
 use Rattle.mqtt_topic.specs.Filters.{is_filter}
 use Rattle.mqtt_handed_laws.specs.Entering.{AreKnown, IsReceiving}
+use Rattle.mqtt_handed_laws.specs.Calls.{IsLingering, turned_back}
 use Rattle.mqtt_handed_laws.specs.Handing.{IsListening, IsRun, receiver_after}
+use Rattle.mqtt_handed_laws.specs.Late.{reads_old_wish}
 use Rattle.mqtt_handed_laws.specs.Own.{IsBroughtCopy, IsInStep, Subscribed}
 use Rattle.mqtt_handed_laws.specs.Seen.{AreQueued, Numbering, StandOn, answered, heard, heard_in, publish_heard, seen}
 use Rattle.mqtt_handed_laws.specs.Served.{HasLines, IsServed, IsTidy, RunsFor, RunsWithAll}
@@ -179,21 +181,21 @@ hush_queue [] q = tt
 hush_queue (At who part ∷ ds) q = (tt, hush_queue ds q.1)
 hush_queue (d ∷ ds) q = absurd q.0
 
--- the SUBSCRIBE is taken off its line, and nothing of copies comes to it
-told_hushed : (number : Numbering) (largest : ℕ) (all : List CopyId) (birth : ℕ) (r : Receiver) (call : Call) (w : Wish) (rest : List Back) (ds : List Deed) (new : Broker) → AllByRecursion IsHushed ds
-    → r.line.up ≡ asks_for w ∷ rest → RunsWithAll number largest all birth r new → RunsWithAll number largest all birth (receiver_told new (outcome_of call ds) (record r { line = taken_up r.line })) new
-told_hushed number largest all birth r call w rest ds new hush up h =
+-- the SUBSCRIBE is taken off a line, which leaves these packets, and nothing of copies comes to it
+told_hushed : (number : Numbering) (largest : ℕ) (all : List CopyId) (birth : ℕ) (r : Receiver) (call : Call) (up old : List Back) (ds : List Deed) (new : Broker) → AllByRecursion IsHushed ds
+    → filter_map answered up ≡ filter_map answered r.line.up → filter_map answered old ≡ filter_map answered r.line.old
+    → RunsWithAll number largest all birth r new → RunsWithAll number largest all birth (receiver_told new (outcome_of call ds) (record r { line = record r.line { up = up; old = old } })) new
+told_hushed number largest all birth r call up old ds new hush same_up same_old h =
     let ids = map id_of h.after in
     let x = hushed_on number ids r.line.number new ds hush in
     let none = hush_closes ds hush in
     let out = outcome_of call ds in
-    let q = receiver_told new out (record r { line = taken_up r.line }) in
+    let q = receiver_told new out (record r { line = record r.line { up = up; old = old } }) in
     let sent = sent_to r.line.number new (filter_map output ds) in
-    let ups : filter_map answered (unless_closed (is_one_of r.line.number (filter_map closing ds)) (drop 1 r.line.up)) ≡ filter_map answered r.line.up =
-    ap (λ (t : Bool). filter_map answered (unless_closed t (drop 1 r.line.up))) (ap (is_one_of r.line.number) none ∙ none_closed r.line.number)
-    ∙ (ap (λ (xs : List Back). filter_map answered (drop 1 xs)) up ∙ sym (ap (filter_map answered) up)) in
-    let olds : filter_map answered (unless_closed (is_one_of r.line.old_number (filter_map closing ds)) r.line.old) ≡ filter_map answered r.line.old =
-    ap (λ (t : Bool). filter_map answered (unless_closed t r.line.old)) (ap (is_one_of r.line.old_number) none ∙ none_closed r.line.old_number) in
+    let ups : filter_map answered (unless_closed (is_one_of r.line.number (filter_map closing ds)) up) ≡ filter_map answered r.line.up =
+    ap (λ (t : Bool). filter_map answered (unless_closed t up)) (ap (is_one_of r.line.number) none ∙ none_closed r.line.number) ∙ same_up in
+    let olds : filter_map answered (unless_closed (is_one_of r.line.old_number (filter_map closing ds)) old) ≡ filter_map answered r.line.old =
+    ap (λ (t : Bool). filter_map answered (unless_closed t old)) (ap (is_one_of r.line.old_number) none ∙ none_closed r.line.old_number) ∙ same_old in
     let downs : filter_map (heard_in number) (r.line.down ++ sent) ≡ filter_map (heard_in number) r.line.down =
     heard_append number r.line.down sent ∙ (ap (λ (xs : List Output). filter_map (heard_in number) r.line.down ++ xs) x.heard_is ∙ append-nil (filter_map (heard_in number) r.line.down)) in
     let same : seen number h.after q new ≡ seen number h.after r new = λ i. record (seen number h.after r new) { up = ups i; down = downs i; old = olds i } in
@@ -479,10 +481,21 @@ module _ (largest : ℕ) (env : Env) (small : env.limits.queue ≤ QUEUE_LIMIT) 
 
 -- ---- the call
 
-pub subscribes_in_step : (largest : ℕ) (ids : List CopyId) (limits : Limits) (choice : MemberChoice) (now birth : ℕ) (ns : List ℕ) (w : Wish) (rest : List Back) (r : Receiver) (l : BrokerLine) (s : Session) (b : Broker)
-    → IsInStep largest ids birth ns r b → IsListening r l s b → IsTidy limits b → r.line.up ≡ asks_for w ∷ rest
-    → Subscribed largest ids birth ns (suc b.records.subscribes) (receiver_after limits choice now (Input l.number (wire_back r.client r.window (asks_for w))) r b) (stepped limits choice now (Input l.number (wire_back r.client r.window (asks_for w))) b)
-subscribes_in_step largest ids limits choice now birth ns w rest r l s b k a tidy up =
+abbrev asking : Wish → Receiver → ℕ → Call
+asking w r n = Input n (wire_back r.client r.window (asks_for w))
+
+-- what it brings, on whatever line
+record Brings (largest : ℕ) (ids : List CopyId) (limits : Limits) (choice : MemberChoice) (now birth : ℕ) (ns : List ℕ) (w : Wish) (r : Receiver) (n : ℕ) (b : Broker) : Type 0 where
+  pub more : List CopyId
+  pub new : AllByRecursion (IsBroughtCopy birth (suc b.records.subscribes)) more
+  pub runs : RunsFor largest (ids ++ more) birth r (stepped limits choice now (asking w r n) b)
+  pub served : IsServed r.client birth ns (stepped limits choice now (asking w r n) b)
+  pub hush : AllByRecursion IsHushed (deeds_in limits choice now (asking w r n) b)
+
+-- with its session connected on the line of this receiver of its name
+brings : (largest : ℕ) (ids : List CopyId) (limits : Limits) (choice : MemberChoice) (now birth : ℕ) (ns : List ℕ) (w : Wish) (r there : Receiver) (l : BrokerLine) (s : Session) (b : Broker)
+    → IsInStep largest ids birth ns r b → there.client ≡ r.client → IsListening there l s b → IsTidy limits b → Brings largest ids limits choice now birth ns w r l.number b
+brings largest ids limits choice now birth ns w r there l s b k name a tidy =
     let env = env_of limits choice b in
     let n = l.number in
     let packet = wire_back r.client r.window (asks_for w) in
@@ -490,17 +503,17 @@ subscribes_in_step largest ids limits choice now birth ns w rest r l s b k a tid
     let first = at_moment now b in
     let c = heard_of now n b in
     let v = k.served in
-    let its : s.birth ≡ birth = (all_at birth_of (IsOurs r.client birth) s.birth s b.records.sessions v.sessions a.session).named a.client in
+    let its : s.birth ≡ birth = (all_at birth_of (IsOurs r.client birth) s.birth s b.records.sessions v.sessions a.session).named (a.client ∙ name) in
     let at : session_at birth b.records ≡ Some s = ap (λ (j : ℕ). session_at j b.records) (sym its) ∙ a.session in
     let served : IsServed r.client birth ns first = record { sessions = v.sessions; lines = v.lines; births = v.births; given = v.given } in
     let runs : RunsFor largest (ids ++ []) birth r first = λ number m.
     first_runs number largest (ids ++ []) birth r now b (subst (λ (all : List CopyId). RunsWithAll number largest all birth r b) (sym (append-nil ids)) (k.runs number (subst (AreNumbered number) (append-nil ids) m))) in
     let stands : Stands r s s first c = record {
       found = a.session;
-      client = a.client;
+      client = a.client ∙ name;
       birth = refl;
       queue = refl;
-      only = a.only;
+      only = subst (λ (client : List ℕ). IsOnly client s.birth b.records) name a.only;
       went = went_heard s.birth first.now n b.lines;
       lines = λ m. quiet_line s.birth m first.now (On n Hear) b.lines tt;
     } in
@@ -509,7 +522,7 @@ subscribes_in_step largest ids limits choice now birth ns w rest r l s b k a tid
       queues = record { ordered = tidy.ordered; short = tidy.queues };
       session = s;
       found = at;
-      runs = moved_for largest (ids ++ []) birth ns r s s first c served a.session a.client its stands runs;
+      runs = moved_for largest (ids ++ []) birth ns r s s first c served a.session (a.client ∙ name) its stands runs;
     } in
     let p : Asking = record { identifier = 1; properties = identified w.identifier; subscriptions = record { filter = w.filter; options = options_byte w.options } ∷ [] } in
     let own = on_subscribe env n s p c in
@@ -524,10 +537,42 @@ subscribes_in_step largest ids limits choice now birth ns w rest r l s b k a tid
     record {
       more = does.more;
       new = does.new;
+      runs = λ number m. done_all number largest (ids ++ does.more) birth r rows last (whole.runs number m);
+      served = moment_served r.client birth ns rows last whole.served;
+      hush = hush;
+    }
+
+pub subscribes_in_step : (largest : ℕ) (ids : List CopyId) (limits : Limits) (choice : MemberChoice) (now birth : ℕ) (ns : List ℕ) (w : Wish) (rest : List Back) (r : Receiver) (l : BrokerLine) (s : Session) (b : Broker)
+    → IsInStep largest ids birth ns r b → IsListening r l s b → IsTidy limits b → r.line.up ≡ asks_for w ∷ rest
+    → Subscribed largest ids birth ns (suc b.records.subscribes) (receiver_after limits choice now (Input l.number (wire_back r.client r.window (asks_for w))) r b) (stepped limits choice now (Input l.number (wire_back r.client r.window (asks_for w))) b)
+subscribes_in_step largest ids limits choice now birth ns w rest r l s b k a tidy up =
+    let call = asking w r l.number in
+    let x = brings largest ids limits choice now birth ns w r r l s b k refl a tidy in
+    let same : filter_map answered (drop 1 r.line.up) ≡ filter_map answered r.line.up = ap (λ (xs : List Back). filter_map answered (drop 1 xs)) up ∙ sym (ap (filter_map answered) up) in
+    record {
+      more = x.more;
+      new = x.new;
       in_step = record {
-        runs = λ number m.
-            told_hushed number largest (ids ++ does.more) birth r call w rest ds (stepped limits choice now call b) hush up (done_all number largest (ids ++ does.more) birth r rows last (whole.runs number m));
-        served = moment_served r.client birth ns rows last whole.served;
+        runs = λ number m. told_hushed number largest (ids ++ x.more) birth r call (drop 1 r.line.up) r.line.old (deeds_in limits choice now call b) (stepped limits choice now call b) x.hush same refl (x.runs number m);
+        served = x.served;
+        lines = record { own = k.lines.own; old = k.lines.old };
+      };
+    }
+
+-- on the line that it gave up
+pub old_subscribes_in_step : (largest : ℕ) (ids : List CopyId) (limits : Limits) (choice : MemberChoice) (now birth : ℕ) (ns : List ℕ) (w : Wish) (rest : List Back) (r : Receiver) (l : BrokerLine) (s : Session) (b : Broker)
+    → IsInStep largest ids birth ns r b → IsLingering r l s b → IsTidy limits b → r.line.old ≡ asks_for w ∷ rest
+    → Subscribed largest ids birth ns (suc b.records.subscribes) (reads_old_wish limits choice now l.number w r b) (stepped limits choice now (Input l.number (wire_back r.client r.window (asks_for w))) b)
+old_subscribes_in_step largest ids limits choice now birth ns w rest r l s b k a tidy old =
+    let call = asking w r l.number in
+    let x = brings largest ids limits choice now birth ns w r (turned_back r) l s b k refl a tidy in
+    let same : filter_map answered (drop 1 r.line.old) ≡ filter_map answered r.line.old = ap (λ (xs : List Back). filter_map answered (drop 1 xs)) old ∙ sym (ap (filter_map answered) old) in
+    record {
+      more = x.more;
+      new = x.new;
+      in_step = record {
+        runs = λ number m. told_hushed number largest (ids ++ x.more) birth r call r.line.up (drop 1 r.line.old) (deeds_in limits choice now call b) (stepped limits choice now call b) x.hush refl same (x.runs number m);
+        served = x.served;
         lines = record { own = k.lines.own; old = k.lines.old };
       };
     }

@@ -81,7 +81,7 @@ of_others client birth ns (d ∷ ds) q = (q.0.0, of_others client birth ns ds q.
 
 -- ---- deeds of a queue
 
-queue_leave : (s : Session) (t : Turn) → AreOfQueue (leave_deeds s t)
+pub queue_leave : (s : Session) (t : Turn) → AreOfQueue (leave_deeds s t)
 queue_leave s (turns.Leave place ending) = by (row_at copy_place place s.queue)
   where
     by : (o : Option CopyRow) → AreOfQueue (of_entry o (λ e. At (whose s) (Leave e ending) ∷ []))
@@ -94,7 +94,7 @@ queue_leave s (turns.Outgrow place id order) = tt
 queue_leave s (turns.Repeat id) = tt
 queue_leave s (turns.Unknown id) = tt
 
-queue_leaves : (s : Session) (ts : List Turn) → AreOfQueue (flat_map (leave_deeds s) ts)
+pub queue_leaves : (s : Session) (ts : List Turn) → AreOfQueue (flat_map (leave_deeds s) ts)
 queue_leaves s ts = each_flat IsOfQueue (leave_deeds s) (queue_leave s) ts
 
 pub queue_enter : (env : Env) (copy : MessageCopy) (s : Session) → AreOfQueue (enter_deeds env copy s)

@@ -9,3 +9,4 @@ pub mod Restarts
 pub mod Own
 pub mod Drains
 pub mod Rounds
+pub mod Late

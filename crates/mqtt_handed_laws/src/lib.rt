@@ -7,6 +7,7 @@ mod connect_laws;
 mod copy_laws;
 mod doing_laws;
 mod drain_laws;
+mod late_laws;
 mod laws;
 mod other_laws;
 mod own_laws;
@@ -26,6 +27,12 @@ pub use copy_laws::{
 };
 pub use doing_laws::{own_doings_leave_a_receiver_awaiting, own_doings_leave_a_receiver_in_step};
 pub use drain_laws::a_script_with_drains_is_a_run;
+pub use late_laws::{
+    a_connect_on_the_line_given_up_puts_a_receiver_in_step,
+    a_line_without_session_leaves_a_receiver_as_it_is,
+    a_subscribe_on_the_line_given_up_leaves_a_receiver_in_step,
+    calls_of_others_leave_a_receiver_awaiting,
+};
 pub use laws::{
     a_lost_line_is_a_step_of_the_hop, a_run_of_the_hop_hands_over_once,
     answers_of_a_receiver_are_steps_of_the_hop, own_doings_of_a_receiver_are_steps_of_the_hop,
