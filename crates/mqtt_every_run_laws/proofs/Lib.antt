@@ -2,3 +2,9 @@ pub mod Around
 pub mod Numbers
 pub mod Like
 pub mod Comings
+pub mod Outside
+pub mod Asking
+pub mod Strangers
+pub mod Joining
+pub mod Restarts
+pub mod Ticks

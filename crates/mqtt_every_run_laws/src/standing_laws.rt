@@ -1,10 +1,11 @@
 //! Laws of the events of the world, for a receiver: what it sees stays a run of its hop (4.3, 4.4).
-ghost use Rattle.std.specs.Prelude.{◌≡◌, ℕ, List, false, true};
+ghost use Rattle.std.specs.Prelude.{◌≡◌, ℕ, Bool, List, false, true};
 ghost use Rattle.mqtt_base.specs.declared.session.CopyId.{CopyId};
-ghost use Rattle.mqtt_every_run_laws.specs.Standing.{StandsWith};
+ghost use Rattle.mqtt_every_run_laws.specs.Standing.{Stands, StandsWith};
 ghost use Rattle.mqtt_laws.specs.Ends.{Draft, Wish};
-ghost use Rattle.mqtt_laws.specs.Run.{carries_clean};
-ghost use Rattle.mqtt_laws.specs.World.{Setting, World, clock, give_up, happens, is_bad, publish, publisher, receiver, subscribe, to_end};
+ghost use Rattle.mqtt_laws.specs.Run.{carries_clean, read_asked, read_first, read_opening};
+ghost use Rattle.mqtt_laws.specs.World.{Asking, Setting, World, asks, before, break, clock, connect_end, give_up, happens, is_bad, is_bad_asking, old_to_broker, publish, publisher, pump, receiver, restart, stop_before, stranger, subscribe, tick, to_broker, to_end};
+ghost use Rattle.mqtt_world_laws.specs.Spending.{spending};
 
 /// Whatever an end does leaves a receiver standing, be it the receiver itself or another, with the same copies and
 /// lines: ends come, give a line up, publish, ask for subscriptions and read, and time passes (3.1.2.4, 4.3, 4.4).
@@ -30,4 +31,56 @@ pub fn what_ends_do_leaves_a_receiver_standing()
     ensures waits { (client : List ℕ) (wait largest : ℕ) (set : Setting) (ids : List CopyId) (ns : List ℕ) (w : World)
         → StandsWith client largest set.limits ids ns w
         → StandsWith client largest set.limits ids ns (happens set (clock wait) w) }
+{}
+
+/// What the broker is asked for another end leaves a receiver standing: a packet of it is read, on its line or on the one
+/// that it gave up, what waits for it is sent, or its line is lost (3.1.4, 3.3.4, 4.4).
+pub fn what_is_asked_for_others_leaves_a_receiver_standing()
+    ensures reads { (client name : List ℕ) (largest : ℕ) (set : Setting) (w : World)
+        → Stands client largest set.limits w → (name ≡ client → ⊥) → read_first spending set (to_broker name) w ≡ false
+        → Stands client largest set.limits (asks set (to_broker name) w) }
+    ensures reads_old { (client name : List ℕ) (largest : ℕ) (set : Setting) (w : World)
+        → Stands client largest set.limits w → (name ≡ client → ⊥)
+        → read_first spending set (old_to_broker name) w ≡ false
+        → Stands client largest set.limits (asks set (old_to_broker name) w) }
+    ensures sends { (client name : List ℕ) (largest : ℕ) (set : Setting) (w : World)
+        → Stands client largest set.limits w → (name ≡ client → ⊥) → read_first spending set (pump name) w ≡ false
+        → Stands client largest set.limits (asks set (pump name) w) }
+    ensures loses { (client name : List ℕ) (largest : ℕ) (set : Setting) (w : World)
+        → Stands client largest set.limits w → (name ≡ client → ⊥) → read_first spending set (break name) w ≡ false
+        → Stands client largest set.limits (asks set (break name) w) }
+
+    // Bytes of a stranger, of which each whole packet is answered.
+    ensures comes { (client name bytes : List ℕ) (largest : ℕ) (set : Setting) (w : World)
+        → Stands client largest set.limits w → is_bad_asking (stranger name bytes) w ≡ false
+        → read_asked spending set (stranger name bytes) w ≡ false
+        → Stands client largest set.limits (asks set (stranger name bytes) w) }
+{}
+
+/// An end joins by a new line and CONNECT, be it a receiver itself or another: the receiver stands as before, and the line
+/// is its own, or another's (3.1, 4.2).
+pub fn a_new_line_leaves_a_receiver_standing()
+    ensures joins { (client name : List ℕ) (clean : Bool) (largest : ℕ) (set : Setting) (w : World)
+        → Stands client largest set.limits w → is_bad (connect_end name clean) w ≡ false
+        → carries_clean (connect_end name clean) w ≡ true
+        → Stands client largest set.limits (happens set (connect_end name clean) w) }
+{}
+
+/// The broker restarts, or stops before the commit of whatever it is asked for and restarts: a receiver stands as before,
+/// on no line, with the copies that entered its queue as the broker opened behind those that entered before (4.1, 4.4).
+pub fn a_restart_leaves_a_receiver_standing()
+    ensures restarts { (client : List ℕ) (largest : ℕ) (set : Setting) (w : World)
+        → Stands client largest set.limits w → read_opening spending set w ≡ false
+        → Stands client largest set.limits (happens set restart w) }
+    ensures stops { (client : List ℕ) (a : Asking) (largest : ℕ) (set : Setting) (w : World)
+        → Stands client largest set.limits w → read_opening spending set (before set a w) ≡ false
+        → Stands client largest set.limits (happens set (stop_before a) w) }
+{}
+
+/// A tick leaves a receiver standing, whatever it does: it is made for others, or closes a line on which the receiver's own
+/// CONNECT didn't come in time (3.1, 4.1).
+pub fn a_tick_leaves_a_receiver_standing()
+    ensures ticks { (client : List ℕ) (largest : ℕ) (set : Setting) (w : World)
+        → Stands client largest set.limits w → read_first spending set tick w ≡ false
+        → Stands client largest set.limits (asks set tick w) }
 {}
