@@ -8,3 +8,4 @@ pub mod Strangers
 pub mod Joining
 pub mod Restarts
 pub mod Ticks
+pub mod Losses

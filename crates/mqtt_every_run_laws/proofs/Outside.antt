@@ -58,7 +58,7 @@ apart_from m k ns out inside = elim (cases_Bool (nat_eq m k)) [
   | inr other ↦ other
 ]
 
-listed : (n : ℕ) (ns : List ℕ) → is_one_of (Some n) ns ≡ true → is_one_of (Some n) (0 ∷ ns) ≡ true
+pub listed : (n : ℕ) (ns : List ℕ) → is_one_of (Some n) ns ≡ true → is_one_of (Some n) (0 ∷ ns) ≡ true
 listed n ns h = by (nat_eq 0 n)
   where
     by : (t : Bool) → (t || is_one_of (Some n) ns) ≡ true
@@ -104,7 +104,7 @@ pub record GoesFurther (largest : ℕ) (ids : List CopyId) (ns : List ℕ) (r : 
   pub more : List CopyId
   pub placed : IsPlaced largest (ids ++ more) ns r b
 
-past_later : (few many : ℕ) (ids : List CopyId) → few ≤ many → AllByRecursion (IsPast few) ids → AllByRecursion (IsPast many) ids
+pub past_later : (few many : ℕ) (ids : List CopyId) → few ≤ many → AllByRecursion (IsPast few) ids → AllByRecursion (IsPast many) ids
 past_later few many ids le h = all_more (IsPast few) (IsPast many) ids (λ x p. omega (arith, p, le)) h
 
 new_past : (birth before last : ℕ) (ids : List CopyId) → AllByRecursion (IsNewCopy birth before last) ids → AllByRecursion (IsPast last) ids

@@ -34,7 +34,7 @@ pub fn what_ends_do_leaves_a_receiver_standing()
 {}
 
 /// What the broker is asked for another end leaves a receiver standing: a packet of it is read, on its line or on the one
-/// that it gave up, what waits for it is sent, or its line is lost (3.1.4, 3.3.4, 4.4).
+/// that it gave up, or what waits for it is sent (3.1.4, 3.3.4, 4.4).
 pub fn what_is_asked_for_others_leaves_a_receiver_standing()
     ensures reads { (client name : List ℕ) (largest : ℕ) (set : Setting) (w : World)
         → Stands client largest set.limits w → (name ≡ client → ⊥) → read_first spending set (to_broker name) w ≡ false
@@ -46,15 +46,20 @@ pub fn what_is_asked_for_others_leaves_a_receiver_standing()
     ensures sends { (client name : List ℕ) (largest : ℕ) (set : Setting) (w : World)
         → Stands client largest set.limits w → (name ≡ client → ⊥) → read_first spending set (pump name) w ≡ false
         → Stands client largest set.limits (asks set (pump name) w) }
-    ensures loses { (client name : List ℕ) (largest : ℕ) (set : Setting) (w : World)
-        → Stands client largest set.limits w → (name ≡ client → ⊥) → read_first spending set (break name) w ≡ false
-        → Stands client largest set.limits (asks set (break name) w) }
 
     // Bytes of a stranger, of which each whole packet is answered.
     ensures comes { (client name bytes : List ℕ) (largest : ℕ) (set : Setting) (w : World)
         → Stands client largest set.limits w → is_bad_asking (stranger name bytes) w ≡ false
         → read_asked spending set (stranger name bytes) w ≡ false
         → Stands client largest set.limits (asks set (stranger name bytes) w) }
+{}
+
+/// The line of an end is lost, be it a receiver's own or another's, and the end leaves it: the receiver stands as before, with
+/// its session connected nowhere if it was connected there (4.4).
+pub fn a_lost_line_leaves_a_receiver_standing()
+    ensures loses { (client name : List ℕ) (largest : ℕ) (set : Setting) (w : World)
+        → Stands client largest set.limits w → read_first spending set (break name) w ≡ false
+        → Stands client largest set.limits (asks set (break name) w) }
 {}
 
 /// An end joins by a new line and CONNECT, be it a receiver itself or another: the receiver stands as before, and the line
