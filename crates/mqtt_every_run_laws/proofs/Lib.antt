@@ -9,3 +9,4 @@ pub mod Joining
 pub mod Restarts
 pub mod Ticks
 pub mod Losses
+pub mod Replies

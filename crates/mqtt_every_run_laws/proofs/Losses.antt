@@ -92,7 +92,7 @@ left_placed largest ids ns r b placed = record {
 
 -- ---- whose session it is, where it is in step or awaits one
 
-none_named : (client : List ℕ) (birth : ℕ) (s : Session) (ss : List Session) → find (λ (x : Session). nat_eq x.birth birth) ss ≡ Some s → s.client ≡ client → find (λ (x : Session). bytes_eq x.client client) ss ≡ None → ⊥
+pub none_named : (client : List ℕ) (birth : ℕ) (s : Session) (ss : List Session) → find (λ (x : Session). nat_eq x.birth birth) ss ≡ Some s → s.client ≡ client → find (λ (x : Session). bytes_eq x.client client) ss ≡ None → ⊥
 none_named client birth s [] at is none = absurd cc
 none_named client birth s (x ∷ xs) at is none = elim (cases_Bool (bytes_eq x.client client)) [
   | inl its ↦ let clash : Some x ≡ None = rw its at none in absurd cc

@@ -1,10 +1,11 @@
 //! Laws of the events of the world, for a receiver: what it sees stays a run of its hop (4.3, 4.4).
-ghost use Rattle.std.specs.Prelude.{◌≡◌, ℕ, Bool, List, false, true};
+ghost use Rattle.std.specs.Prelude.{◌≡◌, ◌∷◌, [], ℕ, Bool, List, Some, false, true};
 ghost use Rattle.mqtt_base.specs.declared.session.CopyId.{CopyId};
 ghost use Rattle.mqtt_every_run_laws.specs.Standing.{Stands, StandsWith};
-ghost use Rattle.mqtt_laws.specs.Ends.{Draft, Wish};
+ghost use Rattle.mqtt_flow.specs.Receiver.{Answer, HasNoConnect};
+ghost use Rattle.mqtt_laws.specs.Ends.{Back, Draft, Receiver, Wish, answers};
 ghost use Rattle.mqtt_laws.specs.Run.{carries_clean, read_asked, read_first, read_opening};
-ghost use Rattle.mqtt_laws.specs.World.{Asking, Setting, World, asks, before, break, clock, connect_end, give_up, happens, is_bad, is_bad_asking, old_to_broker, publish, publisher, pump, receiver, restart, stop_before, stranger, subscribe, tick, to_broker, to_end};
+ghost use Rattle.mqtt_laws.specs.World.{Asking, Setting, World, asks, before, break, clock, connect_end, give_up, happens, is_bad, is_bad_asking, old_to_broker, publish, publisher, pump, receiver, receiver_named, restart, stop_before, stranger, subscribe, tick, to_broker, to_end};
 ghost use Rattle.mqtt_world_laws.specs.Spending.{spending};
 
 /// Whatever an end does leaves a receiver standing, be it the receiver itself or another, with the same copies and
@@ -88,4 +89,13 @@ pub fn a_tick_leaves_a_receiver_standing()
     ensures ticks { (client : List ℕ) (largest : ℕ) (set : Setting) (w : World)
         → Stands client largest set.limits w → read_first spending set tick w ≡ false
         → Stands client largest set.limits (asks set tick w) }
+{}
+
+/// The broker reads a receiver's answer on its line, PUBACK, PUBREC or PUBCOMP: the receiver stands as before, with its
+/// session connected there still, or nowhere where the answer breaks the protocol (4.3.2, 4.3.3, 4.13).
+pub fn an_answer_leaves_a_receiver_standing()
+    ensures reads { (client : List ℕ) (a : Answer) (rest : List Back) (largest : ℕ) (set : Setting) (r : Receiver)
+        → (w : World) → Stands client largest set.limits w → receiver_named client w ≡ Some r
+        → HasNoConnect (a ∷ []) → r.line.up ≡ answers a ∷ rest → read_first spending set (to_broker client) w ≡ false
+        → Stands client largest set.limits (asks set (to_broker client) w) }
 {}
