@@ -10,3 +10,4 @@ pub mod Restarts
 pub mod Ticks
 pub mod Losses
 pub mod Replies
+pub mod OldReplies

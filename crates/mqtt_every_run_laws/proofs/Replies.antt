@@ -69,7 +69,7 @@ module _ (client : List ℕ) (birth n : ℕ) where
   mine_answer env (Ok (Some t)) r l s b c a at = mine_turn c.now l.number s t
   mine_answer env (Err fault) r l s b c a at = subst (AreMine client birth n) (sym (drop_is env protocol_error l s c at a.connected a.no_will a.no_end)) (inr tt, (inr tt, (inr tt, tt)))
 
-  answer_owns : (limits : Limits) (choice : MemberChoice) (now : ℕ) (packet : Packet) (x : rules.Answer) (r : Receiver) (l : BrokerLine) (s : Session) (b : Broker) → IsListening r l s b
+  pub answer_owns : (limits : Limits) (choice : MemberChoice) (now : ℕ) (packet : Packet) (x : rules.Answer) (r : Receiver) (l : BrokerLine) (s : Session) (b : Broker) → IsListening r l s b
       → next_packet (env_of limits choice b) l packet s (heard_of now l.number b) ≡ on_answer x (env_of limits choice b) l s (heard_of now l.number b)
       → Own client birth n b → Own client birth n (stepped limits choice now (Input l.number packet) b)
   answer_owns limits choice now packet x r l s b a e own =
@@ -85,10 +85,10 @@ module _ (client : List ℕ) (birth n : ℕ) where
 
 -- ---- what is under way there
 
-some_up : (x : Answer) (rest xs : List Back) → xs ≡ answers x ∷ rest → map packet_like xs ≡ [] → ⊥
+pub some_up : (x : Answer) (rest xs : List Back) → xs ≡ answers x ∷ rest → map packet_like xs ≡ [] → ⊥
 some_up x rest xs up e = let clash : packet_like (answers x) ∷ map packet_like rest ≡ [] = sym (ap (map packet_like) up) ∙ e in absurd cc
 
-no_connect_up : (x : Answer) (clean : Bool) (rest xs : List Back) → HasNoConnect (x ∷ []) → xs ≡ answers x ∷ rest → map packet_like xs ≡ shake (CONNECT clean) ∷ [] → ⊥
+pub no_connect_up : (x : Answer) (clean : Bool) (rest xs : List Back) → HasNoConnect (x ∷ []) → xs ≡ answers x ∷ rest → map packet_like xs ≡ shake (CONNECT clean) ∷ [] → ⊥
 no_connect_up (connect c) clean rest xs none up e = none
 no_connect_up (puback i code) clean rest xs none up e = let clash : plain no_content ∷ map packet_like rest ≡ shake (CONNECT clean) ∷ [] = sym (ap (map packet_like) up) ∙ e in absurd cc
 no_connect_up (pubrec i code) clean rest xs none up e = let clash : plain no_content ∷ map packet_like rest ≡ shake (CONNECT clean) ∷ [] = sym (ap (map packet_like) up) ∙ e in absurd cc
@@ -102,7 +102,7 @@ no_number o k x rest r b (joined birth own at there) is up = let clash : Some k 
 
 -- ---- where it is after it
 
-named_there : (largest : ℕ) (ids : List CopyId) (birth : ℕ) (ns : List ℕ) (r : Receiver) (b : Broker) → IsInStep largest ids birth ns r b → AllDiffer ids → is_some (session_named r.client b.records) ≡ true
+pub named_there : (largest : ℕ) (ids : List CopyId) (birth : ℕ) (ns : List ℕ) (r : Receiver) (b : Broker) → IsInStep largest ids birth ns r b → AllDiffer ids → is_some (session_named r.client b.records) ≡ true
 named_there largest ids birth ns r b k differ = by (session_named r.client b.records) refl
   where
     by : (o : Option Session) → session_named r.client b.records ≡ o → is_some o ≡ true

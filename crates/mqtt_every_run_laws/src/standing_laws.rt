@@ -91,11 +91,17 @@ pub fn a_tick_leaves_a_receiver_standing()
         → Stands client largest set.limits (asks set tick w) }
 {}
 
-/// The broker reads a receiver's answer on its line, PUBACK, PUBREC or PUBCOMP: the receiver stands as before, with its
-/// session connected there still, or nowhere where the answer breaks the protocol (4.3.2, 4.3.3, 4.13).
+/// The broker reads a receiver's answer, PUBACK, PUBREC or PUBCOMP, on its line or on the one that it gave up: the receiver
+/// stands as before, with its session connected there still, or nowhere where the answer breaks the protocol (4.3.2, 4.3.3,
+/// 4.4, 4.13).
 pub fn an_answer_leaves_a_receiver_standing()
     ensures reads { (client : List ℕ) (a : Answer) (rest : List Back) (largest : ℕ) (set : Setting) (r : Receiver)
         → (w : World) → Stands client largest set.limits w → receiver_named client w ≡ Some r
         → HasNoConnect (a ∷ []) → r.line.up ≡ answers a ∷ rest → read_first spending set (to_broker client) w ≡ false
         → Stands client largest set.limits (asks set (to_broker client) w) }
+    ensures reads_old { (client : List ℕ) (a : Answer) (rest : List Back) (largest : ℕ) (set : Setting) (r : Receiver)
+        → (w : World) → Stands client largest set.limits w → receiver_named client w ≡ Some r
+        → HasNoConnect (a ∷ []) → r.line.old ≡ answers a ∷ rest
+        → read_first spending set (old_to_broker client) w ≡ false
+        → Stands client largest set.limits (asks set (old_to_broker client) w) }
 {}
