@@ -11,3 +11,4 @@ pub mod Ticks
 pub mod Losses
 pub mod Replies
 pub mod OldReplies
+pub mod Standings
