@@ -1,38 +1,26 @@
 -- What other ends and strangers ask of the broker, in the eyes of one receiver: no packet of theirs is a CONNECT of its client,
 -- and none is on a line of its.
-use Rattle.std.proofs.Common.{◌≡◌, ℕ, zero, suc, ◌≤◌, Bool, true, false, cond, ◌||◌, ◌⊎◌, List, [], ◌∷◌, ◌++◌, drop, length, map, Option, Some, None, nat_eq, bytes_eq, refl, sym, ap, subst, ◌∙◌, arith, inl, inr}
-use Rattle.std.specs.Prelude.{Ok, Err, find, is_some, option_map}
+use Rattle.std.proofs.Common.{◌≡◌, ℕ, false, List, [], ◌∷◌, map, Option, Some, None, bytes_eq, refl, sym, ap, subst, ◌∙◌, inl, inr}
+use Rattle.std.specs.Prelude.{is_some}
 use Rattle.std.specs.List.{AllByRecursion}
-use Rattle.std.proofs.lemmas.Bool.{cases_Bool}
-use Rattle.std.proofs.lemmas.Slice.Eq.{bytes_eq-Decides}
 use Rattle.mqtt_base.specs.declared.session.CopyId.{CopyId}
-use Rattle.mqtt_codec.specs.Faults.{answer_to}
 use Rattle.mqtt_codec.specs.declared.packet.Packet.{Packet}
-use Rattle.mqtt_codec.specs.declared.packet.Packet.TheVariants.{Connect}
 use Rattle.mqtt_flow.specs.Receiver.{connect, puback, pubcomp, pubrec}
 use Rattle.mqtt_inbound.specs.Publisher.{CONNECT, PUBLISH_1, PUBLISH_2, PUBREL}
 use Rattle.mqtt_laws.specs.Ends.{Back, Content, Publisher, Receiver, Sent, answers, asks_for, plain, shake, wire, wire_back}
 use Rattle.mqtt_laws.specs.Hops.{IsOthers}
-use Rattle.mqtt_laws.specs.Lines.{Line, is_one_of, left}
-use Rattle.mqtt_laws.specs.Run.{read_asked, read_first, read_if, read_rest}
-use Rattle.mqtt_laws.specs.World.{Setting, Stranger, View, World, answers_rest, asks, break, bytes_held, bytes_name, call_of, call_of_stranger, call_on, calls, calls_if, comes, first_step, front_names, held_after, held_count, input_on, is_bad_asking, is_end, linked_at, lost_on, names_end, next_held, old_to_broker, publisher_named, pump, pump_on, receiver_named, stranger, stranger_named, taken_old, taken_up, to_broker, view_by, view_of, with_line}
-use Rattle.mqtt_laws.proofs.Frame.{kept_given}
+use Rattle.mqtt_laws.specs.Lines.{Line, left}
+use Rattle.mqtt_laws.specs.Run.{read_first}
+use Rattle.mqtt_laws.specs.World.{Setting, View, World, asks, break, call_of, first_step, input_on, lost_on, old_to_broker, publisher_named, pump, pump_on, receiver_named, taken_old, taken_up, to_broker, view_by, view_of, with_line}
 use Rattle.mqtt_laws.proofs.Lists.{all_find}
-use Rattle.mqtt_packet.specs.Front.{first_of}
-use Rattle.mqtt_packet.specs.Front as fronts
-use Rattle.mqtt_rules.specs.Deeds.{Deed, Link, after_all, rows_of_all}
-use Rattle.mqtt_rules.specs.Piece.{Front, begins_connect, call_by, code_of}
-use Rattle.mqtt_rules.specs.State.{Broker}
-use Rattle.mqtt_rules.specs.Step.{BadInput, Call, Input, Lost, NewLine, Pump, at_moment, can_link, deeds, stepped}
+use Rattle.mqtt_rules.specs.Step.{Call, Input, Lost, Pump}
 use Rattle.mqtt_rules.specs.declared.Limits.{Limits}
 use Rattle.mqtt_world_laws.specs.Spending.{spending}
-use Rattle.mqtt_world_laws.proofs.Ends.{all_appended, all_mapped, find_last, named_publisher, named_receiver}
+use Rattle.mqtt_world_laws.proofs.Ends.{named_publisher, named_receiver}
 use Rattle.mqtt_world_laws.proofs.FirstPackets.{Takes, takes_old, takes_up}
-use Rattle.mqtt_world_laws.proofs.Steady.{linking_spends_none}
-use Rattle.mqtt_world_laws.proofs.Strangers.{linked_given}
-use Rattle.mqtt_every_run_laws.specs.Standing.{HasOthers, IsAnothers, IsAround, IsOtherPublisher, IsOtherReceiver, IsOtherStranger, Stands, StandsWith}
+use Rattle.mqtt_every_run_laws.specs.Standing.{HasOthers, IsAnothers, IsAround, IsOtherPublisher, IsOtherReceiver, Stands, StandsWith}
 use Rattle.mqtt_every_run_laws.proofs.Around.{IsNotIts, changed_not, end_others, on_back, on_line}
-use Rattle.mqtt_every_run_laws.proofs.Outside.{IsOutside, calls_stand, if_stands, if_there}
+use Rattle.mqtt_every_run_laws.proofs.Outside.{IsOutside, if_stands, if_there}
 
 -- ---- their packets
 

@@ -1,7 +1,7 @@
 -- Ends come, give a line up, publish, ask for subscriptions and read, in the eyes of one receiver.
-use Rattle.std.proofs.Common.{◌≡◌, ℕ, Bool, true, false, cond, not, ◌||◌, ◌&&◌, ◌⊎◌, List, [], ◌∷◌, ◌++◌, length, map, Option, Some, None, nat_eq, nat_lt, bytes_eq, refl, sym, ap, subst, ◌∙◌, inl, inr}
-use Rattle.std.specs.Prelude.{filter_map, is_some, option_map}
-use Rattle.std.specs.List.{AllByRecursion, starts_with}
+use Rattle.std.proofs.Common.{◌≡◌, ℕ, Bool, true, false, cond, not, ◌||◌, ◌&&◌, List, [], ◌∷◌, length, Option, Some, None, nat_eq, nat_lt, bytes_eq, refl, sym, ap, subst, ◌∙◌, inl, inr}
+use Rattle.std.specs.Prelude.{is_some, option_map}
+use Rattle.std.specs.List.{starts_with}
 use Rattle.std.proofs.lemmas.Bool.{cases_Bool}
 use Rattle.std.proofs.lemmas.Slice.Eq.{bytes_eq-Decides}
 use Rattle.mqtt_base.specs.declared.limits.TheConstants.{CLIENT_LIMIT}
@@ -14,18 +14,16 @@ use Rattle.mqtt_laws.specs.Lines.{Line, gives_up, stands}
 use Rattle.mqtt_laws.specs.Run.{carries_clean, is_asked, is_clean}
 use Rattle.mqtt_laws.specs.Seats.{IsNamed, Present, Seat, absent, closed, joined, over, waiting}
 use Rattle.mqtt_laws.specs.Seen.{is_linked}
-use Rattle.mqtt_laws.specs.World.{Setting, World, asks_wish, clock, give_up, happens, is_bad, is_bad_name, is_open_line, is_taken, is_window, is_wish, link_by, may_ask, may_ask_on, publish, publisher, publisher_named, receiver, receiver_named, subscribe, to_end, with_publisher, with_receiver}
+use Rattle.mqtt_laws.specs.World.{Setting, World, asks_wish, clock, give_up, happens, is_bad, is_bad_name, is_open_line, is_taken, is_window, is_wish, link_by, may_ask, may_ask_on, publish, publisher, publisher_named, receiver, receiver_named, subscribe, to_end, with_receiver}
 use Rattle.mqtt_laws.proofs.Seats.{idle_linked}
 use Rattle.mqtt_records.specs.Session.{auto}
 use Rattle.mqtt_rows.specs.Distinct.{AllDiffer}
 use Rattle.mqtt_rules.specs.State.{Broker, session_named}
-use Rattle.mqtt_rules.specs.declared.Limits.{Limits}
 use Rattle.mqtt_world_laws.proofs.Ends.{all_appended, all_mapped, find_last, find_no_more, find_publisher, find_receiver, is_some_mapped, only_client, only_receiver}
 use Rattle.mqtt_world_laws.proofs.Kept.{published_remains, read_remains, read_there}
 use Rattle.mqtt_handed_laws.specs.Handing.{IsRun}
-use Rattle.mqtt_handed_laws.specs.Seen.{Numbering}
 use Rattle.mqtt_handed_laws.proofs.OwnDoings.{asks_awaiting, asks_in_step, comes_awaiting, gives_up_awaiting, gives_up_in_step, reads_awaiting, reads_in_step}
-use Rattle.mqtt_every_run_laws.specs.Standing.{GoesAlong, HasOthers, IsAround, IsOtherPublisher, IsOtherReceiver, IsPlaced, IsSeen, StandsWith, line_like, publisher_like}
+use Rattle.mqtt_every_run_laws.specs.Standing.{GoesAlong, HasOthers, IsOtherPublisher, IsOtherReceiver, IsPlaced, IsSeen, StandsWith, line_like, publisher_like}
 use Rattle.mqtt_every_run_laws.proofs.Around.{changed_its, changed_not, end_others, on_back, on_line, others_kept, own_stands, unlined, whose_name}
 use Rattle.mqtt_every_run_laws.proofs.Like.{calm_up, closed_stands, connected_linked, joined_stands, moves_reading, none_stands, quiet_down, same_reading, seat_asked, seat_given, seat_read}
 use Rattle.mqtt_every_run_laws.proofs.Numbers.{place_of, places_number}

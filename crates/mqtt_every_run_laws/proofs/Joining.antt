@@ -1,5 +1,5 @@
 -- An end joins by a new line and CONNECT, in the eyes of one receiver: itself, or another.
-use Rattle.std.proofs.Common.{◌≡◌, ℕ, suc, ◌≤◌, Bool, true, false, cond, not, ◌||◌, ◌⊎◌, List, [], ◌∷◌, ◌++◌, Option, Some, None, nat_eq, refl, sym, ap, subst, ◌∙◌, append-nil, arith, inl, inr}
+use Rattle.std.proofs.Common.{◌≡◌, ℕ, suc, ◌≤◌, Bool, true, false, cond, not, ◌||◌, ◌⊎◌, List, ◌∷◌, Option, Some, None, nat_eq, refl, sym, ap, subst, ◌∙◌, arith, inl, inr}
 use Rattle.std.specs.Prelude.{is_some, option_map}
 use Rattle.std.specs.List.{AllByRecursion}
 use Rattle.std.proofs.lemmas.Bool.{cases_Bool, eqb-true}
@@ -10,7 +10,7 @@ use Rattle.mqtt_inbound.specs.Publisher.{CONNECT}
 use Rattle.mqtt_laws.specs.Ends.{Back, Publisher, Receiver, Sent, answers, shake}
 use Rattle.mqtt_laws.specs.Lines.{Line, is_one_of, joined}
 use Rattle.mqtt_laws.specs.Run.{carries_clean, is_clean}
-use Rattle.mqtt_laws.specs.World.{Setting, Stranger, World, calls, connect_end, happens, is_away, is_bad, link_by, links, publisher_named, publisher_told, receiver_named, receiver_told}
+use Rattle.mqtt_laws.specs.World.{Setting, World, calls, connect_end, happens, is_away, is_bad, link_by, links, publisher_told, receiver_named, receiver_told}
 use Rattle.mqtt_laws.proofs.Joins.{new_is}
 use Rattle.mqtt_rules.specs.State.{Broker}
 use Rattle.mqtt_rules.specs.Step.{NewLine, can_link, stepped, told}
@@ -21,7 +21,7 @@ use Rattle.mqtt_handed_laws.specs.Handing.{MayComeBack, receiver_joined}
 use Rattle.mqtt_handed_laws.proofs.OwnDoings.{joins_awaiting, joins_in_step}
 use Rattle.mqtt_handed_laws.proofs.Stopping.{step_tidy}
 use Rattle.mqtt_every_run_laws.specs.Standing.{GoesAlong, HasOthers, IsAnothers, IsAround, IsOtherStranger, IsPast, IsPlaced, IsSeen, Stands, StandsWith}
-use Rattle.mqtt_every_run_laws.proofs.Around.{IsNotIts, around_mapped, changed_its, end_others, on_back, on_line, own_stands, whose_name}
+use Rattle.mqtt_every_run_laws.proofs.Around.{IsNotIts, around_mapped, end_others, on_back, on_line, own_stands, whose_name}
 use Rattle.mqtt_every_run_laws.proofs.Like.{seat_joined}
 use Rattle.mqtt_every_run_laws.proofs.Outside.{if_there, lines_of, named_called}
 use Rattle.mqtt_every_run_laws.proofs.Strangers.{linking_stands, next_free}

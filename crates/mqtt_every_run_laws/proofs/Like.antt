@@ -1,6 +1,6 @@
 -- Where a receiver is, by what it sees: its lines are as a publisher's, after its doings and the calls of others.
 use Rattle.std.proofs.Common.{◌≡◌, ℕ, suc, ◌≤◌, ◌<◌, Bool, true, false, cond, ◌⊎◌, if◌then◌else◌, List, [], ◌∷◌, ◌++◌, map, Option, Some, None, nat_eq, nat_lt, refl, sym, ap, subst, ◌∙◌, arith, inl, inr}
-use Rattle.std.specs.Prelude.{filter_map, find, is_some, option_map}
+use Rattle.std.specs.Prelude.{filter_map, is_some, option_map}
 use Rattle.std.specs.List.{AllByRecursion, cons_option, list_any}
 use Rattle.std.proofs.lemmas.Bool.{cases_Bool, eqb-true}
 use Rattle.std.proofs.lemmas.Cmp.{nat_eq_equiv}
@@ -10,8 +10,7 @@ use Rattle.mqtt_codec.specs.declared.packet.Packet.TheVariants as packet
 use Rattle.mqtt_codec.specs.declared.publish.Delivery.{Delivery}
 use Rattle.mqtt_codec.specs.declared.publish.Delivery.TheVariants as delivery
 use Rattle.mqtt_codec.specs.declared.publish.Publish.{Publish as Publication}
-use Rattle.mqtt_flow.specs.OutboundCourse.{ConnectsAlone, Heard}
-use Rattle.mqtt_flow.specs.OutboundWorld.{Lot, World as Hop, run, start}
+use Rattle.mqtt_flow.specs.OutboundWorld.{Lot, World as Hop}
 use Rattle.mqtt_flow.specs.Receiver.{Answer, HasNoConnect, IsConnectAlone, IsHeard, connect, puback, pubcomp, pubrec}
 use Rattle.mqtt_flow.proofs.outbound.HopLaw.{alone_of, good_run, heard_of}
 use Rattle.mqtt_flow.proofs.outbound.SessionLives as lives
@@ -20,19 +19,19 @@ use Rattle.mqtt_inbound.specs.Line.{Link, asked, away, live, sent_on}
 use Rattle.mqtt_inbound.specs.Publisher.{CONNECT}
 use Rattle.mqtt_laws.specs.Ends.{Back, Publisher, Receiver, Sent, Wish, answers, asks_for, greeted, hears, receiver_connack, receiver_reads, reads_publish, shake}
 use Rattle.mqtt_laws.specs.Hops.{IsFarCall, IsNoConnect, MayGiveUp}
-use Rattle.mqtt_laws.specs.Lines.{Down, Line, given_up, gives_up, is_one_of, joined as joins_on, left, stands, unless_closed}
+use Rattle.mqtt_laws.specs.Lines.{Down, Line, given_up, gives_up, is_one_of, left, stands, unless_closed}
 use Rattle.mqtt_laws.specs.Seats.{Former, HasNobody, IsHis, IsIdle, IsNamed, IsOff, Present, Seat, absent, closed, connected_at, glance, glance_at, joined, late, lingers, over, waiting, waits_there}
 use Rattle.mqtt_laws.specs.Seen.{heard_in as heard_by_publishers, is_linked}
 use Rattle.mqtt_laws.specs.World.{asks_wish, publisher_told, receiver_told}
 use Rattle.mqtt_laws.proofs.Calls.{off_line, others_of}
 use Rattle.mqtt_laws.proofs.Joins.{new_is}
-use Rattle.mqtt_laws.proofs.Seats.{far_step, idle_linked}
-use Rattle.mqtt_laws.proofs.Seeing.{done_lines, linked_is, linked_of}
+use Rattle.mqtt_laws.proofs.Seats.{far_step}
+use Rattle.mqtt_laws.proofs.Seeing.{linked_is, linked_of}
 use Rattle.mqtt_rows.specs.Order.{IsBelow}
-use Rattle.mqtt_rules.specs.Deeds.{Deed, Link as Linked, after, after_all, fresh_line, rows_of_all}
+use Rattle.mqtt_rules.specs.Deeds.{fresh_line}
 use Rattle.mqtt_rules.specs.Lines.{line_number}
 use Rattle.mqtt_rules.specs.State.{Line as BrokerLine, Broker, MemberChoice, line_at}
-use Rattle.mqtt_rules.specs.Step.{Call, NewLine, Outcome, at_moment, can_link, deeds, stepped, told}
+use Rattle.mqtt_rules.specs.Step.{Call, NewLine, Outcome, at_moment, can_link, stepped, told}
 use Rattle.mqtt_rules.specs.declared.Limits.{Limits}
 use Rattle.mqtt_handed_laws.specs.Handing.{IsRun, receiver_joined}
 use Rattle.mqtt_handed_laws.specs.Seen.{Numbering, answered, heard, heard_in, publish_heard, seen}

@@ -1,17 +1,17 @@
 -- The line of an end is lost, and the end leaves it, in the eyes of one receiver: its own, or another's (MQTT 5.0, 4.4).
-use Rattle.std.proofs.Common.{◌≡◌, ℕ, suc, ◌≤◌, ◌<◌, Bool, true, false, ◌⊎◌, List, [], ◌∷◌, ◌++◌, map, Option, Some, None, nat_eq, bytes_eq, refl, sym, ap, subst, ◌∙◌, append-nil, arith, inl, inr}
+use Rattle.std.proofs.Common.{◌≡◌, ℕ, suc, true, false, ◌⊎◌, List, [], ◌∷◌, ◌++◌, Option, Some, None, nat_eq, bytes_eq, refl, sym, ap, subst, ◌∙◌, arith, inl, inr}
 use Rattle.std.specs.Prelude.{find, is_some, option_map}
 use Rattle.std.specs.List.{AllByRecursion}
 use Rattle.std.proofs.lemmas.Bool.{cases_Bool, eqb-true}
 use Rattle.std.proofs.lemmas.Slice.Eq.{bytes_eq-Decides}
 use Rattle.mqtt_base.specs.declared.session.CopyId.{CopyId}
-use Rattle.mqtt_flow.specs.OutboundWorld.{Lot, World as Hop, break_line, run, start, step}
-use Rattle.mqtt_laws.specs.Ends.{Back, Publisher, Receiver, Sent}
-use Rattle.mqtt_laws.specs.Hops.{IsOurs, Own, lost_by}
-use Rattle.mqtt_laws.specs.Lines.{Line, is_one_of, left}
+use Rattle.mqtt_flow.specs.OutboundWorld.{Lot, World as Hop, break_line, start, step}
+use Rattle.mqtt_laws.specs.Ends.{Publisher, Receiver}
+use Rattle.mqtt_laws.specs.Hops.{IsOurs, lost_by}
+use Rattle.mqtt_laws.specs.Lines.{is_one_of, left}
 use Rattle.mqtt_laws.specs.Run.{read_first, read_if}
-use Rattle.mqtt_laws.specs.Seats.{Comes, Former, IsApart, IsHis, IsIdle, IsNamed, Present, Seat, absent, closed, connected_at, joined, late, lingers, over, waiting}
-use Rattle.mqtt_laws.specs.World.{Setting, World, asks, break, calls, calls_if, first_step, lost_on, publisher_named, receiver_named, receiver_told, view_by, view_of, with_line}
+use Rattle.mqtt_laws.specs.Seats.{IsApart, IsHis, IsIdle, IsNamed, Present, Seat, absent, closed, joined, waiting}
+use Rattle.mqtt_laws.specs.World.{Setting, World, asks, break, calls, calls_if, lost_on, receiver_named, receiver_told, view_by, view_of, with_line}
 use Rattle.mqtt_laws.proofs.Calls.{loses, moved, others_of}
 use Rattle.mqtt_laws.proofs.OwnSeats.{line_of_on, not_among}
 use Rattle.mqtt_laws.proofs.Seats.{remains, remains_done}
@@ -21,20 +21,20 @@ use Rattle.mqtt_rows.specs.Distinct.{AllDiffer}
 use Rattle.mqtt_rules.proofs.FlightRows.{all_at}
 use Rattle.mqtt_rules.proofs.NumberSteps.{step_fell}
 use Rattle.mqtt_rules.specs.Deeds.{after_all, rows_of_all}
-use Rattle.mqtt_rules.specs.State.{Line as BrokerLine, Broker, MemberChoice, session_named}
+use Rattle.mqtt_rules.specs.State.{Broker, MemberChoice, session_named}
 use Rattle.mqtt_rules.specs.Step.{Lost, at_moment, deeds, stepped, told}
 use Rattle.mqtt_rules.specs.declared.Limits.{Limits}
 use Rattle.mqtt_world_laws.specs.Fair.{IsSteady}
 use Rattle.mqtt_world_laws.specs.Spending.{spending}
 use Rattle.mqtt_handed_laws.specs.Handing.{IsRun, receiver_lost}
-use Rattle.mqtt_handed_laws.specs.Own.{IsAwaiting, IsInStep, Listens}
+use Rattle.mqtt_handed_laws.specs.Own.{IsInStep, Listens}
 use Rattle.mqtt_handed_laws.specs.Seen.{Numbering}
 use Rattle.mqtt_handed_laws.proofs.IdleLines.{idle_loss_awaiting, idle_loss_in_step}
 use Rattle.mqtt_handed_laws.proofs.Listening.{listens_in_step}
 use Rattle.mqtt_handed_laws.proofs.OwnCalls.{loss_in_step}
 use Rattle.mqtt_handed_laws.proofs.Refusals.{run_append}
-use Rattle.mqtt_every_run_laws.specs.Standing.{GoesAlong, IsAround, IsPast, IsPlaced, IsSeen, Stands, StandsWith, line_like, publisher_like}
-use Rattle.mqtt_every_run_laws.proofs.Around.{IsNotIts, on_back, on_line, own_stands, whose_name}
+use Rattle.mqtt_every_run_laws.specs.Standing.{GoesAlong, IsPast, IsPlaced, IsSeen, Stands, line_like, publisher_like}
+use Rattle.mqtt_every_run_laws.proofs.Around.{on_back, on_line, own_stands, whose_name}
 use Rattle.mqtt_every_run_laws.proofs.Asking.{other_breaks}
 use Rattle.mqtt_every_run_laws.proofs.Like.{former_as, told_like}
 use Rattle.mqtt_every_run_laws.proofs.Numbers.{place_of, places_number}

@@ -1,40 +1,23 @@
 -- The broker reads a receiver's answer on the line that it gave up, where its session is connected still (MQTT 5.0, 4.3.2,
 -- 4.3.3, 4.4, 4.13).
-use Rattle.std.proofs.Common.{◌≡◌, ℕ, suc, ◌≤◌, Bool, true, false, ◌⊎◌, List, [], ◌∷◌, ◌++◌, drop, map, Option, Some, None, nat_eq, bytes_eq, refl, sym, ap, subst, ◌∙◌, arith, inl, inr}
-use Rattle.std.specs.Prelude.{Err, Ok, filter_map, find, is_some, option_map}
+use Rattle.std.proofs.Common.{◌≡◌, ℕ, false, List, [], ◌∷◌, drop, map, Option, Some, None, refl, sym, ap, subst, ◌∙◌}
+use Rattle.std.specs.Prelude.{is_some, option_map}
 use Rattle.std.specs.List.{AllByRecursion}
-use Rattle.mqtt_base.specs.Codes.{protocol_error}
 use Rattle.mqtt_base.specs.declared.session.CopyId.{CopyId}
-use Rattle.mqtt_codec.specs.declared.packet.Packet.{Packet}
 use Rattle.mqtt_flow.specs.Outbound as rules
-use Rattle.mqtt_flow.specs.OutboundWorld.{World as Hop}
 use Rattle.mqtt_flow.specs.Receiver.{Answer, HasNoConnect, connect, puback, pubcomp, pubrec}
-use Rattle.mqtt_flow.specs.declared.entry.Turn.{Turn}
-use Rattle.mqtt_flow.specs.declared.entry.Turn.TheVariants as turns
-use Rattle.mqtt_inbound.specs.Publisher.{CONNECT}
-use Rattle.mqtt_laws.specs.Ends.{Back, Publisher, Receiver, Sent, answers, no_content, plain, shake, wire_back}
+use Rattle.mqtt_laws.specs.Ends.{Back, Publisher, Receiver, Sent, answers, wire_back}
 use Rattle.mqtt_laws.specs.Hops.{Own}
-use Rattle.mqtt_laws.specs.Lines.{Line, is_one_of}
+use Rattle.mqtt_laws.specs.Lines.{Line}
 use Rattle.mqtt_laws.specs.Run.{read_first, read_if}
 use Rattle.mqtt_laws.specs.Seats.{Former, Present, Seat, absent, closed, joined, late, lingers, over, waiting}
-use Rattle.mqtt_laws.specs.World.{Setting, View, World, asks, calls, calls_if, input_on, publisher_named, receiver_named, receiver_told, taken_up, to_broker, view_by, view_of, with_line, old_to_broker, taken_old}
-use Rattle.mqtt_laws.proofs.Frame.{own_done}
-use Rattle.mqtt_laws.proofs.Mine.{AreMine, mine_append, mine_owns}
+use Rattle.mqtt_laws.specs.World.{Setting, View, World, asks, calls_if, input_on, receiver_named, receiver_told, view_by, view_of, with_line, old_to_broker, taken_old}
 use Rattle.mqtt_laws.proofs.OwnCalls.{input_elsewhere}
 use Rattle.mqtt_laws.proofs.OwnSeats.{lingers_after, line_of_on, not_among, present_after}
-use Rattle.mqtt_laws.proofs.OwnStep.{heard_of, input_is}
-use Rattle.mqtt_laws.proofs.Publishes.{drop_is}
-use Rattle.mqtt_message.specs.Queue.{CopyRow}
-use Rattle.mqtt_records.specs.Session.{copy_place}
 use Rattle.mqtt_records.specs.declared.session.Session.{Session}
-use Rattle.mqtt_rows.specs.Distinct.{AllDiffer}
-use Rattle.mqtt_rows.specs.Order.{row_at}
 use Rattle.mqtt_rules.proofs.NumberSteps.{step_fell}
-use Rattle.mqtt_rules.specs.Deeds.{Deed, after_all, rows_of_all}
-use Rattle.mqtt_rules.specs.Inbound.{on_answer}
-use Rattle.mqtt_rules.specs.Outbound.{of_entry, turn_deeds}
-use Rattle.mqtt_rules.specs.State.{Line as BrokerLine, Broker, Env, MemberChoice, queue_on, session_at, session_named}
-use Rattle.mqtt_rules.specs.Step.{Call, Input, at_moment, deeds, env_of, next_packet, stepped, told}
+use Rattle.mqtt_rules.specs.State.{Line as BrokerLine, Broker, MemberChoice, queue_on}
+use Rattle.mqtt_rules.specs.Step.{Call, Input, stepped, told}
 use Rattle.mqtt_rules.specs.declared.Limits.{Limits}
 use Rattle.mqtt_world_laws.specs.Fair.{IsSteady}
 use Rattle.mqtt_world_laws.specs.Spending.{spending}
@@ -43,7 +26,7 @@ use Rattle.mqtt_handed_laws.specs.Handing.{after_answer}
 use Rattle.mqtt_handed_laws.specs.Own.{IsInStep, Listens}
 use Rattle.mqtt_handed_laws.proofs.Listening.{lingers_in_step}
 use Rattle.mqtt_handed_laws.proofs.OwnCalls.{old_puback_in_step, old_pubcomp_in_step, old_pubrec_in_step}
-use Rattle.mqtt_every_run_laws.specs.Standing.{GoesAlong, IsAround, IsPast, IsPlaced, IsSeen, Stands, line_like, packet_like, publisher_like}
+use Rattle.mqtt_every_run_laws.specs.Standing.{GoesAlong, IsAround, IsPlaced, IsSeen, Stands, line_like, packet_like, publisher_like}
 use Rattle.mqtt_every_run_laws.proofs.Around.{changed_its, on_back, on_line, own_around}
 use Rattle.mqtt_every_run_laws.proofs.Like.{told_like}
 use Rattle.mqtt_every_run_laws.proofs.Outside.{calls_around, named_called, past_later}

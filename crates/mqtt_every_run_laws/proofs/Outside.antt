@@ -1,16 +1,15 @@
 -- A call of the broker that is made for others, in the eyes of one receiver.
-use Rattle.std.proofs.Common.{◌≡◌, ℕ, suc, ◌≤◌, Bool, true, false, cond, ◌||◌, ◌⊎◌, List, [], ◌∷◌, ◌++◌, map, Option, Some, None, nat_eq, bytes_eq, refl, sym, ap, subst, ◌∙◌, append-nil, arith, inl, inr}
+use Rattle.std.proofs.Common.{◌≡◌, ℕ, suc, ◌≤◌, Bool, true, false, ◌||◌, ◌⊎◌, List, [], ◌∷◌, ◌++◌, Option, Some, None, nat_eq, refl, sym, ap, subst, ◌∙◌, append-nil, arith, inl, inr}
 use Rattle.std.specs.Prelude.{◌≢◌, ⊤, is_some, option_map}
-use Rattle.std.specs.List.{AllByRecursion, starts_with}
+use Rattle.std.specs.List.{AllByRecursion}
 use Rattle.std.proofs.lemmas.Bool.{cases_Bool, eqb-true}
 use Rattle.mqtt_base.specs.declared.session.CopyId.{CopyId}
-use Rattle.mqtt_laws.specs.Ends.{Publisher, Receiver}
+use Rattle.mqtt_laws.specs.Ends.{Receiver}
 use Rattle.mqtt_laws.specs.Hops.{IsFarCall, IsOthers}
 use Rattle.mqtt_laws.specs.Lines.{is_one_of}
 use Rattle.mqtt_laws.specs.Run.{read_if}
 use Rattle.mqtt_laws.specs.Seats.{IsElsewhere, IsHis, IsNamed, IsOff, Seat}
-use Rattle.mqtt_laws.specs.World.{Setting, Stranger, World, calls, calls_if, publisher_told, receiver_named, receiver_told}
-use Rattle.mqtt_records.specs.Session.{auto}
+use Rattle.mqtt_laws.specs.World.{Setting, World, calls, calls_if, publisher_told, receiver_named, receiver_told}
 use Rattle.mqtt_rows.specs.Distinct.{AllDiffer}
 use Rattle.mqtt_rules.proofs.Copies.{each_append}
 use Rattle.mqtt_rules.proofs.FlightRows.{all_more}
@@ -28,7 +27,7 @@ use Rattle.mqtt_handed_laws.specs.Served.{HasLines, IsCallOfOthers, IsNewCopy, I
 use Rattle.mqtt_handed_laws.proofs.AwaitingOthers.{others_awaiting}
 use Rattle.mqtt_handed_laws.proofs.OwnOthers.{others_in_step}
 use Rattle.mqtt_handed_laws.proofs.Stopping.{step_tidy}
-use Rattle.mqtt_every_run_laws.specs.Standing.{GoesAlong, HasOthers, IsAround, IsOtherReceiver, IsOtherStranger, IsPast, IsPlaced, IsSeen, Stands, StandsWith, publisher_like}
+use Rattle.mqtt_every_run_laws.specs.Standing.{GoesAlong, HasOthers, IsAround, IsOtherStranger, IsPast, IsPlaced, IsSeen, Stands, StandsWith, publisher_like}
 use Rattle.mqtt_every_run_laws.proofs.Around.{around_mapped, given_later, others_later}
 use Rattle.mqtt_every_run_laws.proofs.Like.{seat_of_others}
 

@@ -1,22 +1,20 @@
 -- The broker reads a receiver's answer on its line: PUBACK, PUBREC or PUBCOMP (MQTT 5.0, 4.3.2, 4.3.3, 4.13).
-use Rattle.std.proofs.Common.{◌≡◌, ℕ, suc, ◌≤◌, Bool, true, false, ◌⊎◌, List, [], ◌∷◌, ◌++◌, map, Option, Some, None, nat_eq, bytes_eq, refl, sym, ap, subst, ◌∙◌, arith, inl, inr}
-use Rattle.std.specs.Prelude.{Err, Ok, filter_map, find, is_some, option_map}
-use Rattle.std.specs.List.{AllByRecursion}
+use Rattle.std.proofs.Common.{◌≡◌, ℕ, Bool, true, false, List, [], ◌∷◌, map, Option, Some, None, refl, sym, ap, subst, ◌∙◌, inl, inr}
+use Rattle.std.specs.Prelude.{Err, Ok, is_some, option_map}
 use Rattle.mqtt_base.specs.Codes.{protocol_error}
 use Rattle.mqtt_base.specs.declared.session.CopyId.{CopyId}
 use Rattle.mqtt_codec.specs.declared.packet.Packet.{Packet}
 use Rattle.mqtt_flow.specs.Outbound as rules
-use Rattle.mqtt_flow.specs.OutboundWorld.{World as Hop}
 use Rattle.mqtt_flow.specs.Receiver.{Answer, HasNoConnect, connect, puback, pubcomp, pubrec}
 use Rattle.mqtt_flow.specs.declared.entry.Turn.{Turn}
 use Rattle.mqtt_flow.specs.declared.entry.Turn.TheVariants as turns
 use Rattle.mqtt_inbound.specs.Publisher.{CONNECT}
 use Rattle.mqtt_laws.specs.Ends.{Back, Publisher, Receiver, Sent, answers, no_content, plain, shake, wire_back}
 use Rattle.mqtt_laws.specs.Hops.{Own}
-use Rattle.mqtt_laws.specs.Lines.{Line, is_one_of}
+use Rattle.mqtt_laws.specs.Lines.{Line}
 use Rattle.mqtt_laws.specs.Run.{read_first, read_if}
-use Rattle.mqtt_laws.specs.Seats.{Former, IsApart, Present, Seat, absent, closed, joined, waiting}
-use Rattle.mqtt_laws.specs.World.{Setting, View, World, asks, calls, calls_if, input_on, publisher_named, receiver_named, receiver_told, taken_up, to_broker, view_by, view_of, with_line}
+use Rattle.mqtt_laws.specs.Seats.{Former, Present, Seat, absent, closed, joined, waiting}
+use Rattle.mqtt_laws.specs.World.{Setting, View, World, asks, calls_if, input_on, receiver_named, receiver_told, taken_up, to_broker, view_by, view_of, with_line}
 use Rattle.mqtt_laws.proofs.Frame.{own_done}
 use Rattle.mqtt_laws.proofs.Mine.{AreMine, mine_append, mine_owns}
 use Rattle.mqtt_laws.proofs.OwnCalls.{input_elsewhere}
@@ -37,11 +35,11 @@ use Rattle.mqtt_rules.specs.Step.{Call, Input, at_moment, deeds, env_of, next_pa
 use Rattle.mqtt_rules.specs.declared.Limits.{Limits}
 use Rattle.mqtt_world_laws.specs.Fair.{IsSteady}
 use Rattle.mqtt_world_laws.specs.Spending.{spending}
-use Rattle.mqtt_handed_laws.specs.Handing.{IsListening, IsRun, after_answer, reads_answer}
+use Rattle.mqtt_handed_laws.specs.Handing.{IsListening, after_answer, reads_answer}
 use Rattle.mqtt_handed_laws.specs.Own.{IsInStep, Listens}
 use Rattle.mqtt_handed_laws.proofs.Listening.{listens_in_step}
 use Rattle.mqtt_handed_laws.proofs.OwnCalls.{puback_in_step, pubcomp_in_step, pubrec_in_step}
-use Rattle.mqtt_every_run_laws.specs.Standing.{GoesAlong, IsAround, IsPast, IsPlaced, IsSeen, Stands, line_like, packet_like, publisher_like}
+use Rattle.mqtt_every_run_laws.specs.Standing.{GoesAlong, IsAround, IsPlaced, IsSeen, Stands, line_like, packet_like, publisher_like}
 use Rattle.mqtt_every_run_laws.proofs.Around.{changed_its, on_back, on_line, own_around}
 use Rattle.mqtt_every_run_laws.proofs.Like.{former_as, told_like}
 use Rattle.mqtt_every_run_laws.proofs.Losses.{none_named}

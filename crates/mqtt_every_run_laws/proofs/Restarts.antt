@@ -1,12 +1,12 @@
 -- The broker restarts, or stops before a commit and restarts, in the eyes of one receiver (MQTT 5.0, 4.1).
-use Rattle.std.proofs.Common.{◌≡◌, ℕ, ◌≤◌, Bool, true, false, cond, ◌⊎◌, List, [], ◌∷◌, ◌++◌, map, Option, Some, None, bytes_eq, refl, sym, ap, subst, ◌∙◌, append-nil, arith, inl, inr}
+use Rattle.std.proofs.Common.{◌≡◌, ℕ, ◌≤◌, Bool, true, false, cond, List, [], ◌∷◌, ◌++◌, map, Option, Some, None, bytes_eq, refl, sym, ap, subst, ◌∙◌, append-nil, arith, inr}
 use Rattle.std.specs.Prelude.{⊤, is_some, option_map}
 use Rattle.std.specs.List.{AllByRecursion}
 use Rattle.mqtt_base.specs.declared.session.CopyId.{CopyId}
 use Rattle.mqtt_inbound.specs.InboundWorld.{World as Hop}
-use Rattle.mqtt_laws.specs.Ends.{Back, Publisher, Receiver, Sent}
+use Rattle.mqtt_laws.specs.Ends.{Back, Receiver, Sent}
 use Rattle.mqtt_laws.specs.Hops.{Own}
-use Rattle.mqtt_laws.specs.Lines.{Line, is_one_of}
+use Rattle.mqtt_laws.specs.Lines.{Line}
 use Rattle.mqtt_laws.specs.Run.{read_opening}
 use Rattle.mqtt_laws.specs.Seats.{IsHis, absent, over}
 use Rattle.mqtt_laws.specs.World.{Asking, Setting, Stranger, World, before, break, happens, old_to_broker, publisher_restarted, pump, receiver_named, receiver_restarted, restart, restarts, stop_before, stranger, taken_old, taken_up, tick, to_broker, unlinked, with_line}
@@ -24,7 +24,7 @@ use Rattle.mqtt_handed_laws.specs.Restarts.{reopened}
 use Rattle.mqtt_handed_laws.specs.Served.{IsTidy}
 use Rattle.mqtt_handed_laws.proofs.Restarting.{lost_lines, restart_goes_on, restart_without}
 use Rattle.mqtt_handed_laws.proofs.Stopping.{opening_tidy}
-use Rattle.mqtt_every_run_laws.specs.Standing.{GoesAlong, HasOthers, IsAround, IsOtherStranger, IsPlaced, IsSeen, Stands, StandsWith, publisher_like}
+use Rattle.mqtt_every_run_laws.specs.Standing.{GoesAlong, IsAround, IsOtherStranger, IsPlaced, IsSeen, Stands, publisher_like}
 use Rattle.mqtt_every_run_laws.proofs.Around.{around_mapped, end_around, on_back, on_line, unlined}
 use Rattle.mqtt_every_run_laws.proofs.Asking.{takes_others}
 use Rattle.mqtt_every_run_laws.proofs.Comings.{run_of}

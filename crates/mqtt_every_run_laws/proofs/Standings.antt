@@ -1,6 +1,6 @@
 -- In a new world each receiver stands, since nobody has come; and where one stands, the law of its hop holds of what it has
 -- read (MQTT 5.0, 4.3.2, 4.3.3, 4.6).
-use Rattle.std.proofs.Common.{◌≡◌, ℕ, ◌≤◌, true, List, [], map, Option, Some, None, bytes_eq, refl, sym, ap, subst, ◌∙◌}
+use Rattle.std.proofs.Common.{◌≡◌, ℕ, ◌≤◌, true, List, [], Option, Some, None, bytes_eq, refl, sym, ap, subst}
 use Rattle.std.specs.Prelude.{All, find, is_some}
 use Rattle.std.specs.List.{AllByRecursion}
 use Rattle.mqtt_base.specs.declared.session.CopyId.{CopyId}
@@ -12,10 +12,8 @@ use Rattle.mqtt_rules.specs.State.{session_named}
 use Rattle.mqtt_rules.specs.declared.Limits.{Limits}
 use Rattle.mqtt_world_laws.specs.Fair.{IsNew}
 use Rattle.mqtt_handed_laws.specs.Served.{IsTidy}
-use Rattle.mqtt_handed_laws.specs.Handing.{IsRun}
 use Rattle.mqtt_handed_laws.specs.Own.{RunsAlone}
 use Rattle.mqtt_handed_laws.proofs.Handed.{at_most_once, in_order, released_once}
-use Rattle.mqtt_handed_laws.specs.Tags.{id_of}
 use Rattle.mqtt_every_run_laws.specs.Standing.{GoesAlong, IsOtherPublisher, IsOtherReceiver, IsOtherStranger, IsSeen, Stands, StandsWith}
 use Rattle.mqtt_every_run_laws.proofs.Numbers.{place_of, places_number}
 use Rattle.mqtt_rows.specs.Distinct.{AllDiffer}

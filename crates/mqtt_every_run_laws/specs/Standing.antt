@@ -1,6 +1,6 @@
 -- Where a receiver is in a run of the world: what it sees is a run of its hop, its session and its lines are its own, and all
 -- others have other lines (MQTT 5.0, 3.1.2.4, 3.1.4, 4.4).
-use Rattle.std.specs.Prelude.{◌≡◌, ℕ, ◌≤◌, ◌⊎◌, Bool, false, true, List, [], ◌∷◌, map, Option, Some, None, is_some}
+use Rattle.std.specs.Prelude.{◌≡◌, ℕ, ◌≤◌, ◌⊎◌, false, true, List, [], ◌∷◌, map, Option, Some, None, is_some}
 use Rattle.std.specs.List.{AllByRecursion}
 use Rattle.mqtt_base.specs.declared.session.CopyId.{CopyId}
 use Rattle.mqtt_flow.specs.Receiver.{connect, puback, pubrec, pubcomp}
