@@ -12,3 +12,5 @@ pub mod Losses
 pub mod Replies
 pub mod OldReplies
 pub mod Standings
+pub mod Stops
+pub mod Pumping

@@ -162,7 +162,7 @@ lost_along o largest ids ns limits choice now n k r b along steady is apart (joi
     subst (λ (z : Option ℕ). GoesAlong z largest ids ns (receiver_lost limits choice now n r b) (stepped limits choice now (Lost n) b)) (sym own)
     (subst (λ (z : ℕ). IsInStep largest ids birth ns (receiver_lost limits choice now z r b) (stepped limits choice now (Lost z) b)) (x.3 ∙ same) lost)
 
-lost_placed : (largest : ℕ) (ids : List CopyId) (ns : List ℕ) (limits : Limits) (choice : MemberChoice) (now n : ℕ) (r : Receiver) (b : Broker) → IsPlaced largest ids ns r b → IsSteady limits b → r.line.number ≡ Some n
+pub lost_placed : (largest : ℕ) (ids : List CopyId) (ns : List ℕ) (limits : Limits) (choice : MemberChoice) (now n : ℕ) (r : Receiver) (b : Broker) → IsPlaced largest ids ns r b → IsSteady limits b → r.line.number ≡ Some n
     → IsPlaced largest ids ns (receiver_lost limits choice now n r b) (stepped limits choice now (Lost n) b)
 lost_placed largest ids ns limits choice now n r b placed steady is =
     let x = loses limits choice now n placed.birth placed.line (publisher_like r) b [] placed.seat placed.named placed.apart is in

@@ -1,6 +1,6 @@
 -- Where a receiver is in a run of the world: what it sees is a run of its hop, its session and its lines are its own, and all
 -- others have other lines (MQTT 5.0, 3.1.2.4, 3.1.4, 4.4).
-use Rattle.std.specs.Prelude.{◌≡◌, ℕ, ◌≤◌, ◌⊎◌, false, true, List, [], ◌∷◌, map, Option, Some, None, is_some}
+use Rattle.std.specs.Prelude.{◌≡◌, ℕ, ◌≤◌, ⊤, ◌⊎◌, false, true, List, [], ◌∷◌, map, Option, Some, None, is_some}
 use Rattle.std.specs.List.{AllByRecursion}
 use Rattle.mqtt_base.specs.declared.session.CopyId.{CopyId}
 use Rattle.mqtt_flow.specs.Receiver.{connect, puback, pubrec, pubcomp}
@@ -10,7 +10,8 @@ use Rattle.mqtt_inbound.specs.Publisher.{CONNECT}
 use Rattle.mqtt_laws.specs.Ends.{Back, Publisher, Receiver, Sent, answers, asks_for, no_content, plain, shake}
 use Rattle.mqtt_laws.specs.Lines.{Line, is_one_of}
 use Rattle.mqtt_laws.specs.Seats.{IsApart, IsNamed, Seat}
-use Rattle.mqtt_laws.specs.World.{Stranger, World, publisher_named, receiver_named}
+use Rattle.mqtt_laws.specs.World.{Asking, Stranger, World, break, old_to_broker, publisher_named, pump, receiver_named}
+use Rattle.mqtt_laws.specs.World.{stranger, tick, to_broker}
 use Rattle.mqtt_rows.specs.Distinct.{AllDiffer}
 use Rattle.mqtt_rules.specs.Laws.{AreWithin}
 use Rattle.mqtt_rules.specs.State.{Broker}
@@ -111,3 +112,14 @@ pub record Stands (client : List ℕ) (largest : ℕ) (limits : Limits) (w : Wor
   pub ids : List CopyId
   pub ns : List ℕ
   pub standing : StandsWith client largest limits ids ns w
+
+-- ---- stops
+
+-- what the broker is asked for is made for others than this client, or for none; whoever's line is lost
+abbrev pub IsForOthers : List ℕ → Asking → Type 0
+IsForOthers client (to_broker name) = name ≡ client → ⊥
+IsForOthers client (old_to_broker name) = name ≡ client → ⊥
+IsForOthers client (break name) = ⊤
+IsForOthers client (pump name) = name ≡ client → ⊥
+IsForOthers client tick = ⊤
+IsForOthers client (stranger name bytes) = ⊤

@@ -9,7 +9,8 @@ pub use receiver_laws::{
 };
 pub use standing_laws::{
     a_lost_line_leaves_a_receiver_standing, a_new_line_leaves_a_receiver_standing,
-    a_restart_leaves_a_receiver_standing, a_tick_leaves_a_receiver_standing,
-    an_answer_leaves_a_receiver_standing, what_ends_do_leaves_a_receiver_standing,
+    a_restart_leaves_a_receiver_standing, a_stop_after_the_commit_leaves_a_receiver_standing,
+    a_tick_leaves_a_receiver_standing, an_answer_leaves_a_receiver_standing,
+    sending_leaves_a_receiver_standing, what_ends_do_leaves_a_receiver_standing,
     what_is_asked_for_others_leaves_a_receiver_standing,
 };

@@ -1,11 +1,13 @@
 //! Laws of the events of the world, for a receiver: what it sees stays a run of its hop (4.3, 4.4).
 ghost use Rattle.std.specs.Prelude.{◌≡◌, ◌∷◌, [], ℕ, Bool, List, Some, false, true};
 ghost use Rattle.mqtt_base.specs.declared.session.CopyId.{CopyId};
-ghost use Rattle.mqtt_every_run_laws.specs.Standing.{Stands, StandsWith};
+ghost use Rattle.mqtt_every_run_laws.specs.Standing.{IsForOthers, Stands, StandsWith};
 ghost use Rattle.mqtt_flow.specs.Receiver.{Answer, HasNoConnect};
 ghost use Rattle.mqtt_laws.specs.Ends.{Back, Draft, Receiver, Wish, answers};
 ghost use Rattle.mqtt_laws.specs.Run.{carries_clean, read_asked, read_first, read_opening};
-ghost use Rattle.mqtt_laws.specs.World.{Asking, Setting, World, asks, before, break, clock, connect_end, give_up, happens, is_bad, is_bad_asking, old_to_broker, publish, publisher, pump, receiver, receiver_named, restart, stop_before, stranger, subscribe, tick, to_broker, to_end};
+ghost use Rattle.mqtt_laws.specs.World.{Asking, Setting, World, asks, before, break, clock, connect_end, first_step, give_up, happens, is_bad, is_bad_asking, old_to_broker, publish, publisher, pump, receiver, receiver_named, restart, stop_after, stop_before, stranger, subscribe, tick, to_broker, to_end};
+ghost use Rattle.mqtt_rules.specs.Flight.{HasDistinctIdentifiers};
+ghost use Rattle.mqtt_rules.specs.State.{Line, line_at};
 ghost use Rattle.mqtt_world_laws.specs.Spending.{spending};
 
 /// Whatever an end does leaves a receiver standing, be it the receiver itself or another, with the same copies and
@@ -81,6 +83,26 @@ pub fn a_restart_leaves_a_receiver_standing()
     ensures stops { (client : List ℕ) (a : Asking) (largest : ℕ) (set : Setting) (w : World)
         → Stands client largest set.limits w → read_opening spending set (before set a w) ≡ false
         → Stands client largest set.limits (happens set (stop_before a) w) }
+{}
+
+/// The broker stops after the commit of what it was asked for, where that was made for others or was the loss of a line, and
+/// restarts before anything goes out: a receiver stands as before, on no line (4.1, 4.4).
+pub fn a_stop_after_the_commit_leaves_a_receiver_standing()
+    ensures stops { (client : List ℕ) (a : Asking) (largest : ℕ) (set : Setting) (w : World)
+        → Stands client largest set.limits w → IsForOthers client a → is_bad_asking a w ≡ false
+        → read_first spending set a w ≡ false → read_opening spending set (first_step set a w) ≡ false
+        → Stands client largest set.limits (happens set (stop_after a) w) }
+{}
+
+/// The broker sends what waits for a receiver on its own line, or nothing where nobody is connected there: the receiver
+/// stands as before. Asked: that line has the Maximum Packet Size of its hop, and no two copies in flight have one
+/// identifier, as after each step (4.4, 4.6, 4.9).
+pub fn sending_leaves_a_receiver_standing()
+    ensures sends { (client : List ℕ) (largest : ℕ) (set : Setting) (r : Receiver) (w : World)
+        → Stands client largest set.limits w → receiver_named client w ≡ Some r → HasDistinctIdentifiers w.broker.records
+        → ((n : ℕ) (l : Line) (birth : ℕ) → r.line.number ≡ Some n → line_at n w.broker ≡ Some l
+        → l.session ≡ Some birth → l.largest ≡ largest)
+        → read_first spending set (pump client) w ≡ false → Stands client largest set.limits (asks set (pump client) w) }
 {}
 
 /// A tick leaves a receiver standing, whatever it does: it is made for others, or closes a line on which the receiver's own
