@@ -1,11 +1,11 @@
 -- The broker sends what waits for a receiver, on its own line (MQTT 5.0, 4.4, 4.6, 4.9).
-use Rattle.std.proofs.Common.{◌≡◌, ℕ, ◌≤◌, Bool, true, false, List, [], ◌∷◌, ◌++◌, Option, Some, None, refl, sym, ap, subst, ◌∙◌, append-nil, arith}
+use Rattle.std.proofs.Common.{◌≡◌, ℕ, false, List, [], Option, Some, None, refl, sym, ap, subst, ◌∙◌, append-nil, arith}
 use Rattle.std.specs.Prelude.{is_some}
 use Rattle.mqtt_base.specs.declared.session.CopyId.{CopyId}
 use Rattle.mqtt_laws.specs.Ends.{Publisher, Receiver}
 use Rattle.mqtt_laws.specs.Run.{read_first, read_if}
 use Rattle.mqtt_laws.specs.Seats.{IsIdle, IsOff, Present, absent, closed, joined, waiting}
-use Rattle.mqtt_laws.specs.World.{Setting, World, asks, calls_if, publisher_named, pump, pump_on, receiver_named, view_by, view_of}
+use Rattle.mqtt_laws.specs.World.{Setting, World, asks, calls_if, pump, pump_on, receiver_named, view_by, view_of}
 use Rattle.mqtt_laws.proofs.OwnSeats.{line_of_on, not_among}
 use Rattle.mqtt_rules.proofs.NumberSteps.{step_fell}
 use Rattle.mqtt_rules.specs.Flight.{HasDistinctIdentifiers}
@@ -19,7 +19,7 @@ use Rattle.mqtt_handed_laws.specs.Own.{IsInStep, Listens}
 use Rattle.mqtt_handed_laws.proofs.IdleLines.{idle_pump_awaiting, idle_pump_in_step}
 use Rattle.mqtt_handed_laws.proofs.Listening.{listens_in_step}
 use Rattle.mqtt_handed_laws.proofs.OwnCalls.{pump_in_step}
-use Rattle.mqtt_every_run_laws.specs.Standing.{GoesAlong, IsPlaced, IsSeen, Stands, line_like}
+use Rattle.mqtt_every_run_laws.specs.Standing.{GoesAlong, IsPlaced, Stands, line_like}
 use Rattle.mqtt_every_run_laws.proofs.Like.{seat_of_others}
 use Rattle.mqtt_every_run_laws.proofs.Outside.{GoesFurther, calls_with, placed_on}
 

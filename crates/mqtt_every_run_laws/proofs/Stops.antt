@@ -1,10 +1,10 @@
 -- The broker stops after the commit of what it was asked for, and restarts, in the eyes of one receiver (MQTT 5.0, 4.1, 4.4).
-use Rattle.std.proofs.Common.{◌≡◌, ℕ, Bool, true, false, ◌||◌, ◌⊎◌, List, [], Option, Some, None, refl, sym, ap, subst, ◌∙◌, inl, inr}
+use Rattle.std.proofs.Common.{◌≡◌, ℕ, false, List, Option, Some, None, refl, sym, ap, subst, ◌∙◌, inl, inr}
 use Rattle.std.specs.Prelude.{is_some, option_map}
 use Rattle.mqtt_laws.specs.Ends.{Publisher, Receiver}
 use Rattle.mqtt_laws.specs.Lines.{left}
 use Rattle.mqtt_laws.specs.Run.{read_first, read_if, read_opening}
-use Rattle.mqtt_laws.specs.World.{Asking, Setting, World, break, calls, calls_if, first_step, happens, is_bad_asking, lost_on, old_to_broker, publisher_named, pump, receiver_named, receiver_told, stop_after, stranger, tick, to_broker, view_by, view_of}
+use Rattle.mqtt_laws.specs.World.{Asking, Setting, World, break, calls_if, first_step, happens, is_bad_asking, lost_on, old_to_broker, pump, receiver_named, receiver_told, stop_after, stranger, tick, to_broker, view_by, view_of}
 use Rattle.mqtt_rules.specs.Step.{Lost, stepped, told}
 use Rattle.mqtt_world_laws.specs.Spending.{spending}
 use Rattle.mqtt_every_run_laws.specs.Standing.{IsForOthers, IsPlaced, IsSeen, Stands}
