@@ -1,0 +1,5 @@
+-- Strangers, their bytes, and what is answered.
+pub mod Strangers
+pub mod Answered
+pub mod Good
+pub mod Stopped
