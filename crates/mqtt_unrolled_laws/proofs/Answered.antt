@@ -1,7 +1,7 @@
 -- Bytes of a stranger in one event and in two.
-use Rattle.std.proofs.Common.{◌≡◌, ◌≤◌, ◌<◌, ◌-◌, ℕ, zero, suc, Bool, true, false, cond, ◌||◌, List, [], ◌∷◌, ◌++◌, length, map, drop}
-use Rattle.std.proofs.Common.{Option, Some, None, bytes_eq, refl, sym, ap, subst, ◌∙◌, arith, inl, inr, append_assoc, length-append, length-drop}
-use Rattle.std.specs.Prelude.{◌⊎◌, option_map, find, is_some, Result, Ok, Err}
+use Rattle.std.proofs.Common.{◌≡◌, ◌≤◌, ◌<◌, ◌-◌, ℕ, zero, suc, Bool, true, cond, List, [], ◌∷◌, ◌++◌, length, map, drop}
+use Rattle.std.proofs.Common.{Option, Some, None, refl, sym, ap, subst, ◌∙◌, arith, inl, inr, append_assoc, length-append, length-drop}
+use Rattle.std.specs.Prelude.{◌⊎◌, option_map, is_some, Ok, Err}
 use Rattle.std.specs.List.{AllByRecursion}
 use Rattle.std.proofs.lemmas.List.{drop_all, drop-append-le}
 use Rattle.mqtt_codec.specs.declared.packet.Packet.{Packet}
@@ -14,7 +14,7 @@ use Rattle.mqtt_laws.specs.World.{Stranger, World, Setting, stranger_named, call
 use Rattle.mqtt_laws.specs.World.{answers_rest, asks, bytes_held, comes, held_after, held_by as held_behind, held_count, linked_at, stranger}
 use Rattle.mqtt_unrolled_laws.specs.Unrolled.{AreAlike, HoldsThese, IsWhole, bytes_come}
 use Rattle.mqtt_unrolled_laws.proofs.Strangers.{changed, change_one_more, find_changed, find_one_more, found_holds, held_by}
-use Rattle.mqtt_unrolled_laws.proofs.Strangers.{holds_changed, holds_one_more, its, none_holds, same_changes, same_held, twice_changed}
+use Rattle.mqtt_unrolled_laws.proofs.Strangers.{holds_changed, holds_one_more, none_holds, same_changes, same_held, twice_changed}
 
 abbrev pub with_strangers : World → List Stranger → World
 with_strangers w ss = record w { strangers = ss }
@@ -111,7 +111,7 @@ enough set name held w (suc m) (suc n) h a b = elim (is_none_first (first_of hel
   | inl e ↦ still set name held w (suc m) h e ∙ sym (still set name held w (suc n) h e)
   | inr e ↦
       enough set name (held_after held) (next_world set name w) m n (next_holds set name held w h)
-          (less_by held (first_of held) m refl a e) (less_by held (first_of held) n refl b e)
+      (less_by held (first_of held) m refl a e) (less_by held (first_of held) n refl b e)
 ]
 
 -- ---- where the stranger is there
@@ -148,7 +148,7 @@ pub come_count : (name held bytes : List ℕ) (w : World) → Holds name held w 
 come_count name held bytes w h there =
     let v = come name bytes w in
     count_by_find (stranger_named name v) (held ++ bytes) (come_there name bytes w there)
-        (λ s is. found_holds name (held ++ bytes) s v.strangers (come_holds name held bytes w h) is)
+    (λ s is. found_holds name (held ++ bytes) s v.strangers (come_holds name held bytes w h) is)
 
 -- what is asked for when they have come
 pub asks_is : (set : Setting) (name held bytes : List ℕ) (w : World) → Holds name held w → is_some (stranger_named name w) ≡ true
@@ -178,7 +178,7 @@ come_call : (name held bytes : List ℕ) (packet : Packet) (size : ℕ) (w : Wor
 come_call name held bytes packet size w h e =
     ap call_of_stranger (come_found name bytes w)
     ∙ call_is_by packet (stranger_named name w) (λ (old : List ℕ). old ++ bytes) size
-        (λ s is. ap (λ (old : List ℕ). first_of (old ++ bytes)) (found_holds name held s w.strangers h is) ∙ e)
+    (λ s is. ap (λ (old : List ℕ). first_of (old ++ bytes)) (found_holds name held s w.strangers h is) ∙ e)
 
 -- the world when the packet that has come is answered, in which more bytes are held
 abbrev answered : Setting → List ℕ → Packet → List ℕ → World → World
@@ -194,8 +194,8 @@ next_is set name held bytes more packet size w h e left =
     let adds = λ (old : List ℕ). old ++ bytes in
     let behind : held_after (held ++ bytes) ≡ more = ap (λ (f : Front). held_behind f (held ++ bytes)) e ∙ left in
     let strangers : map (changed name held_after) v.strangers ≡ map (changed name (λ (old : List ℕ). more)) w.strangers =
-        twice_changed name adds held_after w.strangers
-        ∙ same_changes name held (λ (old : List ℕ). held_after (old ++ bytes)) (λ (old : List ℕ). more) w.strangers h behind in
+    twice_changed name adds held_after w.strangers
+    ∙ same_changes name held (λ (old : List ℕ). held_after (old ++ bytes)) (λ (old : List ℕ). more) w.strangers h behind in
     ap (λ (x : Option Call). calls_if set x (next_held name v)) (come_call name held bytes packet size w h e)
     ∙ (ap (λ (ss : List Stranger). calls_if set call (with_strangers w ss)) strangers
     ∙ if_with set call w (map (changed name (λ (old : List ℕ). more)) w.strangers))
@@ -235,7 +235,7 @@ splits_there set name held part more packet w h there e =
     let size = first_within front packet (length front) e in
     let joined : front ++ more ≡ held ++ (part ++ more) = append_assoc held part more in
     let whole : first_of (held ++ (part ++ more)) ≡ Ok (Some (packet, length front)) =
-        ap first_of (sym joined) ∙ stays_so (first_stays front more) in
+    ap first_of (sym joined) ∙ stays_so (first_stays front more) in
     let none : drop (length front) front ≡ [] = drop_all (length front) front (omega arith) in
     let behind : drop (length front) (held ++ (part ++ more)) ≡ more = ap (drop (length front)) (sym joined) ∙ (drop-append-le (length front) front more (omega arith) ∙ ap (λ (bytes : List ℕ). bytes ++ more) none) in
     let one = at_once (length (held ++ (part ++ more))) (omega (arith, ap length joined, length-append front more, size.1)) (omega (arith, ap length joined, length-append front more)) whole behind in
@@ -244,7 +244,7 @@ splits_there set name held part more packet w h there e =
     let v_holds = constant_holds name held [] set packet w h in
     let second : asks set (stranger name more) v ≡ answers_rest set (length more) name (come name more v) = asks_is set name [] more v v_holds v_there in
     let same : come name more v ≡ answered set name packet more w =
-        ap (with_strangers v) (twice_changed name (λ (old : List ℕ). []) (λ (old : List ℕ). old ++ more) w.strangers) in
+    ap (with_strangers v) (twice_changed name (λ (old : List ℕ). []) (λ (old : List ℕ). old ++ more) w.strangers) in
     asks_is set name held (part ++ more) w h there
     ∙ (one ∙ sym (ap (asks set (stranger name more)) (answers_there set name held part packet w h there e)
     ∙ (second ∙ ap (answers_rest set (length more) name) same)))
@@ -304,7 +304,7 @@ splits set name part more w alike whole = by (stranger_named name w) refl
     by None none =
         let v = welcomed set name w in
         let found : first_of part ≡ Ok (Some (whole.0, length part)) =
-            subst (λ (x : Option Stranger). first_of (bytes_held x ++ part) ≡ Ok (Some (whole.0, length (bytes_held x ++ part)))) none whole.1 in
+        subst (λ (x : Option Stranger). first_of (bytes_held x ++ part) ≡ Ok (Some (whole.0, length (bytes_held x ++ part)))) none whole.1 in
         asks_both set name (part ++ more) w none
         ∙ (splits_there set name [] part more whole.0 v (welcomed_holds set name w none) (ap is_some (welcomed_found set name w none)) found
         ∙ sym (ap (asks set (stranger name more)) (asks_both set name part w none)))
@@ -333,7 +333,7 @@ none_behind set name part w alike whole = by (stranger_named name w) refl
     by : (o : Option Stranger) → stranger_named name w ≡ o → bytes_held (stranger_named name (asks set (stranger name part) w)) ≡ []
     by None none =
         let found : first_of part ≡ Ok (Some (whole.0, length part)) =
-            subst (λ (x : Option Stranger). first_of (bytes_held x ++ part) ≡ Ok (Some (whole.0, length (bytes_held x ++ part)))) none whole.1 in
+        subst (λ (x : Option Stranger). first_of (bytes_held x ++ part) ≡ Ok (Some (whole.0, length (bytes_held x ++ part)))) none whole.1 in
         ap (λ (u : World). bytes_held (stranger_named name u)) (asks_both set name part w none)
         ∙ there [] (welcomed set name w) (welcomed_holds set name w none) (ap is_some (welcomed_found set name w none)) found
     by (Some s) is = there (bytes_held (stranger_named name w)) w alike (ap is_some is) whole.1
@@ -345,7 +345,7 @@ rest_alike : (set : Setting) (name held : List ℕ) (w : World) (more : ℕ) →
 rest_alike set name held w zero h = (held, h)
 rest_alike set name held w (suc more) h = rest_alike set name (held_after held) (next_world set name w) more (next_holds set name held w h)
 
-alike_by : (name held : List ℕ) (w : World) → Holds name held w → AreAlike name w
+pub alike_by : (name held : List ℕ) (w : World) → Holds name held w → AreAlike name w
 alike_by name held w h = by (stranger_named name w) refl
   where
     by : (o : Option Stranger) → stranger_named name w ≡ o → AreAlike name w
@@ -365,7 +365,7 @@ asks_alike set name bytes w alike = by (stranger_named name w) refl
     by : (o : Option Stranger) → stranger_named name w ≡ o → AreAlike name (asks set (stranger name bytes) w)
     by None none =
         subst (λ (v : World). AreAlike name (answers_rest set (held_count (stranger_named name v)) name v)) (sym (comes_welcomed set name bytes w none))
-            (there [] (welcomed set name w) (welcomed_holds set name w none))
+        (there [] (welcomed set name w) (welcomed_holds set name w none))
     by (Some s) is =
         subst (λ (v : World). AreAlike name (answers_rest set (held_count (stranger_named name v)) name v)) (sym (comes_is set name bytes w (ap is_some is)))
-            (there (bytes_held (stranger_named name w)) w alike)
+        (there (bytes_held (stranger_named name w)) w alike)

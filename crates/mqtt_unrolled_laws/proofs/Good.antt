@@ -1,7 +1,7 @@
 -- Whether a stranger's bytes name an end.
 use Rattle.std.proofs.Common.{◌≡◌, ◌≤◌, ◌<◌, ◌+◌, ℕ, zero, suc, Bool, true, false, cond, ◌||◌, List, [], ◌∷◌, ◌++◌, length, map, drop}
-use Rattle.std.proofs.Common.{Option, Some, None, bytes_eq, refl, sym, ap, subst, ◌∙◌, arith, inl, inr, append_assoc, length-append}
-use Rattle.std.specs.Prelude.{◌⊎◌, option_map, find, is_some, Result, Ok, Err}
+use Rattle.std.proofs.Common.{Option, Some, None, bytes_eq, refl, sym, ap, ◌∙◌, arith, inl, inr, append_assoc, length-append}
+use Rattle.std.specs.Prelude.{◌⊎◌, find, is_some, Ok, Err}
 use Rattle.std.proofs.lemmas.List.{drop_all, drop-append-le}
 use Rattle.mqtt_codec.specs.declared.packet.Packet.{Packet}
 use Rattle.mqtt_codec.specs.declared.packet.Packet.TheVariants as packets
@@ -10,9 +10,9 @@ use Rattle.mqtt_packet.proofs.Fronts.{first_stays, first_within}
 use Rattle.mqtt_rules.specs.Piece.{Front}
 use Rattle.mqtt_rules.specs.Step.{Call, NewLine}
 use Rattle.mqtt_laws.specs.Ends.{Publisher, Receiver}
-use Rattle.mqtt_laws.specs.World.{Setting, Stranger, World, answers_rest, asks, bytes_held, bytes_name, call_of_stranger, calls_if}
-use Rattle.mqtt_laws.specs.World.{comes, front_names, held_after, held_by as held_behind, held_count, is_bad_asking, is_end}
-use Rattle.mqtt_laws.specs.World.{linked_at, names_end, next_held, publisher_named, publisher_told, receiver_named, receiver_told}
+use Rattle.mqtt_laws.specs.World.{Setting, World, answers_rest, asks, bytes_name, call_of_stranger, calls_if}
+use Rattle.mqtt_laws.specs.World.{comes, front_names, held_after, held_by as held_behind, held_count, is_end}
+use Rattle.mqtt_laws.specs.World.{linked_at, names_end, next_held, publisher_named, receiver_named}
 use Rattle.mqtt_laws.specs.World.{stranger, stranger_named}
 use Rattle.mqtt_unrolled_laws.proofs.Answered.{is_none_first, less_by, none_longer, not_both, nothing_first}
 
@@ -41,9 +41,9 @@ same_called : (set : Setting) (call : Option Call) (w : World) → AreSameEnds (
 same_called set None w client = refl
 same_called set (Some call) w client =
     ap (λ (t : Bool). t || is_some (receiver_named client (calls_if set (Some call) w)))
-        (find_told (λ (p : Publisher). bytes_eq p.client client) _ w.publishers (λ p. refl))
+    (find_told (λ (p : Publisher). bytes_eq p.client client) _ w.publishers (λ p. refl))
     ∙ ap (λ (t : Bool). is_some (publisher_named client w) || t)
-        (find_told (λ (r : Receiver). bytes_eq r.client client) _ w.receivers (λ r. refl))
+    (find_told (λ (r : Receiver). bytes_eq r.client client) _ w.receivers (λ r. refl))
 
 same_come : (set : Setting) (name bytes : List ℕ) (w : World) → AreSameEnds (comes set name bytes w) w
 same_come set name bytes w = by (is_some (stranger_named name w))
@@ -94,7 +94,7 @@ enough_looks (suc m) (suc n) bytes w a b = elim (is_none_first (first_of bytes))
   | inl e ↦ none_named (suc m) bytes w e ∙ sym (none_named (suc n) bytes w e)
   | inr e ↦
       ap (λ (t : Bool). front_names (first_of bytes) w || t)
-          (enough_looks m n (held_after bytes) w (less_by bytes (first_of bytes) m refl a e) (less_by bytes (first_of bytes) n refl b e))
+      (enough_looks m n (held_after bytes) w (less_by bytes (first_of bytes) m refl a e) (less_by bytes (first_of bytes) n refl b e))
 ]
 
 -- ---- bytes in two parts, the first of which is a whole packet
@@ -108,19 +108,20 @@ parts_by zero front more packet w some a b e whole good = absurd (omega arith)
 parts_by (suc n) front more packet w some a b e whole good =
     let none : drop (length front) front ≡ [] = drop_all (length front) front (omega arith) in
     let behind : held_after (front ++ more) ≡ more =
-        ap (λ (f : Front). held_behind f (front ++ more)) whole
-        ∙ (drop-append-le (length front) front more (omega arith) ∙ ap (λ (xs : List ℕ). xs ++ more) none) in
+    ap (λ (f : Front). held_behind f (front ++ more)) whole
+    ∙ (drop-append-le (length front) front more (omega arith) ∙ ap (λ (xs : List ℕ). xs ++ more) none) in
     let nothing : held_after front ≡ [] = ap (λ (f : Front). held_behind f front) e ∙ none in
     let size = first_within front packet (length front) e in
     let both = either_false (names_end packet w) (bytes_name n more w)
-        (sym (ap (λ (f : Front). front_names f w || bytes_name n (held_after (front ++ more)) w) whole
-        ∙ ap (λ (xs : List ℕ). names_end packet w || bytes_name n xs w) behind) ∙ good) in
+    (sym (ap (λ (f : Front). front_names f w || bytes_name n (held_after (front ++ more)) w) whole
+    ∙ ap (λ (xs : List ℕ). names_end packet w || bytes_name n xs w) behind) ∙ good) in
     let first : bytes_name (suc n) front w ≡ false =
-        ap (λ (f : Front). front_names f w || bytes_name n (held_after front) w) e
-        ∙ (ap (λ (xs : List ℕ). names_end packet w || bytes_name n xs w) nothing
-        ∙ (ap (λ (t : Bool). t || bytes_name n [] w) both.0 ∙ none_named n [] w nothing_first)) in
-    (enough_looks (length front) (suc n) front w (omega arith) a ∙ first,
-    enough_looks (length more) n more w (omega arith) (omega (arith, size.1)) ∙ both.1)
+    ap (λ (f : Front). front_names f w || bytes_name n (held_after front) w) e
+    ∙ (ap (λ (xs : List ℕ). names_end packet w || bytes_name n xs w) nothing
+    ∙ (ap (λ (t : Bool). t || bytes_name n [] w) both.0 ∙ none_named n [] w nothing_first)) in (
+      enough_looks (length front) (suc n) front w (omega arith) a ∙ first,
+      enough_looks (length more) n more w (omega arith) (omega (arith, size.1)) ∙ both.1,
+    )
 
 stays_whole : (front more : List ℕ) (packet : Packet) → first_of front ≡ Ok (Some (packet, length front))
     → (first_of front ≡ Ok None) ⊎ (first_of (front ++ more) ≡ first_of front) → first_of (front ++ more) ≡ Ok (Some (packet, length front))
@@ -136,8 +137,8 @@ good_parts held part more packet w e good =
     let size = first_within front packet (length front) e in
     let long = length-append front more in
     parts_by (length (front ++ more)) front more packet w (omega (arith, long, size.1)) (omega (arith, long)) (omega (arith, long)) e
-        (stays_whole front more packet e (first_stays front more))
-        (ap (λ (xs : List ℕ). bytes_name (length xs) xs w) joined ∙ good)
+    (stays_whole front more packet e (first_stays front more))
+    (ap (λ (xs : List ℕ). bytes_name (length xs) xs w) joined ∙ good)
 
 pub good_after : (more : List ℕ) (v w : World) → AreSameEnds v w → bytes_name (length more) more w ≡ false → bytes_name (length more) more v ≡ false
 good_after more v w same good = bytes_same (length more) more v w same ∙ good

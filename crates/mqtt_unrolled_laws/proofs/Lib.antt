@@ -3,3 +3,5 @@ pub mod Strangers
 pub mod Answered
 pub mod Good
 pub mod Stopped
+pub mod Steps
+pub mod Alike

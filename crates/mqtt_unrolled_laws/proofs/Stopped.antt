@@ -1,21 +1,20 @@
 -- A restart behind a step, and a stop after its commit.
-use Rattle.std.proofs.Common.{◌≡◌, ◌≤◌, ◌<◌, ◌+◌, ℕ, zero, suc, Bool, true, false, cond, ◌||◌, List, [], ◌∷◌, ◌++◌, length, map, drop}
+use Rattle.std.proofs.Common.{◌≡◌, ℕ, zero, suc, Bool, true, false, cond, ◌||◌, List, [], ◌∷◌, ◌++◌, length, map, drop}
 use Rattle.std.proofs.Common.{Option, Some, None, bytes_eq, refl, sym, ap, subst, ◌∙◌, arith, inl, inr, append_assoc, length-append}
 use Rattle.std.specs.Prelude.{◌⊎◌, option_map, is_some, Ok, Err}
 use Rattle.std.proofs.lemmas.List.{drop-append-le}
 use Rattle.mqtt_packet.specs.Front.{first_of}
 use Rattle.mqtt_packet.proofs.Fronts.{first_stays, first_within}
-use Rattle.mqtt_codec.specs.Faults.{answer_to}
-use Rattle.mqtt_rules.specs.Piece.{Front, begins_connect, call_by, code_of}
-use Rattle.mqtt_rules.specs.Step.{BadInput, Call}
+use Rattle.mqtt_rules.specs.Piece.{Front, call_by}
+use Rattle.mqtt_rules.specs.Step.{Call}
 use Rattle.mqtt_laws.specs.Ends.{Publisher, Receiver}
 use Rattle.mqtt_laws.specs.Lines.{left}
-use Rattle.mqtt_laws.specs.World.{Asking, Setting, Stranger, World, answers_rest, asks, break, bytes_held, bytes_name, call_of_stranger}
+use Rattle.mqtt_laws.specs.World.{Asking, Setting, Stranger, World, asks, break, bytes_held, bytes_name, call_of_stranger}
 use Rattle.mqtt_laws.specs.World.{call_on, calls_if, comes, first_step, front_names, held_after, held_by as held_behind, held_count}
-use Rattle.mqtt_laws.specs.World.{next_held, old_to_broker, publisher_restarted, pump, receiver_restarted, restarts, stranger}
+use Rattle.mqtt_laws.specs.World.{old_to_broker, publisher_restarted, pump, receiver_restarted, restarts, stranger}
 use Rattle.mqtt_laws.specs.World.{stranger_named, tick, to_broker, unlinked, with_line}
 use Rattle.mqtt_unrolled_laws.specs.Unrolled.{AreAlike, IsDecided, IsFound, IsOneStep, bytes_come}
-use Rattle.mqtt_unrolled_laws.proofs.Strangers.{changed, find_changed, found_holds, held_by}
+use Rattle.mqtt_unrolled_laws.proofs.Strangers.{changed, found_holds, held_by}
 use Rattle.mqtt_unrolled_laws.proofs.Answered.{Holds, come, come_count, come_found, come_holds, comes_both, comes_is, comes_welcomed}
 use Rattle.mqtt_unrolled_laws.proofs.Answered.{enough, next_holds, next_world, nothing_first, still, welcomed, welcomed_found}
 use Rattle.mqtt_unrolled_laws.proofs.Answered.{welcomed_holds, with_strangers}
@@ -74,12 +73,12 @@ comes_holds set name bytes w alike = by (stranger_named name w) refl
         let holds = welcomed_holds set name w none in
         let there : is_some (stranger_named name v) ≡ true = ap is_some (welcomed_found set name w none) in
         subst (λ (u : World). Wanted (bytes_held (stranger_named name w)) u) (sym (comes_welcomed set name bytes w none))
-            (subst (λ (x : Option Stranger). Wanted (bytes_held x) (come name bytes v)) (sym none)
-            (come_holds name [] bytes v holds, come_count name [] bytes v holds there))
+        (subst (λ (x : Option Stranger). Wanted (bytes_held x) (come name bytes v)) (sym none)
+        (come_holds name [] bytes v holds, come_count name [] bytes v holds there))
     by (Some s) is =
         let held = bytes_held (stranger_named name w) in
         subst (λ (u : World). Wanted held u) (sym (comes_is set name bytes w (ap is_some is)))
-            (come_holds name held bytes w alike, come_count name held bytes w alike (ap is_some is))
+        (come_holds name held bytes w alike, come_count name held bytes w alike (ap is_some is))
 
 answered_once : (set : Setting) (name bytes : List ℕ) (w : World) → AreAlike name w
     → first_of (held_after (bytes_come name bytes w)) ≡ Ok None
@@ -141,13 +140,13 @@ first_there set name held part more w h there found =
     let shorter = λ (old : List ℕ). old ++ part in
     let call = call_of_stranger (stranger_named name (come name part w)) in
     let same : call_of_stranger (stranger_named name (come name (part ++ more) w)) ≡ call =
-        ap call_of_stranger (come_found name (part ++ more) w)
-        ∙ (call_both (stranger_named name w) held part more (λ s is. found_holds name held s w.strangers h is) found
-        ∙ sym (ap call_of_stranger (come_found name part w))) in
+    ap call_of_stranger (come_found name (part ++ more) w)
+    ∙ (call_both (stranger_named name w) held part more (λ s is. found_holds name held s w.strangers h is) found
+    ∙ sym (ap call_of_stranger (come_found name part w))) in
     ap (λ (v : World). restarts set (calls_if set (call_of_stranger (stranger_named name v)) v)) (comes_is set name (part ++ more) w there)
     ∙ (ap (λ (x : Option Call). restarts set (calls_if set x (come name (part ++ more) w))) same
     ∙ (strangers_forgotten set call w (map (changed name longer) w.strangers) (map (changed name shorter) w.strangers)
-        (held_forgotten name longer w.strangers ∙ sym (held_forgotten name shorter w.strangers))
+    (held_forgotten name longer w.strangers ∙ sym (held_forgotten name shorter w.strangers))
     ∙ sym (ap (λ (v : World). restarts set (calls_if set (call_of_stranger (stranger_named name v)) v)) (comes_is set name part w there))))
 
 pub first_alone : (set : Setting) (name part more : List ℕ) (w : World) → AreAlike name w → IsDecided (bytes_come name part w)
@@ -175,7 +174,7 @@ front_part (suc n) bytes more w good = elim (first_stays bytes more) [
   | inl none ↦ none_named (suc n) bytes w none
   | inr same ↦
       let both = either_false (front_names (first_of bytes) w) (bytes_name n (held_behind (first_of bytes) (bytes ++ more)) w)
-          (sym (ap (λ (f : Front). front_names f w || bytes_name n (held_behind f (bytes ++ more)) w) same) ∙ good) in
+      (sym (ap (λ (f : Front). front_names f w || bytes_name n (held_behind f (bytes ++ more)) w) same) ∙ good) in
       ap (λ (t : Bool). t || bytes_name n (held_after bytes) w) both.0 ∙ behind_by (front_part n) bytes more w (first_of bytes) refl both.1
 ]
   where

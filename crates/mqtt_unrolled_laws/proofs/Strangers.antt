@@ -1,14 +1,11 @@
 -- Strangers whose bytes change.
-use Rattle.std.proofs.Common.{◌≡◌, ◌≤◌, ◌<◌, ℕ, zero, suc, Bool, true, false, cond, ◌||◌, List, [], ◌∷◌, ◌++◌, length, map, drop}
-use Rattle.std.proofs.Common.{Option, Some, None, bytes_eq, refl, sym, ap, ◌∙◌, inl, inr}
-use Rattle.std.specs.Prelude.{option_map, find, is_some, Ok, Err}
+use Rattle.std.proofs.Common.{◌≡◌, ℕ, Bool, true, false, cond, List, [], ◌∷◌, ◌++◌, map}
+use Rattle.std.proofs.Common.{Some, None, bytes_eq, refl, sym, ap, ◌∙◌, inl, inr}
+use Rattle.std.specs.Prelude.{option_map, find}
 use Rattle.std.specs.List.{AllByRecursion}
 use Rattle.std.proofs.lemmas.Bool.{cases_Bool}
 use Rattle.std.proofs.lemmas.Slice.Eq.{bytes_eq-Decides}
-use Rattle.mqtt_packet.specs.Front.{first_of}
-use Rattle.mqtt_packet.specs.Front as fronts
-use Rattle.mqtt_laws.specs.World.{Stranger, World, Setting, stranger_named, calls_if, call_of_stranger, next_held}
-use Rattle.mqtt_laws.specs.World.{answers_rest, bytes_held, held_after}
+use Rattle.mqtt_laws.specs.World.{Stranger}
 use Rattle.mqtt_unrolled_laws.specs.Unrolled.{HoldsThese}
 
 abbrev pub its : List ℕ → Stranger → Bool
@@ -99,9 +96,10 @@ pub none_holds : (name held : List ℕ) (ss : List Stranger) → find (its name)
 none_holds name held [] e = tt
 none_holds name held (x ∷ ss) e = elim (cases_Bool (bytes_eq x.name name)) [
   | inl is ↦ let clash : Some x ≡ None = sym (ap (λ (t : Bool). cond t (Some x) (find (its name) ss)) is) ∙ e in absurd cc
-  | inr other ↦
-      (λ is. let clash : true ≡ false = sym is ∙ other in absurd cc,
-      none_holds name held ss (sym (ap (λ (t : Bool). cond t (Some x) (find (its name) ss)) other) ∙ e))
+  | inr other ↦ (
+    λ is. let clash : true ≡ false = sym is ∙ other in absurd cc,
+    none_holds name held ss (sym (ap (λ (t : Bool). cond t (Some x) (find (its name) ss)) other) ∙ e),
+  )
 ]
 
 pub holds_one_more : (name held : List ℕ) (s : Stranger) (ss : List Stranger) → AllByRecursion (HoldsThese name held) ss

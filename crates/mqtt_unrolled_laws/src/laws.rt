@@ -1,7 +1,11 @@
 //! Laws of events in which the broker makes several steps (2.1, 4.1).
-ghost use Rattle.std.specs.Prelude.{◌≡◌, ℕ, false, List, ◌++◌};
-ghost use Rattle.mqtt_laws.specs.World.{Asking, Setting, World, ask, is_bad, restart, step, stop_after, stranger};
-ghost use Rattle.mqtt_unrolled_laws.specs.Unrolled.{AreAlike, IsDecided, IsOneStep, IsWhole, bytes_come};
+ghost use Rattle.std.specs.Prelude.{◌≡◌, ℕ, false, List, ◌++◌, map};
+ghost use Rattle.mqtt_laws.specs.Run.{run, turned};
+ghost use Rattle.mqtt_laws.specs.World.{Asking, Event, Setting, World, ask, is_bad, restart, start, step, stop_after, stranger};
+ghost use Rattle.mqtt_rules.specs.declared.Limits.{Limits};
+ghost use Rattle.mqtt_rules.specs.State.{MemberChoice};
+ghost use Rattle.mqtt_unrolled_laws.specs.Unrolled.{AreAlike, AreAllAlike, IsDecided, IsOneStep, IsWhole, Unrolls, bytes_come};
+ghost use Rattle.mqtt_unrolled_laws.specs.Unrolled.{turn};
 
 /// Bytes of a stranger may come in two events, the first of which ends with a packet: both come to what the one
 /// event does. So the answers to a stranger are those to its packets, one after the other (2.1).
@@ -10,8 +14,6 @@ pub fn bytes_come_packet_by_packet()
         → AreAlike name w → IsWhole (bytes_come name part w) → is_bad (ask (stranger name (part ++ more))) w ≡ false
         → step set (ask (stranger name (part ++ more))) w
         ≡ step set (ask (stranger name more)) (step set (ask (stranger name part)) w) }
-    ensures alike { (set : Setting) (name bytes : List ℕ) (w : World)
-        → AreAlike name w → AreAlike name (step set (ask (stranger name bytes)) w) }
 {}
 
 /// A stop after the commit of what is asked for is that, with all that goes out, and then a restart, where it is
@@ -24,4 +26,19 @@ pub fn a_stop_after_is_a_step_and_a_restart()
         → AreAlike name w → IsDecided (bytes_come name part w)
         → is_bad (stop_after (stranger name (part ++ more))) w ≡ false
         → step set (stop_after (stranger name (part ++ more))) w ≡ step set (stop_after (stranger name part)) w }
+{}
+
+/// An event that is not bad does what the events of one step each do to which it comes, where the broker chooses
+/// alike in all of them. So who tells a run by events of one step, each with a choice of its own, tells no more
+/// than what events may do.
+pub fn an_event_is_its_steps()
+    ensures is { (limits : Limits) (choice : MemberChoice) (e : Event) (es : List Event) (w : World)
+        → AreAllAlike w → is_bad e w ≡ false → Unrolls e w es
+        → run limits (map (turn choice) es) w ≡ turned limits (turn choice e) w }
+{}
+
+/// Strangers of one name hold the same bytes in every run that begins with nobody: each name is that of one.
+pub fn strangers_of_a_name_are_alike()
+    ensures begins { AreAllAlike start }
+    ensures stays { (set : Setting) (e : Event) (w : World) → AreAllAlike w → AreAllAlike (step set e w) }
 {}
