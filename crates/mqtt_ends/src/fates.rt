@@ -87,7 +87,7 @@ pub enum Heard {
 }
 
 /// Whether a code tells success (2.4).
-fn is_success(code: u8) -> bool
+pub(crate) fn is_success(code: u8) -> bool
     ensures { result ≡ is_success code }
 {
     code < 0x80

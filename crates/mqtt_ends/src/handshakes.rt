@@ -2,10 +2,15 @@
 
 ghost use Rattle.std.specs.Prelude.{◌≡◌, [], ◌∷◌, ◌++◌, ◌<◌, length, map, IfOk, OnOk, OnErr};
 ghost use Rattle.std.specs.List.{list_any};
-ghost use Rattle.mqtt_inbound.specs.Publisher.{in_flight, is_sent};
-ghost use Rattle.mqtt_ends.specs.Fates.{fate_of, fates_of, heard_by, on_heard};
+ghost use Rattle.mqtt_inbound.specs.Identifiers.{free_identifier};
+ghost use Rattle.mqtt_inbound.specs.Publisher.{first_fate, first_packet, in_flight, pubrel_for, pubrel_if};
+ghost use Rattle.mqtt_inbound.specs.Publisher.{resent_from};
+ghost use Rattle.mqtt_ends.specs.Fates.{awaits, fates_of, heard_by, on_heard, packet_of, packets_of, qos_of};
 
-use crate::fates::{Fate, Heard, after};
+use crate::fates::{Fate, Heard, after, is_success};
+use crate::shakes::{Assurance, Shake};
+use mqtt_base::OPEN_LIMIT;
+use mqtt_inbound::lowest_free;
 use std::alloc::{AllocError, Global};
 use std::marker::Model;
 
@@ -48,6 +53,26 @@ fn identifiers(alloc: Global, fates: &[Fate]) -> Result<Vec<u16>, AllocError>
     Ok(ids)
 }
 
+/// What goes out again, in the order of the messages' numbers.
+fn resent(alloc: Global, fates: &[Fate]) -> Result<Vec<Shake>, AllocError>
+    ensures { IfOk result (λ packets. packets_of packets.items ≡ resent_from 0 (fates_of fates.now)) }
+{
+    let mut packets = Vec::new(alloc);
+    for message in 0..fates.len() {
+        if let Some(packet) = fates[message].again(message) {
+            packets.push(packet)?;
+        }
+    }
+    Ok(packets)
+}
+
+/// Whether a PUBREC with this identifier is awaited.
+fn is_awaited(fates: &[Fate], identifier: u16) -> bool
+    ensures { result ≡ list_any (awaits identifier) fates.now }
+{
+    fates.iter().any(|fate| fate.is_sent(identifier))
+}
+
 impl Handshakes {
     /// No message was sent. Takes no memory.
     pub fn new(alloc: Global) -> Handshakes
@@ -70,5 +95,37 @@ impl Handshakes {
         ensures { IfOk result (λ ids. ids.items ≡ in_flight self.now) }
     {
         identifiers(alloc, &self.fates)
+    }
+
+    /// A message goes out: it has the lowest identifier that isn't in flight, and the next number (4.9). Without memory
+    /// nothing changes.
+    pub fn send(&mut self, alloc: Global, assurance: Assurance) -> Result<Shake, AllocError>
+        requires few { length (in_flight self.old) < OPEN_LIMIT }
+        ensures packet { IfOk result (λ packet. packet_of packet
+            ≡ first_packet (qos_of assurance) (free_identifier (in_flight self.old)) (length self.old)) }
+        ensures ok { OnOk result (self.new
+            ≡ self.old ++ first_fate (qos_of assurance) (free_identifier (in_flight self.old)) ∷ []) }
+        ensures err { OnErr result (self.new ≡ self.old) }
+    {
+        let used = identifiers(alloc, &self.fates)?;
+        let identifier = lowest_free(alloc, &used).map_err(|_| AllocError)?;
+        let message = self.fates.len();
+        self.fates.push(assurance.first_fate(identifier))?;
+        Ok(assurance.first_packet(identifier, message))
+    }
+
+    /// What goes out again when the session is resumed, in the order of the messages' numbers (4.4).
+    pub fn resent(&self, alloc: Global) -> Result<Vec<Shake>, AllocError>
+        ensures { IfOk result (λ packets. packets_of packets.items ≡ resent_from 0 self.now) }
+    {
+        resent(alloc, &self.fates)
+    }
+
+    /// Whether a PUBREC with this identifier and code is answered by PUBREL, before it is heard (4.3.3). Takes no memory.
+    #[tactic(auto, using(crate::proofs::Hearing::all_await))]
+    pub fn is_released(&self, identifier: u16, code: u8) -> bool
+        ensures { pubrel_if result identifier ≡ pubrel_for identifier code self.now }
+    {
+        is_awaited(&self.fates, identifier) && is_success(code)
     }
 }
