@@ -1,6 +1,6 @@
 //! The handshakes of a publisher's messages (MQTT 5.0, 4.3.2, 4.3.3, 4.4, 4.9).
 
-ghost use Rattle.std.specs.Prelude.{◌≡◌, [], ◌∷◌, ◌++◌, ◌<◌, length, map, IfOk, OnOk, OnErr};
+ghost use Rattle.std.specs.Prelude.{◌≡◌, [], ◌∷◌, ◌++◌, ◌<◌, length, map, nat_lt, IfOk, OnOk, OnErr};
 ghost use Rattle.std.specs.List.{list_any};
 ghost use Rattle.mqtt_inbound.specs.Identifiers.{free_identifier};
 ghost use Rattle.mqtt_inbound.specs.Publisher.{first_fate, first_packet, in_flight, pubrel_for, pubrel_if};
@@ -95,6 +95,14 @@ impl Handshakes {
         ensures { IfOk result (λ ids. ids.items ≡ in_flight self.now) }
     {
         identifiers(alloc, &self.fates)
+    }
+
+    /// Whether a message may go out: fewer than the Receive Maximum are in flight (4.9).
+    pub fn may_send(&self, alloc: Global) -> Result<bool, AllocError>
+        ensures { IfOk result (λ may. may ≡ nat_lt (length (in_flight self.now)) OPEN_LIMIT) }
+    {
+        let used = identifiers(alloc, &self.fates)?;
+        Ok(used.len() < OPEN_LIMIT)
     }
 
     /// A message goes out: it has the lowest identifier that isn't in flight, and the next number (4.9). Without memory
