@@ -17,7 +17,7 @@ use Rattle.mqtt_unrolled_laws.proofs.Answered.{Holds, alike_by, asks_alike, if_s
 
 -- ---- bytes of another
 
-same_name : (a b : List ℕ) → bytes_eq a b ≡ true → a ≡ b
+pub same_name : (a b : List ℕ) → bytes_eq a b ≡ true → a ≡ b
 same_name a b is = (bytes_eq-Decides a b).0 is
 
 others_held : (name other held : List ℕ) (f : List ℕ → List ℕ) (ss : List Stranger) → bytes_eq other name ≡ false
@@ -36,7 +36,7 @@ one_more_held : (name held : List ℕ) (s : Stranger) (ss : List Stranger) → b
 one_more_held name held s [] differ h = (λ is. let clash : true ≡ false = sym is ∙ differ in absurd cc, tt)
 one_more_held name held s (x ∷ ss) differ h = (h.0, one_more_held name held s ss differ h.1)
 
-come_held : (set : Setting) (name other held bytes : List ℕ) (w : World) → bytes_eq other name ≡ false → Holds name held w
+pub come_held : (set : Setting) (name other held bytes : List ℕ) (w : World) → bytes_eq other name ≡ false → Holds name held w
     → Holds name held (comes set other bytes w)
 come_held set name other held bytes w differ h = by (is_some (stranger_named other w))
   where
@@ -44,7 +44,7 @@ come_held set name other held bytes w differ h = by (is_some (stranger_named oth
     by true = others_held name other held (λ (old : List ℕ). old ++ bytes) w.strangers differ h
     by false = one_more_held name held _ w.strangers differ h
 
-rest_held : (set : Setting) (name other held : List ℕ) (more : ℕ) (w : World) → bytes_eq other name ≡ false → Holds name held w
+pub rest_held : (set : Setting) (name other held : List ℕ) (more : ℕ) (w : World) → bytes_eq other name ≡ false → Holds name held w
     → Holds name held (answers_rest set more other w)
 rest_held set name other held zero w differ h = h
 rest_held set name other held (suc more) w differ h =
@@ -72,7 +72,7 @@ same_strangers : (v w : World) → v.strangers ≡ w.strangers → AreAllAlike w
 same_strangers v w is alike name =
     subst (λ (ss : List Stranger). AllByRecursion (HoldsThese name (bytes_held (find (its name) ss))) ss) (sym is) (alike name)
 
-none_held : (name : List ℕ) (ss : List Stranger) → AllByRecursion (HoldsThese name []) (map unlinked ss)
+pub none_held : (name : List ℕ) (ss : List Stranger) → AllByRecursion (HoldsThese name []) (map unlinked ss)
 none_held name [] = tt
 none_held name (s ∷ ss) = (λ is. refl, none_held name ss)
 

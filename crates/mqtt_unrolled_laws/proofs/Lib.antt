@@ -5,3 +5,5 @@ pub mod Good
 pub mod Stopped
 pub mod Steps
 pub mod Alike
+pub mod Cutting
+pub mod Waiting

@@ -59,7 +59,7 @@ strangers_forgotten set (Some call) w ss ts e =
 
 -- ---- bytes of which one packet at most is whole
 
-comes_holds : (set : Setting) (name bytes : List ℕ) (w : World) → AreAlike name w
+pub comes_holds : (set : Setting) (name bytes : List ℕ) (w : World) → AreAlike name w
     → Holds name (bytes_come name bytes w) (comes set name bytes w)
     × (held_count (stranger_named name (comes set name bytes w)) ≡ length (bytes_come name bytes w))
 comes_holds set name bytes w alike = by (stranger_named name w) refl

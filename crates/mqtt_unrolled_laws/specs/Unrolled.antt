@@ -102,3 +102,7 @@ turn choice e = record { event = e; choice = choice }
 -- strangers of one name, whatever it is, hold the same
 abbrev pub AreAllAlike : World → Type 0
 AreAllAlike w = (name : List ℕ) → AreAlike name w
+
+-- nothing whole is held of a stranger's bytes: each packet was answered as it came
+abbrev pub HoldNoPacket : World → Type 0
+HoldNoPacket w = (name : List ℕ) → first_of (bytes_held (stranger_named name w)) ≡ Ok None

@@ -4,8 +4,8 @@ ghost use Rattle.mqtt_laws.specs.Run.{run, turned};
 ghost use Rattle.mqtt_laws.specs.World.{Asking, Event, Setting, World, ask, is_bad, restart, start, step, stop_after, stranger};
 ghost use Rattle.mqtt_rules.specs.declared.Limits.{Limits};
 ghost use Rattle.mqtt_rules.specs.State.{MemberChoice};
-ghost use Rattle.mqtt_unrolled_laws.specs.Unrolled.{AreAlike, AreAllAlike, IsDecided, IsOneStep, IsWhole, Unrolls, bytes_come};
-ghost use Rattle.mqtt_unrolled_laws.specs.Unrolled.{turn};
+ghost use Rattle.mqtt_unrolled_laws.specs.Unrolled.{AreAlike, AreAllAlike, HoldNoPacket, IsDecided, IsOneStep, IsWhole, Unrolls};
+ghost use Rattle.mqtt_unrolled_laws.specs.Unrolled.{bytes_come, turn};
 
 /// Bytes of a stranger may come in two events, the first of which ends with a packet: both come to what the one
 /// event does. So the answers to a stranger are those to its packets, one after the other (2.1).
@@ -35,6 +35,15 @@ pub fn an_event_is_its_steps()
     ensures is { (limits : Limits) (choice : MemberChoice) (e : Event) (es : List Event) (w : World)
         → AreAllAlike w → is_bad e w ≡ false → Unrolls e w es
         → run limits (map (turn choice) es) w ≡ turned limits (turn choice e) w }
+{}
+
+/// Each event comes to some events of one step each, where nothing whole is held of a stranger's bytes; and so it
+/// is in every run that begins with nobody (2.1).
+pub fn every_event_comes_to_steps()
+    ensures some { (e : Event) (w : World) → HoldNoPacket w → (es : List Event) × Unrolls e w es }
+    ensures begins { HoldNoPacket start }
+    ensures stays { (set : Setting) (e : Event) (w : World)
+        → AreAllAlike w → HoldNoPacket w → HoldNoPacket (step set e w) }
 {}
 
 /// Strangers of one name hold the same bytes in every run that begins with nobody: each name is that of one.

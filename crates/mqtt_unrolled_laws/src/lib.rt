@@ -6,5 +6,5 @@ mod laws;
 
 pub use laws::{
     a_stop_after_is_a_step_and_a_restart, an_event_is_its_steps, bytes_come_packet_by_packet,
-    strangers_of_a_name_are_alike,
+    every_event_comes_to_steps, strangers_of_a_name_are_alike,
 };
