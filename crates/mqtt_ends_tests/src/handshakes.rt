@@ -39,7 +39,10 @@ fn send_two(rt: &impl Abort, alloc: Global, handshakes: &mut Handshakes) -> Resu
 /// PUBREC comes for the second, and the session is resumed.
 fn resume(rt: &impl Abort, alloc: Global, handshakes: &mut Handshakes) -> Result<(), AllocError> {
     assert!(rt; handshakes.is_released(2, 0), "its PUBREC is awaited");
-    assert!(rt; !handshakes.is_released(2, 0x97), "a refusal releases nothing");
+    assert!(rt;
+        !handshakes.is_released(2, 0x97),
+        "a refusal releases nothing"
+    );
     handshakes.hear(Heard::Pubrec {
         identifier: 2,
         code: 0,
