@@ -36,6 +36,7 @@ pub mod OwnRefusals
 pub mod OwnOthers
 pub mod Listening
 pub mod OwnSubscribes
+pub mod Apart
 pub mod Examples
 pub mod DrainRuns
 pub mod UnderWay

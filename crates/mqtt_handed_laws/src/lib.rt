@@ -2,6 +2,7 @@
 //! (MQTT 5.0, 4.3, 4.4).
 #![tactic(auto)]
 
+mod apart_laws;
 mod call_laws;
 mod connect_laws;
 mod copy_laws;
@@ -16,6 +17,7 @@ mod restart_laws;
 mod round_laws;
 mod served_laws;
 
+pub use apart_laws::copies_that_enter_are_told_apart;
 pub use call_laws::{
     a_clean_start_is_a_step_of_the_hop, a_new_session_is_a_step_of_the_hop,
     a_resumed_session_is_a_step_of_the_hop, answers_on_the_line_given_up_are_steps_of_the_hop,
