@@ -1,11 +1,9 @@
 -- A receiver's copies stay told apart as others enter behind them.
-use Rattle.std.proofs.Common.{◌≡◌, ℕ, zero, suc, ◌≤◌, true, cond, List, [], ◌∷◌, ◌++◌, map, Some, refl, sym, ap, subst, ◌∙◌, arith, inl, inr}
-use Rattle.std.specs.Prelude.{◌≢◌, slice_get}
+use Rattle.std.proofs.Common.{◌≡◌, ℕ, suc, ◌≤◌, List, ◌∷◌, ◌++◌, map, ap, arith}
+use Rattle.std.specs.Prelude.{◌≢◌}
 use Rattle.std.specs.List.{AllByRecursion}
-use Rattle.std.proofs.lemmas.Bool.{cases_Bool}
 use Rattle.mqtt_base.specs.declared.session.CopyId.{CopyId}
 use Rattle.mqtt_laws.specs.Ends.{Back, Receiver, Wish, asks_for, wire_back}
-use Rattle.mqtt_laws.specs.Laws.{is_copy}
 use Rattle.mqtt_message.specs.declared.message.RetainedMessage.{RetainedMessage}
 use Rattle.mqtt_records.specs.Records.{subscribe_in}
 use Rattle.mqtt_records.specs.declared.records.Records.{Records}
@@ -19,16 +17,12 @@ use Rattle.mqtt_rules.specs.State.{Line as BrokerLine, Broker, MemberChoice}
 use Rattle.mqtt_rules.specs.Step.{Input, stepped}
 use Rattle.mqtt_rules.specs.declared.Limits.{Limits}
 use Rattle.mqtt_world_laws.proofs.Differ.{AreApart, differ_join}
-use Rattle.mqtt_world_laws.proofs.Told.{copy_is}
 use Rattle.mqtt_handed_laws.specs.Apart.{AreToldApart, HasCome}
 use Rattle.mqtt_handed_laws.specs.Calls.{IsLingering}
 use Rattle.mqtt_handed_laws.specs.Handing.{IsListening, receiver_after}
 use Rattle.mqtt_handed_laws.specs.Late.{reads_old_wish}
 use Rattle.mqtt_handed_laws.specs.Own.{IsBroughtCopy, IsInStep, Subscribed}
-use Rattle.mqtt_handed_laws.specs.Seen.{Numbering}
 use Rattle.mqtt_handed_laws.specs.Served.{IsNewCopy, IsTidy}
-use Rattle.mqtt_handed_laws.specs.Tags.{AreNumbered}
-use Rattle.mqtt_handed_laws.proofs.Handed.{copy_itself}
 use Rattle.mqtt_handed_laws.proofs.OwnSubscribes.{old_subscribes_apart, subscribes_apart}
 
 -- ---- copies of publications
@@ -85,28 +79,3 @@ apart_old_subscribed largest ids limits choice now birth ns w rest r l s b k a t
     let both = old_subscribes_apart largest ids limits choice now birth ns w rest r l s b k a tidy old in
     let told = both.1 (record { differ = differ; upto = accepted.1 }) in
     (both.0, apart_brought birth ids both.0.more b.records (stepped limits choice now call b).records apart (step_fell limits choice now call b) both.0.new told)
-
--- ---- so they can be numbered by their places
-
-abbrev place_in : List CopyId → CopyId → ℕ
-place_in [] c = 0
-place_in (x ∷ xs) c = cond (is_copy c x) 0 (suc (place_in xs c))
-
-each_at : (P : CopyId → Type 0) (xs : List CopyId) (n : ℕ) (c : CopyId) → AllByRecursion P xs → slice_get xs n ≡ Some c → P c
-each_at P [] n c h at = absurd cc
-each_at P (x ∷ xs) zero c h at = let is : x ≡ c = cc in subst P is h.0
-each_at P (x ∷ xs) (suc n) c h at = each_at P xs n c h.1 at
-
-placed : (ids : List CopyId) → AllDiffer ids → AreNumbered (place_in ids) ids
-placed [] h n c at = absurd cc
-placed (x ∷ xs) h zero c at =
-    let is : x ≡ c = cc in
-    let yes : is_copy c x ≡ true = ap (is_copy c) is ∙ copy_itself c in
-    rw yes refl
-placed (x ∷ xs) h (suc n) c at = elim (cases_Bool (is_copy c x)) [
-  | inl same ↦ absurd (each_at (λ (y : CopyId). x ≢ y) xs n c h.0 at (sym (copy_is c x same)))
-  | inr other ↦ rw other (ap suc (placed xs h.1 n c at))
-]
-
-pub numbering : (ids : List CopyId) → AllDiffer ids → (number : Numbering) × AreNumbered number ids
-numbering ids h = (place_in ids, placed ids h)

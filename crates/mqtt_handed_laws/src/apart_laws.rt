@@ -7,9 +7,7 @@ ghost use Rattle.mqtt_handed_laws.specs.Calls.{IsLingering};
 ghost use Rattle.mqtt_handed_laws.specs.Handing.{IsListening, receiver_after};
 ghost use Rattle.mqtt_handed_laws.specs.Late.{reads_old_wish};
 ghost use Rattle.mqtt_handed_laws.specs.Own.{IsInStep, Subscribed};
-ghost use Rattle.mqtt_handed_laws.specs.Seen.{Numbering};
 ghost use Rattle.mqtt_handed_laws.specs.Served.{IsNewCopy, IsTidy};
-ghost use Rattle.mqtt_handed_laws.specs.Tags.{AreNumbered};
 ghost use Rattle.mqtt_laws.specs.Ends.{Back, Receiver, Wish, asks_for, wire_back};
 ghost use Rattle.mqtt_message.specs.declared.message.RetainedMessage.{RetainedMessage};
 ghost use Rattle.mqtt_records.specs.declared.records.Records.{Records};
@@ -20,12 +18,10 @@ ghost use Rattle.mqtt_rules.specs.State.{Broker, Line, MemberChoice};
 ghost use Rattle.mqtt_rules.specs.Step.{Input, stepped};
 ghost use Rattle.mqtt_rules.specs.declared.Limits.{Limits};
 
-/// Copies that are told apart can be numbered by their places. A receiver's copies stay told apart, each from every other,
-/// whatever enters behind them: copies of publications that were accepted meanwhile, or those of retained messages that a
-/// filter brings, on the receiver's line or on the one that it gave up, where no two retained messages are of one
-/// publication (3.3.1.3, 3.3.4, 3.8.4).
+/// A receiver's copies stay told apart, each from every other, whatever enters behind them: copies of publications that were
+/// accepted meanwhile, or those of retained messages that a filter brings, on the receiver's line or on the one that it gave
+/// up, where no two retained messages are of one publication (3.3.1.3, 3.3.4, 3.8.4).
 pub fn copies_that_enter_are_told_apart()
-    ensures numbered { (ids : List CopyId) → AllDiffer ids → (number : Numbering) × AreNumbered number ids }
     ensures stay { (ids : List CopyId) (old new : Records) → AreToldApart ids old → NoneFell old new → AreToldApart ids new }
     ensures enter { (birth : ℕ) (ids more : List CopyId) (old new : Records) → AreToldApart ids old → NoneFell old new
         → AllByRecursion (IsNewCopy birth old.publications new.publications) more → AllDiffer more
