@@ -24,6 +24,7 @@ pub mod LateConnect
 pub mod LateCalls
 pub mod AwaitingOthers
 pub mod IdleLines
+pub mod FreshLines
 pub mod Restarting
 pub mod Stopping
 pub mod OwnCalls

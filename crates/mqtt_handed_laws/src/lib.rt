@@ -31,7 +31,7 @@ pub use doing_laws::{own_doings_leave_a_receiver_awaiting, own_doings_leave_a_re
 pub use drain_laws::a_script_with_drains_is_a_run;
 pub use late_laws::{
     a_connect_on_the_line_given_up_puts_a_receiver_in_step,
-    a_line_without_session_leaves_a_receiver_as_it_is,
+    a_line_without_session_leaves_a_receiver_as_it_is, a_line_without_session_stays_as_it_is,
     a_subscribe_on_the_line_given_up_leaves_a_receiver_in_step,
     calls_of_others_leave_a_receiver_awaiting,
 };
