@@ -10,4 +10,5 @@ pub mod Own
 pub mod Drains
 pub mod Rounds
 pub mod WorldRounds
+pub mod Apart
 pub mod Late
