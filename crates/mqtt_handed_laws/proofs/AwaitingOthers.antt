@@ -1,6 +1,6 @@
 -- Calls of others while a receiver awaits its session: no session of its name begins, and on its lines nobody is connected and
 -- nothing of copies is told.
-use Rattle.std.proofs.Common.{◌≡◌, ℕ, suc, ◌≤◌, Bool, true, false, cond, ◌⊎◌, List, [], ◌∷◌, ◌++◌, filter, map, Option, Some, None, bytes_eq, nat_eq, refl, sym, ap, subst, ◌∙◌, arith, inl, inr}
+use Rattle.std.proofs.Common.{◌≡◌, ℕ, suc, ◌≤◌, ◌<◌, Bool, true, false, cond, ◌⊎◌, List, [], ◌∷◌, ◌++◌, filter, map, Option, Some, None, bytes_eq, nat_eq, refl, sym, ap, subst, ◌∙◌, arith, inl, inr}
 use Rattle.std.specs.Prelude.{⊤, find, is_some, nat_le}
 use Rattle.std.specs.List.{AllByRecursion, starts_with}
 use Rattle.std.proofs.lemmas.Bool.{cases_Bool, eqb-true}
@@ -61,17 +61,17 @@ module _ (ns : List ℕ) where
   abbrev IsOutside : ℕ → Type 0
   IsOutside m = is_one_of (Some m) ns ≡ false
 
-  abbrev IsApart : Deed → Type 0
+  abbrev pub IsApart : Deed → Type 0
   IsApart (Send m packet) = IsOutside m ⊎ IsUnheard packet
   IsApart (Gone m) = IsOutside m
   IsApart (On m part) = IsOutside m
-  IsApart (Link m) = (n : ℕ) → is_one_of (Some n) ns ≡ true → n ≤ m
+  IsApart (Link m) = (n : ℕ) → is_one_of (Some n) ns ≡ true → n < m
   IsApart d = ⊤
 
   abbrev Apart : List Deed → Type 0
   Apart ds = AllByRecursion IsApart ds
 
-  abbrev IsApartHere : Deed → Broker → Type 0
+  abbrev pub IsApartHere : Deed → Broker → Type 0
   IsApartHere d b = IsApart d
 
   -- ---- nobody is connected on these lines
@@ -79,7 +79,7 @@ module _ (ns : List ℕ) where
   abbrev Free : List BrokerLine → Type 0
   Free ls = AllByRecursion (IsFreeLine ns) ls
 
-  record IsFree (b : Broker) : Type 0 where
+  pub record IsFree (b : Broker) : Type 0 where
     pub free : AllByRecursion (IsFreeLine ns) b.lines
     pub given : (n : ℕ) → is_one_of (Some n) ns ≡ true → n ≤ b.given
 
@@ -119,10 +119,10 @@ module _ (ns : List ℕ) where
   free_lines now d ls q h = h
 
   free_given : (d : Deed) (given : ℕ) → IsApart d → ((n : ℕ) → is_one_of (Some n) ns ≡ true → n ≤ given) → (n : ℕ) → is_one_of (Some n) ns ≡ true → n ≤ given_after d given
-  free_given (Link m) given q h = q
+  free_given (Link m) given q h = λ n inside. let less = q n inside in omega (arith, less)
   free_given d given q h = h
 
-  free_deeds : (ds : List Deed) (b : Broker) → Apart ds → IsFree b → IsFree (after_all ds b)
+  pub free_deeds : (ds : List Deed) (b : Broker) → Apart ds → IsFree b → IsFree (after_all ds b)
   free_deeds [] b q h = h
   free_deeds (d ∷ ds) b q h = free_deeds ds (after d b) q.1 (record { free = free_lines b.now d b.lines q.0 h.free; given = free_given d b.given q.0 h.given })
 
@@ -210,7 +210,7 @@ module _ (ns : List ℕ) where
 
   -- ---- the law of the induction over acts: all lines but these
 
-  abbrev others : Whom
+  abbrev pub others : Whom
   others = record {
     line = λ l. IsOutside l.number;
     number = λ m. IsOutside m;
@@ -239,7 +239,7 @@ module _ (ns : List ℕ) where
         | inr outside ↦ outside
       ]
 
-  apart_law : (env : Env) → Law env others IsFree IsApartHere
+  pub apart_law : (env : Env) → Law env others IsFree IsApartHere
   apart_law env = record {
     finds = record {
       its_number = λ l its. its;
@@ -279,7 +279,7 @@ module _ (ns : List ℕ) where
   mute_deeds [] b q = tt
   mute_deeds (d ∷ ds) b q = (mute_deed d q.0, mute_deeds ds (after d b) q.1)
 
-  outside_at : (m : ℕ) (l : BrokerLine) (b : Broker) → IsOutside m → find (λ (x : BrokerLine). nat_eq x.number m) b.lines ≡ Some l → IsOutside l.number
+  pub outside_at : (m : ℕ) (l : BrokerLine) (b : Broker) → IsOutside m → find (λ (x : BrokerLine). nat_eq x.number m) b.lines ≡ Some l → IsOutside l.number
   outside_at m l b out e = ap (λ (k : ℕ). is_one_of (Some k) ns) (found_number m l b.lines e) ∙ out
 
   call_of : (client : List ℕ) (call : Call) (b : Broker) → IsCallOfOthers client ns call b → IsCallOf others call b

@@ -27,7 +27,7 @@ use Rattle.mqtt_handed_laws.proofs.Refusals.{run_append}
 
 -- ---- the deeds
 
-pump_none : (env : Env) (n : ℕ) (b : Broker) → IsIdle n b → deeds_of env (Pump n) b ≡ []
+pub pump_none : (env : Env) (n : ℕ) (b : Broker) → IsIdle n b → deeds_of env (Pump n) b ≡ []
 pump_none env n b idle = by (line_at n b) refl
   where
     by : (o : Option BrokerLine) → line_at n b ≡ o → with_line o (λ (l : BrokerLine). on_pump l l.session) b ≡ []
@@ -46,7 +46,7 @@ lost_none env n b idle = by (line_at n b) refl
         let is = eqb-true l.number n both.1 in
         inr (ap (λ (o : Option ℕ). Gone l.number ∷ (close_connected env true o (after (Gone l.number) b) ++ [])) (both.0 is) ∙ ap (λ (k : ℕ). Gone k ∷ []) is)
 
-first_idle : (now n : ℕ) (b : Broker) → IsIdle n b → IsIdle n (at_moment now b)
+pub first_idle : (now n : ℕ) (b : Broker) → IsIdle n b → IsIdle n (at_moment now b)
 first_idle now n b idle = record { lines = idle.lines; given = idle.given }
 
 -- ---- the receiver leaves its line

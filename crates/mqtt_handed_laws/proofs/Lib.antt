@@ -24,6 +24,7 @@ pub mod LateConnect
 pub mod LateCalls
 pub mod AwaitingOthers
 pub mod IdleLines
+pub mod FreshLines
 pub mod Restarting
 pub mod Stopping
 pub mod OwnCalls
@@ -36,6 +37,7 @@ pub mod OwnRefusals
 pub mod OwnOthers
 pub mod Listening
 pub mod OwnSubscribes
+pub mod Apart
 pub mod Examples
 pub mod DrainRuns
 pub mod UnderWay

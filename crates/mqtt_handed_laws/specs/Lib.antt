@@ -9,4 +9,5 @@ pub mod Restarts
 pub mod Own
 pub mod Drains
 pub mod Rounds
+pub mod Apart
 pub mod Late

@@ -1,6 +1,6 @@
 //! Laws of a receiver's hop: calls of others before its session begins, and what is read on the line that it gave up (3.1.2.4,
 //! 3.1.4, 3.8.4).
-ghost use Rattle.std.specs.Prelude.{◌≡◌, ◌∷◌, ℕ, Bool, List, [], None, false, length, nat_eq, nat_lt, suc, true};
+ghost use Rattle.std.specs.Prelude.{◌≡◌, ◌∷◌, ℕ, Bool, List, [], None, Some, false, length, nat_eq, nat_lt, suc, true};
 ghost use Rattle.std.specs.List.{starts_with};
 ghost use Rattle.mqtt_base.specs.declared.session.CopyId.{CopyId};
 ghost use Rattle.mqtt_flow.specs.Receiver.{connect};
@@ -12,11 +12,11 @@ ghost use Rattle.mqtt_handed_laws.specs.Served.{IsCallOfOthers, IsOverdue, IsTid
 ghost use Rattle.mqtt_laws.specs.Ends.{Back, Receiver, Wish, answers, asks_for, wire_back};
 ghost use Rattle.mqtt_laws.specs.Hops.{lines_left};
 ghost use Rattle.mqtt_laws.specs.Lines.{is_one_of};
-ghost use Rattle.mqtt_laws.specs.Seats.{IsIdle};
+ghost use Rattle.mqtt_laws.specs.Seats.{IsElsewhere, IsIdle};
 ghost use Rattle.mqtt_laws.specs.Seen.{is_linked};
 ghost use Rattle.mqtt_records.specs.Session.{auto};
 ghost use Rattle.mqtt_records.specs.declared.session.Session.{Session};
-ghost use Rattle.mqtt_rules.specs.State.{Broker, Line, MemberChoice, line_of, session_named};
+ghost use Rattle.mqtt_rules.specs.State.{Broker, Line, MemberChoice, line_at, line_of, session_named};
 ghost use Rattle.mqtt_rules.specs.Step.{Call, Input, Lost, Pump, Tick, at_moment, stepped};
 ghost use Rattle.mqtt_rules.specs.declared.Limits.{Limits};
 
@@ -109,4 +109,13 @@ pub fn a_line_without_session_leaves_a_receiver_as_it_is()
         → IsAwaiting largest ids ns r b → IsIdle n b
         → IsAwaiting largest ids ns (receiver_lost limits choice now n r b)
         (stepped limits choice now (Lost n) b) }
+{}
+
+/// A line on which nobody is connected stays as it is at each call on other lines, whatever that does, and at a pump of any
+/// line: where a line of its number stands after it, it is the same one. So nothing has gone out on a line that waits for
+/// CONNECT (3.1, 4.4).
+pub fn a_line_without_session_stays_as_it_is()
+    ensures stays { (limits : Limits) (choice : MemberChoice) (now n : ℕ) (call : Call) (l : Line) (b : Broker)
+        → IsIdle n b → IsElsewhere n call → line_at n (stepped limits choice now call b) ≡ Some l
+        → line_at n b ≡ Some l }
 {}
