@@ -78,6 +78,7 @@ fn tell<K: Keep>(
 {
     if follow(index, step).is_err() {
         *is_stale = true;
+        index.take_back();
         step.take_back();
         return Err(EngineError::Memory);
     }
@@ -85,8 +86,10 @@ fn tell<K: Keep>(
     let told = commit(keep, step);
     if told.is_err() {
         *is_stale = true;
+        index.take_back();
     } else {
         *quiet = after;
+        index.settle();
     }
     told
 }
@@ -129,6 +132,7 @@ fn store<K: Keep>(
             Err(error) => Err(error),
         },
         Err(_) => {
+            index.take_back();
             step.take_back();
             Err(EngineError::Memory)
         }
@@ -188,6 +192,7 @@ pub fn finish<K: Keep>(
     match done {
         Ok(()) => store(keep, step, index, is_stale, quiet, again),
         Err(fault) => {
+            index.take_back();
             step.take_back();
             Err(refusal(fault))
         }
