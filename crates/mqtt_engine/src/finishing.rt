@@ -78,8 +78,8 @@ fn tell<K: Keep>(
 {
     if follow(index, step).is_err() {
         *is_stale = true;
-        index.take_back();
         step.take_back();
+        index.take_back();
         return Err(EngineError::Memory);
     }
     let after = quiet_after(*quiet, step.rows());
@@ -132,8 +132,8 @@ fn store<K: Keep>(
             Err(error) => Err(error),
         },
         Err(_) => {
-            index.take_back();
             step.take_back();
+            index.take_back();
             Err(EngineError::Memory)
         }
     }
@@ -192,8 +192,8 @@ pub fn finish<K: Keep>(
     match done {
         Ok(()) => store(keep, step, index, is_stale, quiet, again),
         Err(fault) => {
-            index.take_back();
             step.take_back();
+            index.take_back();
             Err(refusal(fault))
         }
     }
