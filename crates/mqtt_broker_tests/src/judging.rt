@@ -1,8 +1,7 @@
 //! Whether scripts are played as they say: over a store in memory, with and without what is refused, over a store whose
-//! device fails, over one that can't be read, and over one in SQL.
+//! device fails, and over one that can't be read.
 
 use crate::run::{Part, Played, play_over};
-use crate::sql::judge_in_sql;
 use crate::telling::Telling;
 use crate::unread::UnreadKeep;
 use mqtt_broker::MemKeep;
@@ -25,8 +24,6 @@ pub enum How {
     /// Over stores that can't be read when they are opened for the first time, the second and so on: each is given back as
     /// it was, and opened again.
     Unread,
-    /// Over a store in SQL: each leaves the rows that it leaves in a store in memory.
-    InSql,
 }
 
 /// Plays a script over a store in memory that has nothing yet.
@@ -296,7 +293,6 @@ fn judge_one(
             judge_failures(wrong, alloc, hasher, script)
         }
         How::Unread => judge_each_unread(wrong, alloc, hasher, script),
-        How::InSql => judge_in_sql(wrong, alloc, hasher, script),
         How::Twice(_) | How::WithFailures => Ok(()),
     }
 }
