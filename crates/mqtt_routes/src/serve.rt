@@ -245,11 +245,7 @@ fn group_text(alloc: Global, whole: &Text) -> Result<Text, RoutesFault>
 }
 
 /// The births of the members of a group.
-fn births_in(
-    alloc: Global,
-    filter: &str,
-    members: &[Member<'_>],
-) -> Result<Vec<u64>, RoutesFault>
+fn births_in(alloc: Global, filter: &str, members: &[Member<'_>]) -> Result<Vec<u64>, RoutesFault>
     ensures fault { IfErr result (λ fault. fault ≡ RoutesFault.Memory) }
 {
     let mut births = Vec::new(alloc);

@@ -255,9 +255,10 @@ impl Subscribers {
     /// Notes which members the groups of another table chose last. Takes no memory.
     pub(crate) fn keep_turns(&self, other: &Subscribers) {
         for birth in other.sessions.keys().as_slice() {
-            if let (Some(own), Some(others)) =
-                (self.sessions.get(birth), other.sessions.get(birth))
-            {
+            if let (Some(own), Some(others)) = (
+                self.sessions.get(birth),
+                other.sessions.get(birth),
+            ) {
                 own.keep_turns(others);
             }
         }
