@@ -1,0 +1,3 @@
+-- The world in code, as the definitions have it.
+pub mod Line
+pub mod Ends
