@@ -80,7 +80,7 @@ impl<U: Drop> Line<U> {
 
     /// The end leaves its line, and what is under way there is lost. Takes no memory.
     pub fn leave(&mut self)
-        ensures { self.new ≡ left self.old }
+        ensures { self.exit.now ≡ left self.entry.now }
     {
         self.link = Link::Away;
         self.number = None;
@@ -90,7 +90,7 @@ impl<U: Drop> Line<U> {
 
     /// The broker was restarted. Takes no memory.
     pub fn restart(&mut self)
-        ensures { self.new ≡ restarted self.old }
+        ensures { self.exit.now ≡ restarted self.entry.now }
     {
         self.leave();
         self.old_number = None;
@@ -99,7 +99,7 @@ impl<U: Drop> Line<U> {
 
     /// The end gives its line up, and the broker may still read what is under way there. Takes no memory.
     pub fn give_up(&mut self)
-        ensures { self.new ≡ gives_up self.old.link self.old }
+        ensures { self.exit.now ≡ gives_up self.entry.now.link self.entry.now }
     {
         if self.link != Link::Away {
             self.old.clear();
@@ -111,7 +111,7 @@ impl<U: Drop> Line<U> {
 
     /// CONNECT goes out on a new line. Without memory the line is left.
     pub fn join(&mut self, connect: U, number: u64, clean: bool) -> Result<(), AllocError>
-        ensures ok { OnOk result (self.new ≡ joined connect number clean self.old) }
+        ensures ok { OnOk result (self.exit.now ≡ joined connect number clean self.entry.now) }
     {
         self.up.clear();
         self.down.clear();
@@ -124,14 +124,14 @@ impl<U: Drop> Line<U> {
 
     /// The first packet under way to the broker is taken off. Takes no memory.
     pub fn take_up(&mut self) -> Option<U>
-        ensures new { self.new ≡ taken_up self.old }
+        ensures new { self.exit.now ≡ taken_up self.entry.now }
     {
         self.up.pop_front()
     }
 
     /// And on the line that was given up. Takes no memory.
     pub fn take_old(&mut self) -> Option<U>
-        ensures new { self.new ≡ taken_old self.old }
+        ensures new { self.exit.now ≡ taken_old self.entry.now }
     {
         self.old.pop_front()
     }
@@ -145,7 +145,7 @@ impl<U: Drop> Line<U> {
 
     /// CONNACK was read. Takes no memory.
     pub fn greet(&mut self)
-        ensures { self.new ≡ record self.old { link = live; clean = false } }
+        ensures { self.exit.now ≡ record self.entry.now { link = live; clean = false } }
     {
         self.link = Link::Live;
         self.clean = false;
@@ -153,7 +153,7 @@ impl<U: Drop> Line<U> {
 
     /// CONNACK refused it. Takes no memory.
     pub fn refuse(&mut self)
-        ensures { self.new ≡ left (record self.old { clean = false }) }
+        ensures { self.exit.now ≡ left (record self.entry.now { clean = false }) }
     {
         self.leave();
         self.clean = false;
@@ -161,7 +161,7 @@ impl<U: Drop> Line<U> {
 
     /// A packet goes out.
     pub fn push_up(&mut self, packet: U) -> Result<(), AllocError>
-        ensures { OnOk result (self.new ≡ record self.old { up = self.old.up ++ packet ∷ [] }) }
+        ensures { OnOk result (self.exit.now ≡ record self.entry.now { up = self.entry.now.up ++ packet ∷ [] }) }
     {
         match self.up.push_back(packet) {
             Ok(()) => Ok(()),
@@ -171,7 +171,7 @@ impl<U: Drop> Line<U> {
 
     /// The first packet under way to the end is taken off. Takes no memory.
     pub fn take_down(&mut self) -> Option<Down>
-        ensures new { self.new ≡ record self.old { down = drop 1 self.old.down } }
+        ensures new { self.exit.now ≡ record self.entry.now { down = drop 1 self.entry.now.down } }
     {
         self.down.pop_front()
     }
