@@ -76,6 +76,8 @@ impl<K: Keep> Engine<K> {
           stopped = false;
         } }
     {
+        let mut index = index;
+        index.settle();
         Engine {
             alloc,
             hasher,

@@ -79,14 +79,17 @@ fn tell<K: Keep>(
     if follow(index, step).is_err() {
         *is_stale = true;
         step.take_back();
+        index.take_back();
         return Err(EngineError::Memory);
     }
     let after = quiet_after(*quiet, step.rows());
     let told = commit(keep, step);
     if told.is_err() {
         *is_stale = true;
+        index.take_back();
     } else {
         *quiet = after;
+        index.settle();
     }
     told
 }
@@ -130,6 +133,7 @@ fn store<K: Keep>(
         },
         Err(_) => {
             step.take_back();
+            index.take_back();
             Err(EngineError::Memory)
         }
     }
@@ -189,6 +193,7 @@ pub fn finish<K: Keep>(
         Ok(()) => store(keep, step, index, is_stale, quiet, again),
         Err(fault) => {
             step.take_back();
+            index.take_back();
             Err(refusal(fault))
         }
     }

@@ -30,7 +30,8 @@ pub(crate) fn renew(
         return Ok(());
     }
     match Index::over(alloc, hasher, step) {
-        Ok(made) => {
+        Ok(mut made) => {
+            made.keep_turns(index);
             *index = made;
             *is_stale = false;
             Ok(())

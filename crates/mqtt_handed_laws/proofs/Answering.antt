@@ -5,7 +5,6 @@ use Rattle.std.specs.List.{AllByRecursion, cons_option}
 use Rattle.std.proofs.lemmas.Bool.{cases_Bool, eqb-true}
 use Rattle.std.proofs.lemmas.Cmp.{nat_eq_equiv}
 use Rattle.mqtt_base.specs.Codes.{protocol_error, success, identifier_not_found}
-use Rattle.mqtt_base.specs.declared.session.CopyId.{CopyId}
 use Rattle.mqtt_base.specs.declared.session.Ending.{Ending}
 use Rattle.mqtt_base.specs.declared.session.Phase.{Phase}
 use Rattle.mqtt_base.specs.declared.session.Phase.TheVariants.{Waiting, Sent, Released, Oversize}
@@ -17,7 +16,7 @@ use Rattle.mqtt_flow.specs.declared.entry.Turn.{Turn}
 use Rattle.mqtt_flow.specs.declared.entry.Turn.TheVariants as turns
 use Rattle.mqtt_flow.specs.Outbound as rules
 use Rattle.mqtt_flow.specs.Outbound.{acknowledged, is_refusal, puback_at, puback_by, pubcomp_at, pubcomp_by, pubrec_at, pubrec_by, received, released_by}
-use Rattle.mqtt_flow.specs.OutboundWorld.{Lot, World as Hop, lots_after, queue_of, renewed, replied, start, step, to_broker, up_comes}
+use Rattle.mqtt_flow.specs.OutboundWorld.{Lot, World as Hop, lots_after, queue_of, renewed, replied, step, to_broker, up_comes}
 use Rattle.mqtt_flow.specs.Queue.{holder, next_order}
 use Rattle.mqtt_flow.specs.Receiver.{Answer, Output, disconnect, puback, pubrec, pubcomp, pubrel}
 use Rattle.mqtt_inbound.specs.Identifiers.{ids_without}
@@ -50,9 +49,9 @@ use Rattle.mqtt_rules.proofs.Copies.{each_append}
 use Rattle.mqtt_handed_laws.specs.Entering.{AreKnown, IsReceiving, Receives}
 use Rattle.mqtt_handed_laws.specs.Handing.{IsAloneOn, IsListening, IsRun, RunsOn, after_answer, reads_answer}
 use Rattle.mqtt_handed_laws.specs.Seen.{AreQueued, Numbering, StandOn, answered, handed_in, heard_in, lot_on, seen, still_standing, went_in}
-use Rattle.mqtt_handed_laws.specs.Tags.{AreNumbered, AreTagged, IsTagged, id_of}
+use Rattle.mqtt_handed_laws.specs.Tags.{AreTagged, IsTagged, id_of}
+use Rattle.mqtt_handed_laws.proofs.Follows.{Follows, runs_follow}
 use Rattle.mqtt_handed_laws.proofs.Known.{known_left, known_marked, receives_after}
-use Rattle.mqtt_handed_laws.proofs.Refusals.{run_append}
 use Rattle.mqtt_handed_laws.proofs.Turns.{ids_after, left_lots, none_left, released_lots, renewed_lots, repeated_lots, same_entries, unknown_lots}
 
 -- ---- lists
@@ -326,10 +325,10 @@ module _ (number : Numbering) (largest : ℕ) (copies : List Lot) (limits : Limi
       none None = refl
       none (Some m) = refl
 
-  becomes_run : IsRun number largest copies r b → (copies2 : List Lot) (ps : List Output) (shut : Bool) → Becomes done_deeds copies2 ps shut → map id_of copies2 ≡ map id_of copies
+  becomes_follows : AreTagged number (map id_of copies) r → (copies2 : List Lot) (ps : List Output) (shut : Bool) → Becomes done_deeds copies2 ps shut → map id_of copies2 ≡ map id_of copies
       → record w { copies = copies2; linked = not shut; up = filter_map answered (unless_closed shut rest); down = w.down ++ ps } ≡ step largest w (to_broker false)
-      → RunsOn number largest copies (reads_answer limits choice now n a r b) (after_answer limits choice now n a r b)
-  becomes_run h copies2 ps shut x ids hop =
+      → Follows number largest copies (to_broker false) r b (reads_answer limits choice now n a r b) (after_answer limits choice now n a r b)
+  becomes_follows tags copies2 ps shut x ids hop =
       let ds = done_deeds in
       let new = stepped limits choice now (Input n packet) b in
       let out = told limits choice now (Input n packet) b in
@@ -373,18 +372,13 @@ module _ (number : Numbering) (largest : ℕ) (copies : List Lot) (limits : Limi
       ap (λ (k : ℕ). went_in k new) x.birth ∙ ap (its_went s.birth) lines in
       let downs_tagged : AllByRecursion (IsTagged number (map id_of copies)) (r.line.down ++ sent_to r.line.number new outputs) =
       subst (λ (o : Option ℕ). AllByRecursion (IsTagged number (map id_of copies)) (r.line.down ++ sent_to o new outputs)) (sym c.number)
-      (all_join (IsTagged number (map id_of copies)) r.line.down (sent_to (Some n) new outputs) h.tagged.down (x.tagged new)) in
-      let tags : AreTagged number (map id_of copies) (reads_answer limits choice now n a r b) = record { down = downs_tagged; ledger = h.tagged.ledger; once = h.tagged.once } in
+      (all_join (IsTagged number (map id_of copies)) r.line.down (sent_to (Some n) new outputs) tags.down (x.tagged new)) in
       record {
         after = copies2;
         same = ids;
-        run_is = record {
-          events = h.events ++ to_broker false ∷ [];
-          seen_is = same ∙ (hop ∙ (ap (λ (v : Hop). step largest v (to_broker false)) h.seen_is ∙ sym (run_append largest h.events (to_broker false ∷ []) start)));
-          queue_is = subst (λ (o : Option Session). AreQueued copies2 o new) (sym named) (subst (λ (o : Option (List ℕ)). StandOn copies2 x.session.queue o) (sym went) x.queued);
-          numbered = subst (AreNumbered number) (sym ids) h.numbered;
-          tagged = subst (λ (is : List CopyId). AreTagged number is (reads_answer limits choice now n a r b)) (sym ids) tags;
-        };
+        seen_is = same ∙ hop;
+        queue_is = subst (λ (o : Option Session). AreQueued copies2 o new) (sym named) (subst (λ (o : Option (List ℕ)). StandOn copies2 x.session.queue o) (sym went) x.queued);
+        tagged = record { down = downs_tagged; ledger = tags.ledger; once = tags.once };
       }
 
   -- ---- what the deeds of an answer make
@@ -492,7 +486,7 @@ module _ (number : Numbering) (largest : ℕ) (copies : List Lot) (limits : Limi
   -- ---- by what the session's rules answer
 
   abbrev Result_of : Type 0
-  Result_of = RunsOn number largest copies (reads_answer limits choice now n a r b) (after_answer limits choice now n a r b)
+  Result_of = Follows number largest copies (to_broker false) r b (reads_answer limits choice now n a r b) (after_answer limits choice now n a r b)
 
   abbrev told_more : List Lot → List Output → Hop
   told_more copies2 ps = record w { copies = copies2; linked = true; up = left_up; down = w.down ++ ps }
@@ -559,9 +553,9 @@ module _ (number : Numbering) (largest : ℕ) (copies : List Lot) (limits : Limi
   answer_replied (Ok (Some t)) ok = turn_replied t ok
   answer_replied (Err fault) ok = let stays = sym is_linked_now in λ i. record w { linked = false; up = []; down = sent_on (stays i) w.down (disconnect ∷ []) }
 
-  answer_runs : IsRun number largest copies r b → (x : rules.Answer) → IsReply x → next_packet (env_of limits choice b) l packet s once_heard ≡ on_answer x (env_of limits choice b) l s once_heard
+  answer_follows : AreTagged number (map id_of copies) r → (x : rules.Answer) → IsReply x → next_packet (env_of limits choice b) l packet s once_heard ≡ on_answer x (env_of limits choice b) l s once_heard
       → step largest w (to_broker false) ≡ replied x left_up w → Result_of
-  answer_runs h x ok e hop = becomes_run h (copies_by x copies) (told_by x) (shut_by x) (answer_becomes x ok e) (ids_by x copies) (answer_replied x ok ∙ sym hop)
+  answer_follows tags x ok e hop = becomes_follows tags (copies_by x copies) (told_by x) (shut_by x) (answer_becomes x ok e) (ids_by x copies) (answer_replied x ok ∙ sym hop)
 
   pub answer_receives : (q : Receiver) → r.client ≡ q.client → AreKnown s.queue (went_in s.birth b) → (x : rules.Answer) → IsReply x → next_packet (env_of limits choice b) l packet s once_heard ≡ on_answer x (env_of limits choice b) l s once_heard
       → Receives q (after_answer limits choice now n a r b)
@@ -576,35 +570,56 @@ module _ (number : Numbering) (largest : ℕ) (copies : List Lot) (limits : Limi
 
 -- ---- the three answers
 
+pub puback_follows : (number : Numbering) (largest : ℕ) (copies : List Lot) (limits : Limits) (choice : MemberChoice) (now i code : ℕ) (rest : List Back) (r : Receiver) (l : BrokerLine) (s : Session) (b : Broker)
+    → IsRun number largest copies r b → IsListening r l s b → r.line.up ≡ answers (puback i code) ∷ rest
+    → Follows number largest copies (to_broker false) r b (reads_answer limits choice now l.number (puback i code) r b) (after_answer limits choice now l.number (puback i code) r b)
+puback_follows number largest copies limits choice now i code rest r l s b h c up =
+    let w = seen number copies r b in
+    let q = queue_on l.went s in
+    answer_follows number largest copies limits choice now (puback i code) rest r l s b (standing_by copies r l s b h.queue_is c) c up h.tagged (rules.puback i code q) (reply_puback code (holder i q)) refl
+    (ap (λ (xs : List Answer). up_comes false xs w) (ap (filter_map answered) up)
+    ∙ ap (λ (es : List FlowEntry). replied (rules.puback i code es) (filter_map answered rest) w) (same_queue number largest copies limits choice now (puback i code) rest r l s b (standing_by copies r l s b h.queue_is c) c up))
+
 pub puback_runs : (number : Numbering) (largest : ℕ) (copies : List Lot) (limits : Limits) (choice : MemberChoice) (now i code : ℕ) (rest : List Back) (r : Receiver) (l : BrokerLine) (s : Session) (b : Broker)
     → IsRun number largest copies r b → IsListening r l s b → r.line.up ≡ answers (puback i code) ∷ rest
     → RunsOn number largest copies (reads_answer limits choice now l.number (puback i code) r b) (after_answer limits choice now l.number (puback i code) r b)
 puback_runs number largest copies limits choice now i code rest r l s b h c up =
+    runs_follow number largest copies (to_broker false) r b (reads_answer limits choice now l.number (puback i code) r b) (after_answer limits choice now l.number (puback i code) r b) h
+    (puback_follows number largest copies limits choice now i code rest r l s b h c up)
+
+pub pubrec_follows : (number : Numbering) (largest : ℕ) (copies : List Lot) (limits : Limits) (choice : MemberChoice) (now i code : ℕ) (rest : List Back) (r : Receiver) (l : BrokerLine) (s : Session) (b : Broker)
+    → IsRun number largest copies r b → IsListening r l s b → r.line.up ≡ answers (pubrec i code) ∷ rest
+    → Follows number largest copies (to_broker false) r b (reads_answer limits choice now l.number (pubrec i code) r b) (after_answer limits choice now l.number (pubrec i code) r b)
+pubrec_follows number largest copies limits choice now i code rest r l s b h c up =
     let w = seen number copies r b in
     let q = queue_on l.went s in
-    answer_runs number largest copies limits choice now (puback i code) rest r l s b (standing_by copies r l s b h.queue_is c) c up h (rules.puback i code q) (reply_puback code (holder i q)) refl
+    answer_follows number largest copies limits choice now (pubrec i code) rest r l s b (standing_by copies r l s b h.queue_is c) c up h.tagged (rules.pubrec i code q) (reply_pubrec i code (next_order q) (holder i q)) refl
     (ap (λ (xs : List Answer). up_comes false xs w) (ap (filter_map answered) up)
-    ∙ ap (λ (es : List FlowEntry). replied (rules.puback i code es) (filter_map answered rest) w) (same_queue number largest copies limits choice now (puback i code) rest r l s b (standing_by copies r l s b h.queue_is c) c up))
+    ∙ ap (λ (es : List FlowEntry). replied (rules.pubrec i code es) (filter_map answered rest) w) (same_queue number largest copies limits choice now (pubrec i code) rest r l s b (standing_by copies r l s b h.queue_is c) c up))
 
 pub pubrec_runs : (number : Numbering) (largest : ℕ) (copies : List Lot) (limits : Limits) (choice : MemberChoice) (now i code : ℕ) (rest : List Back) (r : Receiver) (l : BrokerLine) (s : Session) (b : Broker)
     → IsRun number largest copies r b → IsListening r l s b → r.line.up ≡ answers (pubrec i code) ∷ rest
     → RunsOn number largest copies (reads_answer limits choice now l.number (pubrec i code) r b) (after_answer limits choice now l.number (pubrec i code) r b)
 pubrec_runs number largest copies limits choice now i code rest r l s b h c up =
+    runs_follow number largest copies (to_broker false) r b (reads_answer limits choice now l.number (pubrec i code) r b) (after_answer limits choice now l.number (pubrec i code) r b) h
+    (pubrec_follows number largest copies limits choice now i code rest r l s b h c up)
+
+pub pubcomp_follows : (number : Numbering) (largest : ℕ) (copies : List Lot) (limits : Limits) (choice : MemberChoice) (now i code : ℕ) (rest : List Back) (r : Receiver) (l : BrokerLine) (s : Session) (b : Broker)
+    → IsRun number largest copies r b → IsListening r l s b → r.line.up ≡ answers (pubcomp i code) ∷ rest
+    → Follows number largest copies (to_broker false) r b (reads_answer limits choice now l.number (pubcomp i code) r b) (after_answer limits choice now l.number (pubcomp i code) r b)
+pubcomp_follows number largest copies limits choice now i code rest r l s b h c up =
     let w = seen number copies r b in
     let q = queue_on l.went s in
-    answer_runs number largest copies limits choice now (pubrec i code) rest r l s b (standing_by copies r l s b h.queue_is c) c up h (rules.pubrec i code q) (reply_pubrec i code (next_order q) (holder i q)) refl
+    answer_follows number largest copies limits choice now (pubcomp i code) rest r l s b (standing_by copies r l s b h.queue_is c) c up h.tagged (rules.pubcomp i q) (reply_pubcomp (holder i q)) refl
     (ap (λ (xs : List Answer). up_comes false xs w) (ap (filter_map answered) up)
-    ∙ ap (λ (es : List FlowEntry). replied (rules.pubrec i code es) (filter_map answered rest) w) (same_queue number largest copies limits choice now (pubrec i code) rest r l s b (standing_by copies r l s b h.queue_is c) c up))
+    ∙ ap (λ (es : List FlowEntry). replied (rules.pubcomp i es) (filter_map answered rest) w) (same_queue number largest copies limits choice now (pubcomp i code) rest r l s b (standing_by copies r l s b h.queue_is c) c up))
 
 pub pubcomp_runs : (number : Numbering) (largest : ℕ) (copies : List Lot) (limits : Limits) (choice : MemberChoice) (now i code : ℕ) (rest : List Back) (r : Receiver) (l : BrokerLine) (s : Session) (b : Broker)
     → IsRun number largest copies r b → IsListening r l s b → r.line.up ≡ answers (pubcomp i code) ∷ rest
     → RunsOn number largest copies (reads_answer limits choice now l.number (pubcomp i code) r b) (after_answer limits choice now l.number (pubcomp i code) r b)
 pubcomp_runs number largest copies limits choice now i code rest r l s b h c up =
-    let w = seen number copies r b in
-    let q = queue_on l.went s in
-    answer_runs number largest copies limits choice now (pubcomp i code) rest r l s b (standing_by copies r l s b h.queue_is c) c up h (rules.pubcomp i q) (reply_pubcomp (holder i q)) refl
-    (ap (λ (xs : List Answer). up_comes false xs w) (ap (filter_map answered) up)
-    ∙ ap (λ (es : List FlowEntry). replied (rules.pubcomp i es) (filter_map answered rest) w) (same_queue number largest copies limits choice now (pubcomp i code) rest r l s b (standing_by copies r l s b h.queue_is c) c up))
+    runs_follow number largest copies (to_broker false) r b (reads_answer limits choice now l.number (pubcomp i code) r b) (after_answer limits choice now l.number (pubcomp i code) r b) h
+    (pubcomp_follows number largest copies limits choice now i code rest r l s b h c up)
 
 -- ---- and its session may receive more
 

@@ -46,12 +46,13 @@ use Rattle.mqtt_handed_laws.specs.Entering.{AreKnown, Receives}
 use Rattle.mqtt_handed_laws.specs.Handing.{IsRun, RunsOn, after_answer, reads_answer}
 use Rattle.mqtt_handed_laws.specs.Seen.{Numbering, StandOn, answered, heard_in, seen, still_standing}
 use Rattle.mqtt_handed_laws.specs.Tags.{AreNumbered, AreTagged, IsTagged, id_of}
-use Rattle.mqtt_handed_laws.proofs.Answering.{its_went}
+use Rattle.mqtt_handed_laws.proofs.Answering.{IsAsideOf, its_went}
 use Rattle.mqtt_handed_laws.proofs.Calling.{Makes, called_queue, called_seen, called_tags, hop_called}
 use Rattle.mqtt_handed_laws.proofs.Known.{receives_after}
 use Rattle.mqtt_handed_laws.proofs.Pumps.{down_first}
 use Rattle.mqtt_handed_laws.proofs.Refusals.{run_append}
-use Rattle.mqtt_handed_laws.proofs.Resuming.{IsOffIt, call_is, greeted_went, greeting, refused_not, went_at, went_at_heard}
+use Rattle.mqtt_handed_laws.proofs.OldAnswers.{aside_lines, untold}
+use Rattle.mqtt_handed_laws.proofs.Resuming.{Beside, IsOffIt, Takes, call_is, greeted_went, greeting, refused_not, went_at, went_at_heard}
 
 -- ---- the copies of a session that ended
 
@@ -60,7 +61,7 @@ still_cut [] = refl
 still_cut (standing e m ∷ ls) = still_cut ls
 still_cut (past ending e m ∷ ls) = still_cut ls
 
-cut_ids : (copies : List Lot) → map id_of (map cut copies) ≡ map id_of copies
+pub cut_ids : (copies : List Lot) → map id_of (map cut copies) ≡ map id_of copies
 cut_ids [] = refl
 cut_ids (standing e m ∷ ls) = ap (λ (cs : List CopyId). e.copy.id ∷ cs) (cut_ids ls)
 cut_ids (past ending e m ∷ ls) = ap (λ (cs : List CopyId). e.copy.id ∷ cs) (cut_ids ls)
@@ -99,7 +100,7 @@ pub record Clears (limits : Limits) (choice : MemberChoice) (now : ℕ) (clean :
   pub old : filter_map answered (unless_closed (is_one_of r.line.old_number ns) r.line.old) ≡ spared (filter_map answered r.line.old)
 
 module _ (number : Numbering) (largest : ℕ) (copies : List Lot) (limits : Limits) (choice : MemberChoice) (now : ℕ) (clean : Bool) (rest : List Back) (r : Receiver)
-    (l : BrokerLine) (b : Broker) (h : IsRun number largest copies r b) (number_is : r.line.number ≡ Some l.number) where
+    (l : BrokerLine) (b : Broker) (number_is : r.line.number ≡ Some l.number) where
   abbrev n : ℕ
   n = l.number
 
@@ -197,10 +198,27 @@ module _ (number : Numbering) (largest : ℕ) (copies : List Lot) (limits : Limi
         receives_after (reads_answer limits choice now l.number (connect clean) r b) birth limits choice now (Input n packet) b m.session m.found m.client m.birth_is m.only
         (subst (AreKnown m.session.queue) (sym went_ends) tt)
 
+    -- wherever the receiver is
+    pub begins_takes : ((m : ℕ) → nat_eq l.number m ≡ false → Beside number (map id_of copies) limits choice now (Input l.number (wire_back r.client r.window (answers (connect clean)))) m b (is_one_of (Some m) ns))
+        → Takes number (map cut copies) (map id_of copies) limits choice now (Input l.number (wire_back r.client r.window (answers (connect clean)))) r.client l.number (suc (after_all front (heard_of now l.number b)).records.births) ns b
+    begins_takes beside =
+        let m = makes in
+        record {
+          session = m.session;
+          found = m.found;
+          client = m.client;
+          birth_is = m.birth_is;
+          only = m.only;
+          queued = m.queued;
+          known = subst (AreKnown m.session.queue) (sym went_ends) tt;
+          closes = ap (filter_map closing) c.deeds_are ∙ closes_are;
+          beside = beside;
+        }
+
     -- the hop makes a new session too
-    pub begins_run : r.line.up ≡ answers (connect clean) ∷ rest → step largest w (to_broker false) ≡ made_new (filter_map answered rest) w
+    pub begins_run : IsRun number largest copies r b → r.line.up ≡ answers (connect clean) ∷ rest → step largest w (to_broker false) ≡ made_new (filter_map answered rest) w
         → RunsOn number largest copies (reads_answer limits choice now l.number (connect clean) r b) (after_answer limits choice now l.number (connect clean) r b)
-    begins_run up hop =
+    begins_run h up hop =
         let e = to_broker false in
         let ups : filter_map answered (drop 1 r.line.up) ≡ filter_map answered rest = ap (λ (xs : List Back). filter_map answered (drop 1 xs)) up in
         let olds = c.old in
@@ -222,6 +240,21 @@ module _ (number : Numbering) (largest : ℕ) (copies : List Lot) (limits : Limi
         }
 
 -- ---- no session of its name stands: one begins
+
+-- nothing becomes of another line
+pub first_beside : (number : Numbering) (ids : List CopyId) (limits : Limits) (choice : MemberChoice) (now : ℕ) (clean : Bool) (r : Receiver) (l : BrokerLine) (b : Broker) → Clears limits choice now clean r l b [] []
+    → (m : ℕ) → nat_eq l.number m ≡ false → Beside number ids limits choice now (Input l.number (wire_back r.client r.window (answers (connect clean)))) m b false
+first_beside number ids limits choice now clean r l b c m other =
+    let call = Input l.number (wire_back r.client r.window (answers (connect clean))) in
+    let ds = deeds limits choice now call b in
+    let new = stepped limits choice now call b in
+    let aside : AllByRecursion (IsAsideOf m) ds = subst (AllByRecursion (IsAsideOf m)) (sym c.deeds_are) (other, (tt, (other, (other, tt)))) in
+    let x = untold m new ds aside in
+    record {
+      told = ap (filter_map (heard_in number)) x.told;
+      tagged = subst (AllByRecursion (IsTagged number ids)) (sym x.told) tt;
+      line_is = aside_lines m ds (at_moment now b) aside;
+    }
 
 pub prepare_none : (env : Env) (clean : Bool) (client : List ℕ) (window : ℕ) (b : Broker) → session_named client b.records ≡ None → prepare env (greeting clean client window) b ≡ []
 prepare_none env clean client window b none =
@@ -296,7 +329,7 @@ pub first_begins : (number : Numbering) (largest : ℕ) (copies : List Lot) (lim
     → RunsOn number largest copies (reads_answer limits choice now l.number (connect clean) r b) (after_answer limits choice now l.number (connect clean) r b)
 first_begins number largest copies limits choice now clean rest r l b h a room up =
     let w = seen number copies r b in
-    begins_run number largest copies limits choice now clean rest r l b h a.number [] [] (first_clears limits choice now clean r l b a room) up
+    begins_run number largest copies limits choice now clean rest r l b a.number [] [] (first_clears limits choice now clean r l b a room) h up
     (ap (λ (xs : List Answer). up_comes false xs w) (ap (filter_map answered) up)
     ∙ ap (λ (z : Bool). connects z clean false (filter_map answered rest) w) (ap is_some a.none))
 
@@ -305,4 +338,4 @@ pub first_receives : (number : Numbering) (largest : ℕ) (copies : List Lot) (l
     → IsRun number largest copies r b → IsBeginning limits r l b → nat_lt (length b.records.sessions) limits.sessions ≡ true → r.line.up ≡ answers (connect clean) ∷ rest
     → Receives (reads_answer limits choice now l.number (connect clean) r b) (after_answer limits choice now l.number (connect clean) r b)
 first_receives number largest copies limits choice now clean rest r l b h a room up =
-    begins_receives number largest copies limits choice now clean rest r l b h a.number [] [] (first_clears limits choice now clean r l b a room)
+    begins_receives number largest copies limits choice now clean rest r l b a.number [] [] (first_clears limits choice now clean r l b a room)

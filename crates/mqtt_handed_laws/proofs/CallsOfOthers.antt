@@ -191,7 +191,7 @@ queued_on copies None b c lines h = h
 queued_on copies (Some s) b c lines h = subst (λ (ls : List BrokerLine). StandOn copies s.queue (its_went s.birth ls)) (sym lines) h
 
 -- what is seen is seen of the sessions and of the lines
-carried_run : (number : Numbering) (largest : ℕ) (copies : List Lot) (r : Receiver) (b c : Broker) → c.records.sessions ≡ b.records.sessions → c.lines ≡ b.lines → IsRun number largest copies r b
+pub carried_run : (number : Numbering) (largest : ℕ) (copies : List Lot) (r : Receiver) (b c : Broker) → c.records.sessions ≡ b.records.sessions → c.lines ≡ b.lines → IsRun number largest copies r b
     → IsRun number largest copies r c
 carried_run number largest copies r b c sessions lines h =
     let named : session_named r.client c.records ≡ session_named r.client b.records = ap (λ (ss : List Session). find (λ (y : Session). bytes_eq y.client r.client) ss) sessions in
@@ -245,13 +245,13 @@ first_runs number largest all birth r now b h =
 
 -- ---- the call
 
-told_all : (number : Numbering) (largest : ℕ) (all : List CopyId) (birth : ℕ) (ns : List ℕ) (r : Receiver) (call : Call) (ds : List Deed) (b new : Broker) → HasLines ns r → AreGood (IsMuteHere ns) ds b
-    → RunsWithAll number largest all birth r new → RunsWithAll number largest all birth (receiver_told new (outcome_of call ds) r) new
-told_all number largest all birth ns r call ds b new has mute h =
-    let ids = map id_of h.after in
+pub told_run : (number : Numbering) (largest : ℕ) (copies : List Lot) (ns : List ℕ) (r : Receiver) (call : Call) (ds : List Deed) (b new : Broker) → HasLines ns r → AreGood (IsMuteHere ns) ds b
+    → IsRun number largest copies r new → IsRun number largest copies (receiver_told new (outcome_of call ds) r) new
+told_run number largest copies ns r call ds b new has mute h =
+    let ids = map id_of copies in
     let own = spared_on number ids ns r.line.number new ds b has.own mute in
     let old = spared_on number ids ns r.line.old_number new ds b has.old mute in
-    let w = seen number h.after r new in
+    let w = seen number copies r new in
     let out = outcome_of call ds in
     let q = receiver_told new out r in
     let sent = sent_to r.line.number new (filter_map output ds) in
@@ -261,25 +261,29 @@ told_all number largest all birth ns r call ds b new has mute h =
     ap (λ (t : Bool). filter_map answered (unless_closed t r.line.old)) old.stays in
     let downs : filter_map (heard_in number) (r.line.down ++ sent) ≡ filter_map (heard_in number) r.line.down =
     filter_map-append (heard_in number) r.line.down sent ∙ (ap (λ (xs : List Output). filter_map (heard_in number) r.line.down ++ xs) own.heard_is ∙ append-nil (filter_map (heard_in number) r.line.down)) in
-    let same : seen number h.after q new ≡ w = λ i. record w { up = ups i; down = downs i; old = olds i } in
+    let same : seen number copies q new ≡ w = λ i. record w { up = ups i; down = downs i; old = olds i } in
     record {
-      after = h.after;
-      same = h.same;
-      run_is = record {
-        events = h.run_is.events;
-        seen_is = same ∙ h.run_is.seen_is;
-        queue_is = h.run_is.queue_is;
-        numbered = h.run_is.numbered;
-        tagged = record {
-          down = each_append (IsTagged number ids) r.line.down sent h.run_is.tagged.down own.tagged;
-          ledger = h.run_is.tagged.ledger;
-          once = h.run_is.tagged.once;
-        };
+      events = h.events;
+      seen_is = same ∙ h.seen_is;
+      queue_is = h.queue_is;
+      numbered = h.numbered;
+      tagged = record {
+        down = each_append (IsTagged number ids) r.line.down sent h.tagged.down own.tagged;
+        ledger = h.tagged.ledger;
+        once = h.tagged.once;
       };
-      session = h.session;
-      birth_is = h.birth_is;
-      receiving = record { session = h.receiving.session; client = h.receiving.client; only = h.receiving.only; known = h.receiving.known };
     }
+
+pub told_all : (number : Numbering) (largest : ℕ) (all : List CopyId) (birth : ℕ) (ns : List ℕ) (r : Receiver) (call : Call) (ds : List Deed) (b new : Broker) → HasLines ns r → AreGood (IsMuteHere ns) ds b
+    → RunsWithAll number largest all birth r new → RunsWithAll number largest all birth (receiver_told new (outcome_of call ds) r) new
+told_all number largest all birth ns r call ds b new has mute h = record {
+  after = h.after;
+  same = h.same;
+  run_is = told_run number largest h.after ns r call ds b new has mute h.run_is;
+  session = h.session;
+  birth_is = h.birth_is;
+  receiving = record { session = h.receiving.session; client = h.receiving.client; only = h.receiving.only; known = h.receiving.known };
+}
 
 pub others_go_on : (largest : ℕ) (ids : List CopyId) (limits : Limits) (choice : MemberChoice) (now : ℕ) (call : Call) (birth : ℕ) (ns : List ℕ) (r : Receiver) (b : Broker)
     → RunsFor largest ids birth r b → IsServed r.client birth ns b → HasLines ns r → IsTidy limits b → starts_with nat_eq r.client auto ≡ false

@@ -1,5 +1,5 @@
 -- What a receiver does and reads is what the receiver of its hop does and reads (MQTT 5.0, 4.3.2, 4.3.3, 4.4).
-use Rattle.std.proofs.Common.{◌≡◌, ℕ, Bool, true, false, cond, if◌then◌else◌, List, [], ◌∷◌, ◌++◌, map, Option, None, nat_lt, refl, sym, ap, subst, ◌∙◌}
+use Rattle.std.proofs.Common.{◌≡◌, ℕ, Bool, true, false, cond, if◌then◌else◌, List, [], ◌∷◌, ◌++◌, map, Option, Some, None, nat_lt, refl, sym, ap, subst, ◌∙◌}
 use Rattle.std.specs.Prelude.{⊤, filter_map, is_some}
 use Rattle.std.specs.List.{AllByRecursion, cons_option}
 use Rattle.std.proofs.lemmas.List.Elements.{filter_map-append}
@@ -70,6 +70,15 @@ MayRead link (d ∷ rest) = MayHear link d.packet
 
 -- ---- it reads a packet
 
+-- the receiver of the hop reads it too, if it is about copies
+abbrev pub reads_by : Option Output → List HopEvent
+reads_by None = []
+reads_by (Some p) = to_end ∷ []
+
+abbrev pub first_reads : Numbering → List Down → List HopEvent
+first_reads number [] = []
+first_reads number (d ∷ rest) = reads_by (heard_in number d)
+
 module _ (number : Numbering) (copies : List Lot) (largest : ℕ) (b : Broker) (t : Bool) where
   abbrev sees : Receiver → Hop
   sees r = seen number copies r b
@@ -81,10 +90,9 @@ module _ (number : Numbering) (copies : List Lot) (largest : ℕ) (b : Broker) (
   abbrev told_of : List Output → Receiver → Hop
   told_of ps r = record (sees r) { down = ps }
 
-  -- what it has, once it has read: its name, what it sees, and the tags
-  record Reads (p : Hop) (r q : Receiver) : Type 0 where
+  -- what it has, once it has read: its name, what it sees after these events, and the tags
+  record Reads (events : List HopEvent) (p : Hop) (r q : Receiver) : Type 0 where
     pub client : q.client ≡ r.client
-    pub events : List HopEvent
     pub seen_is : sees q ≡ run largest events p
     pub tagged : AreTagged number (map id_of copies) q
 
@@ -132,12 +140,11 @@ module _ (number : Numbering) (copies : List Lot) (largest : ℕ) (b : Broker) (
       by false = refl
 
   reads_connack : (present : Bool) (code : ℕ) (rest : List Down) (r : Receiver) → MayRefuse r.line.link code → AreTagged number (map id_of copies) (taken rest r)
-      → Reads (told_of (connack_heard present code ∷ filter_map (heard_in number) rest) r) r (receiver_connack r.line.link present code (taken rest r))
+      → Reads (to_end ∷ []) (told_of (connack_heard present code ∷ filter_map (heard_in number) rest) r) r (receiver_connack r.line.link present code (taken rest r))
   reads_connack present code rest r may h =
       let ps = connack_heard present code ∷ filter_map (heard_in number) rest in
       record {
         client = connack_client r.line.link present code (taken rest r);
-        events = to_end ∷ [];
         seen_is = connack_seen r.line.link present code rest ps r may ∙ refuses (nat_lt 0 code) present (filter_map (heard_in number) rest) (told_of ps r);
         tagged = connack_tags r.line.link present code rest r h;
       }
@@ -145,14 +152,13 @@ module _ (number : Numbering) (copies : List Lot) (largest : ℕ) (b : Broker) (
   -- PUBLISH
   reads_once : (copy : Option CopyId) (p : Publication) (dup : Bool) (i : ℕ) (rest : List Down) (r : Receiver) → is_linked r.line.number b ≡ t
       → Names number (map id_of copies) copy → AreTagged number (map id_of copies) (taken rest r)
-      → Reads (told_of (hop.publish i (number_of number copy) dup (body_of false p) ∷ filter_map (heard_in number) rest) r) r
+      → Reads (to_end ∷ []) (told_of (hop.publish i (number_of number copy) dup (body_of false p) ∷ filter_map (heard_in number) rest) r) r
       (answers_with t (puback i success) (record (taken rest r) { once = r.once ++ entry_of false copy p ∷ [] }))
   reads_once copy p dup i rest r e it h =
       let ups = answer_goes t (is_linked r.line.number b) r.line.up (puback i success) e in
       let hands = handed_push number r.once (entry_of false copy p) in
       record {
         client = refl;
-        events = to_end ∷ [];
         seen_is = λ j. record (sees r) { down = filter_map (heard_in number) rest; up = ups j; reads = hands j };
         tagged = record { down = h.down; ledger = h.ledger; once = all_push (WasTagged number (map id_of copies)) r.once (entry_of false copy p) h.once it };
       }
@@ -164,7 +170,7 @@ module _ (number : Numbering) (copies : List Lot) (largest : ℕ) (b : Broker) (
 
   reads_twice : (copy : Option CopyId) (p : Publication) (dup : Bool) (i : ℕ) (rest : List Down) (r : Receiver) → is_linked r.line.number b ≡ t
       → Names number (map id_of copies) copy → AreTagged number (map id_of copies) (taken rest r)
-      → Reads (told_of (hop.publish i (number_of number copy) dup (body_of true p) ∷ filter_map (heard_in number) rest) r) r
+      → Reads (to_end ∷ []) (told_of (hop.publish i (number_of number copy) dup (body_of true p) ∷ filter_map (heard_in number) rest) r) r
       (answers_with t (pubrec i success) (record (taken rest r) {
         kept = hop.kept_after i r.kept;
         ledger = if is_among i r.kept then r.ledger else r.ledger ++ entry_of true copy p ∷ [];
@@ -174,15 +180,14 @@ module _ (number : Numbering) (copies : List Lot) (largest : ℕ) (b : Broker) (
       let hands = handed_if number (is_among i r.kept) r.ledger (entry_of true copy p) in
       record {
         client = refl;
-        events = to_end ∷ [];
         seen_is = λ j. record (sees r) { down = filter_map (heard_in number) rest; up = ups j; kept = hop.kept_after i r.kept; ledger = hands j };
         tagged = record { down = h.down; ledger = tags_if (is_among i r.kept) copy p r.ledger it h.ledger; once = h.once };
       }
 
   reads_publishing : (copy : Option CopyId) (p : Publication) (d : Delivery) (rest : List Down) (r : Receiver) → is_linked r.line.number b ≡ t
       → IsTaggedBy number (map id_of copies) copy d → AreTagged number (map id_of copies) (taken rest r)
-      → Reads (told_of (cons_option (publish_heard number copy p d) (filter_map (heard_in number) rest)) r) r (reads_publish t copy p d (taken rest r))
-  reads_publishing copy p delivery.AtMostOnce rest r e it h = record { client = refl; events = []; seen_is = refl; tagged = h }
+      → Reads (reads_by (publish_heard number copy p d)) (told_of (cons_option (publish_heard number copy p d) (filter_map (heard_in number) rest)) r) r (reads_publish t copy p d (taken rest r))
+  reads_publishing copy p delivery.AtMostOnce rest r e it h = record { client = refl; seen_is = refl; tagged = h }
   reads_publishing copy p (delivery.AtLeastOnce dup i) rest r e it h = reads_once copy p dup i rest r e it h
   reads_publishing copy p (delivery.ExactlyOnce dup i) rest r e it h = reads_twice copy p dup i rest r e it h
 
@@ -192,26 +197,25 @@ module _ (number : Numbering) (copies : List Lot) (largest : ℕ) (b : Broker) (
   codes_agree false = refl
 
   reads_pubrel : (i code : ℕ) (rest : List Down) (r : Receiver) → is_linked r.line.number b ≡ t → AreTagged number (map id_of copies) (taken rest r)
-      → Reads (told_of (hop.pubrel i code ∷ filter_map (heard_in number) rest) r) r
+      → Reads (to_end ∷ []) (told_of (hop.pubrel i code ∷ filter_map (heard_in number) rest) r) r
       (answers_with t (pubcomp i (if is_among i r.kept then success else identifier_not_found)) (record (taken rest r) { kept = ids_without i r.kept }))
   reads_pubrel i code rest r e h =
       let ups = answer_goes t (is_linked r.line.number b) r.line.up (pubcomp i (if is_among i r.kept then success else identifier_not_found)) e
       ∙ ap (λ (z : ℕ). sent_on (is_linked r.line.number b) (filter_map answered r.line.up) (pubcomp i z ∷ [])) (codes_agree (is_among i r.kept)) in
       record {
         client = refl;
-        events = to_end ∷ [];
         seen_is = λ j. record (sees r) { down = filter_map (heard_in number) rest; up = ups j; kept = ids_without i r.kept };
         tagged = record { down = h.down; ledger = h.ledger; once = h.once };
       }
 
   -- whichever packet
   passes : (copy : Option CopyId) (rest : List Down) (r : Receiver) → AreTagged number (map id_of copies) (taken rest r)
-      → Reads (told_of (filter_map (heard_in number) rest) r) r (taken rest r)
-  passes copy rest r h = record { client = refl; events = []; seen_is = refl; tagged = h }
+      → Reads [] (told_of (filter_map (heard_in number) rest) r) r (taken rest r)
+  passes copy rest r h = record { client = refl; seen_is = refl; tagged = h }
 
   reads_packet : (copy : Option CopyId) (x : Packet) (rest : List Down) (r : Receiver) → is_linked r.line.number b ≡ t → MayHear r.line.link x
       → IsTaggedWith number (map id_of copies) copy x → AreTagged number (map id_of copies) (taken rest r)
-      → Reads (told_of (cons_option (heard number copy x) (filter_map (heard_in number) rest)) r) r (hears t copy x (taken rest r))
+      → Reads (reads_by (heard number copy x)) (told_of (cons_option (heard number copy x) (filter_map (heard_in number) rest)) r) r (hears t copy x (taken rest r))
   reads_packet copy (packet.Connect a) rest r e may it h = passes copy rest r h
   reads_packet copy (packet.Connack a) rest r e may it h = reads_connack a.session_present a.reason.0 rest r may h
   reads_packet copy (packet.Publish p) rest r e may it h = reads_publishing copy p p.delivery rest r e it h
@@ -220,25 +224,24 @@ module _ (number : Numbering) (copies : List Lot) (largest : ℕ) (b : Broker) (
   reads_packet copy (packet.Pubrel a) rest r e may it h = reads_pubrel a.identifier a.reason.0 rest r e h
   reads_packet copy (packet.Pubcomp a) rest r e may it h = passes copy rest r h
   reads_packet copy (packet.Subscribe a) rest r e may it h = passes copy rest r h
-  reads_packet copy (packet.Suback a) rest r e may it h = record { client = refl; events = []; seen_is = refl; tagged = record { down = h.down; ledger = h.ledger; once = h.once } }
+  reads_packet copy (packet.Suback a) rest r e may it h = record { client = refl; seen_is = refl; tagged = record { down = h.down; ledger = h.ledger; once = h.once } }
   reads_packet copy (packet.Unsubscribe a) rest r e may it h = passes copy rest r h
   reads_packet copy (packet.Unsuback a) rest r e may it h = passes copy rest r h
   reads_packet copy packet.Pingreq rest r e may it h = passes copy rest r h
   reads_packet copy packet.Pingresp rest r e may it h = passes copy rest r h
-  reads_packet copy (packet.Disconnect a) rest r e may it h = record { client = refl; events = to_end ∷ []; seen_is = refl; tagged = record { down = tt; ledger = h.ledger; once = h.once } }
+  reads_packet copy (packet.Disconnect a) rest r e may it h = record { client = refl; seen_is = refl; tagged = record { down = tt; ledger = h.ledger; once = h.once } }
   reads_packet copy (packet.Auth a) rest r e may it h = passes copy rest r h
 
   reads_from : (ds : List Down) (r : Receiver) → r.line.down ≡ ds → is_linked r.line.number b ≡ t → MayRead r.line.link ds → AreTagged number (map id_of copies) r
-      → Reads (sees r) r (receiver_reads t ds r)
-  reads_from [] r is e may h = record { client = refl; events = []; seen_is = refl; tagged = h }
+      → Reads (first_reads number ds) (sees r) r (receiver_reads t ds r)
+  reads_from [] r is e may h = record { client = refl; seen_is = refl; tagged = h }
   reads_from (d ∷ rest) r is e may h =
       let downs = subst (λ (ds : List Down). AllByRecursion (IsTagged number (map id_of copies)) ds) is h.down in
       let x = reads_packet d.copy d.packet rest r e may downs.0 (record { down = downs.1; ledger = h.ledger; once = h.once }) in
       let w = ap (λ (ds : List Down). told_of (filter_map (heard_in number) ds) r) is in
       record {
         client = x.client;
-        events = x.events;
-        seen_is = x.seen_is ∙ sym (ap (run largest x.events) w);
+        seen_is = x.seen_is ∙ sym (ap (run largest (reads_by (heard number d.copy d.packet))) w);
         tagged = x.tagged;
       }
 
@@ -287,12 +290,15 @@ may_read : (number : Numbering) (link : Link) (ds : List Down) → AreNoRefusals
 may_read number link [] h = tt
 may_read number link (d ∷ rest) h = may_hear number link d.copy d.packet (filter_map (heard_in number) rest) h
 
-pub doing_reads : (number : Numbering) (largest : ℕ) (copies : List Lot) (t : Bool) (r : Receiver) (b : Broker)
-    → IsRun number largest copies r b → is_linked r.line.number b ≡ t → IsRun number largest copies (receiver_reads t r.line.down r) b
-doing_reads number largest copies t r b h e =
-    let may = may_read number r.line.link r.line.down (tame number largest copies r b h).plain in
-    let x = reads_from number copies largest b t r.line.down r refl e may h.tagged in
-    runs_on number largest copies r (receiver_reads t r.line.down r) b h x.events x.client x.seen_is x.tagged
+module _ (number : Numbering) (largest : ℕ) (copies : List Lot) (t : Bool) (r : Receiver) (b : Broker) (h : IsRun number largest copies r b) (e : is_linked r.line.number b ≡ t) where
+  read_is : Reads number copies largest b t (first_reads number r.line.down) (seen number copies r b) r (receiver_reads t r.line.down r)
+  read_is = reads_from number copies largest b t r.line.down r refl e (may_read number r.line.link r.line.down (tame number largest copies r b h).plain) h.tagged
+
+  pub reads_seen : seen number copies (receiver_reads t r.line.down r) b ≡ run largest (first_reads number r.line.down) (seen number copies r b)
+  reads_seen = read_is.seen_is
+
+  pub doing_reads : IsRun number largest copies (receiver_reads t r.line.down r) b
+  doing_reads = runs_on number largest copies r (receiver_reads t r.line.down r) b h (first_reads number r.line.down) read_is.client read_is.seen_is read_is.tagged
 
 pub doing_gives_up : (number : Numbering) (largest : ℕ) (copies : List Lot) (r : Receiver) (b : Broker)
     → IsRun number largest copies r b → MayGiveUp r.line.link r.line.clean → IsRun number largest copies (record r { line = gives_up r.line.link r.line }) b

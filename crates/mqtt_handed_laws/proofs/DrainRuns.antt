@@ -5,7 +5,7 @@ use Rattle.mqtt_laws.specs.Run.{Turn, run, turned}
 use Rattle.mqtt_laws.specs.World.{World}
 use Rattle.mqtt_handed_laws.specs.Drains.{Doing, after_doings, all_turns, turns_of}
 
-run_append : (limits : Limits) (xs ys : List Turn) (w : World) → run limits (xs ++ ys) w ≡ run limits ys (run limits xs w)
+pub run_append : (limits : Limits) (xs ys : List Turn) (w : World) → run limits (xs ++ ys) w ≡ run limits ys (run limits xs w)
 run_append limits [] ys w = refl
 run_append limits (t ∷ ts) ys w = run_append limits ts ys (turned limits t w)
 

@@ -225,6 +225,10 @@ up_further largest (pubcomp i code ∷ rest) w u some h heard inv s =
     (agree_pubcomp i w largest s one)
     (falls i 0 came.number on_pubcomp (map life w.copies) (released came.here came.taken) came.body came.holds (pubcomp_falls came.here came.taken came.body))
 
+-- an answer is under way only where the session is connected
+pub heard_up : (largest : ℕ) (w : World) → Reached largest w → IsHeard w.linked w.up
+heard_up largest w r = heard_of w (good_at largest w r)
+
 pub an_answer_further : (largest : ℕ) (w : World) → Reached largest w → w.linked ≡ true → Has (λ a. true) w.up → Onto w (step largest w (to_broker false))
 an_answer_further largest w r h some =
-    up_further largest w.up w refl some h (heard_of w (good_at largest w r)) (norm_at largest w r h) (sound_at largest w r)
+    up_further largest w.up w refl some h (heard_up largest w r) (norm_at largest w r h) (sound_at largest w r)

@@ -36,7 +36,7 @@ use Rattle.mqtt_handed_laws.proofs.Serving.{gone_own}
 
 -- ---- the deeds of the tick
 
-late_deeds : (env : Env) (n : ℕ) (l : BrokerLine) (b : Broker) → IsIdle n b → find (λ (x : BrokerLine). is_silent b.now x.session x) b.lines ≡ Some l → l.number ≡ n → deeds_of env Tick b ≡ Gone n ∷ []
+pub late_deeds : (env : Env) (n : ℕ) (l : BrokerLine) (b : Broker) → IsIdle n b → find (λ (x : BrokerLine). is_silent b.now x.session x) b.lines ≡ Some l → l.number ≡ n → deeds_of env Tick b ≡ Gone n ∷ []
 late_deeds env n l b idle e is =
     let both = all_find (HasNobody n) (λ (y : BrokerLine). is_silent b.now y.session y) l b.lines idle.lines e in
     let none : l.session ≡ None = both.0 is in
@@ -115,10 +115,10 @@ sent_none (Some m) b = refl
 
 -- ---- what is seen of it
 
-abbrev shut : ℕ → Receiver → Broker → Receiver
+abbrev pub shut : ℕ → Receiver → Broker → Receiver
 shut n r b = receiver_told (after (Gone n) b) (outcome_of Tick (Gone n ∷ [])) r
 
-closing_runs : (number : Numbering) (largest : ℕ) (copies : List Lot) (n : ℕ) (r : Receiver) (b : Broker) → IsIdle n b → IsRun number largest copies r b → IsRun number largest copies (shut n r b) (after (Gone n) b)
+pub closing_runs : (number : Numbering) (largest : ℕ) (copies : List Lot) (n : ℕ) (r : Receiver) (b : Broker) → IsIdle n b → IsRun number largest copies r b → IsRun number largest copies (shut n r b) (after (Gone n) b)
 closing_runs number largest copies n r b idle h =
     let new = after (Gone n) b in
     let w = seen number copies r b in
@@ -156,7 +156,7 @@ closing_receives n r s b idle x = record {
   known = subst (AreKnown s.queue) (sym (gone_went s.birth n b.lines idle.lines)) x.known;
 }
 
-closing_goes_on : (largest : ℕ) (ids : List CopyId) (birth n : ℕ) (r : Receiver) (b : Broker) → IsIdle n b → RunsFor largest ids birth r b → RunsFor largest ids birth (shut n r b) (after (Gone n) b)
+pub closing_goes_on : (largest : ℕ) (ids : List CopyId) (birth n : ℕ) (r : Receiver) (b : Broker) → IsIdle n b → RunsFor largest ids birth r b → RunsFor largest ids birth (shut n r b) (after (Gone n) b)
 closing_goes_on largest ids birth n r b idle f = λ number numbered.
     let h = f number numbered in
     record {
@@ -168,7 +168,7 @@ closing_goes_on largest ids birth n r b idle f = λ number numbered.
       receiving = closing_receives n r h.session b idle h.receiving;
     }
 
-closing_served : (client : List ℕ) (birth : ℕ) (ns : List ℕ) (n : ℕ) (b : Broker) → IsServed client birth ns b → IsServed client birth ns (after (Gone n) b)
+pub closing_served : (client : List ℕ) (birth : ℕ) (ns : List ℕ) (n : ℕ) (b : Broker) → IsServed client birth ns b → IsServed client birth ns (after (Gone n) b)
 closing_served client birth ns n b v = record { sessions = v.sessions; lines = gone_own client birth ns n b.lines v.lines; births = v.births; given = v.given }
 
 -- ---- the tick

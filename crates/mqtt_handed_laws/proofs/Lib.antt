@@ -4,6 +4,7 @@ pub mod Joins
 pub mod Handed
 pub mod Turns
 pub mod Known
+pub mod Follows
 pub mod Answering
 pub mod Losing
 pub mod Marks
@@ -21,10 +22,15 @@ pub mod Theirs
 pub mod Walk
 pub mod CallsOfOthers
 pub mod LateConnect
+pub mod LateCalls
+pub mod AwaitingOthers
+pub mod IdleLines
+pub mod FreshLines
 pub mod Restarting
 pub mod Stopping
 pub mod OwnCalls
 pub mod LateResuming
+pub mod LateBeginning
 pub mod Own
 pub mod OwnConnects
 pub mod OwnDoings
@@ -32,6 +38,7 @@ pub mod OwnRefusals
 pub mod OwnOthers
 pub mod Listening
 pub mod OwnSubscribes
+pub mod Apart
 pub mod Examples
 pub mod DrainRuns
 pub mod UnderWay
@@ -41,4 +48,10 @@ pub mod Unsent
 pub mod RoundFurther
 pub mod DrainCauses
 pub mod HopRounds
+pub mod Numbers
+pub mod WorldRoundLines
+pub mod WorldRoundSteps
+pub mod WorldRoundReads
+pub mod WorldRoundWishes
+pub mod WorldRounds
 pub mod DrainExamples

@@ -54,7 +54,7 @@ module _ (client : List ℕ) (birth : ℕ) (ns : List ℕ) where
   resume_safe : (l : BrokerLine) (name : List ℕ) (window now : ℕ) (x : Session) → x.birth ≡ birth → is_one_of (Some l.number) ns ≡ true → AreSafe client birth ns (resume l (greeting false name window) now x)
   resume_safe l name window now x e inside = ((refl, refl), ((e, inside), (tt, safe_turns client birth ns now l.number x (resumed_with (queue_on [] x)))))
 
-  resume_served : (limits : Limits) (choice : MemberChoice) (now : ℕ) (r : Receiver) (l : BrokerLine) (s : Session) (b : Broker) → IsResuming r l s b → s.birth ≡ birth → is_one_of (Some l.number) ns ≡ true
+  pub resume_served : (limits : Limits) (choice : MemberChoice) (now : ℕ) (r : Receiver) (l : BrokerLine) (s : Session) (b : Broker) → IsResuming r l s b → s.birth ≡ birth → is_one_of (Some l.number) ns ≡ true
       → IsServed client birth ns b → IsServed client birth ns (after_answer limits choice now l.number (connect false) r b)
   resume_served limits choice now r l s b a e inside v =
       let n = l.number in
@@ -136,7 +136,7 @@ module _ (client : List ℕ) (ns : List ℕ) (clean : Bool) (window : ℕ) (l : 
       safe_served client new_birth ns (greet l (greeting clean client window) new_birth ∷ Send l.number (packets_of.connack false success (connack_properties false client)) ∷ []) (after (Begin row None) c)
       ((refl, inside), (tt, tt)) first
 
-clears_served : (limits : Limits) (choice : MemberChoice) (now : ℕ) (clean : Bool) (r : Receiver) (l : BrokerLine) (b : Broker) (front : List Deed) (closed ns : List ℕ) → Clears limits choice now clean r l b front closed
+pub clears_served : (limits : Limits) (choice : MemberChoice) (now : ℕ) (clean : Bool) (r : Receiver) (l : BrokerLine) (b : Broker) (front : List Deed) (closed ns : List ℕ) → Clears limits choice now clean r l b front closed
     → AllByRecursion (IsFreeLine ns) (after_all front (heard_of now l.number b)).lines → ((n : ℕ) → is_one_of (Some n) ns ≡ true → n ≤ (after_all front (heard_of now l.number b)).given)
     → is_one_of (Some l.number) ns ≡ true
     → IsServed r.client (suc (after_all front (heard_of now l.number b)).records.births) ns (after_answer limits choice now l.number (connect clean) r b)
@@ -206,10 +206,10 @@ own_free birth ns (l ∷ ls) own off = (λ inside. by l.session refl inside, own
         let clash : true ≡ false = sym (nat_eq_equiv.refl birth) ∙ (ap (λ (j : ℕ). nat_eq j birth) (sym same) ∙ (ap (λ (o : Option ℕ). is_of o birth) (sym e) ∙ off.0)) in
         absurd cc
 
-pub renewal_in_step : (largest : ℕ) (ids : List CopyId) (birth : ℕ) (ns : List ℕ) (limits : Limits) (choice : MemberChoice) (now : ℕ) (rest : List Back) (r : Receiver) (l : BrokerLine) (s : Session) (b : Broker)
-    → IsInStep largest ids birth ns r b → IsRenewing limits r l s b → r.line.up ≡ answers (connect true) ∷ rest
-    → IsInStep largest ids (suc b.records.births) ns (reads_answer limits choice now l.number (connect true) r b) (after_answer limits choice now l.number (connect true) r b)
-renewal_in_step largest ids birth ns limits choice now rest r l s b k a up =
+pub renewal_served : (birth : ℕ) (ns : List ℕ) (limits : Limits) (choice : MemberChoice) (now : ℕ) (r : Receiver) (l : BrokerLine) (s : Session) (b : Broker)
+    → IsServed r.client birth ns b → is_one_of (Some l.number) ns ≡ true → IsRenewing limits r l s b
+    → IsServed r.client (suc b.records.births) ns (after_answer limits choice now l.number (connect true) r b)
+renewal_served birth ns limits choice now r l s b v inside a =
     let n = l.number in
     let c = heard_of now n b in
     let x = renewed_clears limits choice now r l s b a in
@@ -217,8 +217,7 @@ renewal_in_step largest ids birth ns limits choice now rest r l s b k a up =
     let front = ended_by x.its s c.now in
     let d = after_all front c in
     let left = after_all (left_by x.its s c.now) c in
-    let its : s.birth ≡ birth = (all_at birth_of (IsOurs r.client birth) s.birth s b.records.sessions k.served.sessions a.resuming.kept.session).named a.resuming.kept.name in
-    let v = k.served in
+    let its : s.birth ≡ birth = (all_at birth_of (IsOurs r.client birth) s.birth s b.records.sessions v.sessions a.resuming.kept.session).named a.resuming.kept.name in
     let first : IsServed r.client birth ns (at_moment now b) = record { sessions = v.sessions; lines = v.lines; births = v.births; given = v.given } in
     let safe : AreSafe r.client birth ns (On n Hear ∷ front) =
     (tt, each_append (IsSafe r.client birth ns) (left_by x.its s c.now) (end_session t) (left_safe r.client birth ns x.its s c.now) (end_safe r.client birth ns t)) in
@@ -229,9 +228,15 @@ renewal_in_step largest ids birth ns limits choice now rest r l s b k a up =
     let off_last : AllByRecursion (IsOffIt s.birth) d.lines =
     subst (λ (z : Broker). AllByRecursion (IsOffIt s.birth) z.lines) (sym (after_append (left_by x.its s c.now) (end_session t) c)) (off_end s.birth t left off_left) in
     let free = own_free birth ns d.lines ended.lines (subst (λ (j : ℕ). AllByRecursion (IsOffIt j) d.lines) its off_last) in
-    let served : IsServed r.client (suc b.records.births) ns (after_answer limits choice now n (connect true) r b) =
     subst (λ (j : ℕ). IsServed r.client (suc j) ns (after_answer limits choice now n (connect true) r b)) x.births_are
-    (clears_served limits choice now true r l b front (lines_left (line_of s.birth b)) ns x.clears free ended.given (k.lines.own n a.resuming.number)) in
+    (clears_served limits choice now true r l b front (lines_left (line_of s.birth b)) ns x.clears free ended.given inside)
+
+pub renewal_in_step : (largest : ℕ) (ids : List CopyId) (birth : ℕ) (ns : List ℕ) (limits : Limits) (choice : MemberChoice) (now : ℕ) (rest : List Back) (r : Receiver) (l : BrokerLine) (s : Session) (b : Broker)
+    → IsInStep largest ids birth ns r b → IsRenewing limits r l s b → r.line.up ≡ answers (connect true) ∷ rest
+    → IsInStep largest ids (suc b.records.births) ns (reads_answer limits choice now l.number (connect true) r b) (after_answer limits choice now l.number (connect true) r b)
+renewal_in_step largest ids birth ns limits choice now rest r l s b k a up =
+    let n = l.number in
+    let served = renewal_served birth ns limits choice now r l s b k.served (k.lines.own n a.resuming.number) a in
     record {
       runs = runs_for largest ids birth (suc b.records.births) ns r (reads_answer limits choice now n (connect true) r b) b (after_answer limits choice now n (connect true) r b) k.runs served
           (λ number h. renewal_runs number largest h.after limits choice now rest r l s b h.run_is a up)

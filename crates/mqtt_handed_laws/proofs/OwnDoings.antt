@@ -34,7 +34,7 @@ use Rattle.mqtt_handed_laws.proofs.Joins.{doing_joins, fresh_of_none}
 
 -- ---- what it does leaves its name, and its lines but those that it leaves
 
-record Keeps (r q : Receiver) : Type 0 where
+pub record Keeps (r q : Receiver) : Type 0 where
   pub client : q.client ≡ r.client
   pub number : (n : ℕ) → q.line.number ≡ Some n → r.line.number ≡ Some n
   pub old_number : (n : ℕ) → q.line.old_number ≡ Some n → r.line.old_number ≡ Some n
@@ -63,7 +63,7 @@ keeps_packet t copy (packet.Publish p) rest r = keeps_publish t copy p p.deliver
 keeps_packet t copy (packet.Disconnect a) rest r = record { client = refl; number = λ n e. absurd cc; old_number = λ n e. e }
 keeps_packet t copy x rest r = record { client = refl; number = λ n e. e; old_number = λ n e. e }
 
-keeps_reading : (t : Bool) (ds : List Down) (r : Receiver) → Keeps r (receiver_reads t ds r)
+pub keeps_reading : (t : Bool) (ds : List Down) (r : Receiver) → Keeps r (receiver_reads t ds r)
 keeps_reading t [] r = record { client = refl; number = λ n e. e; old_number = λ n e. e }
 keeps_reading t (d ∷ rest) r = keeps_packet t d.copy d.packet rest r
 

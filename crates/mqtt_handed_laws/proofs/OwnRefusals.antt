@@ -51,18 +51,18 @@ connect_refused env l clean client window b none short plain full =
     ∙ (ap (λ (z : Option Session). joins env l c b.now [] b.records z) none
     ∙ ap (λ (t : Bool). cond t ([] ++ begin_named (is_empty client) l c b.records) (refused l c quota_exceeded)) full))
 
-moment_given : (rows : List Change) (b : Broker) → (with_moment rows b).given ≡ b.given
+pub moment_given : (rows : List Change) (b : Broker) → (with_moment rows b).given ≡ b.given
 moment_given [] b = refl
 moment_given (row ∷ rows) b = refl
 
-free_gone : (ns : List ℕ) (n : ℕ) (ls : List BrokerLine) → AllByRecursion (IsFreeLine ns) ls → AllByRecursion (IsFreeLine ns) (filter (λ (l : BrokerLine). not (nat_eq l.number n)) ls)
+pub free_gone : (ns : List ℕ) (n : ℕ) (ls : List BrokerLine) → AllByRecursion (IsFreeLine ns) ls → AllByRecursion (IsFreeLine ns) (filter (λ (l : BrokerLine). not (nat_eq l.number n)) ls)
 free_gone ns n [] h = tt
 free_gone ns n (l ∷ ls) h = elim (cases_Bool (nat_eq l.number n)) [
   | inl goes ↦ rw goes (free_gone ns n ls h.1)
   | inr stays ↦ rw stays (h.0, free_gone ns n ls h.1)
 ]
 
-unless_true : (t : Bool) (xs : List Back) → t ≡ true → filter_map answered (unless_closed t xs) ≡ []
+pub unless_true : (t : Bool) (xs : List Back) → t ≡ true → filter_map answered (unless_closed t xs) ≡ []
 unless_true true xs e = refl
 unless_true false xs e = absurd cc
 
@@ -85,24 +85,24 @@ module _ (limits : Limits) (choice : MemberChoice) (now : ℕ) (clean : Bool) (r
   abbrev new : Broker
   new = stepped limits choice now (Input n packet) b
 
-  abbrev refusing : List Deed
+  abbrev pub refusing : List Deed
   refusing = On n Hear ∷ Send n (packets_of.connack false quota_exceeded []) ∷ Gone n ∷ []
 
-  deeds_are : ds ≡ refusing
+  pub deeds_are : ds ≡ refusing
   deeds_are =
       call_is limits choice now clean r.client r.window l b a.line a.waits
       ∙ ap (λ (xs : List Deed). On n Hear ∷ (xs ++ [])) (connect_refused (env_of limits choice b) l clean r.client r.window (heard_of now n b) a.none a.short a.plain full)
 
-  sessions_are : new.records.sessions ≡ b.records.sessions
+  pub sessions_are : new.records.sessions ≡ b.records.sessions
   sessions_are = done_sessions (rows_of_all ds first.records) (after_all ds first) ∙ ap (λ (xs : List Deed). (after_all xs first).records.sessions) deeds_are
 
-  lines_are : new.lines ≡ (after_all refusing first).lines
+  pub lines_are : new.lines ≡ (after_all refusing first).lines
   lines_are = done_lines (rows_of_all ds first.records) (after_all ds first) ∙ ap (λ (xs : List Deed). (after_all xs first).lines) deeds_are
 
-  given_is : new.given ≡ b.given
+  pub given_is : new.given ≡ b.given
   given_is = moment_given (rows_of_all ds first.records) (after_all ds first) ∙ ap (λ (xs : List Deed). (after_all xs first).given) deeds_are
 
-  named_none : session_named r.client new.records ≡ None
+  pub named_none : session_named r.client new.records ≡ None
   named_none = ap (λ (ss : List Session). find (λ (x : Session). bytes_eq x.client r.client) ss) sessions_are ∙ a.none
 
   linked_before : is_linked r.line.number b ≡ false

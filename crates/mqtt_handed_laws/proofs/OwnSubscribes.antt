@@ -1,6 +1,6 @@
 -- The broker reads a receiver's SUBSCRIBE: the copies of retained messages that its filter brings enter its queue, the
 -- answer goes out, and the two stay in step.
-use Rattle.std.proofs.Common.{◌≡◌, ℕ, suc, ◌-◌, ◌≤◌, Bool, true, false, cond, not, List, [], ◌∷◌, ◌++◌, drop, filter, length, map, Option, Some, None, nat_eq, nat_lt, refl, sym, ap, subst, ◌∙◌, append-nil, append_assoc, arith, inl, inr}
+use Rattle.std.proofs.Common.{◌≡◌, ℕ, suc, ◌-◌, ◌≤◌, Bool, true, false, cond, not, ◌⊎◌, List, [], ◌∷◌, ◌++◌, drop, filter, length, map, Option, Some, None, nat_eq, nat_lt, refl, sym, ap, subst, ◌∙◌, append-nil, append_assoc, arith, inl, inr}
 use Rattle.std.specs.Prelude.{⊤, ◌&&◌, ◌||◌, filter_map, flat_map, is_some, nat_le}
 use Rattle.std.specs.List.{AllByRecursion}
 use Rattle.std.proofs.lemmas.Bool.{cases_Bool, leb-true}
@@ -18,22 +18,26 @@ use Rattle.mqtt_inbound.specs.Identifiers.{is_among}
 use Rattle.mqtt_laws.specs.Ends.{Back, Receiver, Wish, asks_for, identified, wire_back}
 use Rattle.mqtt_laws.specs.Hops.{IsIts, IsOnly, IsOurs}
 use Rattle.mqtt_laws.specs.Lines.{copy_in, is_one_of, sent_to, unless_closed}
-use Rattle.mqtt_laws.specs.World.{receiver_told, taken_up}
+use Rattle.mqtt_laws.specs.World.{receiver_told}
 use Rattle.mqtt_laws.proofs.Joins.{none_closed}
 use Rattle.mqtt_laws.proofs.Names.{named_is, only_deeds}
 use Rattle.mqtt_laws.proofs.OwnStep.{heard_of, input_is}
 use Rattle.mqtt_laws.proofs.Quiet.{quiet_line, session_on}
+use Rattle.mqtt_message.specs.declared.message.MessageCopy.{MessageCopy}
 use Rattle.mqtt_message.specs.declared.message.RetainedMessage.{RetainedMessage}
 use Rattle.mqtt_props.specs.declared.table.PropName.TheVariants.{SubscriptionIdentifier}
-use Rattle.mqtt_records.specs.Records.{changed_all}
+use Rattle.mqtt_records.specs.Records.{changed_all, subscribe_in}
 use Rattle.mqtt_records.specs.Session.{birth_of, with_subscription}
+use Rattle.mqtt_records.specs.declared.change.Change.{Change}
 use Rattle.mqtt_records.specs.declared.session.Session.{Session}
 use Rattle.mqtt_records.specs.declared.subscription.Subscription.{Subscription}
 use Rattle.mqtt_routes.specs.Retained.{kept_for}
+use Rattle.mqtt_rows.specs.Distinct.{AllDiffer}
 use Rattle.mqtt_rules.proofs.Acts.{brought_to}
-use Rattle.mqtt_rules.proofs.Copies.{each_append}
+use Rattle.mqtt_rules.proofs.Copies.{IsMade, IsOf, brought_made as all_made, each_append, each_filter, each_more}
 use Rattle.mqtt_rules.proofs.FlightRows.{all_at, all_more, change_row-here, found_key}
 use Rattle.mqtt_rules.proofs.Goods.{after_append}
+use Rattle.mqtt_rules.proofs.NumberFacts.{Counts, counts, counts_deed}
 use Rattle.mqtt_rules.proofs.OrderedEnters.{ShortQueues, enters, own_stay, still_short}
 use Rattle.mqtt_rules.proofs.OrderedQueues.{stay_is}
 use Rattle.mqtt_rules.specs.Deeds.{At, Count, Deed, Hear, On, Send, after, after_all, always, closing, offer, output, part_rows_of, rows_of_all, series, stored_after, whose, with_session}
@@ -43,14 +47,18 @@ use Rattle.mqtt_rules.specs.Outbound.{enter_deeds, room, since}
 use Rattle.mqtt_rules.specs.Packets.{number_at, publish_of, size_of, suback}
 use Rattle.mqtt_rules.specs.Routing.{CopyTo, deliver, deliver_by, is_queued}
 use Rattle.mqtt_rules.specs.State.{Line as BrokerLine, Broker, Env, MemberChoice, line_at, session_at, session_named}
-use Rattle.mqtt_rules.specs.Step.{Call, Input, at_moment, deeds as deeds_in, env_of, outcome_of, stepped}
+use Rattle.mqtt_rules.specs.Step.{Call, Input, at_moment, deeds as deeds_in, env_of, outcome_of, stepped, with_moment}
 use Rattle.mqtt_rules.specs.Subscribe.{on_subscribe}
 use Rattle.mqtt_rules.specs.Subscribe as sub
 use Rattle.mqtt_rules.specs.declared.Limits.{Limits}
 use Rattle.mqtt_subscribe.specs.declared.subscribe.Subscribe.{Subscribe as Asking}
 use Rattle.mqtt_topic.specs.Filters.{is_filter}
+use Rattle.mqtt_world_laws.proofs.CopiesApart.{brought_differ, number_of, queued_differ}
+use Rattle.mqtt_handed_laws.specs.Apart.{AreToldApart, HasCome}
 use Rattle.mqtt_handed_laws.specs.Entering.{AreKnown, IsReceiving}
+use Rattle.mqtt_handed_laws.specs.Calls.{IsLingering, turned_back}
 use Rattle.mqtt_handed_laws.specs.Handing.{IsListening, IsRun, receiver_after}
+use Rattle.mqtt_handed_laws.specs.Late.{reads_old_wish}
 use Rattle.mqtt_handed_laws.specs.Own.{IsBroughtCopy, IsInStep, Subscribed}
 use Rattle.mqtt_handed_laws.specs.Seen.{AreQueued, Numbering, StandOn, answered, heard, heard_in, publish_heard, seen}
 use Rattle.mqtt_handed_laws.specs.Served.{HasLines, IsServed, IsTidy, RunsFor, RunsWithAll}
@@ -179,21 +187,21 @@ hush_queue [] q = tt
 hush_queue (At who part ∷ ds) q = (tt, hush_queue ds q.1)
 hush_queue (d ∷ ds) q = absurd q.0
 
--- the SUBSCRIBE is taken off its line, and nothing of copies comes to it
-told_hushed : (number : Numbering) (largest : ℕ) (all : List CopyId) (birth : ℕ) (r : Receiver) (call : Call) (w : Wish) (rest : List Back) (ds : List Deed) (new : Broker) → AllByRecursion IsHushed ds
-    → r.line.up ≡ asks_for w ∷ rest → RunsWithAll number largest all birth r new → RunsWithAll number largest all birth (receiver_told new (outcome_of call ds) (record r { line = taken_up r.line })) new
-told_hushed number largest all birth r call w rest ds new hush up h =
+-- the SUBSCRIBE is taken off a line, which leaves these packets, and nothing of copies comes to it
+told_hushed : (number : Numbering) (largest : ℕ) (all : List CopyId) (birth : ℕ) (r : Receiver) (call : Call) (up old : List Back) (ds : List Deed) (new : Broker) → AllByRecursion IsHushed ds
+    → filter_map answered up ≡ filter_map answered r.line.up → filter_map answered old ≡ filter_map answered r.line.old
+    → RunsWithAll number largest all birth r new → RunsWithAll number largest all birth (receiver_told new (outcome_of call ds) (record r { line = record r.line { up = up; old = old } })) new
+told_hushed number largest all birth r call up old ds new hush same_up same_old h =
     let ids = map id_of h.after in
     let x = hushed_on number ids r.line.number new ds hush in
     let none = hush_closes ds hush in
     let out = outcome_of call ds in
-    let q = receiver_told new out (record r { line = taken_up r.line }) in
+    let q = receiver_told new out (record r { line = record r.line { up = up; old = old } }) in
     let sent = sent_to r.line.number new (filter_map output ds) in
-    let ups : filter_map answered (unless_closed (is_one_of r.line.number (filter_map closing ds)) (drop 1 r.line.up)) ≡ filter_map answered r.line.up =
-    ap (λ (t : Bool). filter_map answered (unless_closed t (drop 1 r.line.up))) (ap (is_one_of r.line.number) none ∙ none_closed r.line.number)
-    ∙ (ap (λ (xs : List Back). filter_map answered (drop 1 xs)) up ∙ sym (ap (filter_map answered) up)) in
-    let olds : filter_map answered (unless_closed (is_one_of r.line.old_number (filter_map closing ds)) r.line.old) ≡ filter_map answered r.line.old =
-    ap (λ (t : Bool). filter_map answered (unless_closed t r.line.old)) (ap (is_one_of r.line.old_number) none ∙ none_closed r.line.old_number) in
+    let ups : filter_map answered (unless_closed (is_one_of r.line.number (filter_map closing ds)) up) ≡ filter_map answered r.line.up =
+    ap (λ (t : Bool). filter_map answered (unless_closed t up)) (ap (is_one_of r.line.number) none ∙ none_closed r.line.number) ∙ same_up in
+    let olds : filter_map answered (unless_closed (is_one_of r.line.old_number (filter_map closing ds)) old) ≡ filter_map answered r.line.old =
+    ap (λ (t : Bool). filter_map answered (unless_closed t old)) (ap (is_one_of r.line.old_number) none ∙ none_closed r.line.old_number) ∙ same_old in
     let downs : filter_map (heard_in number) (r.line.down ++ sent) ≡ filter_map (heard_in number) r.line.down =
     heard_append number r.line.down sent ∙ (ap (λ (xs : List Output). filter_map (heard_in number) r.line.down ++ xs) x.heard_is ∙ append-nil (filter_map (heard_in number) r.line.down)) in
     let same : seen number h.after q new ≡ seen number h.after r new = λ i. record (seen number h.after r new) { up = ups i; down = downs i; old = olds i } in
@@ -211,6 +219,45 @@ told_hushed number largest all birth r call w rest ds new hush up h =
       birth_is = h.birth_is;
       receiving = record { session = h.receiving.session; client = h.receiving.client; only = h.receiving.only; known = h.receiving.known };
     }
+
+-- ---- copies of retained messages, told apart
+
+-- no two retained messages are of one publication, and each is of one that was accepted
+pub record AreRetainedApart (b : Broker) : Type 0 where
+  pub differ : AllDiffer (map (λ (k : RetainedMessage). k.publication) b.records.retained)
+  pub upto : AllByRecursion (λ (k : RetainedMessage). k.publication ≤ b.records.publications) b.records.retained
+
+queue_counts : (ds : List Deed) (b : Broker) → AreOfQueue ds → counts (after_all ds b).records ≡ counts b.records
+queue_counts [] b q = refl
+queue_counts (At who part ∷ ds) b q = queue_counts ds (after (At who part) b) q.1 ∙ counts_deed (At who part) b.records
+queue_counts (d ∷ ds) b q = absurd q.0
+
+of_upto : (n : ℕ) (copy : MessageCopy) (ks : List RetainedMessage) → IsOf copy ks → AllByRecursion (λ (k : RetainedMessage). k.publication ≤ n) ks → copy.id.publication ≤ n
+of_upto n copy [] is h = absurd is
+of_upto n copy (k ∷ ks) (inl is) h = let same = is.0 in let le = h.0 in omega (arith, same, le)
+of_upto n copy (k ∷ ks) (inr more) h = of_upto n copy ks more h.1
+
+brought_upto : (w : sub.Wish) (s : Session) (b : Broker) → AreRetainedApart b → AllByRecursion (λ (d : CopyTo). d.copy.id.publication ≤ b.records.publications) (brought_to w s b)
+brought_upto w s b a =
+    let n = sub.next_number b.records in
+    let c = after (Count n) b in
+    each_more (λ (d : CopyTo). IsMade d.birth d.copy c) (λ (d : CopyTo). d.copy.id.publication ≤ b.records.publications) (λ d made. by d made.source) (brought_to w s b) (all_made n s w c (omega arith))
+  where
+    by : (d : CopyTo) → ((d.copy.id.publication ≤ b.records.publications) × (d.copy.content.arrived ≤ b.now)) ⊎ IsOf d.copy b.records.retained → d.copy.id.publication ≤ b.records.publications
+    by d (inl le) = le.0
+    by d (inr is) = of_upto b.records.publications d.copy b.records.retained is a.upto
+
+have_come : (birth n before publications subscribes : ℕ) (ds : List CopyTo) → before ≤ publications → n ≤ subscribes → AllByRecursion (λ (d : CopyTo). d.copy.id.publication ≤ before) ds
+    → AllByRecursion (IsBroughtCopy birth n) (map (λ (d : CopyTo). d.copy.id) ds) → AllByRecursion (HasCome publications subscribes) (map (λ (d : CopyTo). d.copy.id) ds)
+have_come birth n before publications subscribes [] le more h g = tt
+have_come birth n before publications subscribes (d ∷ ds) le more h g =
+    let first = h.0 in
+    let is = ap subscribe_in g.0.cause_is in
+    (record { publication = omega (arith, first, le); subscribe = omega (arith, is, more) }, have_come birth n before publications subscribes ds le more h.1 g.1)
+
+moment_apart : (ids : List CopyId) (rows : List Change) (b : Broker) → AreToldApart ids b.records → AreToldApart ids (with_moment rows b).records
+moment_apart ids [] b h = h
+moment_apart ids (row ∷ rows) b h = record { come = h.come; differ = h.differ }
 
 -- ---- copies enter one after the other
 
@@ -230,6 +277,7 @@ module _ (largest : ℕ) (env : Env) (small : env.limits.queue ≤ QUEUE_LIMIT) 
     pub going : Going more (after_all ds b)
     pub room : HasRoom n (after_all ds b)
     pub hush : AllByRecursion IsHushed ds
+    pub counted : counts (after_all ds b).records ≡ counts b.records
 
   enter_one : (d : CopyTo) (n : ℕ) (more : List CopyId) (b : Broker) → d.birth ≡ birth → is_queued d ≡ true → HasRoom (suc n) b → Going more b → Grows (deliver env d b) n (more ++ d.copy.id ∷ []) b
   enter_one d n more b to queued room k =
@@ -253,6 +301,7 @@ module _ (largest : ℕ) (env : Env) (small : env.limits.queue ≤ QUEUE_LIMIT) 
             let it : e.mine ≡ x = some_is e.mine x (sym last ∙ there) in
             subst (λ (y : Session). n ≤ env.limits.queue - own_stay env y) it (omega (arith, all, stays));
         hush = hush_queue ds parts;
+        counted = queue_counts ds b parts;
       })
 
   abbrev IsToIt : CopyTo → Type 0
@@ -262,7 +311,7 @@ module _ (largest : ℕ) (env : Env) (small : env.limits.queue ≤ QUEUE_LIMIT) 
   id_in d = d.copy.id
 
   enter_all : (ds : List CopyTo) (more : List CopyId) (b : Broker) → AllByRecursion IsToIt ds → HasRoom (length ds) b → Going more b → Grows (series (map (deliver env) ds) b) 0 (more ++ map id_in ds) b
-  enter_all [] more b q room k = record { going = subst (λ (ms : List CopyId). Going ms b) (sym (append-nil more)) k; room = room; hush = tt }
+  enter_all [] more b q room k = record { going = subst (λ (ms : List CopyId). Going ms b) (sym (append-nil more)) k; room = room; hush = tt; counted = refl }
   enter_all (d ∷ ds) more b q room k =
       let first = deliver env d b in
       let c = after_all first b in
@@ -274,6 +323,7 @@ module _ (largest : ℕ) (env : Env) (small : env.limits.queue ≤ QUEUE_LIMIT) 
         going = subst (λ (z : Broker). Going (more ++ map id_in (d ∷ ds)) z) (sym end) (subst (λ (ms : List CopyId). Going ms (after_all others c)) (append_assoc more (d.copy.id ∷ []) (map id_in ds)) rest.going);
         room = subst (λ (z : Broker). HasRoom 0 z) (sym end) rest.room;
         hush = each_append IsHushed first others one.hush rest.hush;
+        counted = ap (λ (z : Broker). counts z.records) end ∙ (rest.counted ∙ one.counted);
       }
 
   -- ---- a filter is granted
@@ -323,9 +373,11 @@ module _ (largest : ℕ) (env : Env) (small : env.limits.queue ≤ QUEUE_LIMIT) 
     pub going : Going more (after_all g.deeds b)
     pub hush : AllByRecursion IsHushed g.deeds
     pub late : AllByRecursion (λ (d : CopyTo). is_queued d ≡ false) g.late
+    pub differ : AllDiffer (map number_of b.records.retained) → AllDiffer more
+    pub apart : AreRetainedApart b → AreToldApart more (after_all g.deeds b).records
 
   refuses : (code n : ℕ) (b : Broker) → Going [] b → Grants (sub.refused_filter code) n b
-  refuses code n b k = record { more = []; new = tt; going = k; hush = tt; late = tt }
+  refuses code n b k = record { more = []; new = tt; going = k; hush = tt; differ = λ apart. tt; late = tt; apart = λ a. record { come = tt; differ = tt } }
 
   not_queued : (t : Bool) → (t ≡ true → ⊥) → t ≡ false
   not_queued true h = absurd (h refl)
@@ -339,25 +391,25 @@ module _ (largest : ℕ) (env : Env) (small : env.limits.queue ≤ QUEUE_LIMIT) 
   ]
 
   -- of the copies that the filter brings
-  abbrev IsMade : ℕ → CopyTo → Type 0
-  IsMade n d = (d.birth ≡ birth) × IsBroughtCopy birth n d.copy.id
+  abbrev IsBrought : ℕ → CopyTo → Type 0
+  IsBrought n d = (d.birth ≡ birth) × IsBroughtCopy birth n d.copy.id
 
-  brought_made : (t : Bool) (now n : ℕ) (s : Session) (w : sub.Wish) (ks : List RetainedMessage) → s.birth ≡ birth → AllByRecursion (IsMade n) (sub.brought_if t now n s w ks)
+  brought_made : (t : Bool) (now n : ℕ) (s : Session) (w : sub.Wish) (ks : List RetainedMessage) → s.birth ≡ birth → AllByRecursion (IsBrought n) (sub.brought_if t now n s w ks)
   brought_made false now n s w ks is = tt
   brought_made true now n s w ks is = each s.birth is (filter (sub.is_brought now s w) (map sub.message_in (kept_for w.filter (map sub.kept_of ks))))
     where
-      each : (j : ℕ) → j ≡ birth → (xs : List RetainedMessage) → AllByRecursion (IsMade n) (map (sub.retained_copy_to j n w) xs)
+      each : (j : ℕ) → j ≡ birth → (xs : List RetainedMessage) → AllByRecursion (IsBrought n) (map (sub.retained_copy_to j n w) xs)
       each j e [] = tt
       each j e (x ∷ xs) = ((e, record { birth_is = e; cause_is = refl }), each j e xs)
 
-  queued_to : (n : ℕ) (ds : List CopyTo) → AllByRecursion (IsMade n) ds → AllByRecursion IsToIt (filter is_queued ds)
+  queued_to : (n : ℕ) (ds : List CopyTo) → AllByRecursion (IsBrought n) ds → AllByRecursion IsToIt (filter is_queued ds)
   queued_to n [] h = tt
   queued_to n (d ∷ ds) h = elim (cases_Bool (is_queued d)) [
     | inl so ↦ rw so ((h.0.0, so), queued_to n ds h.1)
     | inr not_so ↦ rw not_so (queued_to n ds h.1)
   ]
 
-  queued_new : (n : ℕ) (ds : List CopyTo) → AllByRecursion (IsMade n) ds → AllByRecursion (IsBroughtCopy birth n) (map id_in (filter is_queued ds))
+  queued_new : (n : ℕ) (ds : List CopyTo) → AllByRecursion (IsBrought n) ds → AllByRecursion (IsBroughtCopy birth n) (map id_in (filter is_queued ds))
   queued_new n [] h = tt
   queued_new n (d ∷ ds) h = elim (cases_Bool (is_queued d)) [
     | inl so ↦ rw so (h.0.1, queued_new n ds h.1)
@@ -378,7 +430,7 @@ module _ (largest : ℕ) (env : Env) (small : env.limits.queue ≤ QUEUE_LIMIT) 
       let c = after_all first b in
       let all = brought_to w s b in
       let ds = filter is_queued all in
-      let made : AllByRecursion (IsMade n) all = brought_made _ b.now n s w b.records.retained is in
+      let made : AllByRecursion (IsBrought n) all = brought_made _ b.now n s w b.records.retained is in
       let going = subscribed x n s b k at in
       let same = stay_is env.limits.full (since env s) s.birth s.queue in
       let room_first : HasRoom (length ds) c = λ y there.
@@ -392,7 +444,18 @@ module _ (largest : ℕ) (env : Env) (small : env.limits.queue ≤ QUEUE_LIMIT) 
         new = queued_new n all made;
         going = subst (Going (map id_in ds)) (sym (after_append first others b)) rest.going;
         hush = each_append IsHushed first others (tt, (tt, tt)) rest.hush;
+        differ = λ apart. queued_differ all (brought_differ w s b apart);
         late = late_ones all;
+        apart = λ a.
+            let counted : counts (after_all (first ++ others) b).records ≡ record (counts b.records) { subscribes = n } =
+            ap (λ (z : Broker). counts z.records) (after_append first others b) ∙ (rest.counted ∙ counts_deed (At (whose s) (deeds.Subscribe x)) (stored_after (Count n) b.records)) in
+            let publications = ap (λ (z : Counts). z.publications) counted in
+            let subscribes = ap (λ (z : Counts). z.subscribes) counted in
+            record {
+              come = have_come birth n b.records.publications (after_all (first ++ others) b).records.publications (after_all (first ++ others) b).records.subscribes ds (omega (arith, publications)) (omega (arith, subscribes))
+                  (each_filter (λ (d : CopyTo). d.copy.id.publication ≤ b.records.publications) is_queued all (brought_upto w s b a)) (queued_new n all made);
+              differ = queued_differ all (brought_differ w s b a.differ);
+            };
       }
 
   answers_by : (t u : Bool) (w : sub.Wish) (s : Session) (b : Broker) → Going [] b → session_at birth b.records ≡ Some s → (u ≡ true → length (filter is_queued (brought_to w s b)) ≤ room env s)
@@ -444,6 +507,8 @@ module _ (largest : ℕ) (env : Env) (small : env.limits.queue ≤ QUEUE_LIMIT) 
     pub new : AllByRecursion (IsBroughtCopy birth n) more
     pub going : Going more (after_all ds b)
     pub hush : AllByRecursion IsHushed ds
+    pub differ : AllDiffer (map number_of b.records.retained) → AllDiffer more
+    pub apart : AreRetainedApart b → AreToldApart more (after_all ds b).records
 
   subscribes_by : (t : Bool) (line : ℕ) (s : Session) (w : Wish) (p : Asking) (a : Asked) (b : Broker) → p.subscriptions ≡ a ∷ [] → Going [] b → s.birth ≡ birth → session_at birth b.records ≡ Some s
       → Does (sub.subscribe_by t env line s p b) (sub.next_number b.records) b
@@ -451,7 +516,7 @@ module _ (largest : ℕ) (env : Env) (small : env.limits.queue ≤ QUEUE_LIMIT) 
       let packet = suback p.identifier (map (λ (x : Asked). identifier_in_use) p.subscriptions) in
       let tells = offer (line_at line b) packet in
       let q = telling_offer (line_at line b) packet tt in
-      record { more = []; new = tt; going = subst (Going []) (sym (telling_after tells b q)) k; hush = telling_hush tells q }
+      record { more = []; new = tt; going = subst (Going []) (sym (telling_after tells b q)) k; hush = telling_hush tells q; differ = λ apart. tt; apart = λ a. record { come = tt; differ = tt } }
   subscribes_by false line s w p a b is k its at =
       let identifier = number_at SubscriptionIdentifier p.properties in
       let n = sub.next_number b.records in
@@ -473,16 +538,31 @@ module _ (largest : ℕ) (env : Env) (small : env.limits.queue ≤ QUEUE_LIMIT) 
         new = one.new;
         going = subst (Going one.more) (sym end) one.going;
         hush = each_append IsHushed front tells (each_append IsHushed g.deeds [] one.hush tt) (telling_hush tells q);
+        differ = one.differ;
+        apart = λ a. subst (λ (z : Broker). AreToldApart one.more z.records) (sym end) (one.apart a);
       } in
       subst (λ (x : sub.FilterAnswers). Does (x.deeds ++ offer (line_at line b) (suback p.identifier x.codes) ++ flat_map (λ (d : CopyTo). sub.late_sends line b.now d b) x.late) n b) (sym of)
       (subst (λ (zs : List Deed). Does zs n b) (sym (append_assoc front (offer (line_at line b) (suback p.identifier (g.code ∷ []))) (flat_map (λ (d : CopyTo). sub.late_sends line b.now d b) (g.late ++ [])))) made)
 
 -- ---- the call
 
-pub subscribes_in_step : (largest : ℕ) (ids : List CopyId) (limits : Limits) (choice : MemberChoice) (now birth : ℕ) (ns : List ℕ) (w : Wish) (rest : List Back) (r : Receiver) (l : BrokerLine) (s : Session) (b : Broker)
-    → IsInStep largest ids birth ns r b → IsListening r l s b → IsTidy limits b → r.line.up ≡ asks_for w ∷ rest
-    → Subscribed largest ids birth ns (suc b.records.subscribes) (receiver_after limits choice now (Input l.number (wire_back r.client r.window (asks_for w))) r b) (stepped limits choice now (Input l.number (wire_back r.client r.window (asks_for w))) b)
-subscribes_in_step largest ids limits choice now birth ns w rest r l s b k a tidy up =
+abbrev pub asking : Wish → Receiver → ℕ → Call
+asking w r n = Input n (wire_back r.client r.window (asks_for w))
+
+-- what it brings, on whatever line
+pub record Brings (largest : ℕ) (ids : List CopyId) (limits : Limits) (choice : MemberChoice) (now birth : ℕ) (ns : List ℕ) (w : Wish) (r : Receiver) (n : ℕ) (b : Broker) : Type 0 where
+  pub more : List CopyId
+  pub new : AllByRecursion (IsBroughtCopy birth (suc b.records.subscribes)) more
+  pub runs : RunsFor largest (ids ++ more) birth r (stepped limits choice now (asking w r n) b)
+  pub served : IsServed r.client birth ns (stepped limits choice now (asking w r n) b)
+  pub hush : AllByRecursion IsHushed (deeds_in limits choice now (asking w r n) b)
+  pub differ : AllDiffer (map number_of b.records.retained) → AllDiffer more
+  pub apart : AreRetainedApart b → AreToldApart more (stepped limits choice now (asking w r n) b).records
+
+-- with its session connected on the line of this receiver of its name
+pub brings : (largest : ℕ) (ids : List CopyId) (limits : Limits) (choice : MemberChoice) (now birth : ℕ) (ns : List ℕ) (w : Wish) (r there : Receiver) (l : BrokerLine) (s : Session) (b : Broker)
+    → IsInStep largest ids birth ns r b → there.client ≡ r.client → IsListening there l s b → IsTidy limits b → Brings largest ids limits choice now birth ns w r l.number b
+brings largest ids limits choice now birth ns w r there l s b k name a tidy =
     let env = env_of limits choice b in
     let n = l.number in
     let packet = wire_back r.client r.window (asks_for w) in
@@ -490,17 +570,17 @@ subscribes_in_step largest ids limits choice now birth ns w rest r l s b k a tid
     let first = at_moment now b in
     let c = heard_of now n b in
     let v = k.served in
-    let its : s.birth ≡ birth = (all_at birth_of (IsOurs r.client birth) s.birth s b.records.sessions v.sessions a.session).named a.client in
+    let its : s.birth ≡ birth = (all_at birth_of (IsOurs r.client birth) s.birth s b.records.sessions v.sessions a.session).named (a.client ∙ name) in
     let at : session_at birth b.records ≡ Some s = ap (λ (j : ℕ). session_at j b.records) (sym its) ∙ a.session in
     let served : IsServed r.client birth ns first = record { sessions = v.sessions; lines = v.lines; births = v.births; given = v.given } in
     let runs : RunsFor largest (ids ++ []) birth r first = λ number m.
     first_runs number largest (ids ++ []) birth r now b (subst (λ (all : List CopyId). RunsWithAll number largest all birth r b) (sym (append-nil ids)) (k.runs number (subst (AreNumbered number) (append-nil ids) m))) in
     let stands : Stands r s s first c = record {
       found = a.session;
-      client = a.client;
+      client = a.client ∙ name;
       birth = refl;
       queue = refl;
-      only = a.only;
+      only = subst (λ (client : List ℕ). IsOnly client s.birth b.records) name a.only;
       went = went_heard s.birth first.now n b.lines;
       lines = λ m. quiet_line s.birth m first.now (On n Hear) b.lines tt;
     } in
@@ -509,7 +589,7 @@ subscribes_in_step largest ids limits choice now birth ns w rest r l s b k a tid
       queues = record { ordered = tidy.ordered; short = tidy.queues };
       session = s;
       found = at;
-      runs = moved_for largest (ids ++ []) birth ns r s s first c served a.session a.client its stands runs;
+      runs = moved_for largest (ids ++ []) birth ns r s s first c served a.session (a.client ∙ name) its stands runs;
     } in
     let p : Asking = record { identifier = 1; properties = identified w.identifier; subscriptions = record { filter = w.filter; options = options_byte w.options } ∷ [] } in
     let own = on_subscribe env n s p c in
@@ -524,10 +604,77 @@ subscribes_in_step largest ids limits choice now birth ns w rest r l s b k a tid
     record {
       more = does.more;
       new = does.new;
-      in_step = record {
-        runs = λ number m.
-            told_hushed number largest (ids ++ does.more) birth r call w rest ds (stepped limits choice now call b) hush up (done_all number largest (ids ++ does.more) birth r rows last (whole.runs number m));
-        served = moment_served r.client birth ns rows last whole.served;
-        lines = record { own = k.lines.own; old = k.lines.old };
-      };
+      runs = λ number m. done_all number largest (ids ++ does.more) birth r rows last (whole.runs number m);
+      served = moment_served r.client birth ns rows last whole.served;
+      hush = hush;
+      differ = does.differ;
+      apart = λ a.
+          let there : AreToldApart does.more last.records = subst (λ (z : Broker). AreToldApart does.more z.records) (sym end) (does.apart (record { differ = a.differ; upto = a.upto })) in
+          moment_apart does.more rows last there;
     }
+
+-- the two are in step, with copies that differ, where no two retained messages are of one publication
+pub record Wished (largest : ℕ) (ids : List CopyId) (limits : Limits) (choice : MemberChoice) (now birth : ℕ) (ns : List ℕ) (w : Wish) (r : Receiver) (n : ℕ) (b : Broker) : Type 0 where
+  pub after : Subscribed largest ids birth ns (suc b.records.subscribes) (receiver_after limits choice now (Input n (wire_back r.client r.window (asks_for w))) r b) (stepped limits choice now (Input n (wire_back r.client r.window (asks_for w))) b)
+  pub differ : AllDiffer (map number_of b.records.retained) → AllDiffer after.more
+  pub apart : AreRetainedApart b → AreToldApart after.more (stepped limits choice now (Input n (wire_back r.client r.window (asks_for w))) b).records
+
+pub wished : (largest : ℕ) (ids : List CopyId) (limits : Limits) (choice : MemberChoice) (now birth : ℕ) (ns : List ℕ) (w : Wish) (rest : List Back) (r : Receiver) (l : BrokerLine) (s : Session) (b : Broker)
+    → IsInStep largest ids birth ns r b → IsListening r l s b → IsTidy limits b → r.line.up ≡ asks_for w ∷ rest → Wished largest ids limits choice now birth ns w r l.number b
+wished largest ids limits choice now birth ns w rest r l s b k a tidy up =
+    let call = asking w r l.number in
+    let x = brings largest ids limits choice now birth ns w r r l s b k refl a tidy in
+    let same : filter_map answered (drop 1 r.line.up) ≡ filter_map answered r.line.up = ap (λ (xs : List Back). filter_map answered (drop 1 xs)) up ∙ sym (ap (filter_map answered) up) in
+    record {
+      after = record {
+        more = x.more;
+        new = x.new;
+        in_step = record {
+          runs = λ number m. told_hushed number largest (ids ++ x.more) birth r call (drop 1 r.line.up) r.line.old (deeds_in limits choice now call b) (stepped limits choice now call b) x.hush same refl (x.runs number m);
+          served = x.served;
+          lines = record { own = k.lines.own; old = k.lines.old };
+        };
+      };
+      differ = x.differ;
+      apart = x.apart;
+    }
+
+-- with what tells them apart
+pub subscribes_apart : (largest : ℕ) (ids : List CopyId) (limits : Limits) (choice : MemberChoice) (now birth : ℕ) (ns : List ℕ) (w : Wish) (rest : List Back) (r : Receiver) (l : BrokerLine) (s : Session) (b : Broker)
+    → IsInStep largest ids birth ns r b → IsListening r l s b → IsTidy limits b → r.line.up ≡ asks_for w ∷ rest
+    → (x : Subscribed largest ids birth ns (suc b.records.subscribes) (receiver_after limits choice now (Input l.number (wire_back r.client r.window (asks_for w))) r b) (stepped limits choice now (Input l.number (wire_back r.client r.window (asks_for w))) b))
+    × (AreRetainedApart b → AreToldApart x.more (stepped limits choice now (Input l.number (wire_back r.client r.window (asks_for w))) b).records)
+subscribes_apart largest ids limits choice now birth ns w rest r l s b k a tidy up =
+    let x = wished largest ids limits choice now birth ns w rest r l s b k a tidy up in
+    (x.after, x.apart)
+
+pub subscribes_in_step : (largest : ℕ) (ids : List CopyId) (limits : Limits) (choice : MemberChoice) (now birth : ℕ) (ns : List ℕ) (w : Wish) (rest : List Back) (r : Receiver) (l : BrokerLine) (s : Session) (b : Broker)
+    → IsInStep largest ids birth ns r b → IsListening r l s b → IsTidy limits b → r.line.up ≡ asks_for w ∷ rest
+    → Subscribed largest ids birth ns (suc b.records.subscribes) (receiver_after limits choice now (Input l.number (wire_back r.client r.window (asks_for w))) r b) (stepped limits choice now (Input l.number (wire_back r.client r.window (asks_for w))) b)
+subscribes_in_step largest ids limits choice now birth ns w rest r l s b k a tidy up = (wished largest ids limits choice now birth ns w rest r l s b k a tidy up).after
+
+-- on the line that it gave up
+pub old_subscribes_apart : (largest : ℕ) (ids : List CopyId) (limits : Limits) (choice : MemberChoice) (now birth : ℕ) (ns : List ℕ) (w : Wish) (rest : List Back) (r : Receiver) (l : BrokerLine) (s : Session) (b : Broker)
+    → IsInStep largest ids birth ns r b → IsLingering r l s b → IsTidy limits b → r.line.old ≡ asks_for w ∷ rest
+    → (x : Subscribed largest ids birth ns (suc b.records.subscribes) (reads_old_wish limits choice now l.number w r b) (stepped limits choice now (Input l.number (wire_back r.client r.window (asks_for w))) b))
+    × (AreRetainedApart b → AreToldApart x.more (stepped limits choice now (Input l.number (wire_back r.client r.window (asks_for w))) b).records)
+old_subscribes_apart largest ids limits choice now birth ns w rest r l s b k a tidy old =
+    let call = asking w r l.number in
+    let x = brings largest ids limits choice now birth ns w r (turned_back r) l s b k refl a tidy in
+    let same : filter_map answered (drop 1 r.line.old) ≡ filter_map answered r.line.old = ap (λ (xs : List Back). filter_map answered (drop 1 xs)) old ∙ sym (ap (filter_map answered) old) in (
+      record {
+        more = x.more;
+        new = x.new;
+        in_step = record {
+          runs = λ number m. told_hushed number largest (ids ++ x.more) birth r call r.line.up (drop 1 r.line.old) (deeds_in limits choice now call b) (stepped limits choice now call b) x.hush refl same (x.runs number m);
+          served = x.served;
+          lines = record { own = k.lines.own; old = k.lines.old };
+        };
+      },
+      x.apart,
+    )
+
+pub old_subscribes_in_step : (largest : ℕ) (ids : List CopyId) (limits : Limits) (choice : MemberChoice) (now birth : ℕ) (ns : List ℕ) (w : Wish) (rest : List Back) (r : Receiver) (l : BrokerLine) (s : Session) (b : Broker)
+    → IsInStep largest ids birth ns r b → IsLingering r l s b → IsTidy limits b → r.line.old ≡ asks_for w ∷ rest
+    → Subscribed largest ids birth ns (suc b.records.subscribes) (reads_old_wish limits choice now l.number w r b) (stepped limits choice now (Input l.number (wire_back r.client r.window (asks_for w))) b)
+old_subscribes_in_step largest ids limits choice now birth ns w rest r l s b k a tidy old = (old_subscribes_apart largest ids limits choice now birth ns w rest r l s b k a tidy old).0

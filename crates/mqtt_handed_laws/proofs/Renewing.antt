@@ -4,13 +4,14 @@ use Rattle.std.proofs.Common.{◌≡◌, ℕ, suc, Bool, true, false, cond, List
 use Rattle.std.specs.Prelude.{filter_map, is_some, option_map}
 use Rattle.std.specs.List.{AllByRecursion}
 use Rattle.std.proofs.lemmas.Bool.{cases_Bool, lt-ltb}
+use Rattle.mqtt_base.specs.declared.session.CopyId.{CopyId}
 use Rattle.mqtt_base.specs.declared.session.Ending.TheVariants.{SessionEnded}
 use Rattle.mqtt_flow.specs.OutboundWorld.{Lot, connects, up_comes}
 use Rattle.mqtt_flow.specs.Receiver.{Answer, connect}
 use Rattle.mqtt_inbound.specs.Identifiers.{ids_without}
 use Rattle.mqtt_laws.specs.Ends.{Back, Receiver, answers, wire_back}
 use Rattle.mqtt_laws.specs.Hops.{IsKept, IsTaken, lines_left}
-use Rattle.mqtt_laws.specs.Lines.{sent_to}
+use Rattle.mqtt_laws.specs.Lines.{is_one_of, sent_to}
 use Rattle.mqtt_laws.proofs.CleanConnects.{begins_by_room, clear_is, cleared, ended_by, ending_next}
 use Rattle.mqtt_laws.proofs.Connects.{heard_line_of, heard_on_line, left_by, left_leaves, named_taken, not_left, prepare_front, taken_client, taken_from, taken_will}
 use Rattle.mqtt_laws.proofs.Far.{at_births}
@@ -32,8 +33,9 @@ use Rattle.mqtt_handed_laws.specs.Calls.{IsRenewing}
 use Rattle.mqtt_handed_laws.specs.Entering.{Receives}
 use Rattle.mqtt_handed_laws.specs.Handing.{IsRun, RunsOn, after_answer, reads_answer}
 use Rattle.mqtt_handed_laws.specs.Seen.{Numbering, answered, seen}
+use Rattle.mqtt_handed_laws.proofs.Answering.{IsAsideOf, all_join}
 use Rattle.mqtt_handed_laws.proofs.Beginning.{Clears, begins_receives, begins_run, off_heard}
-use Rattle.mqtt_handed_laws.proofs.Resuming.{IsOffIt, call_is, greeting, left_closes, left_lines, left_untold, lines_without, refused_not, went_at, went_at_heard, went_at_left}
+use Rattle.mqtt_handed_laws.proofs.Resuming.{Beside, IsOffIt, call_is, greeting, left_beside, left_closes, left_lines, left_untold, lines_without, refused_not, went_at, went_at_heard, went_at_left}
 
 -- ---- the deeds of the CONNECT
 
@@ -235,6 +237,24 @@ renewed_clears limits choice now r l s b a =
       };
     }
 
+-- what becomes of another line
+pub renewed_beside : (number : Numbering) (ids : List CopyId) (limits : Limits) (choice : MemberChoice) (now : ℕ) (r : Receiver) (l : BrokerLine) (s : Session) (b : Broker) → Renews limits choice now r l s b
+    → (m : ℕ) → nat_eq l.number m ≡ false → Beside number ids limits choice now (Input l.number (wire_back r.client r.window (answers (connect true)))) m b (is_one_of (Some m) (lines_left (line_of s.birth b)))
+renewed_beside number ids limits choice now r l s b x m other =
+    let n = l.number in
+    let c = heard_of now n b in
+    let ends = end_session (taken_from x.its c.now s) in
+    let begins = begin l (greeting true r.client r.window) false r.client (suc (after_all (ended_by x.its s c.now) c).records.births) in
+    let ending = taken_from x.its c.now s in
+    left_beside number ids limits choice now (Input n (wire_back r.client r.window (answers (connect true)))) n x.its s (ends ++ begins) m b (is_one_of (Some m) (lines_left (line_of s.birth b)))
+    (x.clears.deeds_are ∙ ap (λ (ds : List Deed). On n Hear ∷ ds) (append_assoc (left_by x.its s c.now) ends begins))
+    (all_join (IsAsideOf m) ends begins (all_join (IsAsideOf m) (map (λ (e : CopyRow). At (whose ending) (Leave e SessionEnded)) ending.queue) (Finish (whose ending) ∷ []) (leaves_aside ending ending.queue) (tt, tt)) (tt, (other, (other, tt))))
+    (ap (is_one_of (Some m)) x.same)
+  where
+    leaves_aside : (y : Session) (es : List CopyRow) → AllByRecursion (IsAsideOf m) (map (λ (e : CopyRow). At (whose y) (Leave e SessionEnded)) es)
+    leaves_aside y [] = tt
+    leaves_aside y (e ∷ es) = (tt, leaves_aside y es)
+
 pub renewal_runs : (number : Numbering) (largest : ℕ) (copies : List Lot) (limits : Limits) (choice : MemberChoice) (now : ℕ) (rest : List Back) (r : Receiver) (l : BrokerLine) (s : Session) (b : Broker)
     → IsRun number largest copies r b → IsRenewing limits r l s b → r.line.up ≡ answers (connect true) ∷ rest
     → RunsOn number largest copies (reads_answer limits choice now l.number (connect true) r b) (after_answer limits choice now l.number (connect true) r b)
@@ -242,7 +262,7 @@ renewal_runs number largest copies limits choice now rest r l s b h a up =
     let w = seen number copies r b in
     let x = renewed_clears limits choice now r l s b a in
     let stands : is_some (session_named r.client b.records) ≡ true = ap is_some (named_is r.client s.birth b.records s a.resuming.kept.only a.resuming.kept.session a.resuming.kept.name) in
-    begins_run number largest copies limits choice now true rest r l b h a.resuming.number (ended_by x.its s (heard_of now l.number b).now) (lines_left (line_of s.birth b)) x.clears up
+    begins_run number largest copies limits choice now true rest r l b a.resuming.number (ended_by x.its s (heard_of now l.number b).now) (lines_left (line_of s.birth b)) x.clears h up
     (ap (λ (xs : List Answer). up_comes false xs w) (ap (filter_map answered) up)
     ∙ ap (λ (z : Bool). connects z true false (filter_map answered rest) w) stands)
 
@@ -252,4 +272,4 @@ pub renewal_receives : (number : Numbering) (largest : ℕ) (copies : List Lot) 
     → Receives (reads_answer limits choice now l.number (connect true) r b) (after_answer limits choice now l.number (connect true) r b)
 renewal_receives number largest copies limits choice now rest r l s b h a up =
     let x = renewed_clears limits choice now r l s b a in
-    begins_receives number largest copies limits choice now true rest r l b h a.resuming.number (ended_by x.its s (heard_of now l.number b).now) (lines_left (line_of s.birth b)) x.clears
+    begins_receives number largest copies limits choice now true rest r l b a.resuming.number (ended_by x.its s (heard_of now l.number b).now) (lines_left (line_of s.birth b)) x.clears

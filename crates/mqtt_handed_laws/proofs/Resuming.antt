@@ -312,17 +312,40 @@ left_on (Some x) s m b = elim (cases_Bool (nat_eq x.number m)) [
   | inr other ↦ rw other (line_gone m x.number b.lines other)
 ]
 
--- what the call makes of the session, wherever the receiver is
-pub record Takes (number : Numbering) (copies : List Lot) (ids : List CopyId) (limits : Limits) (choice : MemberChoice) (now : ℕ) (call : Call) (name : List ℕ) (l : BrokerLine) (s : Session) (b : Broker) : Type 0 where
+-- it is so where the session is taken over first, and nothing else is about that line
+pub left_beside : (number : Numbering) (ids : List CopyId) (limits : Limits) (choice : MemberChoice) (now : ℕ) (call : Call) (n : ℕ) (o : Option BrokerLine) (s : Session) (rest : List Deed) (m : ℕ) (b : Broker) (shut : Bool)
+    → deeds limits choice now call b ≡ On n Hear ∷ (left_by o s (heard_of now n b).now ++ rest) → AllByRecursion (IsAsideOf m) rest → is_one_of (Some m) (lines_left o) ≡ shut
+    → Beside number ids limits choice now call m b shut
+left_beside number ids limits choice now call n o s rest m b shut is aside alike =
+    let first = at_moment now b in
+    let c = heard_of now n b in
+    let new = stepped limits choice now call b in
+    let all : List Deed = On n Hear ∷ (left_by o s c.now ++ rest) in
+    let none = untold m new rest aside in
+    let on = is_one_of (Some m) (lines_left o) in
+    let told = left_told number o s c.now m new rest none.told in
+    let tags = left_tagged number ids o s c.now m new rest none.told in
+    let lines : session_on m (after_all all first).lines ≡ cond on None (session_on m b.lines) =
+    ap (λ (d : Broker). session_on m d.lines) (after_append (left_by o s c.now) rest c)
+    ∙ (aside_lines m rest (after_all (left_by o s c.now) c) aside
+    ∙ (left_on o s m c ∙ ap (λ (z : Option (Option ℕ)). cond on None z) (line_on first.now m n Hear b.lines (inr tt)))) in
+    subst (Beside number ids limits choice now call m b) alike (record {
+      told = ap (λ (ds : List Deed). filter_map (heard_in number) (sent_to (Some m) new (filter_map output ds))) is ∙ told;
+      tagged = subst (λ (ds : List Deed). AllByRecursion (IsTagged number ids) (sent_to (Some m) new (filter_map output ds))) (sym is) tags;
+      line_is = ap (λ (ds : List Deed). session_on m (after_all ds first).lines) is ∙ lines;
+    })
+
+-- what the call makes of a session, wherever the receiver is
+pub record Takes (number : Numbering) (copies2 : List Lot) (ids : List CopyId) (limits : Limits) (choice : MemberChoice) (now : ℕ) (call : Call) (name : List ℕ) (n birth : ℕ) (ns : List ℕ) (b : Broker) : Type 0 where
   pub session : Session
-  pub found : session_at s.birth (after_all (deeds limits choice now call b) (at_moment now b)).records ≡ Some session
+  pub found : session_at birth (after_all (deeds limits choice now call b) (at_moment now b)).records ≡ Some session
   pub client : session.client ≡ name
-  pub birth_is : session.birth ≡ s.birth
-  pub only : IsOnly name s.birth (after_all (deeds limits choice now call b) (at_moment now b)).records
-  pub queued : StandOn (map renewed copies) session.queue (its_went s.birth (after_all (deeds limits choice now call b) (at_moment now b)).lines)
-  pub known : AreKnown session.queue (its_went s.birth (after_all (deeds limits choice now call b) (at_moment now b)).lines)
-  pub closes : filter_map closing (deeds limits choice now call b) ≡ lines_left (line_of s.birth b)
-  pub beside : (m : ℕ) → nat_eq l.number m ≡ false → Beside number ids limits choice now call m b (is_one_of (Some m) (lines_left (line_of s.birth b)))
+  pub birth_is : session.birth ≡ birth
+  pub only : IsOnly name birth (after_all (deeds limits choice now call b) (at_moment now b)).records
+  pub queued : StandOn copies2 session.queue (its_went birth (after_all (deeds limits choice now call b) (at_moment now b)).lines)
+  pub known : AreKnown session.queue (its_went birth (after_all (deeds limits choice now call b) (at_moment now b)).lines)
+  pub closes : filter_map closing (deeds limits choice now call b) ≡ ns
+  pub beside : (m : ℕ) → nat_eq n m ≡ false → Beside number ids limits choice now call m b (is_one_of (Some m) ns)
 
 -- ---- the step
 
@@ -511,20 +534,7 @@ module _ (number : Numbering) (largest : ℕ) (copies : List Lot) (limits : Limi
     -- what becomes of another line
     beside : (m : ℕ) → nat_eq n m ≡ false → Beside number ids limits choice now (Input n packet) m b (is_one_of (Some m) (lines_left (line_of s.birth b)))
     beside m other =
-        let none = untold m new resumes aside_resumes in
-        let shut = is_one_of (Some m) (lines_left o) in
-        let alike : shut ≡ is_one_of (Some m) (lines_left (line_of s.birth b)) = ap (is_one_of (Some m)) same in
-        let told = left_told number o s heard_first.now m new resumes none.told in
-        let tags = left_tagged number ids o s heard_first.now m new resumes none.told in
-        let lines : session_on m (after_all all_deeds first).lines ≡ cond shut None (session_on m b.lines) =
-        ap (λ (d : Broker). session_on m d.lines) (after_append (left_by o s heard_first.now) resumes heard_first)
-        ∙ (aside_lines m resumes left aside_resumes
-        ∙ (left_on o s m heard_first ∙ ap (λ (z : Option (Option ℕ)). cond shut None z) (line_on first.now m n Hear b.lines (inr tt)))) in
-        subst (Beside number ids limits choice now (Input n packet) m b) alike (record {
-          told = ap (λ (ds : List Deed). filter_map (heard_in number) (sent_to (Some m) new (filter_map output ds))) deeds_are ∙ told;
-          tagged = subst (λ (ds : List Deed). AllByRecursion (IsTagged number ids) (sent_to (Some m) new (filter_map output ds))) (sym deeds_are) tags;
-          line_is = ap (λ (ds : List Deed). session_on m (after_all ds first).lines) deeds_are ∙ lines;
-        })
+        left_beside number ids limits choice now (Input n packet) n o s resumes m b (is_one_of (Some m) (lines_left (line_of s.birth b))) deeds_are aside_resumes (ap (is_one_of (Some m)) same)
       where
         aside_repeats : (us : List Turn) → AllByRecursion IsRepeat us → AllByRecursion (IsAsideOf m) (all_turn_deeds heard_first.now n x us)
         aside_repeats [] h = tt
@@ -539,7 +549,7 @@ module _ (number : Numbering) (largest : ℕ) (copies : List Lot) (limits : Limi
         aside_resumes : AllByRecursion (IsAsideOf m) resumes
         aside_resumes = (tt, (other, (other, aside_repeats ts are_repeats)))
 
-    takes : Takes number copies ids limits choice now (Input n packet) r.client l s b
+    takes : Takes number copies2 ids limits choice now (Input n packet) r.client n s.birth (lines_left (line_of s.birth b)) b
     takes =
         let m = makes in
         record {
@@ -554,7 +564,7 @@ module _ (number : Numbering) (largest : ℕ) (copies : List Lot) (limits : Limi
           beside = beside;
         }
 
-  pub connect_makes : Takes number copies ids limits choice now (Input n packet) r.client l s b
+  pub connect_makes : Takes number copies2 ids limits choice now (Input n packet) r.client n s.birth (lines_left (line_of s.birth b)) b
   connect_makes =
       let heard_line = heard_line_of s.birth n now b (line_of s.birth b) refl a.taken in
       takes heard_line.0 heard_line.1 heard_line.2 heard_line.3

@@ -333,7 +333,7 @@ drain_empties largest window (now ∷ moments) w r room h few = ⊎_elim
     rw o (drain_empties largest window moments v (reached_round largest window now w r) room y.linked (omega arith)))
     (test_cases (is_over w))
 
-two_each : (ls : List Lot) → all_left ls ≤ 2 * length (queue_of ls)
+pub two_each : (ls : List Lot) → all_left ls ≤ 2 * length (queue_of ls)
 two_each [] = omega arith
 two_each (past x e m ∷ ls) = let r = two_each ls in omega arith
 two_each (standing e m ∷ ls) = let a = two_most e.phase in let b = two_each ls in omega arith

@@ -34,13 +34,13 @@ use Rattle.mqtt_handed_laws.specs.Calls.{receiver_called}
 use Rattle.mqtt_handed_laws.specs.Entering.{AreKnown, Receives}
 use Rattle.mqtt_handed_laws.specs.Handing.{IsListening, IsRun, RunsOn}
 use Rattle.mqtt_handed_laws.specs.Seen.{Numbering, StandOn, heard_in, lot_on, seen, still_standing, went_in}
-use Rattle.mqtt_handed_laws.specs.Tags.{AreNumbered, AreTagged, IsTagged, id_of}
+use Rattle.mqtt_handed_laws.specs.Tags.{IsTagged, id_of}
 use Rattle.mqtt_handed_laws.proofs.Answering.{its_went, linked_now, named_now, standing_by, went_now}
 use Rattle.mqtt_handed_laws.proofs.Calling.{Makes, called_queue, called_seen, called_tags, finds, hop_called, inside_begins, inside_closes, inside_turns}
+use Rattle.mqtt_handed_laws.proofs.Follows.{Follows, runs_follow}
 use Rattle.mqtt_handed_laws.proofs.Known.{receives_after}
 use Rattle.mqtt_handed_laws.proofs.Marks.{lots_by, outputs_of, turns_made}
 use Rattle.mqtt_handed_laws.proofs.Pumps.{Finds, Goes, IsRowGranted, Tracks, pump_goes}
-use Rattle.mqtt_handed_laws.proofs.Refusals.{run_append}
 use Rattle.mqtt_handed_laws.proofs.Turns.{same_entries}
 
 -- ---- the copies of a queue have QoS 1 or 2, since no other entered the hop
@@ -178,23 +178,19 @@ module _ (number : Numbering) (largest : ℕ) (copies : List Lot) (limits : Limi
       (λ i. record w { copies = lots_by ts copies; stands = stands i; linked = linked i; down = w.down ++ outputs_of ts copies })
       ∙ (sym (turns_made ts w (sym linked)) ∙ ap (λ (us : List Turn). take_turns us w) turns_are)
 
-  pub pump_runs : RunsOn number largest copies (receiver_called limits choice now (Pump l.number) r b) (stepped limits choice now (Pump l.number) b)
-  pump_runs =
+  pub pump_follows : Follows number largest copies (pump l.window first.now) r b (receiver_called limits choice now (Pump l.number) r b) (stepped limits choice now (Pump l.number) b)
+  pump_follows =
       let copies2 = lots_by ts copies in
-      let e = pump l.window first.now in
       record {
         after = copies2;
         same = goes.tracks.ids_are;
-        run_is = record {
-          events = h.events ++ e ∷ [];
-          seen_is = called_seen number copies2 ids limits choice now (Pump n) r n s.birth b (outputs_of ts copies) false false makes
-              ∙ (pumped_is ∙ (ap (λ (v : Hop). step largest v e) h.seen_is ∙ sym (run_append largest h.events (e ∷ []) start)));
-          queue_is = called_queue number copies2 ids limits choice now (Pump n) r n s.birth b (outputs_of ts copies) false false makes;
-          numbered = subst (AreNumbered number) (sym goes.tracks.ids_are) h.numbered;
-          tagged = subst (λ (cs : List CopyId). AreTagged number cs (receiver_called limits choice now (Pump l.number) r b)) (sym goes.tracks.ids_are)
-              (called_tags number copies2 ids limits choice now (Pump n) r n s.birth b (outputs_of ts copies) false false makes h.tagged);
-        };
+        seen_is = called_seen number copies2 ids limits choice now (Pump n) r n s.birth b (outputs_of ts copies) false false makes ∙ pumped_is;
+        queue_is = called_queue number copies2 ids limits choice now (Pump n) r n s.birth b (outputs_of ts copies) false false makes;
+        tagged = called_tags number copies2 ids limits choice now (Pump n) r n s.birth b (outputs_of ts copies) false false makes h.tagged;
       }
+
+  pub pump_runs : RunsOn number largest copies (receiver_called limits choice now (Pump l.number) r b) (stepped limits choice now (Pump l.number) b)
+  pump_runs = runs_follow number largest copies (pump l.window first.now) r b (receiver_called limits choice now (Pump l.number) r b) (stepped limits choice now (Pump l.number) b) h pump_follows
 
   pub pump_receives : AreKnown s.queue (went_in s.birth b) → Receives (receiver_called limits choice now (Pump l.number) r b) (stepped limits choice now (Pump l.number) b)
   pump_receives known_here =

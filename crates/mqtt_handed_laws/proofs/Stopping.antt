@@ -55,9 +55,9 @@ goes_further largest ids birth ns ms before q r b c g first last h = record {
   more = g.more ++ h.more;
   new = each_append (IsNewCopy birth before c.records.publications) g.more h.more
       (all_more (IsNewCopy birth before b.records.publications) (IsNewCopy birth before c.records.publications) g.more
-      (λ x p. record { birth_is = p.birth_is; above = p.above; within = let w = p.within in omega (arith, w, last) }) g.new)
+      (λ x p. record { birth_is = p.birth_is; above = p.above; within = let w = p.within in omega (arith, w, last); cause_is = p.cause_is }) g.new)
       (all_more (IsNewCopy birth b.records.publications c.records.publications) (IsNewCopy birth before c.records.publications) h.more
-      (λ x p. record { birth_is = p.birth_is; above = let w = p.above in omega (arith, w, first); within = p.within }) h.new);
+      (λ x p. record { birth_is = p.birth_is; above = let w = p.above in omega (arith, w, first); within = p.within; cause_is = p.cause_is }) h.new);
   differ = differ_join g.more h.more g.differ h.differ (apart_from birth before b c g.more h.more g.new h.new);
   runs = λ number n.
       subst (λ (all : List CopyId). RunsWithAll number largest all birth r c) (append_assoc ids g.more h.more)

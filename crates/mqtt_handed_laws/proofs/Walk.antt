@@ -21,6 +21,7 @@ use Rattle.mqtt_laws.specs.Lines.{is_one_of}
 use Rattle.mqtt_message.specs.Queue.{CopyRow}
 use Rattle.mqtt_message.specs.declared.message.MessageCopy.{MessageCopy}
 use Rattle.mqtt_message.specs.declared.message.RetainedMessage.{RetainedMessage}
+use Rattle.mqtt_records.specs.Records.{subscribe_in}
 use Rattle.mqtt_records.specs.Session.{birth_of, copy_place}
 use Rattle.mqtt_records.specs.declared.session.Session.{Session}
 use Rattle.mqtt_routes.specs.Retained.{kept_for}
@@ -81,7 +82,7 @@ of_others client birth ns (d ∷ ds) q = (q.0.0, of_others client birth ns ds q.
 
 -- ---- deeds of a queue
 
-queue_leave : (s : Session) (t : Turn) → AreOfQueue (leave_deeds s t)
+pub queue_leave : (s : Session) (t : Turn) → AreOfQueue (leave_deeds s t)
 queue_leave s (turns.Leave place ending) = by (row_at copy_place place s.queue)
   where
     by : (o : Option CopyRow) → AreOfQueue (of_entry o (λ e. At (whose s) (Leave e ending) ∷ []))
@@ -94,7 +95,7 @@ queue_leave s (turns.Outgrow place id order) = tt
 queue_leave s (turns.Repeat id) = tt
 queue_leave s (turns.Unknown id) = tt
 
-queue_leaves : (s : Session) (ts : List Turn) → AreOfQueue (flat_map (leave_deeds s) ts)
+pub queue_leaves : (s : Session) (ts : List Turn) → AreOfQueue (flat_map (leave_deeds s) ts)
 queue_leaves s ts = each_flat IsOfQueue (leave_deeds s) (queue_leave s) ts
 
 pub queue_enter : (env : Env) (copy : MessageCopy) (s : Session) → AreOfQueue (enter_deeds env copy s)
@@ -203,7 +204,7 @@ module _ (largest : ℕ) (env : Env) (small : env.limits.queue ≤ QUEUE_LIMIT) 
   its_birth t b v x = (all_at birth_of (IsOurs r.client birth) t.birth t b.records.sessions v.sessions x.session).named x.client
 
   pub new_still : (b c : Broker) (more : List CopyId) → b.records.publications ≤ c.records.publications → AllByRecursion (IsNew b) more → AllByRecursion (IsNew c) more
-  new_still b c more le h = all_more (IsNew b) (IsNew c) more (λ id x. record { birth_is = x.birth_is; above = x.above; within = let w = x.within in omega (arith, w, le) }) h
+  new_still b c more le h = all_more (IsNew b) (IsNew c) more (λ id x. record { birth_is = x.birth_is; above = x.above; within = let w = x.within in omega (arith, w, le); cause_is = x.cause_is }) h
 
   -- deeds of others
   others_kept : (ds : List Deed) (b : Broker) → AreOfOthers r.client birth ns ds → IsServed r.client birth ns (after_all ds b) → Short (after_all ds b)
@@ -250,7 +251,7 @@ module _ (largest : ℕ) (env : Env) (small : env.limits.queue ≤ QUEUE_LIMIT) 
   own_ids rest = map id_to (filter (is_to birth) rest)
 
   abbrev IsOfNumber : ℕ → CopyTo → Type 0
-  IsOfNumber n d = (d.copy.id.publication ≡ n) × (d.copy.id.birth ≡ d.birth)
+  IsOfNumber n d = (d.copy.id.publication ≡ n) × (d.copy.id.birth ≡ d.birth) × (subscribe_in d.copy.id.cause ≡ 0)
 
   record Ready (rest : List CopyTo) (b : Broker) : Type 0 where
     pub kept : Kept b
@@ -384,7 +385,7 @@ module _ (largest : ℕ) (env : Env) (small : env.limits.queue ≤ QUEUE_LIMIT) 
             let with_it : AllDiffer (h.kept.more ++ d.copy.id ∷ own_ids rest) = subst (λ (t : Bool). AllDiffer (h.kept.more ++ map id_to (cond t (d ∷ filter (is_to birth) rest) (filter (is_to birth) rest)))) so h.differ in
             let one : AllDiffer ((h.kept.more ++ d.copy.id ∷ []) ++ own_ids rest) = subst AllDiffer (sym (append_assoc h.kept.more (d.copy.id ∷ []) (own_ids rest))) with_it in
             let number = h.numbers.0.0 in
-            let new : IsNew b d.copy.id = record { birth_is = h.numbers.0.1 ∙ (sym is ∙ here); above = omega (arith, passed, number); within = omega (arith, number) } in
+            let new : IsNew b d.copy.id = record { birth_is = h.numbers.0.1 ∙ (sym is ∙ here); above = omega (arith, passed, number); within = omega (arith, number); cause_is = h.numbers.0.2 } in
             let k = own_enters d.copy s b made.1 queued (omega (arith, all)) here own_at h.kept new (differ_front (h.kept.more ++ d.copy.id ∷ []) (own_ids rest) one) in
             record { ready = record { kept = k; fits = fits; differ = one; passed = omega (arith, passed, same); numbers = numbers }; mute = mute_queue ns ds b parts }
         | inr other ↦
@@ -478,7 +479,7 @@ module _ (largest : ℕ) (env : Env) (small : env.limits.queue ≤ QUEUE_LIMIT) 
       let sessions : d.records.sessions ≡ b.records.sessions = retained_sessions m.retain (is_empty m.payload) n m c in
       let last : d.records.publications ≡ n = retained_numbers m.retain (is_empty m.payload) n m c in
       let grown = k.grown in
-      let numbered = each_more (IsNumbered n b.now) (IsOfNumber n) (λ x h. (h.publication, h.birth)) ds (routed_numbered env m b ds e) in
+      let numbered = each_more (IsNumbered n b.now) (IsOfNumber n) (λ x h. (h.publication, h.birth, h.cause)) ds (routed_numbered env m b ds e) in
       let own : AllDiffer (own_ids ds) = differ_filtered id_to (is_to birth) ds (accepted_differ env m b ds k.queues.ordered e).differ in
       let two = theirs_led kept c (retains m.retain (is_empty m.payload) n m c) (retained_short m.retain (is_empty m.payload) n m c one.queues) one in
       leads_append Kept (IsMuteHere ns) first (kept ++ series (map (deliver env) ds) d) b ((tt, tt), one)

@@ -9,3 +9,6 @@ pub mod Restarts
 pub mod Own
 pub mod Drains
 pub mod Rounds
+pub mod WorldRounds
+pub mod Apart
+pub mod Late

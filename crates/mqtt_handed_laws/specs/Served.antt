@@ -9,6 +9,7 @@ use Rattle.mqtt_laws.specs.Ends.{Receiver}
 use Rattle.mqtt_laws.specs.Hops.{IsOthers, IsOurs}
 use Rattle.mqtt_laws.specs.Lines.{is_one_of}
 use Rattle.mqtt_laws.specs.Seats.{IsIdle}
+use Rattle.mqtt_records.specs.Records.{subscribe_in}
 use Rattle.mqtt_records.specs.declared.session.Session.{Session}
 use Rattle.mqtt_rows.specs.Distinct.{AllDiffer}
 use Rattle.mqtt_rules.specs.Laws.{IsOrdered, QueuesWithin}
@@ -77,11 +78,13 @@ pub record RunsWithAll (number : Numbering) (largest : ℕ) (ids : List CopyId) 
 abbrev pub RunsFor : ℕ → List CopyId → ℕ → Receiver → Broker → Type 0
 RunsFor largest ids birth r b = (number : Numbering) → AreNumbered number ids → RunsWithAll number largest ids birth r b
 
--- for this session, of a publication that was accepted after the one with the number before, and up to that of the number last
+-- for this session, of a publication that was accepted after the one with the number before, and up to that of the number last;
+-- and so for no filter that was granted
 pub record IsNewCopy (birth before last : ℕ) (id : CopyId) : Type 0 where
   pub birth_is : id.birth ≡ birth
   pub above : before < id.publication
   pub within : id.publication ≤ last
+  pub cause_is : subscribe_in id.cause ≡ 0
 
 -- some copies more have entered, or none, behind those that entered before, no two the same, each of a publication that was
 -- accepted meanwhile; its session and its lines are its own as before

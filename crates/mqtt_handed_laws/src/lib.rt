@@ -2,11 +2,13 @@
 //! (MQTT 5.0, 4.3, 4.4).
 #![tactic(auto)]
 
+mod apart_laws;
 mod call_laws;
 mod connect_laws;
 mod copy_laws;
 mod doing_laws;
 mod drain_laws;
+mod late_laws;
 mod laws;
 mod other_laws;
 mod own_laws;
@@ -14,7 +16,9 @@ mod ready_laws;
 mod restart_laws;
 mod round_laws;
 mod served_laws;
+mod world_round_laws;
 
+pub use apart_laws::copies_that_enter_are_told_apart;
 pub use call_laws::{
     a_clean_start_is_a_step_of_the_hop, a_new_session_is_a_step_of_the_hop,
     a_resumed_session_is_a_step_of_the_hop, answers_on_the_line_given_up_are_steps_of_the_hop,
@@ -26,6 +30,12 @@ pub use copy_laws::{
 };
 pub use doing_laws::{own_doings_leave_a_receiver_awaiting, own_doings_leave_a_receiver_in_step};
 pub use drain_laws::a_script_with_drains_is_a_run;
+pub use late_laws::{
+    a_connect_on_the_line_given_up_puts_a_receiver_in_step,
+    a_line_without_session_leaves_a_receiver_as_it_is, a_line_without_session_stays_as_it_is,
+    a_subscribe_on_the_line_given_up_leaves_a_receiver_in_step,
+    calls_of_others_leave_a_receiver_awaiting,
+};
 pub use laws::{
     a_lost_line_is_a_step_of_the_hop, a_run_of_the_hop_hands_over_once,
     answers_of_a_receiver_are_steps_of_the_hop, own_doings_of_a_receiver_are_steps_of_the_hop,
@@ -46,3 +56,6 @@ pub use round_laws::{
     a_drain_of_a_hop_ends, a_round_takes_a_copy_further, what_is_due_is_under_way,
 };
 pub use served_laws::{a_late_connect_is_a_step_of_the_hop, calls_of_others_are_steps_of_the_hop};
+pub use world_round_laws::{
+    a_drain_ends, a_drain_with_a_subscribe_ends, a_round_of_a_drain_is_one_of_the_hop,
+};

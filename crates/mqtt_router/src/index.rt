@@ -26,6 +26,8 @@ use std::marker::Model;
 #[derive(Drop)]
 pub struct Index {
     pub(crate) routes: Routes<()>,
+    /// The publications of the step under way for which groups took their turns, in order.
+    pub(crate) turns: Vec<Routed>,
 }
 
 impl Model for Index {
@@ -90,6 +92,7 @@ impl Index {
     {
         Index {
             routes: Routes::new(alloc, hasher),
+            turns: Vec::new(alloc),
         }
     }
 
@@ -148,11 +151,41 @@ impl Index {
         found
     }
 
-    /// Notes the members that a publication chose.
-    fn chose(&mut self, routed: &Routed)
+    /// Notes the members that a publication chose, until the step is stored or taken back.
+    fn chose(&mut self, routed: Routed) -> Result<(), StepFault>
+        ensures same { self.new ≡ self.old }
+        ensures fault { IfErr result (λ fault. fault ≡ StepFault.Memory) }
+    {
+        if routed.served().is_empty() {
+            return Ok(());
+        }
+        self.turns.reserve(1)?;
+        self.routes.chose(&routed);
+        Ok(self.turns.push(routed)?)
+    }
+
+    /// The step is stored: the turns that groups took in it stay (4.8.2). Takes no memory.
+    pub fn settle(&mut self)
         ensures { self.new ≡ self.old }
     {
-        self.routes.chose(routed);
+        self.turns.clear();
+    }
+
+    /// The step is taken back, and so are the turns that groups took in it. Takes no memory.
+    pub fn take_back(&mut self)
+        ensures { self.new ≡ self.old }
+    {
+        for routed in self.turns.iter().rev() {
+            self.routes.forgo(routed);
+        }
+        self.settle();
+    }
+
+    /// An index that is made anew in place of another goes on with the turns of its groups. Takes no memory.
+    pub fn keep_turns(&mut self, other: &Index)
+        ensures { self.new ≡ self.old }
+    {
+        self.routes.keep_turns(&other.routes);
     }
 }
 
@@ -194,10 +227,14 @@ impl Index {
     {
         match accepted(alloc, step, message, &routed) {
             Ok(copies) => {
-                self.chose(&routed);
                 let wanted = routed.has_takers();
-                drop(routed);
-                Ok(Routing::Accepted { copies, wanted })
+                match self.chose(routed) {
+                    Ok(()) => Ok(Routing::Accepted { copies, wanted }),
+                    Err(fault) => {
+                        drop(copies);
+                        Err(fault)
+                    }
+                }
             }
             Err(fault) => {
                 drop(routed);

@@ -6,6 +6,17 @@ use crate::copy::RoutedCopy;
 use mqtt_base::Text;
 use std::marker::Model;
 
+/// The turn that a group took; without members where nobody was chosen.
+#[derive(Drop)]
+pub(crate) struct Turn {
+    /// The births of the group's members, each of which notes it.
+    pub(crate) members: Vec<u64>,
+    /// The place of the member that was chosen before; 0 for none.
+    pub(crate) before: u64,
+    /// The place of the chosen member; 0 for none.
+    pub(crate) chosen: u64,
+}
+
 /// What becomes of a group of shared subscriptions.
 #[derive(Drop)]
 pub struct Served {
@@ -14,8 +25,7 @@ pub struct Served {
     /// NAME/FILTER.
     pub(crate) group: Text,
     pub(crate) copy: Option<RoutedCopy>,
-    /// The place of the chosen member; 0 where there is none.
-    pub(crate) turn: u64,
+    pub(crate) turn: Turn,
 }
 
 impl Model for Served {

@@ -166,11 +166,32 @@ impl<M: Drop> Routes<M> {
         ensures { self.new ≡ self.old }
     {
         for served in &routed.served {
-            if served.copy().is_some() {
-                self.subscribers
-                    .note_turn(served.filter.as_str(), served.turn);
-            }
+            let turn = &served.turn;
+            let filter = served.filter.as_str();
+            self.subscribers
+                .note_turn(filter, turn.members.as_slice(), turn.chosen);
         }
+    }
+
+    /// Takes back what `chose` noted of a publication, the last one of which it was noted: it isn't
+    /// accepted after all. Takes no memory.
+    pub fn forgo(&mut self, routed: &Routed)
+        ensures { self.new ≡ self.old }
+    {
+        for served in &routed.served {
+            let turn = &served.turn;
+            let filter = served.filter.as_str();
+            self.subscribers
+                .note_turn(filter, turn.members.as_slice(), turn.before);
+        }
+    }
+
+    /// Notes of its groups which members those of another table chose last: it is made anew in that
+    /// one's place. Takes no memory.
+    pub fn keep_turns(&mut self, other: &Routes<M>)
+        ensures { self.new ≡ self.old }
+    {
+        self.subscribers.keep_turns(&other.subscribers);
     }
 
     /// Makes room for retained messages of topics, so that `retain` of each takes no memory. Its only

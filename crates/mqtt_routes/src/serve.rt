@@ -10,7 +10,7 @@ use crate::copy::RoutedCopy;
 use crate::fault::RoutesFault;
 use crate::member::Member;
 use crate::publication::Publication;
-use crate::routed::Served;
+use crate::routed::{Served, Turn};
 use mqtt_base::{Qos, Text};
 use std::alloc::Global;
 
@@ -244,23 +244,44 @@ fn group_text(alloc: Global, whole: &Text) -> Result<Text, RoutesFault>
     Ok(Text::new(alloc, group)?)
 }
 
-/// What becomes of a group, with its texts.
+/// The births of the members of a group.
+fn births_in(alloc: Global, filter: &str, members: &[Member<'_>]) -> Result<Vec<u64>, RoutesFault>
+    ensures fault { IfErr result (λ fault. fault ≡ RoutesFault.Memory) }
+{
+    let mut births = Vec::new(alloc);
+    for member in members {
+        let row = member.row;
+        if row.subscription.filter.as_str() == filter {
+            births.push(member.birth)?;
+        }
+    }
+    Ok(births)
+}
+
+/// What becomes of a group, with its texts and the turn that it took.
 fn served(
     alloc: Global,
     whole: &Text,
     copy: Option<RoutedCopy>,
-    turn: u64,
+    members: &[Member<'_>],
+    before: u64,
+    chosen: u64,
 ) -> Result<Served, RoutesFault>
     ensures served { IfOk result (λ one. one ≡ served_by whole.now copy) }
     ensures fault { IfErr result (λ fault. fault ≡ RoutesFault.Memory) }
 {
     let group = group_text(alloc, whole)?;
     let filter = whole.clone()?;
+    let members = births_in(alloc, whole.as_str(), members)?;
     Ok(Served {
         filter,
         group,
         copy,
-        turn,
+        turn: Turn {
+            members,
+            before,
+            chosen,
+        },
     })
 }
 
@@ -285,12 +306,13 @@ fn serve_one<S: Sessions>(
         if group_needs_room(publication, filter, members) {
             return Err(RoutesFault::Full);
         }
-        return served(alloc, whole, None, 0);
+        return served(alloc, whole, None, &[], 0, 0);
     };
     let member = &members[i];
     let copy = shared_copy(alloc, publication, member)?;
     let row = member.row;
-    served(alloc, whole, Some(copy), row.subscription.place)
+    let chosen = row.subscription.place;
+    served(alloc, whole, Some(copy), members, turn, chosen)
 }
 
 /// Serves the groups in the order of their oldest members.

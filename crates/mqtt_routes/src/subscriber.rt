@@ -186,4 +186,13 @@ impl Subscriptions {
             row.turn.set(turn);
         }
     }
+
+    /// Notes which members the groups of another table chose last. Takes no memory.
+    pub(crate) fn keep_turns(&self, other: &Subscriptions) {
+        for row in other.rows.as_slice() {
+            if row.subscription.filter.is_shared() {
+                self.note_turn(row.subscription.filter.as_str(), row.turn.get());
+            }
+        }
+    }
 }

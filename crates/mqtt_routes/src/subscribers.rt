@@ -242,10 +242,25 @@ impl Subscribers {
         Ok(found)
     }
 
-    /// Notes which member a group, named by its filter, chose last. Takes no memory.
-    pub(crate) fn note_turn(&self, filter: &str, turn: u64) {
-        for subscriptions in self.sessions.values() {
-            subscriptions.note_turn(filter, turn);
+    /// Notes which member a group, named by its filter and the births of its members, chose last.
+    /// Takes no memory.
+    pub(crate) fn note_turn(&self, filter: &str, members: &[u64], turn: u64) {
+        for birth in members {
+            if let Some(subscriptions) = self.sessions.get(birth) {
+                subscriptions.note_turn(filter, turn);
+            }
+        }
+    }
+
+    /// Notes which members the groups of another table chose last. Takes no memory.
+    pub(crate) fn keep_turns(&self, other: &Subscribers) {
+        for birth in other.sessions.keys().as_slice() {
+            if let (Some(own), Some(others)) = (
+                self.sessions.get(birth),
+                other.sessions.get(birth),
+            ) {
+                own.keep_turns(others);
+            }
         }
     }
 }

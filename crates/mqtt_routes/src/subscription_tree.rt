@@ -199,8 +199,14 @@ impl SubscriptionTree {
         self.subscribers.members(publication, births)
     }
 
-    /// Notes which member a group, named by its filter, chose last. Takes no memory.
-    pub(crate) fn note_turn(&self, filter: &str, turn: u64) {
-        self.subscribers.note_turn(filter, turn);
+    /// Notes which member a group, named by its filter and the births of its members, chose last.
+    /// Takes no memory.
+    pub(crate) fn note_turn(&self, filter: &str, members: &[u64], turn: u64) {
+        self.subscribers.note_turn(filter, members, turn);
+    }
+
+    /// Notes which members the groups of another table chose last. Takes no memory.
+    pub(crate) fn keep_turns(&self, other: &SubscriptionTree) {
+        self.subscribers.keep_turns(&other.subscribers);
     }
 }

@@ -149,6 +149,21 @@ impl Bed {
         Ok(answer)
     }
 
+    /// The same, with the turns that were noted taken back.
+    pub(crate) fn forgo(&mut self, qos: u8, world: &World) -> Result<Seen, RoutesFault> {
+        let routed = self.routes.route("p", &self.topic, qos, true, world)?;
+        let answer = outline(&routed);
+        self.routes.chose(&routed);
+        self.routes.forgo(&routed);
+        drop(routed);
+        Ok(answer)
+    }
+
+    /// Goes on with the turns of another table.
+    pub(crate) fn keep_turns(&mut self, other: &Bed) {
+        self.routes.keep_turns(&other.routes);
+    }
+
     /// Puts a subscription without No Local and Retain As Published.
     pub(crate) fn subscribe(
         &mut self,

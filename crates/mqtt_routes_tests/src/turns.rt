@@ -120,3 +120,42 @@ fn a_turn_is_taken_by_acceptance_alone(rt: HostRuntime) -> Result<(), Fail> {
     drop(bed);
     done
 }
+
+/// A turn that is taken back comes again, after the one before it.
+fn take_back(rt: &impl Abort, alloc: Global, bed: &mut Bed) -> Result<(), Fail> {
+    subscribe_all(alloc, bed, 4, ONE)?;
+    assert_eq!(rt; bed.accept(2, &ALL)?.chosen[0], 3);
+    assert_eq!(rt; bed.forgo(2, &ALL)?.chosen[0], 4);
+    assert_eq!(rt; bed.accept(2, &ALL)?.chosen[0], 4);
+    assert_eq!(rt; bed.accept(2, &ALL)?.chosen[0], 3);
+    Ok(())
+}
+
+#[test]
+fn a_turn_that_is_taken_back_comes_again(rt: HostRuntime) -> Result<(), Fail> {
+    let mut bed = Bed::new(&rt)?;
+    let done = take_back(&rt, rt.alloc(), &mut bed);
+    drop(bed);
+    done
+}
+
+/// A table that is made anew goes on with the turns of the one before.
+fn go_on(rt: &impl Abort, alloc: Global, bed: &mut Bed, anew: &mut Bed) -> Result<(), Fail> {
+    subscribe_all(alloc, bed, 4, ONE)?;
+    subscribe_all(alloc, anew, 4, ONE)?;
+    assert_eq!(rt; bed.accept(2, &ALL)?.chosen[0], 3);
+    anew.keep_turns(bed);
+    assert_eq!(rt; anew.accept(2, &ALL)?.chosen[0], 4);
+    assert_eq!(rt; anew.accept(2, &ALL)?.chosen[0], 3);
+    Ok(())
+}
+
+#[test]
+fn a_table_made_anew_goes_on_with_the_turns(rt: HostRuntime) -> Result<(), Fail> {
+    let mut bed = Bed::new(&rt)?;
+    let mut anew = Bed::new(&rt)?;
+    let done = go_on(&rt, rt.alloc(), &mut bed, &mut anew);
+    drop(bed);
+    drop(anew);
+    done
+}

@@ -1,1 +1,2 @@
 pub mod Announcing
+pub mod Clock

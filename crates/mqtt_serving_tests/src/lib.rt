@@ -1,7 +1,9 @@
-//! Tests of `mqtt_serving` over its public calls: turns over clients in memory (MQTT 5.0, 4.2).
+//! Tests of `mqtt_serving` over its public calls: turns over clients in memory and at sockets (MQTT 5.0, 4.2).
 #![tactic(auto)]
 
 #[cfg(test)]
 mod clients;
+#[cfg(test)]
+mod sockets;
 #[cfg(test)]
 mod turns;

@@ -8,13 +8,14 @@ use std::process::Abort;
 use std::test::Fail;
 
 /// What each client that names itself is granted (3.2).
-const CONNACK: &[u8] = b"\x20\x0e\x00\x00\x0b\x21\x00\x14\x22\x00\x0a\x27\x00\x01\x00\x00";
+pub(crate) const CONNACK: &[u8] =
+    b"\x20\x0e\x00\x00\x0b\x21\x00\x14\x22\x00\x0a\x27\x00\x01\x00\x00";
 
 /// A CONNECT with Clean Start 1 by the client "a" (3.1).
 const CONNECT: Stage = (0, b"\x10\x0e\x00\x04MQTT\x05\x02\x00\x3c\x00\x00\x01a");
 
 /// By "s": CONNECT, and SUBSCRIBE to "a/b" at QoS 2; its answers to a PUBLISH and a PUBREL (3.8, 3.5, 3.7).
-const SUBSCRIBER: &[Stage] = &[
+pub(crate) const SUBSCRIBER: &[Stage] = &[
     (
         0,
         b"\x10\x0e\x00\x04MQTT\x05\x02\x00\x3c\x00\x00\x01s\x82\x09\x00\x01\x00\x00\x03a/b\x02",
@@ -24,18 +25,18 @@ const SUBSCRIBER: &[Stage] = &[
 ];
 
 /// By "p": CONNECT, then PUBLISH at QoS 2 and PUBREL (3.3, 3.6).
-const PUBLISHER: &[Stage] = &[
+pub(crate) const PUBLISHER: &[Stage] = &[
     (0, b"\x10\x0e\x00\x04MQTT\x05\x02\x00\x3c\x00\x00\x01p"),
     (16, b"\x34\x0a\x00\x03a/b\x00\x07\x00hi"),
     (20, b"\x62\x02\x00\x07"),
 ];
 
 /// SUBACK, PUBLISH and PUBREL behind the subscriber's CONNACK.
-const SUBSCRIBED: &[u8] =
+pub(crate) const SUBSCRIBED: &[u8] =
     b"\x90\x04\x00\x01\x00\x02\x34\x0a\x00\x03a/b\x00\x01\x00hi\x62\x02\x00\x01";
 
 /// PUBREC and PUBCOMP behind the publisher's.
-const PUBLISHED: &[u8] = b"\x50\x02\x00\x07\x70\x02\x00\x07";
+pub(crate) const PUBLISHED: &[u8] = b"\x50\x02\x00\x07\x70\x02\x00\x07";
 
 /// CONNECT and PINGREQ by "a" and by "b" (3.12).
 const PINGING: [&[Stage]; 2] = [
@@ -56,7 +57,7 @@ const PINGRESP: &[u8] = b"\xd0\x00";
 const NAMELESS: &[Stage] = &[(0, b"\x10\x0d\x00\x04MQTT\x05\x02\x00\x3c\x00\x00\x00")];
 
 /// What a broker may hold here.
-const LIMITS: Limits = Limits {
+pub(crate) const LIMITS: Limits = Limits {
     full: Full::Refuse,
     queue: 1000,
     sessions: 1000,
@@ -93,7 +94,7 @@ fn play(
 }
 
 /// Whether bytes are these two behind each other.
-fn are(bytes: &[u8], first: &[u8], second: &[u8]) -> bool {
+pub(crate) fn are(bytes: &[u8], first: &[u8], second: &[u8]) -> bool {
     match bytes.strip_prefix(first) {
         Some(rest) => rest == second,
         None => false,

@@ -1,5 +1,5 @@
 -- A copy enters when those that make way have left.
-use Rattle.std.proofs.Common.{◌≡◌, ℕ, suc, ◌+◌, ◌-◌, ◌<◌, ◌≤◌, Bool, true, false, arith, List, [], ◌∷◌, ◌++◌, length, map, refl, ap, sym, subst, ◌∙◌}
+use Rattle.std.proofs.Common.{◌≡◌, ℕ, zero, suc, ◌+◌, ◌-◌, ◌<◌, ◌≤◌, Bool, true, false, arith, List, [], ◌∷◌, ◌++◌, length, map, refl, ap, sym, subst, ◌∙◌}
 use Rattle.std.specs.Prelude.{Option, Some, None, IfSome, flat_map, option_map}
 use Rattle.std.proofs.lemmas.Bool.{lt-ltb}
 use Rattle.mqtt_base.specs.declared.limits.TheConstants.{QUEUE_LIMIT}
@@ -7,7 +7,7 @@ use Rattle.mqtt_flow.specs.declared.entry.Turn.{Turn}
 use Rattle.mqtt_flow.specs.declared.entry.Turn.TheVariants as turns
 use Rattle.mqtt_flow.specs.declared.entry.Entry.{Entry as FlowEntry}
 use Rattle.mqtt_flow.specs.declared.entry.QueueLimits.{QueueLimits}
-use Rattle.mqtt_flow.specs.Outbound.{KeptOut, has_room, staying, way_made}
+use Rattle.mqtt_flow.specs.Outbound.{KeptOut, dropped, has_room, staying, way_made}
 use Rattle.mqtt_inbound.specs.declared.fault.FlowFault.{FlowFault}
 use Rattle.mqtt_inbound.specs.declared.fault.FlowFault.TheVariants as faults
 use Rattle.mqtt_message.specs.declared.message.MessageCopy.{MessageCopy}
@@ -54,6 +54,18 @@ if_some None f p = p
 if_some (Some a) f p = f a p
 
 -- ---- way is made
+
+none_dropped : (k since : ℕ) (es : List FlowEntry) → k ≡ 0 → dropped k since es ≡ []
+none_dropped k since [] is = refl
+none_dropped zero since (e ∷ es) is = refl
+none_dropped (suc k) since (e ∷ es) is = absurd cc
+
+-- none where the queue is below its limit
+pub none_made : (limits : QueueLimits) (since : ℕ) (x : Session) → length x.queue < limits.queue
+    → way_made limits since (queue_on [] x) ≡ []
+none_made limits since x below =
+    none_dropped (length (queue_on [] x) + 1 - limits.queue) since (queue_on [] x)
+    (let same = length-mapped (entry_on []) x.queue in omega (arith, below, same))
 
 pub way_is : (line birth : ℕ) (env : Env) (ts : List Turn) (x : Session) (b : Broker) → session_at birth b.records ≡ Some x
     → ts ≡ way_made (queue_limits env) (since env x) (queue_on [] x) → takes_turns line birth ts b ≡ makes_way env birth b

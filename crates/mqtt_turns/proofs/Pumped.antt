@@ -7,7 +7,7 @@ use Rattle.mqtt_flow.specs.declared.entry.Entry.{Entry as FlowEntry}
 use Rattle.mqtt_flow.specs.declared.entry.Turn.{Turn}
 use Rattle.mqtt_flow.specs.declared.entry.Turn.TheVariants as turns
 use Rattle.mqtt_flow.specs.declared.entry.Way.{Way}
-use Rattle.mqtt_flow.specs.Outbound.{pump, expired, expired_at, dropped, dropped_at, gives_way, is_waiting, is_late, resumed_with, due_from}
+use Rattle.mqtt_flow.specs.Outbound.{pump, expired, expired_at, dropped, dropped_at, gives_way, is_waiting, is_late}
 use Rattle.mqtt_message.specs.Queue.{CopyRow}
 use Rattle.mqtt_rows.specs.Order.{row_at}
 use Rattle.mqtt_records.specs.declared.session.Session.{Session}

@@ -11,7 +11,7 @@ use Rattle.mqtt_records.specs.declared.session.Session.{Session}
 use Rattle.mqtt_records.specs.Session.{copy_place}
 use Rattle.mqtt_tables.specs.TheRules.Laws.{client_at}
 use Rattle.mqtt_tables.specs.TheRules.State.{Broker, session_at}
-use Rattle.mqtt_tables.specs.TheRules.Deeds.{Deed, Whose, At, Mark, Leave, On, Went, Send, whose, always, with_session, after, after_all}
+use Rattle.mqtt_tables.specs.TheRules.Deeds.{Deed, Whose, At, Mark, Leave, On, Went, Send, whose, always, with_session, after_all}
 use Rattle.mqtt_tables.specs.TheRules.Outbound.{of_entry, turn_deeds, all_turn_deeds}
 use Rattle.mqtt_tables.specs.TheRules.Packets.{publish_of, pubrel}
 use Rattle.mqtt_tables.proofs.TheRules.LookedUp.{client_at_part}

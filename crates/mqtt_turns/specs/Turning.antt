@@ -1,11 +1,10 @@
 -- Turns of a session as acts (MQTT 5.0, 4.3, 4.4, 4.6).
-use Rattle.std.specs.Prelude.{ℕ, Bool, true, false, List, []}
+use Rattle.std.specs.Prelude.{ℕ, Bool, true, false, List}
 use Rattle.mqtt_flow.specs.declared.entry.Turn.{Turn}
 use Rattle.mqtt_flow.specs.declared.entry.Turn.TheVariants.{Send, Resend, Release, Outgrow, Repeat, Unknown, Leave}
-use Rattle.mqtt_flow.specs.Outbound.{resumed_with}
 use Rattle.mqtt_tables.specs.TheRules.Deeds.{Act, always, of_session, with_line}
 use Rattle.mqtt_tables.specs.TheRules.Outbound.{turn_deeds, all_turn_deeds}
-use Rattle.mqtt_tables.specs.TheRules.State.{line_at, queue_on}
+use Rattle.mqtt_tables.specs.TheRules.State.{line_at}
 use Rattle.mqtt_tables.specs.TheRules.Step.{on_pump}
 use Rattle.mqtt_tables.specs.TheRules.Tick.{lapse_deeds}
 

@@ -105,7 +105,8 @@ fn of_memory(fault: FlowFault) -> StepFault
     }
 }
 
-/// The turns by which a session's queue makes way for a copy, where it has room for one.
+/// The turns by which a session's queue makes way for a copy, where it has room for one: none below its limit, where no
+/// copy is looked at.
 fn way_turns(alloc: Global, step: &Step, session: &Session) -> Result<Vec<Turn>, StepFault>
     requires { (choice : MemberChoice) → 0 < room (env_in choice step.now) session.now }
     ensures turns { (choice : MemberChoice) → IfOk result (λ turns. turns.items
@@ -115,10 +116,14 @@ fn way_turns(alloc: Global, step: &Step, session: &Session) -> Result<Vec<Turn>,
     ensures table { OnOk result (IsTable copy_place QUEUE_LIMIT session.now.queue) }
     ensures fault { IfErr result (λ fault. fault ≡ StepFault.Memory) }
 {
+    let sizes = step.limits();
+    let queue = session.queue.as_slice();
+    if queue.len() < sizes.queue as usize {
+        return Ok(Vec::new(alloc));
+    }
     let Some(since) = since(beginning(step), session) else {
         return Err(StepFault::Memory);
     };
-    let sizes = step.limits();
     let limits = QueueLimits {
         queue: sizes.queue as usize,
         full: sizes.full,

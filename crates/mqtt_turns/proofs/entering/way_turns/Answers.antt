@@ -1,12 +1,12 @@
-use Rattle.std.proofs.Common.{◌≡◌, ◌+◌, ◌-◌, [], length, map, ap, subst, sym, ◌∙◌}
+use Rattle.std.proofs.Common.{arith, ◌≡◌, ◌+◌, ◌-◌, [], length, map, ap, subst, sym, ◌∙◌}
 use Rattle.mqtt_flow.specs.Outbound.{has_room, way_made}
 use Rattle.mqtt_tables.proofs.TheRules.TurnLists.{drops_rise}
 use Rattle.mqtt_tables.proofs.TheRules.Turns.{Rises}
-use Rattle.mqtt_tables.specs.TheRules.Outbound.{since}
+use Rattle.mqtt_tables.specs.TheRules.Outbound.{queue_limits, since}
 use Rattle.mqtt_tables.specs.TheRules.State.{MemberChoice, queue_on}
 use Rattle.mqtt_tables.specs.Stepping.{env_in}
 use Rattle.mqtt_turns.specs.Queues.{entry_of}
-use Rattle.mqtt_turns.proofs.Entered.{few_rows, kept_memory, limits_of, room_found}
+use Rattle.mqtt_turns.proofs.Entered.{few_rows, kept_memory, limits_of, none_made, room_found}
 use Rattle.mqtt_turns.proofs.entering.way_turns.Goals as goal
 
 pub of_memory-requires : goal.of_memory-requires
@@ -46,3 +46,12 @@ returns-in-Ok-clause-table c = record {
   ascending = c.in_ok-rows.ensures.order;
   within = few_rows c.in_ok-rows.rows.items c.args.session.now c.in_ok-rows.ensures.rows c.in_ok-rows.ensures.few;
 }
+
+pub returns-then-queue-sizes-clause-turns : goal.returns-then-queue-sizes-clause-turns
+returns-then-queue-sizes-clause-turns c = λ choice.
+    let env = env_in choice c.args.step.now in
+    let x = c.args.session.now in
+    let rows = ap length c.as_slice-queue.ensures.rows in
+    let limit = ap (λ k. k.queue) c.limits-sizes.ensures in
+    let less = c.if-queue-sizes.true in
+    c.new.ensures.items ∙ sym (none_made (queue_limits env) (since env x) x (omega (arith, less, rows, limit)))

@@ -1,4 +1,4 @@
-use Rattle.std.proofs.Common.{◌≡◌, rules, ap, sym, subst, ◌∙◌, inl}
+use Rattle.std.proofs.Common.{◌≡◌, rules, ap, sym, subst, ◌∙◌}
 use Rattle.mqtt_lines.specs.TheRules.State.{Broker}
 use Rattle.mqtt_lines.specs.TheRules.Step.{at_moment}
 use Rattle.mqtt_lines.specs.Quiet.{AreQuietBefore}

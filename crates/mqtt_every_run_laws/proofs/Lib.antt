@@ -1,0 +1,16 @@
+pub mod Around
+pub mod Numbers
+pub mod Like
+pub mod Comings
+pub mod Outside
+pub mod Asking
+pub mod Strangers
+pub mod Joining
+pub mod Restarts
+pub mod Ticks
+pub mod Losses
+pub mod Replies
+pub mod OldReplies
+pub mod Standings
+pub mod Stops
+pub mod Pumping

@@ -1,0 +1,16 @@
+//! Laws of every run of the world, for what receivers are handed (MQTT 5.0, 4.3, 4.4).
+#![tactic(auto)]
+
+mod receiver_laws;
+mod standing_laws;
+
+pub use receiver_laws::{
+    a_receiver_that_stands_was_handed_its_copies_once, every_receiver_stands_in_a_new_world,
+};
+pub use standing_laws::{
+    a_lost_line_leaves_a_receiver_standing, a_new_line_leaves_a_receiver_standing,
+    a_restart_leaves_a_receiver_standing, a_stop_after_the_commit_leaves_a_receiver_standing,
+    a_tick_leaves_a_receiver_standing, an_answer_leaves_a_receiver_standing,
+    sending_leaves_a_receiver_standing, what_ends_do_leaves_a_receiver_standing,
+    what_is_asked_for_others_leaves_a_receiver_standing,
+};

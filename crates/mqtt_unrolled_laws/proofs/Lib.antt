@@ -1,0 +1,9 @@
+-- Strangers, their bytes, and what is answered.
+pub mod Strangers
+pub mod Answered
+pub mod Good
+pub mod Stopped
+pub mod Steps
+pub mod Alike
+pub mod Cutting
+pub mod Waiting

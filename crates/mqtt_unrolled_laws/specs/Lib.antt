@@ -1,0 +1,2 @@
+-- Events of several steps, as events of one step each.
+pub mod Unrolled
