@@ -26,7 +26,7 @@ use Rattle.mqtt_handed_laws.proofs.OwnDoings.{asks_awaiting, asks_in_step, comes
 use Rattle.mqtt_every_run_laws.specs.Standing.{GoesAlong, HasOthers, IsOtherPublisher, IsOtherReceiver, IsPlaced, IsSeen, StandsWith, line_like, publisher_like}
 use Rattle.mqtt_every_run_laws.proofs.Around.{changed_its, changed_not, end_others, on_back, on_line, others_kept, own_stands, unlined, whose_name}
 use Rattle.mqtt_every_run_laws.proofs.Like.{calm_up, closed_stands, connected_linked, joined_stands, moves_reading, none_stands, quiet_down, same_reading, seat_asked, seat_given, seat_read}
-use Rattle.mqtt_every_run_laws.proofs.Numbers.{place_of, places_number}
+use Rattle.mqtt_handed_laws.proofs.Numbers.{place_of, places_number}
 
 pub either : (a b : Bool) → (a || b) ≡ false → (a ≡ false) × (b ≡ false)
 either true b h = absurd cc

@@ -1,5 +1,4 @@
 pub mod Around
-pub mod Numbers
 pub mod Like
 pub mod Comings
 pub mod Outside

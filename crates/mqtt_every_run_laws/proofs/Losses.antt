@@ -37,7 +37,7 @@ use Rattle.mqtt_every_run_laws.specs.Standing.{GoesAlong, IsPast, IsPlaced, IsSe
 use Rattle.mqtt_every_run_laws.proofs.Around.{on_back, on_line, own_stands, whose_name}
 use Rattle.mqtt_every_run_laws.proofs.Asking.{other_breaks}
 use Rattle.mqtt_every_run_laws.proofs.Like.{former_as, told_like}
-use Rattle.mqtt_every_run_laws.proofs.Numbers.{place_of, places_number}
+use Rattle.mqtt_handed_laws.proofs.Numbers.{place_of, places_number}
 use Rattle.mqtt_every_run_laws.proofs.Outside.{calls_around, lines_of, listed, named_called, past_later}
 
 -- ---- it leaves a line that it hasn't

@@ -43,7 +43,7 @@ use Rattle.mqtt_every_run_laws.specs.Standing.{GoesAlong, IsAround, IsPlaced, Is
 use Rattle.mqtt_every_run_laws.proofs.Around.{changed_its, on_back, on_line, own_around}
 use Rattle.mqtt_every_run_laws.proofs.Like.{former_as, told_like}
 use Rattle.mqtt_every_run_laws.proofs.Losses.{none_named}
-use Rattle.mqtt_every_run_laws.proofs.Numbers.{place_of, places_number}
+use Rattle.mqtt_handed_laws.proofs.Numbers.{place_of, places_number}
 use Rattle.mqtt_every_run_laws.proofs.Outside.{calls_around, named_called, past_later}
 
 -- ---- the session and its line stay its own

@@ -15,7 +15,7 @@ use Rattle.mqtt_handed_laws.specs.Served.{IsTidy}
 use Rattle.mqtt_handed_laws.specs.Own.{RunsAlone}
 use Rattle.mqtt_handed_laws.proofs.Handed.{at_most_once, in_order, released_once}
 use Rattle.mqtt_every_run_laws.specs.Standing.{GoesAlong, IsOtherPublisher, IsOtherReceiver, IsOtherStranger, IsSeen, Stands, StandsWith}
-use Rattle.mqtt_every_run_laws.proofs.Numbers.{place_of, places_number}
+use Rattle.mqtt_handed_laws.proofs.Numbers.{place_of, places_number}
 use Rattle.mqtt_rows.specs.Distinct.{AllDiffer}
 use Rattle.mqtt_rules.specs.State.{Broker}
 
