@@ -37,14 +37,14 @@ use Rattle.mqtt_handed_laws.proofs.OwnDoings.{keeps_reading}
 use Rattle.mqtt_handed_laws.proofs.RoundFurther.{drain_empties, round_run, rounds_within, two_each}
 use Rattle.mqtt_handed_laws.proofs.Stopping.{step_tidy}
 use Rattle.mqtt_handed_laws.proofs.Turns.{same_entries}
-use Rattle.mqtt_handed_laws.proofs.WorldRoundLines.{HasSame, step_now}
+use Rattle.mqtt_handed_laws.proofs.WorldRoundLines.{HasSame, moment_again, step_now}
 use Rattle.mqtt_handed_laws.proofs.WorldRoundWishes.{wish_at}
 use Rattle.mqtt_handed_laws.proofs.WorldRoundReads.{Grows, all_read, reads_at}
 use Rattle.mqtt_handed_laws.proofs.WorldRoundSteps.{At, answer_at, hop_linked, listens_now, pump_at, pump_same, pump_up}
 
 -- ---- who is found by the name, where one is changed
 
-none_changed : {X : Type 0} (test : X → Bool) (f : X → X) (xs : List X) → find test xs ≡ None → find test (map (λ (x : X). cond (test x) (f x) x) xs) ≡ None
+pub none_changed : {X : Type 0} (test : X → Bool) (f : X → X) (xs : List X) → find test xs ≡ None → find test (map (λ (x : X). cond (test x) (f x) x) xs) ≡ None
 none_changed test f [] e = refl
 none_changed test f (x ∷ xs) e = elim (cases_Bool (test x)) [
   | inl its ↦ let found : Some x ≡ None = rw its at e in absurd cc
@@ -93,16 +93,16 @@ module _ (limits : Limits) (choice : MemberChoice) (client : List ℕ) where
   abbrev set : Setting
   set = record { limits = limits; choice = choice }
 
-  pump_is : (w : World) (r : Receiver) (n : ℕ) → receiver_named client w ≡ Some r → publisher_named client w ≡ None → r.line.number ≡ Some n → turned limits (turn_of choice (ask (pump client))) w ≡ calls set (Pump n) w
+  pub pump_is : (w : World) (r : Receiver) (n : ℕ) → receiver_named client w ≡ Some r → publisher_named client w ≡ None → r.line.number ≡ Some n → turned limits (turn_of choice (ask (pump client))) w ≡ calls set (Pump n) w
   pump_is w r n named alone number = rw (named, alone, number) refl
 
   reading_is : (w : World) (r : Receiver) → receiver_named client w ≡ Some r → publisher_named client w ≡ None → turned limits (turn_of choice (to_end client)) w ≡ end_reads client w
   reading_is w r named alone = rw (named, alone) refl
 
-  abbrev taken_off : World → World
+  abbrev pub taken_off : World → World
   taken_off w = with_line client taken_up taken_up w
 
-  back_is : (w : World) (r : Receiver) (n : ℕ) (u : Back) (rest : List Back) → receiver_named client w ≡ Some r → publisher_named client w ≡ None → r.line.number ≡ Some n → r.line.up ≡ u ∷ rest
+  pub back_is : (w : World) (r : Receiver) (n : ℕ) (u : Back) (rest : List Back) → receiver_named client w ≡ Some r → publisher_named client w ≡ None → r.line.number ≡ Some n → r.line.up ≡ u ∷ rest
       → turned limits (turn_of choice (ask (to_broker client))) w ≡ calls set (Input n (wire_back r.client r.window u)) (taken_off w)
   back_is w r n u rest named alone number up = rw (named, alone, number, up) refl
 
@@ -308,9 +308,6 @@ module _ (limits : Limits) (choice : MemberChoice) (client : List ℕ) where
 
 -- ---- the moment stands
 
-moment_again : (a c : ℕ) → max (max a c) c ≡ max a c
-moment_again a c = omega arith
-
 moment_if : (s : Setting) (o : Option Call) (w : World) → moment_of (calls_if s o w) ≡ moment_of w
 moment_if s None w = refl
 moment_if s (Some call) w =
@@ -341,7 +338,7 @@ module _ (limits : Limits) (choice : MemberChoice) (client : List ℕ) where
   times_moment e keeps zero w = refl
   times_moment e keeps (suc k) w = times_moment e keeps k (turned limits (turn_of choice e) w) ∙ keeps w
 
-  round_moment : (w : World) → moment_of (after_round limits choice client w) ≡ moment_of w
+  pub round_moment : (w : World) → moment_of (after_round limits choice client w) ≡ moment_of w
   round_moment w =
       let sent = run limits (turn_of choice (ask (pump client)) ∷ []) w in
       let ends = all_to_end choice client sent in
