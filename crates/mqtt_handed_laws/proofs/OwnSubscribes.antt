@@ -317,18 +317,25 @@ module _ (largest : ℕ) (env : Env) (small : env.limits.queue ≤ QUEUE_LIMIT) 
       let last : session_at birth (after_all ds b).records ≡ Some e.mine = ap (λ (j : ℕ). session_at j (after_all ds b).records) (sym is) ∙ e.found in
       let stays = e.stays in
       subst (λ (zs : List Deed). Grows zs n 1 (more ++ d.copy.id ∷ []) b) (sym deeds_are) (record {
-        going = record { served = served; queues = made.1; session = e.mine; found = last; runs = entered_runs largest env small r birth ns ids has d.copy s b more queued (omega (arith, all)) is own_at served k.runs; lots = λ number copies numbered first same.
-            let both : AreNumbered number ((ids ++ more) ++ d.copy.id ∷ []) = subst (AreNumbered number) (sym (append_assoc ids more (d.copy.id ∷ []))) numbered in
-            let before = numbered_front number (ids ++ more) (d.copy.id ∷ []) both in
-            let x = k.lots number copies before first same in
-            let receiving = session_is largest birth (ids ++ more) ns number r s b k.served own_at client (k.runs number before) in
-            let y = entered_with largest env small r birth ns ids has d.copy s b (ids ++ more) number x.after queued (omega (arith, all)) x.same both x.run_is receiving in
-            record {
-              after = y.after;
-              same = y.same ∙ (ap (λ (cs : List CopyId). cs ++ d.copy.id ∷ []) x.same ∙ append_assoc ids more (d.copy.id ∷ []));
-              run_is = y.run_is;
-              way = λ j. way_trans (slice_get copies j) (slice_get x.after j) (slice_get y.after j) (x.way j) (y.way j);
-            } };
+        going = record {
+          served = served;
+          queues = made.1;
+          session = e.mine;
+          found = last;
+          runs = entered_runs largest env small r birth ns ids has d.copy s b more queued (omega (arith, all)) is own_at served k.runs;
+          lots = λ number copies numbered first same.
+              let both : AreNumbered number ((ids ++ more) ++ d.copy.id ∷ []) = subst (AreNumbered number) (sym (append_assoc ids more (d.copy.id ∷ []))) numbered in
+              let before = numbered_front number (ids ++ more) (d.copy.id ∷ []) both in
+              let x = k.lots number copies before first same in
+              let receiving = session_is largest birth (ids ++ more) ns number r s b k.served own_at client (k.runs number before) in
+              let y = entered_with largest env small r birth ns ids has d.copy s b (ids ++ more) number x.after queued (omega (arith, all)) x.same both x.run_is receiving in
+              record {
+                after = y.after;
+                same = y.same ∙ (ap (λ (cs : List CopyId). cs ++ d.copy.id ∷ []) x.same ∙ append_assoc ids more (d.copy.id ∷ []));
+                run_is = y.run_is;
+                way = λ j. way_trans (slice_get copies j) (slice_get x.after j) (slice_get y.after j) (x.way j) (y.way j);
+              };
+        };
         longer = λ most h.
             let one : most + 1 ≡ suc most = omega arith in
             subst (λ (k : ℕ). IsUpTo birth k (after_all ds b)) (sym one) (entered_upto birth most env d.copy s b h);

@@ -1,5 +1,5 @@
 -- What a receiver sees is the same, however its copies are numbered: each tag names one that entered.
-use Rattle.std.proofs.Common.{◌≡◌, ℕ, List, [], ◌∷◌, map, Option, Some, None, slice_get, refl, sym, ap, subst, ◌∙◌}
+use Rattle.std.proofs.Common.{◌≡◌, ℕ, true, false, List, [], ◌∷◌, map, Option, Some, None, slice_get, refl, sym, ap, subst, ◌∙◌}
 use Rattle.std.specs.Prelude.{filter_map}
 use Rattle.std.specs.List.{AllByRecursion}
 use Rattle.mqtt_base.specs.declared.session.CopyId.{CopyId}
@@ -9,13 +9,13 @@ use Rattle.mqtt_codec.specs.declared.publish.Delivery.{Delivery}
 use Rattle.mqtt_codec.specs.declared.publish.Delivery.TheVariants as delivery
 use Rattle.mqtt_codec.specs.declared.publish.Publish.{Publish as Publication}
 use Rattle.mqtt_flow.specs.OutboundWorld.{Lot}
-use Rattle.mqtt_flow.specs.Receiver.{Handed, Output, publish}
+use Rattle.mqtt_flow.specs.Receiver.{publish}
 use Rattle.mqtt_laws.specs.Ends.{Entry, Receiver, body_of}
 use Rattle.mqtt_laws.specs.Lines.{Down}
 use Rattle.mqtt_rules.specs.State.{Broker}
 use Rattle.mqtt_handed_laws.specs.Handing.{IsRun}
 use Rattle.mqtt_handed_laws.specs.Seen.{Numbering, handed_in, heard, heard_in, number_of, publish_heard, seen}
-use Rattle.mqtt_handed_laws.specs.Tags.{AreNumbered, AreTagged, IsTagged, IsTaggedBy, IsTaggedWith, Names, WasTagged, id_of}
+use Rattle.mqtt_handed_laws.specs.Tags.{AreNumbered, IsTagged, IsTaggedBy, IsTaggedWith, Names, WasTagged, id_of}
 
 module _ (number other : Numbering) (ids : List CopyId) (numbered : AreNumbered other ids) where
   same_number : (o : Option CopyId) → Names number ids o → number_of other o ≡ number_of number o
