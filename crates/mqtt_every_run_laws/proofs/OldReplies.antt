@@ -24,24 +24,25 @@ use Rattle.mqtt_world_laws.specs.Spending.{spending}
 use Rattle.mqtt_handed_laws.specs.Calls.{IsLingering, reads_old_answer, turned_back}
 use Rattle.mqtt_handed_laws.specs.Handing.{after_answer}
 use Rattle.mqtt_handed_laws.specs.Own.{IsInStep, Listens}
+use Rattle.mqtt_handed_laws.proofs.Apart.{apart_still}
 use Rattle.mqtt_handed_laws.proofs.Listening.{lingers_in_step}
 use Rattle.mqtt_handed_laws.proofs.OwnCalls.{old_puback_in_step, old_pubcomp_in_step, old_pubrec_in_step}
 use Rattle.mqtt_every_run_laws.specs.Standing.{GoesAlong, IsAround, IsPlaced, IsSeen, Stands, line_like, packet_like, publisher_like}
 use Rattle.mqtt_every_run_laws.proofs.Around.{changed_its, on_back, on_line, own_around}
 use Rattle.mqtt_every_run_laws.proofs.Like.{told_like}
-use Rattle.mqtt_every_run_laws.proofs.Outside.{calls_around, named_called, past_later}
+use Rattle.mqtt_every_run_laws.proofs.Outside.{calls_around, named_called}
 use Rattle.mqtt_every_run_laws.proofs.Replies.{answer_owns, named_there, no_connect_up, some_up}
 use Rattle.mqtt_laws.specs.Hops.{IsNoConnect}
 
 -- ---- a packet is taken off that line
 
-present_taken : (o : Option ℕ) (k : ℕ) (r : Receiver) (b : Broker) → Present o k (line_like r.line) b → Present o k (line_like (taken_old r.line)) b
+pub present_taken : (o : Option ℕ) (k : ℕ) (r : Receiver) (b : Broker) → Present o k (line_like r.line) b → Present o k (line_like (taken_old r.line)) b
 present_taken o k r b (absent none up) = absent none up
 present_taken o k r b (waiting n clean is link_is clean_is up down idle there) = waiting n clean is link_is clean_is up down idle there
 present_taken o k r b (closed n is up idle none) = closed n is up idle none
 present_taken o k r b (joined birth own is there) = joined birth own is there
 
-calm_drop : (xs : List Back) → AllByRecursion IsNoConnect (map packet_like xs) → AllByRecursion IsNoConnect (map packet_like (drop 1 xs))
+pub calm_drop : (xs : List Back) → AllByRecursion IsNoConnect (map packet_like xs) → AllByRecursion IsNoConnect (map packet_like (drop 1 xs))
 calm_drop [] h = tt
 calm_drop (x ∷ xs) h = h.1
 
@@ -97,15 +98,14 @@ read_placed largest ids ns limits choice now n x rest r b placed steady is none 
           line = placed.line;
           along = after_;
           seat = record {
-            his = (owns, named_there largest ids birth ns (reads_old_answer limits choice now l.number x r b) new after_ placed.differ);
+            his = (owns, named_there largest ids birth ns (reads_old_answer limits choice now l.number x r b) new after_ placed.told.differ);
             present = subst (λ (z : Line Sent). Present (Some birth) placed.line z new) line_is present;
             former = subst (λ (z : Line Sent). Former (Some birth) placed.line z new) line_is former;
           };
           its_line = placed.its_line;
           apart = λ m e f. placed.apart m e f;
           named = placed.named;
-          differ = placed.differ;
-          past = past_later b.records.publications new.records.publications ids ((step_fell limits choice now call b).1) placed.past;
+          told = apart_still ids b.records new.records placed.told (step_fell limits choice now call b);
         } in
         subst Goal (number ∙ same) result
 

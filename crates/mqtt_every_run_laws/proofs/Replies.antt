@@ -37,6 +37,7 @@ use Rattle.mqtt_world_laws.specs.Fair.{IsSteady}
 use Rattle.mqtt_world_laws.specs.Spending.{spending}
 use Rattle.mqtt_handed_laws.specs.Handing.{IsListening, after_answer, reads_answer}
 use Rattle.mqtt_handed_laws.specs.Own.{IsInStep, Listens}
+use Rattle.mqtt_handed_laws.proofs.Apart.{apart_still}
 use Rattle.mqtt_handed_laws.proofs.Listening.{listens_in_step}
 use Rattle.mqtt_handed_laws.proofs.OwnCalls.{puback_in_step, pubcomp_in_step, pubrec_in_step}
 use Rattle.mqtt_every_run_laws.specs.Standing.{GoesAlong, IsAround, IsPlaced, IsSeen, Stands, line_like, packet_like, publisher_like}
@@ -44,7 +45,7 @@ use Rattle.mqtt_every_run_laws.proofs.Around.{changed_its, on_back, on_line, own
 use Rattle.mqtt_every_run_laws.proofs.Like.{former_as, told_like}
 use Rattle.mqtt_every_run_laws.proofs.Losses.{none_named}
 use Rattle.mqtt_handed_laws.proofs.Numbers.{place_of, places_number}
-use Rattle.mqtt_every_run_laws.proofs.Outside.{calls_around, named_called, past_later}
+use Rattle.mqtt_every_run_laws.proofs.Outside.{calls_around, named_called}
 
 -- ---- the session and its line stay its own
 
@@ -67,19 +68,22 @@ module _ (client : List ℕ) (birth n : ℕ) where
   mine_answer env (Ok (Some t)) r l s b c a at = mine_turn c.now l.number s t
   mine_answer env (Err fault) r l s b c a at = subst (AreMine client birth n) (sym (drop_is env protocol_error l s c at a.connected a.no_will a.no_end)) (inr tt, (inr tt, (inr tt, tt)))
 
+  -- whatever packet it is whose deeds keep them so
+  pub packet_owns : (limits : Limits) (choice : MemberChoice) (now : ℕ) (packet : Packet) (r : Receiver) (l : BrokerLine) (s : Session) (b : Broker) → IsListening r l s b
+      → AreMine client birth n (next_packet (env_of limits choice b) l packet s (heard_of now l.number b)) → Own client birth n b → Own client birth n (stepped limits choice now (Input l.number packet) b)
+  packet_owns limits choice now packet r l s b a mine own =
+      let first = at_moment now b in
+      let ds = deeds limits choice now (Input l.number packet) b in
+      let next = next_packet (env_of limits choice b) l packet s (heard_of now l.number b) in
+      let all : AreMine client birth n ds = subst (AreMine client birth n) (sym (input_is limits choice now packet l s b a.line a.connected a.session)) (inl (inl tt), mine_append client birth n next [] mine tt) in
+      let o : Own client birth n first = record { sessions = own.sessions; lines = own.lines; births = own.births; given = own.given } in
+      own_done client birth n (rows_of_all ds first.records) (after_all ds first) (mine_owns client birth n ds first all o)
+
   pub answer_owns : (limits : Limits) (choice : MemberChoice) (now : ℕ) (packet : Packet) (x : rules.Answer) (r : Receiver) (l : BrokerLine) (s : Session) (b : Broker) → IsListening r l s b
       → next_packet (env_of limits choice b) l packet s (heard_of now l.number b) ≡ on_answer x (env_of limits choice b) l s (heard_of now l.number b)
       → Own client birth n b → Own client birth n (stepped limits choice now (Input l.number packet) b)
   answer_owns limits choice now packet x r l s b a e own =
-      let env = env_of limits choice b in
-      let first = at_moment now b in
-      let c = heard_of now l.number b in
-      let ds = deeds limits choice now (Input l.number packet) b in
-      let next = next_packet env l packet s c in
-      let mine : AreMine client birth n next = subst (AreMine client birth n) (sym e) (mine_answer env x r l s b c a a.session) in
-      let all : AreMine client birth n ds = subst (AreMine client birth n) (sym (input_is limits choice now packet l s b a.line a.connected a.session)) (inl (inl tt), mine_append client birth n next [] mine tt) in
-      let o : Own client birth n first = record { sessions = own.sessions; lines = own.lines; births = own.births; given = own.given } in
-      own_done client birth n (rows_of_all ds first.records) (after_all ds first) (mine_owns client birth n ds first all o)
+      packet_owns limits choice now packet r l s b a (subst (AreMine client birth n) (sym e) (mine_answer (env_of limits choice b) x r l s b (heard_of now l.number b) a a.session)) own
 
 -- ---- what is under way there
 
@@ -159,15 +163,14 @@ read_placed largest ids ns limits choice now n x rest r b placed steady is none 
           line = placed.line;
           along = after_;
           seat = record {
-            his = (owns, named_there largest ids birth ns (reads_answer limits choice now l.number x r b) new after_ placed.differ);
+            his = (owns, named_there largest ids birth ns (reads_answer limits choice now l.number x r b) new after_ placed.told.differ);
             present = subst (λ (z : Line Sent). Present (Some birth) placed.line z new) line_is present;
             former = subst (λ (z : Line Sent). Former (Some birth) placed.line z new) line_is former;
           };
           its_line = placed.its_line;
           apart = λ m e f. placed.apart m e f;
           named = placed.named;
-          differ = placed.differ;
-          past = past_later b.records.publications new.records.publications ids ((step_fell limits choice now call b).1) placed.past;
+          told = apart_still ids b.records new.records placed.told (step_fell limits choice now call b);
         } in
         subst Goal (number ∙ same) result
 
