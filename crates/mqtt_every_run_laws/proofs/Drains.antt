@@ -1,6 +1,6 @@
 -- After one round of a drain nothing is under way from a receiver, whatever was: its line is closed, or the receiver may be
 -- drained (MQTT 5.0, 4.3, 4.4, 4.6).
-use Rattle.std.proofs.Common.{◌≡◌, ℕ, zero, suc, ◌+◌, ◌*◌, ◌≤◌, Bool, true, false, cond, not, ◌||◌, ◌&&◌, ◌⊎◌, List, [], ◌∷◌, ◌++◌, map, length, Option, Some, None, bytes_eq, refl, sym, ap, subst, ◌∙◌, arith, inl, inr}
+use Rattle.std.proofs.Common.{◌≡◌, ℕ, zero, suc, ◌+◌, ◌*◌, ◌≤◌, Bool, true, false, cond, not, ◌||◌, ◌⊎◌, List, [], ◌∷◌, ◌++◌, map, length, Option, Some, None, bytes_eq, refl, sym, ap, subst, ◌∙◌, arith, inl, inr}
 use Rattle.std.specs.Prelude.{drop, is_some, option_map}
 use Rattle.std.specs.List.{AllByRecursion}
 use Rattle.mqtt_base.specs.declared.session.CopyId.{CopyId}
@@ -17,7 +17,8 @@ use Rattle.mqtt_rules.specs.State.{Line as BrokerLine, Broker, MemberChoice, lin
 use Rattle.mqtt_rules.specs.Step.{Call, stepped, told}
 use Rattle.mqtt_rules.specs.declared.Limits.{Limits}
 use Rattle.mqtt_world_laws.proofs.Ends.{find_receiver, only_receiver}
-use Rattle.mqtt_handed_laws.specs.Drains.{after_round, all_to_broker, all_to_end, copies_left, count_by_end, drain_by, drain_turns, drained, enough_rounds, is_none_left, is_over, line_stands, round_turns, rounds_taken, times, turn_of, ups_by}
+use Rattle.mqtt_world_laws.proofs.Runs.{both_true}
+use Rattle.mqtt_handed_laws.specs.Drains.{after_round, all_to_broker, all_to_end, copies_left, count_by_end, downs_by, drain_by, drain_turns, drained, enough_rounds, is_none_left, is_over, line_stands, round_turns, rounds_taken, times, turn_of, ups_by}
 use Rattle.mqtt_handed_laws.specs.WorldRounds.{IsAnswer, MayDrain}
 use Rattle.mqtt_handed_laws.proofs.DrainRuns.{run_append}
 use Rattle.mqtt_handed_laws.proofs.WorldRounds.{drain_over_later, drain_within_later}
@@ -45,14 +46,14 @@ none_up (x ∷ xs) h = let le : suc (length xs) ≤ 0 = h in absurd (omega (arit
 -- ---- the broker reads all
 
 module _ (c : List ℕ) (limits : Limits) (choice : MemberChoice) where
-  set : Setting
+  abbrev set : Setting
   set = record { limits = limits; choice = choice }
 
-  reads_one : Turn
+  abbrev reads_one : Turn
   reads_one = turn_of choice (ask (to_broker c))
 
   module _ (w : World) where
-    taken : World
+    abbrev taken : World
     taken = record w {
       publishers = map (λ p. cond (bytes_eq p.client c) (record p { line = taken_up p.line }) p) w.publishers;
       receivers = map (λ r. cond (bytes_eq r.client c) (on_back taken_up r) r) w.receivers;
@@ -102,10 +103,10 @@ module _ (c : List ℕ) (limits : Limits) (choice : MemberChoice) where
           none false q is = let clash : None ≡ Some q = sym e ∙ is in absurd cc
       by (Some r) e = subst (λ (t : Bool). HasUp c n (cond (not t) w (asks set (to_broker c) w))) (sym (there_is w r e)) (λ q is.
           let x = its_read w r e in
-          let both : Some x.0 ≡ Some q = sym x.2.0 ∙ is in
+          let both : Some x.0 ≡ Some q = sym x.1 ∙ is in
           let same : x.0 ≡ q = cc in
           let less = one_less n r.line.up (h r e) in
-          let up = x.2.1 in
+          let up = x.2 in
           subst (λ (z : Receiver). length z.line.up ≤ n) same (omega (arith, less, up)))
 
   all_read : (n : ℕ) (w : World) → HasUp c n w → HasUp c 0 (run limits (times n reads_one) w)
@@ -130,18 +131,16 @@ module _ (c : List ℕ) (limits : Limits) (choice : MemberChoice) where
 
   carried_append : (xs ys : List Turn) (w : World) → are_clean_starts_carried limits xs w ≡ true → are_clean_starts_carried limits ys (run limits xs w) ≡ true → are_clean_starts_carried limits (xs ++ ys) w ≡ true
   carried_append [] ys w h k = k
-  carried_append (t ∷ xs) ys w h k = by (carries_clean t.event w) h
-    where
-      by : (b : Bool) → (b && are_clean_starts_carried limits xs (turned limits t w)) ≡ true → (b && are_clean_starts_carried limits (xs ++ ys) (turned limits t w)) ≡ true
-      by true g = carried_append xs ys (turned limits t w) g k
-      by false g = absurd cc
+  carried_append (t ∷ xs) ys w h k =
+      let both = both_true (carries_clean t.event w) (are_clean_starts_carried limits xs (turned limits t w)) h in
+      rw both.0 (carried_append xs ys (turned limits t w) both.1 k)
 
   pub round_carried : (w : World) → are_clean_starts_carried limits (round_turns limits choice c w) w ≡ true
   round_carried w =
       let sent = turned limits (turn_of choice (ask (pump c))) w in
       let reads = all_to_end choice c sent in
       let read_ = run limits reads sent in
-      carried_append reads (all_to_broker choice c read_) sent (carried_times _ (to_end c) sent (λ v. refl)) (carried_times _ (ask (to_broker c)) read_ (λ v. refl))
+      carried_append reads (all_to_broker choice c read_) sent (carried_times (downs_by (receiver_named c sent)) (to_end c) sent (λ v. refl)) (carried_times (ups_by (receiver_named c read_)) (ask (to_broker c)) read_ (λ v. refl))
 
 -- ---- where nothing is under way from it
 

@@ -13,3 +13,7 @@ pub mod OldReplies
 pub mod Standings
 pub mod Stops
 pub mod Pumping
+pub mod Asked
+pub mod HandedOver
+pub mod Runs
+pub mod Drains

@@ -1,5 +1,4 @@
--- What a receiver was handed of its copies, and how a world begins in which that is so over every run (MQTT 5.0, 4.3.2, 4.3.3,
--- 4.4, 4.6).
+-- What a receiver was handed of its copies (MQTT 5.0, 4.3.2, 4.3.3, 4.6).
 use Rattle.std.specs.Prelude.{◌≡◌, ℕ, ◌≤◌, All, List, map, Some, is_some, slice_get, true}
 use Rattle.std.specs.List.{AllByRecursion}
 use Rattle.mqtt_base.specs.declared.session.CopyId.{CopyId}
