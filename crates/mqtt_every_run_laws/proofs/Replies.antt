@@ -1,6 +1,6 @@
 -- The broker reads a receiver's answer on its line: PUBACK, PUBREC or PUBCOMP (MQTT 5.0, 4.3.2, 4.3.3, 4.13).
 use Rattle.std.proofs.Common.{◌≡◌, ℕ, Bool, true, false, List, [], ◌∷◌, map, Option, Some, None, refl, sym, ap, subst, ◌∙◌, inl, inr}
-use Rattle.std.specs.Prelude.{Err, Ok, is_some, option_map}
+use Rattle.std.specs.Prelude.{Err, Ok, is_some}
 use Rattle.mqtt_base.specs.Codes.{protocol_error}
 use Rattle.mqtt_base.specs.declared.session.CopyId.{CopyId}
 use Rattle.mqtt_codec.specs.declared.packet.Packet.{Packet}
@@ -12,9 +12,9 @@ use Rattle.mqtt_inbound.specs.Publisher.{CONNECT}
 use Rattle.mqtt_laws.specs.Ends.{Back, Publisher, Receiver, Sent, answers, no_content, plain, shake, wire_back}
 use Rattle.mqtt_laws.specs.Hops.{Own}
 use Rattle.mqtt_laws.specs.Lines.{Line}
-use Rattle.mqtt_laws.specs.Run.{read_first, read_if}
+use Rattle.mqtt_laws.specs.Run.{read_first}
 use Rattle.mqtt_laws.specs.Seats.{Former, Present, Seat, absent, closed, joined, waiting}
-use Rattle.mqtt_laws.specs.World.{Setting, View, World, asks, calls_if, input_on, receiver_named, receiver_told, taken_up, to_broker, view_by, view_of, with_line}
+use Rattle.mqtt_laws.specs.World.{Setting, World, asks, receiver_named, taken_up, to_broker}
 use Rattle.mqtt_laws.proofs.Frame.{own_done}
 use Rattle.mqtt_laws.proofs.Mine.{AreMine, mine_append, mine_owns}
 use Rattle.mqtt_laws.proofs.OwnCalls.{input_elsewhere}
@@ -31,7 +31,7 @@ use Rattle.mqtt_rules.specs.Deeds.{Deed, after_all, rows_of_all}
 use Rattle.mqtt_rules.specs.Inbound.{on_answer}
 use Rattle.mqtt_rules.specs.Outbound.{of_entry, turn_deeds}
 use Rattle.mqtt_rules.specs.State.{Line as BrokerLine, Broker, Env, MemberChoice, queue_on, session_at, session_named}
-use Rattle.mqtt_rules.specs.Step.{Call, Input, at_moment, deeds, env_of, next_packet, stepped, told}
+use Rattle.mqtt_rules.specs.Step.{Input, at_moment, deeds, env_of, next_packet, stepped, told}
 use Rattle.mqtt_rules.specs.declared.Limits.{Limits}
 use Rattle.mqtt_world_laws.specs.Fair.{IsSteady}
 use Rattle.mqtt_world_laws.specs.Spending.{spending}
@@ -40,12 +40,12 @@ use Rattle.mqtt_handed_laws.specs.Own.{IsInStep, Listens}
 use Rattle.mqtt_handed_laws.proofs.Apart.{apart_still}
 use Rattle.mqtt_handed_laws.proofs.Listening.{listens_in_step}
 use Rattle.mqtt_handed_laws.proofs.OwnCalls.{puback_in_step, pubcomp_in_step, pubrec_in_step}
-use Rattle.mqtt_every_run_laws.specs.Standing.{GoesAlong, IsAround, IsPlaced, IsSeen, Stands, line_like, packet_like, publisher_like}
-use Rattle.mqtt_every_run_laws.proofs.Around.{changed_its, on_back, on_line, own_around}
+use Rattle.mqtt_every_run_laws.specs.Standing.{GoesAlong, IsPlaced, IsSeen, Stands, line_like, packet_like, publisher_like}
 use Rattle.mqtt_every_run_laws.proofs.Like.{former_as, told_like}
 use Rattle.mqtt_every_run_laws.proofs.Losses.{none_named}
 use Rattle.mqtt_handed_laws.proofs.Numbers.{place_of, places_number}
-use Rattle.mqtt_every_run_laws.proofs.Outside.{calls_around, named_called}
+use Rattle.mqtt_every_run_laws.proofs.Outside.{goes_as}
+use Rattle.mqtt_every_run_laws.proofs.Reading.{first_read}
 
 -- ---- the session and its line stay its own
 
@@ -180,37 +180,10 @@ pub answered_stands : (c : List ℕ) (x : Answer) (rest : List Back) (largest : 
     → read_first spending set (to_broker c) w ≡ false → Stands c largest set.limits (asks set (to_broker c) w)
 answered_stands c x rest largest set r w s e none up unspent = by r.line.number refl
   where
-    view : view_of c w ≡ view_by None (Some r)
-    view = ap (λ (o : Option Publisher). view_by o (receiver_named c w)) (s.standing.around.alone (ap is_some e)) ∙ ap (λ (o : Option Receiver). view_by None o) e
-
     placed : IsPlaced largest s.ids s.ns r w.broker
     placed = subst (IsSeen largest s.ids s.ns w.broker) e s.standing.seen
-
-    w1 : World
-    w1 = with_line c taken_up taken_up w
-
-    found : receiver_named c w1 ≡ Some (record r { line = taken_up r.line })
-    found = changed_its c (on_back taken_up) w r (λ q. refl) e
-
-    around : IsAround c set.limits s.ns w1
-    around = own_around c set.limits s.ns w (on_line taken_up) (on_back taken_up) (λ p. refl) (λ q. refl) (s.standing.around.alone (ap is_some e)) s.standing.around
 
     by : (o : Option ℕ) → r.line.number ≡ o → Stands c largest set.limits (asks set (to_broker c) w)
     by None is = absurd (no_number placed.birth placed.line x rest r w.broker placed.seat.present is up)
     by (Some n) is =
-        let call = Input n (wire_back r.client r.window (answers x)) in
-        let asked : input_on (view_of c w).number (view_of c w).up ≡ Some call =
-        ap (λ (v : View). input_on v.number v.up) view ∙ (ap (λ (o : Option ℕ). input_on o (map (wire_back r.client r.window) r.line.up)) is ∙ ap (λ (xs : List Back). input_on (Some n) (map (wire_back r.client r.window) xs)) up) in
-        let cost : read_if spending set (Some call) w1 ≡ false = sym (ap (λ (o : Option Call). read_if spending set o w1) asked) ∙ unspent in
-        let new = stepped set.limits set.choice w.now call w.broker in
-        let out = told set.limits set.choice w.now call w.broker in
-        subst (λ (o : Option Call). Stands c largest set.limits (calls_if set o w1)) (sym asked)
-        (record {
-          ids = s.ids;
-          ns = s.ns;
-          standing = record {
-            around = calls_around c set s.ns call w1 around cost;
-            seen = subst (IsSeen largest s.ids s.ns new) (sym (named_called c set call w1 ∙ ap (option_map (receiver_told new out)) found))
-                (read_placed largest s.ids s.ns set.limits set.choice w.now n x rest r w.broker placed s.standing.around.steady is none up);
-          };
-        })
+        first_read c (answers x) rest largest set r w s e n is up (goes_as largest s.ids s.ns _ _ (read_placed largest s.ids s.ns set.limits set.choice w.now n x rest r w.broker placed s.standing.around.steady is none up)) unspent

@@ -3,6 +3,7 @@
 
 mod receiver_laws;
 mod standing_laws;
+mod wish_laws;
 
 pub use receiver_laws::{
     a_receiver_that_stands_was_handed_its_copies_once, every_receiver_stands_in_a_new_world,
@@ -13,4 +14,7 @@ pub use standing_laws::{
     a_tick_leaves_a_receiver_standing, an_answer_leaves_a_receiver_standing,
     sending_leaves_a_receiver_standing, what_ends_do_leaves_a_receiver_standing,
     what_is_asked_for_others_leaves_a_receiver_standing,
+};
+pub use wish_laws::{
+    a_subscribe_leaves_a_receiver_standing, retained_messages_stay_of_different_publications,
 };
