@@ -1,3 +1,5 @@
+pub mod Alone
+pub mod Unused
 pub mod Around
 pub mod Like
 pub mod Comings
@@ -13,5 +15,3 @@ pub mod OldReplies
 pub mod Standings
 pub mod Stops
 pub mod Pumping
-pub mod Alone
-pub mod Unused
