@@ -1,3 +1,5 @@
+pub mod Alone
+pub mod Unused
 pub mod Around
 pub mod Like
 pub mod Comings

@@ -1,3 +1,4 @@
+pub mod Alone
 pub mod Standing
 pub mod HandedOver
 pub mod Retaining
