@@ -22,6 +22,5 @@ pub mod Asked
 pub mod HandedOver
 pub mod Runs
 pub mod Drains
-pub mod Alone
-pub mod Unused
 pub mod Greeted
+pub mod LateConnects
