@@ -2,11 +2,13 @@
 #![tactic(auto)]
 
 mod broker_laws;
+mod connect_laws;
 mod receiver_laws;
 mod standing_laws;
 mod wish_laws;
 
 pub use broker_laws::{a_line_without_session_has_sent_nothing, identifiers_in_flight_stay_unique};
+pub use connect_laws::a_connect_leaves_a_receiver_standing;
 pub use receiver_laws::{
     a_receiver_that_stands_was_handed_its_copies_once, every_receiver_stands_in_a_new_world,
 };
