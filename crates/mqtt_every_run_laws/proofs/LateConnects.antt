@@ -43,7 +43,7 @@ use Rattle.mqtt_handed_laws.proofs.OwnRefusals.{named_none}
 use Rattle.mqtt_handed_laws.proofs.Resuming.{Takes, connect_makes}
 use Rattle.mqtt_every_run_laws.specs.Alone.{HaveSentNothing}
 use Rattle.mqtt_every_run_laws.specs.Standing.{GoesAlong, IsPlaced, IsSeen, Stands, line_like, packet_like}
-use Rattle.mqtt_every_run_laws.proofs.Greeted.{alone_left, begun_line, greeted_owns, idle_went, linked_left, resumed_line, unused_next}
+use Rattle.mqtt_every_run_laws.proofs.Greetings.{alone_left, begun_line, greeted_owns, idle_went, linked_left, resumed_line, unused_next}
 use Rattle.mqtt_every_run_laws.proofs.Like.{connect_like, told_like}
 use Rattle.mqtt_every_run_laws.proofs.OldReplies.{present_taken}
 use Rattle.mqtt_every_run_laws.proofs.Outside.{GoesFurther, lines_of, listed}

@@ -22,5 +22,5 @@ pub mod Asked
 pub mod HandedOver
 pub mod Runs
 pub mod Drains
-pub mod Greeted
+pub mod Greetings
 pub mod LateConnects
