@@ -13,3 +13,5 @@ pub mod OldReplies
 pub mod Standings
 pub mod Stops
 pub mod Pumping
+pub mod Greeted
+pub mod Taking

@@ -3,6 +3,7 @@
 
 mod receiver_laws;
 mod standing_laws;
+mod taking_laws;
 
 pub use receiver_laws::{
     a_receiver_that_stands_was_handed_its_copies_once, every_receiver_stands_in_a_new_world,
@@ -14,3 +15,4 @@ pub use standing_laws::{
     sending_leaves_a_receiver_standing, what_ends_do_leaves_a_receiver_standing,
     what_is_asked_for_others_leaves_a_receiver_standing,
 };
+pub use taking_laws::its_line_takes_what_its_connect_says;
