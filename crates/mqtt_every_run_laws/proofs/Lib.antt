@@ -24,3 +24,7 @@ pub mod Runs
 pub mod Drains
 pub mod Greetings
 pub mod LateConnects
+pub mod Greeted
+pub mod Taking
+pub mod Untouched
+pub mod EveryRun

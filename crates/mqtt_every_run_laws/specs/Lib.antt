@@ -2,3 +2,5 @@ pub mod Alone
 pub mod Standing
 pub mod HandedOver
 pub mod Retaining
+pub mod Taking
+pub mod Untouched
