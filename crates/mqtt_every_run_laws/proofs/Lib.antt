@@ -15,4 +15,4 @@ pub mod Stops
 pub mod Pumping
 pub mod Alone
 pub mod Unused
-pub mod Greeted
+pub mod Greetings

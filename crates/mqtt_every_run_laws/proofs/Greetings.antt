@@ -166,7 +166,7 @@ unused_next b unique births = all_more (λ (l : BrokerLine). row_at line_number 
   where
     rows : (n : ℕ) (ls : List BrokerLine) → found_in n ls ≡ row_at line_number n ls
     rows n [] = refl
-    rows n (l ∷ ls) = elim (cases_Bool (nat_eq l.number n)) [ inl here ↦ rw (here, here) refl | inr further ↦ rw (further, further) (rows n ls) ]
+    rows n (l ∷ ls) = elim (cases_Bool (nat_eq l.number n)) [ inl here ↦ rw here refl | inr further ↦ rw further (rows n ls) ]
 
     by : (o : Option ℕ) (l : BrokerLine) → l.session ≡ o → line_at l.number b ≡ Some l → is_of o (suc b.records.births) ≡ false
     by None l e at = refl
