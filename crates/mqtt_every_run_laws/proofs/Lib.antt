@@ -28,3 +28,4 @@ pub mod Greeted
 pub mod Taking
 pub mod Untouched
 pub mod EveryRun
+pub mod OwnConnects

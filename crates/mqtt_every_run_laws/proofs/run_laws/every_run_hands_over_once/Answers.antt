@@ -3,10 +3,10 @@ use Rattle.mqtt_every_run_laws.proofs.EveryRun.{run_hands, run_hands_once, run_h
 use Rattle.mqtt_every_run_laws.proofs.run_laws.every_run_hands_over_once.Goals as goal
 
 pub returns-clause-once : goal.returns-clause-once
-returns-clause-once c = run_hands_once ?
+returns-clause-once c = run_hands_once
 
 pub returns-clause-released : goal.returns-clause-released
-returns-clause-released c = run_hands_released ?
+returns-clause-released c = run_hands_released
 
 pub returns-clause-handed : goal.returns-clause-handed
-returns-clause-handed c = run_hands ?
+returns-clause-handed c = run_hands
