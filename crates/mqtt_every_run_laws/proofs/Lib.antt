@@ -16,3 +16,4 @@ pub mod Pumping
 pub mod Alone
 pub mod Unused
 pub mod Greetings
+pub mod OwnConnects
