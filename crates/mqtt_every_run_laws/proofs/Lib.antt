@@ -8,8 +8,12 @@ pub mod Joining
 pub mod Restarts
 pub mod Ticks
 pub mod Losses
+pub mod Reading
+pub mod Heard
 pub mod Replies
 pub mod OldReplies
+pub mod Wishes
+pub mod Retained
 pub mod Standings
 pub mod Stops
 pub mod Pumping

@@ -102,6 +102,10 @@ pub record GoesFurther (largest : ℕ) (ids : List CopyId) (ns : List ℕ) (r : 
   pub more : List CopyId
   pub placed : IsPlaced largest (ids ++ more) ns r b
 
+-- with none more
+pub goes_as : (largest : ℕ) (ids : List CopyId) (ns : List ℕ) (r : Receiver) (b : Broker) → IsPlaced largest ids ns r b → GoesFurther largest ids ns r b
+goes_as largest ids ns r b placed = record { more = []; placed = subst (λ (all : List CopyId). IsPlaced largest all ns r b) (sym (append-nil ids)) placed }
+
 -- at a broker whose counts have not fallen, with the seat that it has there
 pub placed_on : (largest : ℕ) (ids more : List CopyId) (ns ms : List ℕ) (birth line : ℕ) (o : Option ℕ) (r q : Receiver) (b c : Broker) (placed : IsPlaced largest ids ns r b)
     → NoneFell b.records c.records → q.client ≡ r.client → AllByRecursion (IsNewCopy birth b.records.publications c.records.publications) more → AllDiffer more

@@ -46,10 +46,11 @@ use Rattle.mqtt_every_run_laws.specs.Alone.{HaveSentNothing}
 use Rattle.mqtt_every_run_laws.specs.Standing.{GoesAlong, IsAround, IsPlaced, IsSeen, Stands, line_like, packet_like}
 use Rattle.mqtt_every_run_laws.proofs.Around.{changed_its, on_back, on_line, own_around}
 use Rattle.mqtt_every_run_laws.proofs.Comings.{run_of}
+use Rattle.mqtt_every_run_laws.proofs.Heard.{named_there}
 use Rattle.mqtt_every_run_laws.proofs.Greetings.{HasGreeted, alone_left, begun_line, greeted_on, greeted_owns, idle_went, resumed_line, spared_left, spared_none, unused_next}
 use Rattle.mqtt_every_run_laws.proofs.Like.{calm_up, connected_linked, former_as, told_like}
 use Rattle.mqtt_every_run_laws.proofs.Outside.{calls_around, listed, named_called}
-use Rattle.mqtt_every_run_laws.proofs.Replies.{named_there, some_up}
+use Rattle.mqtt_every_run_laws.proofs.Replies.{some_up}
 
 module _ (largest : ℕ) (ids : List CopyId) (ns : List ℕ) (limits : Limits) (choice : MemberChoice) (now : ℕ) (clean : Bool) (rest : List Back) (r : Receiver) (l : BrokerLine) (b : Broker) (placed : IsPlaced largest ids ns r b)
     (number_is : r.line.number ≡ Some l.number) (up : r.line.up ≡ answers (connect clean) ∷ rest) where

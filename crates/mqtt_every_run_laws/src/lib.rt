@@ -5,6 +5,7 @@ mod broker_laws;
 mod connect_laws;
 mod receiver_laws;
 mod standing_laws;
+mod wish_laws;
 
 pub use broker_laws::{a_line_without_session_has_sent_nothing, identifiers_in_flight_stay_unique};
 pub use connect_laws::a_connect_leaves_a_receiver_standing;
@@ -17,4 +18,7 @@ pub use standing_laws::{
     a_tick_leaves_a_receiver_standing, an_answer_leaves_a_receiver_standing,
     sending_leaves_a_receiver_standing, what_ends_do_leaves_a_receiver_standing,
     what_is_asked_for_others_leaves_a_receiver_standing,
+};
+pub use wish_laws::{
+    a_subscribe_leaves_a_receiver_standing, retained_messages_stay_of_different_publications,
 };
