@@ -9,7 +9,7 @@ use Rattle.mqtt_laws.specs.Ends.{Back, Publisher, Receiver, Sent}
 use Rattle.mqtt_laws.specs.Hops.{IsNoConnect, Own}
 use Rattle.mqtt_laws.specs.Lines.{Line}
 use Rattle.mqtt_laws.specs.Seats.{Former, Present, Seat, absent, closed, connected_at, joined, waiting}
-use Rattle.mqtt_laws.specs.World.{taken_old, taken_up}
+use Rattle.mqtt_laws.specs.World.{publisher_told, taken_old, taken_up}
 use Rattle.mqtt_laws.proofs.OwnCalls.{input_elsewhere}
 use Rattle.mqtt_laws.proofs.OwnSeats.{former_after, joined_after, line_of_on, lingers_after, not_among, present_after}
 use Rattle.mqtt_records.specs.declared.session.Session.{Session}
@@ -92,22 +92,21 @@ module _ (largest : ℕ) (ids : List CopyId) (ns : List ℕ) (limits : Limits) (
     abbrev new : Broker
     new = stepped limits choice now (Input n packet) b
 
-    pub placed_after : r.line.number ≡ Some placed.line → IsInStep largest all birth ns (receiver_after limits choice now (Input n packet) r b) new → IsPlaced largest all ns (receiver_after limits choice now (Input n packet) r b) new
-    placed_after at step =
-        let call = Input n packet in
-        let q = receiver_after limits choice now call r b in
-        let taken = record r { line = taken_up r.line } in
-        let far = input_elsewhere limits choice now n packet r.line.old_number b (λ m e same. placed.apart m (at ∙ ap Some (sym number ∙ same)) e) in
-        let present = joined_after limits choice now call b r.client birth placed.line (line_like taken.line) owns at there in
-        let former = former_after limits choice now call b (Some birth) (Some birth) placed.line placed.line (line_like taken.line) far (λ z of e calm on. absurd (placed.apart placed.line at e))
-        (former_as (Some birth) placed.line (line_like r.line) (line_like taken.line) b refl refl seat_here.former) in
-        let line_is = ap (λ (p : Publisher). p.line) (told_like new (told limits choice now call b) taken) in
+    -- once a packet was taken off one of its lines, which leaves these there
+    placed_with : (up old : List Back)
+        → Present (Some birth) placed.line (publisher_told new (told limits choice now (Input n packet) b) (publisher_like (record r { line = record r.line { up = up; old = old } }))).line new
+        → Former (Some birth) placed.line (publisher_told new (told limits choice now (Input n packet) b) (publisher_like (record r { line = record r.line { up = up; old = old } }))).line new
+        → IsInStep largest all birth ns (receiver_called limits choice now (Input n packet) (record r { line = record r.line { up = up; old = old } }) b) new
+        → IsPlaced largest all ns (receiver_called limits choice now (Input n packet) (record r { line = record r.line { up = up; old = old } }) b) new
+    placed_with up old present former step =
+        let taken = record r { line = record r.line { up = up; old = old } } in
+        let line_is = ap (λ (p : Publisher). p.line) (told_like new (told limits choice now (Input n packet) b) taken) in
         record {
           birth = Some birth;
           line = placed.line;
           along = step;
           seat = record {
-            his = (owns, named_there largest all birth ns q new step apart.differ);
+            his = (owns, named_there largest all birth ns (receiver_called limits choice now (Input n packet) taken b) new step apart.differ);
             present = subst (λ (z : Line Sent). Present (Some birth) placed.line z new) line_is present;
             former = subst (λ (z : Line Sent). Former (Some birth) placed.line z new) line_is former;
           };
@@ -117,28 +116,23 @@ module _ (largest : ℕ) (ids : List CopyId) (ns : List ℕ) (limits : Limits) (
           told = apart;
         }
 
+    pub placed_after : r.line.number ≡ Some placed.line → IsInStep largest all birth ns (receiver_after limits choice now (Input n packet) r b) new → IsPlaced largest all ns (receiver_after limits choice now (Input n packet) r b) new
+    placed_after at step =
+        let call = Input n packet in
+        let line = line_like (taken_up r.line) in
+        let far = input_elsewhere limits choice now n packet r.line.old_number b (λ m e same. placed.apart m (at ∙ ap Some (sym number ∙ same)) e) in
+        let present = joined_after limits choice now call b r.client birth placed.line line owns at there in
+        let former = former_after limits choice now call b (Some birth) (Some birth) placed.line placed.line line far (λ z of e calm on. absurd (placed.apart placed.line at e))
+        (former_as (Some birth) placed.line (line_like r.line) line b refl refl seat_here.former) in
+        placed_with (drop 1 r.line.up) r.line.old present former step
+
     pub placed_after_there : r.line.old_number ≡ Some placed.line → AllByRecursion IsNoConnect (map packet_like r.line.old)
         → IsInStep largest all birth ns (receiver_called limits choice now (Input n packet) (record r { line = taken_old r.line }) b) new
         → IsPlaced largest all ns (receiver_called limits choice now (Input n packet) (record r { line = taken_old r.line }) b) new
     placed_after_there at calm step =
         let call = Input n packet in
-        let taken = record r { line = taken_old r.line } in
-        let q = receiver_called limits choice now call taken b in
+        let line = line_like (taken_old r.line) in
         let far = input_elsewhere limits choice now n packet r.line.number b (λ m e same. placed.apart m e (at ∙ ap Some (sym number ∙ same))) in
-        let present = present_after limits choice now call b (Some birth) (Some birth) placed.line placed.line (line_like taken.line) far (λ z of e on. absurd (placed.apart placed.line e at)) (present_taken (Some birth) placed.line r b seat_here.present) in
-        let former = lingers_after limits choice now call b r.client birth placed.line (line_like taken.line) owns at (calm_drop r.line.old calm) there in
-        let line_is = ap (λ (p : Publisher). p.line) (told_like new (told limits choice now call b) taken) in
-        record {
-          birth = Some birth;
-          line = placed.line;
-          along = step;
-          seat = record {
-            his = (owns, named_there largest all birth ns q new step apart.differ);
-            present = subst (λ (z : Line Sent). Present (Some birth) placed.line z new) line_is present;
-            former = subst (λ (z : Line Sent). Former (Some birth) placed.line z new) line_is former;
-          };
-          its_line = placed.its_line;
-          apart = λ m e f. placed.apart m e f;
-          named = placed.named;
-          told = apart;
-        }
+        let present = present_after limits choice now call b (Some birth) (Some birth) placed.line placed.line line far (λ z of e on. absurd (placed.apart placed.line e at)) (present_taken (Some birth) placed.line r b seat_here.present) in
+        let former = lingers_after limits choice now call b r.client birth placed.line line owns at (calm_drop r.line.old calm) there in
+        placed_with r.line.up (drop 1 r.line.old) present former step
