@@ -44,11 +44,10 @@ use Rattle.mqtt_handed_laws.proofs.Resuming.{Takes, connect_makes}
 use Rattle.mqtt_every_run_laws.specs.Alone.{HaveSentNothing}
 use Rattle.mqtt_every_run_laws.specs.Standing.{GoesAlong, IsPlaced, IsSeen, Stands, line_like, packet_like}
 use Rattle.mqtt_every_run_laws.proofs.Greetings.{alone_left, begun_line, greeted_owns, idle_went, linked_left, resumed_line, unused_next}
+use Rattle.mqtt_every_run_laws.proofs.Heard.{named_there, present_taken}
 use Rattle.mqtt_every_run_laws.proofs.Like.{connect_like, told_like}
-use Rattle.mqtt_every_run_laws.proofs.OldReplies.{present_taken}
 use Rattle.mqtt_every_run_laws.proofs.Outside.{GoesFurther, lines_of, listed}
 use Rattle.mqtt_every_run_laws.proofs.Reading.{first_read_there}
-use Rattle.mqtt_every_run_laws.proofs.Replies.{named_there}
 
 -- ---- the receiver after it
 
