@@ -54,4 +54,5 @@ pub mod WorldRoundSteps
 pub mod WorldRoundReads
 pub mod WorldRoundWishes
 pub mod WorldRounds
+pub mod WorldRoundConnects
 pub mod DrainExamples

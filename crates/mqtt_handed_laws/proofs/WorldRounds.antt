@@ -1,5 +1,5 @@
 -- Rounds of a drain of the world are rounds of its receiver's hop, so that it ends as the hop's does.
-use Rattle.std.proofs.Common.{◌≡◌, inl, inr, ⊎_elim, ℕ, zero, suc, ◌*◌, ◌≤◌, Bool, true, false, cond, not, ◌||◌, List, [], ◌∷◌, ◌++◌, length, map, Option, Some, None, bytes_eq, refl, sym, ap, subst, ◌∙◌, append-nil, arith}
+use Rattle.std.proofs.Common.{◌≡◌, inl, inr, ⊎_elim, ℕ, zero, suc, ◌*◌, ◌≤◌, max, Bool, true, false, cond, not, ◌||◌, List, [], ◌∷◌, ◌++◌, length, map, take, Option, Some, None, bytes_eq, refl, sym, ap, subst, ◌∙◌, append-nil, arith}
 use Rattle.std.specs.Prelude.{find, filter_map, is_some, option_map, slice_get}
 use Rattle.std.specs.List.{AllByRecursion}
 use Rattle.std.proofs.lemmas.Bool.{cases_Bool}
@@ -12,11 +12,11 @@ use Rattle.mqtt_laws.specs.Ends.{Back, Publisher, Receiver, Wish, answers, asks_
 use Rattle.mqtt_message.specs.declared.message.RetainedMessage.{RetainedMessage}
 use Rattle.mqtt_laws.specs.Lines.{stands}
 use Rattle.mqtt_laws.specs.Run.{Turn, run, turned}
-use Rattle.mqtt_laws.specs.World.{Setting, World, ask, calls, end_reads, publisher_named, publisher_told, pump, receiver_named, receiver_told, taken_up, to_broker, to_end, with_line}
+use Rattle.mqtt_laws.specs.World.{Event, Setting, World, ask, call_of, calls, calls_if, end_reads, happens, is_bad, publisher_named, publisher_told, pump, receiver_named, receiver_told, taken_up, to_broker, to_end, with_line}
 use Rattle.mqtt_rows.specs.Distinct.{AllDiffer}
 use Rattle.mqtt_rules.proofs.Copies.{each_append}
 use Rattle.mqtt_rules.proofs.Leads.{found_passes}
-use Rattle.mqtt_rules.specs.State.{Broker, MemberChoice, session_named}
+use Rattle.mqtt_rules.specs.State.{Broker, MemberChoice, capped, session_named}
 use Rattle.mqtt_rules.specs.Step.{Call, Input, Outcome, Pump, stepped, told}
 use Rattle.mqtt_rules.specs.declared.Limits.{Limits}
 use Rattle.mqtt_world_laws.proofs.Ends.{find_publisher, find_receiver, named_receiver, only_receiver}
@@ -30,21 +30,21 @@ use Rattle.mqtt_handed_laws.specs.Served.{IsTidy, RunsWithAll}
 use Rattle.mqtt_handed_laws.specs.Tags.{id_of}
 use Rattle.mqtt_handed_laws.specs.WorldRounds.{AreTold, AsksOnce, ComesTo, DrainsWith, IsAnswer, IsOlder, MayAsk, IsDrained, MayDrain, moment_of, moments_of}
 use Rattle.mqtt_handed_laws.proofs.Answering.{named_now, standing_by}
-use Rattle.mqtt_handed_laws.proofs.DrainCauses.{causes_of_run}
+use Rattle.mqtt_handed_laws.proofs.DrainCauses.{causes_of_run, ends_by_more}
 use Rattle.mqtt_handed_laws.proofs.DrainRuns.{run_append}
 use Rattle.mqtt_handed_laws.proofs.Numbers.{place_of, places_number}
 use Rattle.mqtt_handed_laws.proofs.OwnDoings.{keeps_reading}
 use Rattle.mqtt_handed_laws.proofs.RoundFurther.{drain_empties, round_run, rounds_within, two_each}
 use Rattle.mqtt_handed_laws.proofs.Stopping.{step_tidy}
 use Rattle.mqtt_handed_laws.proofs.Turns.{same_entries}
-use Rattle.mqtt_handed_laws.proofs.WorldRoundLines.{HasSame}
+use Rattle.mqtt_handed_laws.proofs.WorldRoundLines.{HasSame, moment_again, step_now}
 use Rattle.mqtt_handed_laws.proofs.WorldRoundWishes.{wish_at}
 use Rattle.mqtt_handed_laws.proofs.WorldRoundReads.{Grows, all_read, reads_at}
 use Rattle.mqtt_handed_laws.proofs.WorldRoundSteps.{At, answer_at, hop_linked, listens_now, pump_at, pump_same, pump_up}
 
 -- ---- who is found by the name, where one is changed
 
-none_changed : {X : Type 0} (test : X → Bool) (f : X → X) (xs : List X) → find test xs ≡ None → find test (map (λ (x : X). cond (test x) (f x) x) xs) ≡ None
+pub none_changed : {X : Type 0} (test : X → Bool) (f : X → X) (xs : List X) → find test xs ≡ None → find test (map (λ (x : X). cond (test x) (f x) x) xs) ≡ None
 none_changed test f [] e = refl
 none_changed test f (x ∷ xs) e = elim (cases_Bool (test x)) [
   | inl its ↦ let found : Some x ≡ None = rw its at e in absurd cc
@@ -93,16 +93,16 @@ module _ (limits : Limits) (choice : MemberChoice) (client : List ℕ) where
   abbrev set : Setting
   set = record { limits = limits; choice = choice }
 
-  pump_is : (w : World) (r : Receiver) (n : ℕ) → receiver_named client w ≡ Some r → publisher_named client w ≡ None → r.line.number ≡ Some n → turned limits (turn_of choice (ask (pump client))) w ≡ calls set (Pump n) w
+  pub pump_is : (w : World) (r : Receiver) (n : ℕ) → receiver_named client w ≡ Some r → publisher_named client w ≡ None → r.line.number ≡ Some n → turned limits (turn_of choice (ask (pump client))) w ≡ calls set (Pump n) w
   pump_is w r n named alone number = rw (named, alone, number) refl
 
   reading_is : (w : World) (r : Receiver) → receiver_named client w ≡ Some r → publisher_named client w ≡ None → turned limits (turn_of choice (to_end client)) w ≡ end_reads client w
   reading_is w r named alone = rw (named, alone) refl
 
-  abbrev taken_off : World → World
+  abbrev pub taken_off : World → World
   taken_off w = with_line client taken_up taken_up w
 
-  back_is : (w : World) (r : Receiver) (n : ℕ) (u : Back) (rest : List Back) → receiver_named client w ≡ Some r → publisher_named client w ≡ None → r.line.number ≡ Some n → r.line.up ≡ u ∷ rest
+  pub back_is : (w : World) (r : Receiver) (n : ℕ) (u : Back) (rest : List Back) → receiver_named client w ≡ Some r → publisher_named client w ≡ None → r.line.number ≡ Some n → r.line.up ≡ u ∷ rest
       → turned limits (turn_of choice (ask (to_broker client))) w ≡ calls set (Input n (wire_back r.client r.window u)) (taken_off w)
   back_is w r n u rest named alone number up = rw (named, alone, number, up) refl
 
@@ -306,6 +306,56 @@ module _ (limits : Limits) (choice : MemberChoice) (client : List ℕ) where
     moments_length zero w = refl
     moments_length (suc more) w = ap suc (moments_length more (after_round limits choice client w))
 
+-- ---- the moment stands
+
+moment_if : (s : Setting) (o : Option Call) (w : World) → moment_of (calls_if s o w) ≡ moment_of w
+moment_if s None w = refl
+moment_if s (Some call) w =
+    ap (λ (k : ℕ). max k (capped w.now)) (step_now s.limits s.choice w.now call w.broker) ∙ moment_again w.broker.now (capped w.now)
+
+moment_unless : (bad : Bool) (w v : World) → moment_of v ≡ moment_of w → moment_of (cond bad w v) ≡ moment_of w
+moment_unless true w v e = refl
+moment_unless false w v e = e
+
+module _ (limits : Limits) (choice : MemberChoice) (client : List ℕ) where
+  abbrev KeepsMoment : Event → Type 0
+  KeepsMoment e = (w : World) → moment_of (turned limits (turn_of choice e) w) ≡ moment_of w
+
+  pump_moment : KeepsMoment (ask (pump client))
+  pump_moment w =
+      let s : Setting = record { limits = limits; choice = choice } in
+      moment_unless (is_bad (ask (pump client)) w) w (happens s (ask (pump client)) w) (moment_if s (call_of s (pump client) w) w)
+
+  read_moment : KeepsMoment (to_end client)
+  read_moment w = moment_unless (is_bad (to_end client) w) w (end_reads client w) refl
+
+  back_moment : KeepsMoment (ask (to_broker client))
+  back_moment w =
+      let s : Setting = record { limits = limits; choice = choice } in
+      moment_unless (is_bad (ask (to_broker client)) w) w (happens s (ask (to_broker client)) w) (moment_if s (call_of s (to_broker client) w) (with_line client taken_up taken_up w))
+
+  times_moment : (e : Event) → KeepsMoment e → (k : ℕ) (w : World) → moment_of (run limits (times k (turn_of choice e)) w) ≡ moment_of w
+  times_moment e keeps zero w = refl
+  times_moment e keeps (suc k) w = times_moment e keeps k (turned limits (turn_of choice e) w) ∙ keeps w
+
+  pub round_moment : (w : World) → moment_of (after_round limits choice client w) ≡ moment_of w
+  round_moment w =
+      let sent = run limits (turn_of choice (ask (pump client)) ∷ []) w in
+      let ends = all_to_end choice client sent in
+      let was = run limits ends sent in
+      ap moment_of (run_append limits ends (all_to_broker choice client was) sent)
+      ∙ (times_moment (ask (to_broker client)) back_moment (ups_by (receiver_named client was)) was
+      ∙ (times_moment (to_end client) read_moment (downs_by (receiver_named client sent)) sent ∙ pump_moment w))
+
+  -- so all rounds are at the first one's
+  one_moment : (most k : ℕ) (w : World) (f : ℕ → Bool) → rounds.Has f (take k (moments_of limits choice client most w)) → rounds.Has f (moment_of w ∷ [])
+  one_moment zero zero w f h = absurd h
+  one_moment zero (suc k) w f h = absurd h
+  one_moment (suc more) zero w f h = absurd h
+  one_moment (suc more) (suc k) w f (inl e) = inl e
+  one_moment (suc more) (suc k) w f (inr h) =
+      subst (λ (j : ℕ). rounds.Has f (j ∷ [])) (round_moment w) (one_moment more k (after_round limits choice client w) f h)
+
 -- ---- the first round, where a SUBSCRIBE is under way
 
 -- tables are in order, and copies differ; so many filters were granted
@@ -468,20 +518,23 @@ module _ (number : Numbering) (largest window : ℕ) (ids : List CopyId) (birth 
       left_is limits choice client number largest window ids birth ns (rounds.drained largest window moments from) (drained limits choice client most w) (drains_on limits choice client number largest window ids birth ns most from w begun)
       ∙ ap length last.1
 
-  pub drain_is : (most : ℕ) → 1 ≤ window → IsDrained number largest window ids birth ns client copies (drained limits choice client most w)
+  pub drain_is : (most : ℕ) → 1 ≤ window → IsDrained number largest window ids birth ns client (moment_of w) copies (drained limits choice client most w)
   drain_is most room =
       let moments = moments_of limits choice client most w in
       let x = drains_on limits choice client number largest window ids birth ns most from w begun in
       let before : from.copies ≡ copies = sym (ap (λ (v : Hop). v.copies) k.seen_is) in
-      let after : (rounds.drained largest window moments from).copies ≡ x.copies = sym (ap (λ (v : Hop). v.copies) x.seen_is) in
+      let last = rounds.drained largest window moments from in
+      let rounds_made = rounds.rounds_taken largest window moments from in
+      let after : last.copies ≡ x.copies = sym (ap (λ (v : Hop). v.copies) x.seen_is) in
       record {
         receiver = x.receiver;
         may = x.may;
         after = x.copies;
         same = x.same;
         run_is = x.run_is;
-        ends = λ n. subst (λ (ls : List Lot). EndsBy (slice_get copies n) (slice_get ls n)) after
-            (subst (λ (ls : List Lot). EndsBy (slice_get ls n) (slice_get (rounds.drained largest window moments from).copies n)) before (causes_of_run largest window moments k.events n room));
+        ends = λ n. subst (λ (ls : List Lot). EndsBy largest (moment_of w ∷ []) (slice_get copies n) (slice_get ls n)) after
+            (subst (λ (ls : List Lot). EndsBy largest (moment_of w ∷ []) (slice_get ls n) (slice_get last.copies n)) before
+            (ends_by_more largest (take rounds_made moments) (moment_of w ∷ []) (slice_get from.copies n) (slice_get last.copies n) (λ f h. one_moment limits choice client most rounds_made w f h) (causes_of_run largest window moments k.events n room)));
       }
 
 -- however the copies are numbered

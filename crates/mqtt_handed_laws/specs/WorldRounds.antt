@@ -115,12 +115,13 @@ moments_of limits choice client zero w = []
 moments_of limits choice client (suc more) w =
     moment_of w ∷ moments_of limits choice client more (after_round limits choice client w)
 
--- it may be drained still; its copies are the same, and each that ended meanwhile was taken, has expired or is too large
+-- it may be drained still; its copies are the same, and each that ended meanwhile was taken, had expired at this moment
+-- already, or is too large
 pub record IsDrained (number : Numbering) (largest window : ℕ) (ids : List CopyId) (birth : ℕ) (ns : List ℕ)
-    (client : List ℕ) (copies : List Lot) (w : World) : Type 0 where
+    (client : List ℕ) (moment : ℕ) (copies : List Lot) (w : World) : Type 0 where
   pub receiver : Receiver
   pub may : MayDrain largest window ids birth ns client receiver w
   pub after : List Lot
   pub same : map id_of after ≡ ids
   pub run_is : IsRun number largest after receiver w.broker
-  pub ends : (n : ℕ) → EndsBy (slice_get copies n) (slice_get after n)
+  pub ends : (n : ℕ) → EndsBy largest (moment ∷ []) (slice_get copies n) (slice_get after n)

@@ -28,7 +28,8 @@ pub fn a_round_of_a_drain_is_one_of_the_hop()
 
 /// So a drain of such a receiver takes at most two rounds for each copy that stands in its queue, and its queue is empty
 /// after so many, whatever its Receive Maximum (`window`, at least 1). It may be drained again: the two are in step, and its
-/// line is connected, with the same copies. Each copy that ended in the drain was taken, has expired, or is too large.
+/// line is connected, with the same copies. Each copy that ended in the drain was taken, had expired at its moment already, or is
+/// too large.
 /// Where it may be drained so only after the first round, one round more is enough: then its queue is empty, or the broker
 /// has closed its line.
 pub fn a_drain_ends()
@@ -44,7 +45,7 @@ pub fn a_drain_ends()
         → (limits : Limits) (choice : MemberChoice) (client : List ℕ) (copies : List Lot) (most : ℕ) (r : Receiver)
         → (w : World) → 1 ≤ window → MayDrain largest window ids birth ns client r w
         → map id_of copies ≡ ids → IsRun number largest copies r w.broker
-        → IsDrained number largest window ids birth ns client copies (drained limits choice client most w) }
+        → IsDrained number largest window ids birth ns client (moment_of w) copies (drained limits choice client most w) }
     ensures is_within_later { (largest window : ℕ) (ids : List CopyId) (birth : ℕ) (ns : List ℕ) (limits : Limits)
         → (choice : MemberChoice) (client : List ℕ) (most : ℕ) (r : Receiver) (w : World) → 1 ≤ window → AllDiffer ids
         → MayDrain largest window ids birth ns client r (after_round limits choice client w)
