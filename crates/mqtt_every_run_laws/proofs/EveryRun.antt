@@ -7,6 +7,7 @@ use Rattle.mqtt_laws.specs.Ends.{Receiver}
 use Rattle.mqtt_laws.specs.Laws.{handed_count, released_in}
 use Rattle.mqtt_laws.specs.Run.{Turn, run}
 use Rattle.mqtt_laws.specs.World.{World, receiver_named}
+use Rattle.mqtt_rules.specs.Laws.{AreWithin}
 use Rattle.mqtt_rules.specs.State.{MemberChoice, session_named}
 use Rattle.mqtt_rules.specs.declared.Limits.{Limits}
 use Rattle.mqtt_world_laws.specs.Fair.{IsFair}
@@ -24,12 +25,14 @@ use Rattle.mqtt_every_run_laws.proofs.Taking.{new_takes, takes_there}
 
 -- ---- the run
 
+pub untouched_kept : (c : List ℕ) (limits : Limits) (w : World) → AreWithin limits → IsUntouched limits w → IsKept c limits w
+untouched_kept c limits w within u = record {
+  stands = new_stands c any_size limits w within u.tidy u.new;
+  fit = record { unused = u.unused; distinct = u.distinct; once = u.retained; takes = new_takes c limits w u.new };
+}
+
 fair_run_kept : (limits : Limits) (ts : List Turn) (w : World) → IsUntouched limits w → IsFair limits ts w → (c : List ℕ) → IsKept c limits (run limits ts w)
-fair_run_kept limits ts w u fair c =
-    run_kept c limits ts w (record {
-      stands = new_stands c any_size limits w fair.within u.tidy u.new;
-      fit = record { unused = u.unused; distinct = u.distinct; once = u.retained; takes = new_takes c limits w u.new };
-    }) fair.unspent fair.carried
+fair_run_kept limits ts w u fair c = run_kept c limits ts w (untouched_kept c limits w fair.within u) fair.unspent fair.carried
 
 pub run_hands : (limits : Limits) (ts : List Turn) (w : World) → IsUntouched limits w → IsFair limits ts w → (c : List ℕ) (r : Receiver) → receiver_named c (run limits ts w) ≡ Some r → WasHandedOver r (run limits ts w).broker
 run_hands limits ts w u fair c r e = handed_over c any_size limits r (run limits ts w) (fair_run_kept limits ts w u fair c).stands e
@@ -51,17 +54,20 @@ takes_some c w takes r n birth l e is at on =
     let same = x.0 in
     (x.1, omega (arith, above, same))
 
-module _ (limits : Limits) (ts : List Turn) (choice : MemberChoice) (c : List ℕ) (w : World) (u : IsUntouched limits w) (fair : IsFair limits ts w)
-    (unspent : run_spends limits (round_turns limits choice c (run limits ts w)) (run limits ts w) ≡ false) where
-  after_first : (is_over c (after_round limits choice c (run limits ts w)) ≡ true) ⊎ MayBeDrained c any_size (after_round limits choice c (run limits ts w))
-  after_first =
-      let v = run limits ts w in
-      let k = run_kept c limits (round_turns limits choice c v) v (fair_run_kept limits ts w u fair c) unspent (round_carried c limits choice v) in
-      let later = after_round limits choice c v in
-      over_or_drains c any_size limits later k.stands k.fit.distinct (takes_some c later k.fit.takes) (none_after c limits choice v)
+-- after a round that spends no number
+pub over_or_drained : (limits : Limits) (choice : MemberChoice) (c : List ℕ) (v : World) → IsKept c limits v → run_spends limits (round_turns limits choice c v) v ≡ false
+    → (is_over c (after_round limits choice c v) ≡ true) ⊎ MayBeDrained c any_size (after_round limits choice c v)
+over_or_drained limits choice c v kept unspent =
+    let k = run_kept c limits (round_turns limits choice c v) v kept unspent (round_carried c limits choice v) in
+    let later = after_round limits choice c v in
+    over_or_drains c any_size limits later k.stands k.fit.distinct (takes_some c later k.fit.takes) (none_after c limits choice v)
 
-  pub drain_within : (most : ℕ) → rounds_taken limits choice c most (run limits ts w) ≤ enough_rounds (copies_left c (after_round limits choice c (run limits ts w)))
-  drain_within most = ends_within c limits choice any_size most (run limits ts w) after_first
+pub drain_within : (limits : Limits) (ts : List Turn) (choice : MemberChoice) (c : List ℕ) (most : ℕ) (w : World) → IsUntouched limits w → IsFair limits ts w
+    → run_spends limits (round_turns limits choice c (run limits ts w)) (run limits ts w) ≡ false
+    → rounds_taken limits choice c most (run limits ts w) ≤ enough_rounds (copies_left c (after_round limits choice c (run limits ts w)))
+drain_within limits ts choice c most w u fair unspent = ends_within c limits choice any_size most (run limits ts w) (over_or_drained limits choice c (run limits ts w) (fair_run_kept limits ts w u fair c) unspent)
 
-  pub drain_over : (most : ℕ) → enough_rounds (copies_left c (after_round limits choice c (run limits ts w))) ≤ most → is_over c (drained limits choice c most (run limits ts w)) ≡ true
-  drain_over most enough = ends_over c limits choice any_size most (run limits ts w) after_first enough
+pub drain_over : (limits : Limits) (ts : List Turn) (choice : MemberChoice) (c : List ℕ) (most : ℕ) (w : World) → IsUntouched limits w → IsFair limits ts w
+    → run_spends limits (round_turns limits choice c (run limits ts w)) (run limits ts w) ≡ false
+    → enough_rounds (copies_left c (after_round limits choice c (run limits ts w))) ≤ most → is_over c (drained limits choice c most (run limits ts w)) ≡ true
+drain_over limits ts choice c most w u fair unspent enough = ends_over c limits choice any_size most (run limits ts w) (over_or_drained limits choice c (run limits ts w) (fair_run_kept limits ts w u fair c) unspent) enough

@@ -29,3 +29,4 @@ pub mod Taking
 pub mod Untouched
 pub mod EveryRun
 pub mod OwnConnects
+pub mod Scripts

@@ -4,3 +4,4 @@ pub mod HandedOver
 pub mod Retaining
 pub mod Taking
 pub mod Untouched
+pub mod Scripts

@@ -5,6 +5,7 @@ mod broker_laws;
 mod connect_laws;
 mod receiver_laws;
 mod run_laws;
+mod script_laws;
 mod standing_laws;
 mod taking_laws;
 mod wish_laws;
@@ -15,6 +16,7 @@ pub use receiver_laws::{
     a_receiver_that_stands_was_handed_its_copies_once, every_receiver_stands_in_a_new_world,
 };
 pub use run_laws::{a_world_may_begin_untouched, every_drain_ends, every_run_hands_over_once};
+pub use script_laws::every_script_delivers_exactly_once;
 pub use standing_laws::{
     a_lost_line_leaves_a_receiver_standing, a_new_line_leaves_a_receiver_standing,
     a_restart_leaves_a_receiver_standing, a_stop_after_the_commit_leaves_a_receiver_standing,
