@@ -43,13 +43,13 @@ all_wired c f [] h = tt
 all_wired c f (x ∷ xs) h = (h x, all_wired c f xs h)
 
 -- what another end has under way
-record IsForeign (c ns : List ℕ) (given : ℕ) (v : View) : Type 0 where
+pub record IsForeign (c ns : List ℕ) (given : ℕ) (v : View) : Type 0 where
   pub number : IsAnothers ns given v.number
   pub up : AllByRecursion (IsOthers c) v.up
   pub old_number : IsAnothers ns given v.old_number
   pub old : AllByRecursion (IsOthers c) v.old
 
-foreign : (c d : List ℕ) (limits : Limits) (ns : List ℕ) (w : World) → IsAround c limits ns w → (d ≡ c → ⊥) → IsForeign c ns w.broker.given (view_of d w)
+pub foreign : (c d : List ℕ) (limits : Limits) (ns : List ℕ) (w : World) → IsAround c limits ns w → (d ≡ c → ⊥) → IsForeign c ns w.broker.given (view_of d w)
 foreign c d limits ns w a differ = by (publisher_named d w) (receiver_named d w) refl refl
   where
     by : (x : Option Publisher) (y : Option Receiver) → publisher_named d w ≡ x → receiver_named d w ≡ y → IsForeign c ns w.broker.given (view_by x y)
@@ -77,7 +77,7 @@ foreign c d limits ns w a differ = by (publisher_named d w) (receiver_named d w)
         ]
     by None None e f = record { number = λ n is. absurd cc; up = tt; old_number = λ n is. absurd cc; old = tt }
 
-input_outside : (c ns : List ℕ) (given : ℕ) (x : Option ℕ) (packets : List Packet) (call : Call) → IsAnothers ns given x → AllByRecursion (IsOthers c) packets → input_on x packets ≡ Some call → IsOutside c ns call
+pub input_outside : (c ns : List ℕ) (given : ℕ) (x : Option ℕ) (packets : List Packet) (call : Call) → IsAnothers ns given x → AllByRecursion (IsOthers c) packets → input_on x packets ≡ Some call → IsOutside c ns call
 input_outside c ns given None packets call free all e = absurd cc
 input_outside c ns given (Some n) [] call free all e = absurd cc
 input_outside c ns given (Some n) (packet ∷ rest) call free all e =

@@ -1,7 +1,6 @@
 -- An end joins by a new line and CONNECT, in the eyes of one receiver: itself, or another.
 use Rattle.std.proofs.Common.{◌≡◌, ℕ, suc, ◌≤◌, Bool, true, false, cond, not, ◌||◌, ◌⊎◌, List, ◌∷◌, Option, Some, None, nat_eq, refl, sym, ap, subst, ◌∙◌, arith, inl, inr}
 use Rattle.std.specs.Prelude.{is_some, option_map}
-use Rattle.std.specs.List.{AllByRecursion}
 use Rattle.std.proofs.lemmas.Bool.{cases_Bool, eqb-true}
 use Rattle.mqtt_base.specs.declared.session.CopyId.{CopyId}
 use Rattle.mqtt_flow.specs.Receiver.{connect}
@@ -11,16 +10,17 @@ use Rattle.mqtt_laws.specs.Ends.{Back, Publisher, Receiver, Sent, answers, shake
 use Rattle.mqtt_laws.specs.Lines.{Line, is_one_of, joined}
 use Rattle.mqtt_laws.specs.Run.{carries_clean, is_clean}
 use Rattle.mqtt_laws.specs.World.{Setting, World, calls, connect_end, happens, is_away, is_bad, link_by, links, publisher_told, receiver_named, receiver_told}
-use Rattle.mqtt_laws.proofs.Joins.{new_is}
+use Rattle.mqtt_rules.proofs.NumberSteps.{step_fell}
 use Rattle.mqtt_rules.specs.State.{Broker}
 use Rattle.mqtt_rules.specs.Step.{NewLine, can_link, stepped, told}
 use Rattle.mqtt_world_laws.proofs.Ends.{all_turned}
 use Rattle.mqtt_world_laws.proofs.Steady.{linking_spends_none, steady_step}
 use Rattle.mqtt_world_laws.proofs.Strangers.{linked_given}
 use Rattle.mqtt_handed_laws.specs.Handing.{MayComeBack, receiver_joined}
+use Rattle.mqtt_handed_laws.proofs.Apart.{apart_still}
 use Rattle.mqtt_handed_laws.proofs.OwnDoings.{joins_awaiting, joins_in_step}
 use Rattle.mqtt_handed_laws.proofs.Stopping.{step_tidy}
-use Rattle.mqtt_every_run_laws.specs.Standing.{GoesAlong, HasOthers, IsAnothers, IsAround, IsOtherStranger, IsPast, IsPlaced, IsSeen, Stands, StandsWith}
+use Rattle.mqtt_every_run_laws.specs.Standing.{GoesAlong, HasOthers, IsAnothers, IsAround, IsOtherStranger, IsPlaced, IsSeen, Stands, StandsWith}
 use Rattle.mqtt_every_run_laws.proofs.Around.{IsNotIts, around_mapped, end_others, on_back, on_line, own_stands, whose_name}
 use Rattle.mqtt_every_run_laws.proofs.Like.{seat_joined}
 use Rattle.mqtt_every_run_laws.proofs.Outside.{if_there, lines_of, named_called}
@@ -44,9 +44,6 @@ wider n m ns h = by (nat_eq 0 n) h
     by true h = refl
     by false h = or_right (nat_eq m n) (is_one_of (Some n) ns) h
 
-same_publications : (set : Setting) (now : ℕ) (b : Broker) → can_link b ≡ true → (stepped set.limits set.choice now NewLine b).records.publications ≡ b.records.publications
-same_publications set now b can = ap (λ (c : Broker). c.records.publications) (new_is set.limits set.choice now b can)
-
 joined_placed : (largest : ℕ) (ids : List CopyId) (ns : List ℕ) (set : Setting) (now : ℕ) (clean : Bool) (r : Receiver) (b : Broker) → IsPlaced largest ids ns r b → MayComeBack clean r b → ((n : ℕ) → is_one_of (Some n) ns ≡ true → n ≤ b.given)
     → IsPlaced largest ids (suc b.given ∷ ns) (receiver_joined set.limits set.choice now clean r b) (stepped set.limits set.choice now NewLine b)
 joined_placed largest ids ns set now clean r b placed may known = record {
@@ -60,8 +57,7 @@ joined_placed largest ids ns set now clean r b placed may known = record {
       let le = known n ((lines_of placed.birth largest ids ns r b placed.along).old n old) in
       omega (arith, it, le);
   named = placed.named;
-  differ = placed.differ;
-  past = subst (λ (n : ℕ). AllByRecursion (IsPast n) ids) (sym (same_publications set now b may.can)) placed.past;
+  told = apart_still ids b.records (stepped set.limits set.choice now NewLine b).records placed.told (step_fell set.limits set.choice now NewLine b);
 }
 
 -- ---- the lines of others

@@ -1,5 +1,5 @@
 -- The broker sends what waits for a receiver, on its own line (MQTT 5.0, 4.4, 4.6, 4.9).
-use Rattle.std.proofs.Common.{◌≡◌, ℕ, false, List, [], Option, Some, None, refl, sym, ap, subst, ◌∙◌, append-nil, arith}
+use Rattle.std.proofs.Common.{◌≡◌, ℕ, false, List, [], Option, Some, None, refl, sym, ap, subst, ◌∙◌, append-nil}
 use Rattle.std.specs.Prelude.{is_some}
 use Rattle.mqtt_base.specs.declared.session.CopyId.{CopyId}
 use Rattle.mqtt_laws.specs.Ends.{Publisher, Receiver}
@@ -62,7 +62,7 @@ sent_placed largest ids ns limits choice now n r b placed steady distinct is fit
     let along = sent_along placed.birth largest ids ns limits choice now n placed.line r b placed.along steady distinct is fits placed.apart placed.seat.present in
     record {
       more = [];
-      placed = placed_on largest ids [] ns ns 0 b.records.publications placed.line placed.birth r q b new placed (omega arith) ((step_fell limits choice now (Pump n) b).1) refl tt tt
+      placed = placed_on largest ids [] ns ns 0 placed.line placed.birth r q b new placed (step_fell limits choice now (Pump n) b) refl tt tt
           (subst (λ (all : List CopyId). GoesAlong placed.birth largest all ns q new) (sym (append-nil ids)) along)
           (seat_of_others limits choice now (Pump n) placed.birth placed.line r b placed.seat placed.named tt (off_pump r.line.number n) (off_pump r.line.old_number n))
           placed.its_line (λ m e f. placed.apart m e f);

@@ -1,5 +1,5 @@
 -- The broker restarts, or stops before a commit and restarts, in the eyes of one receiver (MQTT 5.0, 4.1).
-use Rattle.std.proofs.Common.{◌≡◌, ℕ, ◌≤◌, Bool, true, false, cond, List, [], ◌∷◌, ◌++◌, map, Option, Some, None, bytes_eq, refl, sym, ap, subst, ◌∙◌, append-nil, arith, inr}
+use Rattle.std.proofs.Common.{◌≡◌, ℕ, Bool, true, false, cond, List, [], ◌∷◌, ◌++◌, map, Option, Some, None, bytes_eq, refl, sym, ap, subst, ◌∙◌, append-nil, inr}
 use Rattle.std.specs.Prelude.{⊤, is_some, option_map}
 use Rattle.std.specs.List.{AllByRecursion}
 use Rattle.mqtt_base.specs.declared.session.CopyId.{CopyId}
@@ -13,6 +13,7 @@ use Rattle.mqtt_laws.specs.World.{Asking, Setting, Stranger, World, before, brea
 use Rattle.mqtt_laws.proofs.Restarts.{restart_is_hop, restart_owns}
 use Rattle.mqtt_laws.proofs.Seats.{kept_of}
 use Rattle.mqtt_rules.proofs.NumberSteps.{opening_fell}
+use Rattle.mqtt_rules.specs.Numbers.{NoneFell}
 use Rattle.mqtt_rules.specs.State.{Line as BrokerLine, Broker, MemberChoice, session_named}
 use Rattle.mqtt_rules.specs.declared.Limits.{Limits}
 use Rattle.mqtt_world_laws.specs.Spending.{spending}
@@ -48,12 +49,12 @@ placed_restarted largest ids ns limits choice now r b placed tidy = by placed.bi
     new : Broker
     new = reopened limits choice now b
 
-    grows : b.records.publications ≤ new.records.publications
-    grows = (opening_fell limits choice now b.records).1
+    grows : NoneFell b.records new.records
+    grows = opening_fell limits choice now b.records
 
     by : (o : Option ℕ) → GoesAlong o largest ids ns r b → IsHis r.client o placed.line b → GoesFurther largest ids [] q new
     by None along his =
-        let run = run_of None largest ids ns r b along placed.differ in
+        let run = run_of None largest ids ns r b along placed.told.differ in
         let none = (restart_without _ largest run.0 limits choice now r b run.1 his).1 in
         let awaits : IsAwaiting largest ids [] q new = record {
           runs = λ number numbered.
@@ -66,7 +67,7 @@ placed_restarted largest ids ns limits choice now r b placed tidy = by placed.bi
         } in
         record {
           more = [];
-          placed = placed_on largest ids [] ns [] 0 b.records.publications 0 None r q b new placed (omega arith) grows refl tt tt
+          placed = placed_on largest ids [] ns [] 0 0 None r q b new placed grows refl tt tt
               (subst (λ (all : List CopyId). IsAwaiting largest all [] q new) (sym (append-nil ids)) awaits) (record { his = none; present = absent refl refl; former = over refl }) refl (λ n e f. absurd cc);
         }
     by (Some birth) along his =
@@ -79,7 +80,7 @@ placed_restarted largest ids ns limits choice now r b placed tidy = by placed.bi
         let step : IsInStep largest (ids ++ x.more) birth [] q new = record { runs = x.runs; served = x.served; lines = lost_lines r } in
         record {
           more = x.more;
-          placed = placed_on largest ids x.more ns [] birth b.records.publications 0 (Some birth) r q b new placed (omega arith) grows refl x.new x.differ step
+          placed = placed_on largest ids x.more ns [] birth 0 (Some birth) r q b new placed grows refl x.new x.differ step
               (record { his = (owns, stands); present = absent refl refl; former = over refl }) refl (λ n e f. absurd cc);
         }
 

@@ -52,7 +52,7 @@ runs_alone (Some birth) largest ids ns r b k differ = let x = k.runs (place_of i
 
 module _ (c : List ℕ) (largest : ℕ) (limits : Limits) (ids : List CopyId) (ns : List ℕ) (r : Receiver) (w : World) (h : StandsWith c largest limits ids ns w) (e : receiver_named c w ≡ Some r) where
   pub runs_so : RunsAlone (place_of ids) largest ids r w.broker
-  runs_so = let placed = subst (IsSeen largest ids ns w.broker) e h.seen in runs_alone placed.birth largest ids ns r w.broker placed.along placed.differ
+  runs_so = let placed = subst (IsSeen largest ids ns w.broker) e h.seen in runs_alone placed.birth largest ids ns r w.broker placed.along placed.told.differ
 
   pub handed_once : (copy : CopyId) → handed_count copy r ≤ 1
   handed_once copy = let x = runs_so in at_most_once (place_of ids) largest x.after r w.broker x.run_is copy

@@ -43,7 +43,7 @@ lost_rests c largest set w s r e unspent = subst (λ (o : Option ℕ). read_if s
               (record { before = record q { line = left q.line }; placed = lost_placed largest s.ids s.ns set.limits set.choice w.now n r w.broker placed s.standing.around.steady is; same = refl });
         }
 
-after_rests : (c : List ℕ) (a : Asking) (largest : ℕ) (set : Setting) (w : World) → Stands c largest set.limits w → IsForOthers c a → is_bad_asking a w ≡ false → read_first spending set a w ≡ false → MayRestart c largest set.limits (first_step set a w)
+pub after_rests : (c : List ℕ) (a : Asking) (largest : ℕ) (set : Setting) (w : World) → Stands c largest set.limits w → IsForOthers c a → is_bad_asking a w ≡ false → read_first spending set a w ≡ false → MayRestart c largest set.limits (first_step set a w)
 after_rests c (to_broker d) largest set w s other good unspent = may_restart c largest set.limits (first_step set (to_broker d) w) (other_reads c d largest set w s (λ there. other) unspent)
 after_rests c (old_to_broker d) largest set w s other good unspent = may_restart c largest set.limits (first_step set (old_to_broker d) w) (other_reads_old c d largest set w s (λ there. other) unspent)
 after_rests c (pump d) largest set w s other good unspent = may_restart c largest set.limits (first_step set (pump d) w) (other_pumped c d largest set w s (λ there. other) unspent)

@@ -26,10 +26,10 @@ use Rattle.mqtt_every_run_laws.proofs.Outside.{IsOutside, called_copies, fresh_u
 
 -- ---- lists of strangers
 
-abbrev changed : List ℕ → (Stranger → Stranger) → Stranger → Stranger
+abbrev pub changed : List ℕ → (Stranger → Stranger) → Stranger → Stranger
 changed name f s = cond (bytes_eq s.name name) (f s) s
 
-find_changed : (name : List ℕ) (f : Stranger → Stranger) (ss : List Stranger) → ((s : Stranger) → (f s).name ≡ s.name)
+pub find_changed : (name : List ℕ) (f : Stranger → Stranger) (ss : List Stranger) → ((s : Stranger) → (f s).name ≡ s.name)
     → find (λ (s : Stranger). bytes_eq s.name name) (map (changed name f) ss) ≡ option_map f (find (λ (s : Stranger). bytes_eq s.name name) ss)
 find_changed name f [] h = refl
 find_changed name f (s ∷ ss) h = elim (cases_Bool (bytes_eq s.name name)) [

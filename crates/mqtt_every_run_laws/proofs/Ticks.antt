@@ -1,6 +1,6 @@
 -- A tick, in the eyes of one receiver: it does something for others, or closes a line on which its CONNECT didn't come in time
 -- (MQTT 5.0, 3.1, 4.1).
-use Rattle.std.proofs.Common.{◌≡◌, ℕ, ◌≤◌, true, false, List, [], ◌∷◌, Option, Some, None, nat_lt, refl, sym, ap, subst, ◌∙◌, append-nil, arith, inl, inr}
+use Rattle.std.proofs.Common.{◌≡◌, ℕ, true, false, List, [], ◌∷◌, Option, Some, None, nat_lt, refl, sym, ap, subst, ◌∙◌, append-nil, inl, inr}
 use Rattle.std.specs.Prelude.{find}
 use Rattle.std.specs.List.{AllByRecursion}
 use Rattle.std.proofs.lemmas.Bool.{cases_Bool}
@@ -13,6 +13,7 @@ use Rattle.mqtt_laws.specs.Seats.{HasNobody, IsHis, IsIdle, IsOff, Seat}
 use Rattle.mqtt_laws.specs.World.{Setting, World, asks, tick}
 use Rattle.mqtt_laws.proofs.Lists.{all_find}
 use Rattle.mqtt_rules.proofs.NumberSteps.{step_fell}
+use Rattle.mqtt_rules.specs.Numbers.{NoneFell}
 use Rattle.mqtt_rules.specs.State.{Line as BrokerLine, Broker, MemberChoice}
 use Rattle.mqtt_rules.specs.Step.{Tick, at_moment, stepped}
 use Rattle.mqtt_rules.specs.Tick.{is_silent}
@@ -81,8 +82,8 @@ placed_ticked largest ids ns limits choice now r b placed tidy = by (find (λ (x
     new : Broker
     new = stepped limits choice now Tick b
 
-    grows : b.records.publications ≤ new.records.publications
-    grows = (step_fell limits choice now Tick b).1
+    grows : NoneFell b.records new.records
+    grows = step_fell limits choice now Tick b
 
     seat : Seat placed.birth placed.line (publisher_like q) new
     seat = seat_of_others limits choice now Tick placed.birth placed.line r b placed.seat placed.named tt (off_tick r.line.number) (off_tick r.line.old_number)
@@ -95,7 +96,7 @@ placed_ticked largest ids ns limits choice now r b placed tidy = by (find (λ (x
         let x = late_awaiting largest ids limits choice now ns l.number r b along his late in
         record {
           more = [];
-          placed = placed_on largest ids [] ns ns 0 b.records.publications placed.line None r q b new placed (omega arith) grows refl tt tt
+          placed = placed_on largest ids [] ns ns 0 placed.line None r q b new placed grows refl tt tt
               (subst (λ (all : List CopyId). IsAwaiting largest all ns q new) (sym (append-nil ids)) x.0) there placed.its_line (λ n e f. placed.apart n e f);
         }
     closes (Some birth) l along his there inside found =
@@ -104,7 +105,7 @@ placed_ticked largest ids ns limits choice now r b placed tidy = by (find (λ (x
         let x = late_in_step largest ids limits choice now birth ns l.number r b along late in
         record {
           more = [];
-          placed = placed_on largest ids [] ns ns birth b.records.publications placed.line (Some birth) r q b new placed (omega arith) grows refl tt tt
+          placed = placed_on largest ids [] ns ns birth placed.line (Some birth) r q b new placed grows refl tt tt
               (subst (λ (all : List CopyId). IsInStep largest all birth ns q new) (sym (append-nil ids)) x) there placed.its_line (λ n e f. placed.apart n e f);
         }
 
