@@ -1,11 +1,9 @@
 -- What the broker is asked for an end, be it a receiver itself, whatever is under way from it; and a stop after the commit of
 -- that (MQTT 5.0, 3.1.4, 3.8.4, 4.1, 4.3, 4.4).
-use Rattle.std.proofs.Common.{◌≡◌, ℕ, Bool, false, List, [], ◌∷◌, map, Option, Some, None, refl, sym, ap, subst, ◌∙◌, inl, inr}
+use Rattle.std.proofs.Common.{◌≡◌, ℕ, false, List, [], ◌∷◌, map, Option, Some, None, refl, sym, ap, subst, ◌∙◌, inl, inr}
 use Rattle.std.specs.Prelude.{drop, is_some}
-use Rattle.mqtt_base.specs.declared.session.CopyId.{CopyId}
-use Rattle.mqtt_codec.specs.declared.packet.Packet.{Packet}
 use Rattle.mqtt_flow.specs.Receiver.{connect, puback, pubcomp, pubrec}
-use Rattle.mqtt_laws.specs.Ends.{Back, Publisher, Receiver, Wish, answers, asks_for, wire_back}
+use Rattle.mqtt_laws.specs.Ends.{Back, Publisher, Receiver, answers, asks_for, wire_back}
 use Rattle.mqtt_laws.specs.Run.{read_asked, read_first, read_opening}
 use Rattle.mqtt_laws.specs.World.{Asking, Setting, View, World, asks, break, calls_if, first_step, happens, input_on, is_bad_asking, old_to_broker, pump, receiver_named, stop_after, stranger, taken_old, taken_up, tick, to_broker, view_by, view_of}
 use Rattle.mqtt_rules.specs.Flight.{HasDistinctIdentifiers}

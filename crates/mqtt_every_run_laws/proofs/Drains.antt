@@ -5,7 +5,7 @@ use Rattle.std.specs.Prelude.{drop, is_some, option_map}
 use Rattle.std.specs.List.{AllByRecursion}
 use Rattle.mqtt_base.specs.declared.session.CopyId.{CopyId}
 use Rattle.mqtt_inbound.specs.Publisher.{CONNECT}
-use Rattle.mqtt_laws.specs.Ends.{Back, Receiver, Sent, shake}
+use Rattle.mqtt_laws.specs.Ends.{Back, Receiver, shake}
 use Rattle.mqtt_laws.specs.Lines.{stands, unless_closed}
 use Rattle.mqtt_laws.specs.Run.{Turn, are_clean_starts_carried, carries_clean, run, turned}
 use Rattle.mqtt_laws.specs.Seats.{Present, absent, closed, joined, waiting}
@@ -13,7 +13,7 @@ use Rattle.mqtt_laws.specs.World.{Event, Setting, World, ask, asks, call_of, cal
 use Rattle.mqtt_laws.proofs.OwnSeats.{line_of_on, not_among}
 use Rattle.mqtt_rows.specs.Distinct.{AllDiffer}
 use Rattle.mqtt_rules.specs.Flight.{HasDistinctIdentifiers}
-use Rattle.mqtt_rules.specs.State.{Line as BrokerLine, Broker, MemberChoice, line_at}
+use Rattle.mqtt_rules.specs.State.{Line as BrokerLine, MemberChoice, line_at}
 use Rattle.mqtt_rules.specs.Step.{Call, stepped, told}
 use Rattle.mqtt_rules.specs.declared.Limits.{Limits}
 use Rattle.mqtt_world_laws.proofs.Ends.{find_receiver, only_receiver}

@@ -1,5 +1,5 @@
 -- Every run of the world, in the eyes of each receiver; and drains from wherever one comes to (MQTT 5.0, 4.3, 4.4, 4.6).
-use Rattle.std.proofs.Common.{◌≡◌, ℕ, ◌≤◌, ◌⊎◌, Bool, true, false, List, ◌∷◌, Some, nat_lt, ap, subst, arith}
+use Rattle.std.proofs.Common.{◌≡◌, ℕ, ◌≤◌, ◌⊎◌, true, false, List, Some, nat_lt, subst, arith}
 use Rattle.std.specs.Prelude.{All}
 use Rattle.std.proofs.lemmas.Bool.{ltb-true}
 use Rattle.mqtt_base.specs.declared.session.CopyId.{CopyId}

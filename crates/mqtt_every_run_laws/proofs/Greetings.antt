@@ -1,19 +1,18 @@
 -- What the broker makes of a line on which it reads a receiver's CONNECT: the session is connected there, alone, with what the
 -- CONNECT asks for; and what is known of lines and sessions before it (MQTT 5.0, 3.1.2, 3.1.4).
-use Rattle.std.proofs.Common.{◌≡◌, ℕ, suc, Bool, true, false, ◌||◌, List, [], ◌∷◌, ◌++◌, map, Option, Some, None, nat_eq, refl, sym, ap, subst, ◌∙◌, append-nil, inl, inr}
+use Rattle.std.proofs.Common.{◌≡◌, ℕ, suc, Bool, true, false, List, [], ◌∷◌, ◌++◌, map, Option, Some, None, nat_eq, refl, sym, ap, subst, ◌∙◌, append-nil, inl, inr}
 use Rattle.std.specs.Prelude.{filter_map, find, option_map}
 use Rattle.std.specs.List.{AllByRecursion}
 use Rattle.std.proofs.lemmas.Bool.{cases_Bool, eqb-true}
 use Rattle.std.proofs.lemmas.Cmp.{nat_eq_equiv}
 use Rattle.mqtt_base.specs.declared.session.CopyId.{CopyId}
 use Rattle.mqtt_flow.specs.Outbound.{due_from}
-use Rattle.mqtt_flow.specs.Receiver.{Answer, connect, puback, pubcomp, pubrec, spared}
+use Rattle.mqtt_flow.specs.Receiver.{connect, puback, pubcomp, pubrec, spared}
 use Rattle.mqtt_flow.specs.declared.entry.Turn.TheVariants as turns
-use Rattle.mqtt_inbound.specs.Publisher.{CONNECT}
-use Rattle.mqtt_laws.specs.Ends.{Back, Receiver, Sent, answers, asks_for, shake, wire_back}
-use Rattle.mqtt_laws.specs.Hops.{IsIts, IsInOrder, IsKept, IsNoConnect, IsOurLine, IsOurs, IsTaken, Own, lines_left}
+use Rattle.mqtt_laws.specs.Ends.{Back, Receiver, answers, asks_for, wire_back}
+use Rattle.mqtt_laws.specs.Hops.{IsIts, IsInOrder, IsKept, IsNoConnect, IsOurLine, IsOurs, Own, lines_left}
 use Rattle.mqtt_laws.specs.Lines.{is_one_of, unless_closed}
-use Rattle.mqtt_laws.specs.Seats.{Former, IsIdle, Present, absent, closed, joined, late, lingers, over, waiting}
+use Rattle.mqtt_laws.specs.Seats.{Former, Present, absent, closed, joined, late, lingers, over, waiting}
 use Rattle.mqtt_laws.specs.Seen.{is_linked}
 use Rattle.mqtt_laws.proofs.Connects.{heard_line_of, heard_on_line, left_by, left_leaves, taken_birth, taken_from}
 use Rattle.mqtt_laws.proofs.Lists.{all_find}

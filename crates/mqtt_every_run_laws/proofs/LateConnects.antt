@@ -1,7 +1,7 @@
 -- The broker reads a receiver's CONNECT on the line that it gave up: its session is resumed there, or begins there, or there is no
 -- place for one and that line closes (MQTT 5.0, 3.1.2.4, 3.1.4, 3.2.2.2).
-use Rattle.std.proofs.Common.{◌≡◌, ℕ, suc, ◌≤◌, Bool, true, false, cond, List, [], ◌∷◌, ◌++◌, drop, length, map, Option, Some, None, nat_lt, refl, sym, ap, subst, ◌∙◌, append-nil, arith, inl, inr}
-use Rattle.std.specs.Prelude.{filter_map, is_some}
+use Rattle.std.proofs.Common.{◌≡◌, ℕ, suc, Bool, true, false, cond, List, [], ◌∷◌, drop, length, map, Option, Some, None, nat_lt, refl, sym, ap, subst, ◌∙◌, append-nil, arith, inl, inr}
+use Rattle.std.specs.Prelude.{is_some}
 use Rattle.std.specs.List.{AllByRecursion}
 use Rattle.std.proofs.lemmas.Bool.{cases_Bool}
 use Rattle.mqtt_base.specs.declared.session.CopyId.{CopyId}
@@ -12,7 +12,7 @@ use Rattle.mqtt_laws.specs.Ends.{Back, Publisher, Receiver, Sent, answers, shake
 use Rattle.mqtt_laws.specs.Hops.{IsInOrder, IsKept, IsNoConnect, Own, lines_left}
 use Rattle.mqtt_laws.specs.Lines.{Line, is_one_of, told_by, unless_closed}
 use Rattle.mqtt_laws.specs.Run.{read_first, read_if}
-use Rattle.mqtt_laws.specs.Seats.{Former, IsHis, IsIdle, Present, closed, glance_at, late, lingers, over, waits_there}
+use Rattle.mqtt_laws.specs.Seats.{Former, IsHis, IsIdle, Present, closed, late, lingers, over}
 use Rattle.mqtt_laws.specs.World.{Setting, View, World, asks, input_on, old_to_broker, receiver_named, taken_old, view_by, view_of, with_line}
 use Rattle.mqtt_laws.proofs.OwnCalls.{differs, input_elsewhere, left_own, taken_of, waiting_line}
 use Rattle.mqtt_laws.proofs.OwnSeats.{empty_stays, none_there, not_among, present_after}
@@ -44,11 +44,10 @@ use Rattle.mqtt_handed_laws.proofs.Resuming.{Takes, connect_makes}
 use Rattle.mqtt_every_run_laws.specs.Alone.{HaveSentNothing}
 use Rattle.mqtt_every_run_laws.specs.Standing.{GoesAlong, IsPlaced, IsSeen, Stands, line_like, packet_like}
 use Rattle.mqtt_every_run_laws.proofs.Greetings.{alone_left, begun_line, greeted_owns, idle_went, linked_left, resumed_line, unused_next}
+use Rattle.mqtt_every_run_laws.proofs.Heard.{named_there, present_taken}
 use Rattle.mqtt_every_run_laws.proofs.Like.{connect_like, told_like}
-use Rattle.mqtt_every_run_laws.proofs.OldReplies.{present_taken}
-use Rattle.mqtt_every_run_laws.proofs.Outside.{GoesFurther, lines_of, listed}
+use Rattle.mqtt_every_run_laws.proofs.Outside.{lines_of, listed}
 use Rattle.mqtt_every_run_laws.proofs.Reading.{first_read_there}
-use Rattle.mqtt_every_run_laws.proofs.Replies.{named_there}
 
 -- ---- the receiver after it
 

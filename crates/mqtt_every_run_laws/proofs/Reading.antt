@@ -2,14 +2,15 @@
 -- after it (MQTT 5.0, 4.4).
 use Rattle.std.proofs.Common.{◌≡◌, ℕ, false, List, ◌∷◌, ◌++◌, map, Option, Some, None, refl, sym, ap, ◌∙◌, subst}
 use Rattle.std.specs.Prelude.{is_some, option_map}
-use Rattle.mqtt_laws.specs.Ends.{Back, Publisher, Receiver, wire_back}
+use Rattle.mqtt_laws.specs.Ends.{Back, Publisher, Receiver, Sent, wire_back}
+use Rattle.mqtt_laws.specs.Lines.{Line}
 use Rattle.mqtt_laws.specs.Run.{read_first, read_if}
 use Rattle.mqtt_laws.specs.World.{Setting, View, World, asks, calls_if, input_on, old_to_broker, receiver_named, receiver_told, taken_old, taken_up, to_broker, view_by, view_of, with_line}
 use Rattle.mqtt_rules.specs.Step.{Call, Input, stepped, told}
 use Rattle.mqtt_world_laws.specs.Spending.{spending}
 use Rattle.mqtt_handed_laws.specs.Calls.{receiver_called}
 use Rattle.mqtt_handed_laws.specs.Handing.{receiver_after}
-use Rattle.mqtt_every_run_laws.specs.Standing.{IsAround, IsSeen, Stands}
+use Rattle.mqtt_every_run_laws.specs.Standing.{IsSeen, Stands}
 use Rattle.mqtt_every_run_laws.proofs.Around.{changed_its, on_back, on_line, own_around}
 use Rattle.mqtt_every_run_laws.proofs.Outside.{GoesFurther, calls_around, named_called}
 
@@ -20,21 +21,17 @@ module _ (c : List ℕ) (x : Back) (rest : List Back) (largest : ℕ) (set : Set
   view : view_of c w ≡ view_by None (Some r)
   view = ap (λ (o : Option Publisher). view_by o (receiver_named c w)) (s.standing.around.alone (ap is_some e)) ∙ ap (λ (o : Option Receiver). view_by None o) e
 
-  -- of its line
-  pub first_read : r.line.number ≡ Some n → r.line.up ≡ x ∷ rest
-      → GoesFurther largest s.ids s.ns (receiver_after set.limits set.choice w.now call r w.broker) (stepped set.limits set.choice w.now call w.broker)
-      → read_first spending set (to_broker c) w ≡ false → Stands c largest set.limits (asks set (to_broker c) w)
-  first_read is up goes unspent =
-      let w1 = with_line c taken_up taken_up w in
-      let found : receiver_named c w1 ≡ Some (record r { line = taken_up r.line }) = changed_its c (on_back taken_up) w r (λ q. refl) e in
-      let around : IsAround c set.limits s.ns w1 =
-      own_around c set.limits s.ns w (on_line taken_up) (on_back taken_up) (λ p. refl) (λ q. refl) (s.standing.around.alone (ap is_some e)) s.standing.around in
-      let asked : input_on (view_of c w).number (view_of c w).up ≡ Some call =
-      ap (λ (v : View). input_on v.number v.up) view ∙ (ap (λ (o : Option ℕ). input_on o (map (wire_back r.client r.window) r.line.up)) is ∙ ap (λ (xs : List Back). input_on (Some n) (map (wire_back r.client r.window) xs)) up) in
-      let cost : read_if spending set (Some call) w1 ≡ false = sym (ap (λ (o : Option Call). read_if spending set o w1) asked) ∙ unspent in
+  -- a packet was taken off one of its lines, and the broker reads it
+  taken_stands : (f : Line Sent → Line Sent) (g : Line Back → Line Back) (o : Option Call) → o ≡ Some call → GoesFurther largest s.ids s.ns (receiver_called set.limits set.choice w.now call (on_back g r) w.broker) (stepped set.limits set.choice w.now call w.broker)
+      → read_if spending set o (with_line c f g w) ≡ false → Stands c largest set.limits (calls_if set o (with_line c f g w))
+  taken_stands f g o asked goes unspent =
+      let w1 = with_line c f g w in
+      let found : receiver_named c w1 ≡ Some (on_back g r) = changed_its c (on_back g) w r (λ q. refl) e in
+      let around = own_around c set.limits s.ns w (on_line f) (on_back g) (λ p. refl) (λ q. refl) (s.standing.around.alone (ap is_some e)) s.standing.around in
+      let cost : read_if spending set (Some call) w1 ≡ false = sym (ap (λ (x : Option Call). read_if spending set x w1) asked) ∙ unspent in
       let new = stepped set.limits set.choice w.now call w.broker in
       let out = told set.limits set.choice w.now call w.broker in
-      subst (λ (o : Option Call). Stands c largest set.limits (calls_if set o w1)) (sym asked)
+      subst (λ (x : Option Call). Stands c largest set.limits (calls_if set x w1)) (sym asked)
       (record {
         ids = s.ids ++ goes.more;
         ns = s.ns;
@@ -44,26 +41,20 @@ module _ (c : List ℕ) (x : Back) (rest : List Back) (largest : ℕ) (set : Set
         };
       })
 
+  -- of its line
+  pub first_read : r.line.number ≡ Some n → r.line.up ≡ x ∷ rest
+      → GoesFurther largest s.ids s.ns (receiver_after set.limits set.choice w.now call r w.broker) (stepped set.limits set.choice w.now call w.broker)
+      → read_first spending set (to_broker c) w ≡ false → Stands c largest set.limits (asks set (to_broker c) w)
+  first_read is up goes unspent =
+      let asked : input_on (view_of c w).number (view_of c w).up ≡ Some call =
+      ap (λ (v : View). input_on v.number v.up) view ∙ (ap (λ (o : Option ℕ). input_on o (map (wire_back r.client r.window) r.line.up)) is ∙ ap (λ (xs : List Back). input_on (Some n) (map (wire_back r.client r.window) xs)) up) in
+      taken_stands taken_up taken_up (input_on (view_of c w).number (view_of c w).up) asked goes unspent
+
   -- of the one that it gave up
   pub first_read_there : r.line.old_number ≡ Some n → r.line.old ≡ x ∷ rest
       → GoesFurther largest s.ids s.ns (receiver_called set.limits set.choice w.now call (record r { line = taken_old r.line }) w.broker) (stepped set.limits set.choice w.now call w.broker)
       → read_first spending set (old_to_broker c) w ≡ false → Stands c largest set.limits (asks set (old_to_broker c) w)
   first_read_there is old goes unspent =
-      let w1 = with_line c taken_old taken_old w in
-      let found : receiver_named c w1 ≡ Some (record r { line = taken_old r.line }) = changed_its c (on_back taken_old) w r (λ q. refl) e in
-      let around : IsAround c set.limits s.ns w1 =
-      own_around c set.limits s.ns w (on_line taken_old) (on_back taken_old) (λ p. refl) (λ q. refl) (s.standing.around.alone (ap is_some e)) s.standing.around in
       let asked : input_on (view_of c w).old_number (view_of c w).old ≡ Some call =
       ap (λ (v : View). input_on v.old_number v.old) view ∙ (ap (λ (o : Option ℕ). input_on o (map (wire_back r.client r.window) r.line.old)) is ∙ ap (λ (xs : List Back). input_on (Some n) (map (wire_back r.client r.window) xs)) old) in
-      let cost : read_if spending set (Some call) w1 ≡ false = sym (ap (λ (o : Option Call). read_if spending set o w1) asked) ∙ unspent in
-      let new = stepped set.limits set.choice w.now call w.broker in
-      let out = told set.limits set.choice w.now call w.broker in
-      subst (λ (o : Option Call). Stands c largest set.limits (calls_if set o w1)) (sym asked)
-      (record {
-        ids = s.ids ++ goes.more;
-        ns = s.ns;
-        standing = record {
-          around = calls_around c set s.ns call w1 around cost;
-          seen = subst (IsSeen largest (s.ids ++ goes.more) s.ns new) (sym (named_called c set call w1 ∙ ap (option_map (receiver_told new out)) found)) goes.placed;
-        };
-      })
+      taken_stands taken_old taken_old (input_on (view_of c w).old_number (view_of c w).old) asked goes unspent

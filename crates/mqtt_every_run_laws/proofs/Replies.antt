@@ -1,6 +1,6 @@
 -- The broker reads a receiver's answer on its line: PUBACK, PUBREC or PUBCOMP (MQTT 5.0, 4.3.2, 4.3.3, 4.13).
-use Rattle.std.proofs.Common.{◌≡◌, ℕ, Bool, true, false, List, [], ◌∷◌, map, Option, Some, None, refl, sym, ap, subst, ◌∙◌, inl, inr}
-use Rattle.std.specs.Prelude.{Err, Ok, is_some}
+use Rattle.std.proofs.Common.{◌≡◌, ℕ, Bool, false, List, [], ◌∷◌, map, Option, Some, None, refl, sym, ap, subst, ◌∙◌, inl, inr}
+use Rattle.std.specs.Prelude.{Err, Ok}
 use Rattle.mqtt_base.specs.Codes.{protocol_error}
 use Rattle.mqtt_base.specs.declared.session.CopyId.{CopyId}
 use Rattle.mqtt_codec.specs.declared.packet.Packet.{Packet}
@@ -9,41 +9,34 @@ use Rattle.mqtt_flow.specs.Receiver.{Answer, HasNoConnect, connect, puback, pubc
 use Rattle.mqtt_flow.specs.declared.entry.Turn.{Turn}
 use Rattle.mqtt_flow.specs.declared.entry.Turn.TheVariants as turns
 use Rattle.mqtt_inbound.specs.Publisher.{CONNECT}
-use Rattle.mqtt_laws.specs.Ends.{Back, Publisher, Receiver, Sent, answers, no_content, plain, shake, wire_back}
+use Rattle.mqtt_laws.specs.Ends.{Back, Receiver, answers, no_content, plain, shake, wire_back}
 use Rattle.mqtt_laws.specs.Hops.{Own}
-use Rattle.mqtt_laws.specs.Lines.{Line}
 use Rattle.mqtt_laws.specs.Run.{read_first}
-use Rattle.mqtt_laws.specs.Seats.{Former, Present, Seat, absent, closed, joined, waiting}
-use Rattle.mqtt_laws.specs.World.{Setting, World, asks, receiver_named, taken_up, to_broker}
+use Rattle.mqtt_laws.specs.Seats.{Present, absent, closed, joined, waiting}
+use Rattle.mqtt_laws.specs.World.{Setting, World, asks, receiver_named, to_broker}
 use Rattle.mqtt_laws.proofs.Frame.{own_done}
 use Rattle.mqtt_laws.proofs.Mine.{AreMine, mine_append, mine_owns}
-use Rattle.mqtt_laws.proofs.OwnCalls.{input_elsewhere}
-use Rattle.mqtt_laws.proofs.OwnSeats.{former_after, joined_after, line_of_on, not_among}
 use Rattle.mqtt_laws.proofs.OwnStep.{heard_of, input_is}
 use Rattle.mqtt_laws.proofs.Publishes.{drop_is}
 use Rattle.mqtt_message.specs.Queue.{CopyRow}
 use Rattle.mqtt_records.specs.Session.{copy_place}
 use Rattle.mqtt_records.specs.declared.session.Session.{Session}
-use Rattle.mqtt_rows.specs.Distinct.{AllDiffer}
 use Rattle.mqtt_rows.specs.Order.{row_at}
 use Rattle.mqtt_rules.proofs.NumberSteps.{step_fell}
 use Rattle.mqtt_rules.specs.Deeds.{Deed, after_all, rows_of_all}
 use Rattle.mqtt_rules.specs.Inbound.{on_answer}
 use Rattle.mqtt_rules.specs.Outbound.{of_entry, turn_deeds}
-use Rattle.mqtt_rules.specs.State.{Line as BrokerLine, Broker, Env, MemberChoice, queue_on, session_at, session_named}
-use Rattle.mqtt_rules.specs.Step.{Input, at_moment, deeds, env_of, next_packet, stepped, told}
+use Rattle.mqtt_rules.specs.State.{Line as BrokerLine, Broker, Env, MemberChoice, queue_on, session_at}
+use Rattle.mqtt_rules.specs.Step.{Input, at_moment, deeds, env_of, next_packet, stepped}
 use Rattle.mqtt_rules.specs.declared.Limits.{Limits}
 use Rattle.mqtt_world_laws.specs.Fair.{IsSteady}
 use Rattle.mqtt_world_laws.specs.Spending.{spending}
 use Rattle.mqtt_handed_laws.specs.Handing.{IsListening, after_answer, reads_answer}
-use Rattle.mqtt_handed_laws.specs.Own.{IsInStep, Listens}
+use Rattle.mqtt_handed_laws.specs.Own.{IsInStep}
 use Rattle.mqtt_handed_laws.proofs.Apart.{apart_still}
-use Rattle.mqtt_handed_laws.proofs.Listening.{listens_in_step}
 use Rattle.mqtt_handed_laws.proofs.OwnCalls.{puback_in_step, pubcomp_in_step, pubrec_in_step}
-use Rattle.mqtt_every_run_laws.specs.Standing.{GoesAlong, IsPlaced, IsSeen, Stands, line_like, packet_like, publisher_like}
-use Rattle.mqtt_every_run_laws.proofs.Like.{former_as, told_like}
-use Rattle.mqtt_every_run_laws.proofs.Losses.{none_named}
-use Rattle.mqtt_handed_laws.proofs.Numbers.{place_of, places_number}
+use Rattle.mqtt_every_run_laws.specs.Standing.{IsPlaced, IsSeen, Stands, line_like, packet_like}
+use Rattle.mqtt_every_run_laws.proofs.Heard.{hears, placed_after}
 use Rattle.mqtt_every_run_laws.proofs.Outside.{goes_as}
 use Rattle.mqtt_every_run_laws.proofs.Reading.{first_read}
 
@@ -104,13 +97,6 @@ no_number o k x rest r b (joined birth own at there) is up = let clash : Some k 
 
 -- ---- where it is after it
 
-pub named_there : (largest : ℕ) (ids : List CopyId) (birth : ℕ) (ns : List ℕ) (r : Receiver) (b : Broker) → IsInStep largest ids birth ns r b → AllDiffer ids → is_some (session_named r.client b.records) ≡ true
-named_there largest ids birth ns r b k differ = by (session_named r.client b.records) refl
-  where
-    by : (o : Option Session) → session_named r.client b.records ≡ o → is_some o ≡ true
-    by None e = let h = k.runs (place_of ids) (places_number ids differ) in absurd (none_named r.client h.session.birth h.session b.records.sessions h.receiving.session h.receiving.client e)
-    by (Some s) e = refl
-
 module _ (largest : ℕ) (ids : List CopyId) (ns : List ℕ) (limits : Limits) (choice : MemberChoice) (now : ℕ) (rest : List Back) (r : Receiver) (l : BrokerLine) (s : Session) (b : Broker) (a : IsListening r l s b) where
   read_step : (x : Answer) (birth : ℕ) → IsInStep largest ids birth ns r b → HasNoConnect (x ∷ []) → r.line.up ≡ answers x ∷ rest
       → IsInStep largest ids birth ns (reads_answer limits choice now l.number x r b) (after_answer limits choice now l.number x r b)
@@ -139,40 +125,17 @@ read_placed largest ids ns limits choice now n x rest r b placed steady is none 
     by (joined birth own at there) =
         let both : Some placed.line ≡ Some n = sym at ∙ is in
         let same : placed.line ≡ n = cc in
-        let y = line_of_on placed.line (Some birth) b there in
-        let l = y.0 in
-        let number : l.number ≡ placed.line = y.3 in
-        let step = subst (λ (z : Option ℕ). GoesAlong z largest ids ns r b) own placed.along in
-        let seat = subst (λ (z : Option ℕ). Seat z placed.line (publisher_like r) b) own placed.seat in
-        let listens : Listens r l birth b = listens_in_step largest ids birth ns placed.line birth r l b step steady.lines steady.coherent.ordered at y.1 y.2 (not_among r.line.old_number placed.line (λ e. placed.apart placed.line at e)) in
-        let s = listens.session in
-        let a = listens.listening in
-        let call = Input l.number (wire_back r.client r.window (answers x)) in
-        let new = stepped limits choice now call b in
-        let after_ = read_step largest ids ns limits choice now rest r l s b a x birth step none up in
-        let owns = read_owns largest ids ns limits choice now rest r l s b a x birth placed.line none seat.his.0 in
-        let taken = record r { line = taken_up r.line } in
-        let far = input_elsewhere limits choice now l.number (wire_back r.client r.window (answers x)) r.line.old_number b (λ m e same_. placed.apart m (at ∙ ap Some (sym number ∙ same_)) e) in
-        let present = joined_after limits choice now call b r.client birth placed.line (line_like taken.line) owns at there in
-        let former = former_after limits choice now call b (Some birth) (Some birth) placed.line placed.line (line_like taken.line) far (λ z of e calm on. absurd (placed.apart placed.line at e))
-        (former_as (Some birth) placed.line (line_like r.line) (line_like taken.line) b refl refl seat.former) in
-        let out = told limits choice now call b in
-        let line_is = ap (λ (p : Publisher). p.line) (told_like new out taken) in
-        let result : Goal l.number = record {
-          birth = Some birth;
-          line = placed.line;
-          along = after_;
-          seat = record {
-            his = (owns, named_there largest ids birth ns (reads_answer limits choice now l.number x r b) new after_ placed.told.differ);
-            present = subst (λ (z : Line Sent). Present (Some birth) placed.line z new) line_is present;
-            former = subst (λ (z : Line Sent). Former (Some birth) placed.line z new) line_is former;
-          };
-          its_line = placed.its_line;
-          apart = λ m e f. placed.apart m e f;
-          named = placed.named;
-          told = apart_still ids b.records new.records placed.told (step_fell limits choice now call b);
-        } in
-        subst Goal (number ∙ same) result
+        let h = hears largest ids ns limits birth r b placed own there steady at in
+        let l = h.line in
+        let s = h.listens.session in
+        let a = h.listens.listening in
+        let packet = wire_back r.client r.window (answers x) in
+        let new = after_answer limits choice now l.number x r b in
+        let owns = read_owns largest ids ns limits choice now rest r l s b a x birth placed.line none h.owns in
+        let told = apart_still ids b.records new.records placed.told (step_fell limits choice now (Input l.number packet) b) in
+        let result : Goal l.number = placed_after largest ids ns limits birth r b placed own there choice now l.number packet ids h.number owns told at
+        (read_step largest ids ns limits choice now rest r l s b a x birth h.step none up) in
+        subst Goal (h.number ∙ same) result
 
 -- ---- as an event
 

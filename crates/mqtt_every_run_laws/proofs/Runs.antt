@@ -1,16 +1,12 @@
 -- Every run of the world, in the eyes of one receiver: an event at a time it stands as before (MQTT 5.0, 4.3, 4.4).
-use Rattle.std.proofs.Common.{◌≡◌, ℕ, Bool, true, false, cond, List, [], ◌∷◌, Option, Some, None, refl, sym, ap, subst}
-use Rattle.mqtt_base.specs.declared.session.Cause.TheVariants.{Direct}
+use Rattle.std.proofs.Common.{◌≡◌, ℕ, Bool, true, false, cond, List, [], ◌∷◌, refl}
 use Rattle.mqtt_base.specs.declared.session.CopyId.{CopyId}
 use Rattle.mqtt_laws.specs.Run.{Turn, are_clean_starts_carried, carries_clean, read_at, read_first, read_in, read_opening, run, setting, turned}
 use Rattle.mqtt_laws.specs.World.{Event, Setting, World, ask, clock, connect_end, first_step, give_up, happens, is_bad, publish, publisher, receiver, restart, stop_after, stop_before, subscribe, to_end}
-use Rattle.mqtt_rules.specs.Laws.{AreWithin}
-use Rattle.mqtt_rules.specs.State.{Broker}
 use Rattle.mqtt_rules.specs.declared.Limits.{Limits}
-use Rattle.mqtt_world_laws.specs.Fair.{IsFair, IsNew}
 use Rattle.mqtt_world_laws.specs.Spending.{run_spends, spending}
 use Rattle.mqtt_world_laws.proofs.Runs.{both_true, either}
-use Rattle.mqtt_world_laws.proofs.Walks.{Walk, turn_goes}
+use Rattle.mqtt_world_laws.proofs.Walks.{turn_goes}
 use Rattle.mqtt_every_run_laws.specs.Alone.{Carries, HaveSentNothing}
 use Rattle.mqtt_every_run_laws.specs.Standing.{Stands, StandsWith}
 use Rattle.mqtt_every_run_laws.specs.Taking.{any_size}

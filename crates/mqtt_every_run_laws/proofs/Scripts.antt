@@ -1,6 +1,5 @@
 -- All that holds of every run; and each drain of a script ends, from wherever the script has come to (MQTT 5.0, 4.3, 4.4, 4.6).
-use Rattle.std.proofs.Common.{◌≡◌, ℕ, zero, suc, ◌+◌, ◌*◌, ◌≤◌, ◌⊎◌, Bool, true, false, cond, not, ◌||◌, ◌&&◌, List, [], ◌∷◌, ◌++◌, refl, sym, ap, subst, ◌∙◌, arith, inl, inr}
-use Rattle.mqtt_base.specs.declared.session.CopyId.{CopyId}
+use Rattle.std.proofs.Common.{◌≡◌, ℕ, zero, suc, ◌+◌, ◌*◌, ◌≤◌, Bool, true, false, cond, ◌||◌, List, [], ◌∷◌, ◌++◌, refl, ap, subst, ◌∙◌, arith}
 use Rattle.mqtt_laws.specs.Run.{Turn, are_clean_starts_carried, carries_clean, read_at, run, setting, turned}
 use Rattle.mqtt_laws.specs.World.{World, start}
 use Rattle.mqtt_rules.specs.State.{MemberChoice}
@@ -14,7 +13,7 @@ use Rattle.mqtt_world_laws.proofs.OnceRuns.{ends_once, enters_once, start_apart,
 use Rattle.mqtt_world_laws.proofs.Routed.{run_routed}
 use Rattle.mqtt_world_laws.proofs.Runs.{accepts_once, both_true, either, few_open}
 use Rattle.mqtt_world_laws.proofs.StepRuns.{run_enters, run_goes_out}
-use Rattle.mqtt_handed_laws.specs.Drains.{Doing, after_round, all_turns, copies_left, count_by_end, drain_by, drain_turns, drained, drains, enough_rounds, happens, is_bad_drain, is_none_left, is_over, line_stands, round_turns, rounds_taken, turns_of}
+use Rattle.mqtt_handed_laws.specs.Drains.{Doing, after_round, all_turns, copies_left, count_by_end, drain_by, drain_turns, drains, happens, is_bad_drain, is_none_left, is_over, round_turns, rounds_taken, turns_of}
 use Rattle.mqtt_every_run_laws.specs.Scripts.{AllDrainsEnd, DeliversOnce, DrainEnds, EndsWhere}
 use Rattle.mqtt_every_run_laws.specs.Untouched.{IsUntouched}
 use Rattle.mqtt_every_run_laws.proofs.Drains.{ends_over, ends_within}

@@ -1,10 +1,10 @@
 -- How a world may begin: with nothing stored, or opened on what a broker left (MQTT 5.0, 4.1).
-use Rattle.std.proofs.Common.{ℕ, ◌≤◌, List}
+use Rattle.std.proofs.Common.{ℕ, ◌≤◌}
 use Rattle.mqtt_base.specs.declared.session.Cause.TheVariants.{Direct}
 use Rattle.mqtt_base.specs.declared.session.CopyId.{CopyId}
 use Rattle.mqtt_records.specs.declared.records.Records.{Records}
 use Rattle.mqtt_laws.specs.World.{start}
-use Rattle.mqtt_rules.proofs.Copies.{each_more, kinds}
+use Rattle.mqtt_rules.proofs.Copies.{each_more}
 use Rattle.mqtt_rules.proofs.FlightStep.{opening_keeps}
 use Rattle.mqtt_rules.specs.Flight.{HasDistinctIdentifiers}
 use Rattle.mqtt_rules.specs.Laws.{AreWithin, IsCoherentMessage, QueuesWithin}

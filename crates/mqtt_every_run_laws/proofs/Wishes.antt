@@ -9,17 +9,14 @@ use Rattle.mqtt_codec.specs.Subscriptions.{Subscription as Asked}
 use Rattle.mqtt_codec.specs.declared.packet.Packet.{Packet}
 use Rattle.mqtt_inbound.specs.Identifiers.{is_among}
 use Rattle.mqtt_inbound.specs.Publisher.{CONNECT}
-use Rattle.mqtt_laws.specs.Ends.{Back, Publisher, Receiver, Sent, Wish, asks_for, no_content, plain, shake, wire_back}
+use Rattle.mqtt_laws.specs.Ends.{Back, Receiver, Wish, asks_for, no_content, plain, shake, wire_back}
 use Rattle.mqtt_laws.specs.Hops.{Own}
-use Rattle.mqtt_laws.specs.Lines.{Line}
 use Rattle.mqtt_laws.specs.Run.{read_first}
-use Rattle.mqtt_laws.specs.Seats.{Former, Present, Seat, absent, closed, joined, late, lingers, over, waiting}
-use Rattle.mqtt_laws.specs.World.{Setting, World, asks, old_to_broker, receiver_named, taken_old, taken_up, to_broker}
+use Rattle.mqtt_laws.specs.Seats.{Former, Present, absent, closed, joined, late, lingers, over, waiting}
+use Rattle.mqtt_laws.specs.World.{Setting, World, asks, old_to_broker, receiver_named, to_broker}
 use Rattle.mqtt_laws.proofs.Far.{AreFar}
 use Rattle.mqtt_laws.proofs.FarActs.{far_quiet}
 use Rattle.mqtt_laws.proofs.Mine.{AreMine, mine_append}
-use Rattle.mqtt_laws.proofs.OwnCalls.{input_elsewhere}
-use Rattle.mqtt_laws.proofs.OwnSeats.{former_after, joined_after, line_of_on, lingers_after, not_among, present_after}
 use Rattle.mqtt_laws.proofs.OwnStep.{heard_of}
 use Rattle.mqtt_laws.proofs.Quiet.{quiet_deliveries}
 use Rattle.mqtt_records.specs.Records.{subscribe_in}
@@ -36,7 +33,7 @@ use Rattle.mqtt_rules.specs.Numbers.{NoneFell}
 use Rattle.mqtt_rules.specs.Packets.{publish_of, size_of, suback}
 use Rattle.mqtt_rules.specs.Routing.{CopyTo, deliver, is_queued}
 use Rattle.mqtt_rules.specs.State.{Line as BrokerLine, Broker, Env, MemberChoice, line_at, session_at}
-use Rattle.mqtt_rules.specs.Step.{Input, env_of, stepped, told}
+use Rattle.mqtt_rules.specs.Step.{Input, env_of, stepped}
 use Rattle.mqtt_rules.specs.Subscribe as sub
 use Rattle.mqtt_rules.specs.declared.Limits.{Limits}
 use Rattle.mqtt_subscribe.specs.declared.subscribe.Subscribe.{Subscribe as Asking}
@@ -47,18 +44,16 @@ use Rattle.mqtt_handed_laws.specs.Apart.{AreToldApart, HasCome}
 use Rattle.mqtt_handed_laws.specs.Calls.{turned_back}
 use Rattle.mqtt_handed_laws.specs.Handing.{IsListening, receiver_after}
 use Rattle.mqtt_handed_laws.specs.Late.{reads_old_wish}
-use Rattle.mqtt_handed_laws.specs.Own.{IsBroughtCopy, Listens}
+use Rattle.mqtt_handed_laws.specs.Own.{IsBroughtCopy}
 use Rattle.mqtt_handed_laws.specs.Served.{IsTidy}
 use Rattle.mqtt_handed_laws.proofs.Apart.{apart_still}
-use Rattle.mqtt_handed_laws.proofs.Listening.{lingers_in_step, listens_in_step}
 use Rattle.mqtt_handed_laws.proofs.OwnSubscribes.{AreRetainedApart, asking, old_subscribes_apart, subscribes_apart}
 use Rattle.mqtt_every_run_laws.specs.Retaining.{AreRetainedOnce}
-use Rattle.mqtt_every_run_laws.specs.Standing.{GoesAlong, IsPlaced, IsSeen, Stands, line_like, packet_like, publisher_like}
-use Rattle.mqtt_every_run_laws.proofs.Like.{former_as, told_like}
-use Rattle.mqtt_every_run_laws.proofs.OldReplies.{calm_drop, present_taken}
+use Rattle.mqtt_every_run_laws.specs.Standing.{IsPlaced, IsSeen, Stands, line_like, packet_like}
+use Rattle.mqtt_every_run_laws.proofs.Heard.{hears, hears_there, placed_after, placed_after_there}
 use Rattle.mqtt_every_run_laws.proofs.Outside.{GoesFurther}
 use Rattle.mqtt_every_run_laws.proofs.Reading.{first_read, first_read_there}
-use Rattle.mqtt_every_run_laws.proofs.Replies.{named_there, packet_owns}
+use Rattle.mqtt_every_run_laws.proofs.Replies.{packet_owns}
 
 -- ---- the session and its line stay its own
 
@@ -157,46 +152,17 @@ wish_placed largest ids ns limits choice now n w rest r b placed steady tidy onc
     by (joined birth own at there) =
         let both : Some placed.line ≡ Some n = sym at ∙ is in
         let same : placed.line ≡ n = cc in
-        let y = line_of_on placed.line (Some birth) b there in
-        let l = y.0 in
-        let number : l.number ≡ placed.line = y.3 in
-        let step = subst (λ (z : Option ℕ). GoesAlong z largest ids ns r b) own placed.along in
-        let seat = subst (λ (z : Option ℕ). Seat z placed.line (publisher_like r) b) own placed.seat in
-        let listens : Listens r l birth b = listens_in_step largest ids birth ns placed.line birth r l b step steady.lines steady.coherent.ordered at y.1 y.2 (not_among r.line.old_number placed.line (λ e. placed.apart placed.line at e)) in
-        let s = listens.session in
-        let a = listens.listening in
+        let h = hears largest ids ns limits birth r b placed own there steady at in
+        let l = h.line in
+        let a = h.listens.listening in
         let call = asking w r l.number in
-        let new = stepped limits choice now call b in
-        let q = receiver_after limits choice now call r b in
-        let x = subscribes_apart largest ids limits choice now birth ns w rest r l s b step a tidy up in
+        let x = subscribes_apart largest ids limits choice now birth ns w rest r l h.listens.session b h.step a tidy up in
         let more = x.0.more in
-        let apart : AreToldApart (ids ++ more) new.records = wished_apart birth ids more b.records new.records placed.told (step_fell limits choice now call b) x.0.new (x.1 (retained_apart limits b steady once)) in
-        let owns = wish_owns r.client birth placed.line limits choice now r.window r.client w r l s b a seat.his.0 in
-        let taken = record r { line = taken_up r.line } in
-        let far = input_elsewhere limits choice now l.number (wire_back r.client r.window (asks_for w)) r.line.old_number b (λ m e same_. placed.apart m (at ∙ ap Some (sym number ∙ same_)) e) in
-        let present = joined_after limits choice now call b r.client birth placed.line (line_like taken.line) owns at there in
-        let former = former_after limits choice now call b (Some birth) (Some birth) placed.line placed.line (line_like taken.line) far (λ z of e calm on. absurd (placed.apart placed.line at e))
-        (former_as (Some birth) placed.line (line_like r.line) (line_like taken.line) b refl refl seat.former) in
-        let out = told limits choice now call b in
-        let line_is = ap (λ (p : Publisher). p.line) (told_like new out taken) in
-        let result : Goal l.number = record {
-          more = more;
-          placed = record {
-            birth = Some birth;
-            line = placed.line;
-            along = x.0.in_step;
-            seat = record {
-              his = (owns, named_there largest (ids ++ more) birth ns q new x.0.in_step apart.differ);
-              present = subst (λ (z : Line Sent). Present (Some birth) placed.line z new) line_is present;
-              former = subst (λ (z : Line Sent). Former (Some birth) placed.line z new) line_is former;
-            };
-            its_line = placed.its_line;
-            apart = λ m e f. placed.apart m e f;
-            named = placed.named;
-            told = apart;
-          };
-        } in
-        subst Goal (number ∙ same) result
+        let apart = wished_apart birth ids more b.records (stepped limits choice now call b).records placed.told (step_fell limits choice now call b) x.0.new (x.1 (retained_apart limits b steady once)) in
+        let owns = wish_owns r.client birth placed.line limits choice now r.window r.client w r l h.listens.session b a h.owns in
+        let after_ = placed_after largest ids ns limits birth r b placed own there choice now l.number (wire_back r.client r.window (asks_for w)) (ids ++ more) h.number owns apart at x.0.in_step in
+        let result : Goal l.number = record { more = more; placed = after_ } in
+        subst Goal (h.number ∙ same) result
 
 no_number : (o : Option ℕ) (k : ℕ) (w : Wish) (rest : List Back) (r : Receiver) (b : Broker) → Present o k (line_like r.line) b → r.line.number ≡ None → r.line.up ≡ asks_for w ∷ rest → ⊥
 no_number o k w rest r b (absent none none_up) is up = wish_up w rest r.line.up up none_up
@@ -220,45 +186,17 @@ old_wish_placed largest ids ns limits choice now n w rest r b placed steady tidy
     by (lingers birth own at calm there) =
         let both : Some placed.line ≡ Some n = sym at ∙ is in
         let same : placed.line ≡ n = cc in
-        let y = line_of_on placed.line (Some birth) b there in
-        let l = y.0 in
-        let number : l.number ≡ placed.line = y.3 in
-        let step = subst (λ (z : Option ℕ). GoesAlong z largest ids ns r b) own placed.along in
-        let seat = subst (λ (z : Option ℕ). Seat z placed.line (publisher_like r) b) own placed.seat in
-        let listens : Listens (turned_back r) l birth b = lingers_in_step largest ids birth ns placed.line birth r l b step steady.lines steady.coherent.ordered at y.1 y.2 (not_among r.line.number placed.line (λ e. placed.apart placed.line e at)) in
-        let s = listens.session in
-        let a = listens.listening in
+        let h = hears_there largest ids ns limits birth r b placed own there steady at in
+        let l = h.line in
+        let a = h.listens.listening in
         let call = asking w r l.number in
-        let new = stepped limits choice now call b in
-        let q = reads_old_wish limits choice now l.number w r b in
-        let x = old_subscribes_apart largest ids limits choice now birth ns w rest r l s b step a tidy old in
+        let x = old_subscribes_apart largest ids limits choice now birth ns w rest r l h.listens.session b h.step a tidy old in
         let more = x.0.more in
-        let apart : AreToldApart (ids ++ more) new.records = wished_apart birth ids more b.records new.records placed.told (step_fell limits choice now call b) x.0.new (x.1 (retained_apart limits b steady once)) in
-        let owns = wish_owns r.client birth placed.line limits choice now r.window r.client w (turned_back r) l s b a seat.his.0 in
-        let taken = record r { line = taken_old r.line } in
-        let far = input_elsewhere limits choice now l.number (wire_back r.client r.window (asks_for w)) r.line.number b (λ m e same_. placed.apart m e (at ∙ ap Some (sym number ∙ same_))) in
-        let present = present_after limits choice now call b (Some birth) (Some birth) placed.line placed.line (line_like taken.line) far (λ z of e on. absurd (placed.apart placed.line e at)) (present_taken (Some birth) placed.line r b seat.present) in
-        let former = lingers_after limits choice now call b r.client birth placed.line (line_like taken.line) owns at (calm_drop r.line.old calm) there in
-        let out = told limits choice now call b in
-        let line_is = ap (λ (p : Publisher). p.line) (told_like new out taken) in
-        let result : Goal l.number = record {
-          more = more;
-          placed = record {
-            birth = Some birth;
-            line = placed.line;
-            along = x.0.in_step;
-            seat = record {
-              his = (owns, named_there largest (ids ++ more) birth ns q new x.0.in_step apart.differ);
-              present = subst (λ (z : Line Sent). Present (Some birth) placed.line z new) line_is present;
-              former = subst (λ (z : Line Sent). Former (Some birth) placed.line z new) line_is former;
-            };
-            its_line = placed.its_line;
-            apart = λ m e f. placed.apart m e f;
-            named = placed.named;
-            told = apart;
-          };
-        } in
-        subst Goal (number ∙ same) result
+        let apart = wished_apart birth ids more b.records (stepped limits choice now call b).records placed.told (step_fell limits choice now call b) x.0.new (x.1 (retained_apart limits b steady once)) in
+        let owns = wish_owns r.client birth placed.line limits choice now r.window r.client w (turned_back r) l h.listens.session b a h.owns in
+        let after_ = placed_after_there largest ids ns limits birth r b placed own there choice now l.number (wire_back r.client r.window (asks_for w)) (ids ++ more) h.number owns apart at calm x.0.in_step in
+        let result : Goal l.number = record { more = more; placed = after_ } in
+        subst Goal (h.number ∙ same) result
 
 no_old_number : (o : Option ℕ) (k : ℕ) (w : Wish) (rest : List Back) (r : Receiver) (b : Broker) → Former o k (line_like r.line) b → r.line.old_number ≡ None → r.line.old ≡ asks_for w ∷ rest → ⊥
 no_old_number o k w rest r b (over none) is old = wish_up w rest r.line.old old none

@@ -37,6 +37,7 @@ pub mod OwnDoings
 pub mod OwnRefusals
 pub mod OwnOthers
 pub mod Listening
+pub mod QueueLengths
 pub mod OwnSubscribes
 pub mod Apart
 pub mod Examples
