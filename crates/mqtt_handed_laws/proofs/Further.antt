@@ -64,6 +64,16 @@ no_more_left (l ∷ ls) (k ∷ ks) e h =
     let rest = no_more_left ls ks (omega arith) (λ n. h (suc n)) in
     omega arith
 
+-- and no more copies stand than before
+pub no_more_stand : (ls ks : List Lot) → length ks ≡ length ls → Onward ls ks → length (queue_of ks) ≤ length (queue_of ls)
+no_more_stand [] [] e h = omega arith
+no_more_stand [] (k ∷ ks) e h = absurd (omega arith)
+no_more_stand (l ∷ ls) [] e h = omega arith
+no_more_stand (standing x m ∷ ls) (standing y n ∷ ks) e h = let rest = no_more_stand ls ks (omega arith) (λ n. h (suc n)) in omega arith
+no_more_stand (standing x m ∷ ls) (past a y n ∷ ks) e h = let rest = no_more_stand ls ks (omega arith) (λ n. h (suc n)) in omega arith
+no_more_stand (past a x m ∷ ls) (standing y n ∷ ks) e h = absurd (h 0)
+no_more_stand (past a x m ∷ ls) (past c y n ∷ ks) e h = no_more_stand ls ks (omega arith) (λ n. h (suc n))
+
 pub less_left : (ls ks : List Lot) → length ks ≡ length ls → Onward ls ks → (n : ℕ) (l k : Lot) → slice_get ls n ≡ Some l → slice_get ks n ≡ Some k → way_left k < way_left l → all_left ks < all_left ls
 less_left [] ks e h n l k a b f = absurd (cc)
 less_left (x ∷ ls) [] e h n l k a b f = absurd (omega arith)

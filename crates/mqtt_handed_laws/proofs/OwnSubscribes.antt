@@ -1,6 +1,6 @@
 -- The broker reads a receiver's SUBSCRIBE: the copies of retained messages that its filter brings enter its queue, the
 -- answer goes out, and the two stay in step.
-use Rattle.std.proofs.Common.{◌≡◌, ℕ, suc, ◌-◌, ◌≤◌, Bool, true, false, cond, not, ◌⊎◌, List, [], ◌∷◌, ◌++◌, drop, filter, length, map, Option, Some, None, nat_eq, nat_lt, refl, sym, ap, subst, ◌∙◌, append-nil, append_assoc, arith, inl, inr}
+use Rattle.std.proofs.Common.{◌≡◌, ℕ, suc, ◌+◌, ◌-◌, ◌≤◌, Bool, true, false, cond, not, ◌⊎◌, List, [], ◌∷◌, ◌++◌, drop, filter, length, map, Option, Some, None, nat_eq, nat_lt, refl, sym, ap, subst, ◌∙◌, append-nil, append_assoc, arith, inl, inr}
 use Rattle.std.specs.Prelude.{⊤, ◌&&◌, ◌||◌, filter_map, flat_map, is_some, nat_le}
 use Rattle.std.specs.List.{AllByRecursion}
 use Rattle.std.proofs.lemmas.Bool.{cases_Bool, leb-true}
@@ -23,6 +23,7 @@ use Rattle.mqtt_laws.proofs.Joins.{none_closed}
 use Rattle.mqtt_laws.proofs.Names.{named_is, only_deeds}
 use Rattle.mqtt_laws.proofs.OwnStep.{heard_of, input_is}
 use Rattle.mqtt_laws.proofs.Quiet.{quiet_line, session_on}
+use Rattle.mqtt_laws.proofs.Seeing.{done_sessions}
 use Rattle.mqtt_message.specs.declared.message.MessageCopy.{MessageCopy}
 use Rattle.mqtt_message.specs.declared.message.RetainedMessage.{RetainedMessage}
 use Rattle.mqtt_props.specs.declared.table.PropName.TheVariants.{SubscriptionIdentifier}
@@ -33,6 +34,7 @@ use Rattle.mqtt_records.specs.declared.session.Session.{Session}
 use Rattle.mqtt_records.specs.declared.subscription.Subscription.{Subscription}
 use Rattle.mqtt_routes.specs.Retained.{kept_for}
 use Rattle.mqtt_rows.specs.Distinct.{AllDiffer}
+use Rattle.mqtt_rows.specs.Order.{row_at}
 use Rattle.mqtt_rules.proofs.Acts.{brought_to}
 use Rattle.mqtt_rules.proofs.Copies.{IsMade, IsOf, brought_made as all_made, each_append, each_filter, each_more}
 use Rattle.mqtt_rules.proofs.FlightRows.{all_at, all_more, change_row-here, found_key}
@@ -67,6 +69,8 @@ use Rattle.mqtt_handed_laws.proofs.Answering.{all_join, heard_append, its_went, 
 use Rattle.mqtt_handed_laws.proofs.CallsOfOthers.{done_all, first_runs, moment_served}
 use Rattle.mqtt_handed_laws.proofs.Entering.{linked_same}
 use Rattle.mqtt_handed_laws.proofs.Own.{safe_served, session_is, some_is}
+use Rattle.mqtt_handed_laws.proofs.QueueLengths.{IsUpTo, entered_upto}
+use Rattle.mqtt_handed_laws.proofs.RoundPhases.{length_map}
 use Rattle.mqtt_handed_laws.proofs.Serving.{AreOfQueue, served_parts}
 use Rattle.mqtt_handed_laws.proofs.Walk.{entered_runs, queue_enter, unheard_of}
 
@@ -273,13 +277,14 @@ module _ (largest : ℕ) (env : Env) (small : env.limits.queue ≤ QUEUE_LIMIT) 
   HasRoom n b = (x : Session) → session_at birth b.records ≡ Some x → n ≤ env.limits.queue - own_stay env x
 
   -- by these deeds so many copies entered, and so many more may
-  record Grows (ds : List Deed) (n : ℕ) (more : List CopyId) (b : Broker) : Type 0 where
+  record Grows (ds : List Deed) (n entered : ℕ) (more : List CopyId) (b : Broker) : Type 0 where
     pub going : Going more (after_all ds b)
+    pub longer : (most : ℕ) → IsUpTo birth most b → IsUpTo birth (most + entered) (after_all ds b)
     pub room : HasRoom n (after_all ds b)
     pub hush : AllByRecursion IsHushed ds
     pub counted : counts (after_all ds b).records ≡ counts b.records
 
-  enter_one : (d : CopyTo) (n : ℕ) (more : List CopyId) (b : Broker) → d.birth ≡ birth → is_queued d ≡ true → HasRoom (suc n) b → Going more b → Grows (deliver env d b) n (more ++ d.copy.id ∷ []) b
+  enter_one : (d : CopyTo) (n : ℕ) (more : List CopyId) (b : Broker) → d.birth ≡ birth → is_queued d ≡ true → HasRoom (suc n) b → Going more b → Grows (deliver env d b) n 1 (more ++ d.copy.id ∷ []) b
   enter_one d n more b to queued room k =
       let s = k.session in
       let is : s.birth ≡ birth = found_key birth_of birth s b.records.sessions k.found in
@@ -295,8 +300,11 @@ module _ (largest : ℕ) (env : Env) (small : env.limits.queue ≤ QUEUE_LIMIT) 
       let e = made.0 in
       let last : session_at birth (after_all ds b).records ≡ Some e.mine = ap (λ (j : ℕ). session_at j (after_all ds b).records) (sym is) ∙ e.found in
       let stays = e.stays in
-      subst (λ (zs : List Deed). Grows zs n (more ++ d.copy.id ∷ []) b) (sym deeds_are) (record {
+      subst (λ (zs : List Deed). Grows zs n 1 (more ++ d.copy.id ∷ []) b) (sym deeds_are) (record {
         going = record { served = served; queues = made.1; session = e.mine; found = last; runs = entered_runs largest env small r birth ns ids has d.copy s b more queued (omega (arith, all)) is own_at served k.runs };
+        longer = λ most h.
+            let one : most + 1 ≡ suc most = omega arith in
+            subst (λ (k : ℕ). IsUpTo birth k (after_all ds b)) (sym one) (entered_upto birth most env d.copy s b h);
         room = λ x there.
             let it : e.mine ≡ x = some_is e.mine x (sym last ∙ there) in
             subst (λ (y : Session). n ≤ env.limits.queue - own_stay env y) it (omega (arith, all, stays));
@@ -310,8 +318,11 @@ module _ (largest : ℕ) (env : Env) (small : env.limits.queue ≤ QUEUE_LIMIT) 
   abbrev id_in : CopyTo → CopyId
   id_in d = d.copy.id
 
-  enter_all : (ds : List CopyTo) (more : List CopyId) (b : Broker) → AllByRecursion IsToIt ds → HasRoom (length ds) b → Going more b → Grows (series (map (deliver env) ds) b) 0 (more ++ map id_in ds) b
-  enter_all [] more b q room k = record { going = subst (λ (ms : List CopyId). Going ms b) (sym (append-nil more)) k; room = room; hush = tt; counted = refl }
+  plus_none : (most : ℕ) → most ≡ most + 0
+  plus_none most = omega arith
+
+  enter_all : (ds : List CopyTo) (more : List CopyId) (b : Broker) → AllByRecursion IsToIt ds → HasRoom (length ds) b → Going more b → Grows (series (map (deliver env) ds) b) 0 (length ds) (more ++ map id_in ds) b
+  enter_all [] more b q room k = record { going = subst (λ (ms : List CopyId). Going ms b) (sym (append-nil more)) k; longer = λ most h. subst (λ (j : ℕ). IsUpTo birth j b) (plus_none most) h; room = room; hush = tt; counted = refl }
   enter_all (d ∷ ds) more b q room k =
       let first = deliver env d b in
       let c = after_all first b in
@@ -321,6 +332,9 @@ module _ (largest : ℕ) (env : Env) (small : env.limits.queue ≤ QUEUE_LIMIT) 
       let end = after_append first others b in
       record {
         going = subst (λ (z : Broker). Going (more ++ map id_in (d ∷ ds)) z) (sym end) (subst (λ (ms : List CopyId). Going ms (after_all others c)) (append_assoc more (d.copy.id ∷ []) (map id_in ds)) rest.going);
+        longer = λ most h.
+            let all : most + 1 + length ds ≡ most + suc (length ds) = omega arith in
+            subst (λ (z : Broker). IsUpTo birth (most + suc (length ds)) z) (sym end) (subst (λ (j : ℕ). IsUpTo birth j (after_all others c)) all (rest.longer (most + 1) (one.longer most h)));
         room = subst (λ (z : Broker). HasRoom 0 z) (sym end) rest.room;
         hush = each_append IsHushed first others one.hush rest.hush;
         counted = ap (λ (z : Broker). counts z.records) end ∙ (rest.counted ∙ one.counted);
@@ -371,13 +385,14 @@ module _ (largest : ℕ) (env : Env) (small : env.limits.queue ≤ QUEUE_LIMIT) 
     pub more : List CopyId
     pub new : AllByRecursion (IsBroughtCopy birth n) more
     pub going : Going more (after_all g.deeds b)
+    pub longer : (most : ℕ) → IsUpTo birth most b → IsUpTo birth (most + length more) (after_all g.deeds b)
     pub hush : AllByRecursion IsHushed g.deeds
     pub late : AllByRecursion (λ (d : CopyTo). is_queued d ≡ false) g.late
     pub differ : AllDiffer (map number_of b.records.retained) → AllDiffer more
     pub apart : AreRetainedApart b → AreToldApart more (after_all g.deeds b).records
 
   refuses : (code n : ℕ) (b : Broker) → Going [] b → Grants (sub.refused_filter code) n b
-  refuses code n b k = record { more = []; new = tt; going = k; hush = tt; differ = λ apart. tt; late = tt; apart = λ a. record { come = tt; differ = tt } }
+  refuses code n b k = record { more = []; new = tt; going = k; longer = λ most h. subst (λ (j : ℕ). IsUpTo birth j b) (plus_none most) h; hush = tt; differ = λ apart. tt; late = tt; apart = λ a. record { come = tt; differ = tt } }
 
   not_queued : (t : Bool) → (t ≡ true → ⊥) → t ≡ false
   not_queued true h = absurd (h refl)
@@ -443,6 +458,12 @@ module _ (largest : ℕ) (env : Env) (small : env.limits.queue ≤ QUEUE_LIMIT) 
         more = map id_in ds;
         new = queued_new n all made;
         going = subst (Going (map id_in ds)) (sym (after_append first others b)) rest.going;
+        longer = λ most h.
+            let there : IsUpTo birth most c = λ y at_c.
+            let it : with_subscription x s ≡ y = some_is (with_subscription x s) y (sym (subscribed_is x n s b at) ∙ at_c) in
+            subst (λ (z : Session). length z.queue ≤ most) it (h s at) in
+            subst (λ (z : Broker). IsUpTo birth (most + length (map id_in ds)) z) (sym (after_append first others b))
+            (subst (λ (j : ℕ). IsUpTo birth (most + j) (after_all others c)) (sym (length_map id_in ds)) (rest.longer most there));
         hush = each_append IsHushed first others (tt, (tt, tt)) rest.hush;
         differ = λ apart. queued_differ all (brought_differ w s b apart);
         late = late_ones all;
@@ -506,6 +527,7 @@ module _ (largest : ℕ) (env : Env) (small : env.limits.queue ≤ QUEUE_LIMIT) 
     pub more : List CopyId
     pub new : AllByRecursion (IsBroughtCopy birth n) more
     pub going : Going more (after_all ds b)
+    pub longer : (most : ℕ) → IsUpTo birth most b → IsUpTo birth (most + length more) (after_all ds b)
     pub hush : AllByRecursion IsHushed ds
     pub differ : AllDiffer (map number_of b.records.retained) → AllDiffer more
     pub apart : AreRetainedApart b → AreToldApart more (after_all ds b).records
@@ -516,7 +538,7 @@ module _ (largest : ℕ) (env : Env) (small : env.limits.queue ≤ QUEUE_LIMIT) 
       let packet = suback p.identifier (map (λ (x : Asked). identifier_in_use) p.subscriptions) in
       let tells = offer (line_at line b) packet in
       let q = telling_offer (line_at line b) packet tt in
-      record { more = []; new = tt; going = subst (Going []) (sym (telling_after tells b q)) k; hush = telling_hush tells q; differ = λ apart. tt; apart = λ a. record { come = tt; differ = tt } }
+      record { more = []; new = tt; going = subst (Going []) (sym (telling_after tells b q)) k; longer = λ most h. subst (λ (j : ℕ). IsUpTo birth j (after_all tells b)) (plus_none most) (subst (IsUpTo birth most) (sym (telling_after tells b q)) h); hush = telling_hush tells q; differ = λ apart. tt; apart = λ a. record { come = tt; differ = tt } }
   subscribes_by false line s w p a b is k its at =
       let identifier = number_at SubscriptionIdentifier p.properties in
       let n = sub.next_number b.records in
@@ -537,6 +559,7 @@ module _ (largest : ℕ) (env : Env) (small : env.limits.queue ≤ QUEUE_LIMIT) 
         more = one.more;
         new = one.new;
         going = subst (Going one.more) (sym end) one.going;
+        longer = λ most h. subst (IsUpTo birth (most + length one.more)) (sym end) (one.longer most h);
         hush = each_append IsHushed front tells (each_append IsHushed g.deeds [] one.hush tt) (telling_hush tells q);
         differ = one.differ;
         apart = λ a. subst (λ (z : Broker). AreToldApart one.more z.records) (sym end) (one.apart a);
@@ -555,6 +578,7 @@ pub record Brings (largest : ℕ) (ids : List CopyId) (limits : Limits) (choice 
   pub new : AllByRecursion (IsBroughtCopy birth (suc b.records.subscribes)) more
   pub runs : RunsFor largest (ids ++ more) birth r (stepped limits choice now (asking w r n) b)
   pub served : IsServed r.client birth ns (stepped limits choice now (asking w r n) b)
+  pub longer : (most : ℕ) → IsUpTo birth most b → IsUpTo birth (most + length more) (stepped limits choice now (asking w r n) b)
   pub hush : AllByRecursion IsHushed (deeds_in limits choice now (asking w r n) b)
   pub differ : AllDiffer (map number_of b.records.retained) → AllDiffer more
   pub apart : AreRetainedApart b → AreToldApart more (stepped limits choice now (asking w r n) b).records
@@ -606,6 +630,9 @@ brings largest ids limits choice now birth ns w r there l s b k name a tidy =
       new = does.new;
       runs = λ number m. done_all number largest (ids ++ does.more) birth r rows last (whole.runs number m);
       served = moment_served r.client birth ns rows last whole.served;
+      longer = λ most h x e.
+          let k : IsUpTo birth (most + length does.more) last = subst (IsUpTo birth (most + length does.more)) (sym end) (does.longer most h) in
+          k x (ap (row_at birth_of birth) (sym (done_sessions rows last)) ∙ e);
       hush = hush;
       differ = does.differ;
       apart = λ a.
@@ -616,6 +643,7 @@ brings largest ids limits choice now birth ns w r there l s b k name a tidy =
 -- the two are in step, with copies that differ, where no two retained messages are of one publication
 pub record Wished (largest : ℕ) (ids : List CopyId) (limits : Limits) (choice : MemberChoice) (now birth : ℕ) (ns : List ℕ) (w : Wish) (r : Receiver) (n : ℕ) (b : Broker) : Type 0 where
   pub after : Subscribed largest ids birth ns (suc b.records.subscribes) (receiver_after limits choice now (Input n (wire_back r.client r.window (asks_for w))) r b) (stepped limits choice now (Input n (wire_back r.client r.window (asks_for w))) b)
+  pub longer : (most : ℕ) → IsUpTo birth most b → IsUpTo birth (most + length after.more) (stepped limits choice now (Input n (wire_back r.client r.window (asks_for w))) b)
   pub differ : AllDiffer (map number_of b.records.retained) → AllDiffer after.more
   pub apart : AreRetainedApart b → AreToldApart after.more (stepped limits choice now (Input n (wire_back r.client r.window (asks_for w))) b).records
 
@@ -635,6 +663,7 @@ wished largest ids limits choice now birth ns w rest r l s b k a tidy up =
           lines = record { own = k.lines.own; old = k.lines.old };
         };
       };
+      longer = x.longer;
       differ = x.differ;
       apart = x.apart;
     }

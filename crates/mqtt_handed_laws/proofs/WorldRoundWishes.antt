@@ -1,6 +1,6 @@
 -- A receiver that is connected and in step: the broker reads its SUBSCRIBE, and it is so again, with the copies of retained
 -- messages that the filter brings.
-use Rattle.std.proofs.Common.{◌≡◌, ℕ, suc, Bool, true, false, cond, List, [], ◌∷◌, ◌++◌, drop, map, Option, Some, None, refl, sym, ap, subst, ◌∙◌, arith}
+use Rattle.std.proofs.Common.{◌≡◌, ℕ, suc, ◌+◌, Bool, true, false, cond, List, [], ◌∷◌, ◌++◌, drop, length, map, Option, Some, None, refl, sym, ap, subst, ◌∙◌, arith}
 use Rattle.std.specs.Prelude.{◌≢◌, flat_map, nat_le, option_map}
 use Rattle.std.specs.List.{AllByRecursion}
 use Rattle.mqtt_base.specs.declared.session.CopyId.{CopyId}
@@ -35,6 +35,7 @@ use Rattle.mqtt_handed_laws.specs.Seen.{Numbering}
 use Rattle.mqtt_handed_laws.specs.Served.{IsTidy}
 use Rattle.mqtt_handed_laws.specs.WorldRounds.{AreTold, IsConnected, IsOlder}
 use Rattle.mqtt_handed_laws.proofs.OwnSubscribes.{wished}
+use Rattle.mqtt_handed_laws.proofs.QueueLengths.{IsUpTo}
 use Rattle.mqtt_handed_laws.proofs.WorldRoundSteps.{called_again, listens_now, stays_up}
 
 -- ---- its deeds connect, close and end nobody
@@ -104,6 +105,7 @@ module _ (number : Numbering) (largest window : ℕ) (ids : List CopyId) (birth 
     pub more : List CopyId
     pub new : AllByRecursion (IsBroughtCopy birth (suc b.records.subscribes)) more
     pub differ : AllDiffer (ids ++ more)
+    pub longer : (most : ℕ) → IsUpTo birth most b → IsUpTo birth (most + length more) (stepped limits choice now (asking r n w) b)
     pub connected : IsConnected largest window (ids ++ more) birth ns (receiver_after limits choice now (asking r n w) r b) (stepped limits choice now (asking r n w) b)
     pub up : (receiver_after limits choice now (asking r n w) r b).line.up ≡ rest
 
@@ -134,6 +136,7 @@ module _ (number : Numbering) (largest window : ℕ) (ids : List CopyId) (birth 
         more = x.after.more;
         new = x.after.new;
         differ = differ_join ids x.after.more told.differ (x.differ told.retained) (apart_from birth b.records.subscribes ids x.after.more told.older x.after.new);
+        longer = x.longer;
         connected = called_again number largest window ids birth ns limits choice now call r b quiet (ids ++ x.after.more) q c x.after.in_step refl refl linked;
         up = stays_up number largest window ids birth ns limits choice now call r b quiet (drop 1 r.line.up) ∙ ap (drop 1) up;
       }

@@ -1,9 +1,10 @@
 -- Rounds of a drain of the world are rounds of its receiver's hop, so that it ends as the hop's does.
-use Rattle.std.proofs.Common.{◌≡◌, inl, inr, ⊎_elim, ℕ, zero, suc, ◌*◌, ◌≤◌, Bool, true, false, cond, not, ◌||◌, List, [], ◌∷◌, ◌++◌, length, map, Option, Some, None, bytes_eq, refl, sym, ap, subst, ◌∙◌, append-nil, arith}
+use Rattle.std.proofs.Common.{◌≡◌, inl, inr, ⊎_elim, ℕ, zero, suc, ◌+◌, ◌*◌, ◌≤◌, max, Bool, true, false, cond, not, ◌||◌, List, [], ◌∷◌, ◌++◌, length, map, take, Option, Some, None, bytes_eq, refl, sym, ap, subst, ◌∙◌, append-nil, arith}
 use Rattle.std.specs.Prelude.{find, filter_map, is_some, option_map, slice_get}
 use Rattle.std.specs.List.{AllByRecursion}
 use Rattle.std.proofs.lemmas.Bool.{cases_Bool}
 use Rattle.mqtt_base.specs.declared.session.CopyId.{CopyId}
+use Rattle.mqtt_flow.specs.Outbound as rules
 use Rattle.mqtt_flow.specs.OutboundWorld.{Lot, World as Hop, queue_of, step}
 use Rattle.mqtt_flow.specs.OutboundWorld as hop
 use Rattle.mqtt_flow.specs.Receiver.{Answer}
@@ -12,11 +13,12 @@ use Rattle.mqtt_laws.specs.Ends.{Back, Publisher, Receiver, Wish, answers, asks_
 use Rattle.mqtt_message.specs.declared.message.RetainedMessage.{RetainedMessage}
 use Rattle.mqtt_laws.specs.Lines.{stands}
 use Rattle.mqtt_laws.specs.Run.{Turn, run, turned}
-use Rattle.mqtt_laws.specs.World.{Setting, World, ask, calls, end_reads, publisher_named, publisher_told, pump, receiver_named, receiver_told, taken_up, to_broker, to_end, with_line}
+use Rattle.mqtt_laws.specs.World.{Event, Setting, World, ask, call_of, calls, calls_if, end_reads, happens, is_bad, publisher_named, publisher_told, pump, receiver_named, receiver_told, taken_up, to_broker, to_end, with_line}
+use Rattle.mqtt_records.specs.declared.session.Session.{Session}
 use Rattle.mqtt_rows.specs.Distinct.{AllDiffer}
 use Rattle.mqtt_rules.proofs.Copies.{each_append}
 use Rattle.mqtt_rules.proofs.Leads.{found_passes}
-use Rattle.mqtt_rules.specs.State.{Broker, MemberChoice, session_named}
+use Rattle.mqtt_rules.specs.State.{Broker, MemberChoice, capped, session_at, session_named}
 use Rattle.mqtt_rules.specs.Step.{Call, Input, Outcome, Pump, stepped, told}
 use Rattle.mqtt_rules.specs.declared.Limits.{Limits}
 use Rattle.mqtt_world_laws.proofs.Ends.{find_publisher, find_receiver, named_receiver, only_receiver}
@@ -30,21 +32,24 @@ use Rattle.mqtt_handed_laws.specs.Served.{IsTidy, RunsWithAll}
 use Rattle.mqtt_handed_laws.specs.Tags.{id_of}
 use Rattle.mqtt_handed_laws.specs.WorldRounds.{AreTold, AsksOnce, ComesTo, DrainsWith, IsAnswer, IsOlder, MayAsk, IsDrained, MayDrain, moment_of, moments_of}
 use Rattle.mqtt_handed_laws.proofs.Answering.{named_now, standing_by}
-use Rattle.mqtt_handed_laws.proofs.DrainCauses.{causes_of_run}
+use Rattle.mqtt_handed_laws.proofs.DrainCauses.{causes_of_run, ends_by_more}
 use Rattle.mqtt_handed_laws.proofs.DrainRuns.{run_append}
+use Rattle.mqtt_handed_laws.proofs.Further.{Reached, goes_on, no_more_stand}
 use Rattle.mqtt_handed_laws.proofs.Numbers.{place_of, places_number}
 use Rattle.mqtt_handed_laws.proofs.OwnDoings.{keeps_reading}
 use Rattle.mqtt_handed_laws.proofs.RoundFurther.{drain_empties, round_run, rounds_within, two_each}
 use Rattle.mqtt_handed_laws.proofs.Stopping.{step_tidy}
+use Rattle.mqtt_handed_laws.proofs.Own.{some_is}
+use Rattle.mqtt_handed_laws.proofs.RoundPhases.{brokers_length, ends_copies, turns_length}
 use Rattle.mqtt_handed_laws.proofs.Turns.{same_entries}
-use Rattle.mqtt_handed_laws.proofs.WorldRoundLines.{HasSame}
+use Rattle.mqtt_handed_laws.proofs.WorldRoundLines.{HasSame, moment_again, step_now}
 use Rattle.mqtt_handed_laws.proofs.WorldRoundWishes.{wish_at}
 use Rattle.mqtt_handed_laws.proofs.WorldRoundReads.{Grows, all_read, reads_at}
-use Rattle.mqtt_handed_laws.proofs.WorldRoundSteps.{At, answer_at, hop_linked, listens_now, pump_at, pump_same, pump_up}
+use Rattle.mqtt_handed_laws.proofs.WorldRoundSteps.{At, answer_at, hop_linked, listens_now, pump_at, pump_same, pump_up, reached}
 
 -- ---- who is found by the name, where one is changed
 
-none_changed : {X : Type 0} (test : X → Bool) (f : X → X) (xs : List X) → find test xs ≡ None → find test (map (λ (x : X). cond (test x) (f x) x) xs) ≡ None
+pub none_changed : {X : Type 0} (test : X → Bool) (f : X → X) (xs : List X) → find test xs ≡ None → find test (map (λ (x : X). cond (test x) (f x) x) xs) ≡ None
 none_changed test f [] e = refl
 none_changed test f (x ∷ xs) e = elim (cases_Bool (test x)) [
   | inl its ↦ let found : Some x ≡ None = rw its at e in absurd cc
@@ -93,16 +98,16 @@ module _ (limits : Limits) (choice : MemberChoice) (client : List ℕ) where
   abbrev set : Setting
   set = record { limits = limits; choice = choice }
 
-  pump_is : (w : World) (r : Receiver) (n : ℕ) → receiver_named client w ≡ Some r → publisher_named client w ≡ None → r.line.number ≡ Some n → turned limits (turn_of choice (ask (pump client))) w ≡ calls set (Pump n) w
+  pub pump_is : (w : World) (r : Receiver) (n : ℕ) → receiver_named client w ≡ Some r → publisher_named client w ≡ None → r.line.number ≡ Some n → turned limits (turn_of choice (ask (pump client))) w ≡ calls set (Pump n) w
   pump_is w r n named alone number = rw (named, alone, number) refl
 
   reading_is : (w : World) (r : Receiver) → receiver_named client w ≡ Some r → publisher_named client w ≡ None → turned limits (turn_of choice (to_end client)) w ≡ end_reads client w
   reading_is w r named alone = rw (named, alone) refl
 
-  abbrev taken_off : World → World
+  abbrev pub taken_off : World → World
   taken_off w = with_line client taken_up taken_up w
 
-  back_is : (w : World) (r : Receiver) (n : ℕ) (u : Back) (rest : List Back) → receiver_named client w ≡ Some r → publisher_named client w ≡ None → r.line.number ≡ Some n → r.line.up ≡ u ∷ rest
+  pub back_is : (w : World) (r : Receiver) (n : ℕ) (u : Back) (rest : List Back) → receiver_named client w ≡ Some r → publisher_named client w ≡ None → r.line.number ≡ Some n → r.line.up ≡ u ∷ rest
       → turned limits (turn_of choice (ask (to_broker client))) w ≡ calls set (Input n (wire_back r.client r.window u)) (taken_off w)
   back_is w r n u rest named alone number up = rw (named, alone, number, up) refl
 
@@ -262,16 +267,33 @@ module _ (limits : Limits) (choice : MemberChoice) (client : List ℕ) where
     lengths f [] = refl
     lengths f (x ∷ xs) = ap suc (lengths f xs)
 
+    -- its session, with as many rows in its queue
+    pub record Holds (h : Hop) (w : World) : Type 0 where
+      pub session : Session
+      pub found : session_at birth w.broker.records ≡ Some session
+      pub left : copies_left client w ≡ length session.queue
+      pub many : length session.queue ≡ length (queue_of h.copies)
+
+    pub holds : (ups : List Back) (h : Hop) (w : World) → Sees ups h w → Holds h w
+    holds ups h w x =
+        let r = x.receiver in
+        let li = listens_now number largest window ids birth ns r w.broker x.at.connected in
+        let s = li.session in
+        let l = x.at.connected.line in
+        let name : r.client ≡ client = named_receiver client r w x.named in
+        let found : session_named client w.broker.records ≡ Some s = ap (λ (c : List ℕ). session_named c w.broker.records) (sym name) ∙ named_now r l s w.broker li.listening in
+        record {
+          session = s;
+          found = ap (λ (k : ℕ). session_at k w.broker.records) (sym li.birth_is) ∙ li.listening.session;
+          left = ap copies_by found;
+          many = sym (ap (λ (v : Hop). length (queue_of v.copies)) (sym x.at.seen_is)
+              ∙ (ap length (same_entries x.at.copies l.went s.queue (standing_by x.at.copies r l s w.broker x.at.run_is.queue_is li.listening)) ∙ lengths _ s.queue));
+        }
+
     pub left_is : (h : Hop) (w : World) → Comes h w → copies_left client w ≡ length (queue_of h.copies)
     left_is h w x =
-        let r = x.receiver in
-        let li = listens_now number largest window ids birth ns r w.broker x.may.connected in
-        let s = li.session in
-        let l = x.may.connected.line in
-        let name : r.client ≡ client = named_receiver client r w x.may.named in
-        let found : session_named client w.broker.records ≡ Some s = ap (λ (c : List ℕ). session_named c w.broker.records) (sym name) ∙ named_now r l s w.broker li.listening in
-        ap copies_by found ∙ sym (ap (λ (v : Hop). length (queue_of v.copies)) (sym x.seen_is)
-        ∙ (ap length (same_entries x.copies l.went s.queue (standing_by x.copies r l s w.broker x.run_is.queue_is li.listening)) ∙ lengths _ s.queue))
+        let y = holds x.receiver.line.up h w (record { receiver = x.receiver; named = x.may.named; alone = x.may.alone; at = at_of h w x; up = refl }) in
+        y.left ∙ y.many
 
     over_is : (h : Hop) (w : World) → Comes h w → is_over client w ≡ rounds.is_over h
     over_is h w x =
@@ -305,6 +327,67 @@ module _ (limits : Limits) (choice : MemberChoice) (client : List ℕ) where
     pub moments_length : (most : ℕ) (w : World) → length (moments_of limits choice client most w) ≡ most
     moments_length zero w = refl
     moments_length (suc more) w = ap suc (moments_length more (after_round limits choice client w))
+
+-- ---- the moment stands
+
+moment_if : (s : Setting) (o : Option Call) (w : World) → moment_of (calls_if s o w) ≡ moment_of w
+moment_if s None w = refl
+moment_if s (Some call) w =
+    ap (λ (k : ℕ). max k (capped w.now)) (step_now s.limits s.choice w.now call w.broker) ∙ moment_again w.broker.now (capped w.now)
+
+moment_unless : (bad : Bool) (w v : World) → moment_of v ≡ moment_of w → moment_of (cond bad w v) ≡ moment_of w
+moment_unless true w v e = refl
+moment_unless false w v e = e
+
+module _ (limits : Limits) (choice : MemberChoice) (client : List ℕ) where
+  abbrev KeepsMoment : Event → Type 0
+  KeepsMoment e = (w : World) → moment_of (turned limits (turn_of choice e) w) ≡ moment_of w
+
+  pump_moment : KeepsMoment (ask (pump client))
+  pump_moment w =
+      let s : Setting = record { limits = limits; choice = choice } in
+      moment_unless (is_bad (ask (pump client)) w) w (happens s (ask (pump client)) w) (moment_if s (call_of s (pump client) w) w)
+
+  read_moment : KeepsMoment (to_end client)
+  read_moment w = moment_unless (is_bad (to_end client) w) w (end_reads client w) refl
+
+  back_moment : KeepsMoment (ask (to_broker client))
+  back_moment w =
+      let s : Setting = record { limits = limits; choice = choice } in
+      moment_unless (is_bad (ask (to_broker client)) w) w (happens s (ask (to_broker client)) w) (moment_if s (call_of s (to_broker client) w) (with_line client taken_up taken_up w))
+
+  times_moment : (e : Event) → KeepsMoment e → (k : ℕ) (w : World) → moment_of (run limits (times k (turn_of choice e)) w) ≡ moment_of w
+  times_moment e keeps zero w = refl
+  times_moment e keeps (suc k) w = times_moment e keeps k (turned limits (turn_of choice e) w) ∙ keeps w
+
+  pub round_moment : (w : World) → moment_of (after_round limits choice client w) ≡ moment_of w
+  round_moment w =
+      let sent = run limits (turn_of choice (ask (pump client)) ∷ []) w in
+      let ends = all_to_end choice client sent in
+      let was = run limits ends sent in
+      ap moment_of (run_append limits ends (all_to_broker choice client was) sent)
+      ∙ (times_moment (ask (to_broker client)) back_moment (ups_by (receiver_named client was)) was
+      ∙ (times_moment (to_end client) read_moment (downs_by (receiver_named client sent)) sent ∙ pump_moment w))
+
+  -- so all rounds are at the first one's
+  one_moment : (most k : ℕ) (w : World) (f : ℕ → Bool) → rounds.Has f (take k (moments_of limits choice client most w)) → rounds.Has f (moment_of w ∷ [])
+  one_moment zero zero w f h = absurd h
+  one_moment zero (suc k) w f h = absurd h
+  one_moment (suc more) zero w f h = absurd h
+  one_moment (suc more) (suc k) w f (inl e) = inl e
+  one_moment (suc more) (suc k) w f (inr h) =
+      subst (λ (j : ℕ). rounds.Has f (j ∷ [])) (round_moment w) (one_moment more k (after_round limits choice client w) f h)
+
+-- ---- no more copies stand after a pump and after answers
+
+pump_fewer : (largest window now : ℕ) (h : Hop) → Reached largest h → length (queue_of (step largest h (hop.pump window now)).copies) ≤ length (queue_of h.copies)
+pump_fewer largest window now h r =
+    no_more_stand h.copies (step largest h (hop.pump window now)).copies
+    (turns_length (rules.pump (record { window = window; largest = largest; now = now }) (queue_of h.copies)) h) (goes_on largest h r (hop.pump window now ∷ []))
+
+answers_fewer : (largest k : ℕ) (h : Hop) → Reached largest h → length (queue_of (hop.run largest (times k (hop.to_broker false)) h).copies) ≤ length (queue_of h.copies)
+answers_fewer largest k h r =
+    no_more_stand h.copies (hop.run largest (times k (hop.to_broker false)) h).copies (brokers_length largest k h) (goes_on largest h r (times k (hop.to_broker false)))
 
 -- ---- the first round, where a SUBSCRIBE is under way
 
@@ -355,7 +438,7 @@ module _ (limits : Limits) (choice : MemberChoice) (client : List ℕ) (number :
 
   -- the SUBSCRIBE is read, and what is behind it
   wish_read : (u : Wish) (rest : List Back) (h : Hop) (w : World) → Here number largest window ids birth ns client (asks_for u ∷ rest) h w → Orderly limits ids granted w → AllByRecursion IsAnswer rest
-      → DrainsWith largest window ids birth ns client (suc granted) (run limits (times (length rest) reads_back) (turned limits reads_back w))
+      → DrainsWith largest window ids birth ns client (suc granted) (length (queue_of h.copies)) (run limits (times (length rest) reads_back) (turned limits reads_back w))
   wish_read u rest h w x o all =
       let r = x.receiver in
       let n = x.at.connected.line.number in
@@ -382,11 +465,19 @@ module _ (limits : Limits) (choice : MemberChoice) (client : List ℕ) (number :
       let end = hop.run largest (times (length rest) (hop.to_broker false)) hop2 in
       let there = run limits (times (length rest) reads_back) later in
       let c = sees_comes limits choice client number2 largest window ids2 birth ns end there (brokers_from limits choice client number2 largest window ids2 birth ns rest hop2 later z all) in
-      subst (λ (v : World). DrainsWith largest window ids birth ns client (suc granted) (run limits (times (length rest) reads_back) v)) (sym (back_is limits choice client w r n (asks_for u) rest x.named x.alone x.at.connected.number x.up))
-      (record { more = y.more; new = subst (λ (j : ℕ). AllByRecursion (IsBroughtCopy birth (suc j)) y.more) o.granted_is y.new; differ = y.differ; receiver = c.receiver; may = c.may })
+      let was = holds limits choice client number largest window ids birth ns (asks_for u ∷ rest) h w x in
+      let now = holds limits choice client number2 largest window ids2 birth ns rest hop2 later z in
+      let grown : length now.session.queue ≤ length was.session.queue + length y.more =
+      y.longer (length was.session.queue) (λ s e. subst (λ (v : Session). length v.queue ≤ length was.session.queue) (some_is was.session s (sym was.found ∙ e)) (omega arith)) now.session now.found in
+      let fewer = answers_fewer largest (length rest) hop2 (reached number2 largest window ids2 birth ns hop2 last later.broker z.at) in
+      let left = left_is limits choice client number2 largest window ids2 birth ns end there c in
+      let few : copies_left client there ≤ length (queue_of h.copies) + length y.more =
+      let a = was.many in let b = now.many in omega (arith, a, b, grown, fewer, left) in
+      subst (λ (v : World). DrainsWith largest window ids birth ns client (suc granted) (length (queue_of h.copies)) (run limits (times (length rest) reads_back) v)) (sym (back_is limits choice client w r n (asks_for u) rest x.named x.alone x.at.connected.number x.up))
+      (record { more = y.more; new = subst (λ (j : ℕ). AllByRecursion (IsBroughtCopy birth (suc j)) y.more) o.granted_is y.new; differ = y.differ; receiver = c.receiver; may = c.may; few = few })
 
   all_back : (ups : List Back) (h : Hop) (w : World) → Here number largest window ids birth ns client ups h w → Orderly limits ids granted w → AsksOnce ups
-      → DrainsWith largest window ids birth ns client (suc granted) (run limits (times (length ups) reads_back) w)
+      → DrainsWith largest window ids birth ns client (suc granted) (length (queue_of h.copies)) (run limits (times (length ups) reads_back) w)
   all_back [] h w x o once =
       let c = sees_comes limits choice client number largest window ids birth ns h w x in
       let none : ids ++ [] ≡ ids = append-nil ids in
@@ -396,13 +487,17 @@ module _ (limits : Limits) (choice : MemberChoice) (client : List ℕ) (number :
         differ = subst AllDiffer (sym none) o.told.differ;
         receiver = c.receiver;
         may = subst (λ (all : List CopyId). MayDrain largest window all birth ns client c.receiver w) (sym none) c.may;
+        few = let left = left_is limits choice client number largest window ids birth ns h w c in omega (arith, left);
       }
   all_back (asks_for u ∷ rest) h w x o once = wish_read u rest h w x o once
   all_back (answers a ∷ rest) h w x o once =
-      all_back rest (step largest h (hop.to_broker false)) (turned limits reads_back w) (answers_one limits choice client number largest window ids birth ns a rest h w x) (answer_orderly a rest h w x o) once
+      let y = all_back rest (step largest h (hop.to_broker false)) (turned limits reads_back w) (answers_one limits choice client number largest window ids birth ns a rest h w x) (answer_orderly a rest h w x o) once in
+      let fewer = answers_fewer largest 1 h (reached number largest window ids birth ns h x.receiver w.broker x.at) in
+      let less = y.few in
+      record { more = y.more; new = y.new; differ = y.differ; receiver = y.receiver; may = y.may; few = omega (arith, fewer, less) }
 
 pub first_round : (largest window : ℕ) (ids : List CopyId) (birth : ℕ) (ns : List ℕ) (limits : Limits) (choice : MemberChoice) (client : List ℕ) (r : Receiver) (w : World) → MayAsk limits largest window ids birth ns client r w
-    → DrainsWith largest window ids birth ns client (suc w.broker.records.subscribes) (after_round limits choice client w)
+    → DrainsWith largest window ids birth ns client (suc w.broker.records.subscribes) (copies_left client w) (after_round limits choice client w)
 first_round largest window ids birth ns limits choice client r w may =
     let number = place_of ids in
     let k = may.connected.in_step.runs number (places_number ids may.told.differ) in
@@ -430,10 +525,18 @@ first_round largest window ids birth ns limits choice client r w may =
     orderly_on limits ids granted sent was (subst (IsTidy limits) (sym same) o1.tidy) (record { retained = ap (λ (b : Broker). b.records.retained) same; subscribes = ap (λ (b : Broker). b.records.subscribes) same }) o1 in
     let y = all_back limits choice client number largest window ids birth ns granted x2.ups h2 was x2.sees o2 (x2.answering may.asking) in
     let last : ups_by (receiver_named client was) ≡ length x2.ups = ap ups_by x2.sees.named ∙ ap length x2.sees.up in
-    let z : DrainsWith largest window ids birth ns client (suc granted) (run limits (all_to_broker choice client was) was) =
-    subst (λ (j : ℕ). DrainsWith largest window ids birth ns client (suc granted) (run limits (times j (turn_of choice (ask (to_broker client)))) was)) (sym last) y in
+    let z : DrainsWith largest window ids birth ns client (suc granted) (length (queue_of h2.copies)) (run limits (all_to_broker choice client was) was) =
+    subst (λ (j : ℕ). DrainsWith largest window ids birth ns client (suc granted) (length (queue_of h2.copies)) (run limits (times j (turn_of choice (ask (to_broker client)))) was)) (sym last) y in
     let split : after_round limits choice client w ≡ run limits (all_to_broker choice client was) was = run_append limits ends (all_to_broker choice client was) sent in
-    subst (DrainsWith largest window ids birth ns client (suc granted)) (sym split) z
+    let stood = holds limits choice client number largest window ids birth ns ups h w x0 in
+    let read : length (queue_of h2.copies) ≡ length (queue_of h1.copies) = ap (λ (ls : List Lot). length (queue_of ls)) (ends_copies largest (length h1.down) h1) in
+    let fewer = pump_fewer largest window (moment_of w) h (reached number largest window ids birth ns h r w.broker x0.at) in
+    let less = z.few in
+    let first = stood.left in
+    let second = stood.many in
+    let few : copies_left client (run limits (all_to_broker choice client was) was) ≤ copies_left client w + length z.more = omega (arith, read, fewer, less, first, second) in
+    subst (DrainsWith largest window ids birth ns client (suc granted) (copies_left client w)) (sym split)
+    (record { more = z.more; new = z.new; differ = z.differ; receiver = z.receiver; may = z.may; few = few })
 
 -- ---- the laws
 
@@ -468,20 +571,23 @@ module _ (number : Numbering) (largest window : ℕ) (ids : List CopyId) (birth 
       left_is limits choice client number largest window ids birth ns (rounds.drained largest window moments from) (drained limits choice client most w) (drains_on limits choice client number largest window ids birth ns most from w begun)
       ∙ ap length last.1
 
-  pub drain_is : (most : ℕ) → 1 ≤ window → IsDrained number largest window ids birth ns client copies (drained limits choice client most w)
+  pub drain_is : (most : ℕ) → 1 ≤ window → IsDrained number largest window ids birth ns client (moment_of w) copies (drained limits choice client most w)
   drain_is most room =
       let moments = moments_of limits choice client most w in
       let x = drains_on limits choice client number largest window ids birth ns most from w begun in
       let before : from.copies ≡ copies = sym (ap (λ (v : Hop). v.copies) k.seen_is) in
-      let after : (rounds.drained largest window moments from).copies ≡ x.copies = sym (ap (λ (v : Hop). v.copies) x.seen_is) in
+      let last = rounds.drained largest window moments from in
+      let rounds_made = rounds.rounds_taken largest window moments from in
+      let after : last.copies ≡ x.copies = sym (ap (λ (v : Hop). v.copies) x.seen_is) in
       record {
         receiver = x.receiver;
         may = x.may;
         after = x.copies;
         same = x.same;
         run_is = x.run_is;
-        ends = λ n. subst (λ (ls : List Lot). EndsBy (slice_get copies n) (slice_get ls n)) after
-            (subst (λ (ls : List Lot). EndsBy (slice_get ls n) (slice_get (rounds.drained largest window moments from).copies n)) before (causes_of_run largest window moments k.events n room));
+        ends = λ n. subst (λ (ls : List Lot). EndsBy largest (moment_of w ∷ []) (slice_get copies n) (slice_get ls n)) after
+            (subst (λ (ls : List Lot). EndsBy largest (moment_of w ∷ []) (slice_get ls n) (slice_get last.copies n)) before
+            (ends_by_more largest (take rounds_made moments) (moment_of w ∷ []) (slice_get from.copies n) (slice_get last.copies n) (λ f h. one_moment limits choice client most rounds_made w f h) (causes_of_run largest window moments k.events n room)));
       }
 
 -- however the copies are numbered
