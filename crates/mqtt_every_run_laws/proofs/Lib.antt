@@ -11,6 +11,7 @@ pub mod Restarts
 pub mod Ticks
 pub mod Losses
 pub mod Reading
+pub mod Fronts
 pub mod Heard
 pub mod Replies
 pub mod OldReplies
