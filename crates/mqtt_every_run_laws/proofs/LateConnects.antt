@@ -193,9 +193,9 @@ some_old clean rest xs old e = let clash : shake (CONNECT clean) ∷ map packet_
 calm_old : (clean : Bool) (rest xs : List Back) → xs ≡ answers (connect clean) ∷ rest → AllByRecursion IsNoConnect (map packet_like xs) → ⊥
 calm_old clean rest xs old h = let all = subst (λ (zs : List Back). AllByRecursion IsNoConnect (map packet_like zs)) old h in all.0
 
-pub old_connected_stands : (c : List ℕ) (clean : Bool) (rest : List Back) (largest : ℕ) (set : Setting) (r : Receiver) (w : World) → Stands c largest set.limits w → receiver_named c w ≡ Some r → HaveSentNothing w.broker
-    → r.line.old ≡ answers (connect clean) ∷ rest → read_first spending set (old_to_broker c) w ≡ false → Stands c largest set.limits (asks set (old_to_broker c) w)
-old_connected_stands c clean rest largest set r w s e unused old unspent = by placed.seat.former
+pub old_connected_stands : (first : List CopyId) (c : List ℕ) (clean : Bool) (rest : List Back) (largest : ℕ) (set : Setting) (r : Receiver) (w : World) → Stands first c largest set.limits w → receiver_named c w ≡ Some r → HaveSentNothing w.broker
+    → r.line.old ≡ answers (connect clean) ∷ rest → read_first spending set (old_to_broker c) w ≡ false → Stands first c largest set.limits (asks set (old_to_broker c) w)
+old_connected_stands first c clean rest largest set r w s e unused old unspent = by placed.seat.former
   where
     placed : IsPlaced largest s.ids s.ns r w.broker
     placed = subst (IsSeen largest s.ids s.ns w.broker) e s.standing.seen
@@ -210,7 +210,7 @@ old_connected_stands c clean rest largest set r w s e unused old unspent = by pl
         ap (λ (v : View). input_on v.old_number v.old) view ∙ (ap (λ (o : Option ℕ). input_on o (map (wire_back r.client r.window) r.line.old)) is ∙ ap (λ (xs : List Back). input_on (Some n) (map (wire_back r.client r.window) xs)) alone_is) in
         sym (ap (λ (o : Option Call). read_if spending set o (with_line c taken_old taken_old w)) asked) ∙ unspent
 
-    by : Former placed.birth placed.line (line_like r.line) w.broker → Stands c largest set.limits (asks set (old_to_broker c) w)
+    by : Former placed.birth placed.line (line_like r.line) w.broker → Stands first c largest set.limits (asks set (old_to_broker c) w)
     by (over none) = absurd (some_old clean rest r.line.old old none)
     by (lingers birth own at calm there) = absurd (calm_old clean rest r.line.old old calm)
     by (late m at connects_ idle there) =
@@ -223,6 +223,6 @@ old_connected_stands c clean rest largest set r w s e unused old unspent = by pl
         let after_ = steady_step set.limits set.choice w.now call w.broker a.within a.steady (cost l.number is alone_is) in
         let q = late_placed largest s.ids s.ns set.limits set.choice w.now r l w.broker placed a.within a.steady (sound_of set.limits (stepped set.limits set.choice w.now call w.broker) a.within after_).order unused is
         (ap (λ (k : ℕ). line_at k w.broker) x.4 ∙ x.1) x.2 (subst (λ (k : ℕ). IsIdle k w.broker) (sym x.4) idle) alone_is in
-        first_read_there c (answers (connect false)) [] largest set r w s e l.number is alone_is
+        first_read_there first c (answers (connect false)) [] largest set r w s e l.number is alone_is
         (record { more = []; placed = subst (λ (all : List CopyId). IsPlaced largest all s.ns (reads_old_answer set.limits set.choice w.now l.number (connect false) r w.broker) (stepped set.limits set.choice w.now call w.broker)) (sym (append-nil s.ids)) q })
         unspent

@@ -31,3 +31,5 @@ pub mod Untouched
 pub mod EveryRun
 pub mod OwnConnects
 pub mod Scripts
+pub mod Growing
+pub mod QueueOrder

@@ -241,9 +241,9 @@ read_placed largest ids ns limits choice now clean rest r l b placed within stea
 
 -- ---- as an event
 
-pub connected_stands : (c : List ℕ) (clean : Bool) (rest : List Back) (largest : ℕ) (set : Setting) (r : Receiver) (w : World) → Stands c largest set.limits w → receiver_named c w ≡ Some r → HaveSentNothing w.broker
-    → r.line.up ≡ answers (connect clean) ∷ rest → read_first spending set (to_broker c) w ≡ false → Stands c largest set.limits (asks set (to_broker c) w)
-connected_stands c clean rest largest set r w s e unsent up unspent = by placed.seat.present
+pub connected_stands : (first : List CopyId) (c : List ℕ) (clean : Bool) (rest : List Back) (largest : ℕ) (set : Setting) (r : Receiver) (w : World) → Stands first c largest set.limits w → receiver_named c w ≡ Some r → HaveSentNothing w.broker
+    → r.line.up ≡ answers (connect clean) ∷ rest → read_first spending set (to_broker c) w ≡ false → Stands first c largest set.limits (asks set (to_broker c) w)
+connected_stands first c clean rest largest set r w s e unsent up unspent = by placed.seat.present
   where
     view : view_of c w ≡ view_by None (Some r)
     view = ap (λ (o : Option Publisher). view_by o (receiver_named c w)) (s.standing.around.alone (ap is_some e)) ∙ ap (λ (o : Option Receiver). view_by None o) e
@@ -266,7 +266,7 @@ connected_stands c clean rest largest set r w s e unsent up unspent = by placed.
     around : IsAround c set.limits s.ns w1
     around = own_around c set.limits s.ns w (on_line taken_up) (on_back taken_up) (λ p. refl) (λ q. refl) (s.standing.around.alone (ap is_some e)) s.standing.around
 
-    reads : (l : BrokerLine) → r.line.number ≡ Some l.number → line_at l.number w.broker ≡ Some l → l.session ≡ None → IsIdle l.number w.broker → Stands c largest set.limits (asks set (to_broker c) w)
+    reads : (l : BrokerLine) → r.line.number ≡ Some l.number → line_at l.number w.broker ≡ Some l → l.session ≡ None → IsIdle l.number w.broker → Stands first c largest set.limits (asks set (to_broker c) w)
     reads l is at waits idle =
         let n = l.number in
         let call = Input n (wire_back r.client r.window (answers (connect clean))) in
@@ -277,9 +277,10 @@ connected_stands c clean rest largest set r w s e unsent up unspent = by placed.
         let out = told set.limits set.choice w.now call w.broker in
         let last = calls_around c set s.ns call w1 around cost in
         let order : IsInOrder new = (sound_of set.limits new within last.steady).order in
-        subst (λ (o : Option Call). Stands c largest set.limits (calls_if set o w1)) (sym asked)
+        subst (λ (o : Option Call). Stands first c largest set.limits (calls_if set o w1)) (sym asked)
         (record {
           ids = s.ids;
+          grown = s.grown;
           ns = s.ns;
           standing = record {
             around = last;
@@ -288,7 +289,7 @@ connected_stands c clean rest largest set r w s e unsent up unspent = by placed.
           };
         })
 
-    by : Present placed.birth placed.line (line_like r.line) w.broker → Stands c largest set.limits (asks set (to_broker c) w)
+    by : Present placed.birth placed.line (line_like r.line) w.broker → Stands first c largest set.limits (asks set (to_broker c) w)
     by (absent nothing none_up) = absurd (some_up (connect clean) rest r.line.up up none_up)
     by (closed m at none_up idle nothing) = absurd (some_up (connect clean) rest r.line.up up none_up)
     by (joined birth own is there) =

@@ -139,14 +139,14 @@ read_placed largest ids ns limits choice now n x rest r b placed steady is none 
 
 -- ---- as an event
 
-pub answered_stands : (c : List ℕ) (x : Answer) (rest : List Back) (largest : ℕ) (set : Setting) (r : Receiver) (w : World) → Stands c largest set.limits w → receiver_named c w ≡ Some r → HasNoConnect (x ∷ []) → r.line.up ≡ answers x ∷ rest
-    → read_first spending set (to_broker c) w ≡ false → Stands c largest set.limits (asks set (to_broker c) w)
-answered_stands c x rest largest set r w s e none up unspent = by r.line.number refl
+pub answered_stands : (first : List CopyId) (c : List ℕ) (x : Answer) (rest : List Back) (largest : ℕ) (set : Setting) (r : Receiver) (w : World) → Stands first c largest set.limits w → receiver_named c w ≡ Some r → HasNoConnect (x ∷ []) → r.line.up ≡ answers x ∷ rest
+    → read_first spending set (to_broker c) w ≡ false → Stands first c largest set.limits (asks set (to_broker c) w)
+answered_stands first c x rest largest set r w s e none up unspent = by r.line.number refl
   where
     placed : IsPlaced largest s.ids s.ns r w.broker
     placed = subst (IsSeen largest s.ids s.ns w.broker) e s.standing.seen
 
-    by : (o : Option ℕ) → r.line.number ≡ o → Stands c largest set.limits (asks set (to_broker c) w)
+    by : (o : Option ℕ) → r.line.number ≡ o → Stands first c largest set.limits (asks set (to_broker c) w)
     by None is = absurd (no_number placed.birth placed.line x rest r w.broker placed.seat.present is up)
     by (Some n) is =
-        first_read c (answers x) rest largest set r w s e n is up (goes_as largest s.ids s.ns _ _ (read_placed largest s.ids s.ns set.limits set.choice w.now n x rest r w.broker placed s.standing.around.steady is none up)) unspent
+        first_read first c (answers x) rest largest set r w s e n is up (goes_as largest s.ids s.ns _ _ (read_placed largest s.ids s.ns set.limits set.choice w.now n x rest r w.broker placed s.standing.around.steady is none up)) unspent

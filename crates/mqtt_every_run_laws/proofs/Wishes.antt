@@ -205,22 +205,22 @@ no_old_number o k w rest r b (lingers birth own at calm there) is old = let clas
 
 -- ---- as events
 
-module _ (c : List ℕ) (wish : Wish) (rest : List Back) (largest : ℕ) (set : Setting) (r : Receiver) (w : World) (s : Stands c largest set.limits w) (e : receiver_named c w ≡ Some r) where
+module _ (first : List CopyId) (c : List ℕ) (wish : Wish) (rest : List Back) (largest : ℕ) (set : Setting) (r : Receiver) (w : World) (s : Stands first c largest set.limits w) (e : receiver_named c w ≡ Some r) where
   placed_here : IsPlaced largest s.ids s.ns r w.broker
   placed_here = subst (IsSeen largest s.ids s.ns w.broker) e s.standing.seen
 
-  pub wished_stands : r.line.up ≡ asks_for wish ∷ rest → AreRetainedOnce w.broker.records → read_first spending set (to_broker c) w ≡ false → Stands c largest set.limits (asks set (to_broker c) w)
+  pub wished_stands : r.line.up ≡ asks_for wish ∷ rest → AreRetainedOnce w.broker.records → read_first spending set (to_broker c) w ≡ false → Stands first c largest set.limits (asks set (to_broker c) w)
   wished_stands up once unspent = by r.line.number refl
     where
-      by : (o : Option ℕ) → r.line.number ≡ o → Stands c largest set.limits (asks set (to_broker c) w)
+      by : (o : Option ℕ) → r.line.number ≡ o → Stands first c largest set.limits (asks set (to_broker c) w)
       by None is = absurd (no_number placed_here.birth placed_here.line wish rest r w.broker placed_here.seat.present is up)
-      by (Some n) is = first_read c (asks_for wish) rest largest set r w s e n is up
+      by (Some n) is = first_read first c (asks_for wish) rest largest set r w s e n is up
           (wish_placed largest s.ids s.ns set.limits set.choice w.now n wish rest r w.broker placed_here s.standing.around.steady s.standing.around.tidy once is up) unspent
 
-  pub old_wished_stands : r.line.old ≡ asks_for wish ∷ rest → AreRetainedOnce w.broker.records → read_first spending set (old_to_broker c) w ≡ false → Stands c largest set.limits (asks set (old_to_broker c) w)
+  pub old_wished_stands : r.line.old ≡ asks_for wish ∷ rest → AreRetainedOnce w.broker.records → read_first spending set (old_to_broker c) w ≡ false → Stands first c largest set.limits (asks set (old_to_broker c) w)
   old_wished_stands old once unspent = by r.line.old_number refl
     where
-      by : (o : Option ℕ) → r.line.old_number ≡ o → Stands c largest set.limits (asks set (old_to_broker c) w)
+      by : (o : Option ℕ) → r.line.old_number ≡ o → Stands first c largest set.limits (asks set (old_to_broker c) w)
       by None is = absurd (no_old_number placed_here.birth placed_here.line wish rest r w.broker placed_here.seat.former is old)
-      by (Some n) is = first_read_there c (asks_for wish) rest largest set r w s e n is old
+      by (Some n) is = first_read_there first c (asks_for wish) rest largest set r w s e n is old
           (old_wish_placed largest s.ids s.ns set.limits set.choice w.now n wish rest r w.broker placed_here s.standing.around.steady s.standing.around.tidy once is old) unspent
