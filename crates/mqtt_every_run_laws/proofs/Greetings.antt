@@ -1,5 +1,5 @@
--- What the broker makes of a line on which it reads a receiver's CONNECT: the session is connected there, alone, with what the
--- CONNECT asks for; and what is known of lines and sessions before it (MQTT 5.0, 3.1.2, 3.1.4).
+-- What the broker makes of a line on which it reads a receiver's CONNECT: the session is connected there, alone; and what is known
+-- of lines and sessions before it (MQTT 5.0, 3.1.2, 3.1.4).
 use Rattle.std.proofs.Common.{◌≡◌, ℕ, suc, Bool, true, false, List, [], ◌∷◌, ◌++◌, map, Option, Some, None, nat_eq, refl, sym, ap, subst, ◌∙◌, append-nil, inl, inr}
 use Rattle.std.specs.Prelude.{filter_map, find, option_map}
 use Rattle.std.specs.List.{AllByRecursion}
@@ -12,11 +12,11 @@ use Rattle.mqtt_flow.specs.declared.entry.Turn.TheVariants as turns
 use Rattle.mqtt_laws.specs.Ends.{Back, Receiver, answers, asks_for, wire_back}
 use Rattle.mqtt_laws.specs.Hops.{IsIts, IsInOrder, IsKept, IsNoConnect, IsOurLine, IsOurs, Own, lines_left}
 use Rattle.mqtt_laws.specs.Lines.{is_one_of, unless_closed}
-use Rattle.mqtt_laws.specs.Seats.{Former, Present, absent, closed, joined, late, lingers, over, waiting}
+use Rattle.mqtt_laws.specs.Seats.{Former, IsNamed, Present, absent, closed, joined, late, lingers, over, waiting}
 use Rattle.mqtt_laws.specs.Seen.{is_linked}
 use Rattle.mqtt_laws.proofs.Connects.{heard_line_of, heard_on_line, left_by, left_leaves, taken_birth, taken_from}
 use Rattle.mqtt_laws.proofs.Lists.{all_find}
-use Rattle.mqtt_laws.proofs.OwnCalls.{left_idle, left_own}
+use Rattle.mqtt_laws.proofs.OwnCalls.{left_idle, left_own, taken_of}
 use Rattle.mqtt_laws.proofs.Owned.{NoneKeptAlive, found_alone, owned}
 use Rattle.mqtt_laws.proofs.OwnStep.{heard_of}
 use Rattle.mqtt_laws.proofs.Quiet.{session_on}
@@ -32,13 +32,15 @@ use Rattle.mqtt_rules.proofs.Goods.{after_append}
 use Rattle.mqtt_rules.proofs.NumberBirths.{below_none}
 use Rattle.mqtt_rules.specs.Connect.{begin, on_connect, resume}
 use Rattle.mqtt_rules.specs.Deeds.{Deed, Greet, Hear, On, after_all, line_after, on_line, rows_of_all}
+use Rattle.mqtt_rules.specs.Laws.{AreWithin}
 use Rattle.mqtt_rules.specs.Lines.{HasUniqueLines, line_number}
 use Rattle.mqtt_rules.specs.Numbers.{HasGivenBirths}
 use Rattle.mqtt_rules.specs.Outbound.{all_turn_deeds}
-use Rattle.mqtt_rules.specs.State.{Line as BrokerLine, Broker, MemberChoice, is_of, line_at, line_of, queue_on, session_at}
+use Rattle.mqtt_rules.specs.State.{Line as BrokerLine, Broker, MemberChoice, is_of, line_at, line_of, queue_on, session_at, session_named}
 use Rattle.mqtt_rules.specs.Step.{Input, at_moment, deeds, env_of}
 use Rattle.mqtt_rules.specs.declared.Limits.{Limits}
-use Rattle.mqtt_handed_laws.specs.Calls.{IsOnlyAt, IsResuming, IsUnused}
+use Rattle.mqtt_world_laws.specs.Fair.{IsSteady}
+use Rattle.mqtt_handed_laws.specs.Calls.{IsBeginning, IsOnlyAt, IsResuming, IsUnused}
 use Rattle.mqtt_handed_laws.specs.Handing.{after_answer}
 use Rattle.mqtt_handed_laws.specs.Own.{IsInStep}
 use Rattle.mqtt_handed_laws.specs.Seen.{answered}
@@ -48,37 +50,32 @@ use Rattle.mqtt_handed_laws.proofs.Resuming.{call_is, connect_is, greeting}
 use Rattle.mqtt_every_run_laws.specs.Alone.{HaveSentNothing}
 use Rattle.mqtt_every_run_laws.specs.Alone as alone
 use Rattle.mqtt_every_run_laws.specs.Standing.{line_like, packet_like}
+use Rattle.mqtt_every_run_laws.proofs.Fronts.{Awaits}
 use Rattle.mqtt_every_run_laws.proofs.Like.{connect_like}
 
 -- ---- the line after it
 
--- the line of this number, with this session connected, without Keep Alive, with this Receive Maximum, and for packets of any
--- size, whatever Maximum Packet Size its hop has
-pub record IsGreeted (n birth window : ℕ) (l : BrokerLine) : Type 0 where
-  pub number : l.number ≡ n
-  pub connected : l.session ≡ Some birth
-  pub quiet : l.keep_alive ≡ 0
-  pub window_is : l.window ≡ window
-  pub largest_is : l.largest ≡ 0xffffffff
-
-pub record HasGreeted (n birth window : ℕ) (b : Broker) : Type 0 where
+-- the line of this number stands, with this session connected, without Keep Alive
+pub record HasGreeted (n birth : ℕ) (b : Broker) : Type 0 where
   pub line : BrokerLine
   pub at : line_at n b ≡ Some line
-  pub greeted : IsGreeted n birth window line
+  pub number : line.number ≡ n
+  pub connected : line.session ≡ Some birth
+  pub quiet : line.keep_alive ≡ 0
 
 abbrev found_in : ℕ → List BrokerLine → Option BrokerLine
 found_in n ls = find (λ (l : BrokerLine). nat_eq l.number n) ls
 
 greeted_in : (now n birth window : ℕ) (ls : List BrokerLine) → session_on n ls ≡ Some None
-    → (l : BrokerLine) × (found_in n (on_line now n (Greet birth 0 window 0xffffffff) ls) ≡ Some l) × IsGreeted n birth window l
+    → (l : BrokerLine) × (found_in n (on_line now n (Greet birth 0 window 0xffffffff) ls) ≡ Some l) × (l.number ≡ n) × (l.session ≡ Some birth) × (l.keep_alive ≡ 0)
 greeted_in now n birth window [] h = absurd cc
 greeted_in now n birth window (l ∷ ls) h = elim (cases_Bool (nat_eq l.number n)) [
-  | inl here ↦ (line_after now (Greet birth 0 window 0xffffffff) l, rw (here, here) refl, record { number = eqb-true l.number n here; connected = refl; quiet = refl; window_is = refl; largest_is = refl })
-  | inr further ↦ let x = greeted_in now n birth window ls (rw further at h) in (x.0, rw (further, further) x.1, x.2)
+  | inl here ↦ (line_after now (Greet birth 0 window 0xffffffff) l, rw (here, here) refl, eqb-true l.number n here, refl, refl)
+  | inr further ↦ let x = greeted_in now n birth window ls (rw further at h) in (x.0, rw (further, further) x.1, x.2, x.3, x.4)
 ]
 
-greeted_by : (now n birth window : ℕ) (ls : List BrokerLine) (b : Broker) → session_on n ls ≡ Some None → b.lines ≡ on_line now n (Greet birth 0 window 0xffffffff) ls → HasGreeted n birth window b
-greeted_by now n birth window ls b on e = let x = greeted_in now n birth window ls on in record { line = x.0; at = ap (found_in n) e ∙ x.1; greeted = x.2 }
+greeted_by : (now n birth window : ℕ) (ls : List BrokerLine) (b : Broker) → session_on n ls ≡ Some None → b.lines ≡ on_line now n (Greet birth 0 window 0xffffffff) ls → HasGreeted n birth b
+greeted_by now n birth window ls b on e = let x = greeted_in now n birth window ls on in record { line = x.0; at = ap (found_in n) e ∙ x.1; number = x.2; connected = x.3; quiet = x.4 }
 
 -- what goes out again leaves the lines as they are
 repeats_lines : {X : Type 0} (now n : ℕ) (s : Session) (xs : List X) (id : X → ℕ) (b : Broker) → (after_all (all_turn_deeds now n s (map (λ x. turns.Repeat (id x)) xs)) b).lines ≡ b.lines
@@ -90,7 +87,7 @@ waits_on l b at waits = ap (option_map (λ (x : BrokerLine). x.session)) at ∙ 
 
 -- where the session is resumed
 pub resumed_line : (limits : Limits) (choice : MemberChoice) (now : ℕ) (r : Receiver) (l : BrokerLine) (s : Session) (b : Broker) → IsResuming r l s b
-    → HasGreeted l.number s.birth r.window (after_answer limits choice now l.number (connect false) r b)
+    → HasGreeted l.number s.birth (after_answer limits choice now l.number (connect false) r b)
 resumed_line limits choice now r l s b a =
     let n = l.number in
     let call = Input n (wire_back r.client r.window (answers (connect false))) in
@@ -118,11 +115,11 @@ resumed_line limits choice now r l s b a =
     done_lines (rows_of_all ds first.records) (after_all ds first)
     ∙ (ap (λ (zs : List Deed). (after_all zs first).lines) is
     ∙ (ap (λ (z : Broker). z.lines) (after_append front resumes c) ∙ repeats_lines c.now n x dues (λ d. d.identifier) _)) in
-    subst (λ (k : ℕ). HasGreeted n k r.window (after_answer limits choice now n (connect false) r b)) same (greeted_by left.now n x.birth r.window left.lines _ still lines)
+    subst (λ (k : ℕ). HasGreeted n k (after_answer limits choice now n (connect false) r b)) same (greeted_by left.now n x.birth r.window left.lines _ still lines)
 
 -- where one begins
 pub begun_line : (limits : Limits) (choice : MemberChoice) (now : ℕ) (clean : Bool) (r : Receiver) (l : BrokerLine) (b : Broker) (front : List Deed) (ns : List ℕ) → Clears limits choice now clean r l b front ns
-    → HasGreeted l.number (suc (after_all front (heard_of now l.number b)).records.births) r.window (after_answer limits choice now l.number (connect clean) r b)
+    → HasGreeted l.number (suc (after_all front (heard_of now l.number b)).records.births) (after_answer limits choice now l.number (connect clean) r b)
 begun_line limits choice now clean r l b front ns c =
     let n = l.number in
     let ds = deeds limits choice now (Input n (wire_back r.client r.window (answers (connect clean)))) b in
@@ -136,27 +133,27 @@ begun_line limits choice now clean r l b front ns c =
     greeted_by d.now n birth r.window d.lines _ c.waits lines
 
 -- and so the session and the line are the receiver's own
-pub greeted_owns : (largest : ℕ) (ids : List CopyId) (birth : ℕ) (ns : List ℕ) (n window : ℕ) (r : Receiver) (b : Broker) → IsInStep largest ids birth ns r b → AllDiffer ids → IsInOrder b → HasGreeted n birth window b
+pub greeted_owns : (largest : ℕ) (ids : List CopyId) (birth : ℕ) (ns : List ℕ) (n : ℕ) (r : Receiver) (b : Broker) → IsInStep largest ids birth ns r b → AllDiffer ids → IsInOrder b → HasGreeted n birth b
     → Own r.client birth n b
-greeted_owns largest ids birth ns n window r b k differ order h =
+greeted_owns largest ids birth ns n r b k differ order h =
     let x = k.runs (place_of ids) (places_number ids differ) in
     let s = x.session in
     let l = h.line in
     let ours : IsOurs r.client birth s = all_at birth_of (IsOurs r.client birth) s.birth s b.records.sessions k.served.sessions x.receiving.session in
     let only = all_more (IsOurs r.client birth) (IsIts r.client birth) b.records.sessions (λ y p. p.named) k.served.sessions in
     let at : face_at birth b.records ≡ Some (face s) = ap (λ (j : ℕ). face_at j b.records) (sym x.birth_is) ∙ ap (option_map face) x.receiving.session in
-    let found : found_in l.number b.lines ≡ Some l = ap (λ (m : ℕ). found_in m b.lines) h.greeted.number ∙ h.at in
-    let quiet = subst (λ (m : ℕ). NoneKeptAlive m b.lines) h.greeted.number (found_alone l b.lines order.lines.ascending found h.greeted.quiet) in
-    owned r.client birth n (face s) b order only at x.receiving.client (ours.no_will x.birth_is) (ours.no_end x.birth_is) (ap (option_map (λ (y : BrokerLine). y.session)) h.at ∙ ap Some h.greeted.connected) quiet
+    let found : found_in l.number b.lines ≡ Some l = ap (λ (m : ℕ). found_in m b.lines) h.number ∙ h.at in
+    let quiet = subst (λ (m : ℕ). NoneKeptAlive m b.lines) h.number (found_alone l b.lines order.lines.ascending found h.quiet) in
+    owned r.client birth n (face s) b order only at x.receiving.client (ours.no_will x.birth_is) (ours.no_end x.birth_is) (ap (option_map (λ (y : BrokerLine). y.session)) h.at ∙ ap Some h.connected) quiet
 
 -- the session is connected there
-pub greeted_on : (n birth window : ℕ) (b : Broker) → HasGreeted n birth window b → session_on n b.lines ≡ Some (Some birth)
-greeted_on n birth window b h = ap (option_map (λ (y : BrokerLine). y.session)) h.at ∙ ap Some h.greeted.connected
+pub greeted_on : (n birth : ℕ) (b : Broker) → HasGreeted n birth b → session_on n b.lines ≡ Some (Some birth)
+greeted_on n birth b h = ap (option_map (λ (y : BrokerLine). y.session)) h.at ∙ ap Some h.connected
 
 -- ---- the lines before it
 
 -- nothing went out on a line that waits
-pub idle_went : (l : BrokerLine) (b : Broker) → line_at l.number b ≡ Some l → l.session ≡ None → HaveSentNothing b → l.went ≡ []
+idle_went : (l : BrokerLine) (b : Broker) → line_at l.number b ≡ Some l → l.session ≡ None → HaveSentNothing b → l.went ≡ []
 idle_went l b at waits none = (all_find alone.IsUnused (λ (x : BrokerLine). nat_eq x.number l.number) l b.lines none at).0 waits
 
 -- nobody has the birth to come
@@ -182,7 +179,7 @@ unused_next b unique births = all_more (λ (l : BrokerLine). row_at line_number 
     each l at = by l.session l refl (rows l.number b.lines ∙ at)
 
 -- its session is on none but the line that it is taken from
-pub alone_left : (client : List ℕ) (birth k : ℕ) (b : Broker) → Own client birth k b → AllByRecursion (IsOnlyAt (lines_left (line_of birth b)) birth) b.lines
+alone_left : (client : List ℕ) (birth k : ℕ) (b : Broker) → Own client birth k b → AllByRecursion (IsOnlyAt (lines_left (line_of birth b)) birth) b.lines
 alone_left client birth k b own = by (line_of birth b) refl
   where
     none_of : (ls : List BrokerLine) → find (λ (x : BrokerLine). is_of x.session birth) ls ≡ None → AllByRecursion (IsOnlyAt [] birth) ls
@@ -260,3 +257,35 @@ pub spared_none : (k : ℕ) (r : Receiver) (b : Broker) → Former None k (line_
 spared_none k r b (over none) = let empty = none_like r.line.old none in ap (filter_map answered) empty ∙ sym (ap (λ (xs : List Back). spared (filter_map answered xs)) empty)
 spared_none k r b (late m is old idle there) = let alone_is = connect_like false r.line.old old in ap (filter_map answered) alone_is ∙ sym (ap (λ (xs : List Back). spared (filter_map answered xs)) alone_is)
 spared_none k r b (lingers birth of is calm there) = absurd cc
+
+-- ---- what the broker may make of the CONNECT, on whichever line it comes
+
+pub may_begin : (limits : Limits) (r : Receiver) (l : BrokerLine) (b : Broker) → AreWithin limits → IsSteady limits b → HaveSentNothing b → IsNamed r.client → Awaits r.line.number l b → session_named r.client b.records ≡ None
+    → filter_map answered r.line.old ≡ spared (filter_map answered r.line.old) → IsBeginning limits r l b
+may_begin limits r l b within steady unsent named here none old = record {
+  number = here.number;
+  line = here.line;
+  waits = here.waits;
+  fresh = idle_went l b here.line here.waits unsent;
+  none = none;
+  births = steady.coherent.births;
+  unused = unused_next b steady.lines steady.coherent.births;
+  within = within.sessions;
+  some = named.some;
+  short = named.short;
+  plain = named.plain;
+  old = old;
+}
+
+pub may_resume : (k : ℕ) (r : Receiver) (l : BrokerLine) (s : Session) (b : Broker) → HaveSentNothing b → Awaits r.line.number l b → IsKept r.client s b → Own r.client s.birth k b
+    → filter_map answered (unless_closed (is_one_of r.line.old_number (lines_left (line_of s.birth b))) r.line.old) ≡ spared (filter_map answered r.line.old) → IsResuming r l s b
+may_resume k r l s b unsent here kept own old = record {
+  number = here.number;
+  line = here.line;
+  waits = here.waits;
+  fresh = idle_went l b here.line here.waits unsent;
+  kept = kept;
+  taken = taken_of r.client s.birth k l.number b own here.idle;
+  alone = alone_left r.client s.birth k b own;
+  old = old;
+}

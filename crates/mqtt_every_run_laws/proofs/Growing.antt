@@ -1,5 +1,5 @@
 -- Copies only enter behind those that entered before.
-use Rattle.std.proofs.Common.{◌≡◌, List, [], ◌++◌, sym, ap, ◌∙◌, append-nil, append_assoc, refl}
+use Rattle.std.proofs.Common.{List, [], ◌++◌, sym, ap, ◌∙◌, append-nil, append_assoc, refl}
 use Rattle.mqtt_base.specs.declared.session.CopyId.{CopyId}
 use Rattle.mqtt_every_run_laws.specs.Standing.{BeginWith}
 

@@ -7,15 +7,15 @@ use Rattle.mqtt_base.specs.declared.session.CopyId.{CopyId}
 use Rattle.mqtt_codec.specs.declared.packet.Packet.{Packet}
 use Rattle.mqtt_laws.specs.Ends.{Back, Publisher, Receiver, Sent}
 use Rattle.mqtt_laws.specs.Hops.{IsNoConnect, Own}
-use Rattle.mqtt_laws.specs.Lines.{Line}
-use Rattle.mqtt_laws.specs.Seats.{Former, Present, Seat, absent, closed, connected_at, joined, waiting}
-use Rattle.mqtt_laws.specs.World.{publisher_told, taken_old, taken_up}
+use Rattle.mqtt_laws.specs.Lines.{Line, is_one_of, told_by}
+use Rattle.mqtt_laws.specs.Seats.{Former, IsHis, Present, Seat, absent, closed, connected_at, joined, waiting}
+use Rattle.mqtt_laws.specs.World.{taken_old, taken_up}
 use Rattle.mqtt_laws.proofs.OwnCalls.{input_elsewhere}
 use Rattle.mqtt_laws.proofs.OwnSeats.{former_after, joined_after, line_of_on, lingers_after, not_among, present_after}
 use Rattle.mqtt_records.specs.declared.session.Session.{Session}
 use Rattle.mqtt_rows.specs.Distinct.{AllDiffer}
 use Rattle.mqtt_rules.specs.State.{Line as BrokerLine, Broker, MemberChoice, session_named}
-use Rattle.mqtt_rules.specs.Step.{Input, stepped, told}
+use Rattle.mqtt_rules.specs.Step.{Call, Input, stepped, told}
 use Rattle.mqtt_rules.specs.declared.Limits.{Limits}
 use Rattle.mqtt_world_laws.specs.Fair.{IsSteady}
 use Rattle.mqtt_handed_laws.specs.Apart.{AreToldApart}
@@ -46,6 +46,32 @@ present_taken o k r b (joined birth own is there) = joined birth own is there
 calm_drop : (xs : List Back) → AllByRecursion IsNoConnect (map packet_like xs) → AllByRecursion IsNoConnect (map packet_like (drop 1 xs))
 calm_drop [] h = tt
 calm_drop (x ∷ xs) h = h.1
+
+-- ---- a packet was taken off one of its lines, which leaves these there, and this is where its session is and what becomes of its lines
+
+pub placed_with : (largest : ℕ) (ids all : List CopyId) (ns : List ℕ) (limits : Limits) (choice : MemberChoice) (now : ℕ) (call : Call) (o : Option ℕ) (k : ℕ) (up old : List Back) (r : Receiver) (b : Broker) → IsPlaced largest ids ns r b
+    → AreToldApart all (stepped limits choice now call b).records → IsHis r.client o k (stepped limits choice now call b)
+    → Present o k (told_by (stepped limits choice now call b) (told limits choice now call b) (line_like (record r.line { up = up; old = old }))) (stepped limits choice now call b)
+    → Former o k (told_by (stepped limits choice now call b) (told limits choice now call b) (line_like (record r.line { up = up; old = old }))) (stepped limits choice now call b)
+    → GoesAlong o largest all ns (receiver_called limits choice now call (record r { line = record r.line { up = up; old = old } }) b) (stepped limits choice now call b) → is_one_of (Some k) (0 ∷ ns) ≡ true
+    → IsPlaced largest all ns (receiver_called limits choice now call (record r { line = record r.line { up = up; old = old } }) b) (stepped limits choice now call b)
+placed_with largest ids all ns limits choice now call o k up old r b placed apart his present former along its_line =
+    let new = stepped limits choice now call b in
+    let line_is = ap (λ (p : Publisher). p.line) (told_like new (told limits choice now call b) (record r { line = record r.line { up = up; old = old } })) in
+    record {
+      birth = o;
+      line = k;
+      along = along;
+      seat = record {
+        his = his;
+        present = subst (λ (z : Line Sent). Present o k z new) line_is present;
+        former = subst (λ (z : Line Sent). Former o k z new) line_is former;
+      };
+      its_line = its_line;
+      apart = λ m e f. placed.apart m e f;
+      named = placed.named;
+      told = apart;
+    }
 
 -- ---- its session is connected on the line of this number
 
@@ -92,29 +118,8 @@ module _ (largest : ℕ) (ids : List CopyId) (ns : List ℕ) (limits : Limits) (
     abbrev new : Broker
     new = stepped limits choice now (Input n packet) b
 
-    -- once a packet was taken off one of its lines, which leaves these there
-    placed_with : (up old : List Back)
-        → Present (Some birth) placed.line (publisher_told new (told limits choice now (Input n packet) b) (publisher_like (record r { line = record r.line { up = up; old = old } }))).line new
-        → Former (Some birth) placed.line (publisher_told new (told limits choice now (Input n packet) b) (publisher_like (record r { line = record r.line { up = up; old = old } }))).line new
-        → IsInStep largest all birth ns (receiver_called limits choice now (Input n packet) (record r { line = record r.line { up = up; old = old } }) b) new
-        → IsPlaced largest all ns (receiver_called limits choice now (Input n packet) (record r { line = record r.line { up = up; old = old } }) b) new
-    placed_with up old present former step =
-        let taken = record r { line = record r.line { up = up; old = old } } in
-        let line_is = ap (λ (p : Publisher). p.line) (told_like new (told limits choice now (Input n packet) b) taken) in
-        record {
-          birth = Some birth;
-          line = placed.line;
-          along = step;
-          seat = record {
-            his = (owns, named_there largest all birth ns (receiver_called limits choice now (Input n packet) taken b) new step apart.differ);
-            present = subst (λ (z : Line Sent). Present (Some birth) placed.line z new) line_is present;
-            former = subst (λ (z : Line Sent). Former (Some birth) placed.line z new) line_is former;
-          };
-          its_line = placed.its_line;
-          apart = λ m e f. placed.apart m e f;
-          named = placed.named;
-          told = apart;
-        }
+    his_after : (q : Receiver) → q.client ≡ r.client → IsInStep largest all birth ns q (stepped limits choice now (Input n packet) b) → IsHis r.client (Some birth) placed.line (stepped limits choice now (Input n packet) b)
+    his_after q same step = (owns, subst (λ (c : List ℕ). is_some (session_named c new.records) ≡ true) same (named_there largest all birth ns q new step apart.differ))
 
     pub placed_after : r.line.number ≡ Some placed.line → IsInStep largest all birth ns (receiver_after limits choice now (Input n packet) r b) new → IsPlaced largest all ns (receiver_after limits choice now (Input n packet) r b) new
     placed_after at step =
@@ -124,7 +129,7 @@ module _ (largest : ℕ) (ids : List CopyId) (ns : List ℕ) (limits : Limits) (
         let present = joined_after limits choice now call b r.client birth placed.line line owns at there in
         let former = former_after limits choice now call b (Some birth) (Some birth) placed.line placed.line line far (λ z of e calm on. absurd (placed.apart placed.line at e))
         (former_as (Some birth) placed.line (line_like r.line) line b refl refl seat_here.former) in
-        placed_with (drop 1 r.line.up) r.line.old present former step
+        placed_with largest ids all ns limits choice now call (Some birth) placed.line (drop 1 r.line.up) r.line.old r b placed apart (his_after (receiver_after limits choice now call r b) refl step) present former step placed.its_line
 
     pub placed_after_there : r.line.old_number ≡ Some placed.line → AllByRecursion IsNoConnect (map packet_like r.line.old)
         → IsInStep largest all birth ns (receiver_called limits choice now (Input n packet) (record r { line = taken_old r.line }) b) new
@@ -135,4 +140,4 @@ module _ (largest : ℕ) (ids : List CopyId) (ns : List ℕ) (limits : Limits) (
         let far = input_elsewhere limits choice now n packet r.line.number b (λ m e same. placed.apart m e (at ∙ ap Some (sym number ∙ same))) in
         let present = present_after limits choice now call b (Some birth) (Some birth) placed.line placed.line line far (λ z of e on. absurd (placed.apart placed.line e at)) (present_taken (Some birth) placed.line r b seat_here.present) in
         let former = lingers_after limits choice now call b r.client birth placed.line line owns at (calm_drop r.line.old calm) there in
-        placed_with r.line.up (drop 1 r.line.old) present former step
+        placed_with largest ids all ns limits choice now call (Some birth) placed.line r.line.up (drop 1 r.line.old) r b placed apart (his_after (receiver_called limits choice now call (record r { line = taken_old r.line }) b) refl step) present former step placed.its_line

@@ -1,5 +1,6 @@
 pub mod Alone
 pub mod Unused
+pub mod Growing
 pub mod Around
 pub mod Like
 pub mod Comings
@@ -11,6 +12,7 @@ pub mod Restarts
 pub mod Ticks
 pub mod Losses
 pub mod Reading
+pub mod Fronts
 pub mod Heard
 pub mod Replies
 pub mod OldReplies
@@ -31,5 +33,4 @@ pub mod Untouched
 pub mod EveryRun
 pub mod OwnConnects
 pub mod Scripts
-pub mod Growing
 pub mod QueueOrder

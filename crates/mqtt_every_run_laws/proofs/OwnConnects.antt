@@ -1,21 +1,20 @@
 -- The broker reads a receiver's CONNECT on its line: its session is resumed there, or one begins, be it the first of its name or
 -- instead of the one before; or there is no place for one, and the line closes (MQTT 5.0, 3.1.2.4, 3.1.4, 3.2.2.2).
 use Rattle.std.proofs.Common.{◌≡◌, ℕ, suc, ◌≤◌, Bool, true, false, List, [], ◌∷◌, drop, length, map, Option, Some, None, nat_lt, refl, sym, ap, subst, ◌∙◌, inl, inr}
-use Rattle.std.specs.Prelude.{filter_map, is_some, option_map}
-use Rattle.std.specs.List.{AllByRecursion}
+use Rattle.std.specs.Prelude.{filter_map}
 use Rattle.std.proofs.lemmas.Bool.{cases_Bool}
 use Rattle.std.proofs.lemmas.Cmp.{nat_eq_equiv}
 use Rattle.mqtt_base.specs.declared.session.CopyId.{CopyId}
 use Rattle.mqtt_codec.specs.declared.packet.Packet.{Packet}
 use Rattle.mqtt_flow.specs.Receiver.{connect}
-use Rattle.mqtt_laws.specs.Ends.{Back, Publisher, Receiver, Sent, answers, wire_back}
-use Rattle.mqtt_laws.specs.Hops.{IsInOrder, IsNoConnect, Own, lines_left}
-use Rattle.mqtt_laws.specs.Lines.{Line, is_one_of, told_by, unless_closed}
-use Rattle.mqtt_laws.specs.Run.{read_first, read_if}
-use Rattle.mqtt_laws.specs.Seats.{Former, IsHis, IsIdle, Present, absent, closed, joined, over, waiting}
-use Rattle.mqtt_laws.specs.World.{Setting, View, World, asks, calls_if, input_on, receiver_named, receiver_told, taken_up, to_broker, view_by, view_of, with_line}
+use Rattle.mqtt_laws.specs.Ends.{Back, Receiver, answers, wire_back}
+use Rattle.mqtt_laws.specs.Hops.{IsInOrder, Own, lines_left}
+use Rattle.mqtt_laws.specs.Lines.{is_one_of, told_by, unless_closed}
+use Rattle.mqtt_laws.specs.Run.{read_first}
+use Rattle.mqtt_laws.specs.Seats.{Former, IsHis, IsIdle, closed, joined, over}
+use Rattle.mqtt_laws.specs.World.{Setting, World, asks, receiver_named, taken_up, to_broker}
 use Rattle.mqtt_laws.proofs.CleanConnects.{ended_by}
-use Rattle.mqtt_laws.proofs.OwnCalls.{input_elsewhere, left_own, taken_of, waiting_line}
+use Rattle.mqtt_laws.proofs.OwnCalls.{input_elsewhere, left_own}
 use Rattle.mqtt_laws.proofs.OwnSeats.{former_after, none_there, not_among}
 use Rattle.mqtt_laws.proofs.OwnStep.{heard_of}
 use Rattle.mqtt_laws.proofs.Publishes.{line_none}
@@ -26,7 +25,7 @@ use Rattle.mqtt_rules.proofs.NumberSteps.{step_fell}
 use Rattle.mqtt_rules.specs.Connect.{begin}
 use Rattle.mqtt_rules.specs.Deeds.{closing}
 use Rattle.mqtt_rules.specs.Laws.{AreWithin}
-use Rattle.mqtt_rules.specs.State.{Line as BrokerLine, Broker, MemberChoice, line_at, line_of}
+use Rattle.mqtt_rules.specs.State.{Line as BrokerLine, Broker, MemberChoice, line_of}
 use Rattle.mqtt_rules.specs.Step.{Call, Input, Outcome, deeds, stepped, told}
 use Rattle.mqtt_rules.specs.declared.Limits.{Limits}
 use Rattle.mqtt_world_laws.specs.Fair.{IsSteady}
@@ -43,14 +42,14 @@ use Rattle.mqtt_handed_laws.proofs.OwnRefusals.{deeds_are, given_is, lines_are, 
 use Rattle.mqtt_handed_laws.proofs.Renewing.{renewed_clears}
 use Rattle.mqtt_handed_laws.proofs.Resuming.{connect_makes, greeting}
 use Rattle.mqtt_every_run_laws.specs.Alone.{HaveSentNothing}
-use Rattle.mqtt_every_run_laws.specs.Standing.{GoesAlong, IsAround, IsPlaced, IsSeen, Stands, line_like, packet_like}
-use Rattle.mqtt_every_run_laws.proofs.Around.{changed_its, on_back, on_line, own_around}
+use Rattle.mqtt_every_run_laws.specs.Standing.{GoesAlong, IsPlaced, IsSeen, Stands, line_like, packet_like}
 use Rattle.mqtt_every_run_laws.proofs.Comings.{run_of}
-use Rattle.mqtt_every_run_laws.proofs.Heard.{named_there}
-use Rattle.mqtt_every_run_laws.proofs.Greetings.{HasGreeted, alone_left, begun_line, greeted_on, greeted_owns, idle_went, resumed_line, spared_left, spared_none, unused_next}
-use Rattle.mqtt_every_run_laws.proofs.Like.{calm_up, connected_linked, former_as, told_like}
-use Rattle.mqtt_every_run_laws.proofs.Outside.{calls_around, listed, named_called}
-use Rattle.mqtt_every_run_laws.proofs.Replies.{some_up}
+use Rattle.mqtt_every_run_laws.proofs.Heard.{named_there, placed_with}
+use Rattle.mqtt_every_run_laws.proofs.Fronts.{Awaits, calm_front, front}
+use Rattle.mqtt_every_run_laws.proofs.Greetings.{HasGreeted, begun_line, greeted_on, greeted_owns, may_begin, may_resume, resumed_line, spared_left, spared_none, unused_next}
+use Rattle.mqtt_every_run_laws.proofs.Like.{calm_up, connected_linked, former_as}
+use Rattle.mqtt_every_run_laws.proofs.Outside.{goes_as, listed}
+use Rattle.mqtt_every_run_laws.proofs.Reading.{first_read}
 
 module _ (largest : ℕ) (ids : List CopyId) (ns : List ℕ) (limits : Limits) (choice : MemberChoice) (now : ℕ) (clean : Bool) (rest : List Back) (r : Receiver) (l : BrokerLine) (b : Broker) (placed : IsPlaced largest ids ns r b)
     (number_is : r.line.number ≡ Some l.number) (up : r.line.up ≡ answers (connect clean) ∷ rest) where
@@ -75,39 +74,26 @@ module _ (largest : ℕ) (ids : List CopyId) (ns : List ℕ) (limits : Limits) (
   abbrev Goal : Type 0
   Goal = IsPlaced largest ids ns (reads_answer limits choice now l.number (connect clean) r b) (after_answer limits choice now l.number (connect clean) r b)
 
-  told_line : told_by new out (line_like taken.line) ≡ line_like q.line
-  told_line = ap (λ (p : Publisher). p.line) (told_like new out taken)
-
   -- what becomes of the line that it gave up, by what does where the session was connected there
   left_behind : (o p : Option ℕ) (j : ℕ) → Former o placed.line (line_like r.line) b
       → ((birth : ℕ) → o ≡ Some birth → r.line.old_number ≡ Some placed.line → session_on placed.line b.lines ≡ Some (Some birth) → is_one_of r.line.old_number (filter_map closing (deeds limits choice now call b)) ≡ true)
-      → Former p j (line_like q.line) new
+      → Former p j (told_by new out (line_like taken.line)) new
   left_behind o p j former shut =
       let far = input_elsewhere limits choice now l.number packet r.line.old_number b (λ m e same. placed.apart m (number_is ∙ ap Some same) e) in
       let before = former_as o placed.line (line_like r.line) (line_like taken.line) b refl refl former in
-      let x = former_after limits choice now call b o p placed.line j (line_like taken.line) far
-      (λ birth of e calm on. over (ap (λ (t : Bool). unless_closed t (line_like taken.line).old) (shut birth of e on))) before in
-      subst (λ (z : Line Sent). Former p j z new) told_line x
+      former_after limits choice now call b o p placed.line j (line_like taken.line) far
+      (λ birth of e calm on. over (ap (λ (t : Bool). unless_closed t (line_like taken.line).old) (shut birth of e on))) before
 
   -- its session is connected on its line
   connected : (birth : ℕ) → IsInOrder (after_answer limits choice now l.number (connect clean) r b)
       → IsInStep largest ids birth ns (reads_answer limits choice now l.number (connect clean) r b) (after_answer limits choice now l.number (connect clean) r b)
-      → HasGreeted l.number birth r.window (after_answer limits choice now l.number (connect clean) r b)
-      → Former (Some birth) l.number (line_like (reads_answer limits choice now l.number (connect clean) r b).line) (after_answer limits choice now l.number (connect clean) r b) → Goal
-  connected birth order k g former = record {
-    birth = Some birth;
-    line = l.number;
-    along = k;
-    seat = record {
-      his = (greeted_owns largest ids birth ns l.number r.window q new k placed.told.differ order g, named_there largest ids birth ns q new k placed.told.differ);
-      present = joined birth refl number_is (greeted_on l.number birth r.window new g);
-      former = former;
-    };
-    its_line = listed l.number ns (k.lines.own l.number number_is);
-    apart = λ m e f. placed.apart m e f;
-    named = placed.named;
-    told = apart_still ids b.records new.records placed.told (step_fell limits choice now call b);
-  }
+      → HasGreeted l.number birth (after_answer limits choice now l.number (connect clean) r b)
+      → Former (Some birth) l.number (told_by (after_answer limits choice now l.number (connect clean) r b) (told limits choice now (Input l.number (wire_back r.client r.window (answers (connect clean)))) b) (line_like (taken_up r.line))) (after_answer limits choice now l.number (connect clean) r b)
+      → Goal
+  connected birth order k g former =
+      placed_with largest ids ids ns limits choice now call (Some birth) l.number (drop 1 r.line.up) r.line.old r b placed (apart_still ids b.records new.records placed.told (step_fell limits choice now call b))
+      (greeted_owns largest ids birth ns l.number q new k placed.told.differ order g, named_there largest ids birth ns q new k placed.told.differ) (joined birth refl number_is (greeted_on l.number birth new g)) former k
+      (listed l.number ns (k.lines.own l.number number_is))
 
 -- ---- its session stands: it is resumed, or another begins in its place
 
@@ -135,7 +121,7 @@ module _ (largest : ℕ) (ids : List CopyId) (ns : List ℕ) (limits : Limits) (
       let front = ended_by x.its s (heard_of now l.number b).now in
       let begins = begin l (greeting true r.client r.window) false r.client _ in
       let closes = ap (filter_map closing) x.clears.deeds_are ∙ x.clears.closings begins refl in
-      let g = subst (λ (n : ℕ). HasGreeted l.number (suc n) r.window (after_answer limits choice now l.number (connect true) r b)) x.births_are
+      let g = subst (λ (n : ℕ). HasGreeted l.number (suc n) (after_answer limits choice now l.number (connect true) r b)) x.births_are
       (begun_line limits choice now true r l b front (lines_left (line_of s.birth b)) x.clears) in
       connected largest ids ns limits choice now true rest r l b placed a.number up (suc b.records.births) order (renewal_in_step largest ids s.birth ns limits choice now rest r l s b k m up) g
       (left_behind largest ids ns limits choice now true rest r l b placed a.number up (Some s.birth) (Some (suc b.records.births)) l.number former (shut _ closes))
@@ -170,21 +156,11 @@ module _ (largest : ℕ) (ids : List CopyId) (ns : List ℕ) (limits : Limits) (
       let still : IsIdle n new = record { lines = nobody.0; given = subst (λ (z : ℕ). n ≤ z) (sym (given_is limits choice now clean rest r l b a apart full up)) idle.given } in
       let shut : is_one_of r.line.number out.closed ≡ true =
       ap (λ (o : Option ℕ). is_one_of o out.closed) a.number ∙ (ap (λ (ds : List _). is_one_of (Some n) (filter_map closing ds)) (deeds_are limits choice now clean rest r l b a apart full up) ∙ one_here n) in
-      let none : map packet_like (unless_closed (is_one_of r.line.number out.closed) (drop 1 r.line.up)) ≡ [] = ap (λ (t : Bool). map packet_like (unless_closed t (drop 1 r.line.up))) shut in
-      record {
-        birth = None;
-        line = placed.line;
-        along = refused_awaiting largest ids ns limits choice now clean rest r l b k a apart full up;
-        seat = record {
-          his = named_none limits choice now clean rest r l b a apart full up;
-          present = closed n a.number none still nobody.1;
-          former = left_behind largest ids ns limits choice now clean rest r l b placed a.number up None None placed.line former (λ birth of its on. absurd cc);
-        };
-        its_line = placed.its_line;
-        apart = λ m e f. placed.apart m e f;
-        named = placed.named;
-        told = apart_still ids b.records new.records placed.told (step_fell limits choice now call b);
-      }
+      let none : unless_closed (is_one_of r.line.number out.closed) (map packet_like (drop 1 r.line.up)) ≡ [] = ap (λ (t : Bool). unless_closed t (map packet_like (drop 1 r.line.up))) shut in
+      placed_with largest ids ids ns limits choice now call None placed.line (drop 1 r.line.up) r.line.old r b placed (apart_still ids b.records new.records placed.told (step_fell limits choice now call b))
+      (named_none limits choice now clean rest r l b a apart full up) (closed n a.number none still nobody.1)
+      (left_behind largest ids ns limits choice now clean rest r l b placed a.number up None None placed.line former (λ birth of its on. absurd cc))
+      (refused_awaiting largest ids ns limits choice now clean rest r l b k a apart full up) placed.its_line
     where
       one_here : (m : ℕ) → is_one_of (Some m) (m ∷ []) ≡ true
       one_here m = rw (nat_eq_equiv.refl m) refl
@@ -192,34 +168,17 @@ module _ (largest : ℕ) (ids : List CopyId) (ns : List ℕ) (limits : Limits) (
 -- ---- whatever becomes of it
 
 read_placed : (largest : ℕ) (ids : List CopyId) (ns : List ℕ) (limits : Limits) (choice : MemberChoice) (now : ℕ) (clean : Bool) (rest : List Back) (r : Receiver) (l : BrokerLine) (b : Broker) → IsPlaced largest ids ns r b
-    → AreWithin limits → IsSteady limits b → HaveSentNothing b → r.line.number ≡ Some l.number → line_at l.number b ≡ Some l → l.session ≡ None → IsIdle l.number b → r.line.up ≡ answers (connect clean) ∷ rest
-    → IsInOrder (after_answer limits choice now l.number (connect clean) r b)
+    → AreWithin limits → IsSteady limits b → HaveSentNothing b → Awaits r.line.number l b → r.line.up ≡ answers (connect clean) ∷ rest → IsInOrder (after_answer limits choice now l.number (connect clean) r b)
     → IsPlaced largest ids ns (reads_answer limits choice now l.number (connect clean) r b) (after_answer limits choice now l.number (connect clean) r b)
-read_placed largest ids ns limits choice now clean rest r l b placed within steady unsent is at waits idle up order = by placed.birth placed.along placed.seat.his placed.seat.former
+read_placed largest ids ns limits choice now clean rest r l b placed within steady unsent here up order = by placed.birth placed.along placed.seat.his placed.seat.former
   where
-    fresh : l.went ≡ []
-    fresh = idle_went l b at waits unsent
-
     by : (o : Option ℕ) → GoesAlong o largest ids ns r b → IsHis r.client o placed.line b → Former o placed.line (line_like r.line) b
         → IsPlaced largest ids ns (reads_answer limits choice now l.number (connect clean) r b) (after_answer limits choice now l.number (connect clean) r b)
     by None along his former =
-        let a : IsBeginning limits r l b = record {
-          number = is;
-          line = at;
-          waits = waits;
-          fresh = fresh;
-          none = his;
-          births = steady.coherent.births;
-          unused = unused_next b steady.lines steady.coherent.births;
-          within = within.sessions;
-          some = placed.named.some;
-          short = placed.named.short;
-          plain = placed.named.plain;
-          old = spared_none placed.line r b former;
-        } in
+        let a : IsBeginning limits r l b = may_begin limits r l b within steady unsent placed.named here his (spared_none placed.line r b former) in
         elim (cases_Bool (nat_lt (length b.records.sessions) limits.sessions)) [
           | inl room ↦ begun largest ids ns limits choice now clean rest r l b placed a up former along room order
-          | inr full ↦ refused largest ids ns limits choice now clean rest r l b placed a up former along full idle
+          | inr full ↦ refused largest ids ns limits choice now clean rest r l b placed a up former along full here.idle
         ]
     by (Some birth) along his former =
         let x = kept_of r.client birth placed.line b his.0 his.1 placed.named.short placed.named.plain in
@@ -227,77 +186,24 @@ read_placed largest ids ns limits choice now clean rest r l b placed within stea
         let own : Own r.client s.birth placed.line b = subst (λ (z : ℕ). Own r.client z placed.line b) (sym x.1) his.0 in
         let behind : Former (Some s.birth) placed.line (line_like r.line) b = subst (λ (z : ℕ). Former (Some z) placed.line (line_like r.line) b) (sym x.1) former in
         let k : IsInStep largest ids s.birth ns r b = subst (λ (z : ℕ). IsInStep largest ids z ns r b) (sym x.1) along in
-        let a : IsResuming r l s b = record {
-          number = is;
-          line = at;
-          waits = waits;
-          fresh = fresh;
-          kept = x.2;
-          taken = taken_of r.client s.birth placed.line l.number b own idle;
-          alone = alone_left r.client s.birth placed.line b own;
-          old = spared_left r.client s.birth placed.line r b own behind;
-        } in
+        let a : IsResuming r l s b = may_resume placed.line r l s b unsent here x.2 own (spared_left r.client s.birth placed.line r b own behind) in
         stands_on largest ids ns limits choice now rest r l s b placed a own behind clean within steady k up order
 
 -- ---- as an event
 
 pub connected_stands : (first : List CopyId) (c : List ℕ) (clean : Bool) (rest : List Back) (largest : ℕ) (set : Setting) (r : Receiver) (w : World) → Stands first c largest set.limits w → receiver_named c w ≡ Some r → HaveSentNothing w.broker
     → r.line.up ≡ answers (connect clean) ∷ rest → read_first spending set (to_broker c) w ≡ false → Stands first c largest set.limits (asks set (to_broker c) w)
-connected_stands first c clean rest largest set r w s e unsent up unspent = by placed.seat.present
+connected_stands first c clean rest largest set r w s e unsent up unspent = elim (front placed.birth placed.line (answers (connect clean)) rest r w.broker placed.seat.present up) [
+  | inl j ↦
+      let run = run_of placed.birth largest s.ids s.ns r w.broker placed.along placed.told.differ in
+      absurd (calm_front clean rest r.line.up up (calm_up (place_of s.ids) largest run.0 r w.broker run.1 (connected_linked placed.line j.birth r.line.number w.broker j.at j.there)))
+  | inr h ↦
+      let l = h.1.line in
+      let a = s.standing.around in
+      first_read first c (answers (connect clean)) rest largest set r w s e l.number h.1.awaits.number up
+      (λ after_. goes_as largest s.ids s.ns _ _ (read_placed largest s.ids s.ns set.limits set.choice w.now clean rest r l w.broker placed a.within a.steady unsent h.1.awaits up
+      (sound_of set.limits (after_answer set.limits set.choice w.now l.number (connect clean) r w.broker) a.within after_).order)) unspent
+]
   where
-    view : view_of c w ≡ view_by None (Some r)
-    view = ap (λ (o : Option Publisher). view_by o (receiver_named c w)) (s.standing.around.alone (ap is_some e)) ∙ ap (λ (o : Option Receiver). view_by None o) e
-
     placed : IsPlaced largest s.ids s.ns r w.broker
     placed = subst (IsSeen largest s.ids s.ns w.broker) e s.standing.seen
-
-    steady : IsSteady set.limits w.broker
-    steady = s.standing.around.steady
-
-    within : AreWithin set.limits
-    within = s.standing.around.within
-
-    w1 : World
-    w1 = with_line c taken_up taken_up w
-
-    found : receiver_named c w1 ≡ Some (record r { line = taken_up r.line })
-    found = changed_its c (on_back taken_up) w r (λ q. refl) e
-
-    around : IsAround c set.limits s.ns w1
-    around = own_around c set.limits s.ns w (on_line taken_up) (on_back taken_up) (λ p. refl) (λ q. refl) (s.standing.around.alone (ap is_some e)) s.standing.around
-
-    reads : (l : BrokerLine) → r.line.number ≡ Some l.number → line_at l.number w.broker ≡ Some l → l.session ≡ None → IsIdle l.number w.broker → Stands first c largest set.limits (asks set (to_broker c) w)
-    reads l is at waits idle =
-        let n = l.number in
-        let call = Input n (wire_back r.client r.window (answers (connect clean))) in
-        let asked : input_on (view_of c w).number (view_of c w).up ≡ Some call =
-        ap (λ (v : View). input_on v.number v.up) view ∙ (ap (λ (o : Option ℕ). input_on o (map (wire_back r.client r.window) r.line.up)) is ∙ ap (λ (xs : List Back). input_on (Some n) (map (wire_back r.client r.window) xs)) up) in
-        let cost : read_if spending set (Some call) w1 ≡ false = sym (ap (λ (o : Option Call). read_if spending set o w1) asked) ∙ unspent in
-        let new = stepped set.limits set.choice w.now call w.broker in
-        let out = told set.limits set.choice w.now call w.broker in
-        let last = calls_around c set s.ns call w1 around cost in
-        let order : IsInOrder new = (sound_of set.limits new within last.steady).order in
-        subst (λ (o : Option Call). Stands first c largest set.limits (calls_if set o w1)) (sym asked)
-        (record {
-          ids = s.ids;
-          grown = s.grown;
-          ns = s.ns;
-          standing = record {
-            around = last;
-            seen = subst (IsSeen largest s.ids s.ns new) (sym (named_called c set call w1 ∙ ap (option_map (receiver_told new out)) found))
-                (read_placed largest s.ids s.ns set.limits set.choice w.now clean rest r l w.broker placed within steady unsent is at waits idle up order);
-          };
-        })
-
-    by : Present placed.birth placed.line (line_like r.line) w.broker → Stands first c largest set.limits (asks set (to_broker c) w)
-    by (absent nothing none_up) = absurd (some_up (connect clean) rest r.line.up up none_up)
-    by (closed m at none_up idle nothing) = absurd (some_up (connect clean) rest r.line.up up none_up)
-    by (joined birth own is there) =
-        let run = run_of placed.birth largest s.ids s.ns r w.broker placed.along placed.told.differ in
-        let calm = calm_up (place_of s.ids) largest run.0 r w.broker run.1 (connected_linked placed.line birth r.line.number w.broker is there) in
-        let none = subst (λ (xs : List Back). AllByRecursion IsNoConnect (map packet_like xs)) up calm in
-        absurd none.0
-    by (waiting m carried is link_is clean_is connects_ down idle there) =
-        let x = waiting_line m w.broker there in
-        let number : m ≡ (x.0).number = sym x.4 in
-        reads x.0 (is ∙ ap Some number) (ap (λ (n : ℕ). line_at n w.broker) (sym number) ∙ x.1) x.2 (subst (λ (n : ℕ). IsIdle n w.broker) number idle)

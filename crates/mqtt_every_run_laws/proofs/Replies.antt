@@ -1,5 +1,5 @@
 -- The broker reads a receiver's answer on its line: PUBACK, PUBREC or PUBCOMP (MQTT 5.0, 4.3.2, 4.3.3, 4.13).
-use Rattle.std.proofs.Common.{◌≡◌, ℕ, Bool, false, List, [], ◌∷◌, map, Option, Some, None, refl, sym, ap, subst, ◌∙◌, inl, inr}
+use Rattle.std.proofs.Common.{◌≡◌, ℕ, false, List, [], ◌∷◌, Option, Some, None, refl, sym, subst, inl, inr}
 use Rattle.std.specs.Prelude.{Err, Ok}
 use Rattle.mqtt_base.specs.Codes.{protocol_error}
 use Rattle.mqtt_base.specs.declared.session.CopyId.{CopyId}
@@ -8,11 +8,9 @@ use Rattle.mqtt_flow.specs.Outbound as rules
 use Rattle.mqtt_flow.specs.Receiver.{Answer, HasNoConnect, connect, puback, pubcomp, pubrec}
 use Rattle.mqtt_flow.specs.declared.entry.Turn.{Turn}
 use Rattle.mqtt_flow.specs.declared.entry.Turn.TheVariants as turns
-use Rattle.mqtt_inbound.specs.Publisher.{CONNECT}
-use Rattle.mqtt_laws.specs.Ends.{Back, Receiver, answers, no_content, plain, shake, wire_back}
+use Rattle.mqtt_laws.specs.Ends.{Back, Receiver, answers, wire_back}
 use Rattle.mqtt_laws.specs.Hops.{Own}
 use Rattle.mqtt_laws.specs.Run.{read_first}
-use Rattle.mqtt_laws.specs.Seats.{Present, absent, closed, joined, waiting}
 use Rattle.mqtt_laws.specs.World.{Setting, World, asks, receiver_named, to_broker}
 use Rattle.mqtt_laws.proofs.Frame.{own_done}
 use Rattle.mqtt_laws.proofs.Mine.{AreMine, mine_append, mine_owns}
@@ -35,7 +33,8 @@ use Rattle.mqtt_handed_laws.specs.Handing.{IsListening, after_answer, reads_answ
 use Rattle.mqtt_handed_laws.specs.Own.{IsInStep}
 use Rattle.mqtt_handed_laws.proofs.Apart.{apart_still}
 use Rattle.mqtt_handed_laws.proofs.OwnCalls.{puback_in_step, pubcomp_in_step, pubrec_in_step}
-use Rattle.mqtt_every_run_laws.specs.Standing.{IsPlaced, IsSeen, Stands, line_like, packet_like}
+use Rattle.mqtt_every_run_laws.specs.Standing.{IsPlaced, IsSeen, Stands}
+use Rattle.mqtt_every_run_laws.proofs.Fronts.{IsJoined, front, no_connect}
 use Rattle.mqtt_every_run_laws.proofs.Heard.{hears, placed_after}
 use Rattle.mqtt_every_run_laws.proofs.Outside.{goes_as}
 use Rattle.mqtt_every_run_laws.proofs.Reading.{first_read}
@@ -78,23 +77,6 @@ module _ (client : List ℕ) (birth n : ℕ) where
   answer_owns limits choice now packet x r l s b a e own =
       packet_owns limits choice now packet r l s b a (subst (AreMine client birth n) (sym e) (mine_answer (env_of limits choice b) x r l s b (heard_of now l.number b) a a.session)) own
 
--- ---- what is under way there
-
-pub some_up : (x : Answer) (rest xs : List Back) → xs ≡ answers x ∷ rest → map packet_like xs ≡ [] → ⊥
-some_up x rest xs up e = let clash : packet_like (answers x) ∷ map packet_like rest ≡ [] = sym (ap (map packet_like) up) ∙ e in absurd cc
-
-pub no_connect_up : (x : Answer) (clean : Bool) (rest xs : List Back) → HasNoConnect (x ∷ []) → xs ≡ answers x ∷ rest → map packet_like xs ≡ shake (CONNECT clean) ∷ [] → ⊥
-no_connect_up (connect c) clean rest xs none up e = none
-no_connect_up (puback i code) clean rest xs none up e = let clash : plain no_content ∷ map packet_like rest ≡ shake (CONNECT clean) ∷ [] = sym (ap (map packet_like) up) ∙ e in absurd cc
-no_connect_up (pubrec i code) clean rest xs none up e = let clash : plain no_content ∷ map packet_like rest ≡ shake (CONNECT clean) ∷ [] = sym (ap (map packet_like) up) ∙ e in absurd cc
-no_connect_up (pubcomp i code) clean rest xs none up e = let clash : plain no_content ∷ map packet_like rest ≡ shake (CONNECT clean) ∷ [] = sym (ap (map packet_like) up) ∙ e in absurd cc
-
-no_number : (o : Option ℕ) (k : ℕ) (x : Answer) (rest : List Back) (r : Receiver) (b : Broker) → Present o k (line_like r.line) b → r.line.number ≡ None → r.line.up ≡ answers x ∷ rest → ⊥
-no_number o k x rest r b (absent none none_up) is up = some_up x rest r.line.up up none_up
-no_number o k x rest r b (closed n at none_up idle none) is up = some_up x rest r.line.up up none_up
-no_number o k x rest r b (waiting n clean at link_is clean_is connects_ down idle there) is up = let clash : Some n ≡ None = sym at ∙ is in absurd cc
-no_number o k x rest r b (joined birth own at there) is up = let clash : Some k ≡ None = sym at ∙ is in absurd cc
-
 -- ---- where it is after it
 
 module _ (largest : ℕ) (ids : List CopyId) (ns : List ℕ) (limits : Limits) (choice : MemberChoice) (now : ℕ) (rest : List Back) (r : Receiver) (l : BrokerLine) (s : Session) (b : Broker) (a : IsListening r l s b) where
@@ -111,42 +93,30 @@ module _ (largest : ℕ) (ids : List CopyId) (ns : List ℕ) (limits : Limits) (
   read_owns (pubrec i code) birth n none own = answer_owns r.client birth n limits choice now (wire_back r.client r.window (answers (pubrec i code))) (rules.pubrec i code (queue_on l.went s)) r l s b a refl own
   read_owns (pubcomp i code) birth n none own = answer_owns r.client birth n limits choice now (wire_back r.client r.window (answers (pubcomp i code))) (rules.pubcomp i (queue_on l.went s)) r l s b a refl own
 
-read_placed : (largest : ℕ) (ids : List CopyId) (ns : List ℕ) (limits : Limits) (choice : MemberChoice) (now n : ℕ) (x : Answer) (rest : List Back) (r : Receiver) (b : Broker) → IsPlaced largest ids ns r b → IsSteady limits b
-    → r.line.number ≡ Some n → HasNoConnect (x ∷ []) → r.line.up ≡ answers x ∷ rest → IsPlaced largest ids ns (reads_answer limits choice now n x r b) (after_answer limits choice now n x r b)
-read_placed largest ids ns limits choice now n x rest r b placed steady is none up = by placed.seat.present
-  where
-    Goal : ℕ → Type 0
-    Goal m = IsPlaced largest ids ns (reads_answer limits choice now m x r b) (after_answer limits choice now m x r b)
-
-    by : Present placed.birth placed.line (line_like r.line) b → Goal n
-    by (absent nothing none_up) = let clash : None ≡ Some n = sym nothing ∙ is in absurd cc
-    by (closed m at none_up idle nothing) = absurd (some_up x rest r.line.up up none_up)
-    by (waiting m clean at link_is clean_is connects_ down idle there) = absurd (no_connect_up x clean rest r.line.up none up connects_)
-    by (joined birth own at there) =
-        let both : Some placed.line ≡ Some n = sym at ∙ is in
-        let same : placed.line ≡ n = cc in
-        let h = hears largest ids ns limits birth r b placed own there steady at in
-        let l = h.line in
-        let s = h.listens.session in
-        let a = h.listens.listening in
-        let packet = wire_back r.client r.window (answers x) in
-        let new = after_answer limits choice now l.number x r b in
-        let owns = read_owns largest ids ns limits choice now rest r l s b a x birth placed.line none h.owns in
-        let told = apart_still ids b.records new.records placed.told (step_fell limits choice now (Input l.number packet) b) in
-        let result : Goal l.number = placed_after largest ids ns limits birth r b placed own there choice now l.number packet ids h.number owns told at
-        (read_step largest ids ns limits choice now rest r l s b a x birth h.step none up) in
-        subst Goal (h.number ∙ same) result
+read_placed : (largest : ℕ) (ids : List CopyId) (ns : List ℕ) (limits : Limits) (choice : MemberChoice) (now : ℕ) (x : Answer) (rest : List Back) (r : Receiver) (b : Broker) (placed : IsPlaced largest ids ns r b) → IsSteady limits b
+    → IsJoined placed.birth placed.line r.line.number b → HasNoConnect (x ∷ []) → r.line.up ≡ answers x ∷ rest
+    → IsPlaced largest ids ns (reads_answer limits choice now placed.line x r b) (after_answer limits choice now placed.line x r b)
+read_placed largest ids ns limits choice now x rest r b placed steady j none up =
+    let h = hears largest ids ns limits j.birth r b placed j.own j.there steady j.at in
+    let l = h.line in
+    let s = h.listens.session in
+    let a = h.listens.listening in
+    let packet = wire_back r.client r.window (answers x) in
+    let new = after_answer limits choice now l.number x r b in
+    let owns = read_owns largest ids ns limits choice now rest r l s b a x j.birth placed.line none h.owns in
+    let told = apart_still ids b.records new.records placed.told (step_fell limits choice now (Input l.number packet) b) in
+    subst (λ (m : ℕ). IsPlaced largest ids ns (reads_answer limits choice now m x r b) (after_answer limits choice now m x r b)) h.number
+    (placed_after largest ids ns limits j.birth r b placed j.own j.there choice now l.number packet ids h.number owns told j.at (read_step largest ids ns limits choice now rest r l s b a x j.birth h.step none up))
 
 -- ---- as an event
 
 pub answered_stands : (first : List CopyId) (c : List ℕ) (x : Answer) (rest : List Back) (largest : ℕ) (set : Setting) (r : Receiver) (w : World) → Stands first c largest set.limits w → receiver_named c w ≡ Some r → HasNoConnect (x ∷ []) → r.line.up ≡ answers x ∷ rest
     → read_first spending set (to_broker c) w ≡ false → Stands first c largest set.limits (asks set (to_broker c) w)
-answered_stands first c x rest largest set r w s e none up unspent = by r.line.number refl
+answered_stands first c x rest largest set r w s e none up unspent = elim (front placed.birth placed.line (answers x) rest r w.broker placed.seat.present up) [
+  | inl j ↦ first_read first c (answers x) rest largest set r w s e placed.line j.at up
+      (λ after_. goes_as largest s.ids s.ns _ _ (read_placed largest s.ids s.ns set.limits set.choice w.now x rest r w.broker placed s.standing.around.steady j none up)) unspent
+  | inr h ↦ absurd (no_connect x h.0 none h.1.packet)
+]
   where
     placed : IsPlaced largest s.ids s.ns r w.broker
     placed = subst (IsSeen largest s.ids s.ns w.broker) e s.standing.seen
-
-    by : (o : Option ℕ) → r.line.number ≡ o → Stands first c largest set.limits (asks set (to_broker c) w)
-    by None is = absurd (no_number placed.birth placed.line x rest r w.broker placed.seat.present is up)
-    by (Some n) is =
-        first_read first c (answers x) rest largest set r w s e n is up (goes_as largest s.ids s.ns _ _ (read_placed largest s.ids s.ns set.limits set.choice w.now n x rest r w.broker placed s.standing.around.steady is none up)) unspent

@@ -1,23 +1,23 @@
 -- All that holds of every run; and each drain of a script ends, from wherever the script has come to (MQTT 5.0, 4.3, 4.4, 4.6).
-use Rattle.std.proofs.Common.{◌≡◌, ℕ, zero, suc, ◌+◌, ◌*◌, ◌≤◌, Bool, true, false, cond, ◌||◌, List, [], ◌∷◌, ◌++◌, refl, ap, subst, ◌∙◌, arith}
-use Rattle.mqtt_laws.specs.Run.{Turn, are_clean_starts_carried, carries_clean, read_at, run, setting, turned}
-use Rattle.mqtt_laws.specs.World.{World, start}
+use Rattle.std.proofs.Common.{◌≡◌, ℕ, zero, suc, ◌+◌, ◌*◌, ◌≤◌, Bool, true, false, cond, ◌||◌, List, [], ◌∷◌, ◌++◌, refl, sym, ap, subst, ◌∙◌, arith}
+use Rattle.mqtt_laws.specs.Run.{Turn, are_clean_starts_carried, run}
+use Rattle.mqtt_laws.specs.World.{World, receiver_named, start}
 use Rattle.mqtt_rules.specs.State.{MemberChoice}
 use Rattle.mqtt_rules.specs.declared.Limits.{Limits}
 use Rattle.mqtt_world_laws.specs.Fair.{IsFair}
 use Rattle.mqtt_world_laws.specs.Identities.{TellsApart}
-use Rattle.mqtt_world_laws.specs.Spending.{run_spends, spending}
+use Rattle.mqtt_world_laws.specs.Spending.{run_spends}
 use Rattle.mqtt_world_laws.proofs.Carried.{all_carried}
 use Rattle.mqtt_world_laws.proofs.CopyRuns.{run_balances, run_numbers}
 use Rattle.mqtt_world_laws.proofs.OnceRuns.{ends_once, enters_once, start_apart, waits_or_has_ended}
 use Rattle.mqtt_world_laws.proofs.Routed.{run_routed}
-use Rattle.mqtt_world_laws.proofs.Runs.{accepts_once, both_true, either, few_open}
+use Rattle.mqtt_world_laws.proofs.Runs.{accepts_once, few_open}
 use Rattle.mqtt_world_laws.proofs.StepRuns.{run_enters, run_goes_out}
 use Rattle.mqtt_handed_laws.specs.Drains.{Doing, after_round, all_turns, copies_left, count_by_end, drain_by, drain_turns, drains, happens, is_bad_drain, is_none_left, is_over, round_turns, rounds_taken, turns_of}
 use Rattle.mqtt_every_run_laws.specs.Scripts.{AllDrainsEnd, DeliversOnce, DrainEnds, EndsWhere}
 use Rattle.mqtt_every_run_laws.specs.Untouched.{IsUntouched}
 use Rattle.mqtt_every_run_laws.proofs.Drains.{ends_over, ends_within}
-use Rattle.mqtt_every_run_laws.proofs.EveryRun.{carried_append, over_or_drained, run_hands, spent_append, untouched_kept}
+use Rattle.mqtt_every_run_laws.proofs.EveryRun.{carried_append, over_or_drained, run_hands, run_in_order, spent_append, untouched_kept}
 use Rattle.mqtt_every_run_laws.proofs.Runs.{IsKept, run_kept}
 use Rattle.mqtt_every_run_laws.proofs.Untouched.{start_untouched}
 
@@ -35,6 +35,7 @@ run_delivers limits ts w u apart fair = record {
   balanced = run_balances limits ts w u.new fair;
   goes_out = run_goes_out limits ts w u.new fair;
   handed = run_hands limits ts w u fair;
+  in_order = λ xs ys is c q r e f. run_in_order limits xs ys w u (subst (λ (zs : List Turn). IsFair limits zs w) (sym is) fair) c q r e (ap (λ (zs : List Turn). receiver_named c (run limits zs w)) is ∙ f);
 }
 
 -- ---- a drain

@@ -1,6 +1,6 @@
 -- The broker reads a receiver's SUBSCRIBE, on its line or on the one that it gave up, where its session is connected (MQTT
 -- 5.0, 3.3.1.3, 3.8.4, 4.4).
-use Rattle.std.proofs.Common.{◌≡◌, ℕ, suc, ◌≤◌, Bool, true, false, cond, List, [], ◌∷◌, ◌++◌, filter, map, Option, Some, None, refl, sym, ap, subst, ◌∙◌, arith, inl, inr}
+use Rattle.std.proofs.Common.{◌≡◌, ℕ, suc, ◌≤◌, Bool, true, false, cond, List, [], ◌∷◌, ◌++◌, filter, map, Option, Some, None, ap, subst, arith, inl, inr}
 use Rattle.std.specs.Prelude.{◌≢◌, flat_map, nat_le}
 use Rattle.std.specs.List.{AllByRecursion}
 use Rattle.mqtt_base.specs.Codes.{identifier_in_use}
@@ -8,11 +8,9 @@ use Rattle.mqtt_base.specs.declared.session.CopyId.{CopyId}
 use Rattle.mqtt_codec.specs.Subscriptions.{Subscription as Asked}
 use Rattle.mqtt_codec.specs.declared.packet.Packet.{Packet}
 use Rattle.mqtt_inbound.specs.Identifiers.{is_among}
-use Rattle.mqtt_inbound.specs.Publisher.{CONNECT}
-use Rattle.mqtt_laws.specs.Ends.{Back, Receiver, Wish, asks_for, no_content, plain, shake, wire_back}
-use Rattle.mqtt_laws.specs.Hops.{Own}
+use Rattle.mqtt_laws.specs.Ends.{Back, Receiver, Wish, asks_for, wire_back}
+use Rattle.mqtt_laws.specs.Hops.{IsNoConnect, Own}
 use Rattle.mqtt_laws.specs.Run.{read_first}
-use Rattle.mqtt_laws.specs.Seats.{Former, Present, absent, closed, joined, late, lingers, over, waiting}
 use Rattle.mqtt_laws.specs.World.{Setting, World, asks, old_to_broker, receiver_named, to_broker}
 use Rattle.mqtt_laws.proofs.Far.{AreFar}
 use Rattle.mqtt_laws.proofs.FarActs.{far_quiet}
@@ -49,7 +47,8 @@ use Rattle.mqtt_handed_laws.specs.Served.{IsTidy}
 use Rattle.mqtt_handed_laws.proofs.Apart.{apart_still}
 use Rattle.mqtt_handed_laws.proofs.OwnSubscribes.{AreRetainedApart, asking, old_subscribes_apart, subscribes_apart}
 use Rattle.mqtt_every_run_laws.specs.Retaining.{AreRetainedOnce}
-use Rattle.mqtt_every_run_laws.specs.Standing.{IsPlaced, IsSeen, Stands, line_like, packet_like}
+use Rattle.mqtt_every_run_laws.specs.Standing.{IsPlaced, IsSeen, Stands, packet_like}
+use Rattle.mqtt_every_run_laws.proofs.Fronts.{IsJoined, front, front_there}
 use Rattle.mqtt_every_run_laws.proofs.Heard.{hears, hears_there, placed_after, placed_after_there}
 use Rattle.mqtt_every_run_laws.proofs.Outside.{GoesFurther}
 use Rattle.mqtt_every_run_laws.proofs.Reading.{first_read, first_read_there}
@@ -131,77 +130,37 @@ retained_apart limits b steady once = record {
 
 -- ---- where it is after it: on its line
 
-wish_up : (w : Wish) (rest xs : List Back) → xs ≡ asks_for w ∷ rest → map packet_like xs ≡ [] → ⊥
-wish_up w rest xs up e = let clash : plain no_content ∷ map packet_like rest ≡ [] = sym (ap (map packet_like) up) ∙ e in absurd cc
-
-no_connect : (w : Wish) (clean : Bool) (rest xs : List Back) → xs ≡ asks_for w ∷ rest → map packet_like xs ≡ shake (CONNECT clean) ∷ [] → ⊥
-no_connect w clean rest xs up e = let clash : plain no_content ∷ map packet_like rest ≡ shake (CONNECT clean) ∷ [] = sym (ap (map packet_like) up) ∙ e in absurd cc
-
-wish_placed : (largest : ℕ) (ids : List CopyId) (ns : List ℕ) (limits : Limits) (choice : MemberChoice) (now n : ℕ) (w : Wish) (rest : List Back) (r : Receiver) (b : Broker) → IsPlaced largest ids ns r b → IsSteady limits b → IsTidy limits b
-    → AreRetainedOnce b.records → r.line.number ≡ Some n → r.line.up ≡ asks_for w ∷ rest
-    → GoesFurther largest ids ns (receiver_after limits choice now (asking w r n) r b) (stepped limits choice now (asking w r n) b)
-wish_placed largest ids ns limits choice now n w rest r b placed steady tidy once is up = by placed.seat.present
-  where
-    Goal : ℕ → Type 0
-    Goal m = GoesFurther largest ids ns (receiver_after limits choice now (asking w r m) r b) (stepped limits choice now (asking w r m) b)
-
-    by : Present placed.birth placed.line (line_like r.line) b → Goal n
-    by (absent nothing none_up) = let clash : None ≡ Some n = sym nothing ∙ is in absurd cc
-    by (closed m at none_up idle nothing) = absurd (wish_up w rest r.line.up up none_up)
-    by (waiting m clean at link_is clean_is connects_ down idle there) = absurd (no_connect w clean rest r.line.up up connects_)
-    by (joined birth own at there) =
-        let both : Some placed.line ≡ Some n = sym at ∙ is in
-        let same : placed.line ≡ n = cc in
-        let h = hears largest ids ns limits birth r b placed own there steady at in
-        let l = h.line in
-        let a = h.listens.listening in
-        let call = asking w r l.number in
-        let x = subscribes_apart largest ids limits choice now birth ns w rest r l h.listens.session b h.step a tidy up in
-        let more = x.0.more in
-        let apart = wished_apart birth ids more b.records (stepped limits choice now call b).records placed.told (step_fell limits choice now call b) x.0.new (x.1 (retained_apart limits b steady once)) in
-        let owns = wish_owns r.client birth placed.line limits choice now r.window r.client w r l h.listens.session b a h.owns in
-        let after_ = placed_after largest ids ns limits birth r b placed own there choice now l.number (wire_back r.client r.window (asks_for w)) (ids ++ more) h.number owns apart at x.0.in_step in
-        let result : Goal l.number = record { more = more; placed = after_ } in
-        subst Goal (h.number ∙ same) result
-
-no_number : (o : Option ℕ) (k : ℕ) (w : Wish) (rest : List Back) (r : Receiver) (b : Broker) → Present o k (line_like r.line) b → r.line.number ≡ None → r.line.up ≡ asks_for w ∷ rest → ⊥
-no_number o k w rest r b (absent none none_up) is up = wish_up w rest r.line.up up none_up
-no_number o k w rest r b (closed n at none_up idle none) is up = wish_up w rest r.line.up up none_up
-no_number o k w rest r b (waiting n clean at link_is clean_is connects_ down idle there) is up = let clash : Some n ≡ None = sym at ∙ is in absurd cc
-no_number o k w rest r b (joined birth own at there) is up = let clash : Some k ≡ None = sym at ∙ is in absurd cc
+wish_placed : (largest : ℕ) (ids : List CopyId) (ns : List ℕ) (limits : Limits) (choice : MemberChoice) (now : ℕ) (w : Wish) (rest : List Back) (r : Receiver) (b : Broker) (placed : IsPlaced largest ids ns r b) → IsSteady limits b → IsTidy limits b
+    → AreRetainedOnce b.records → IsJoined placed.birth placed.line r.line.number b → r.line.up ≡ asks_for w ∷ rest
+    → GoesFurther largest ids ns (receiver_after limits choice now (asking w r placed.line) r b) (stepped limits choice now (asking w r placed.line) b)
+wish_placed largest ids ns limits choice now w rest r b placed steady tidy once j up =
+    let h = hears largest ids ns limits j.birth r b placed j.own j.there steady j.at in
+    let l = h.line in
+    let a = h.listens.listening in
+    let call = asking w r l.number in
+    let x = subscribes_apart largest ids limits choice now j.birth ns w rest r l h.listens.session b h.step a tidy up in
+    let more = x.0.more in
+    let apart = wished_apart j.birth ids more b.records (stepped limits choice now call b).records placed.told (step_fell limits choice now call b) x.0.new (x.1 (retained_apart limits b steady once)) in
+    let owns = wish_owns r.client j.birth placed.line limits choice now r.window r.client w r l h.listens.session b a h.owns in
+    let after_ = placed_after largest ids ns limits j.birth r b placed j.own j.there choice now l.number (wire_back r.client r.window (asks_for w)) (ids ++ more) h.number owns apart j.at x.0.in_step in
+    subst (λ (m : ℕ). GoesFurther largest ids ns (receiver_after limits choice now (asking w r m) r b) (stepped limits choice now (asking w r m) b)) h.number (record { more = more; placed = after_ })
 
 -- ---- on the line that it gave up
 
-old_wish_placed : (largest : ℕ) (ids : List CopyId) (ns : List ℕ) (limits : Limits) (choice : MemberChoice) (now n : ℕ) (w : Wish) (rest : List Back) (r : Receiver) (b : Broker) → IsPlaced largest ids ns r b → IsSteady limits b → IsTidy limits b
-    → AreRetainedOnce b.records → r.line.old_number ≡ Some n → r.line.old ≡ asks_for w ∷ rest
-    → GoesFurther largest ids ns (reads_old_wish limits choice now n w r b) (stepped limits choice now (asking w r n) b)
-old_wish_placed largest ids ns limits choice now n w rest r b placed steady tidy once is old = by placed.seat.former
-  where
-    Goal : ℕ → Type 0
-    Goal m = GoesFurther largest ids ns (reads_old_wish limits choice now m w r b) (stepped limits choice now (asking w r m) b)
-
-    by : Former placed.birth placed.line (line_like r.line) b → Goal n
-    by (over nothing) = absurd (wish_up w rest r.line.old old nothing)
-    by (late m at connects_ idle there) = absurd (no_connect w false rest r.line.old old connects_)
-    by (lingers birth own at calm there) =
-        let both : Some placed.line ≡ Some n = sym at ∙ is in
-        let same : placed.line ≡ n = cc in
-        let h = hears_there largest ids ns limits birth r b placed own there steady at in
-        let l = h.line in
-        let a = h.listens.listening in
-        let call = asking w r l.number in
-        let x = old_subscribes_apart largest ids limits choice now birth ns w rest r l h.listens.session b h.step a tidy old in
-        let more = x.0.more in
-        let apart = wished_apart birth ids more b.records (stepped limits choice now call b).records placed.told (step_fell limits choice now call b) x.0.new (x.1 (retained_apart limits b steady once)) in
-        let owns = wish_owns r.client birth placed.line limits choice now r.window r.client w (turned_back r) l h.listens.session b a h.owns in
-        let after_ = placed_after_there largest ids ns limits birth r b placed own there choice now l.number (wire_back r.client r.window (asks_for w)) (ids ++ more) h.number owns apart at calm x.0.in_step in
-        let result : Goal l.number = record { more = more; placed = after_ } in
-        subst Goal (h.number ∙ same) result
-
-no_old_number : (o : Option ℕ) (k : ℕ) (w : Wish) (rest : List Back) (r : Receiver) (b : Broker) → Former o k (line_like r.line) b → r.line.old_number ≡ None → r.line.old ≡ asks_for w ∷ rest → ⊥
-no_old_number o k w rest r b (over none) is old = wish_up w rest r.line.old old none
-no_old_number o k w rest r b (late m at connects_ idle there) is old = let clash : Some m ≡ None = sym at ∙ is in absurd cc
-no_old_number o k w rest r b (lingers birth own at calm there) is old = let clash : Some k ≡ None = sym at ∙ is in absurd cc
+old_wish_placed : (largest : ℕ) (ids : List CopyId) (ns : List ℕ) (limits : Limits) (choice : MemberChoice) (now : ℕ) (w : Wish) (rest : List Back) (r : Receiver) (b : Broker) (placed : IsPlaced largest ids ns r b) → IsSteady limits b → IsTidy limits b
+    → AreRetainedOnce b.records → IsJoined placed.birth placed.line r.line.old_number b → AllByRecursion IsNoConnect (map packet_like r.line.old) → r.line.old ≡ asks_for w ∷ rest
+    → GoesFurther largest ids ns (reads_old_wish limits choice now placed.line w r b) (stepped limits choice now (asking w r placed.line) b)
+old_wish_placed largest ids ns limits choice now w rest r b placed steady tidy once j calm old =
+    let h = hears_there largest ids ns limits j.birth r b placed j.own j.there steady j.at in
+    let l = h.line in
+    let a = h.listens.listening in
+    let call = asking w r l.number in
+    let x = old_subscribes_apart largest ids limits choice now j.birth ns w rest r l h.listens.session b h.step a tidy old in
+    let more = x.0.more in
+    let apart = wished_apart j.birth ids more b.records (stepped limits choice now call b).records placed.told (step_fell limits choice now call b) x.0.new (x.1 (retained_apart limits b steady once)) in
+    let owns = wish_owns r.client j.birth placed.line limits choice now r.window r.client w (turned_back r) l h.listens.session b a h.owns in
+    let after_ = placed_after_there largest ids ns limits j.birth r b placed j.own j.there choice now l.number (wire_back r.client r.window (asks_for w)) (ids ++ more) h.number owns apart j.at calm x.0.in_step in
+    subst (λ (m : ℕ). GoesFurther largest ids ns (reads_old_wish limits choice now m w r b) (stepped limits choice now (asking w r m) b)) h.number (record { more = more; placed = after_ })
 
 -- ---- as events
 
@@ -210,17 +169,15 @@ module _ (first : List CopyId) (c : List ℕ) (wish : Wish) (rest : List Back) (
   placed_here = subst (IsSeen largest s.ids s.ns w.broker) e s.standing.seen
 
   pub wished_stands : r.line.up ≡ asks_for wish ∷ rest → AreRetainedOnce w.broker.records → read_first spending set (to_broker c) w ≡ false → Stands first c largest set.limits (asks set (to_broker c) w)
-  wished_stands up once unspent = by r.line.number refl
-    where
-      by : (o : Option ℕ) → r.line.number ≡ o → Stands first c largest set.limits (asks set (to_broker c) w)
-      by None is = absurd (no_number placed_here.birth placed_here.line wish rest r w.broker placed_here.seat.present is up)
-      by (Some n) is = first_read first c (asks_for wish) rest largest set r w s e n is up
-          (wish_placed largest s.ids s.ns set.limits set.choice w.now n wish rest r w.broker placed_here s.standing.around.steady s.standing.around.tidy once is up) unspent
+  wished_stands up once unspent = elim (front placed_here.birth placed_here.line (asks_for wish) rest r w.broker placed_here.seat.present up) [
+    | inl j ↦ first_read first c (asks_for wish) rest largest set r w s e placed_here.line j.at up
+        (λ after_. wish_placed largest s.ids s.ns set.limits set.choice w.now wish rest r w.broker placed_here s.standing.around.steady s.standing.around.tidy once j up) unspent
+    | inr h ↦ let clash = h.1.packet in absurd cc
+  ]
 
   pub old_wished_stands : r.line.old ≡ asks_for wish ∷ rest → AreRetainedOnce w.broker.records → read_first spending set (old_to_broker c) w ≡ false → Stands first c largest set.limits (asks set (old_to_broker c) w)
-  old_wished_stands old once unspent = by r.line.old_number refl
-    where
-      by : (o : Option ℕ) → r.line.old_number ≡ o → Stands first c largest set.limits (asks set (old_to_broker c) w)
-      by None is = absurd (no_old_number placed_here.birth placed_here.line wish rest r w.broker placed_here.seat.former is old)
-      by (Some n) is = first_read_there first c (asks_for wish) rest largest set r w s e n is old
-          (old_wish_placed largest s.ids s.ns set.limits set.choice w.now n wish rest r w.broker placed_here s.standing.around.steady s.standing.around.tidy once is old) unspent
+  old_wished_stands old once unspent = elim (front_there placed_here.birth placed_here.line (asks_for wish) rest r w.broker placed_here.seat.former old) [
+    | inl j ↦ first_read_there first c (asks_for wish) rest largest set r w s e placed_here.line j.0.at old
+        (λ after_. old_wish_placed largest s.ids s.ns set.limits set.choice w.now wish rest r w.broker placed_here s.standing.around.steady s.standing.around.tidy once j.0 j.1 old) unspent
+    | inr h ↦ let clash = h.packet in absurd cc
+  ]

@@ -15,10 +15,9 @@ use Rattle.mqtt_records.specs.declared.session.Session.{Session}
 use Rattle.mqtt_rows.specs.Distinct.{AllDiffer}
 use Rattle.mqtt_rules.specs.State.{Broker, session_named}
 
--- Of the copies that entered its sessions, no two the same, in the order in which they entered, with those that stand as its
--- session's queue: each of QoS 2 was handed over at most once, in that order, and exactly once from when the broker took its
--- PUBREC, also when it has ended, but never one that expired or was dropped; one of QoS 1 that was taken was read; and what
--- was read is such a copy, with its topic and payload
+-- There are copies, no two the same, of which those that stand are its session's queue, in its order: each of QoS 2 was handed
+-- over at most once, in that order, and exactly once from when the broker took its PUBREC, also when it has ended, but never one
+-- that expired or was dropped; one of QoS 1 that was taken was read; and what was read is such a copy, with its topic and payload
 pub record WasHandedOver (r : Receiver) (b : Broker) : Type 0 where
   pub copies : List Lot
   pub number : Numbering
