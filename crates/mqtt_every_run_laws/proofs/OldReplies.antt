@@ -63,10 +63,10 @@ read_placed largest ids ns limits choice now x rest r b placed steady j calm non
 
 -- ---- as an event
 
-pub old_answered_stands : (c : List ℕ) (x : Answer) (rest : List Back) (largest : ℕ) (set : Setting) (r : Receiver) (w : World) → Stands c largest set.limits w → receiver_named c w ≡ Some r → HasNoConnect (x ∷ []) → r.line.old ≡ answers x ∷ rest
-    → read_first spending set (old_to_broker c) w ≡ false → Stands c largest set.limits (asks set (old_to_broker c) w)
-old_answered_stands c x rest largest set r w s e none up unspent = elim (front_there placed.birth placed.line (answers x) rest r w.broker placed.seat.former up) [
-  | inl j ↦ first_read_there c (answers x) rest largest set r w s e placed.line j.0.at up
+pub old_answered_stands : (first : List CopyId) (c : List ℕ) (x : Answer) (rest : List Back) (largest : ℕ) (set : Setting) (r : Receiver) (w : World) → Stands first c largest set.limits w → receiver_named c w ≡ Some r → HasNoConnect (x ∷ []) → r.line.old ≡ answers x ∷ rest
+    → read_first spending set (old_to_broker c) w ≡ false → Stands first c largest set.limits (asks set (old_to_broker c) w)
+old_answered_stands first c x rest largest set r w s e none up unspent = elim (front_there placed.birth placed.line (answers x) rest r w.broker placed.seat.former up) [
+  | inl j ↦ first_read_there first c (answers x) rest largest set r w s e placed.line j.0.at up
       (λ after_. goes_as largest s.ids s.ns _ _ (read_placed largest s.ids s.ns set.limits set.choice w.now x rest r w.broker placed s.standing.around.steady j.0 j.1 none up)) unspent
   | inr h ↦ absurd (no_connect x false none h.packet)
 ]

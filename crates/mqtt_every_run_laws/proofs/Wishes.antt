@@ -149,20 +149,20 @@ old_wish_placed largest ids ns limits choice now w rest r b placed steady tidy o
 
 -- ---- as events
 
-module _ (c : List ℕ) (wish : Wish) (rest : List Back) (largest : ℕ) (set : Setting) (r : Receiver) (w : World) (s : Stands c largest set.limits w) (e : receiver_named c w ≡ Some r) where
+module _ (first : List CopyId) (c : List ℕ) (wish : Wish) (rest : List Back) (largest : ℕ) (set : Setting) (r : Receiver) (w : World) (s : Stands first c largest set.limits w) (e : receiver_named c w ≡ Some r) where
   placed_here : IsPlaced largest s.ids s.ns r w.broker
   placed_here = subst (IsSeen largest s.ids s.ns w.broker) e s.standing.seen
 
-  pub wished_stands : r.line.up ≡ asks_for wish ∷ rest → AreRetainedOnce w.broker.records → read_first spending set (to_broker c) w ≡ false → Stands c largest set.limits (asks set (to_broker c) w)
+  pub wished_stands : r.line.up ≡ asks_for wish ∷ rest → AreRetainedOnce w.broker.records → read_first spending set (to_broker c) w ≡ false → Stands first c largest set.limits (asks set (to_broker c) w)
   wished_stands up once unspent = elim (front placed_here.birth placed_here.line (asks_for wish) rest r w.broker placed_here.seat.present up) [
-    | inl j ↦ first_read c (asks_for wish) rest largest set r w s e placed_here.line j.at up
+    | inl j ↦ first_read first c (asks_for wish) rest largest set r w s e placed_here.line j.at up
         (λ after_. wish_placed largest s.ids s.ns set.limits set.choice w.now wish rest r w.broker placed_here s.standing.around.steady s.standing.around.tidy once j up) unspent
     | inr h ↦ let clash = h.1.packet in absurd cc
   ]
 
-  pub old_wished_stands : r.line.old ≡ asks_for wish ∷ rest → AreRetainedOnce w.broker.records → read_first spending set (old_to_broker c) w ≡ false → Stands c largest set.limits (asks set (old_to_broker c) w)
+  pub old_wished_stands : r.line.old ≡ asks_for wish ∷ rest → AreRetainedOnce w.broker.records → read_first spending set (old_to_broker c) w ≡ false → Stands first c largest set.limits (asks set (old_to_broker c) w)
   old_wished_stands old once unspent = elim (front_there placed_here.birth placed_here.line (asks_for wish) rest r w.broker placed_here.seat.former old) [
-    | inl j ↦ first_read_there c (asks_for wish) rest largest set r w s e placed_here.line j.0.at old
+    | inl j ↦ first_read_there first c (asks_for wish) rest largest set r w s e placed_here.line j.0.at old
         (λ after_. old_wish_placed largest s.ids s.ns set.limits set.choice w.now wish rest r w.broker placed_here s.standing.around.steady s.standing.around.tidy once j.0 j.1 old) unspent
     | inr h ↦ let clash = h.packet in absurd cc
   ]
