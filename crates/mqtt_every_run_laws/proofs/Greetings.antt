@@ -1,154 +1,61 @@
--- What the broker makes of a line on which it reads a receiver's CONNECT: the session is connected there, alone; and what is known
--- of lines and sessions before it (MQTT 5.0, 3.1.2, 3.1.4).
-use Rattle.std.proofs.Common.{◌≡◌, ℕ, suc, Bool, true, false, List, [], ◌∷◌, ◌++◌, map, Option, Some, None, nat_eq, refl, sym, ap, subst, ◌∙◌, append-nil, inl, inr}
+-- What is known of lines and sessions as the broker reads a receiver's CONNECT, on whichever of its lines, and whose they are after
+-- it (MQTT 5.0, 3.1.2, 3.1.4).
+use Rattle.std.proofs.Common.{◌≡◌, ℕ, suc, Bool, true, false, List, [], ◌∷◌, map, Option, Some, None, nat_eq, refl, sym, ap, subst, ◌∙◌, inl, inr}
 use Rattle.std.specs.Prelude.{filter_map, find, option_map}
 use Rattle.std.specs.List.{AllByRecursion}
 use Rattle.std.proofs.lemmas.Bool.{cases_Bool, eqb-true}
 use Rattle.std.proofs.lemmas.Cmp.{nat_eq_equiv}
 use Rattle.mqtt_base.specs.declared.session.CopyId.{CopyId}
-use Rattle.mqtt_flow.specs.Outbound.{due_from}
 use Rattle.mqtt_flow.specs.Receiver.{connect, puback, pubcomp, pubrec, spared}
-use Rattle.mqtt_flow.specs.declared.entry.Turn.TheVariants as turns
-use Rattle.mqtt_laws.specs.Ends.{Back, Receiver, answers, asks_for, wire_back}
+use Rattle.mqtt_laws.specs.Ends.{Back, Receiver, answers, asks_for}
 use Rattle.mqtt_laws.specs.Hops.{IsIts, IsInOrder, IsKept, IsNoConnect, IsOurLine, IsOurs, Own, lines_left}
 use Rattle.mqtt_laws.specs.Lines.{is_one_of, unless_closed}
 use Rattle.mqtt_laws.specs.Seats.{Former, IsNamed, Present, absent, closed, joined, late, lingers, over, waiting}
 use Rattle.mqtt_laws.specs.Seen.{is_linked}
-use Rattle.mqtt_laws.proofs.Connects.{heard_line_of, heard_on_line, left_by, left_leaves, taken_birth, taken_from}
 use Rattle.mqtt_laws.proofs.Lists.{all_find}
 use Rattle.mqtt_laws.proofs.OwnCalls.{left_idle, left_own, taken_of}
 use Rattle.mqtt_laws.proofs.Owned.{NoneKeptAlive, found_alone, owned}
-use Rattle.mqtt_laws.proofs.OwnStep.{heard_of}
-use Rattle.mqtt_laws.proofs.Quiet.{session_on}
 use Rattle.mqtt_laws.proofs.Rows.{face, face_at}
 use Rattle.mqtt_laws.proofs.Seats.{idle_linked}
-use Rattle.mqtt_laws.proofs.Seeing.{done_lines, linked_is, linked_of}
+use Rattle.mqtt_laws.proofs.Seeing.{linked_is, linked_of}
 use Rattle.mqtt_records.specs.Session.{birth_of}
 use Rattle.mqtt_records.specs.declared.session.Session.{Session}
 use Rattle.mqtt_rows.specs.Distinct.{AllDiffer}
 use Rattle.mqtt_rows.specs.Order.{row_at}
 use Rattle.mqtt_rules.proofs.FlightRows.{all_at, all_found, all_more}
-use Rattle.mqtt_rules.proofs.Goods.{after_append}
 use Rattle.mqtt_rules.proofs.NumberBirths.{below_none}
-use Rattle.mqtt_rules.specs.Connect.{begin, on_connect, resume}
-use Rattle.mqtt_rules.specs.Deeds.{Deed, Greet, Hear, On, after_all, line_after, on_line, rows_of_all}
 use Rattle.mqtt_rules.specs.Laws.{AreWithin}
 use Rattle.mqtt_rules.specs.Lines.{HasUniqueLines, line_number}
 use Rattle.mqtt_rules.specs.Numbers.{HasGivenBirths}
-use Rattle.mqtt_rules.specs.Outbound.{all_turn_deeds}
-use Rattle.mqtt_rules.specs.State.{Line as BrokerLine, Broker, MemberChoice, is_of, line_at, line_of, queue_on, session_at, session_named}
-use Rattle.mqtt_rules.specs.Step.{Input, at_moment, deeds, env_of}
+use Rattle.mqtt_rules.specs.State.{Line as BrokerLine, Broker, is_of, line_at, line_of, session_at, session_named}
 use Rattle.mqtt_rules.specs.declared.Limits.{Limits}
 use Rattle.mqtt_world_laws.specs.Fair.{IsSteady}
 use Rattle.mqtt_handed_laws.specs.Calls.{IsBeginning, IsOnlyAt, IsResuming, IsUnused}
-use Rattle.mqtt_handed_laws.specs.Handing.{after_answer}
 use Rattle.mqtt_handed_laws.specs.Own.{IsInStep}
 use Rattle.mqtt_handed_laws.specs.Seen.{answered}
-use Rattle.mqtt_handed_laws.proofs.Beginning.{Clears}
+use Rattle.mqtt_handed_laws.proofs.Greetings.{HasGreeted}
 use Rattle.mqtt_handed_laws.proofs.Numbers.{place_of, places_number}
-use Rattle.mqtt_handed_laws.proofs.Resuming.{call_is, connect_is, greeting}
 use Rattle.mqtt_every_run_laws.specs.Alone.{HaveSentNothing}
 use Rattle.mqtt_every_run_laws.specs.Alone as alone
 use Rattle.mqtt_every_run_laws.specs.Standing.{line_like, packet_like}
 use Rattle.mqtt_every_run_laws.proofs.Fronts.{Awaits}
 use Rattle.mqtt_every_run_laws.proofs.Like.{connect_like}
 
--- ---- the line after it
+-- ---- after it
 
--- the line of this number stands, with this session connected, without Keep Alive
-pub record HasGreeted (n birth : ℕ) (b : Broker) : Type 0 where
-  pub line : BrokerLine
-  pub at : line_at n b ≡ Some line
-  pub number : line.number ≡ n
-  pub connected : line.session ≡ Some birth
-  pub quiet : line.keep_alive ≡ 0
-
-abbrev found_in : ℕ → List BrokerLine → Option BrokerLine
-found_in n ls = find (λ (l : BrokerLine). nat_eq l.number n) ls
-
-greeted_in : (now n birth window : ℕ) (ls : List BrokerLine) → session_on n ls ≡ Some None
-    → (l : BrokerLine) × (found_in n (on_line now n (Greet birth 0 window 0xffffffff) ls) ≡ Some l) × (l.number ≡ n) × (l.session ≡ Some birth) × (l.keep_alive ≡ 0)
-greeted_in now n birth window [] h = absurd cc
-greeted_in now n birth window (l ∷ ls) h = elim (cases_Bool (nat_eq l.number n)) [
-  | inl here ↦ (line_after now (Greet birth 0 window 0xffffffff) l, rw (here, here) refl, eqb-true l.number n here, refl, refl)
-  | inr further ↦ let x = greeted_in now n birth window ls (rw further at h) in (x.0, rw (further, further) x.1, x.2, x.3, x.4)
-]
-
-greeted_by : (now n birth window : ℕ) (ls : List BrokerLine) (b : Broker) → session_on n ls ≡ Some None → b.lines ≡ on_line now n (Greet birth 0 window 0xffffffff) ls → HasGreeted n birth b
-greeted_by now n birth window ls b on e = let x = greeted_in now n birth window ls on in record { line = x.0; at = ap (found_in n) e ∙ x.1; number = x.2; connected = x.3; quiet = x.4 }
-
--- what goes out again leaves the lines as they are
-repeats_lines : {X : Type 0} (now n : ℕ) (s : Session) (xs : List X) (id : X → ℕ) (b : Broker) → (after_all (all_turn_deeds now n s (map (λ x. turns.Repeat (id x)) xs)) b).lines ≡ b.lines
-repeats_lines now n s [] id b = refl
-repeats_lines now n s (x ∷ xs) id b = repeats_lines now n s xs id b
-
-waits_on : (l : BrokerLine) (b : Broker) → line_at l.number b ≡ Some l → l.session ≡ None → session_on l.number b.lines ≡ Some None
-waits_on l b at waits = ap (option_map (λ (x : BrokerLine). x.session)) at ∙ ap Some waits
-
--- where the session is resumed
-pub resumed_line : (limits : Limits) (choice : MemberChoice) (now : ℕ) (r : Receiver) (l : BrokerLine) (s : Session) (b : Broker) → IsResuming r l s b
-    → HasGreeted l.number s.birth (after_answer limits choice now l.number (connect false) r b)
-resumed_line limits choice now r l s b a =
-    let n = l.number in
-    let call = Input n (wire_back r.client r.window (answers (connect false))) in
-    let ds = deeds limits choice now call b in
-    let first = at_moment now b in
-    let c = heard_of now n b in
-    let env = env_of limits choice b in
-    let heard_line = heard_line_of s.birth n now b (line_of s.birth b) refl a.taken in
-    let o = heard_line.0 in
-    let t = heard_line.2 in
-    let kept : IsKept r.client s c = record { session = a.kept.session; name = a.kept.name; only = a.kept.only; no_will = a.kept.no_will; no_end = a.kept.no_end; short = a.kept.short; plain = a.kept.plain } in
-    let x = taken_from o c.now s in
-    let front = left_by o s c.now in
-    let left = after_all front c in
-    let resumes = resume l (greeting false r.client r.window) c.now x in
-    let is : ds ≡ On n Hear ∷ (front ++ resumes) =
-    call_is limits choice now false r.client r.window l b a.line a.waits
-    ∙ (ap (λ (zs : List Deed). On n Hear ∷ zs) (append-nil (on_connect env l (greeting false r.client r.window) c))
-    ∙ ap (λ (zs : List Deed). On n Hear ∷ zs) (connect_is o env l r.client r.window s c heard_line.1 t kept)) in
-    let on : session_on n c.lines ≡ Some None = heard_on_line n first.now b.lines None (waits_on l b a.line a.waits) in
-    let still : session_on n left.lines ≡ Some None = (left_leaves o s n c (Some None) t a.kept.session on).line_is in
-    let dues = due_from [] (queue_on [] x) in
-    let same : x.birth ≡ s.birth = taken_birth o c.now s in
-    let lines : (after_answer limits choice now n (connect false) r b).lines ≡ on_line left.now n (Greet x.birth 0 r.window 0xffffffff) left.lines =
-    done_lines (rows_of_all ds first.records) (after_all ds first)
-    ∙ (ap (λ (zs : List Deed). (after_all zs first).lines) is
-    ∙ (ap (λ (z : Broker). z.lines) (after_append front resumes c) ∙ repeats_lines c.now n x dues (λ d. d.identifier) _)) in
-    subst (λ (k : ℕ). HasGreeted n k (after_answer limits choice now n (connect false) r b)) same (greeted_by left.now n x.birth r.window left.lines _ still lines)
-
--- where one begins
-pub begun_line : (limits : Limits) (choice : MemberChoice) (now : ℕ) (clean : Bool) (r : Receiver) (l : BrokerLine) (b : Broker) (front : List Deed) (ns : List ℕ) → Clears limits choice now clean r l b front ns
-    → HasGreeted l.number (suc (after_all front (heard_of now l.number b)).records.births) (after_answer limits choice now l.number (connect clean) r b)
-begun_line limits choice now clean r l b front ns c =
-    let n = l.number in
-    let ds = deeds limits choice now (Input n (wire_back r.client r.window (answers (connect clean)))) b in
-    let first = at_moment now b in
-    let d = after_all front (heard_of now n b) in
-    let birth = suc d.records.births in
-    let begins = begin l (greeting clean r.client r.window) false r.client birth in
-    let lines : (after_answer limits choice now n (connect clean) r b).lines ≡ on_line d.now n (Greet birth 0 r.window 0xffffffff) d.lines =
-    done_lines (rows_of_all ds first.records) (after_all ds first)
-    ∙ (ap (λ (zs : List Deed). (after_all zs first).lines) c.deeds_are ∙ ap (λ (z : Broker). z.lines) (after_append front begins (heard_of now n b))) in
-    greeted_by d.now n birth r.window d.lines _ c.waits lines
-
--- and so the session and the line are the receiver's own
-pub greeted_owns : (largest : ℕ) (ids : List CopyId) (birth : ℕ) (ns : List ℕ) (n : ℕ) (r : Receiver) (b : Broker) → IsInStep largest ids birth ns r b → AllDiffer ids → IsInOrder b → HasGreeted n birth b
+-- the session and the line are the receiver's own
+pub greeted_owns : (largest : ℕ) (ids : List CopyId) (birth : ℕ) (ns : List ℕ) (n window : ℕ) (r : Receiver) (b : Broker) → IsInStep largest ids birth ns r b → AllDiffer ids → IsInOrder b → HasGreeted n birth window b
     → Own r.client birth n b
-greeted_owns largest ids birth ns n r b k differ order h =
+greeted_owns largest ids birth ns n window r b k differ order h =
     let x = k.runs (place_of ids) (places_number ids differ) in
     let s = x.session in
     let l = h.line in
     let ours : IsOurs r.client birth s = all_at birth_of (IsOurs r.client birth) s.birth s b.records.sessions k.served.sessions x.receiving.session in
     let only = all_more (IsOurs r.client birth) (IsIts r.client birth) b.records.sessions (λ y p. p.named) k.served.sessions in
     let at : face_at birth b.records ≡ Some (face s) = ap (λ (j : ℕ). face_at j b.records) (sym x.birth_is) ∙ ap (option_map face) x.receiving.session in
-    let found : found_in l.number b.lines ≡ Some l = ap (λ (m : ℕ). found_in m b.lines) h.number ∙ h.at in
-    let quiet = subst (λ (m : ℕ). NoneKeptAlive m b.lines) h.number (found_alone l b.lines order.lines.ascending found h.quiet) in
-    owned r.client birth n (face s) b order only at x.receiving.client (ours.no_will x.birth_is) (ours.no_end x.birth_is) (ap (option_map (λ (y : BrokerLine). y.session)) h.at ∙ ap Some h.connected) quiet
-
--- the session is connected there
-pub greeted_on : (n birth : ℕ) (b : Broker) → HasGreeted n birth b → session_on n b.lines ≡ Some (Some birth)
-greeted_on n birth b h = ap (option_map (λ (y : BrokerLine). y.session)) h.at ∙ ap Some h.connected
+    let found : line_at l.number b ≡ Some l = ap (λ (m : ℕ). line_at m b) h.greeted.number ∙ h.at in
+    let quiet = subst (λ (m : ℕ). NoneKeptAlive m b.lines) h.greeted.number (found_alone l b.lines order.lines.ascending found h.greeted.quiet) in
+    owned r.client birth n (face s) b order only at x.receiving.client (ours.no_will x.birth_is) (ours.no_end x.birth_is) (ap (option_map (λ (y : BrokerLine). y.session)) h.at ∙ ap Some h.greeted.connected) quiet
 
 -- ---- the lines before it
 
@@ -160,7 +67,7 @@ idle_went l b at waits none = (all_find alone.IsUnused (λ (x : BrokerLine). nat
 pub unused_next : (b : Broker) → HasUniqueLines b → HasGivenBirths b.records → AllByRecursion (IsUnused (suc b.records.births)) b.lines
 unused_next b unique births = all_more (λ (l : BrokerLine). row_at line_number l.number b.lines ≡ Some l) (IsUnused (suc b.records.births)) b.lines each (all_found line_number b.lines unique.ascending)
   where
-    rows : (n : ℕ) (ls : List BrokerLine) → found_in n ls ≡ row_at line_number n ls
+    rows : (n : ℕ) (ls : List BrokerLine) → find (λ (l : BrokerLine). nat_eq l.number n) ls ≡ row_at line_number n ls
     rows n [] = refl
     rows n (l ∷ ls) = elim (cases_Bool (nat_eq l.number n)) [ inl here ↦ rw here refl | inr further ↦ rw further (rows n ls) ]
 

@@ -32,7 +32,7 @@ use Rattle.mqtt_handed_laws.specs.Late.{left_alone}
 use Rattle.mqtt_handed_laws.specs.Own.{IsAwaiting, IsInStep}
 use Rattle.mqtt_handed_laws.specs.Tags.{id_of}
 use Rattle.mqtt_handed_laws.proofs.Apart.{apart_still}
-use Rattle.mqtt_handed_laws.proofs.Beginning.{first_clears}
+use Rattle.mqtt_handed_laws.proofs.Greetings.{first_line, resumed_line}
 use Rattle.mqtt_handed_laws.proofs.LateBeginning.{late_first_in_step, late_refused_awaiting}
 use Rattle.mqtt_handed_laws.proofs.LateResuming.{late_resume_in_step}
 use Rattle.mqtt_handed_laws.proofs.Numbers.{place_of, places_number}
@@ -41,7 +41,7 @@ use Rattle.mqtt_handed_laws.proofs.Resuming.{Takes, connect_makes}
 use Rattle.mqtt_every_run_laws.specs.Alone.{HaveSentNothing}
 use Rattle.mqtt_every_run_laws.specs.Standing.{GoesAlong, IsPlaced, IsSeen, Stands, line_like, packet_like}
 use Rattle.mqtt_every_run_laws.proofs.Fronts.{Awaits, calm_front, front_there}
-use Rattle.mqtt_every_run_laws.proofs.Greetings.{begun_line, greeted_owns, linked_left, may_begin, may_resume, resumed_line}
+use Rattle.mqtt_every_run_laws.proofs.Greetings.{greeted_owns, linked_left, may_begin, may_resume}
 use Rattle.mqtt_every_run_laws.proofs.Heard.{named_there, placed_with, present_taken}
 use Rattle.mqtt_every_run_laws.proofs.Outside.{goes_as, lines_of, listed}
 use Rattle.mqtt_every_run_laws.proofs.Reading.{first_read_there}
@@ -99,7 +99,7 @@ module _ (largest : ℕ) (ids : List CopyId) (ns : List ℕ) (limits : Limits) (
         | inl room ↦
             let birth = suc b.records.births in
             let step = late_first_in_step largest ids ns limits choice now false [] r l b along a aside room old in
-            let own = greeted_owns largest ids birth ns l.number q new step placed.told.differ order (begun_line limits choice now false (left_alone r) l b [] [] (first_clears limits choice now false (left_alone r) l b a room)) in
+            let own = greeted_owns largest ids birth ns l.number r.window q new step placed.told.differ order (first_line limits choice now false (left_alone r) l b a room) in
             put (Some birth) l.number step (own, named_there largest ids birth ns q new step placed.told.differ) (own_line None (Some birth) k l.number (λ it of at_ on. absurd cc) present) its_line
         | inr full ↦
             put None k (late_refused_awaiting largest ids ns limits choice now false [] r l b along a aside full old) (named_none limits choice now false [] (left_alone r) l b a refl full old)
@@ -126,7 +126,7 @@ module _ (largest : ℕ) (ids : List CopyId) (ns : List ℕ) (limits : Limits) (
       let takes : Takes (place_of ids) (map renewed x.after) (map id_of x.after) limits choice now call r.client l.number s.birth (lines_left (line_of s.birth b)) b =
       connect_makes (place_of ids) largest x.after limits choice now [] (left_alone r) l s b x.run_is.queue_is resuming old in
       let step = late_resume_in_step largest ids s.birth ns limits choice now [] r l s b along a old in
-      let owns = greeted_owns largest ids s.birth ns l.number q new step placed.told.differ order (resumed_line limits choice now (left_alone r) l s b resuming) in
+      let owns = greeted_owns largest ids s.birth ns l.number r.window q new step placed.told.differ order (resumed_line limits choice now (left_alone r) l s b resuming) in
       let there : (it : ℕ) → Some s.birth ≡ Some it → r.line.number ≡ Some k → session_on k b.lines ≡ Some (Some it) → Present (Some s.birth) l.number (told_by new out taken) new =
       λ it of its on.
       let same : it ≡ s.birth = cc in

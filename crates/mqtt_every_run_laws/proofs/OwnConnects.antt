@@ -35,7 +35,7 @@ use Rattle.mqtt_handed_laws.specs.Calls.{IsBeginning, IsRenewing, IsResuming}
 use Rattle.mqtt_handed_laws.specs.Handing.{after_answer, reads_answer}
 use Rattle.mqtt_handed_laws.specs.Own.{IsAwaiting, IsInStep}
 use Rattle.mqtt_handed_laws.proofs.Apart.{apart_still}
-use Rattle.mqtt_handed_laws.proofs.Beginning.{first_clears}
+use Rattle.mqtt_handed_laws.proofs.Greetings.{HasGreeted, first_line, greeted_on, renewed_line, resumed_line}
 use Rattle.mqtt_handed_laws.proofs.Numbers.{place_of}
 use Rattle.mqtt_handed_laws.proofs.OwnConnects.{first_in_step, renewal_in_step, resume_in_step}
 use Rattle.mqtt_handed_laws.proofs.OwnRefusals.{deeds_are, given_is, lines_are, named_none, refused_awaiting}
@@ -46,7 +46,7 @@ use Rattle.mqtt_every_run_laws.specs.Standing.{GoesAlong, IsPlaced, IsSeen, Stan
 use Rattle.mqtt_every_run_laws.proofs.Comings.{run_of}
 use Rattle.mqtt_every_run_laws.proofs.Heard.{named_there, placed_with}
 use Rattle.mqtt_every_run_laws.proofs.Fronts.{Awaits, calm_front, front}
-use Rattle.mqtt_every_run_laws.proofs.Greetings.{HasGreeted, begun_line, greeted_on, greeted_owns, may_begin, may_resume, resumed_line, spared_left, spared_none, unused_next}
+use Rattle.mqtt_every_run_laws.proofs.Greetings.{greeted_owns, may_begin, may_resume, spared_left, spared_none, unused_next}
 use Rattle.mqtt_every_run_laws.proofs.Like.{calm_up, connected_linked, former_as}
 use Rattle.mqtt_every_run_laws.proofs.Outside.{goes_as, listed}
 use Rattle.mqtt_every_run_laws.proofs.Reading.{first_read}
@@ -87,12 +87,12 @@ module _ (largest : ℕ) (ids : List CopyId) (ns : List ℕ) (limits : Limits) (
   -- its session is connected on its line
   connected : (birth : ℕ) → IsInOrder (after_answer limits choice now l.number (connect clean) r b)
       → IsInStep largest ids birth ns (reads_answer limits choice now l.number (connect clean) r b) (after_answer limits choice now l.number (connect clean) r b)
-      → HasGreeted l.number birth (after_answer limits choice now l.number (connect clean) r b)
+      → HasGreeted l.number birth r.window (after_answer limits choice now l.number (connect clean) r b)
       → Former (Some birth) l.number (told_by (after_answer limits choice now l.number (connect clean) r b) (told limits choice now (Input l.number (wire_back r.client r.window (answers (connect clean)))) b) (line_like (taken_up r.line))) (after_answer limits choice now l.number (connect clean) r b)
       → Goal
   connected birth order k g former =
       placed_with largest ids ids ns limits choice now call (Some birth) l.number (drop 1 r.line.up) r.line.old r b placed (apart_still ids b.records new.records placed.told (step_fell limits choice now call b))
-      (greeted_owns largest ids birth ns l.number q new k placed.told.differ order g, named_there largest ids birth ns q new k placed.told.differ) (joined birth refl number_is (greeted_on l.number birth new g)) former k
+      (greeted_owns largest ids birth ns l.number r.window q new k placed.told.differ order g, named_there largest ids birth ns q new k placed.told.differ) (joined birth refl number_is (greeted_on l.number birth r.window new g)) former k
       (listed l.number ns (k.lines.own l.number number_is))
 
 -- ---- its session stands: it is resumed, or another begins in its place
@@ -121,8 +121,7 @@ module _ (largest : ℕ) (ids : List CopyId) (ns : List ℕ) (limits : Limits) (
       let front = ended_by x.its s (heard_of now l.number b).now in
       let begins = begin l (greeting true r.client r.window) false r.client _ in
       let closes = ap (filter_map closing) x.clears.deeds_are ∙ x.clears.closings begins refl in
-      let g = subst (λ (n : ℕ). HasGreeted l.number (suc n) (after_answer limits choice now l.number (connect true) r b)) x.births_are
-      (begun_line limits choice now true r l b front (lines_left (line_of s.birth b)) x.clears) in
+      let g = renewed_line limits choice now r l s b m in
       connected largest ids ns limits choice now true rest r l b placed a.number up (suc b.records.births) order (renewal_in_step largest ids s.birth ns limits choice now rest r l s b k m up) g
       (left_behind largest ids ns limits choice now true rest r l b placed a.number up (Some s.birth) (Some (suc b.records.births)) l.number former (shut _ closes))
 
@@ -140,7 +139,7 @@ module _ (largest : ℕ) (ids : List CopyId) (ns : List ℕ) (limits : Limits) (
       → IsPlaced largest ids ns (reads_answer limits choice now l.number (connect clean) r b) (after_answer limits choice now l.number (connect clean) r b)
   begun room order =
       connected largest ids ns limits choice now clean rest r l b placed a.number up (suc b.records.births) order (first_in_step largest ids ns limits choice now clean rest r l b k a room up)
-      (begun_line limits choice now clean r l b [] [] (first_clears limits choice now clean r l b a room))
+      (first_line limits choice now clean r l b a room)
       (left_behind largest ids ns limits choice now clean rest r l b placed a.number up None (Some (suc b.records.births)) l.number former (λ birth of its on. absurd cc))
 
   refused : nat_lt (length b.records.sessions) limits.sessions ≡ false → IsIdle l.number b
