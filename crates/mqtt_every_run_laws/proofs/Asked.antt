@@ -1,5 +1,6 @@
 -- What the broker is asked for an end, be it a receiver itself, whatever is under way from it; and a stop after the commit of
 -- that (MQTT 5.0, 3.1.4, 3.8.4, 4.1, 4.3, 4.4).
+use Rattle.mqtt_base.specs.declared.session.CopyId.{CopyId}
 use Rattle.std.proofs.Common.{◌≡◌, ℕ, false, List, [], ◌∷◌, map, Option, Some, None, refl, sym, ap, subst, ◌∙◌, inl, inr}
 use Rattle.std.specs.Prelude.{drop, is_some}
 use Rattle.mqtt_flow.specs.Receiver.{connect, puback, pubcomp, pubrec}
@@ -34,31 +35,31 @@ none_on : (o : Option ℕ) → input_on o [] ≡ None
 none_on None = refl
 none_on (Some n) = refl
 
-module _ (c : List ℕ) (largest : ℕ) (set : Setting) (r : Receiver) (w : World) (s : Stands c largest set.limits w) (e : receiver_named c w ≡ Some r) where
+module _ (first : List CopyId) (c : List ℕ) (largest : ℕ) (set : Setting) (r : Receiver) (w : World) (s : Stands first c largest set.limits w) (e : receiver_named c w ≡ Some r) where
   its_view : view_of c w ≡ view_by None (Some r)
   its_view = ap (λ (o : Option Publisher). view_by o (receiver_named c w)) (s.standing.around.alone (ap is_some e)) ∙ ap (λ (o : Option Receiver). view_by None o) e
 
   its_place : IsPlaced largest s.ids s.ns r w.broker
   its_place = subst (IsSeen largest s.ids s.ns w.broker) e s.standing.seen
 
-  pub none_read : r.line.up ≡ [] → Stands c largest set.limits (asks set (to_broker c) w)
+  pub none_read : r.line.up ≡ [] → Stands first c largest set.limits (asks set (to_broker c) w)
   none_read none =
       let none_asked : input_on (view_of c w).number (view_of c w).up ≡ None = ap (λ (v : View). input_on v.number v.up) its_view ∙ (ap (λ (xs : List Back). input_on r.line.number (map (wire_back r.client r.window) xs)) none ∙ none_on r.line.number) in
       let same : r.line.up ≡ drop 1 r.line.up = none ∙ sym (ap (drop 1) none) in
       let placed = subst (λ (xs : List Back). IsPlaced largest s.ids s.ns (record r { line = record r.line { up = xs } }) w.broker) same its_place in
-      subst (λ (o : Option Call). Stands c largest set.limits (calls_if set o with_up)) (sym none_asked)
-      (record { ids = s.ids; ns = s.ns; standing = own_stands c largest set.limits s.ids s.ns w r (on_line taken_up) (on_back taken_up) (λ p. refl) (λ q. refl) e s.standing.around placed })
+      subst (λ (o : Option Call). Stands first c largest set.limits (calls_if set o with_up)) (sym none_asked)
+      (record { ids = s.ids; grown = s.grown; ns = s.ns; standing = own_stands c largest set.limits s.ids s.ns w r (on_line taken_up) (on_back taken_up) (λ p. refl) (λ q. refl) e s.standing.around placed })
     where
       with_up : World
       with_up = with_end c (on_line taken_up) (on_back taken_up) w
 
-  pub none_read_old : r.line.old ≡ [] → Stands c largest set.limits (asks set (old_to_broker c) w)
+  pub none_read_old : r.line.old ≡ [] → Stands first c largest set.limits (asks set (old_to_broker c) w)
   none_read_old none =
       let none_asked : input_on (view_of c w).old_number (view_of c w).old ≡ None = ap (λ (v : View). input_on v.old_number v.old) its_view ∙ (ap (λ (xs : List Back). input_on r.line.old_number (map (wire_back r.client r.window) xs)) none ∙ none_on r.line.old_number) in
       let same : r.line.old ≡ drop 1 r.line.old = none ∙ sym (ap (drop 1) none) in
       let placed = subst (λ (xs : List Back). IsPlaced largest s.ids s.ns (record r { line = record r.line { old = xs } }) w.broker) same its_place in
-      subst (λ (o : Option Call). Stands c largest set.limits (calls_if set o with_old)) (sym none_asked)
-      (record { ids = s.ids; ns = s.ns; standing = own_stands c largest set.limits s.ids s.ns w r (on_line taken_old) (on_back taken_old) (λ p. refl) (λ q. refl) e s.standing.around placed })
+      subst (λ (o : Option Call). Stands first c largest set.limits (calls_if set o with_old)) (sym none_asked)
+      (record { ids = s.ids; grown = s.grown; ns = s.ns; standing = own_stands c largest set.limits s.ids s.ns w r (on_line taken_old) (on_back taken_old) (λ p. refl) (λ q. refl) e s.standing.around placed })
     where
       with_old : World
       with_old = with_end c (on_line taken_old) (on_back taken_old) w
@@ -71,66 +72,66 @@ pub record IsFit (c : List ℕ) (w : World) : Type 0 where
   pub once : AreRetainedOnce w.broker.records
   pub takes : ItsLineTakes c w
 
-module _ (c : List ℕ) (set : Setting) (w : World) (s : Stands c any_size set.limits w) (fit : IsFit c w) where
-  reads_own : (r : Receiver) → receiver_named c w ≡ Some r → read_first spending set (to_broker c) w ≡ false → Stands c any_size set.limits (asks set (to_broker c) w)
+module _ (first : List CopyId) (c : List ℕ) (set : Setting) (w : World) (s : Stands first c any_size set.limits w) (fit : IsFit c w) where
+  reads_own : (r : Receiver) → receiver_named c w ≡ Some r → read_first spending set (to_broker c) w ≡ false → Stands first c any_size set.limits (asks set (to_broker c) w)
   reads_own r e unspent = by r.line.up refl
     where
-      by : (xs : List Back) → r.line.up ≡ xs → Stands c any_size set.limits (asks set (to_broker c) w)
-      by [] up = none_read c any_size set r w s e up
-      by (answers (connect clean) ∷ rest) up = connected_stands c clean rest any_size set r w s e fit.unused up unspent
-      by (answers (puback i code) ∷ rest) up = answered_stands c (puback i code) rest any_size set r w s e tt up unspent
-      by (answers (pubrec i code) ∷ rest) up = answered_stands c (pubrec i code) rest any_size set r w s e tt up unspent
-      by (answers (pubcomp i code) ∷ rest) up = answered_stands c (pubcomp i code) rest any_size set r w s e tt up unspent
-      by (asks_for x ∷ rest) up = wished_stands c x rest any_size set r w s e up fit.once unspent
+      by : (xs : List Back) → r.line.up ≡ xs → Stands first c any_size set.limits (asks set (to_broker c) w)
+      by [] up = none_read first c any_size set r w s e up
+      by (answers (connect clean) ∷ rest) up = connected_stands first c clean rest any_size set r w s e fit.unused up unspent
+      by (answers (puback i code) ∷ rest) up = answered_stands first c (puback i code) rest any_size set r w s e tt up unspent
+      by (answers (pubrec i code) ∷ rest) up = answered_stands first c (pubrec i code) rest any_size set r w s e tt up unspent
+      by (answers (pubcomp i code) ∷ rest) up = answered_stands first c (pubcomp i code) rest any_size set r w s e tt up unspent
+      by (asks_for x ∷ rest) up = wished_stands first c x rest any_size set r w s e up fit.once unspent
 
-  reads_own_old : (r : Receiver) → receiver_named c w ≡ Some r → read_first spending set (old_to_broker c) w ≡ false → Stands c any_size set.limits (asks set (old_to_broker c) w)
+  reads_own_old : (r : Receiver) → receiver_named c w ≡ Some r → read_first spending set (old_to_broker c) w ≡ false → Stands first c any_size set.limits (asks set (old_to_broker c) w)
   reads_own_old r e unspent = by r.line.old refl
     where
-      by : (xs : List Back) → r.line.old ≡ xs → Stands c any_size set.limits (asks set (old_to_broker c) w)
-      by [] old = none_read_old c any_size set r w s e old
-      by (answers (connect clean) ∷ rest) old = old_connected_stands c clean rest any_size set r w s e fit.unused old unspent
-      by (answers (puback i code) ∷ rest) old = old_answered_stands c (puback i code) rest any_size set r w s e tt old unspent
-      by (answers (pubrec i code) ∷ rest) old = old_answered_stands c (pubrec i code) rest any_size set r w s e tt old unspent
-      by (answers (pubcomp i code) ∷ rest) old = old_answered_stands c (pubcomp i code) rest any_size set r w s e tt old unspent
-      by (asks_for x ∷ rest) old = old_wished_stands c x rest any_size set r w s e old fit.once unspent
+      by : (xs : List Back) → r.line.old ≡ xs → Stands first c any_size set.limits (asks set (old_to_broker c) w)
+      by [] old = none_read_old first c any_size set r w s e old
+      by (answers (connect clean) ∷ rest) old = old_connected_stands first c clean rest any_size set r w s e fit.unused old unspent
+      by (answers (puback i code) ∷ rest) old = old_answered_stands first c (puback i code) rest any_size set r w s e tt old unspent
+      by (answers (pubrec i code) ∷ rest) old = old_answered_stands first c (pubrec i code) rest any_size set r w s e tt old unspent
+      by (answers (pubcomp i code) ∷ rest) old = old_answered_stands first c (pubcomp i code) rest any_size set r w s e tt old unspent
+      by (asks_for x ∷ rest) old = old_wished_stands first c x rest any_size set r w s e old fit.once unspent
 
   -- ---- whoever it is asked for
 
-  reads_stands : (d : List ℕ) → read_first spending set (to_broker d) w ≡ false → Stands c any_size set.limits (asks set (to_broker d) w)
+  reads_stands : (d : List ℕ) → read_first spending set (to_broker d) w ≡ false → Stands first c any_size set.limits (asks set (to_broker d) w)
   reads_stands d unspent = elim (whose_name c d w) [
-    | inr not_its ↦ other_reads c d any_size set w s not_its unspent
-    | inl own ↦ subst (λ (x : List ℕ). Stands c any_size set.limits (asks set (to_broker x) w)) (sym own.2) (reads_own own.0 own.1 (subst (λ (x : List ℕ). read_first spending set (to_broker x) w ≡ false) own.2 unspent))
+    | inr not_its ↦ other_reads first c d any_size set w s not_its unspent
+    | inl own ↦ subst (λ (x : List ℕ). Stands first c any_size set.limits (asks set (to_broker x) w)) (sym own.2) (reads_own own.0 own.1 (subst (λ (x : List ℕ). read_first spending set (to_broker x) w ≡ false) own.2 unspent))
   ]
 
-  reads_old_stands : (d : List ℕ) → read_first spending set (old_to_broker d) w ≡ false → Stands c any_size set.limits (asks set (old_to_broker d) w)
+  reads_old_stands : (d : List ℕ) → read_first spending set (old_to_broker d) w ≡ false → Stands first c any_size set.limits (asks set (old_to_broker d) w)
   reads_old_stands d unspent = elim (whose_name c d w) [
-    | inr not_its ↦ other_reads_old c d any_size set w s not_its unspent
-    | inl own ↦ subst (λ (x : List ℕ). Stands c any_size set.limits (asks set (old_to_broker x) w)) (sym own.2) (reads_own_old own.0 own.1 (subst (λ (x : List ℕ). read_first spending set (old_to_broker x) w ≡ false) own.2 unspent))
+    | inr not_its ↦ other_reads_old first c d any_size set w s not_its unspent
+    | inl own ↦ subst (λ (x : List ℕ). Stands first c any_size set.limits (asks set (old_to_broker x) w)) (sym own.2) (reads_own_old own.0 own.1 (subst (λ (x : List ℕ). read_first spending set (old_to_broker x) w ≡ false) own.2 unspent))
   ]
 
-  sends_stands : (d : List ℕ) → read_first spending set (pump d) w ≡ false → Stands c any_size set.limits (asks set (pump d) w)
+  sends_stands : (d : List ℕ) → read_first spending set (pump d) w ≡ false → Stands first c any_size set.limits (asks set (pump d) w)
   sends_stands d unspent = elim (whose_name c d w) [
-    | inr not_its ↦ other_pumped c d any_size set w s not_its unspent
-    | inl own ↦ subst (λ (x : List ℕ). Stands c any_size set.limits (asks set (pump x) w)) (sym own.2) (sent_stands c any_size set own.0 w s own.1 fit.distinct (λ n l birth is at on. (takes_there c own.0 n birth l w fit.takes own.1 is at on).1) (subst (λ (x : List ℕ). read_first spending set (pump x) w ≡ false) own.2 unspent))
+    | inr not_its ↦ other_pumped first c d any_size set w s not_its unspent
+    | inl own ↦ subst (λ (x : List ℕ). Stands first c any_size set.limits (asks set (pump x) w)) (sym own.2) (sent_stands first c any_size set own.0 w s own.1 fit.distinct (λ n l birth is at on. (takes_there c own.0 n birth l w fit.takes own.1 is at on).1) (subst (λ (x : List ℕ). read_first spending set (pump x) w ≡ false) own.2 unspent))
   ]
 
-  pub asked_stands : (a : Asking) → is_bad_asking a w ≡ false → read_asked spending set a w ≡ false → Stands c any_size set.limits (asks set a w)
+  pub asked_stands : (a : Asking) → is_bad_asking a w ≡ false → read_asked spending set a w ≡ false → Stands first c any_size set.limits (asks set a w)
   asked_stands (to_broker d) good unspent = reads_stands d unspent
   asked_stands (old_to_broker d) good unspent = reads_old_stands d unspent
-  asked_stands (break d) good unspent = broken_stands c d any_size set w s unspent
+  asked_stands (break d) good unspent = broken_stands first c d any_size set w s unspent
   asked_stands (pump d) good unspent = sends_stands d unspent
-  asked_stands tick good unspent = ticked_stands c any_size set w s unspent
-  asked_stands (stranger name bytes) good unspent = stranger_stands c name bytes any_size set w s good unspent
+  asked_stands tick good unspent = ticked_stands first c any_size set w s unspent
+  asked_stands (stranger name bytes) good unspent = stranger_stands first c name bytes any_size set w s good unspent
 
   -- ---- the broker stops after the first step
 
-  rests_after : (a : Asking) → is_bad_asking a w ≡ false → read_first spending set a w ≡ false → MayRestart c any_size set.limits (first_step set a w)
-  rests_after (to_broker d) good unspent = may_restart c any_size set.limits (first_step set (to_broker d) w) (reads_stands d unspent)
-  rests_after (old_to_broker d) good unspent = may_restart c any_size set.limits (first_step set (old_to_broker d) w) (reads_old_stands d unspent)
-  rests_after (pump d) good unspent = may_restart c any_size set.limits (first_step set (pump d) w) (sends_stands d unspent)
-  rests_after (break d) good unspent = after_rests c (break d) any_size set w s tt good unspent
-  rests_after tick good unspent = after_rests c tick any_size set w s tt good unspent
-  rests_after (stranger name bytes) good unspent = after_rests c (stranger name bytes) any_size set w s tt good unspent
+  rests_after : (a : Asking) → is_bad_asking a w ≡ false → read_first spending set a w ≡ false → MayRestart first c any_size set.limits (first_step set a w)
+  rests_after (to_broker d) good unspent = may_restart first c any_size set.limits (first_step set (to_broker d) w) (reads_stands d unspent)
+  rests_after (old_to_broker d) good unspent = may_restart first c any_size set.limits (first_step set (old_to_broker d) w) (reads_old_stands d unspent)
+  rests_after (pump d) good unspent = may_restart first c any_size set.limits (first_step set (pump d) w) (sends_stands d unspent)
+  rests_after (break d) good unspent = after_rests first c (break d) any_size set w s tt good unspent
+  rests_after tick good unspent = after_rests first c tick any_size set w s tt good unspent
+  rests_after (stranger name bytes) good unspent = after_rests first c (stranger name bytes) any_size set w s tt good unspent
 
-  pub stops_stand : (a : Asking) → is_bad_asking a w ≡ false → read_first spending set a w ≡ false → read_opening spending set (first_step set a w) ≡ false → Stands c any_size set.limits (happens set (stop_after a) w)
-  stops_stand a good unspent opens = restart_stands c any_size set (first_step set a w) (rests_after a good unspent) opens
+  pub stops_stand : (a : Asking) → is_bad_asking a w ≡ false → read_first spending set a w ≡ false → read_opening spending set (first_step set a w) ≡ false → Stands first c any_size set.limits (happens set (stop_after a) w)
+  stops_stand a good unspent opens = restart_stands first c any_size set (first_step set a w) (rests_after a good unspent) opens

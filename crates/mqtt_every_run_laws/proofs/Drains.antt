@@ -163,9 +163,9 @@ over_if : (a b : Bool) → b ≡ false → (a || not b) ≡ true
 over_if true b h = refl
 over_if false b h = ap not h
 
-pub over_or_drains : (c : List ℕ) (largest : ℕ) (limits : Limits) (v : World) → Stands c largest limits v → HasDistinctIdentifiers v.broker.records → TakesSome c largest v → HasUp c 0 v
+pub over_or_drains : (first : List CopyId) (c : List ℕ) (largest : ℕ) (limits : Limits) (v : World) → Stands first c largest limits v → HasDistinctIdentifiers v.broker.records → TakesSome c largest v → HasUp c 0 v
     → (is_over c v ≡ true) ⊎ MayBeDrained c largest v
-over_or_drains c largest limits v s distinct takes none = by (receiver_named c v) refl
+over_or_drains first c largest limits v s distinct takes none = by (receiver_named c v) refl
   where
     over : line_stands (receiver_named c v) v ≡ false → is_over c v ≡ true
     over h = over_if (is_none_left (copies_left c v)) (line_stands (receiver_named c v) v) h

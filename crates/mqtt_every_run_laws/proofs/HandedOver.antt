@@ -12,8 +12,8 @@ use Rattle.mqtt_every_run_laws.specs.HandedOver.{WasHandedOver}
 use Rattle.mqtt_every_run_laws.specs.Standing.{IsPlaced, IsSeen, Stands}
 use Rattle.mqtt_every_run_laws.proofs.Standings.{runs_so}
 
-pub handed_over : (c : List ℕ) (largest : ℕ) (limits : Limits) (r : Receiver) (w : World) → Stands c largest limits w → receiver_named c w ≡ Some r → WasHandedOver r w.broker
-handed_over c largest limits r w s e = record {
+pub handed_over : (first : List CopyId) (c : List ℕ) (largest : ℕ) (limits : Limits) (r : Receiver) (w : World) → Stands first c largest limits w → receiver_named c w ≡ Some r → WasHandedOver r w.broker
+handed_over first c largest limits r w s e = record {
   copies = x.after;
   number = place_of s.ids;
   numbered = x.run_is.numbered;

@@ -20,11 +20,12 @@ use Rattle.mqtt_handed_laws.specs.Handing.{MayComeBack, receiver_joined}
 use Rattle.mqtt_handed_laws.proofs.Apart.{apart_still}
 use Rattle.mqtt_handed_laws.proofs.OwnDoings.{joins_awaiting, joins_in_step}
 use Rattle.mqtt_handed_laws.proofs.Stopping.{step_tidy}
-use Rattle.mqtt_every_run_laws.specs.Standing.{GoesAlong, HasOthers, IsAnothers, IsAround, IsOtherStranger, IsPlaced, IsSeen, Stands, StandsWith}
+use Rattle.mqtt_every_run_laws.specs.Standing.{GoesAlong, HasOthers, IsAnothers, IsAround, IsOtherStranger, IsPlaced, IsSeen, Stands, StandsWith, BeginWith}
 use Rattle.mqtt_every_run_laws.proofs.Around.{IsNotIts, around_mapped, end_others, on_back, on_line, own_stands, whose_name}
 use Rattle.mqtt_every_run_laws.proofs.Like.{seat_joined}
 use Rattle.mqtt_every_run_laws.proofs.Outside.{if_there, lines_of, named_called}
 use Rattle.mqtt_every_run_laws.proofs.Strangers.{linking_stands, next_free}
+use Rattle.mqtt_every_run_laws.proofs.Growing.{begin_then}
 
 -- ---- its copies and lines
 
@@ -68,7 +69,7 @@ others_off n m ns le h = elim (cases_Bool (nat_eq (suc m) n)) [
   | inr other ↦ rw other h
 ]
 
-module _ (c d : List ℕ) (clean : Bool) (largest : ℕ) (set : Setting) (w : World) (can : can_link w.broker ≡ true) where
+module _ (first : List CopyId) (c d : List ℕ) (clean : Bool) (largest : ℕ) (set : Setting) (w : World) (can : can_link w.broker ≡ true) where
   abbrev next : ℕ
   next = suc w.broker.given
 
@@ -82,12 +83,13 @@ module _ (c d : List ℕ) (clean : Bool) (largest : ℕ) (set : Setting) (w : Wo
   joins_there l = joined (answers (connect clean)) next clean l
 
   -- another
-  other_joins : (ids : List CopyId) (ns : List ℕ) → StandsWith c largest set.limits ids ns w → IsNotIts c d w → Stands c largest set.limits (links set (Some next) d clean w)
-  other_joins ids ns h not_its =
+  other_joins : (ids : List CopyId) (ns : List ℕ) → BeginWith first ids → StandsWith c largest set.limits ids ns w → IsNotIts c d w → Stands first c largest set.limits (links set (Some next) d clean w)
+  other_joins ids ns g h not_its =
       let x = linking_stands c largest set ids ns w h in
       let free = next_free c largest set ids ns w h can in
       record {
         ids = x.0;
+        grown = begin_then first ids x.0 g x.2;
         ns = ns;
         standing = end_others c d largest set.limits x.0 ns (calls set NewLine w) (on_line joins_so) (on_back joins_there) (λ p. refl) (λ r. refl)
             (λ p f. record { number = free; old_number = f.old_number }) (λ r f. record { number = free; old_number = f.old_number })
@@ -128,14 +130,15 @@ module _ (c d : List ℕ) (clean : Bool) (largest : ℕ) (set : Setting) (w : Wo
         | inr other ↦ let le = a.known n (rw other at inside) in let given = linked_given set w.now w.broker can in omega (arith, le, given)
       ]
 
-  its_joins : (ids : List CopyId) (ns : List ℕ) (r : Receiver) → StandsWith c largest set.limits ids ns w → receiver_named c w ≡ Some r → r.line.link ≡ away → (r.line.clean ≡ true → clean ≡ true)
-      → Stands c largest set.limits (links set (Some next) c clean w)
-  its_joins ids ns r h e is_away_ carried =
+  its_joins : (ids : List CopyId) (ns : List ℕ) (r : Receiver) → BeginWith first ids → StandsWith c largest set.limits ids ns w → receiver_named c w ≡ Some r → r.line.link ≡ away → (r.line.clean ≡ true → clean ≡ true)
+      → Stands first c largest set.limits (links set (Some next) c clean w)
+  its_joins ids ns r g h e is_away_ carried =
       let out = told set.limits set.choice w.now NewLine w.broker in
       let placed = subst (IsSeen largest ids ns w.broker) e h.seen in
       let may : MayComeBack clean r w.broker = record { can = can; given = h.around.steady.lines.given; away = is_away_; carried = carried } in
       record {
         ids = ids;
+        grown = g;
         ns = next ∷ ns;
         standing = own_stands c largest set.limits ids (next ∷ ns) (calls set NewLine w) (receiver_told new out r) (on_line joins_so) (on_back joins_there) (λ p. refl) (λ q. refl)
             (named_called c set NewLine w ∙ ap (option_map (receiver_told new out)) e) (its_around ns h.around)
@@ -154,14 +157,14 @@ so_clean true was h is = refl
 so_clean false true h is = absurd cc
 so_clean false false h is = absurd cc
 
-pub joined_stands : (c d : List ℕ) (clean : Bool) (largest : ℕ) (set : Setting) (w : World) → Stands c largest set.limits w → is_bad (connect_end d clean) w ≡ false → carries_clean (connect_end d clean) w ≡ true
-    → Stands c largest set.limits (happens set (connect_end d clean) w)
-joined_stands c d clean largest set w stay good carried = by (can_link w.broker) refl
+pub joined_stands : (first : List CopyId) (c d : List ℕ) (clean : Bool) (largest : ℕ) (set : Setting) (w : World) → Stands first c largest set.limits w → is_bad (connect_end d clean) w ≡ false → carries_clean (connect_end d clean) w ≡ true
+    → Stands first c largest set.limits (happens set (connect_end d clean) w)
+joined_stands first c d clean largest set w stay good carried = by (can_link w.broker) refl
   where
-    by : (t : Bool) → can_link w.broker ≡ t → Stands c largest set.limits (links set (cond t (Some (suc w.broker.given)) None) d clean w)
+    by : (t : Bool) → can_link w.broker ≡ t → Stands first c largest set.limits (links set (cond t (Some (suc w.broker.given)) None) d clean w)
     by false can = stay
     by true can = elim (whose_name c d w) [
-      | inr not_its ↦ other_joins c d clean largest set w can stay.ids stay.ns stay.standing not_its
+      | inr not_its ↦ other_joins first c d clean largest set w can stay.ids stay.ns stay.grown stay.standing not_its
       | inl own ↦
           let r = own.0 in
           let none = stay.standing.around.alone (ap is_some own.1) in
@@ -170,6 +173,6 @@ joined_stands c d clean largest set w stay good carried = by (can_link w.broker)
           sym (ap (λ (x : Option Publisher). not (is_away (link_by x o))) none ∙ ap (λ (x : Option Receiver). not (is_away (link_by None x))) own.1) ∙ subst (λ (x : List ℕ). is_bad (connect_end x clean) w ≡ false) own.2 good in
           let kept : (clean || not r.line.clean) ≡ true =
           sym (ap (λ (x : Option Publisher). clean || not (is_clean x o)) none ∙ ap (λ (x : Option Receiver). clean || not (is_clean None x)) own.1) ∙ subst (λ (x : List ℕ). carries_clean (connect_end x clean) w ≡ true) own.2 carried in
-          subst (λ (x : List ℕ). Stands c largest set.limits (links set (Some (suc w.broker.given)) x clean w)) (sym own.2)
-          (its_joins c d clean largest set w can stay.ids stay.ns r stay.standing own.1 (so_away r.line.link free) (so_clean clean r.line.clean kept))
+          subst (λ (x : List ℕ). Stands first c largest set.limits (links set (Some (suc w.broker.given)) x clean w)) (sym own.2)
+          (its_joins first c d clean largest set w can stay.ids stay.ns r stay.grown stay.standing own.1 (so_away r.line.link free) (so_clean clean r.line.clean kept))
     ]

@@ -154,15 +154,15 @@ module _ (largest : ℕ) (ids : List CopyId) (ns : List ℕ) (limits : Limits) (
 
 -- ---- as an event
 
-pub old_connected_stands : (c : List ℕ) (clean : Bool) (rest : List Back) (largest : ℕ) (set : Setting) (r : Receiver) (w : World) → Stands c largest set.limits w → receiver_named c w ≡ Some r → HaveSentNothing w.broker
-    → r.line.old ≡ answers (connect clean) ∷ rest → read_first spending set (old_to_broker c) w ≡ false → Stands c largest set.limits (asks set (old_to_broker c) w)
-old_connected_stands c clean rest largest set r w s e unused old unspent = elim (front_there placed.birth placed.line (answers (connect clean)) rest r w.broker placed.seat.former old) [
+pub old_connected_stands : (first : List CopyId) (c : List ℕ) (clean : Bool) (rest : List Back) (largest : ℕ) (set : Setting) (r : Receiver) (w : World) → Stands first c largest set.limits w → receiver_named c w ≡ Some r → HaveSentNothing w.broker
+    → r.line.old ≡ answers (connect clean) ∷ rest → read_first spending set (old_to_broker c) w ≡ false → Stands first c largest set.limits (asks set (old_to_broker c) w)
+old_connected_stands first c clean rest largest set r w s e unused old unspent = elim (front_there placed.birth placed.line (answers (connect clean)) rest r w.broker placed.seat.former old) [
   | inl j ↦ absurd (calm_front clean rest r.line.old old j.1)
   | inr h ↦
       let l = h.line in
       let a = s.standing.around in
       let alone_is : r.line.old ≡ answers (connect false) ∷ [] = old ∙ (ap (λ (x : Back). x ∷ rest) h.packet ∙ ap (λ (xs : List Back). answers (connect false) ∷ xs) h.alone) in
-      first_read_there c (answers (connect false)) [] largest set r w s e l.number h.awaits.number alone_is
+      first_read_there first c (answers (connect false)) [] largest set r w s e l.number h.awaits.number alone_is
       (λ after_. goes_as largest s.ids s.ns _ _ (late_placed largest s.ids s.ns set.limits set.choice w.now r l w.broker placed a.within a.steady
       (sound_of set.limits (after_answer set.limits set.choice w.now l.number (connect false) r w.broker) a.within after_).order unused h.awaits alone_is)) unspent
 ]

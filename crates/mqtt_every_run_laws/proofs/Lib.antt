@@ -1,5 +1,6 @@
 pub mod Alone
 pub mod Unused
+pub mod Growing
 pub mod Around
 pub mod Like
 pub mod Comings
@@ -32,3 +33,4 @@ pub mod Untouched
 pub mod EveryRun
 pub mod OwnConnects
 pub mod Scripts
+pub mod QueueOrder

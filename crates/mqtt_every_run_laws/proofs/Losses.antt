@@ -196,11 +196,11 @@ lost_placed largest ids ns limits choice now n r b placed steady is =
 
 -- ---- as an event
 
-its_breaks : (c : List ℕ) (largest : ℕ) (set : Setting) (w : World) (s : Stands c largest set.limits w) (r : Receiver) → receiver_named c w ≡ Some r → read_first spending set (break c) w ≡ false → Stands c largest set.limits (asks set (break c) w)
-its_breaks c largest set w s r e unspent = subst (λ (o : Option ℕ). read_if spending set (lost_on o) w ≡ false → Goal o) (sym view) (by r.line.number refl) unspent
+its_breaks : (first : List CopyId) (c : List ℕ) (largest : ℕ) (set : Setting) (w : World) (s : Stands first c largest set.limits w) (r : Receiver) → receiver_named c w ≡ Some r → read_first spending set (break c) w ≡ false → Stands first c largest set.limits (asks set (break c) w)
+its_breaks first c largest set w s r e unspent = subst (λ (o : Option ℕ). read_if spending set (lost_on o) w ≡ false → Goal o) (sym view) (by r.line.number refl) unspent
   where
     Goal : Option ℕ → Type 0
-    Goal o = Stands c largest set.limits (with_line c left left (calls_if set (lost_on o) w))
+    Goal o = Stands first c largest set.limits (with_line c left left (calls_if set (lost_on o) w))
 
     view : (view_of c w).number ≡ r.line.number
     view = ap (λ (o : Option Publisher). (view_by o (receiver_named c w)).number) (s.standing.around.alone (ap is_some e)) ∙ ap (λ (o : Option Receiver). (view_by None o).number) e
@@ -211,6 +211,7 @@ its_breaks c largest set w s r e unspent = subst (λ (o : Option ℕ). read_if s
     by : (x : Option ℕ) → r.line.number ≡ x → read_if spending set (lost_on x) w ≡ false → Goal x
     by None is u = record {
       ids = s.ids;
+      grown = s.grown;
       ns = s.ns;
       standing = own_stands c largest set.limits s.ids s.ns w r (on_line left) (on_back left) (λ p. refl) (λ q. refl) e s.standing.around (left_placed largest s.ids s.ns r w.broker placed);
     }
@@ -219,15 +220,16 @@ its_breaks c largest set w s r e unspent = subst (λ (o : Option ℕ). read_if s
         let out = told set.limits set.choice w.now (Lost n) w.broker in
         record {
           ids = s.ids;
+          grown = s.grown;
           ns = s.ns;
           standing = own_stands c largest set.limits s.ids s.ns (calls set (Lost n) w) (receiver_told new out r) (on_line left) (on_back left) (λ p. refl) (λ q. refl)
               (named_called c set (Lost n) w ∙ ap (option_map (receiver_told new out)) e) (calls_around c set s.ns (Lost n) w s.standing.around u)
               (lost_placed largest s.ids s.ns set.limits set.choice w.now n r w.broker placed s.standing.around.steady is);
         }
 
-pub broken_stands : (c d : List ℕ) (largest : ℕ) (set : Setting) (w : World) → Stands c largest set.limits w → read_first spending set (break d) w ≡ false → Stands c largest set.limits (asks set (break d) w)
-broken_stands c d largest set w s unspent = elim (whose_name c d w) [
-  | inr not_its ↦ other_breaks c d largest set w s not_its unspent
-  | inl own ↦ subst (λ (x : List ℕ). Stands c largest set.limits (asks set (break x) w)) (sym own.2)
-      (its_breaks c largest set w s own.0 own.1 (subst (λ (x : List ℕ). read_first spending set (break x) w ≡ false) own.2 unspent))
+pub broken_stands : (first : List CopyId) (c d : List ℕ) (largest : ℕ) (set : Setting) (w : World) → Stands first c largest set.limits w → read_first spending set (break d) w ≡ false → Stands first c largest set.limits (asks set (break d) w)
+broken_stands first c d largest set w s unspent = elim (whose_name c d w) [
+  | inr not_its ↦ other_breaks first c d largest set w s not_its unspent
+  | inl own ↦ subst (λ (x : List ℕ). Stands first c largest set.limits (asks set (break x) w)) (sym own.2)
+      (its_breaks first c largest set w s own.0 own.1 (subst (λ (x : List ℕ). read_first spending set (break x) w ≡ false) own.2 unspent))
 ]

@@ -26,9 +26,10 @@ use Rattle.mqtt_handed_laws.proofs.Apart.{apart_entered}
 use Rattle.mqtt_handed_laws.proofs.AwaitingOthers.{others_awaiting}
 use Rattle.mqtt_handed_laws.proofs.OwnOthers.{others_in_step}
 use Rattle.mqtt_handed_laws.proofs.Stopping.{step_tidy}
-use Rattle.mqtt_every_run_laws.specs.Standing.{GoesAlong, HasOthers, IsAround, IsOtherStranger, IsPlaced, IsSeen, Stands, StandsWith, publisher_like}
+use Rattle.mqtt_every_run_laws.specs.Standing.{GoesAlong, HasOthers, IsAround, IsOtherStranger, IsPlaced, IsSeen, Stands, StandsWith, publisher_like, BeginWith}
 use Rattle.mqtt_every_run_laws.proofs.Around.{around_mapped, given_later, others_later}
 use Rattle.mqtt_every_run_laws.proofs.Like.{seat_of_others}
+use Rattle.mqtt_every_run_laws.proofs.Growing.{begin_on, begin_same, begin_then}
 
 -- ---- on none of its lines, and no CONNECT of its client; whether a tick is one is seen at the broker
 
@@ -186,7 +187,7 @@ calls_around c set ns call w a unspent =
 -- by what becomes of the receiver
 pub calls_with : (c : List ℕ) (largest : ℕ) (set : Setting) (call : Call) (ids : List CopyId) (ns : List ℕ) (w : World) → StandsWith c largest set.limits ids ns w → read_if spending set (Some call) w ≡ false
     → ((r : Receiver) → receiver_named c w ≡ Some r → IsPlaced largest ids ns r w.broker → GoesFurther largest ids ns (receiver_called set.limits set.choice w.now call r w.broker) (stepped set.limits set.choice w.now call w.broker))
-    → (all : List CopyId) × StandsWith c largest set.limits all ns (calls set call w)
+    → (all : List CopyId) × StandsWith c largest set.limits all ns (calls set call w) × BeginWith ids all
 calls_with c largest set call ids ns w h unspent goes = by (receiver_named c w) refl
   where
     new : Broker
@@ -195,13 +196,14 @@ calls_with c largest set call ids ns w h unspent goes = by (receiver_named c w) 
     around : IsAround c set.limits ns (calls set call w)
     around = calls_around c set ns call w h.around unspent
 
-    by : (o : Option Receiver) → receiver_named c w ≡ o → (all : List CopyId) × StandsWith c largest set.limits all ns (calls set call w)
+    by : (o : Option Receiver) → receiver_named c w ≡ o → (all : List CopyId) × StandsWith c largest set.limits all ns (calls set call w) × BeginWith ids all
     by None e = (
       ids,
       record {
         around = around;
         seen = subst (IsSeen largest ids ns new) (sym (named_called c set call w ∙ ap (option_map _) e)) (subst (IsSeen largest ids ns w.broker) e h.seen);
       },
+      begin_same ids,
     )
     by (Some r) e =
         let x = goes r e (subst (IsSeen largest ids ns w.broker) e h.seen) in (
@@ -210,16 +212,17 @@ calls_with c largest set call ids ns w h unspent goes = by (receiver_named c w) 
             around = around;
             seen = subst (IsSeen largest (ids ++ x.more) ns new) (sym (named_called c set call w ∙ ap (option_map _) e)) x.placed;
           },
+          begin_on ids x.more,
         )
 
 pub called_copies : (c : List ℕ) (largest : ℕ) (set : Setting) (call : Call) (ids : List CopyId) (ns : List ℕ) (w : World) → StandsWith c largest set.limits ids ns w → read_if spending set (Some call) w ≡ false
-    → (is_some (receiver_named c w) ≡ true → IsOutside c ns call) → (all : List CopyId) × StandsWith c largest set.limits all ns (calls set call w)
+    → (is_some (receiver_named c w) ≡ true → IsOutside c ns call) → (all : List CopyId) × StandsWith c largest set.limits all ns (calls set call w) × BeginWith ids all
 called_copies c largest set call ids ns w h unspent out = calls_with c largest set call ids ns w h unspent (λ r e placed.
     placed_called largest ids ns set.limits set.choice w.now call r w.broker placed h.around.tidy (subst (λ (z : List ℕ). IsOutside z ns call) (sym (named_receiver c r w e)) (out (ap is_some e))))
 
-pub calls_stand : (c : List ℕ) (largest : ℕ) (set : Setting) (call : Call) (ids : List CopyId) (ns : List ℕ) (w : World) → StandsWith c largest set.limits ids ns w → read_if spending set (Some call) w ≡ false
-    → (is_some (receiver_named c w) ≡ true → IsOutside c ns call) → Stands c largest set.limits (calls set call w)
-calls_stand c largest set call ids ns w h unspent out = let x = called_copies c largest set call ids ns w h unspent out in record { ids = x.0; ns = ns; standing = x.1 }
+pub calls_stand : (first : List CopyId) (c : List ℕ) (largest : ℕ) (set : Setting) (call : Call) (ids : List CopyId) (ns : List ℕ) (w : World) → BeginWith first ids → StandsWith c largest set.limits ids ns w → read_if spending set (Some call) w ≡ false
+    → (is_some (receiver_named c w) ≡ true → IsOutside c ns call) → Stands first c largest set.limits (calls set call w)
+calls_stand first c largest set call ids ns w g h unspent out = let x = called_copies c largest set call ids ns w h unspent out in record { ids = x.0; grown = begin_then first ids x.0 g x.2; ns = ns; standing = x.1 }
 
 -- a number above all that were given
 pub fresh_unlisted : (n : ℕ) (ns : List ℕ) (given : ℕ) → suc given ≡ n → ((m : ℕ) → is_one_of (Some m) ns ≡ true → m ≤ given) → is_one_of (Some n) (0 ∷ ns) ≡ false
@@ -232,10 +235,10 @@ fresh_unlisted n ns given is known = elim (cases_Bool (is_one_of (Some n) ns)) [
 ]
 
 -- a call that may be asked for
-pub if_stands : (c : List ℕ) (largest : ℕ) (set : Setting) (call : Option Call) (w : World) (h : Stands c largest set.limits w) → read_if spending set call w ≡ false
-    → (is_some (receiver_named c w) ≡ true → (x : Call) → call ≡ Some x → IsOutside c h.ns x) → Stands c largest set.limits (calls_if set call w)
-if_stands c largest set None w h unspent out = h
-if_stands c largest set (Some call) w h unspent out = calls_stand c largest set call h.ids h.ns w h.standing unspent (λ there. out there call refl)
+pub if_stands : (first : List CopyId) (c : List ℕ) (largest : ℕ) (set : Setting) (call : Option Call) (w : World) (h : Stands first c largest set.limits w) → read_if spending set call w ≡ false
+    → (is_some (receiver_named c w) ≡ true → (x : Call) → call ≡ Some x → IsOutside c h.ns x) → Stands first c largest set.limits (calls_if set call w)
+if_stands first c largest set None w h unspent out = h
+if_stands first c largest set (Some call) w h unspent out = calls_stand first c largest set call h.ids h.ns w h.grown h.standing unspent (λ there. out there call refl)
 
 pub if_there : (c : List ℕ) (set : Setting) (call : Option Call) (w : World) → is_some (receiver_named c (calls_if set call w)) ≡ is_some (receiver_named c w)
 if_there c set None w = refl

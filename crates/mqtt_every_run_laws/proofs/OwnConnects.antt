@@ -191,16 +191,16 @@ read_placed largest ids ns limits choice now clean rest r l b placed within stea
 
 -- ---- as an event
 
-pub connected_stands : (c : List ℕ) (clean : Bool) (rest : List Back) (largest : ℕ) (set : Setting) (r : Receiver) (w : World) → Stands c largest set.limits w → receiver_named c w ≡ Some r → HaveSentNothing w.broker
-    → r.line.up ≡ answers (connect clean) ∷ rest → read_first spending set (to_broker c) w ≡ false → Stands c largest set.limits (asks set (to_broker c) w)
-connected_stands c clean rest largest set r w s e unsent up unspent = elim (front placed.birth placed.line (answers (connect clean)) rest r w.broker placed.seat.present up) [
+pub connected_stands : (first : List CopyId) (c : List ℕ) (clean : Bool) (rest : List Back) (largest : ℕ) (set : Setting) (r : Receiver) (w : World) → Stands first c largest set.limits w → receiver_named c w ≡ Some r → HaveSentNothing w.broker
+    → r.line.up ≡ answers (connect clean) ∷ rest → read_first spending set (to_broker c) w ≡ false → Stands first c largest set.limits (asks set (to_broker c) w)
+connected_stands first c clean rest largest set r w s e unsent up unspent = elim (front placed.birth placed.line (answers (connect clean)) rest r w.broker placed.seat.present up) [
   | inl j ↦
       let run = run_of placed.birth largest s.ids s.ns r w.broker placed.along placed.told.differ in
       absurd (calm_front clean rest r.line.up up (calm_up (place_of s.ids) largest run.0 r w.broker run.1 (connected_linked placed.line j.birth r.line.number w.broker j.at j.there)))
   | inr h ↦
       let l = h.1.line in
       let a = s.standing.around in
-      first_read c (answers (connect clean)) rest largest set r w s e l.number h.1.awaits.number up
+      first_read first c (answers (connect clean)) rest largest set r w s e l.number h.1.awaits.number up
       (λ after_. goes_as largest s.ids s.ns _ _ (read_placed largest s.ids s.ns set.limits set.choice w.now clean rest r l w.broker placed a.within a.steady unsent h.1.awaits up
       (sound_of set.limits (after_answer set.limits set.choice w.now l.number (connect clean) r w.broker) a.within after_).order)) unspent
 ]

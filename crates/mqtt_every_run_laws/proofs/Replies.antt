@@ -87,7 +87,8 @@ module _ (largest : ℕ) (ids : List CopyId) (ns : List ℕ) (limits : Limits) (
   read_step (pubrec i code) birth k none up = pubrec_in_step largest ids birth ns limits choice now i code rest r l s b k a up
   read_step (pubcomp i code) birth k none up = pubcomp_in_step largest ids birth ns limits choice now i code rest r l s b k a up
 
-  read_owns : (x : Answer) (birth n : ℕ) → HasNoConnect (x ∷ []) → Own r.client birth n b → Own r.client birth n (after_answer limits choice now l.number x r b)
+  -- whichever of its lines the receiver has as its own
+  pub read_owns : (x : Answer) (birth n : ℕ) → HasNoConnect (x ∷ []) → Own r.client birth n b → Own r.client birth n (after_answer limits choice now l.number x r b)
   read_owns (connect clean) birth n none own = absurd none
   read_owns (puback i code) birth n none own = answer_owns r.client birth n limits choice now (wire_back r.client r.window (answers (puback i code))) (rules.puback i code (queue_on l.went s)) r l s b a refl own
   read_owns (pubrec i code) birth n none own = answer_owns r.client birth n limits choice now (wire_back r.client r.window (answers (pubrec i code))) (rules.pubrec i code (queue_on l.went s)) r l s b a refl own
@@ -110,10 +111,10 @@ read_placed largest ids ns limits choice now x rest r b placed steady j none up 
 
 -- ---- as an event
 
-pub answered_stands : (c : List ℕ) (x : Answer) (rest : List Back) (largest : ℕ) (set : Setting) (r : Receiver) (w : World) → Stands c largest set.limits w → receiver_named c w ≡ Some r → HasNoConnect (x ∷ []) → r.line.up ≡ answers x ∷ rest
-    → read_first spending set (to_broker c) w ≡ false → Stands c largest set.limits (asks set (to_broker c) w)
-answered_stands c x rest largest set r w s e none up unspent = elim (front placed.birth placed.line (answers x) rest r w.broker placed.seat.present up) [
-  | inl j ↦ first_read c (answers x) rest largest set r w s e placed.line j.at up
+pub answered_stands : (first : List CopyId) (c : List ℕ) (x : Answer) (rest : List Back) (largest : ℕ) (set : Setting) (r : Receiver) (w : World) → Stands first c largest set.limits w → receiver_named c w ≡ Some r → HasNoConnect (x ∷ []) → r.line.up ≡ answers x ∷ rest
+    → read_first spending set (to_broker c) w ≡ false → Stands first c largest set.limits (asks set (to_broker c) w)
+answered_stands first c x rest largest set r w s e none up unspent = elim (front placed.birth placed.line (answers x) rest r w.broker placed.seat.present up) [
+  | inl j ↦ first_read first c (answers x) rest largest set r w s e placed.line j.at up
       (λ after_. goes_as largest s.ids s.ns _ _ (read_placed largest s.ids s.ns set.limits set.choice w.now x rest r w.broker placed s.standing.around.steady j none up)) unspent
   | inr h ↦ absurd (no_connect x h.0 none h.1.packet)
 ]

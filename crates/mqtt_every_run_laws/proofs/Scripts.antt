@@ -1,23 +1,23 @@
 -- All that holds of every run; and each drain of a script ends, from wherever the script has come to (MQTT 5.0, 4.3, 4.4, 4.6).
-use Rattle.std.proofs.Common.{◌≡◌, ℕ, zero, suc, ◌+◌, ◌*◌, ◌≤◌, Bool, true, false, cond, ◌||◌, List, [], ◌∷◌, ◌++◌, refl, ap, subst, ◌∙◌, arith}
-use Rattle.mqtt_laws.specs.Run.{Turn, are_clean_starts_carried, carries_clean, read_at, run, setting, turned}
-use Rattle.mqtt_laws.specs.World.{World, start}
+use Rattle.std.proofs.Common.{◌≡◌, ℕ, zero, suc, ◌+◌, ◌*◌, ◌≤◌, Bool, true, false, cond, ◌||◌, List, [], ◌∷◌, ◌++◌, refl, sym, ap, subst, ◌∙◌, arith}
+use Rattle.mqtt_laws.specs.Run.{Turn, are_clean_starts_carried, run}
+use Rattle.mqtt_laws.specs.World.{World, receiver_named, start}
 use Rattle.mqtt_rules.specs.State.{MemberChoice}
 use Rattle.mqtt_rules.specs.declared.Limits.{Limits}
 use Rattle.mqtt_world_laws.specs.Fair.{IsFair}
 use Rattle.mqtt_world_laws.specs.Identities.{TellsApart}
-use Rattle.mqtt_world_laws.specs.Spending.{run_spends, spending}
+use Rattle.mqtt_world_laws.specs.Spending.{run_spends}
 use Rattle.mqtt_world_laws.proofs.Carried.{all_carried}
 use Rattle.mqtt_world_laws.proofs.CopyRuns.{run_balances, run_numbers}
 use Rattle.mqtt_world_laws.proofs.OnceRuns.{ends_once, enters_once, start_apart, waits_or_has_ended}
 use Rattle.mqtt_world_laws.proofs.Routed.{run_routed}
-use Rattle.mqtt_world_laws.proofs.Runs.{accepts_once, both_true, either, few_open}
+use Rattle.mqtt_world_laws.proofs.Runs.{accepts_once, few_open}
 use Rattle.mqtt_world_laws.proofs.StepRuns.{run_enters, run_goes_out}
 use Rattle.mqtt_handed_laws.specs.Drains.{Doing, after_round, all_turns, copies_left, count_by_end, drain_by, drain_turns, drains, happens, is_bad_drain, is_none_left, is_over, round_turns, rounds_taken, turns_of}
 use Rattle.mqtt_every_run_laws.specs.Scripts.{AllDrainsEnd, DeliversOnce, DrainEnds, EndsWhere}
 use Rattle.mqtt_every_run_laws.specs.Untouched.{IsUntouched}
 use Rattle.mqtt_every_run_laws.proofs.Drains.{ends_over, ends_within}
-use Rattle.mqtt_every_run_laws.proofs.EveryRun.{over_or_drained, run_hands, untouched_kept}
+use Rattle.mqtt_every_run_laws.proofs.EveryRun.{carried_append, over_or_drained, run_hands, run_in_order, spent_append, untouched_kept}
 use Rattle.mqtt_every_run_laws.proofs.Runs.{IsKept, run_kept}
 use Rattle.mqtt_every_run_laws.proofs.Untouched.{start_untouched}
 
@@ -35,25 +35,8 @@ run_delivers limits ts w u apart fair = record {
   balanced = run_balances limits ts w u.new fair;
   goes_out = run_goes_out limits ts w u.new fair;
   handed = run_hands limits ts w u fair;
+  in_order = λ xs ys is c q r e f. run_in_order limits xs ys w u (subst (λ (zs : List Turn). IsFair limits zs w) (sym is) fair) c q r e (ap (λ (zs : List Turn). receiver_named c (run limits zs w)) is ∙ f);
 }
-
--- ---- runs one after the other
-
-spent_append : (limits : Limits) (xs ys : List Turn) (w : World) → run_spends limits (xs ++ ys) w ≡ false → (run_spends limits xs w ≡ false) × (run_spends limits ys (run limits xs w) ≡ false)
-spent_append limits [] ys w h = (refl, h)
-spent_append limits (t ∷ xs) ys w h =
-    let v = turned limits t w in
-    let costs = either (read_at spending (setting limits t) t.event w) (run_spends limits (xs ++ ys) v) h in
-    let rest = spent_append limits xs ys v costs.1 in
-    (rw (costs.0, rest.0) refl, rest.1)
-
-carried_append : (limits : Limits) (xs ys : List Turn) (w : World) → are_clean_starts_carried limits (xs ++ ys) w ≡ true → (are_clean_starts_carried limits xs w ≡ true) × (are_clean_starts_carried limits ys (run limits xs w) ≡ true)
-carried_append limits [] ys w h = (refl, h)
-carried_append limits (t ∷ xs) ys w h =
-    let v = turned limits t w in
-    let both = both_true (carries_clean t.event w) (are_clean_starts_carried limits (xs ++ ys) v) h in
-    let rest = carried_append limits xs ys v both.1 in
-    (rw (both.0, rest.0) refl, rest.1)
 
 -- ---- a drain
 
@@ -73,7 +56,7 @@ none_taken limits choice c (suc more) w over =
     }
 
 -- or it goes on, and its first round spends no number
-drain_ends : (limits : Limits) (choice : MemberChoice) (c : List ℕ) (most : ℕ) (w : World) → IsKept c limits w → run_spends limits (turns_of limits (drains choice c most) w) w ≡ false → DrainEnds limits choice c most w
+drain_ends : (limits : Limits) (choice : MemberChoice) (c : List ℕ) (most : ℕ) (w : World) → IsKept [] c limits w → run_spends limits (turns_of limits (drains choice c most) w) w ≡ false → DrainEnds limits choice c most w
 drain_ends limits choice c most w k unspent = by_bad (is_bad_drain c w) refl unspent
   where
     by_over : (j : ℕ) (t : Bool) → is_over c w ≡ t → run_spends limits (drain_turns limits choice c j w) w ≡ false → DrainEnds limits choice c j w
@@ -98,18 +81,18 @@ drain_ends limits choice c most w k unspent = by_bad (is_bad_drain c w) refl uns
 
 -- ---- a script
 
-doing_ends : (limits : Limits) (d : Doing) (w : World) → ((c : List ℕ) → IsKept c limits w) → run_spends limits (turns_of limits d w) w ≡ false → EndsWhere limits d w
+doing_ends : (limits : Limits) (d : Doing) (w : World) → ((c : List ℕ) → IsKept [] c limits w) → run_spends limits (turns_of limits d w) w ≡ false → EndsWhere limits d w
 doing_ends limits (happens t) w k u = tt
 doing_ends limits (drains choice c most) w k u = drain_ends limits choice c most w (k c) u
 
-all_end : (limits : Limits) (ds : List Doing) (w : World) → ((c : List ℕ) → IsKept c limits w) → run_spends limits (all_turns limits ds w) w ≡ false → are_clean_starts_carried limits (all_turns limits ds w) w ≡ true → AllDrainsEnd limits ds w
+all_end : (limits : Limits) (ds : List Doing) (w : World) → ((c : List ℕ) → IsKept [] c limits w) → run_spends limits (all_turns limits ds w) w ≡ false → are_clean_starts_carried limits (all_turns limits ds w) w ≡ true → AllDrainsEnd limits ds w
 all_end limits [] w k unspent carried = tt
 all_end limits (d ∷ ds) w k unspent carried =
     let turns = turns_of limits d w in
     let v = run limits turns w in
     let costs = spent_append limits turns (all_turns limits ds v) w unspent in
     let clean = carried_append limits turns (all_turns limits ds v) w carried in
-    (doing_ends limits d w k costs.0, all_end limits ds v (λ c. run_kept c limits turns w (k c) costs.0 clean.0) costs.1 clean.1)
+    (doing_ends limits d w k costs.0, all_end limits ds v (λ c. run_kept [] c limits turns w (k c) costs.0 clean.0) costs.1 clean.1)
 
 pub script_drains : (limits : Limits) (ds : List Doing) (w : World) → IsUntouched limits w → IsFair limits (all_turns limits ds w) w → AllDrainsEnd limits ds w
 script_drains limits ds w u fair = all_end limits ds w (λ c. untouched_kept c limits w fair.within u) fair.unspent fair.carried

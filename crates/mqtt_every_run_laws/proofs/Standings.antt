@@ -19,9 +19,10 @@ use Rattle.mqtt_handed_laws.proofs.Numbers.{place_of, places_number}
 use Rattle.mqtt_rows.specs.Distinct.{AllDiffer}
 use Rattle.mqtt_rules.specs.State.{Broker}
 
-pub new_stands : (c : List ℕ) (largest : ℕ) (limits : Limits) (w : World) → AreWithin limits → IsTidy limits w.broker → IsNew limits w → Stands c largest limits w
+pub new_stands : (c : List ℕ) (largest : ℕ) (limits : Limits) (w : World) → AreWithin limits → IsTidy limits w.broker → IsNew limits w → Stands [] c largest limits w
 new_stands c largest limits w within tidy new = record {
   ids = [];
+  grown = ([], refl);
   ns = [];
   standing = record {
     around = record {

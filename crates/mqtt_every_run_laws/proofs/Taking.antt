@@ -156,7 +156,7 @@ input_suits client window n (Some m) (x ∷ xs) call e =
     let is : Input m (wire_back client window x) ≡ call = cc in
     subst (Suits window n) is (back_suits client window n m x)
 
-module _ (c : List ℕ) (largest : ℕ) (set : Setting) (w : World) (s : Stands c largest set.limits w) where
+module _ (first : List CopyId) (c : List ℕ) (largest : ℕ) (set : Setting) (w : World) (s : Stands first c largest set.limits w) where
   its_listed : (r : Receiver) (n : ℕ) → receiver_named c w ≡ Some r → r.line.number ≡ Some n → is_one_of (Some n) (0 ∷ s.ns) ≡ true
   its_listed r n e is =
       let placed = subst (IsSeen largest s.ids s.ns w.broker) e s.standing.seen in
@@ -229,15 +229,15 @@ stranger_suits c name v call two e = by (stranger_named name v) (receiver_named 
     by (Some s) (Some r) two e = on s r.window r.line.number two e
 
 -- its line is none of the receiver's
-two_lines : (c name : List ℕ) (largest : ℕ) (set : Setting) (v : World) → Stands c largest set.limits v → AreTwo (number_of (stranger_named name v)) (its_number (receiver_named c v))
-two_lines c name largest set v s = by (stranger_named name v) (receiver_named c v) refl refl
+two_lines : (first : List CopyId) (c name : List ℕ) (largest : ℕ) (set : Setting) (v : World) → Stands first c largest set.limits v → AreTwo (number_of (stranger_named name v)) (its_number (receiver_named c v))
+two_lines first c name largest set v s = by (stranger_named name v) (receiver_named c v) refl refl
   where
     by : (o : Option Stranger) (x : Option Receiver) → stranger_named name v ≡ o → receiver_named c v ≡ x → AreTwo (number_of o) (its_number x)
     by None x e f = λ m n p q. absurd cc
     by (Some z) None e f = λ m n p q. absurd cc
     by (Some z) (Some r) e f = λ m n p q.
         let free = (all_find (IsOtherStranger s.ns v.broker.given) (λ (y : Stranger). bytes_eq y.name name) z v.strangers s.standing.around.strangers e).0 in
-        apart_from m n (0 ∷ s.ns) (free m p).0 (its_listed c largest set v s r n f q)
+        apart_from m n (0 ∷ s.ns) (free m p).0 (its_listed first c largest set v s r n f q)
 
 held_number : (name : List ℕ) (v : World) → number_of (stranger_named name (next_held name v)) ≡ number_of (stranger_named name v)
 held_number name v = ap number_of (find_changed name (λ (s : Stranger). record s { held = held_after s.held }) v.strangers (λ s. refl)) ∙ by (stranger_named name v)
@@ -299,30 +299,30 @@ before_takes (pump d) c set w h = h
 before_takes tick c set w h = h
 before_takes (stranger name bytes) c set w h = comes_take c name bytes set w h
 
-first_takes : (a : Asking) (c : List ℕ) (largest : ℕ) (set : Setting) (w : World) → Stands c largest set.limits w → ItsLineTakes c w → ItsLineTakes c (first_step set a w)
-first_takes (to_broker d) c largest set w s h =
+first_takes : (first : List CopyId) (a : Asking) (c : List ℕ) (largest : ℕ) (set : Setting) (w : World) → Stands first c largest set.limits w → ItsLineTakes c w → ItsLineTakes c (first_step set a w)
+first_takes first (to_broker d) c largest set w s h =
     if_takes c set (call_of set (to_broker d) w) (before set (to_broker d) w) (before_takes (to_broker d) c set w h)
-    (λ x is. changed_suits c d (on_back taken_up) w x up_like (reads_suit c largest set w s d x is))
-first_takes (old_to_broker d) c largest set w s h =
+    (λ x is. changed_suits c d (on_back taken_up) w x up_like (reads_suit first c largest set w s d x is))
+first_takes first (old_to_broker d) c largest set w s h =
     if_takes c set (call_of set (old_to_broker d) w) (before set (old_to_broker d) w) (before_takes (old_to_broker d) c set w h)
-    (λ x is. changed_suits c d (on_back taken_old) w x old_like (old_reads_suit c largest set w s d x is))
-first_takes (break d) c largest set w s h = if_takes c set (lost_on (view_of d w).number) w h (λ x is. lost_suits (receiver_named c w) (view_of d w).number x is)
-first_takes (pump d) c largest set w s h = if_takes c set (pump_on (view_of d w).number) w h (λ x is. pump_suits (receiver_named c w) (view_of d w).number x is)
-first_takes tick c largest set w s h = calls_take c set Tick w h (any_suits (receiver_named c w) Tick (λ window n. tt))
-first_takes (stranger name bytes) c largest set w s h =
+    (λ x is. changed_suits c d (on_back taken_old) w x old_like (old_reads_suit first c largest set w s d x is))
+first_takes first (break d) c largest set w s h = if_takes c set (lost_on (view_of d w).number) w h (λ x is. lost_suits (receiver_named c w) (view_of d w).number x is)
+first_takes first (pump d) c largest set w s h = if_takes c set (pump_on (view_of d w).number) w h (λ x is. pump_suits (receiver_named c w) (view_of d w).number x is)
+first_takes first tick c largest set w s h = calls_take c set Tick w h (any_suits (receiver_named c w) Tick (λ window n. tt))
+first_takes first (stranger name bytes) c largest set w s h =
     let v = comes set name bytes w in
     if_takes c set (call_of_stranger (stranger_named name v)) v (comes_take c name bytes set w h)
-    (λ x is. stranger_suits c name v x (two_lines c name largest set v (comes_stands c largest set name bytes w s)) is)
+    (λ x is. stranger_suits c name v x (two_lines first c name largest set v (comes_stands first c largest set name bytes w s)) is)
 
-asks_take : (a : Asking) (c : List ℕ) (largest : ℕ) (set : Setting) (w : World) → Stands c largest set.limits w → ItsLineTakes c w → ItsLineTakes c (asks set a w)
-asks_take (to_broker d) c largest set w s h = first_takes (to_broker d) c largest set w s h
-asks_take (old_to_broker d) c largest set w s h = first_takes (old_to_broker d) c largest set w s h
-asks_take (break d) c largest set w s h = changed_takes c d (on_back left) (first_step set (break d) w) (λ r. left_like r (on_back left r) refl refl refl) (first_takes (break d) c largest set w s h)
-asks_take (pump d) c largest set w s h = first_takes (pump d) c largest set w s h
-asks_take tick c largest set w s h = first_takes tick c largest set w s h
-asks_take (stranger name bytes) c largest set w s h =
+asks_take : (first : List CopyId) (a : Asking) (c : List ℕ) (largest : ℕ) (set : Setting) (w : World) → Stands first c largest set.limits w → ItsLineTakes c w → ItsLineTakes c (asks set a w)
+asks_take first (to_broker d) c largest set w s h = first_takes first (to_broker d) c largest set w s h
+asks_take first (old_to_broker d) c largest set w s h = first_takes first (old_to_broker d) c largest set w s h
+asks_take first (break d) c largest set w s h = changed_takes c d (on_back left) (first_step set (break d) w) (λ r. left_like r (on_back left r) refl refl refl) (first_takes first (break d) c largest set w s h)
+asks_take first (pump d) c largest set w s h = first_takes first (pump d) c largest set w s h
+asks_take first tick c largest set w s h = first_takes first tick c largest set w s h
+asks_take first (stranger name bytes) c largest set w s h =
     let v = comes set name bytes w in
-    rest_takes (held_count (stranger_named name v)) c name set v (two_lines c name largest set v (comes_stands c largest set name bytes w s)) (comes_take c name bytes set w h)
+    rest_takes (held_count (stranger_named name v)) c name set v (two_lines first c name largest set v (comes_stands first c largest set name bytes w s)) (comes_take c name bytes set w h)
 
 restarts_take : (c : List ℕ) (set : Setting) (w : World) → ItsLineTakes c w → ItsLineTakes c (restarts set w)
 restarts_take c set w h =
@@ -367,8 +367,8 @@ fresh_takes window set now b low can =
     subst (λ (d : Broker). LineTakes window (Some (suc b.given)) d) (sym (new_is set.limits set.choice now b can))
     (each_append (TakesThere window (suc b.given)) b.lines (fresh_line (suc b.given) (at_moment now b).now ∷ []) (below_take window (suc b.given) b.lines low) ((λ e k on. absurd cc), tt))
 
-joined_takes : (c d : List ℕ) (clean : Bool) (largest : ℕ) (set : Setting) (w : World) → Stands c largest set.limits w → ItsLineTakes c w → ItsLineTakes c (happens set (connect_end d clean) w)
-joined_takes c d clean largest set w s h = by (can_link w.broker) refl
+joined_takes : (first : List CopyId) (c d : List ℕ) (clean : Bool) (largest : ℕ) (set : Setting) (w : World) → Stands first c largest set.limits w → ItsLineTakes c w → ItsLineTakes c (happens set (connect_end d clean) w)
+joined_takes first c d clean largest set w s h = by (can_link w.broker) refl
   where
     next : ℕ
     next = suc w.broker.given
@@ -426,27 +426,27 @@ read_like t ds r = let k = read_there t ds r in record { client = k.client; wind
 
 -- ---- an event, and a turn
 
-happens_takes : (e : Event) (c : List ℕ) (largest : ℕ) (set : Setting) (w : World) → Stands c largest set.limits w → ItsLineTakes c w → is_bad e w ≡ false → ItsLineTakes c (happens set e w)
-happens_takes (publisher d) c largest set w s h good = h
-happens_takes (receiver d window) c largest set w s h good = receiver_takes c d window set w h good
-happens_takes (connect_end d clean) c largest set w s h good = joined_takes c d clean largest set w s h
-happens_takes (give_up d) c largest set w s h good = changed_takes c d (on_back (λ l. gives_up l.link l)) w (λ r. gives_like r.line.link r) h
-happens_takes (publish d x) c largest set w s h good = h
-happens_takes (subscribe d x) c largest set w s h good = changed_takes c d (λ r. asks_wish (is_open_line r.line w) x r) w (λ r. same_like r (asks_wish (is_open_line r.line w) x r) refl refl refl) h
-happens_takes (to_end d) c largest set w s h good =
+happens_takes : (first : List CopyId) (e : Event) (c : List ℕ) (largest : ℕ) (set : Setting) (w : World) → Stands first c largest set.limits w → ItsLineTakes c w → is_bad e w ≡ false → ItsLineTakes c (happens set e w)
+happens_takes first (publisher d) c largest set w s h good = h
+happens_takes first (receiver d window) c largest set w s h good = receiver_takes c d window set w h good
+happens_takes first (connect_end d clean) c largest set w s h good = joined_takes first c d clean largest set w s h
+happens_takes first (give_up d) c largest set w s h good = changed_takes c d (on_back (λ l. gives_up l.link l)) w (λ r. gives_like r.line.link r) h
+happens_takes first (publish d x) c largest set w s h good = h
+happens_takes first (subscribe d x) c largest set w s h good = changed_takes c d (λ r. asks_wish (is_open_line r.line w) x r) w (λ r. same_like r (asks_wish (is_open_line r.line w) x r) refl refl refl) h
+happens_takes first (to_end d) c largest set w s h good =
     changed_takes c d (λ r. receiver_reads (is_open_line r.line w) r.line.down r) w (λ r. read_like (is_open_line r.line w) r.line.down r) h
-happens_takes (clock wait) c largest set w s h good = h
-happens_takes (ask a) c largest set w s h good = asks_take a c largest set w s h
-happens_takes restart c largest set w s h good = restarts_take c set w h
-happens_takes (stop_before a) c largest set w s h good = restarts_take c set (before set a w) (before_takes a c set w h)
-happens_takes (stop_after a) c largest set w s h good = restarts_take c set (first_step set a w) (first_takes a c largest set w s h)
+happens_takes first (clock wait) c largest set w s h good = h
+happens_takes first (ask a) c largest set w s h good = asks_take first a c largest set w s h
+happens_takes first restart c largest set w s h good = restarts_take c set w h
+happens_takes first (stop_before a) c largest set w s h good = restarts_take c set (before set a w) (before_takes a c set w h)
+happens_takes first (stop_after a) c largest set w s h good = restarts_take c set (first_step set a w) (first_takes first a c largest set w s h)
 
-pub turn_takes : (c : List ℕ) (largest : ℕ) (limits : Limits) (t : Turn) (w : World) → Stands c largest limits w → ItsLineTakes c w → ItsLineTakes c (turned limits t w)
-turn_takes c largest limits t w s h = by (is_bad t.event w) refl
+pub turn_takes : (first : List CopyId) (c : List ℕ) (largest : ℕ) (limits : Limits) (t : Turn) (w : World) → Stands first c largest limits w → ItsLineTakes c w → ItsLineTakes c (turned limits t w)
+turn_takes first c largest limits t w s h = by (is_bad t.event w) refl
   where
     by : (bad : Bool) → is_bad t.event w ≡ bad → ItsLineTakes c (cond bad w (happens (setting limits t) t.event w))
     by true is = h
-    by false is = happens_takes t.event c largest (setting limits t) w s h is
+    by false is = happens_takes first t.event c largest (setting limits t) w s h is
 
 -- ---- at the beginning, and in the words of a look-up
 

@@ -27,6 +27,7 @@ use Rattle.mqtt_handed_laws.proofs.OwnOthers.{late_in_step}
 use Rattle.mqtt_every_run_laws.specs.Standing.{GoesAlong, IsPlaced, Stands, publisher_like}
 use Rattle.mqtt_every_run_laws.proofs.Like.{seat_of_others}
 use Rattle.mqtt_every_run_laws.proofs.Outside.{GoesFurther, calls_with, placed_on, placed_others}
+use Rattle.mqtt_every_run_laws.proofs.Growing.{begin_then}
 
 -- ---- nobody is connected on a line of its that a tick finds silent
 
@@ -117,7 +118,7 @@ placed_ticked largest ids ns limits choice now r b placed tidy = by (find (λ (x
           (λ x f. let both : Some l ≡ Some x = sym e ∙ f in let same : l ≡ x = cc in ap (λ (y : BrokerLine). is_one_of (Some y.number) ns) (sym same) ∙ outside) seat
     ]
 
-pub ticked_stands : (c : List ℕ) (largest : ℕ) (set : Setting) (w : World) → Stands c largest set.limits w → read_first spending set tick w ≡ false → Stands c largest set.limits (asks set tick w)
-ticked_stands c largest set w s unspent =
+pub ticked_stands : (first : List CopyId) (c : List ℕ) (largest : ℕ) (set : Setting) (w : World) → Stands first c largest set.limits w → read_first spending set tick w ≡ false → Stands first c largest set.limits (asks set tick w)
+ticked_stands first c largest set w s unspent =
     let x = calls_with c largest set Tick s.ids s.ns w s.standing unspent (λ r e placed. placed_ticked largest s.ids s.ns set.limits set.choice w.now r w.broker placed s.standing.around.tidy) in
-    record { ids = x.0; ns = s.ns; standing = x.1 }
+    record { ids = x.0; grown = begin_then first s.ids x.0 s.grown x.2; ns = s.ns; standing = x.1 }

@@ -1,19 +1,19 @@
 -- What holds of every run of the world, all of it, and of the drains of a script (MQTT 5.0, 3.3.4, 4.3, 4.4, 4.6, 4.8, 4.9).
-use Rattle.std.specs.Prelude.{◌≡◌, ◌≤◌, ℕ, ⊤, true, List, [], ◌∷◌, Some}
+use Rattle.std.specs.Prelude.{◌≡◌, ◌≤◌, ℕ, ⊤, true, List, [], ◌∷◌, ◌++◌, Some}
 use Rattle.mqtt_base.specs.declared.session.CopyId.{CopyId}
 use Rattle.mqtt_handed_laws.specs.Drains.{Doing, after_round, copies_left, drained, drains, enough_rounds, happens, is_over, rounds_taken, turns_of}
 use Rattle.mqtt_laws.specs.Ends.{Receiver}
 use Rattle.mqtt_laws.specs.Run.{Turn, run}
 use Rattle.mqtt_laws.specs.World.{World, receiver_named}
 use Rattle.mqtt_rules.specs.Laws.{FewOpen}
-use Rattle.mqtt_rules.specs.State.{MemberChoice}
+use Rattle.mqtt_rules.specs.State.{MemberChoice, session_named}
 use Rattle.mqtt_rules.specs.declared.Limits.{Limits}
 use Rattle.mqtt_world_laws.specs.AtOnce.{AllGoOut}
 use Rattle.mqtt_world_laws.specs.Copies.{AreCountedOn, AreRouted, IsBalanced}
 use Rattle.mqtt_world_laws.specs.Entries.{IsEntered}
 use Rattle.mqtt_world_laws.specs.Identities.{EndsOnce, EntersOnce, WaitsOrHasEnded}
 use Rattle.mqtt_world_laws.specs.Once.{HasCarried, IsAcceptedOnce}
-use Rattle.mqtt_every_run_laws.specs.HandedOver.{WasHandedOver}
+use Rattle.mqtt_every_run_laws.specs.HandedOver.{AreHandedInOrder, WasHandedOver, queued_by}
 
 -- ---- a run
 
@@ -33,6 +33,10 @@ pub record DeliversOnce (limits : Limits) (ts : List Turn) (w : World) : Type 0 
   pub goes_out : AllGoOut limits ts w
   pub handed : (client : List ℕ) (r : Receiver) → receiver_named client (run limits ts w) ≡ Some r
       → WasHandedOver r (run limits ts w).broker
+  -- from any moment of the run, at which the receiver was q, to its end
+  pub in_order : (xs ys : List Turn) → xs ++ ys ≡ ts → (client : List ℕ) (q r : Receiver)
+      → receiver_named client (run limits xs w) ≡ Some q → receiver_named client (run limits ts w) ≡ Some r
+      → AreHandedInOrder (queued_by (session_named q.client (run limits xs w).broker.records)) r
 
 -- ---- drains
 

@@ -1,6 +1,6 @@
 -- Where a receiver is in a run of the world: what it sees is a run of its hop, its session and its lines are its own, and all
 -- others have other lines (MQTT 5.0, 3.1.2.4, 3.1.4, 4.4).
-use Rattle.std.specs.Prelude.{◌≡◌, ℕ, ◌≤◌, ⊤, ◌⊎◌, false, true, List, [], ◌∷◌, map, Option, Some, None, is_some}
+use Rattle.std.specs.Prelude.{◌≡◌, ℕ, ◌≤◌, ⊤, ◌⊎◌, false, true, List, [], ◌∷◌, ◌++◌, map, Option, Some, None, is_some}
 use Rattle.std.specs.List.{AllByRecursion}
 use Rattle.mqtt_base.specs.declared.session.CopyId.{CopyId}
 use Rattle.mqtt_flow.specs.Receiver.{connect, puback, pubrec, pubcomp}
@@ -102,9 +102,14 @@ pub record StandsWith (client : List ℕ) (largest : ℕ) (limits : Limits) (ids
   pub around : IsAround client limits ns w
   pub seen : IsSeen largest ids ns w.broker (receiver_named client w)
 
--- with whatever copies and lines
-pub record Stands (client : List ℕ) (largest : ℕ) (limits : Limits) (w : World) : Type 0 where
+-- these copies, and some more behind them, or none
+abbrev pub BeginWith : List CopyId → List CopyId → Type 0
+BeginWith first ids = (more : List CopyId) × (ids ≡ first ++ more)
+
+-- with copies that begin with these, and whatever lines
+pub record Stands (first : List CopyId) (client : List ℕ) (largest : ℕ) (limits : Limits) (w : World) : Type 0 where
   pub ids : List CopyId
+  pub grown : BeginWith first ids
   pub ns : List ℕ
   pub standing : StandsWith client largest limits ids ns w
 

@@ -1,6 +1,6 @@
 -- By which causes copies end in a drain of a hop.
 use Rattle.std.proofs.Common.{◌≡◌, ⊎_elim, ℕ, zero, suc, ◌≤◌, Bool, true, false, List, [], ◌∷◌, ◌++◌, length, map, nat_eq, refl, sym, ap, ◌∙◌, subst, Option, Some, None, Ok, Err, slice_get, option_map, cond, take, inl, inr}
-use Rattle.std.specs.Prelude.{⊤}
+use Rattle.std.specs.Prelude.{⊤, ◌⊎◌}
 use Rattle.std.proofs.lemmas.Option.{slice_get-map}
 use Rattle.mqtt_base.specs.declared.session.Ending.{Ending}
 use Rattle.mqtt_base.specs.declared.session.Ending.TheVariants.{Taken, Refused, Expired, TooLarge, SessionEnded, Dropped}
@@ -29,7 +29,9 @@ use Rattle.mqtt_flow.proofs.outbound.SessionQueues.{Sound, shift}
 use Rattle.mqtt_flow.proofs.outbound.Stages.{Norm, first_of, find-held}
 use Rattle.mqtt_flow.proofs.outbound.Steps.{pubrec_came, puback_came, pubcomp_came}
 use Rattle.mqtt_handed_laws.specs.Drains.{is_none_left, times}
+use Rattle.mqtt_handed_laws.specs.Entering.{MakesWay}
 use Rattle.mqtt_handed_laws.specs.Rounds.{EndsBy, Has, IsDrainCause, after_round, all_to_broker, all_to_end, drained, is_over, round_events, rounds_taken}
+use Rattle.mqtt_handed_laws.specs.WorldRounds.{EndsOrDrops}
 use Rattle.mqtt_handed_laws.proofs.Further.{Reached, goes_on, good_at, norm_at, one_unique, puback_said, pubcomp_said, reached_on, run_after, sound_at}
 use Rattle.mqtt_handed_laws.proofs.RoundFurther.{either_false, reached_round, round_run, unsent_at}
 use Rattle.mqtt_handed_laws.proofs.RoundPhases.{ends_back, ends_copies, turn_copies, turns_linked, up_linked}
@@ -383,3 +385,69 @@ pub causes_of_run : (largest window : ℕ) (moments : List ℕ) (events : List E
 causes_of_run largest window moments events n room =
     let w = run largest events start in
     told_so largest (take (rounds_taken largest window moments w) moments) (slice_get w.copies n) (slice_get (drained largest window moments w).copies n) (drain_ends largest window moments w (events, refl) room n)
+
+-- ---- with copies that make way
+
+-- a copy that stood stands, was dropped, or has ended by such a cause; one that has ended has ended for the same cause
+abbrev pub Passes : ℕ → List ℕ → Option Lot → Option Lot → Type 0
+Passes largest moments None later = ⊤
+Passes largest moments (Some (standing e m)) None = ⊥
+Passes largest moments (Some (standing e m)) (Some (standing f k)) = f.copy ≡ e.copy
+Passes largest moments (Some (standing e m)) (Some (past ending f k)) = (ending ≡ Dropped) ⊎ IsDrainCause largest moments e.copy ending
+Passes largest moments (Some (past ending e m)) None = ⊥
+Passes largest moments (Some (past ending e m)) (Some (standing f k)) = ⊥
+Passes largest moments (Some (past ending e m)) (Some (past other f k)) = other ≡ ending
+
+pub passes_same : (largest : ℕ) (moments : List ℕ) (o : Option Lot) → Passes largest moments o o
+passes_same largest moments None = tt
+passes_same largest moments (Some (standing e m)) = refl
+passes_same largest moments (Some (past x e m)) = refl
+
+pub passes_trans : (largest : ℕ) (moments : List ℕ) (o p q : Option Lot) → Passes largest moments o p → Passes largest moments p q → Passes largest moments o q
+passes_trans largest moments None p q a b = tt
+passes_trans largest moments (Some (standing e m)) None q a b = absurd a
+passes_trans largest moments (Some (standing e m)) (Some (standing f k)) None a b = absurd b
+passes_trans largest moments (Some (standing e m)) (Some (standing f k)) (Some (standing z l)) a b = b ∙ a
+passes_trans largest moments (Some (standing e m)) (Some (standing f k)) (Some (past y z l)) a b = subst (λ (copy : QueuedCopy). (y ≡ Dropped) ⊎ IsDrainCause largest moments copy y) a b
+passes_trans largest moments (Some (standing e m)) (Some (past x f k)) None a b = absurd b
+passes_trans largest moments (Some (standing e m)) (Some (past x f k)) (Some (standing z l)) a b = absurd b
+passes_trans largest moments (Some (standing e m)) (Some (past x f k)) (Some (past y z l)) a b = subst (λ (v : Ending). (v ≡ Dropped) ⊎ IsDrainCause largest moments e.copy v) (sym b) a
+passes_trans largest moments (Some (past x e m)) None q a b = absurd a
+passes_trans largest moments (Some (past x e m)) (Some (standing f k)) q a b = absurd a
+passes_trans largest moments (Some (past x e m)) (Some (past y f k)) None a b = absurd b
+passes_trans largest moments (Some (past x e m)) (Some (past y f k)) (Some (standing z l)) a b = absurd b
+passes_trans largest moments (Some (past x e m)) (Some (past y f k)) (Some (past v z l)) a b = b ∙ a
+
+-- by a run of the hop, and where a copy enters
+passes_run : (largest : ℕ) (moments : List ℕ) (o p : Option Lot) → EndsOn largest moments o p → GoesOn o p → Passes largest moments o p
+passes_run largest moments None p a h = tt
+passes_run largest moments (Some (standing e m)) None a h = a
+passes_run largest moments (Some (standing e m)) (Some (standing f k)) a h = a
+passes_run largest moments (Some (standing e m)) (Some (past x f k)) a h = inr a
+passes_run largest moments (Some (past x e m)) None a h = h
+passes_run largest moments (Some (past x e m)) (Some (standing f k)) a h = h
+passes_run largest moments (Some (past x e m)) (Some (past y f k)) a h = h.0
+
+pub passes_way : (largest : ℕ) (moments : List ℕ) (o p : Option Lot) → MakesWay o p → Passes largest moments o p
+passes_way largest moments None p a = tt
+passes_way largest moments (Some (standing e m)) None a = a
+passes_way largest moments (Some (standing e m)) (Some (standing f k)) a = a
+passes_way largest moments (Some (standing e m)) (Some (past x f k)) a = inl a
+passes_way largest moments (Some (past x e m)) None a = a
+passes_way largest moments (Some (past x e m)) (Some (standing f k)) a = a
+passes_way largest moments (Some (past x e m)) (Some (past y f k)) a = a
+
+pub ends_or_drops : (largest : ℕ) (moments : List ℕ) (o p : Option Lot) → Passes largest moments o p → EndsOrDrops largest moments o p
+ends_or_drops largest moments None p a = tt
+ends_or_drops largest moments (Some (standing e m)) None a = a
+ends_or_drops largest moments (Some (standing e m)) (Some (standing f k)) a = tt
+ends_or_drops largest moments (Some (standing e m)) (Some (past x f k)) a = a
+ends_or_drops largest moments (Some (past x e m)) p a = tt
+
+pub pump_passes : (largest window now n : ℕ) (w : World) → Reached largest w → Passes largest (now ∷ []) (slice_get w.copies n) (slice_get (step largest w (hop.pump window now)).copies n)
+pump_passes largest window now n w r =
+    passes_run largest (now ∷ []) (slice_get w.copies n) (slice_get (step largest w (hop.pump window now)).copies n) (pump_ends largest window now w (sound_at largest w r) n) (goes_on largest w r (hop.pump window now ∷ []) n)
+
+pub answers_pass : (largest : ℕ) (moments : List ℕ) (k n : ℕ) (w : World) → Reached largest w → w.linked ≡ true → Passes largest moments (slice_get w.copies n) (slice_get (run largest (times k (to_broker false)) w).copies n)
+answers_pass largest moments k n w r h =
+    passes_run largest moments (slice_get w.copies n) (slice_get (run largest (times k (to_broker false)) w).copies n) (brokers_end largest moments k w r h n) (goes_on largest w r (times k (to_broker false)) n)

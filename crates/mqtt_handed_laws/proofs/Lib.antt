@@ -54,6 +54,7 @@ pub mod WorldRoundLines
 pub mod WorldRoundSteps
 pub mod WorldRoundReads
 pub mod WorldRoundWishes
+pub mod Renumbering
 pub mod WorldRounds
 pub mod WorldRoundConnects
 pub mod DrainExamples

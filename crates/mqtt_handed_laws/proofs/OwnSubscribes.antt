@@ -1,7 +1,7 @@
 -- The broker reads a receiver's SUBSCRIBE: the copies of retained messages that its filter brings enter its queue, the
 -- answer goes out, and the two stay in step.
 use Rattle.std.proofs.Common.{◌≡◌, ℕ, suc, ◌+◌, ◌-◌, ◌≤◌, Bool, true, false, cond, not, ◌⊎◌, List, [], ◌∷◌, ◌++◌, drop, filter, length, map, Option, Some, None, nat_eq, nat_lt, refl, sym, ap, subst, ◌∙◌, append-nil, append_assoc, arith, inl, inr}
-use Rattle.std.specs.Prelude.{⊤, ◌&&◌, ◌||◌, filter_map, flat_map, is_some, nat_le}
+use Rattle.std.specs.Prelude.{⊤, ◌&&◌, ◌||◌, filter_map, flat_map, is_some, nat_le, slice_get}
 use Rattle.std.specs.List.{AllByRecursion}
 use Rattle.std.proofs.lemmas.Bool.{cases_Bool, leb-true}
 use Rattle.mqtt_base.specs.Codes.{identifier_in_use, quota_exceeded, topic_filter_invalid}
@@ -57,7 +57,7 @@ use Rattle.mqtt_subscribe.specs.declared.subscribe.Subscribe.{Subscribe as Askin
 use Rattle.mqtt_topic.specs.Filters.{is_filter}
 use Rattle.mqtt_world_laws.proofs.CopiesApart.{brought_differ, number_of, queued_differ}
 use Rattle.mqtt_handed_laws.specs.Apart.{AreToldApart, HasCome}
-use Rattle.mqtt_handed_laws.specs.Entering.{AreKnown, IsReceiving}
+use Rattle.mqtt_handed_laws.specs.Entering.{AreKnown, IsReceiving, MakesWay}
 use Rattle.mqtt_handed_laws.specs.Calls.{IsLingering, turned_back}
 use Rattle.mqtt_handed_laws.specs.Handing.{IsListening, IsRun, receiver_after}
 use Rattle.mqtt_handed_laws.specs.Late.{reads_old_wish}
@@ -66,13 +66,13 @@ use Rattle.mqtt_handed_laws.specs.Seen.{AreQueued, Numbering, StandOn, answered,
 use Rattle.mqtt_handed_laws.specs.Served.{HasLines, IsServed, IsTidy, RunsFor, RunsWithAll}
 use Rattle.mqtt_handed_laws.specs.Tags.{AreNumbered, IsTagged, IsTaggedBy, IsTaggedWith, id_of}
 use Rattle.mqtt_handed_laws.proofs.Answering.{all_join, heard_append, its_went, went_heard}
-use Rattle.mqtt_handed_laws.proofs.CallsOfOthers.{done_all, first_runs, moment_served}
-use Rattle.mqtt_handed_laws.proofs.Entering.{linked_same}
+use Rattle.mqtt_handed_laws.proofs.CallsOfOthers.{carried_run, done_all, first_runs, moment_runs, moment_served}
+use Rattle.mqtt_handed_laws.proofs.Entering.{linked_same, way_same, way_trans}
 use Rattle.mqtt_handed_laws.proofs.Own.{safe_served, session_is, some_is}
 use Rattle.mqtt_handed_laws.proofs.QueueLengths.{IsUpTo, entered_upto}
 use Rattle.mqtt_handed_laws.proofs.RoundPhases.{length_map}
 use Rattle.mqtt_handed_laws.proofs.Serving.{AreOfQueue, served_parts}
-use Rattle.mqtt_handed_laws.proofs.Walk.{entered_runs, queue_enter, unheard_of}
+use Rattle.mqtt_handed_laws.proofs.Walk.{entered_runs, entered_with, numbered_front, queue_enter, unheard_of}
 
 -- ---- its session, changed otherwise than in its queue
 
@@ -192,11 +192,11 @@ hush_queue (At who part ∷ ds) q = (tt, hush_queue ds q.1)
 hush_queue (d ∷ ds) q = absurd q.0
 
 -- the SUBSCRIBE is taken off a line, which leaves these packets, and nothing of copies comes to it
-told_hushed : (number : Numbering) (largest : ℕ) (all : List CopyId) (birth : ℕ) (r : Receiver) (call : Call) (up old : List Back) (ds : List Deed) (new : Broker) → AllByRecursion IsHushed ds
+told_hushed_run : (number : Numbering) (largest : ℕ) (lots : List Lot) (r : Receiver) (call : Call) (up old : List Back) (ds : List Deed) (new : Broker) → AllByRecursion IsHushed ds
     → filter_map answered up ≡ filter_map answered r.line.up → filter_map answered old ≡ filter_map answered r.line.old
-    → RunsWithAll number largest all birth r new → RunsWithAll number largest all birth (receiver_told new (outcome_of call ds) (record r { line = record r.line { up = up; old = old } })) new
-told_hushed number largest all birth r call up old ds new hush same_up same_old h =
-    let ids = map id_of h.after in
+    → IsRun number largest lots r new → IsRun number largest lots (receiver_told new (outcome_of call ds) (record r { line = record r.line { up = up; old = old } })) new
+told_hushed_run number largest lots r call up old ds new hush same_up same_old h =
+    let ids = map id_of lots in
     let x = hushed_on number ids r.line.number new ds hush in
     let none = hush_closes ds hush in
     let out = outcome_of call ds in
@@ -208,21 +208,34 @@ told_hushed number largest all birth r call up old ds new hush same_up same_old 
     ap (λ (t : Bool). filter_map answered (unless_closed t old)) (ap (is_one_of r.line.old_number) none ∙ none_closed r.line.old_number) ∙ same_old in
     let downs : filter_map (heard_in number) (r.line.down ++ sent) ≡ filter_map (heard_in number) r.line.down =
     heard_append number r.line.down sent ∙ (ap (λ (xs : List Output). filter_map (heard_in number) r.line.down ++ xs) x.heard_is ∙ append-nil (filter_map (heard_in number) r.line.down)) in
-    let same : seen number h.after q new ≡ seen number h.after r new = λ i. record (seen number h.after r new) { up = ups i; down = downs i; old = olds i } in
+    let same : seen number lots q new ≡ seen number lots r new = λ i. record (seen number lots r new) { up = ups i; down = downs i; old = olds i } in
+    record {
+      events = h.events;
+      seen_is = same ∙ h.seen_is;
+      queue_is = h.queue_is;
+      numbered = h.numbered;
+      tagged = record { down = all_join (IsTagged number ids) r.line.down sent h.tagged.down x.tagged; ledger = h.tagged.ledger; once = h.tagged.once };
+    }
+
+told_hushed : (number : Numbering) (largest : ℕ) (all : List CopyId) (birth : ℕ) (r : Receiver) (call : Call) (up old : List Back) (ds : List Deed) (new : Broker) → AllByRecursion IsHushed ds
+    → filter_map answered up ≡ filter_map answered r.line.up → filter_map answered old ≡ filter_map answered r.line.old
+    → RunsWithAll number largest all birth r new → RunsWithAll number largest all birth (receiver_told new (outcome_of call ds) (record r { line = record r.line { up = up; old = old } })) new
+told_hushed number largest all birth r call up old ds new hush same_up same_old h =
     record {
       after = h.after;
       same = h.same;
-      run_is = record {
-        events = h.run_is.events;
-        seen_is = same ∙ h.run_is.seen_is;
-        queue_is = h.run_is.queue_is;
-        numbered = h.run_is.numbered;
-        tagged = record { down = all_join (IsTagged number ids) r.line.down sent h.run_is.tagged.down x.tagged; ledger = h.run_is.tagged.ledger; once = h.run_is.tagged.once };
-      };
+      run_is = told_hushed_run number largest h.after r call up old ds new hush same_up same_old h.run_is;
       session = h.session;
       birth_is = h.birth_is;
       receiving = record { session = h.receiving.session; client = h.receiving.client; only = h.receiving.only; known = h.receiving.known };
     }
+
+-- what it sees with these copies, each of which stands as before, or made way
+pub record LotsOn (number : Numbering) (largest : ℕ) (copies : List Lot) (all : List CopyId) (r : Receiver) (b : Broker) : Type 0 where
+  pub after : List Lot
+  pub same : map id_of after ≡ all
+  pub run_is : IsRun number largest after r b
+  pub way : (n : ℕ) → MakesWay (slice_get copies n) (slice_get after n)
 
 -- ---- copies of retained messages, told apart
 
@@ -265,13 +278,15 @@ moment_apart ids (row ∷ rows) b h = record { come = h.come; differ = h.differ 
 
 -- ---- copies enter one after the other
 
-module _ (largest : ℕ) (env : Env) (small : env.limits.queue ≤ QUEUE_LIMIT) (r : Receiver) (birth : ℕ) (ns : List ℕ) (ids : List CopyId) (has : HasLines ns r) where
+module _ (largest : ℕ) (env : Env) (small : env.limits.queue ≤ QUEUE_LIMIT) (r : Receiver) (birth : ℕ) (ns : List ℕ) (ids : List CopyId) (has : HasLines ns r) (start : Broker) where
   record Going (more : List CopyId) (b : Broker) : Type 0 where
     pub served : IsServed r.client birth ns b
     pub queues : ShortQueues env.limits.queue b.records
     pub session : Session
     pub found : session_at birth b.records ≡ Some session
     pub runs : RunsFor largest (ids ++ more) birth r b
+    -- whatever copies it saw at the start
+    pub lots : (number : Numbering) (copies : List Lot) → AreNumbered number (ids ++ more) → IsRun number largest copies r start → map id_of copies ≡ ids → LotsOn number largest copies (ids ++ more) r b
 
   abbrev HasRoom : ℕ → Broker → Type 0
   HasRoom n b = (x : Session) → session_at birth b.records ≡ Some x → n ≤ env.limits.queue - own_stay env x
@@ -298,10 +313,29 @@ module _ (largest : ℕ) (env : Env) (small : env.limits.queue ≤ QUEUE_LIMIT) 
       let parts = queue_enter env d.copy s in
       let served = served_parts r.client birth ns ds b parts k.served in
       let e = made.0 in
+      let client : s.client ≡ r.client = (all_at birth_of (IsOurs r.client birth) birth s b.records.sessions k.served.sessions k.found).name is in
       let last : session_at birth (after_all ds b).records ≡ Some e.mine = ap (λ (j : ℕ). session_at j (after_all ds b).records) (sym is) ∙ e.found in
       let stays = e.stays in
       subst (λ (zs : List Deed). Grows zs n 1 (more ++ d.copy.id ∷ []) b) (sym deeds_are) (record {
-        going = record { served = served; queues = made.1; session = e.mine; found = last; runs = entered_runs largest env small r birth ns ids has d.copy s b more queued (omega (arith, all)) is own_at served k.runs };
+        going = record {
+          served = served;
+          queues = made.1;
+          session = e.mine;
+          found = last;
+          runs = entered_runs largest env small r birth ns ids has d.copy s b more queued (omega (arith, all)) is own_at served k.runs;
+          lots = λ number copies numbered first same.
+              let both : AreNumbered number ((ids ++ more) ++ d.copy.id ∷ []) = subst (AreNumbered number) (sym (append_assoc ids more (d.copy.id ∷ []))) numbered in
+              let before = numbered_front number (ids ++ more) (d.copy.id ∷ []) both in
+              let x = k.lots number copies before first same in
+              let receiving = session_is largest birth (ids ++ more) ns number r s b k.served own_at client (k.runs number before) in
+              let y = entered_with largest env small r birth ns ids has d.copy s b (ids ++ more) number x.after queued (omega (arith, all)) x.same both x.run_is receiving in
+              record {
+                after = y.after;
+                same = y.same ∙ (ap (λ (cs : List CopyId). cs ++ d.copy.id ∷ []) x.same ∙ append_assoc ids more (d.copy.id ∷ []));
+                run_is = y.run_is;
+                way = λ j. way_trans (slice_get copies j) (slice_get x.after j) (slice_get y.after j) (x.way j) (y.way j);
+              };
+        };
         longer = λ most h.
             let one : most + 1 ≡ suc most = omega arith in
             subst (λ (k : ℕ). IsUpTo birth k (after_all ds b)) (sym one) (entered_upto birth most env d.copy s b h);
@@ -378,6 +412,10 @@ module _ (largest : ℕ) (env : Env) (small : env.limits.queue ≤ QUEUE_LIMIT) 
         session = with_subscription x s;
         found = last;
         runs = moved_for largest (ids ++ []) birth ns r s (with_subscription x s) b c v own_at client is stands k.runs;
+        lots = λ number copies numbered before same.
+            let y = k.lots number copies numbered before same in
+            let receiving = session_is largest birth (ids ++ []) ns number r s b v own_at client (k.runs number numbered) in
+            record { after = y.after; same = y.same; run_is = moved_run number largest y.after r s (with_subscription x s) b c y.run_is receiving stands; way = y.way };
       }
 
   -- what becomes of a filter: nothing, or it is granted, with the copies that it brings
@@ -577,6 +615,7 @@ pub record Brings (largest : ℕ) (ids : List CopyId) (limits : Limits) (choice 
   pub more : List CopyId
   pub new : AllByRecursion (IsBroughtCopy birth (suc b.records.subscribes)) more
   pub runs : RunsFor largest (ids ++ more) birth r (stepped limits choice now (asking w r n) b)
+  pub lots : (number : Numbering) (copies : List Lot) → AreNumbered number (ids ++ more) → IsRun number largest copies r b → map id_of copies ≡ ids → LotsOn number largest copies (ids ++ more) r (stepped limits choice now (asking w r n) b)
   pub served : IsServed r.client birth ns (stepped limits choice now (asking w r n) b)
   pub longer : (most : ℕ) → IsUpTo birth most b → IsUpTo birth (most + length more) (stepped limits choice now (asking w r n) b)
   pub hush : AllByRecursion IsHushed (deeds_in limits choice now (asking w r n) b)
@@ -608,27 +647,38 @@ brings largest ids limits choice now birth ns w r there l s b k name a tidy =
       went = went_heard s.birth first.now n b.lines;
       lines = λ m. quiet_line s.birth m first.now (On n Hear) b.lines tt;
     } in
-    let going : Going largest env tidy.within r birth ns ids k.lines [] c = record {
+    let going : Going largest env tidy.within r birth ns ids k.lines b [] c = record {
       served = safe_served r.client birth ns (On n Hear ∷ []) first (tt, tt) served;
       queues = record { ordered = tidy.ordered; short = tidy.queues };
       session = s;
       found = at;
       runs = moved_for largest (ids ++ []) birth ns r s s first c served a.session (a.client ∙ name) its stands runs;
+      lots = λ number copies numbered before same.
+          let receiving = session_is largest birth (ids ++ []) ns number r s first served a.session (a.client ∙ name) (runs number numbered) in
+          record {
+            after = copies;
+            same = same ∙ sym (append-nil ids);
+            run_is = moved_run number largest copies r s s first c (carried_run number largest copies r b first refl refl before) receiving stands;
+            way = λ j. way_same (slice_get copies j);
+          };
     } in
     let p : Asking = record { identifier = 1; properties = identified w.identifier; subscriptions = record { filter = w.filter; options = options_byte w.options } ∷ [] } in
     let own = on_subscribe env n s p c in
-    let does = subscribes_by largest env tidy.within r birth ns ids k.lines (is_among 1 s.inbound) n s w p (record { filter = w.filter; options = options_byte w.options }) c refl going its at in
+    let does = subscribes_by largest env tidy.within r birth ns ids k.lines b (is_among 1 s.inbound) n s w p (record { filter = w.filter; options = options_byte w.options }) c refl going its at in
     let ds = deeds_in limits choice now call b in
     let is : ds ≡ On n Hear ∷ (own ++ []) = input_is limits choice now packet l s b a.line a.connected a.session in
     let end : after_all ds first ≡ after_all own c = ap (λ (xs : List Deed). after_all xs first) is ∙ ap (λ (xs : List Deed). after_all xs c) (append-nil own) in
     let hush : AllByRecursion IsHushed ds = subst (AllByRecursion IsHushed) (sym is) (tt, each_append IsHushed own [] does.hush tt) in
     let rows = rows_of_all ds first.records in
     let last = after_all ds first in
-    let whole : Going largest env tidy.within r birth ns ids k.lines does.more last = subst (Going largest env tidy.within r birth ns ids k.lines does.more) (sym end) does.going in
+    let whole : Going largest env tidy.within r birth ns ids k.lines b does.more last = subst (Going largest env tidy.within r birth ns ids k.lines b does.more) (sym end) does.going in
     record {
       more = does.more;
       new = does.new;
       runs = λ number m. done_all number largest (ids ++ does.more) birth r rows last (whole.runs number m);
+      lots = λ number copies m before same.
+          let y = whole.lots number copies m before same in
+          record { after = y.after; same = y.same; run_is = moment_runs number largest y.after r rows last y.run_is; way = y.way };
       served = moment_served r.client birth ns rows last whole.served;
       longer = λ most h x e.
           let k : IsUpTo birth (most + length does.more) last = subst (IsUpTo birth (most + length does.more)) (sym end) (does.longer most h) in
@@ -644,6 +694,8 @@ brings largest ids limits choice now birth ns w r there l s b k name a tidy =
 pub record Wished (largest : ℕ) (ids : List CopyId) (limits : Limits) (choice : MemberChoice) (now birth : ℕ) (ns : List ℕ) (w : Wish) (r : Receiver) (n : ℕ) (b : Broker) : Type 0 where
   pub after : Subscribed largest ids birth ns (suc b.records.subscribes) (receiver_after limits choice now (Input n (wire_back r.client r.window (asks_for w))) r b) (stepped limits choice now (Input n (wire_back r.client r.window (asks_for w))) b)
   pub longer : (most : ℕ) → IsUpTo birth most b → IsUpTo birth (most + length after.more) (stepped limits choice now (Input n (wire_back r.client r.window (asks_for w))) b)
+  pub lots : (number : Numbering) (copies : List Lot) → AreNumbered number (ids ++ after.more) → IsRun number largest copies r b → map id_of copies ≡ ids
+      → LotsOn number largest copies (ids ++ after.more) (receiver_after limits choice now (Input n (wire_back r.client r.window (asks_for w))) r b) (stepped limits choice now (Input n (wire_back r.client r.window (asks_for w))) b)
   pub differ : AllDiffer (map number_of b.records.retained) → AllDiffer after.more
   pub apart : AreRetainedApart b → AreToldApart after.more (stepped limits choice now (Input n (wire_back r.client r.window (asks_for w))) b).records
 
@@ -664,6 +716,9 @@ wished largest ids limits choice now birth ns w rest r l s b k a tidy up =
         };
       };
       longer = x.longer;
+      lots = λ number copies m before all.
+          let y = x.lots number copies m before all in
+          record { after = y.after; same = y.same; run_is = told_hushed_run number largest y.after r call (drop 1 r.line.up) r.line.old (deeds_in limits choice now call b) (stepped limits choice now call b) x.hush same refl y.run_is; way = y.way };
       differ = x.differ;
       apart = x.apart;
     }

@@ -29,16 +29,18 @@ use Rattle.mqtt_handed_laws.specs.Rounds as rounds
 use Rattle.mqtt_handed_laws.specs.Rounds.{EndsBy}
 use Rattle.mqtt_handed_laws.specs.Seen.{Numbering, answered, seen}
 use Rattle.mqtt_handed_laws.specs.Served.{IsTidy, RunsWithAll}
-use Rattle.mqtt_handed_laws.specs.Tags.{id_of}
-use Rattle.mqtt_handed_laws.specs.WorldRounds.{AreTold, AsksOnce, ComesTo, DrainsWith, IsAnswer, IsOlder, MayAsk, IsDrained, MayDrain, moment_of, moments_of}
+use Rattle.mqtt_handed_laws.specs.Tags.{AreNumbered, id_of}
+use Rattle.mqtt_handed_laws.specs.WorldRounds.{AreTold, AsksOnce, ComesTo, DrainsBehind, DrainsWith, IsAnswer, IsOlder, MayAsk, IsDrained, MayDrain, moment_of, moments_of}
 use Rattle.mqtt_handed_laws.proofs.Answering.{named_now, standing_by}
-use Rattle.mqtt_handed_laws.proofs.DrainCauses.{causes_of_run, ends_by_more}
+use Rattle.mqtt_handed_laws.proofs.DrainCauses.{Passes, answers_pass, causes_of_run, ends_by_more, ends_or_drops, passes_trans, passes_way, pump_passes}
 use Rattle.mqtt_handed_laws.proofs.DrainRuns.{run_append}
 use Rattle.mqtt_handed_laws.proofs.Further.{Reached, goes_on, no_more_stand}
 use Rattle.mqtt_handed_laws.proofs.Numbers.{place_of, places_number}
 use Rattle.mqtt_handed_laws.proofs.OwnDoings.{keeps_reading}
 use Rattle.mqtt_handed_laws.proofs.RoundFurther.{drain_empties, round_run, rounds_within, two_each}
+use Rattle.mqtt_handed_laws.proofs.Renumbering.{renumbered}
 use Rattle.mqtt_handed_laws.proofs.Stopping.{step_tidy}
+use Rattle.mqtt_handed_laws.proofs.Walk.{numbered_front}
 use Rattle.mqtt_handed_laws.proofs.Own.{some_is}
 use Rattle.mqtt_handed_laws.proofs.RoundPhases.{brokers_length, ends_copies, turns_length}
 use Rattle.mqtt_handed_laws.proofs.Turns.{same_entries}
@@ -436,76 +438,123 @@ module _ (limits : Limits) (choice : MemberChoice) (client : List ℕ) (number :
       subst (Orderly limits ids granted) (sym (back_is limits choice client w r n (answers a) rest x.named x.alone x.at.connected.number x.up))
       (orderly_on limits ids granted w later (step_tidy limits choice w.now call w.broker o.tidy) (answer_at number largest window ids birth ns limits choice w.now a rest h r w.broker x.at x.up).same o)
 
-  -- the SUBSCRIBE is read, and what is behind it
-  wish_read : (u : Wish) (rest : List Back) (h : Hop) (w : World) → Here number largest window ids birth ns client (asks_for u ∷ rest) h w → Orderly limits ids granted w → AllByRecursion IsAnswer rest
-      → DrainsWith largest window ids birth ns client (suc granted) (length (queue_of h.copies)) (run limits (times (length rest) reads_back) (turned limits reads_back w))
-  wish_read u rest h w x o all =
-      let r = x.receiver in
-      let n = x.at.connected.line.number in
-      let call = Input n (wire_back r.client r.window (asks_for u)) in
-      let set : Setting = record { limits = limits; choice = choice } in
-      let before = taken_off limits choice client w in
-      let later = calls set call before in
-      let y = wish_at number largest window ids birth ns limits choice w.now u rest r w.broker x.at.connected o.tidy o.told x.up in
-      let q = record r { line = taken_up r.line } in
-      let found : receiver_named client before ≡ Some q = receiver_changed client (λ (s : Receiver). record s { line = taken_up s.line }) r w.receivers (λ s. refl) x.named in
-      let nobody : publisher_named client before ≡ None = none_changed (λ (p : Publisher). bytes_eq p.client client) (λ (p : Publisher). record p { line = taken_up p.line }) w.publishers x.alone in
-      let ids2 = ids ++ y.more in
-      let number2 = place_of ids2 in
-      let k = y.connected.in_step.runs number2 (places_number ids2 y.differ) in
-      let last = receiver_told later.broker (told limits choice w.now call w.broker) q in
-      let hop2 = seen number2 k.after last later.broker in
-      let z : Here number2 largest window ids2 birth ns client rest hop2 later = record {
-        receiver = last;
-        named = receiver_called_is client set call before q found;
-        alone = publisher_called_is client set call before nobody;
-        at = record { connected = y.connected; copies = k.after; same = k.same; run_is = k.run_is; seen_is = refl };
-        up = y.up;
-      } in
-      let end = hop.run largest (times (length rest) (hop.to_broker false)) hop2 in
-      let there = run limits (times (length rest) reads_back) later in
-      let c = sees_comes limits choice client number2 largest window ids2 birth ns end there (brokers_from limits choice client number2 largest window ids2 birth ns rest hop2 later z all) in
-      let was = holds limits choice client number largest window ids birth ns (asks_for u ∷ rest) h w x in
-      let now = holds limits choice client number2 largest window ids2 birth ns rest hop2 later z in
-      let grown : length now.session.queue ≤ length was.session.queue + length y.more =
-      y.longer (length was.session.queue) (λ s e. subst (λ (v : Session). length v.queue ≤ length was.session.queue) (some_is was.session s (sym was.found ∙ e)) (omega arith)) now.session now.found in
-      let fewer = answers_fewer largest (length rest) hop2 (reached number2 largest window ids2 birth ns hop2 last later.broker z.at) in
-      let left = left_is limits choice client number2 largest window ids2 birth ns end there c in
-      let few : copies_left client there ≤ length (queue_of h.copies) + length y.more =
-      let a = was.many in let b = now.many in omega (arith, a, b, grown, fewer, left) in
-      subst (λ (v : World). DrainsWith largest window ids birth ns client (suc granted) (length (queue_of h.copies)) (run limits (times (length rest) reads_back) v)) (sym (back_is limits choice client w r n (asks_for u) rest x.named x.alone x.at.connected.number x.up))
-      (record { more = y.more; new = subst (λ (j : ℕ). AllByRecursion (IsBroughtCopy birth (suc j)) y.more) o.granted_is y.new; differ = y.differ; receiver = c.receiver; may = c.may; few = few })
+  -- what has become of the copies that stood at the start
+  module _ (moment : ℕ) (base : List Lot) where
+    abbrev Passed : List Lot → Type 0
+    Passed lots = (n : ℕ) → Passes largest (moment ∷ []) (slice_get base n) (slice_get lots n)
 
-  all_back : (ups : List Back) (h : Hop) (w : World) → Here number largest window ids birth ns client ups h w → Orderly limits ids granted w → AsksOnce ups
-      → DrainsWith largest window ids birth ns client (suc granted) (length (queue_of h.copies)) (run limits (times (length ups) reads_back) w)
-  all_back [] h w x o once =
-      let c = sees_comes limits choice client number largest window ids birth ns h w x in
-      let none : ids ++ [] ≡ ids = append-nil ids in
-      record {
-        more = [];
-        new = tt;
-        differ = subst AllDiffer (sym none) o.told.differ;
-        receiver = c.receiver;
-        may = subst (λ (all : List CopyId). MayDrain largest window all birth ns client c.receiver w) (sym none) c.may;
-        few = let left = left_is limits choice client number largest window ids birth ns h w c in omega (arith, left);
-      }
-  all_back (asks_for u ∷ rest) h w x o once = wish_read u rest h w x o once
-  all_back (answers a ∷ rest) h w x o once =
-      let y = all_back rest (step largest h (hop.to_broker false)) (turned limits reads_back w) (answers_one limits choice client number largest window ids birth ns a rest h w x) (answer_orderly a rest h w x o) once in
-      let fewer = answers_fewer largest 1 h (reached number largest window ids birth ns h x.receiver w.broker x.at) in
-      let less = y.few in
-      record { more = y.more; new = y.new; differ = y.differ; receiver = y.receiver; may = y.may; few = omega (arith, fewer, less) }
+    abbrev Behind : Hop → World → Type 0
+    Behind h w = DrainsBehind largest window ids birth ns client (suc granted) (length (queue_of h.copies)) moment base w
 
-pub first_round : (largest window : ℕ) (ids : List CopyId) (birth : ℕ) (ns : List ℕ) (limits : Limits) (choice : MemberChoice) (client : List ℕ) (r : Receiver) (w : World) → MayAsk limits largest window ids birth ns client r w
-    → DrainsWith largest window ids birth ns client (suc w.broker.records.subscribes) (copies_left client w) (after_round limits choice client w)
-first_round largest window ids birth ns limits choice client r w may =
-    let number = place_of ids in
-    let k = may.connected.in_step.runs number (places_number ids may.told.differ) in
-    let h = seen number k.after r w.broker in
+    passed_on : (a b c : List Lot) → ((n : ℕ) → Passes largest (moment ∷ []) (slice_get a n) (slice_get b n)) → b ≡ c → Passed a → Passed c
+    passed_on a b c on same p n =
+        subst (λ (ls : List Lot). Passes largest (moment ∷ []) (slice_get base n) (slice_get ls n)) same (passes_trans largest (moment ∷ []) (slice_get base n) (slice_get a n) (slice_get b n) (p n) (on n))
+
+    -- the SUBSCRIBE is read, and what is behind it
+    wish_read : (u : Wish) (rest : List Back) (h : Hop) (w : World) → Here number largest window ids birth ns client (asks_for u ∷ rest) h w → Orderly limits ids granted w → AllByRecursion IsAnswer rest → Passed h.copies
+        → Behind h (run limits (times (length rest) reads_back) (turned limits reads_back w))
+    wish_read u rest h w x o all p =
+        let r = x.receiver in
+        let n = x.at.connected.line.number in
+        let call = Input n (wire_back r.client r.window (asks_for u)) in
+        let set : Setting = record { limits = limits; choice = choice } in
+        let before = taken_off limits choice client w in
+        let later = calls set call before in
+        let y = wish_at number largest window ids birth ns limits choice w.now u rest r w.broker x.at.connected o.tidy o.told x.up in
+        let q = record r { line = taken_up r.line } in
+        let found : receiver_named client before ≡ Some q = receiver_changed client (λ (s : Receiver). record s { line = taken_up s.line }) r w.receivers (λ s. refl) x.named in
+        let nobody : publisher_named client before ≡ None = none_changed (λ (p : Publisher). bytes_eq p.client client) (λ (p : Publisher). record p { line = taken_up p.line }) w.publishers x.alone in
+        let ids2 = ids ++ y.more in
+        let number2 = place_of ids2 in
+        let numbered = places_number ids2 y.differ in
+        let first = renumbered number number2 largest x.at.copies r w.broker (subst (AreNumbered number2) (sym x.at.same) (numbered_front number2 ids y.more numbered)) x.at.run_is in
+        let k = y.lots number2 x.at.copies numbered first x.at.same in
+        let last = receiver_told later.broker (told limits choice w.now call w.broker) q in
+        let hop2 = seen number2 k.after last later.broker in
+        let z : Here number2 largest window ids2 birth ns client rest hop2 later = record {
+          receiver = last;
+          named = receiver_called_is client set call before q found;
+          alone = publisher_called_is client set call before nobody;
+          at = record { connected = y.connected; copies = k.after; same = k.same; run_is = k.run_is; seen_is = refl };
+          up = y.up;
+        } in
+        let end = hop.run largest (times (length rest) (hop.to_broker false)) hop2 in
+        let there = run limits (times (length rest) reads_back) later in
+        let c = sees_comes limits choice client number2 largest window ids2 birth ns end there (brokers_from limits choice client number2 largest window ids2 birth ns rest hop2 later z all) in
+        let was = holds limits choice client number largest window ids birth ns (asks_for u ∷ rest) h w x in
+        let now = holds limits choice client number2 largest window ids2 birth ns rest hop2 later z in
+        let grown : length now.session.queue ≤ length was.session.queue + length y.more =
+        y.longer (length was.session.queue) (λ s e. subst (λ (v : Session). length v.queue ≤ length was.session.queue) (some_is was.session s (sym was.found ∙ e)) (omega arith)) now.session now.found in
+        let at = reached number2 largest window ids2 birth ns hop2 last later.broker z.at in
+        let fewer = answers_fewer largest (length rest) hop2 at in
+        let left = left_is limits choice client number2 largest window ids2 birth ns end there c in
+        let few : copies_left client there ≤ length (queue_of h.copies) + length y.more =
+        let a = was.many in let b = now.many in omega (arith, a, b, grown, fewer, left) in
+        let start : Passed x.at.copies = subst Passed (sym (ap (λ (v : Hop). v.copies) x.at.seen_is)) p in
+        let middle : Passed hop2.copies = passed_on x.at.copies k.after hop2.copies (λ j. passes_way largest (moment ∷ []) (slice_get x.at.copies j) (slice_get k.after j) (k.way j)) refl start in
+        let behind : Passed c.copies =
+        passed_on hop2.copies end.copies c.copies (λ j. answers_pass largest (moment ∷ []) (length rest) j hop2 at (hop_linked number2 largest window ids2 birth ns hop2 last later.broker z.at))
+        (sym (ap (λ (v : Hop). v.copies) c.seen_is)) middle in
+        subst (λ (v : World). Behind h (run limits (times (length rest) reads_back) v)) (sym (back_is limits choice client w r n (asks_for u) rest x.named x.alone x.at.connected.number x.up))
+        (record {
+          drains = record { more = y.more; new = subst (λ (j : ℕ). AllByRecursion (IsBroughtCopy birth (suc j)) y.more) o.granted_is y.new; differ = y.differ; receiver = c.receiver; may = c.may; few = few };
+          numbering = number2;
+          after = c.copies;
+          same = c.same;
+          run_is = c.run_is;
+          ends = λ j. ends_or_drops largest (moment ∷ []) (slice_get base j) (slice_get c.copies j) (behind j);
+        })
+
+    all_back : (ups : List Back) (h : Hop) (w : World) → Here number largest window ids birth ns client ups h w → Orderly limits ids granted w → AsksOnce ups → Passed h.copies → Behind h (run limits (times (length ups) reads_back) w)
+    all_back [] h w x o once p =
+        let c = sees_comes limits choice client number largest window ids birth ns h w x in
+        let none : ids ++ [] ≡ ids = append-nil ids in
+        let left = left_is limits choice client number largest window ids birth ns h w c in
+        let same : c.copies ≡ h.copies = ap (λ (v : Hop). v.copies) c.seen_is in
+        record {
+          drains = record {
+            more = [];
+            new = tt;
+            differ = subst AllDiffer (sym none) o.told.differ;
+            receiver = c.receiver;
+            may = subst (λ (all : List CopyId). MayDrain largest window all birth ns client c.receiver w) (sym none) c.may;
+            few = omega (arith, left);
+          };
+          numbering = number;
+          after = c.copies;
+          same = c.same ∙ sym none;
+          run_is = c.run_is;
+          ends = λ j. ends_or_drops largest (moment ∷ []) (slice_get base j) (slice_get c.copies j) (subst Passed (sym same) p j);
+        }
+    all_back (asks_for u ∷ rest) h w x o once p = wish_read u rest h w x o once p
+    all_back (answers a ∷ rest) h w x o once p =
+        let at = reached number largest window ids birth ns h x.receiver w.broker x.at in
+        let later = step largest h (hop.to_broker false) in
+        let on : Passed later.copies = passed_on h.copies later.copies later.copies (λ j. answers_pass largest (moment ∷ []) 1 j h at (hop_linked number largest window ids birth ns h x.receiver w.broker x.at)) refl p in
+        let y = all_back rest later (turned limits reads_back w) (answers_one limits choice client number largest window ids birth ns a rest h w x) (answer_orderly a rest h w x o) once on in
+        let fewer = answers_fewer largest 1 h at in
+        let d = y.drains in
+        let less = d.few in
+        record {
+          drains = record { more = d.more; new = d.new; differ = d.differ; receiver = d.receiver; may = d.may; few = omega (arith, fewer, less) };
+          numbering = y.numbering;
+          after = y.after;
+          same = y.same;
+          run_is = y.run_is;
+          ends = y.ends;
+        }
+
+-- with the copies that it sees
+pub first_round_of : (number : Numbering) (largest window : ℕ) (ids : List CopyId) (birth : ℕ) (ns : List ℕ) (limits : Limits) (choice : MemberChoice) (client : List ℕ) (copies : List Lot) (r : Receiver) (w : World)
+    → MayAsk limits largest window ids birth ns client r w → map id_of copies ≡ ids → IsRun number largest copies r w.broker
+    → DrainsBehind largest window ids birth ns client (suc w.broker.records.subscribes) (copies_left client w) (moment_of w) copies (after_round limits choice client w)
+first_round_of number largest window ids birth ns limits choice client copies r w may same run_is =
+    let h = seen number copies r w.broker in
     let granted = w.broker.records.subscribes in
     let ups = r.line.up in
+    let now = moment_of w in
     let sent = run limits (turn_of choice (ask (pump client)) ∷ []) w in
-    let h1 = step largest h (hop.pump window (moment_of w)) in
+    let h1 = step largest h (hop.pump window now) in
     let ends = all_to_end choice client sent in
     let was = run limits ends sent in
     let h2 = hop.run largest (rounds.all_to_end h1) h1 in
@@ -513,30 +562,48 @@ first_round largest window ids birth ns limits choice client r w may =
       receiver = r;
       named = may.named;
       alone = may.alone;
-      at = record { connected = may.connected; copies = k.after; same = k.same; run_is = k.run_is; seen_is = refl };
+      at = record { connected = may.connected; copies = copies; same = same; run_is = run_is; seen_is = refl };
       up = refl;
     } in
     let o0 : Orderly limits ids granted w = record { tidy = may.tidy; told = may.told; granted_is = refl } in
     let x1 = pumps limits choice client number largest window ids birth ns ups h w x0 in
     let o1 = pump_orderly limits choice client number largest window ids birth ns granted ups h w x0 o0 in
     let x2 = reads limits choice client number largest window ids birth ns AsksOnce (record { none = tt; more = once_more }) ups h1 sent x1 in
-    let same : was.broker ≡ sent.broker = reads_broker limits choice client number largest window ids birth ns ups h1 sent x1 in
+    let unread : was.broker ≡ sent.broker = reads_broker limits choice client number largest window ids birth ns ups h1 sent x1 in
     let o2 : Orderly limits ids granted was =
-    orderly_on limits ids granted sent was (subst (IsTidy limits) (sym same) o1.tidy) (record { retained = ap (λ (b : Broker). b.records.retained) same; subscribes = ap (λ (b : Broker). b.records.subscribes) same }) o1 in
-    let y = all_back limits choice client number largest window ids birth ns granted x2.ups h2 was x2.sees o2 (x2.answering may.asking) in
+    orderly_on limits ids granted sent was (subst (IsTidy limits) (sym unread) o1.tidy) (record { retained = ap (λ (b : Broker). b.records.retained) unread; subscribes = ap (λ (b : Broker). b.records.subscribes) unread }) o1 in
+    let first = reached number largest window ids birth ns h r w.broker x0.at in
+    let read : h2.copies ≡ h1.copies = ends_copies largest (length h1.down) h1 in
+    let passed : (n : ℕ) → Passes largest (now ∷ []) (slice_get copies n) (slice_get h2.copies n) =
+    λ n. subst (λ (ls : List Lot). Passes largest (now ∷ []) (slice_get copies n) (slice_get ls n)) (sym read) (pump_passes largest window now n h first) in
+    let y = all_back limits choice client number largest window ids birth ns granted now copies x2.ups h2 was x2.sees o2 (x2.answering may.asking) passed in
     let last : ups_by (receiver_named client was) ≡ length x2.ups = ap ups_by x2.sees.named ∙ ap length x2.sees.up in
-    let z : DrainsWith largest window ids birth ns client (suc granted) (length (queue_of h2.copies)) (run limits (all_to_broker choice client was) was) =
-    subst (λ (j : ℕ). DrainsWith largest window ids birth ns client (suc granted) (length (queue_of h2.copies)) (run limits (times j (turn_of choice (ask (to_broker client)))) was)) (sym last) y in
+    let z : DrainsBehind largest window ids birth ns client (suc granted) (length (queue_of h2.copies)) now copies (run limits (all_to_broker choice client was) was) =
+    subst (λ (j : ℕ). DrainsBehind largest window ids birth ns client (suc granted) (length (queue_of h2.copies)) now copies (run limits (times j (turn_of choice (ask (to_broker client)))) was)) (sym last) y in
     let split : after_round limits choice client w ≡ run limits (all_to_broker choice client was) was = run_append limits ends (all_to_broker choice client was) sent in
     let stood = holds limits choice client number largest window ids birth ns ups h w x0 in
-    let read : length (queue_of h2.copies) ≡ length (queue_of h1.copies) = ap (λ (ls : List Lot). length (queue_of ls)) (ends_copies largest (length h1.down) h1) in
-    let fewer = pump_fewer largest window (moment_of w) h (reached number largest window ids birth ns h r w.broker x0.at) in
-    let less = z.few in
-    let first = stood.left in
-    let second = stood.many in
-    let few : copies_left client (run limits (all_to_broker choice client was) was) ≤ copies_left client w + length z.more = omega (arith, read, fewer, less, first, second) in
-    subst (DrainsWith largest window ids birth ns client (suc granted) (copies_left client w)) (sym split)
-    (record { more = z.more; new = z.new; differ = z.differ; receiver = z.receiver; may = z.may; few = few })
+    let read_many : length (queue_of h2.copies) ≡ length (queue_of h1.copies) = ap (λ (ls : List Lot). length (queue_of ls)) read in
+    let fewer = pump_fewer largest window now h first in
+    let d = z.drains in
+    let less = d.few in
+    let left = stood.left in
+    let many = stood.many in
+    let few : copies_left client (run limits (all_to_broker choice client was) was) ≤ copies_left client w + length d.more = omega (arith, read_many, fewer, less, left, many) in
+    subst (DrainsBehind largest window ids birth ns client (suc granted) (copies_left client w) now copies) (sym split)
+    (record {
+      drains = record { more = d.more; new = d.new; differ = d.differ; receiver = d.receiver; may = d.may; few = few };
+      numbering = z.numbering;
+      after = z.after;
+      same = z.same;
+      run_is = z.run_is;
+      ends = z.ends;
+    })
+
+pub first_round : (largest window : ℕ) (ids : List CopyId) (birth : ℕ) (ns : List ℕ) (limits : Limits) (choice : MemberChoice) (client : List ℕ) (r : Receiver) (w : World) → MayAsk limits largest window ids birth ns client r w
+    → DrainsWith largest window ids birth ns client (suc w.broker.records.subscribes) (copies_left client w) (after_round limits choice client w)
+first_round largest window ids birth ns limits choice client r w may =
+    let k = may.connected.in_step.runs (place_of ids) (places_number ids may.told.differ) in
+    (first_round_of (place_of ids) largest window ids birth ns limits choice client k.after r w may k.same k.run_is).drains
 
 -- ---- the laws
 

@@ -7,7 +7,7 @@ ghost use Rattle.mqtt_handed_laws.specs.Handing.{IsRun};
 ghost use Rattle.mqtt_handed_laws.specs.Rounds as rounds;
 ghost use Rattle.mqtt_handed_laws.specs.Seen.{Numbering, seen};
 ghost use Rattle.mqtt_handed_laws.specs.Tags.{id_of};
-ghost use Rattle.mqtt_handed_laws.specs.WorldRounds.{ComesTo, DrainsWith, IsDrained, MayAsk, MayDrain, moment_of};
+ghost use Rattle.mqtt_handed_laws.specs.WorldRounds.{ComesTo, DrainsBehind, DrainsWith, IsDrained, MayAsk, MayDrain, moment_of};
 ghost use Rattle.mqtt_laws.specs.Ends.{Receiver};
 ghost use Rattle.mqtt_laws.specs.World.{World};
 ghost use Rattle.mqtt_rows.specs.Distinct.{AllDiffer};
@@ -79,6 +79,14 @@ pub fn a_drain_with_a_subscribe_ends()
         → MayAsk limits largest window ids birth ns client r w
         → enough_rounds (copies_left client (after_round limits choice client w)) ≤ most
         → is_over client (drained limits choice client most w) ≡ true }
+
+    // A copy that ended in that round was taken, had expired at the moment already, is too large, or was dropped, where what the
+    // filter brings makes the oldest that wait give way in a full queue.
+    ensures causes { (number : Numbering) (largest window : ℕ) (ids : List CopyId) (birth : ℕ) (ns : List ℕ)
+        → (limits : Limits) (choice : MemberChoice) (client : List ℕ) (copies : List Lot) (r : Receiver) (w : World)
+        → MayAsk limits largest window ids birth ns client r w → map id_of copies ≡ ids → IsRun number largest copies r w.broker
+        → DrainsBehind largest window ids birth ns client (suc w.broker.records.subscribes) (copies_left client w)
+        (moment_of w) copies (after_round limits choice client w) }
 
     // So many rounds are enough for the copies that stand at the start and those that the filter brings.
     ensures is_enough { (largest window : ℕ) (ids : List CopyId) (birth : ℕ) (ns : List ℕ) (limits : Limits)
