@@ -7,10 +7,14 @@ use mqtt_records::Keep;
 
 impl<K: Keep> Engine<K> {
     /// Whether a line is linked. Takes no memory.
+    #[tactic(auto, using(crate::proofs::Holders::row_of))]
     pub fn is_linked(&self, line: u64) -> bool
         ensures { result ≡ is_some (line_at line self.now.broker) }
     {
-        self.step.line(line).is_some()
+        match self.step.line(line) {
+            Some(_) => true,
+            None => false,
+        }
     }
 
     /// How many copies wait for the session of a client identifier, or are in flight to it; None where no session has
