@@ -2,11 +2,13 @@
 use Rattle.std.proofs.Common.{◌≡◌, ℕ, ◌≤◌, ◌⊎◌, true, false, List, [], ◌∷◌, ◌++◌, map, Some, nat_lt, refl, sym, ap, subst, ◌∙◌, arith}
 use Rattle.std.specs.Prelude.{All}
 use Rattle.std.proofs.lemmas.Bool.{ltb-true}
+use Rattle.std.proofs.lemmas.List.Elements.{All-from_recursion, recursion_from_All}
 use Rattle.mqtt_base.specs.declared.session.CopyId.{CopyId}
 use Rattle.mqtt_laws.specs.Ends.{Receiver}
 use Rattle.mqtt_laws.specs.Laws.{copies_in, handed_count, released_in, stand_among}
 use Rattle.mqtt_laws.specs.Run.{Turn, are_clean_starts_carried, carries_clean, read_at, run, setting, turned}
 use Rattle.mqtt_laws.specs.World.{World, receiver_named}
+use Rattle.mqtt_rules.proofs.FlightRows.{all_more}
 use Rattle.mqtt_rules.specs.Laws.{AreWithin}
 use Rattle.mqtt_rules.specs.State.{MemberChoice, session_named}
 use Rattle.mqtt_rules.specs.declared.Limits.{Limits}
@@ -24,6 +26,7 @@ use Rattle.mqtt_every_run_laws.specs.Untouched.{IsUntouched}
 use Rattle.mqtt_every_run_laws.proofs.Drains.{MayBeDrained, TakesSome, ends_over, ends_within, none_after, over_or_drains, round_carried}
 use Rattle.mqtt_every_run_laws.proofs.Growing.{begin_same}
 use Rattle.mqtt_every_run_laws.proofs.HandedOver.{handed_over}
+use Rattle.mqtt_every_run_laws.proofs.Ledgers.{handed_for_good}
 use Rattle.mqtt_every_run_laws.proofs.QueueOrder.{handed_in_queue_order}
 use Rattle.mqtt_every_run_laws.proofs.Runs.{IsKept, run_kept}
 use Rattle.mqtt_every_run_laws.proofs.Standings.{handed_in_order, new_stands, runs_so}
@@ -88,6 +91,22 @@ run_in_order limits xs ys w u fair c q r e f =
     handed_in_queue_order x.after t.grown.0 (session_named q.client v.broker.records) v.broker r x.run_is.queue_is
     (subst (λ (ids : List CopyId). AllDiffer ids) all placed.told.differ)
     (subst (λ (ids : List CopyId). stand_among (copies_in r.ledger) ids ≡ true) all (handed_in_order c any_size limits t.ids t.ns r last t.standing found))
+
+-- ---- for good
+
+pub run_for_good : (limits : Limits) (xs ys : List Turn) (w : World) → IsUntouched limits w → IsFair limits (xs ++ ys) w → (c : List ℕ) (q r : Receiver) → receiver_named c (run limits xs w) ≡ Some q → receiver_named c (run limits (xs ++ ys) w) ≡ Some r
+    → All (λ (copy : CopyId). handed_count copy r ≡ 1) (released_in (session_named q.client (run limits xs w).broker.records))
+run_for_good limits xs ys w u fair c q r e f =
+    let costs = spent_append limits xs ys w fair.unspent in
+    let clean = carried_append limits xs ys w fair.carried in
+    let v = run limits xs w in
+    let found : receiver_named c (run limits ys v) ≡ Some r = sym (ap (receiver_named c) (run_append limits xs ys w)) ∙ f in
+    let copies = released_in (session_named q.client v.broker.records) in
+    let then_ = run_hands_released limits xs w u (record { within = fair.within; unspent = costs.0; carried = clean.0 }) c q e in
+    let once = run_hands_once limits (xs ++ ys) w u fair c r f in
+    All-from_recursion (λ (copy : CopyId). handed_count copy r ≡ 1) copies
+    (all_more (λ (copy : CopyId). handed_count copy q ≡ 1) (λ (copy : CopyId). handed_count copy r ≡ 1) copies (λ copy one. handed_for_good c limits ys v q r copy e found one (once copy))
+    (recursion_from_All (λ (copy : CopyId). handed_count copy q ≡ 1) copies then_))
 
 -- ---- a drain
 

@@ -34,3 +34,4 @@ pub mod EveryRun
 pub mod OwnConnects
 pub mod Scripts
 pub mod QueueOrder
+pub mod Ledgers

@@ -1,8 +1,9 @@
 -- What holds of every run of the world, all of it, and of the drains of a script (MQTT 5.0, 3.3.4, 4.3, 4.4, 4.6, 4.8, 4.9).
-use Rattle.std.specs.Prelude.{◌≡◌, ◌≤◌, ℕ, ⊤, true, List, [], ◌∷◌, ◌++◌, Some}
+use Rattle.std.specs.Prelude.{◌≡◌, ◌≤◌, All, ℕ, ⊤, true, List, [], ◌∷◌, ◌++◌, Some}
 use Rattle.mqtt_base.specs.declared.session.CopyId.{CopyId}
 use Rattle.mqtt_handed_laws.specs.Drains.{Doing, after_round, copies_left, drained, drains, enough_rounds, happens, is_over, rounds_taken, turns_of}
 use Rattle.mqtt_laws.specs.Ends.{Receiver}
+use Rattle.mqtt_laws.specs.Laws.{handed_count, released_in}
 use Rattle.mqtt_laws.specs.Run.{Turn, run}
 use Rattle.mqtt_laws.specs.World.{World, receiver_named}
 use Rattle.mqtt_rules.specs.Laws.{FewOpen}
@@ -34,6 +35,10 @@ pub record DeliversOnce (limits : Limits) (ts : List Turn) (w : World) : Type 0 
   pub handed : (client : List ℕ) (r : Receiver) → receiver_named client (run limits ts w) ≡ Some r
       → WasHandedOver r (run limits ts w).broker
   -- from any moment of the run, at which the receiver was q, to its end
+  pub for_good : (xs ys : List Turn) → xs ++ ys ≡ ts → (client : List ℕ) (q r : Receiver)
+      → receiver_named client (run limits xs w) ≡ Some q → receiver_named client (run limits ts w) ≡ Some r
+      → All (λ (copy : CopyId). handed_count copy r ≡ 1)
+      (released_in (session_named q.client (run limits xs w).broker.records))
   pub in_order : (xs ys : List Turn) → xs ++ ys ≡ ts → (client : List ℕ) (q r : Receiver)
       → receiver_named client (run limits xs w) ≡ Some q → receiver_named client (run limits ts w) ≡ Some r
       → AreHandedInOrder (queued_by (session_named q.client (run limits xs w).broker.records)) r

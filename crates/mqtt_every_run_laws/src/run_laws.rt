@@ -19,7 +19,7 @@ ghost use Rattle.mqtt_world_laws.specs.Spending.{run_spends};
 
 /// Whatever happens, with any number of publishers, receivers and strangers, lines lost and given up, restarts, and stops
 /// before or after a commit: each copy of QoS 2 was handed over to its receiver at most once, and exactly once from when the
-/// broker took its PUBREC, also when it has ended; of the copies that stand in its queue at any moment of the run, those that
+/// broker took its PUBREC, for good, whatever becomes of its session; of the copies that stand in its queue at any moment of the run, those that
 /// it was handed by any later one stand in its ledger in the order of the queue; a copy of QoS 1 that was taken was read; and
 /// what was read is what its copy carries (4.3.2, 4.3.3, 4.4, 4.6).
 pub fn every_run_hands_over_once()
@@ -30,6 +30,11 @@ pub fn every_run_hands_over_once()
         → (client : List ℕ) (r : Receiver) → receiver_named client (run limits ts w) ≡ Some r
         → All (λ (copy : CopyId). handed_count copy r ≡ 1)
         (released_in (session_named r.client (run limits ts w).broker.records)) }
+    ensures for_good { (limits : Limits) (xs ys : List Turn) (w : World) → IsUntouched limits w
+        → IsFair limits (xs ++ ys) w → (client : List ℕ) (q r : Receiver)
+        → receiver_named client (run limits xs w) ≡ Some q → receiver_named client (run limits (xs ++ ys) w) ≡ Some r
+        → All (λ (copy : CopyId). handed_count copy r ≡ 1)
+        (released_in (session_named q.client (run limits xs w).broker.records)) }
     ensures in_order { (limits : Limits) (xs ys : List Turn) (w : World) → IsUntouched limits w
         → IsFair limits (xs ++ ys) w → (client : List ℕ) (q r : Receiver)
         → receiver_named client (run limits xs w) ≡ Some q → receiver_named client (run limits (xs ++ ys) w) ≡ Some r
