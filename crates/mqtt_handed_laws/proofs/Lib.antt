@@ -56,5 +56,6 @@ pub mod WorldRoundReads
 pub mod WorldRoundWishes
 pub mod Renumbering
 pub mod WorldRounds
+pub mod Greetings
 pub mod WorldRoundConnects
 pub mod DrainExamples

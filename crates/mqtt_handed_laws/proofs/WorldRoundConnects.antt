@@ -3,45 +3,32 @@
 use Rattle.std.proofs.Common.{◌≡◌, ℕ, zero, suc, ◌≤◌, Bool, true, false, not, ◌||◌, List, [], ◌∷◌, ◌++◌, drop, length, map, Option, Some, None, slice_get, option_map, bytes_eq, refl, sym, ap, subst, ◌∙◌, append-nil}
 use Rattle.std.specs.List.{AllByRecursion}
 use Rattle.std.proofs.lemmas.Option.{slice_get-map}
-use Rattle.mqtt_base.specs.Codes.{success}
 use Rattle.mqtt_base.specs.declared.session.CopyId.{CopyId}
-use Rattle.mqtt_flow.specs.Outbound.{resumed_with}
 use Rattle.mqtt_flow.specs.OutboundWorld.{Lot, cut, past, queue_of, renewed, standing}
 use Rattle.mqtt_flow.specs.Receiver.{connect}
 use Rattle.mqtt_laws.specs.Ends.{Back, Receiver, answers, wire_back}
-use Rattle.mqtt_laws.specs.Hops.{IsKept, IsOurs}
+use Rattle.mqtt_laws.specs.Hops.{IsOurs}
 use Rattle.mqtt_laws.specs.Lines.{Down, is_one_of, sent_to, unless_closed}
 use Rattle.mqtt_laws.specs.Run.{Turn, run}
 use Rattle.mqtt_laws.specs.Seen.{is_linked}
 use Rattle.mqtt_laws.specs.World.{Setting, World, ask, calls, publisher_named, pump, receiver_named, receiver_told, taken_up, to_broker, to_end}
 use Rattle.mqtt_laws.specs.Ends.{Publisher}
-use Rattle.mqtt_laws.proofs.CleanConnects.{ended_by}
-use Rattle.mqtt_laws.proofs.Connects.{greeted_line, heard_line_of, heard_on_line, left_by, left_leaves, taken_birth, taken_from}
 use Rattle.mqtt_laws.proofs.Joins.{none_closed}
 use Rattle.mqtt_laws.proofs.Names.{named_is}
-use Rattle.mqtt_laws.proofs.OwnStep.{heard_of}
-use Rattle.mqtt_laws.proofs.Quiet.{session_on}
-use Rattle.mqtt_laws.proofs.Seeing.{done_lines, linked_is, linked_of}
+use Rattle.mqtt_laws.proofs.Seeing.{linked_is, linked_of}
 use Rattle.mqtt_records.specs.Session.{birth_of}
 use Rattle.mqtt_records.specs.declared.session.Session.{Session}
 use Rattle.mqtt_rows.specs.Distinct.{AllDiffer}
 use Rattle.mqtt_rules.proofs.FlightRows.{all_at}
 use Rattle.mqtt_rules.proofs.FlightStep.{step_keeps}
-use Rattle.mqtt_rules.proofs.Goods.{AreGood, after_append, good_flat}
-use Rattle.mqtt_rules.proofs.LineActs.{quiet_turn}
-use Rattle.mqtt_rules.proofs.LineRows.{IsQuiet, leaves, still_quiet}
 use Rattle.mqtt_rules.proofs.OrderedSteps.{step-ordered}
-use Rattle.mqtt_rules.specs.Closing.{never}
-use Rattle.mqtt_rules.specs.Connect.{begin, connack_properties, fresh_row, resume}
-use Rattle.mqtt_rules.specs.Deeds.{At, Begin, Deed, Greet, Hear, On, Resume, Send, after, after_all, rows_of_all, whose, with_line}
-use Rattle.mqtt_rules.specs.Outbound.{all_turn_deeds, turn_deeds}
-use Rattle.mqtt_rules.specs.Packets as packets_of
-use Rattle.mqtt_rules.specs.State.{Line as BrokerLine, Broker, MemberChoice, capped, line_at, line_of, queue_on, session_named}
+use Rattle.mqtt_rules.specs.Deeds.{Deed, with_line}
+use Rattle.mqtt_rules.specs.State.{Line as BrokerLine, Broker, MemberChoice, capped, line_at, session_named}
 use Rattle.mqtt_rules.specs.Step.{Call, Input, Pump, at_moment, deeds, deeds_of, done, env_of, on_pump, outcome_of, stepped, told}
 use Rattle.mqtt_rules.specs.declared.Limits.{Limits}
 use Rattle.mqtt_world_laws.proofs.Ends.{named_receiver}
 use Rattle.mqtt_world_laws.proofs.Steady.{steady_step}
-use Rattle.mqtt_handed_laws.specs.Calls.{IsRenewing, IsResuming}
+use Rattle.mqtt_handed_laws.specs.Calls.{IsResuming}
 use Rattle.mqtt_handed_laws.specs.Connecting.{DrainsFrom, IsJoining, MayRenew, MayResume, any_size}
 use Rattle.mqtt_handed_laws.specs.Drains.{after_round, all_to_broker, all_to_end, copies_by, copies_left, downs_by, drained, enough_rounds, is_none_left, is_over, line_stands, rounds_taken, times, turn_of, ups_by}
 use Rattle.mqtt_handed_laws.specs.Handing.{IsRun, after_answer, reads_answer}
@@ -53,89 +40,22 @@ use Rattle.mqtt_handed_laws.specs.Tags.{id_of}
 use Rattle.mqtt_handed_laws.specs.WorldRounds.{IsAnswer, IsConnected, IsDrained, moment_of}
 use Rattle.mqtt_handed_laws.proofs.Beginning.{cut_ids}
 use Rattle.mqtt_handed_laws.proofs.Entering.{long_is, long_renewed}
+use Rattle.mqtt_handed_laws.proofs.Greetings.{HasGreeted, greeted_on, renewed_line, resumed_line}
 use Rattle.mqtt_handed_laws.proofs.Numbers.{place_of, places_number}
 use Rattle.mqtt_handed_laws.proofs.OwnConnects.{renewal_in_step, resume_in_step}
-use Rattle.mqtt_handed_laws.proofs.Renewing.{renewal_is_run, renewed_clears}
-use Rattle.mqtt_handed_laws.proofs.Resuming.{call_is, connect_is, connect_is_run, greeting, renewed_ids}
-use Rattle.mqtt_handed_laws.proofs.WorldRoundLines.{greeted_way, moment_again, way_deeds, way_on}
+use Rattle.mqtt_handed_laws.proofs.Renewing.{renewal_is_run}
+use Rattle.mqtt_handed_laws.proofs.Resuming.{connect_is_run, renewed_ids}
+use Rattle.mqtt_handed_laws.proofs.WorldRoundLines.{moment_again, way_on}
 use Rattle.mqtt_handed_laws.proofs.WorldRoundSteps.{connected_there}
 use Rattle.mqtt_handed_laws.proofs.WorldRounds.{back_is, drain_is, drain_over_later, drain_within_later, left_of, more_rounds, none_changed, publisher_called_is, pump_is, receiver_called_is, receiver_changed, round_moment, taken_off}
 
 -- ---- the line after the CONNECT
 
--- its session is connected there, with this Receive Maximum and Maximum Packet Size
-pub record IsGreeted (n birth window largest : ℕ) (b : Broker) : Type 0 where
-  pub on : session_on n b.lines ≡ Some (Some birth)
-  pub way : way_on n b.lines ≡ Some (window, largest)
-
--- a deed that is about no line, the greeting, and deeds that connect and close nobody
-module _ (n birth window largest : ℕ) (d : Deed) (post : List Deed) (b : Broker) (same : (after d b).lines ≡ b.lines) (waits : session_on n b.lines ≡ Some None)
-    (quiet : AreGood IsQuiet post (after (On n (Greet birth 0 window largest)) (after d b))) where
-  abbrev greeted : Broker
-  greeted = after (On n (Greet birth 0 window largest)) (after d b)
-
-  is_greeted : IsGreeted n birth window largest (after_all (d ∷ On n (Greet birth 0 window largest) ∷ post) b)
-  is_greeted =
-      let there : session_on n (after d b).lines ≡ Some None = ap (session_on n) same ∙ waits in
-      record {
-        on = (leaves post greeted (still_quiet post greeted quiet)).lines n ∙ greeted_line (after d b).now n birth 0 window largest (after d b).lines there;
-        way = way_deeds n post greeted quiet ∙ greeted_way (after d b).now n birth 0 window largest (after d b).lines there;
-      }
-
--- by the lines alone
-greeted_lines : (n birth window largest : ℕ) (b d : Broker) → d.lines ≡ b.lines → IsGreeted n birth window largest b → IsGreeted n birth window largest d
-greeted_lines n birth window largest b d e g = record { on = ap (session_on n) e ∙ g.on; way = ap (way_on n) e ∙ g.way }
-
-pub resumed_line : (limits : Limits) (choice : MemberChoice) (now : ℕ) (r : Receiver) (l : BrokerLine) (s : Session) (b : Broker) → IsResuming r l s b
-    → IsGreeted l.number s.birth r.window any_size (after_answer limits choice now l.number (connect false) r b)
-resumed_line limits choice now r l s b a =
-    let n = l.number in
-    let first = at_moment now b in
-    let c = heard_of now n b in
-    let call = Input n (wire_back r.client r.window (answers (connect false))) in
-    let ds = deeds limits choice now call b in
-    let heard_line = heard_line_of s.birth n now b (line_of s.birth b) refl a.taken in
-    let o = heard_line.0 in
-    let x = taken_from o c.now s in
-    let kept : IsKept r.client s c = record { session = a.kept.session; name = a.kept.name; only = a.kept.only; no_will = a.kept.no_will; no_end = a.kept.no_end; short = a.kept.short; plain = a.kept.plain } in
-    let front = left_by o s c.now in
-    let back = resume l (greeting false r.client r.window) c.now x in
-    let is : ds ≡ On n Hear ∷ (front ++ back) =
-    call_is limits choice now false r.client r.window l b a.line a.waits
-    ∙ (ap (λ (zs : List Deed). On n Hear ∷ (zs ++ [])) (connect_is o (env_of limits choice b) l r.client r.window s c heard_line.1 heard_line.2 kept)
-    ∙ ap (λ (zs : List Deed). On n Hear ∷ zs) (append-nil (front ++ back))) in
-    let left = after_all front c in
-    let end : after_all ds first ≡ after_all back left = ap (λ (zs : List Deed). after_all zs first) is ∙ after_append front back c in
-    let on : session_on n c.lines ≡ Some None = heard_on_line n first.now b.lines None (ap (option_map (λ (y : BrokerLine). y.session)) a.line ∙ ap Some a.waits) in
-    let waits : session_on n left.lines ≡ Some None = (left_leaves o s n c (Some None) heard_line.2 a.kept.session on).line_is in
-    let resumes = At (whose x) (Resume never None) in
-    let greeted = after (On n (Greet x.birth 0 r.window any_size)) (after resumes left) in
-    let post : List Deed = Send n (packets_of.connack true success (connack_properties false [])) ∷ all_turn_deeds c.now n x (resumed_with (queue_on [] x)) in
-    let quiet : AreGood IsQuiet post greeted = (tt, good_flat IsQuiet (turn_deeds c.now n x) (quiet_turn c.now n x) (resumed_with (queue_on [] x)) greeted) in
-    let g = is_greeted n x.birth r.window any_size resumes post left refl waits quiet in
-    subst (λ (k : ℕ). IsGreeted n k r.window any_size (after_answer limits choice now n (connect false) r b)) (taken_birth o c.now s)
-    (greeted_lines n x.birth r.window any_size (after_all back left) (after_answer limits choice now n (connect false) r b) (done_lines (rows_of_all ds first.records) (after_all ds first) ∙ ap (λ (z : Broker). z.lines) end) g)
-
-pub renewed_line : (limits : Limits) (choice : MemberChoice) (now : ℕ) (r : Receiver) (l : BrokerLine) (s : Session) (b : Broker) → IsRenewing limits r l s b
-    → IsGreeted l.number (suc b.records.births) r.window any_size (after_answer limits choice now l.number (connect true) r b)
-renewed_line limits choice now r l s b a =
-    let n = l.number in
-    let first = at_moment now b in
-    let c = heard_of now n b in
-    let call = Input n (wire_back r.client r.window (answers (connect true))) in
-    let ds = deeds limits choice now call b in
-    let x = renewed_clears limits choice now r l s b a in
-    let front = ended_by x.its s c.now in
-    let d = after_all front c in
-    let birth = suc d.records.births in
-    let back = begin l (greeting true r.client r.window) false r.client birth in
-    let end : after_all ds first ≡ after_all back d = ap (λ (zs : List Deed). after_all zs first) x.clears.deeds_are ∙ after_append front back c in
-    let row = fresh_row birth r.client (greeting true r.client r.window) in
-    let post : List Deed = Send n (packets_of.connack false success (connack_properties false r.client)) ∷ [] in
-    let quiet : AreGood IsQuiet post (after (On n (Greet birth 0 r.window any_size)) (after (Begin row None) d)) = (tt, tt) in
-    let g = is_greeted n birth r.window any_size (Begin row None) post d refl x.clears.waits quiet in
-    subst (λ (k : ℕ). IsGreeted n (suc k) r.window any_size (after_answer limits choice now n (connect true) r b)) x.births_are
-    (greeted_lines n birth r.window any_size (after_all back d) (after_answer limits choice now n (connect true) r b) (done_lines (rows_of_all ds first.records) (after_all ds first) ∙ ap (λ (z : Broker). z.lines) end) g)
+greeted_goes : (n birth window : ℕ) (b : Broker) → HasGreeted n birth window b → way_on n b.lines ≡ Some (window, any_size)
+greeted_goes n birth window b g =
+    let window_is = g.greeted.window_is in
+    let largest_is = g.greeted.largest_is in
+    ap (option_map (λ (l : BrokerLine). (l.window, l.largest))) g.at ∙ (λ i. Some (window_is i, largest_is i))
 
 -- ---- a pump of a line that waits
 
@@ -243,15 +163,15 @@ module _ (limits : Limits) (choice : MemberChoice) (clean : Bool) (client : List
   -- where the receiver is after the CONNECT
   joined_round : (number : Numbering) (ids : List CopyId) (birth : ℕ) (ns : List ℕ) (copies : List Lot)
       → IsInStep any_size ids birth ns (reads_answer limits choice w.now l.number (connect clean) r w.broker) (after_answer limits choice w.now l.number (connect clean) r w.broker)
-      → IsGreeted l.number birth r.window any_size (after_answer limits choice w.now l.number (connect clean) r w.broker)
+      → HasGreeted l.number birth r.window (after_answer limits choice w.now l.number (connect clean) r w.broker)
       → IsRun number any_size copies (reads_answer limits choice w.now l.number (connect clean) r w.broker) (after_answer limits choice w.now l.number (connect clean) r w.broker)
       → DrainsFrom number r.window ids birth ns client copies (after_round limits choice client w)
   joined_round number ids birth ns copies k g run_is =
       let d = after_answer limits choice w.now n (connect clean) r b in
       let p = reads_answer limits choice w.now n (connect clean) r b in
-      let linked : is_linked p.line.number d ≡ true = ap (λ (o : Option ℕ). is_linked o d) number_is ∙ (linked_is n d ∙ ap linked_of g.on) in
+      let linked : is_linked p.line.number d ≡ true = ap (λ (o : Option ℕ). is_linked o d) number_is ∙ (linked_is n d ∙ ap linked_of (greeted_on n birth r.window d g)) in
       let c : IsConnected any_size r.window ids birth ns p d =
-      connected_there number any_size r.window ids birth ns ids n p d k number_is j.apart linked g.way (steady_step limits choice w.now call b j.within j.steady j.unspent).lines
+      connected_there number any_size r.window ids birth ns ids n p d k number_is j.apart linked (greeted_goes n birth r.window d g) (steady_step limits choice w.now call b j.within j.steady j.unspent).lines
       (step-ordered limits choice w.now call b j.ordered) (step_keeps limits choice w.now call b j.distinct) in
       let closed = is_one_of r.line.number (told limits choice w.now call b).closed in
       let z : DrainsFrom number r.window ids birth ns client copies came = record {
@@ -275,7 +195,7 @@ resumed_round number ids birth ns limits choice client copies r l s w m h =
     let b = w.broker in
     let its : s.birth ≡ birth = (all_at birth_of (IsOurs r.client birth) s.birth s b.records.sessions m.in_step.served.sessions a.kept.session).named a.kept.name in
     joined_round limits choice false client r l w j a.number a.line a.waits number ids birth ns (map renewed copies) (resume_in_step any_size ids birth ns limits choice w.now [] r l s b m.in_step a j.up)
-    (subst (λ (k : ℕ). IsGreeted l.number k r.window any_size (after_answer limits choice w.now l.number (connect false) r b)) its (resumed_line limits choice w.now r l s b a))
+    (subst (λ (k : ℕ). HasGreeted l.number k r.window (after_answer limits choice w.now l.number (connect false) r b)) its (resumed_line limits choice w.now r l s b a))
     (connect_is_run number any_size copies limits choice w.now [] r l s b h a j.up)
 
 pub renewed_round : (number : Numbering) (ids : List CopyId) (birth : ℕ) (ns : List ℕ) (limits : Limits) (choice : MemberChoice) (client : List ℕ) (copies : List Lot) (r : Receiver) (l : BrokerLine) (s : Session) (w : World)

@@ -17,7 +17,6 @@ use Rattle.mqtt_records.specs.declared.session.Session.{Session}
 use Rattle.mqtt_rows.specs.Order.{row_at}
 use Rattle.mqtt_rules.proofs.Copies.{each_append}
 use Rattle.mqtt_rules.specs.Outbound.{all_turn_deeds, of_entry, turn_deeds}
-use Rattle.mqtt_laws.proofs.Quiet.{session_on}
 use Rattle.mqtt_laws.proofs.Seeing.{done_lines}
 use Rattle.mqtt_records.specs.declared.change.Change.{Change}
 use Rattle.mqtt_rules.proofs.Goods.{AreGood}
@@ -59,14 +58,6 @@ way_marked now n m part (l ∷ ls) q = elim (cases_Bool (nat_eq l.number m)) [
   | inr further ↦ rw further (way_first n l l ls (on_line now m part ls) refl refl refl (way_marked now n m part ls q))
 ]
 
--- a line that is greeted has those of the CONNECT
-pub greeted_way : (now n birth keep_alive window largest : ℕ) (ls : List BrokerLine) → session_on n ls ≡ Some None → way_on n (on_line now n (Greet birth keep_alive window largest) ls) ≡ Some (window, largest)
-greeted_way now n birth keep_alive window largest [] h = absurd cc
-greeted_way now n birth keep_alive window largest (l ∷ ls) h = elim (cases_Bool (nat_eq l.number n)) [
-  | inl here ↦ rw (here, here) refl
-  | inr further ↦ rw (further, further) (greeted_way now n birth keep_alive window largest ls (rw further at h))
-]
-
 way_without : (n birth place : ℕ) (ls : List BrokerLine) → way_on n (map (without_place birth place) ls) ≡ way_on n ls
 way_without n birth place [] = refl
 way_without n birth place (l ∷ ls) =
@@ -98,7 +89,7 @@ way_deed n (At who part) b q = way_part n who.birth part b.lines
 way_deed n (On m part) b q = way_marked b.now n m part b.lines q
 way_deed n d b q = refl
 
-pub way_deeds : (n : ℕ) (ds : List Deed) (b : Broker) → AreGood IsQuiet ds b → way_on n (after_all ds b).lines ≡ way_on n b.lines
+way_deeds : (n : ℕ) (ds : List Deed) (b : Broker) → AreGood IsQuiet ds b → way_on n (after_all ds b).lines ≡ way_on n b.lines
 way_deeds n [] b q = refl
 way_deeds n (d ∷ ds) b q = way_deeds n ds (after d b) q.1 ∙ way_deed n d b q.0
 
