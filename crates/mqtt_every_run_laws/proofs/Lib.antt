@@ -35,3 +35,5 @@ pub mod OwnConnects
 pub mod Scripts
 pub mod QueueOrder
 pub mod Ledgers
+pub mod QueueGrowth
+pub mod DrainBounds

@@ -3,6 +3,7 @@
 
 mod broker_laws;
 mod connect_laws;
+mod drain_laws;
 mod receiver_laws;
 mod run_laws;
 mod script_laws;
@@ -12,6 +13,7 @@ mod wish_laws;
 
 pub use broker_laws::{a_line_without_session_has_sent_nothing, identifiers_in_flight_stay_unique};
 pub use connect_laws::a_connect_leaves_a_receiver_standing;
+pub use drain_laws::a_drain_takes_its_copies;
 pub use receiver_laws::{
     a_receiver_that_stands_was_handed_its_copies_once, every_receiver_stands_in_a_new_world,
 };
