@@ -65,7 +65,7 @@ use Rattle.mqtt_handed_laws.proofs.Turns.{ids_after, left_lots, same_entries}
 
 -- ---- room, and who makes way: whether a PUBLISH went out on a line is not looked at
 
-long_renewed : (lots : List Lot) → length (queue_of (map renewed lots)) ≡ length (queue_of lots)
+pub long_renewed : (lots : List Lot) → length (queue_of (map renewed lots)) ≡ length (queue_of lots)
 long_renewed [] = refl
 long_renewed (standing e m ∷ ls) = ap suc (long_renewed ls)
 long_renewed (past ending e m ∷ ls) = long_renewed ls
@@ -154,7 +154,7 @@ next_is lots queue o h =
     let same : greatest_place (queue_of lots) ≡ greatest (map copy_place queue) = sym (greatest_renewed lots) ∙ (ap greatest_place rows ∙ greatest_rows queue) in
     ap (λ (n : ℕ). n + 1) same ∙ omega arith
 
-long_is : (lots : List Lot) (queue : List CopyRow) (o : Option (List ℕ)) → StandOn lots queue o → length queue ≡ length (queue_of lots)
+pub long_is : (lots : List Lot) (queue : List CopyRow) (o : Option (List ℕ)) → StandOn lots queue o → length queue ≡ length (queue_of lots)
 long_is lots queue o h =
     let rows : queue_of (map renewed lots) ≡ map (entry_on []) queue = same_entries (map renewed lots) [] queue (renewed_standing lots queue o h) in
     sym (length-mapped (entry_on []) queue) ∙ (ap length (sym rows) ∙ long_renewed lots)

@@ -17,11 +17,11 @@ use Rattle.mqtt_laws.specs.World.{Setting, World, ask, calls, publisher_named, p
 use Rattle.mqtt_laws.specs.Ends.{Publisher}
 use Rattle.mqtt_laws.proofs.CleanConnects.{ended_by}
 use Rattle.mqtt_laws.proofs.Connects.{greeted_line, heard_line_of, heard_on_line, left_by, left_leaves, taken_birth, taken_from}
+use Rattle.mqtt_laws.proofs.Joins.{none_closed}
 use Rattle.mqtt_laws.proofs.Names.{named_is}
 use Rattle.mqtt_laws.proofs.OwnStep.{heard_of}
 use Rattle.mqtt_laws.proofs.Quiet.{session_on}
 use Rattle.mqtt_laws.proofs.Seeing.{done_lines, linked_is, linked_of}
-use Rattle.mqtt_message.specs.Queue.{CopyRow}
 use Rattle.mqtt_records.specs.Session.{birth_of}
 use Rattle.mqtt_records.specs.declared.session.Session.{Session}
 use Rattle.mqtt_rows.specs.Distinct.{AllDiffer}
@@ -47,17 +47,17 @@ use Rattle.mqtt_handed_laws.specs.Drains.{after_round, all_to_broker, all_to_end
 use Rattle.mqtt_handed_laws.specs.Handing.{IsRun, after_answer, reads_answer}
 use Rattle.mqtt_handed_laws.specs.Own.{IsInStep}
 use Rattle.mqtt_handed_laws.specs.Rounds.{EndsBy}
-use Rattle.mqtt_handed_laws.specs.Seen.{AreQueued, Numbering, StandOn, lot_on, seen, still_standing, went_in}
+use Rattle.mqtt_handed_laws.specs.Seen.{AreQueued, Numbering, seen, went_in}
 use Rattle.mqtt_handed_laws.specs.Served.{RunsWithAll}
 use Rattle.mqtt_handed_laws.specs.Tags.{id_of}
 use Rattle.mqtt_handed_laws.specs.WorldRounds.{IsAnswer, IsConnected, IsDrained, moment_of}
 use Rattle.mqtt_handed_laws.proofs.Beginning.{cut_ids}
 use Rattle.mqtt_handed_laws.proofs.DrainRuns.{run_append}
+use Rattle.mqtt_handed_laws.proofs.Entering.{long_is, long_renewed}
 use Rattle.mqtt_handed_laws.proofs.Numbers.{place_of, places_number}
 use Rattle.mqtt_handed_laws.proofs.OwnConnects.{renewal_in_step, resume_in_step}
 use Rattle.mqtt_handed_laws.proofs.Renewing.{renewal_is_run, renewed_clears}
 use Rattle.mqtt_handed_laws.proofs.Resuming.{call_is, connect_is, connect_is_run, greeting, renewed_ids}
-use Rattle.mqtt_handed_laws.proofs.RoundPhases.{length_map}
 use Rattle.mqtt_handed_laws.proofs.WorldRoundLines.{greeted_way, moment_again, way_deeds, way_on}
 use Rattle.mqtt_handed_laws.proofs.WorldRoundSteps.{connected_there}
 use Rattle.mqtt_handed_laws.proofs.WorldRounds.{back_is, drain_is, drain_over_later, drain_within_later, left_is, none_changed, publisher_called_is, pump_is, receiver_called_is, receiver_changed, round_moment, taken_off}
@@ -65,7 +65,7 @@ use Rattle.mqtt_handed_laws.proofs.WorldRounds.{back_is, drain_is, drain_over_la
 -- ---- the line after the CONNECT
 
 -- its session is connected there, with this Receive Maximum and Maximum Packet Size
-record IsGreeted (n birth window largest : ℕ) (b : Broker) : Type 0 where
+pub record IsGreeted (n birth window largest : ℕ) (b : Broker) : Type 0 where
   pub on : session_on n b.lines ≡ Some (Some birth)
   pub way : way_on n b.lines ≡ Some (window, largest)
 
@@ -87,7 +87,7 @@ module _ (n birth window largest : ℕ) (d : Deed) (post : List Deed) (b : Broke
 greeted_lines : (n birth window largest : ℕ) (b d : Broker) → d.lines ≡ b.lines → IsGreeted n birth window largest b → IsGreeted n birth window largest d
 greeted_lines n birth window largest b d e g = record { on = ap (session_on n) e ∙ g.on; way = ap (way_on n) e ∙ g.way }
 
-resumed_line : (limits : Limits) (choice : MemberChoice) (now : ℕ) (r : Receiver) (l : BrokerLine) (s : Session) (b : Broker) → IsResuming r l s b
+pub resumed_line : (limits : Limits) (choice : MemberChoice) (now : ℕ) (r : Receiver) (l : BrokerLine) (s : Session) (b : Broker) → IsResuming r l s b
     → IsGreeted l.number s.birth r.window any_size (after_answer limits choice now l.number (connect false) r b)
 resumed_line limits choice now r l s b a =
     let n = l.number in
@@ -117,7 +117,7 @@ resumed_line limits choice now r l s b a =
     subst (λ (k : ℕ). IsGreeted n k r.window any_size (after_answer limits choice now n (connect false) r b)) (taken_birth o c.now s)
     (greeted_lines n x.birth r.window any_size (after_all back left) (after_answer limits choice now n (connect false) r b) (done_lines (rows_of_all ds first.records) (after_all ds first) ∙ ap (λ (z : Broker). z.lines) end) g)
 
-renewed_line : (limits : Limits) (choice : MemberChoice) (now : ℕ) (r : Receiver) (l : BrokerLine) (s : Session) (b : Broker) → IsRenewing limits r l s b
+pub renewed_line : (limits : Limits) (choice : MemberChoice) (now : ℕ) (r : Receiver) (l : BrokerLine) (s : Session) (b : Broker) → IsRenewing limits r l s b
     → IsGreeted l.number (suc b.records.births) r.window any_size (after_answer limits choice now l.number (connect true) r b)
 renewed_line limits choice now r l s b a =
     let n = l.number in
@@ -144,10 +144,6 @@ pump_none : (limits : Limits) (choice : MemberChoice) (now : ℕ) (l : BrokerLin
 pump_none limits choice now l b line waits =
     ap (λ (o : Option BrokerLine). with_line o (λ (x : BrokerLine). on_pump x x.session) (at_moment now b)) line ∙ ap (λ (o : Option ℕ). on_pump l o (at_moment now b)) waits
 
-none_of : (o : Option ℕ) → is_one_of o [] ≡ false
-none_of None = refl
-none_of (Some n) = refl
-
 none_sent : (o : Option ℕ) (b : Broker) → sent_to o b [] ≡ []
 none_sent None b = refl
 none_sent (Some n) b = refl
@@ -155,8 +151,8 @@ none_sent (Some n) b = refl
 -- whoever is told nothing stays as it is
 untold_same : (call : Call) (b : Broker) (r : Receiver) → receiver_told b (outcome_of call []) r ≡ r
 untold_same call b r =
-    let closed = none_of r.line.number in
-    let old_closed = none_of r.line.old_number in
+    let closed = none_closed r.line.number in
+    let old_closed = none_closed r.line.old_number in
     let downs : r.line.down ++ sent_to r.line.number b [] ≡ r.line.down = ap (λ (ds : List Down). r.line.down ++ ds) (none_sent r.line.number b) ∙ append-nil r.line.down in
     λ i. record r { line = record r.line { up = unless_closed (closed i) r.line.up; down = downs i; old = unless_closed (old_closed i) r.line.old } }
 
@@ -296,20 +292,6 @@ renewed_round number ids birth ns limits choice client copies r l s w m h =
 
 -- ---- how many copies stand
 
-standing_length : (copies : List Lot) → length (still_standing copies) ≡ length (queue_of copies)
-standing_length [] = refl
-standing_length (standing e m ∷ ls) = ap suc (standing_length ls)
-standing_length (past x e m ∷ ls) = standing_length ls
-
-queue_length : (copies : List Lot) (queue : List CopyRow) (o : Option (List ℕ)) → StandOn copies queue o → length queue ≡ length (queue_of copies)
-queue_length copies queue None h = sym (length_map (lot_on []) queue) ∙ (ap length (sym h) ∙ (length_map renewed (still_standing copies) ∙ standing_length copies))
-queue_length copies queue (Some went) h = sym (length_map (lot_on went) queue) ∙ (ap length (sym h) ∙ standing_length copies)
-
-renewed_length : (copies : List Lot) → length (queue_of (map renewed copies)) ≡ length (queue_of copies)
-renewed_length [] = refl
-renewed_length (standing e m ∷ ls) = ap suc (renewed_length ls)
-renewed_length (past x e m ∷ ls) = renewed_length ls
-
 cut_length : (copies : List Lot) → length (queue_of (map cut copies)) ≡ 0
 cut_length [] = refl
 cut_length (standing e m ∷ ls) = cut_length ls
@@ -322,7 +304,7 @@ left_before number largest client copies r l s w named a h =
     let name : r.client ≡ client = named_receiver client r w named in
     let its : session_named r.client b.records ≡ Some s = named_is r.client s.birth b.records s a.kept.only a.kept.session a.kept.name in
     let found : session_named client b.records ≡ Some s = ap (λ (c : List ℕ). session_named c b.records) (sym name) ∙ its in
-    ap copies_by found ∙ queue_length copies s.queue (went_in s.birth b) (subst (λ (o : Option Session). AreQueued copies o b) its h.queue_is)
+    ap copies_by found ∙ long_is copies s.queue (went_in s.birth b) (subst (λ (o : Option Session). AreQueued copies o b) its h.queue_is)
 
 left_after : (number : Numbering) (window : ℕ) (ids : List CopyId) (birth : ℕ) (ns : List ℕ) (limits : Limits) (choice : MemberChoice) (client : List ℕ) (copies : List Lot) (w : World) → map id_of copies ≡ ids
     → DrainsFrom number window ids birth ns client copies w → copies_left client w ≡ length (queue_of copies)
@@ -343,7 +325,7 @@ module _ (ids : List CopyId) (birth : ℕ) (ns : List ℕ) (limits : Limits) (ch
   as_many : copies_left client (after_round limits choice client w) ≡ copies_left client w
   as_many =
       left_after (place_of ids) r.window ids birth ns limits choice client (map renewed x.after) (after_round limits choice client w) (renewed_ids x.after ∙ x.same) after_it
-      ∙ (renewed_length x.after ∙ sym (left_before (place_of ids) any_size client x.after r l s w m.joining.named m.resuming x.run_is))
+      ∙ (long_renewed x.after ∙ sym (left_before (place_of ids) any_size client x.after r l s w m.joining.named m.resuming x.run_is))
 
   resumed_within : (most : ℕ) → 1 ≤ r.window → rounds_taken limits choice client most w ≤ enough_rounds (copies_left client w)
   resumed_within most room =
