@@ -1,18 +1,16 @@
 -- The broker reads a receiver's answer on the line that it gave up, where its session is connected still (MQTT 5.0, 4.3.2,
 -- 4.3.3, 4.4, 4.13).
-use Rattle.std.proofs.Common.{◌≡◌, ℕ, false, List, [], ◌∷◌, map, Some, refl, subst, inl, inr}
+use Rattle.std.proofs.Common.{◌≡◌, ℕ, false, List, [], ◌∷◌, map, Some, subst, inl, inr}
 use Rattle.std.specs.List.{AllByRecursion}
 use Rattle.mqtt_base.specs.declared.session.CopyId.{CopyId}
-use Rattle.mqtt_flow.specs.Outbound as rules
 use Rattle.mqtt_flow.specs.Receiver.{Answer, HasNoConnect, connect, puback, pubcomp, pubrec}
 use Rattle.mqtt_laws.specs.Ends.{Back, Receiver, answers, wire_back}
-use Rattle.mqtt_laws.specs.Hops.{Own}
 use Rattle.mqtt_laws.specs.Hops.{IsNoConnect}
 use Rattle.mqtt_laws.specs.Run.{read_first}
 use Rattle.mqtt_laws.specs.World.{Setting, World, asks, receiver_named, old_to_broker}
 use Rattle.mqtt_records.specs.declared.session.Session.{Session}
 use Rattle.mqtt_rules.proofs.NumberSteps.{step_fell}
-use Rattle.mqtt_rules.specs.State.{Line as BrokerLine, Broker, MemberChoice, queue_on}
+use Rattle.mqtt_rules.specs.State.{Line as BrokerLine, Broker, MemberChoice}
 use Rattle.mqtt_rules.specs.Step.{Input}
 use Rattle.mqtt_rules.specs.declared.Limits.{Limits}
 use Rattle.mqtt_world_laws.specs.Fair.{IsSteady}
@@ -27,7 +25,7 @@ use Rattle.mqtt_every_run_laws.proofs.Fronts.{IsJoined, front_there, no_connect}
 use Rattle.mqtt_every_run_laws.proofs.Heard.{hears_there, placed_after_there}
 use Rattle.mqtt_every_run_laws.proofs.Outside.{goes_as}
 use Rattle.mqtt_every_run_laws.proofs.Reading.{first_read_there}
-use Rattle.mqtt_every_run_laws.proofs.Replies.{answer_owns}
+use Rattle.mqtt_every_run_laws.proofs.Replies.{read_owns}
 
 -- ---- the receiver after it
 
@@ -39,12 +37,6 @@ module _ (largest : ℕ) (ids : List CopyId) (ns : List ℕ) (limits : Limits) (
   read_step (pubrec i code) birth k none up = old_pubrec_in_step largest ids birth ns limits choice now i code rest r l s b k a up
   read_step (pubcomp i code) birth k none up = old_pubcomp_in_step largest ids birth ns limits choice now i code rest r l s b k a up
 
-  read_owns : (x : Answer) (birth n : ℕ) → HasNoConnect (x ∷ []) → Own r.client birth n b → Own r.client birth n (after_answer limits choice now l.number x r b)
-  read_owns (connect clean) birth n none own = absurd none
-  read_owns (puback i code) birth n none own = answer_owns r.client birth n limits choice now (wire_back r.client r.window (answers (puback i code))) (rules.puback i code (queue_on l.went s)) (turned_back r) l s b a refl own
-  read_owns (pubrec i code) birth n none own = answer_owns r.client birth n limits choice now (wire_back r.client r.window (answers (pubrec i code))) (rules.pubrec i code (queue_on l.went s)) (turned_back r) l s b a refl own
-  read_owns (pubcomp i code) birth n none own = answer_owns r.client birth n limits choice now (wire_back r.client r.window (answers (pubcomp i code))) (rules.pubcomp i (queue_on l.went s)) (turned_back r) l s b a refl own
-
 read_placed : (largest : ℕ) (ids : List CopyId) (ns : List ℕ) (limits : Limits) (choice : MemberChoice) (now : ℕ) (x : Answer) (rest : List Back) (r : Receiver) (b : Broker) (placed : IsPlaced largest ids ns r b) → IsSteady limits b
     → IsJoined placed.birth placed.line r.line.old_number b → AllByRecursion IsNoConnect (map packet_like r.line.old) → HasNoConnect (x ∷ []) → r.line.old ≡ answers x ∷ rest
     → IsPlaced largest ids ns (reads_old_answer limits choice now placed.line x r b) (after_answer limits choice now placed.line x r b)
@@ -55,7 +47,7 @@ read_placed largest ids ns limits choice now x rest r b placed steady j calm non
     let a = h.listens.listening in
     let packet = wire_back r.client r.window (answers x) in
     let new = after_answer limits choice now l.number x r b in
-    let owns = read_owns largest ids ns limits choice now rest r l s b a x j.birth placed.line none h.owns in
+    let owns = read_owns largest ids ns limits choice now rest (turned_back r) l s b a x j.birth placed.line none h.owns in
     let told = apart_still ids b.records new.records placed.told (step_fell limits choice now (Input l.number packet) b) in
     subst (λ (m : ℕ). IsPlaced largest ids ns (reads_old_answer limits choice now m x r b) (after_answer limits choice now m x r b)) h.number
     (placed_after_there largest ids ns limits j.birth r b placed j.own j.there choice now l.number packet ids h.number owns told j.at calm

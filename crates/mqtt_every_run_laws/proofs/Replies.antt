@@ -87,7 +87,8 @@ module _ (largest : ℕ) (ids : List CopyId) (ns : List ℕ) (limits : Limits) (
   read_step (pubrec i code) birth k none up = pubrec_in_step largest ids birth ns limits choice now i code rest r l s b k a up
   read_step (pubcomp i code) birth k none up = pubcomp_in_step largest ids birth ns limits choice now i code rest r l s b k a up
 
-  read_owns : (x : Answer) (birth n : ℕ) → HasNoConnect (x ∷ []) → Own r.client birth n b → Own r.client birth n (after_answer limits choice now l.number x r b)
+  -- whichever of its lines the receiver has as its own
+  pub read_owns : (x : Answer) (birth n : ℕ) → HasNoConnect (x ∷ []) → Own r.client birth n b → Own r.client birth n (after_answer limits choice now l.number x r b)
   read_owns (connect clean) birth n none own = absurd none
   read_owns (puback i code) birth n none own = answer_owns r.client birth n limits choice now (wire_back r.client r.window (answers (puback i code))) (rules.puback i code (queue_on l.went s)) r l s b a refl own
   read_owns (pubrec i code) birth n none own = answer_owns r.client birth n limits choice now (wire_back r.client r.window (answers (pubrec i code))) (rules.pubrec i code (queue_on l.went s)) r l s b a refl own

@@ -1,7 +1,7 @@
 -- The broker reads a receiver's SUBSCRIBE, on its line or on the one that it gave up, where its session is connected (MQTT
 -- 5.0, 3.3.1.3, 3.8.4, 4.4).
-use Rattle.std.proofs.Common.{◌≡◌, ℕ, suc, ◌≤◌, Bool, true, false, cond, List, [], ◌∷◌, ◌++◌, filter, map, Option, Some, None, ap, subst, arith, inl, inr}
-use Rattle.std.specs.Prelude.{◌≢◌, flat_map, nat_le}
+use Rattle.std.proofs.Common.{◌≡◌, ℕ, ◌≤◌, Bool, true, false, cond, List, [], ◌∷◌, ◌++◌, filter, map, Option, Some, None, subst, inl, inr}
+use Rattle.std.specs.Prelude.{flat_map, nat_le}
 use Rattle.std.specs.List.{AllByRecursion}
 use Rattle.mqtt_base.specs.Codes.{identifier_in_use}
 use Rattle.mqtt_base.specs.declared.session.CopyId.{CopyId}
@@ -17,17 +17,13 @@ use Rattle.mqtt_laws.proofs.FarActs.{far_quiet}
 use Rattle.mqtt_laws.proofs.Mine.{AreMine, mine_append}
 use Rattle.mqtt_laws.proofs.OwnStep.{heard_of}
 use Rattle.mqtt_laws.proofs.Quiet.{quiet_deliveries}
-use Rattle.mqtt_records.specs.Records.{subscribe_in}
-use Rattle.mqtt_records.specs.declared.records.Records.{Records}
 use Rattle.mqtt_records.specs.declared.session.Session.{Session}
 use Rattle.mqtt_rules.proofs.Acts.{brought_to}
-use Rattle.mqtt_rules.proofs.Copies.{each_append, each_more}
-use Rattle.mqtt_rules.proofs.FlightRows.{all_more}
+use Rattle.mqtt_rules.proofs.Copies.{each_more}
 use Rattle.mqtt_rules.proofs.NumberSteps.{step_fell}
 use Rattle.mqtt_rules.specs.Deeds.{At, Count, Deed, Send, after_all, offer, series, whose}
 use Rattle.mqtt_rules.specs.Deeds as deeds
 use Rattle.mqtt_rules.specs.Laws.{IsCoherentMessage}
-use Rattle.mqtt_rules.specs.Numbers.{NoneFell}
 use Rattle.mqtt_rules.specs.Packets.{publish_of, size_of, suback}
 use Rattle.mqtt_rules.specs.Routing.{CopyTo, deliver, is_queued}
 use Rattle.mqtt_rules.specs.State.{Line as BrokerLine, Broker, Env, MemberChoice, line_at, session_at}
@@ -37,14 +33,11 @@ use Rattle.mqtt_rules.specs.declared.Limits.{Limits}
 use Rattle.mqtt_subscribe.specs.declared.subscribe.Subscribe.{Subscribe as Asking}
 use Rattle.mqtt_world_laws.specs.Fair.{IsSteady}
 use Rattle.mqtt_world_laws.specs.Spending.{spending}
-use Rattle.mqtt_world_laws.proofs.Differ.{AreApart, differ_join}
-use Rattle.mqtt_handed_laws.specs.Apart.{AreToldApart, HasCome}
 use Rattle.mqtt_handed_laws.specs.Calls.{turned_back}
 use Rattle.mqtt_handed_laws.specs.Handing.{IsListening, receiver_after}
 use Rattle.mqtt_handed_laws.specs.Late.{reads_old_wish}
-use Rattle.mqtt_handed_laws.specs.Own.{IsBroughtCopy}
 use Rattle.mqtt_handed_laws.specs.Served.{IsTidy}
-use Rattle.mqtt_handed_laws.proofs.Apart.{apart_still}
+use Rattle.mqtt_handed_laws.proofs.Apart.{apart_brought}
 use Rattle.mqtt_handed_laws.proofs.OwnSubscribes.{AreRetainedApart, asking, old_subscribes_apart, subscribes_apart}
 use Rattle.mqtt_every_run_laws.specs.Retaining.{AreRetainedOnce}
 use Rattle.mqtt_every_run_laws.specs.Standing.{IsPlaced, IsSeen, Stands, packet_like}
@@ -112,15 +105,7 @@ module _ (client : List ℕ) (birth n : ℕ) where
   wish_owns limits choice now window name w r l s b a own =
       packet_owns client birth n limits choice now (wire_back name window (asks_for w)) r l s b a (mine_subscribe (is_among 1 s.inbound) (env_of limits choice b) l.number s _ (heard_of now l.number b)) own
 
--- ---- the copies that it brings are told apart from those of before
-
-wished_apart : (birth : ℕ) (ids more : List CopyId) (old new : Records) → AreToldApart ids old → NoneFell old new → AllByRecursion (IsBroughtCopy birth (suc old.subscribes)) more → AreToldApart more new
-    → AreToldApart (ids ++ more) new
-wished_apart birth ids more old new h fell brought apart =
-    let others : AreApart ids more = all_more (HasCome old.publications old.subscribes) (λ (x : CopyId). AllByRecursion (λ (y : CopyId). x ≢ y) more) ids
-    (λ x come. all_more (IsBroughtCopy birth (suc old.subscribes)) (λ (y : CopyId). x ≢ y) more
-    (λ y late_ e. let le = come.subscribe in let is = ap subscribe_in late_.cause_is in let same = ap (λ (i : CopyId). subscribe_in i.cause) e in absurd (omega (arith, le, is, same))) brought) h.come in
-    record { come = each_append (HasCome new.publications new.subscribes) ids more (apart_still ids old new h fell).come apart.come; differ = differ_join ids more h.differ apart.differ others }
+-- ---- retained messages, of which it brings copies
 
 retained_apart : (limits : Limits) (b : Broker) → IsSteady limits b → AreRetainedOnce b.records → AreRetainedApart b
 retained_apart limits b steady once = record {
@@ -140,7 +125,7 @@ wish_placed largest ids ns limits choice now w rest r b placed steady tidy once 
     let call = asking w r l.number in
     let x = subscribes_apart largest ids limits choice now j.birth ns w rest r l h.listens.session b h.step a tidy up in
     let more = x.0.more in
-    let apart = wished_apart j.birth ids more b.records (stepped limits choice now call b).records placed.told (step_fell limits choice now call b) x.0.new (x.1 (retained_apart limits b steady once)) in
+    let apart = apart_brought j.birth ids more b.records (stepped limits choice now call b).records placed.told (step_fell limits choice now call b) x.0.new (x.1 (retained_apart limits b steady once)) in
     let owns = wish_owns r.client j.birth placed.line limits choice now r.window r.client w r l h.listens.session b a h.owns in
     let after_ = placed_after largest ids ns limits j.birth r b placed j.own j.there choice now l.number (wire_back r.client r.window (asks_for w)) (ids ++ more) h.number owns apart j.at x.0.in_step in
     subst (λ (m : ℕ). GoesFurther largest ids ns (receiver_after limits choice now (asking w r m) r b) (stepped limits choice now (asking w r m) b)) h.number (record { more = more; placed = after_ })
@@ -157,7 +142,7 @@ old_wish_placed largest ids ns limits choice now w rest r b placed steady tidy o
     let call = asking w r l.number in
     let x = old_subscribes_apart largest ids limits choice now j.birth ns w rest r l h.listens.session b h.step a tidy old in
     let more = x.0.more in
-    let apart = wished_apart j.birth ids more b.records (stepped limits choice now call b).records placed.told (step_fell limits choice now call b) x.0.new (x.1 (retained_apart limits b steady once)) in
+    let apart = apart_brought j.birth ids more b.records (stepped limits choice now call b).records placed.told (step_fell limits choice now call b) x.0.new (x.1 (retained_apart limits b steady once)) in
     let owns = wish_owns r.client j.birth placed.line limits choice now r.window r.client w (turned_back r) l h.listens.session b a h.owns in
     let after_ = placed_after_there largest ids ns limits j.birth r b placed j.own j.there choice now l.number (wire_back r.client r.window (asks_for w)) (ids ++ more) h.number owns apart j.at calm x.0.in_step in
     subst (λ (m : ℕ). GoesFurther largest ids ns (reads_old_wish limits choice now m w r b) (stepped limits choice now (asking w r m) b)) h.number (record { more = more; placed = after_ })

@@ -1,6 +1,6 @@
 -- Deeds that connect, close and end nobody leave the lines in order, and each with its Receive Maximum and Maximum Packet
 -- Size.
-use Rattle.std.proofs.Common.{◌≡◌, ℕ, Bool, true, false, cond, List, [], ◌∷◌, map, Option, Some, None, nat_eq, refl, ap, ◌∙◌, inl, inr}
+use Rattle.std.proofs.Common.{◌≡◌, ℕ, Bool, true, false, cond, List, [], ◌∷◌, map, Option, Some, None, nat_eq, max, refl, ap, ◌∙◌, inl, inr, arith}
 use Rattle.std.specs.Prelude.{⊤, filter_map, find, option_map}
 use Rattle.std.specs.List.{AllByRecursion}
 use Rattle.std.proofs.lemmas.Bool.{cases_Bool}
@@ -17,10 +17,12 @@ use Rattle.mqtt_records.specs.declared.session.Session.{Session}
 use Rattle.mqtt_rows.specs.Order.{row_at}
 use Rattle.mqtt_rules.proofs.Copies.{each_append}
 use Rattle.mqtt_rules.specs.Outbound.{all_turn_deeds, of_entry, turn_deeds}
+use Rattle.mqtt_laws.proofs.Quiet.{session_on}
 use Rattle.mqtt_laws.proofs.Seeing.{done_lines}
 use Rattle.mqtt_records.specs.declared.change.Change.{Change}
 use Rattle.mqtt_rules.proofs.Goods.{AreGood}
 use Rattle.mqtt_rules.proofs.LineLaw.{unique_quiet}
+use Rattle.mqtt_rules.proofs.NumberFacts.{now_stays}
 use Rattle.mqtt_rules.proofs.LineRows.{IsQuiet, IsQuietOn, numbered}
 use Rattle.mqtt_rules.specs.Deeds.{At, Deed, Gone, Greet, Hear, Leave, Link, LinePart, Mark, On, Part, Send, SetAlias, Went, after, after_all, closing, line_after, lines_at, on_line, part_rows_of, rows_of_all, without_place}
 use Rattle.mqtt_rules.specs.Lines.{HasUniqueLines}
@@ -57,6 +59,14 @@ way_marked now n m part (l ∷ ls) q = elim (cases_Bool (nat_eq l.number m)) [
   | inr further ↦ rw further (way_first n l l ls (on_line now m part ls) refl refl refl (way_marked now n m part ls q))
 ]
 
+-- a line that is greeted has those of the CONNECT
+pub greeted_way : (now n birth keep_alive window largest : ℕ) (ls : List BrokerLine) → session_on n ls ≡ Some None → way_on n (on_line now n (Greet birth keep_alive window largest) ls) ≡ Some (window, largest)
+greeted_way now n birth keep_alive window largest [] h = absurd cc
+greeted_way now n birth keep_alive window largest (l ∷ ls) h = elim (cases_Bool (nat_eq l.number n)) [
+  | inl here ↦ rw (here, here) refl
+  | inr further ↦ rw (further, further) (greeted_way now n birth keep_alive window largest ls (rw further at h))
+]
+
 way_without : (n birth place : ℕ) (ls : List BrokerLine) → way_on n (map (without_place birth place) ls) ≡ way_on n ls
 way_without n birth place [] = refl
 way_without n birth place (l ∷ ls) =
@@ -88,7 +98,7 @@ way_deed n (At who part) b q = way_part n who.birth part b.lines
 way_deed n (On m part) b q = way_marked b.now n m part b.lines q
 way_deed n d b q = refl
 
-way_deeds : (n : ℕ) (ds : List Deed) (b : Broker) → AreGood IsQuiet ds b → way_on n (after_all ds b).lines ≡ way_on n b.lines
+pub way_deeds : (n : ℕ) (ds : List Deed) (b : Broker) → AreGood IsQuiet ds b → way_on n (after_all ds b).lines ≡ way_on n b.lines
 way_deeds n [] b q = refl
 way_deeds n (d ∷ ds) b q = way_deeds n ds (after d b) q.1 ∙ way_deed n d b q.0
 
@@ -120,6 +130,21 @@ quiet_unique limits choice now call b q u =
     let ds = deeds limits choice now call b in
     let before : HasUniqueLines first = record { ascending = u.ascending; given = u.given; once = u.once; stands = u.stands; connected = u.connected } in
     moment_unique (rows_of_all ds first.records) (after_all ds first) (unique_quiet ds first q before)
+
+-- the same moment handed in once more is no later
+pub moment_again : (a c : ℕ) → max (max a c) c ≡ max a c
+moment_again a c = omega arith
+
+-- the moment of a step stays
+moment_now : (rows : List Change) (b : Broker) → (with_moment rows b).now ≡ b.now
+moment_now [] b = refl
+moment_now (row ∷ rows) b = refl
+
+pub step_now : (limits : Limits) (choice : MemberChoice) (now : ℕ) (call : Call) (b : Broker) → (stepped limits choice now call b).now ≡ (at_moment now b).now
+step_now limits choice now call b =
+    let first = at_moment now b in
+    let ds = deeds limits choice now call b in
+    moment_now (rows_of_all ds first.records) (after_all ds first) ∙ now_stays ds first
 
 -- ---- turns of a session leave the retained messages, and count no SUBSCRIBE
 
