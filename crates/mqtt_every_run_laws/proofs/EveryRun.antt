@@ -19,14 +19,15 @@ use Rattle.mqtt_handed_laws.specs.Drains.{after_round, copies_left, drained, eno
 use Rattle.mqtt_rows.specs.Distinct.{AllDiffer}
 use Rattle.mqtt_handed_laws.specs.Tags.{id_of}
 use Rattle.mqtt_handed_laws.proofs.DrainRuns.{run_append}
-use Rattle.mqtt_every_run_laws.specs.HandedOver.{AreHandedInOrder, WasHandedOver, queued_by}
+use Rattle.mqtt_every_run_laws.specs.HandedOver.{AreHandedInOrder, CarryQueued, WasHandedOver, queued_by}
 use Rattle.mqtt_every_run_laws.specs.Standing.{IsPlaced, IsSeen}
 use Rattle.mqtt_every_run_laws.specs.Taking.{EachTakes, ItsLineTakes, ReceiverTakes, any_size}
 use Rattle.mqtt_every_run_laws.specs.Untouched.{IsUntouched}
 use Rattle.mqtt_every_run_laws.proofs.Drains.{MayBeDrained, TakesSome, ends_over, ends_within, none_after, over_or_drains, round_carried}
 use Rattle.mqtt_every_run_laws.proofs.Growing.{begin_same}
 use Rattle.mqtt_every_run_laws.proofs.HandedOver.{handed_over}
-use Rattle.mqtt_every_run_laws.proofs.Ledgers.{handed_for_good}
+use Rattle.mqtt_every_run_laws.proofs.Ledgers.{Grows, handed_for_good, run_remains}
+use Rattle.mqtt_every_run_laws.proofs.QueueContents.{carry_queued}
 use Rattle.mqtt_every_run_laws.proofs.QueueOrder.{handed_in_queue_order}
 use Rattle.mqtt_every_run_laws.proofs.Runs.{IsKept, run_kept}
 use Rattle.mqtt_every_run_laws.proofs.Standings.{handed_in_order, new_stands, runs_so}
@@ -52,6 +53,14 @@ run_hands_once limits ts w u fair c r e = (run_hands limits ts w u fair c r e).o
 pub run_hands_released : (limits : Limits) (ts : List Turn) (w : World) → IsUntouched limits w → IsFair limits ts w → (c : List ℕ) (r : Receiver) → receiver_named c (run limits ts w) ≡ Some r
     → All (λ (copy : CopyId). handed_count copy r ≡ 1) (released_in (session_named r.client (run limits ts w).broker.records))
 run_hands_released limits ts w u fair c r e = (run_hands limits ts w u fair c r e).released
+
+pub run_carries : (limits : Limits) (ts : List Turn) (w : World) → IsUntouched limits w → IsFair limits ts w → (c : List ℕ) (r : Receiver) → receiver_named c (run limits ts w) ≡ Some r
+    → CarryQueued (session_named r.client (run limits ts w).broker.records) r.ledger × CarryQueued (session_named r.client (run limits ts w).broker.records) r.once
+run_carries limits ts w u fair c r e =
+    let h = run_hands limits ts w u fair c r e in
+    let b = (run limits ts w).broker in
+    let o = session_named r.client b.records in
+    (carry_queued h.number h.copies h.numbered o b r.ledger h.queued h.carried.0, carry_queued h.number h.copies h.numbered o b r.once h.queued h.carried.1)
 
 -- ---- runs one after the other
 
@@ -107,6 +116,13 @@ run_for_good limits xs ys w u fair c q r e f =
     All-from_recursion (λ (copy : CopyId). handed_count copy r ≡ 1) copies
     (all_more (λ (copy : CopyId). handed_count copy q ≡ 1) (λ (copy : CopyId). handed_count copy r ≡ 1) copies (λ copy one. handed_for_good c limits ys v q r copy e found one (once copy))
     (recursion_from_All (λ (copy : CopyId). handed_count copy q ≡ 1) copies then_))
+
+pub run_keeps_ledger : (limits : Limits) (ys : List Turn) (v : World) (c : List ℕ) (q r : Receiver) → receiver_named c v ≡ Some q → receiver_named c (run limits ys v) ≡ Some r → Grows q r
+run_keeps_ledger limits ys v c q r e f =
+    let x = run_remains c limits ys v q e in
+    let both : Some x.0 ≡ Some r = sym x.1 ∙ f in
+    let same : x.0 ≡ r = cc in
+    subst (Grows q) same x.2
 
 -- ---- a drain
 

@@ -35,3 +35,4 @@ pub mod OwnConnects
 pub mod Scripts
 pub mod QueueOrder
 pub mod Ledgers
+pub mod QueueContents

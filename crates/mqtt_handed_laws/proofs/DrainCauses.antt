@@ -32,7 +32,7 @@ use Rattle.mqtt_handed_laws.specs.Drains.{is_none_left, times}
 use Rattle.mqtt_handed_laws.specs.Entering.{MakesWay}
 use Rattle.mqtt_handed_laws.specs.Rounds.{EndsBy, Has, IsDrainCause, after_round, all_to_broker, all_to_end, drained, is_over, round_events, rounds_taken}
 use Rattle.mqtt_handed_laws.specs.WorldRounds.{EndsOrDrops}
-use Rattle.mqtt_handed_laws.proofs.Further.{Reached, goes_on, good_at, norm_at, one_unique, puback_said, pubcomp_said, reached_on, run_after, sound_at}
+use Rattle.mqtt_handed_laws.proofs.Further.{Reached, Rests, goes_on, good_at, norm_at, one_unique, puback_said, pubcomp_said, reached_on, run_after, sound_at}
 use Rattle.mqtt_handed_laws.proofs.RoundFurther.{either_false, reached_round, round_run, unsent_at}
 use Rattle.mqtt_handed_laws.proofs.RoundPhases.{ends_back, ends_copies, turn_copies, turns_linked, up_linked}
 use Rattle.mqtt_handed_laws.proofs.UnderWay.{at_up, pubrec_said}
@@ -89,19 +89,24 @@ ends_more largest moments more (Some (standing e m)) (Some (past x f k)) has a =
 all_more : (largest : ℕ) (moments more : List ℕ) (w v : World) → ((f : ℕ → Bool) → Has f moments → Has f more) → AllEnd largest moments w v → AllEnd largest more w v
 all_more largest moments more w v has a n = ends_more largest moments more (slice_get w.copies n) (slice_get v.copies n) has (a n)
 
-told_so : (largest : ℕ) (moments : List ℕ) (o p : Option Lot) → EndsOn largest moments o p → EndsBy largest moments o p
-told_so largest moments None p a = tt
-told_so largest moments (Some (past x e m)) p a = tt
-told_so largest moments (Some (standing e m)) None a = a
-told_so largest moments (Some (standing e m)) (Some (standing f k)) a = tt
-told_so largest moments (Some (standing e m)) (Some (past x f k)) a = a
+-- one that had ended has ended for the same cause
+told_so : (largest : ℕ) (moments : List ℕ) (o p : Option Lot) → EndsOn largest moments o p → GoesOn o p → EndsBy largest moments o p
+told_so largest moments None p a h = tt
+told_so largest moments (Some (standing e m)) None a h = a
+told_so largest moments (Some (standing e m)) (Some (standing f k)) a h = a
+told_so largest moments (Some (standing e m)) (Some (past x f k)) a h = a
+told_so largest moments (Some (past x e m)) None a h = h
+told_so largest moments (Some (past x e m)) (Some (standing f k)) a h = h
+told_so largest moments (Some (past x e m)) (Some (past y f k)) a h = h.0
 
 pub ends_by_more : (largest : ℕ) (moments more : List ℕ) (o p : Option Lot) → ((f : ℕ → Bool) → Has f moments → Has f more) → EndsBy largest moments o p → EndsBy largest more o p
 ends_by_more largest moments more None p has a = tt
-ends_by_more largest moments more (Some (past x e m)) p has a = tt
 ends_by_more largest moments more (Some (standing e m)) None has a = a
 ends_by_more largest moments more (Some (standing e m)) (Some (standing f k)) has a = a
 ends_by_more largest moments more (Some (standing e m)) (Some (past x f k)) has a = cause_more largest moments more e.copy x has a
+ends_by_more largest moments more (Some (past x e m)) None has a = a
+ends_by_more largest moments more (Some (past x e m)) (Some (standing f k)) has a = a
+ends_by_more largest moments more (Some (past x e m)) (Some (past y f k)) has a = a
 
 -- ---- a turn keeps what a copy is
 
@@ -359,6 +364,9 @@ drain_run largest window (now ∷ moments) w = ⊎_elim
     (round_events largest window now w ++ d.0, rw o (d.1 ∙ sym (run_after largest (round_events largest window now w) d.0 w))))
     (test_cases (is_over w))
 
+pub drain_goes_on : (largest window : ℕ) (moments : List ℕ) (w : World) → Reached largest w → GoOn w (drained largest window moments w)
+drain_goes_on largest window moments w r = let d = drain_run largest window moments w in subst (GoOn w) (sym d.1) (goes_on largest w r d.0)
+
 one_more : (now : ℕ) (moments : List ℕ) (f : ℕ → Bool) → Has f (now ∷ []) → Has f (now ∷ moments)
 one_more now moments f (inl e) = inl e
 one_more now moments f (inr h) = absurd h
@@ -371,9 +379,8 @@ drain_ends largest window (now ∷ moments) w r room n = ⊎_elim
     let v = after_round largest window now w in
     let rv = reached_round largest window now w r in
     let h = (either_false (is_none_left (length (queue_of w.copies))) w.linked o).1 in
-    let d = drain_run largest window moments v in
     let z = drained largest window moments v in
-    let on : GoOn v z = subst (GoOn v) (sym d.1) (goes_on largest v rv d.0) in
+    let on : GoOn v z = drain_goes_on largest window moments v rv in
     let rest = take (rounds_taken largest window moments v) moments in
     let first = all_more largest (now ∷ []) (now ∷ rest) w v (one_more now rest) (round_ends largest window now w r h) in
     let later = all_more largest rest (now ∷ rest) v z (λ f x. inr x) (drain_ends largest window moments v rv room) in
@@ -384,26 +391,13 @@ pub causes_of_run : (largest window : ℕ) (moments : List ℕ) (events : List E
     → EndsBy largest (take (rounds_taken largest window moments (run largest events start)) moments) (slice_get (run largest events start).copies n) (slice_get (drained largest window moments (run largest events start)).copies n)
 causes_of_run largest window moments events n room =
     let w = run largest events start in
-    told_so largest (take (rounds_taken largest window moments w) moments) (slice_get w.copies n) (slice_get (drained largest window moments w).copies n) (drain_ends largest window moments w (events, refl) room n)
+    let v = drained largest window moments w in
+    told_so largest (take (rounds_taken largest window moments w) moments) (slice_get w.copies n) (slice_get v.copies n) (drain_ends largest window moments w (events, refl) room n)
+    (drain_goes_on largest window moments w (events, refl) n)
 
 -- ---- with copies that make way
 
--- a copy that stood stands, was dropped, or has ended by such a cause; one that has ended has ended for the same cause
-abbrev pub Passes : ℕ → List ℕ → Option Lot → Option Lot → Type 0
-Passes largest moments None later = ⊤
-Passes largest moments (Some (standing e m)) None = ⊥
-Passes largest moments (Some (standing e m)) (Some (standing f k)) = f.copy ≡ e.copy
-Passes largest moments (Some (standing e m)) (Some (past ending f k)) = (ending ≡ Dropped) ⊎ IsDrainCause largest moments e.copy ending
-Passes largest moments (Some (past ending e m)) None = ⊥
-Passes largest moments (Some (past ending e m)) (Some (standing f k)) = ⊥
-Passes largest moments (Some (past ending e m)) (Some (past other f k)) = other ≡ ending
-
-pub passes_same : (largest : ℕ) (moments : List ℕ) (o : Option Lot) → Passes largest moments o o
-passes_same largest moments None = tt
-passes_same largest moments (Some (standing e m)) = refl
-passes_same largest moments (Some (past x e m)) = refl
-
-pub passes_trans : (largest : ℕ) (moments : List ℕ) (o p q : Option Lot) → Passes largest moments o p → Passes largest moments p q → Passes largest moments o q
+pub passes_trans : (largest : ℕ) (moments : List ℕ) (o p q : Option Lot) → EndsOrDrops largest moments o p → EndsOrDrops largest moments p q → EndsOrDrops largest moments o q
 passes_trans largest moments None p q a b = tt
 passes_trans largest moments (Some (standing e m)) None q a b = absurd a
 passes_trans largest moments (Some (standing e m)) (Some (standing f k)) None a b = absurd b
@@ -419,16 +413,26 @@ passes_trans largest moments (Some (past x e m)) (Some (past y f k)) (Some (stan
 passes_trans largest moments (Some (past x e m)) (Some (past y f k)) (Some (past v z l)) a b = b ∙ a
 
 -- by a run of the hop, and where a copy enters
-passes_run : (largest : ℕ) (moments : List ℕ) (o p : Option Lot) → EndsOn largest moments o p → GoesOn o p → Passes largest moments o p
-passes_run largest moments None p a h = tt
-passes_run largest moments (Some (standing e m)) None a h = a
-passes_run largest moments (Some (standing e m)) (Some (standing f k)) a h = a
-passes_run largest moments (Some (standing e m)) (Some (past x f k)) a h = inr a
-passes_run largest moments (Some (past x e m)) None a h = h
-passes_run largest moments (Some (past x e m)) (Some (standing f k)) a h = h
-passes_run largest moments (Some (past x e m)) (Some (past y f k)) a h = h.0
+pub drops_none : (largest : ℕ) (moments : List ℕ) (o p : Option Lot) → EndsBy largest moments o p → EndsOrDrops largest moments o p
+drops_none largest moments None p a = tt
+drops_none largest moments (Some (standing e m)) None a = a
+drops_none largest moments (Some (standing e m)) (Some (standing f k)) a = a
+drops_none largest moments (Some (standing e m)) (Some (past x f k)) a = inr a
+drops_none largest moments (Some (past x e m)) None a = a
+drops_none largest moments (Some (past x e m)) (Some (standing f k)) a = a
+drops_none largest moments (Some (past x e m)) (Some (past y f k)) a = a
 
-pub passes_way : (largest : ℕ) (moments : List ℕ) (o p : Option Lot) → MakesWay o p → Passes largest moments o p
+pub ended_rests : (largest : ℕ) (moments : List ℕ) (o p : Option Lot) → EndsBy largest moments o p → Rests o p
+ended_rests largest moments None p a = tt
+ended_rests largest moments (Some (standing e m)) p a = tt
+ended_rests largest moments (Some (past x e m)) None a = tt
+ended_rests largest moments (Some (past x e m)) (Some (standing f k)) a = a
+ended_rests largest moments (Some (past x e m)) (Some (past y f k)) a = tt
+
+passes_run : (largest : ℕ) (moments : List ℕ) (o p : Option Lot) → EndsOn largest moments o p → GoesOn o p → EndsOrDrops largest moments o p
+passes_run largest moments o p a h = drops_none largest moments o p (told_so largest moments o p a h)
+
+pub passes_way : (largest : ℕ) (moments : List ℕ) (o p : Option Lot) → MakesWay o p → EndsOrDrops largest moments o p
 passes_way largest moments None p a = tt
 passes_way largest moments (Some (standing e m)) None a = a
 passes_way largest moments (Some (standing e m)) (Some (standing f k)) a = a
@@ -437,17 +441,10 @@ passes_way largest moments (Some (past x e m)) None a = a
 passes_way largest moments (Some (past x e m)) (Some (standing f k)) a = a
 passes_way largest moments (Some (past x e m)) (Some (past y f k)) a = a
 
-pub ends_or_drops : (largest : ℕ) (moments : List ℕ) (o p : Option Lot) → Passes largest moments o p → EndsOrDrops largest moments o p
-ends_or_drops largest moments None p a = tt
-ends_or_drops largest moments (Some (standing e m)) None a = a
-ends_or_drops largest moments (Some (standing e m)) (Some (standing f k)) a = tt
-ends_or_drops largest moments (Some (standing e m)) (Some (past x f k)) a = a
-ends_or_drops largest moments (Some (past x e m)) p a = tt
-
-pub pump_passes : (largest window now n : ℕ) (w : World) → Reached largest w → Passes largest (now ∷ []) (slice_get w.copies n) (slice_get (step largest w (hop.pump window now)).copies n)
+pub pump_passes : (largest window now n : ℕ) (w : World) → Reached largest w → EndsOrDrops largest (now ∷ []) (slice_get w.copies n) (slice_get (step largest w (hop.pump window now)).copies n)
 pump_passes largest window now n w r =
     passes_run largest (now ∷ []) (slice_get w.copies n) (slice_get (step largest w (hop.pump window now)).copies n) (pump_ends largest window now w (sound_at largest w r) n) (goes_on largest w r (hop.pump window now ∷ []) n)
 
-pub answers_pass : (largest : ℕ) (moments : List ℕ) (k n : ℕ) (w : World) → Reached largest w → w.linked ≡ true → Passes largest moments (slice_get w.copies n) (slice_get (run largest (times k (to_broker false)) w).copies n)
+pub answers_pass : (largest : ℕ) (moments : List ℕ) (k n : ℕ) (w : World) → Reached largest w → w.linked ≡ true → EndsOrDrops largest moments (slice_get w.copies n) (slice_get (run largest (times k (to_broker false)) w).copies n)
 answers_pass largest moments k n w r h =
     passes_run largest moments (slice_get w.copies n) (slice_get (run largest (times k (to_broker false)) w).copies n) (brokers_end largest moments k w r h n) (goes_on largest w r (times k (to_broker false)) n)

@@ -30,16 +30,15 @@ use Rattle.mqtt_world_laws.proofs.Ends.{named_receiver}
 use Rattle.mqtt_world_laws.proofs.Steady.{steady_step}
 use Rattle.mqtt_handed_laws.specs.Calls.{IsResuming}
 use Rattle.mqtt_handed_laws.specs.Connecting.{DrainsFrom, IsJoining, MayRenew, MayResume, any_size}
-use Rattle.mqtt_handed_laws.specs.Drains.{after_round, all_to_broker, all_to_end, copies_by, copies_left, downs_by, drain_turns, drained, enough_rounds, is_none_left, is_over, line_stands, round_turns, rounds_taken, times, turn_of, ups_by}
+use Rattle.mqtt_handed_laws.specs.Drains.{after_round, all_to_broker, all_to_end, copies_by, copies_left, downs_by, drained, enough_rounds, is_none_left, is_over, line_stands, rounds_taken, times, turn_of, ups_by}
 use Rattle.mqtt_handed_laws.specs.Handing.{IsRun, after_answer, reads_answer}
 use Rattle.mqtt_handed_laws.specs.Own.{IsInStep}
 use Rattle.mqtt_handed_laws.specs.Rounds.{EndsBy}
-use Rattle.mqtt_handed_laws.specs.Seen.{AreQueued, Numbering, seen, went_in}
+use Rattle.mqtt_handed_laws.specs.Seen.{AreQueued, Numbering, went_in}
 use Rattle.mqtt_handed_laws.specs.Served.{RunsWithAll}
 use Rattle.mqtt_handed_laws.specs.Tags.{id_of}
 use Rattle.mqtt_handed_laws.specs.WorldRounds.{IsAnswer, IsConnected, IsDrained, moment_of}
 use Rattle.mqtt_handed_laws.proofs.Beginning.{cut_ids}
-use Rattle.mqtt_handed_laws.proofs.DrainRuns.{run_append}
 use Rattle.mqtt_handed_laws.proofs.Entering.{long_is, long_renewed}
 use Rattle.mqtt_handed_laws.proofs.Greetings.{HasGreeted, greeted_on, renewed_line, resumed_line}
 use Rattle.mqtt_handed_laws.proofs.Numbers.{place_of, places_number}
@@ -48,7 +47,7 @@ use Rattle.mqtt_handed_laws.proofs.Renewing.{renewal_is_run}
 use Rattle.mqtt_handed_laws.proofs.Resuming.{connect_is_run, renewed_ids}
 use Rattle.mqtt_handed_laws.proofs.WorldRoundLines.{moment_again, way_on}
 use Rattle.mqtt_handed_laws.proofs.WorldRoundSteps.{connected_there}
-use Rattle.mqtt_handed_laws.proofs.WorldRounds.{back_is, drain_is, drain_over_later, drain_within_later, left_is, none_changed, publisher_called_is, pump_is, receiver_called_is, receiver_changed, round_moment, taken_off}
+use Rattle.mqtt_handed_laws.proofs.WorldRounds.{back_is, drain_is, drain_over_later, drain_within_later, left_of, more_rounds, none_changed, publisher_called_is, pump_is, receiver_called_is, receiver_changed, round_moment, taken_off}
 
 -- ---- the line after the CONNECT
 
@@ -226,12 +225,6 @@ left_before number largest client copies r l s w named a h =
     let found : session_named client b.records ≡ Some s = ap (λ (c : List ℕ). session_named c b.records) (sym name) ∙ its in
     ap copies_by found ∙ long_is copies s.queue (went_in s.birth b) (subst (λ (o : Option Session). AreQueued copies o b) its h.queue_is)
 
-left_after : (number : Numbering) (window : ℕ) (ids : List CopyId) (birth : ℕ) (ns : List ℕ) (limits : Limits) (choice : MemberChoice) (client : List ℕ) (copies : List Lot) (w : World) → map id_of copies ≡ ids
-    → DrainsFrom number window ids birth ns client copies w → copies_left client w ≡ length (queue_of copies)
-left_after number window ids birth ns limits choice client copies w same d =
-    left_is limits choice client number any_size window ids birth ns (seen number copies d.receiver w.broker) w
-    (record { receiver = d.receiver; may = d.may; copies = copies; same = same; run_is = d.run_is; seen_is = refl })
-
 -- ---- the drain
 
 module _ (ids : List CopyId) (birth : ℕ) (ns : List ℕ) (limits : Limits) (choice : MemberChoice) (client : List ℕ) (r : Receiver) (l : BrokerLine) (s : Session) (w : World) (differ : AllDiffer ids)
@@ -244,7 +237,7 @@ module _ (ids : List CopyId) (birth : ℕ) (ns : List ℕ) (limits : Limits) (ch
 
   as_many : copies_left client (after_round limits choice client w) ≡ copies_left client w
   as_many =
-      left_after (place_of ids) r.window ids birth ns limits choice client (map renewed x.after) (after_round limits choice client w) (renewed_ids x.after ∙ x.same) after_it
+      left_of (place_of ids) any_size r.window ids birth ns limits choice client (map renewed x.after) after_it.receiver (after_round limits choice client w) after_it.may (renewed_ids x.after ∙ x.same) after_it.run_is
       ∙ (long_renewed x.after ∙ sym (left_before (place_of ids) any_size client x.after r l s w m.joining.named m.resuming x.run_is))
 
   resumed_within : (most : ℕ) → 1 ≤ r.window → rounds_taken limits choice client most w ≤ enough_rounds (copies_left client w)
@@ -267,16 +260,12 @@ connect_is_over ids birth ns limits choice client most r l s w room differ m eno
 -- a copy on a new connection is the same
 renewed_from : (largest : ℕ) (moments : List ℕ) (o p : Option Lot) → EndsBy largest moments (option_map renewed o) p → EndsBy largest moments o p
 renewed_from largest moments None p a = tt
-renewed_from largest moments (Some (past x e m)) p a = tt
 renewed_from largest moments (Some (standing e m)) None a = a
-renewed_from largest moments (Some (standing e m)) (Some (standing f k)) a = tt
+renewed_from largest moments (Some (standing e m)) (Some (standing f k)) a = a
 renewed_from largest moments (Some (standing e m)) (Some (past x f k)) a = a
-
--- one round more, where it is not over
-more_rounds : (limits : Limits) (choice : MemberChoice) (client : List ℕ) (most : ℕ) (w : World) → is_over client w ≡ false → drained limits choice client (suc most) w ≡ drained limits choice client most (after_round limits choice client w)
-more_rounds limits choice client most w o =
-    let v = after_round limits choice client w in
-    rw o (run_append limits (round_turns limits choice client w) (drain_turns limits choice client most v) w)
+renewed_from largest moments (Some (past x e m)) None a = a
+renewed_from largest moments (Some (past x e m)) (Some (standing f k)) a = a
+renewed_from largest moments (Some (past x e m)) (Some (past y f k)) a = a
 
 pub connect_is_drained : (number : Numbering) (ids : List CopyId) (birth : ℕ) (ns : List ℕ) (limits : Limits) (choice : MemberChoice) (client : List ℕ) (copies : List Lot) (most : ℕ) (r : Receiver) (l : BrokerLine) (s : Session) (w : World)
     → 1 ≤ r.window → MayResume limits choice ids birth ns client r l s w → map id_of copies ≡ ids → IsRun number any_size copies r w.broker → is_over client w ≡ false
@@ -320,7 +309,7 @@ renewal_is_over ids birth ns limits choice client most r l s w differ m o =
     let x = m.in_step.runs number (places_number ids differ) in
     let v = after_round limits choice client w in
     let d = renewed_round number ids birth ns limits choice client x.after r l s w m x.run_is in
-    let none : copies_left client v ≡ 0 = left_after number r.window ids (suc w.broker.records.births) ns limits choice client (map cut x.after) v (cut_ids x.after ∙ x.same) d ∙ cut_length x.after in
+    let none : copies_left client v ≡ 0 = left_of number any_size r.window ids (suc w.broker.records.births) ns limits choice client (map cut x.after) d.receiver v d.may (cut_ids x.after ∙ x.same) d.run_is ∙ cut_length x.after in
     let over = none_over client v none in
     (rw o (ap suc (over_rounds limits choice client v over most)), more_rounds limits choice client most w o ∙ over_drained limits choice client v over most, over)
 

@@ -30,11 +30,11 @@ use Rattle.mqtt_handed_laws.specs.Rounds.{EndsBy}
 use Rattle.mqtt_handed_laws.specs.Seen.{Numbering, answered, seen}
 use Rattle.mqtt_handed_laws.specs.Served.{IsTidy, RunsWithAll}
 use Rattle.mqtt_handed_laws.specs.Tags.{AreNumbered, id_of}
-use Rattle.mqtt_handed_laws.specs.WorldRounds.{AreTold, AsksOnce, ComesTo, DrainsBehind, DrainsWith, IsAnswer, IsOlder, MayAsk, IsDrained, MayDrain, moment_of, moments_of}
+use Rattle.mqtt_handed_laws.specs.WorldRounds.{AreTold, AsksOnce, ComesTo, DrainsBehind, DrainsWith, EndsOrDrops, IsAnswer, IsOlder, MayAsk, IsDrained, MayDrain, moment_of, moments_of}
 use Rattle.mqtt_handed_laws.proofs.Answering.{named_now, standing_by}
-use Rattle.mqtt_handed_laws.proofs.DrainCauses.{Passes, answers_pass, causes_of_run, ends_by_more, ends_or_drops, passes_trans, passes_way, pump_passes}
+use Rattle.mqtt_handed_laws.proofs.DrainCauses.{answers_pass, causes_of_run, drops_none, ended_rests, ends_by_more, passes_trans, passes_way, pump_passes}
 use Rattle.mqtt_handed_laws.proofs.DrainRuns.{run_append}
-use Rattle.mqtt_handed_laws.proofs.Further.{Reached, goes_on, no_more_stand}
+use Rattle.mqtt_handed_laws.proofs.Further.{Reached, goes_on, no_more_rest, no_more_stand}
 use Rattle.mqtt_handed_laws.proofs.Numbers.{place_of, places_number}
 use Rattle.mqtt_handed_laws.proofs.OwnDoings.{keeps_reading}
 use Rattle.mqtt_handed_laws.proofs.RoundFurther.{drain_empties, round_run, rounds_within, two_each}
@@ -42,7 +42,7 @@ use Rattle.mqtt_handed_laws.proofs.Renumbering.{renumbered}
 use Rattle.mqtt_handed_laws.proofs.Stopping.{step_tidy}
 use Rattle.mqtt_handed_laws.proofs.Walk.{numbered_front}
 use Rattle.mqtt_handed_laws.proofs.Own.{some_is}
-use Rattle.mqtt_handed_laws.proofs.RoundPhases.{brokers_length, ends_copies, turns_length}
+use Rattle.mqtt_handed_laws.proofs.RoundPhases.{brokers_length, ends_copies, length_map, turns_length}
 use Rattle.mqtt_handed_laws.proofs.Turns.{same_entries}
 use Rattle.mqtt_handed_laws.proofs.WorldRoundLines.{HasSame, moment_again, step_now}
 use Rattle.mqtt_handed_laws.proofs.WorldRoundWishes.{wish_at}
@@ -441,14 +441,14 @@ module _ (limits : Limits) (choice : MemberChoice) (client : List ℕ) (number :
   -- what has become of the copies that stood at the start
   module _ (moment : ℕ) (base : List Lot) where
     abbrev Passed : List Lot → Type 0
-    Passed lots = (n : ℕ) → Passes largest (moment ∷ []) (slice_get base n) (slice_get lots n)
+    Passed lots = (n : ℕ) → EndsOrDrops largest (moment ∷ []) (slice_get base n) (slice_get lots n)
 
     abbrev Behind : Hop → World → Type 0
     Behind h w = DrainsBehind largest window ids birth ns client (suc granted) (length (queue_of h.copies)) moment base w
 
-    passed_on : (a b c : List Lot) → ((n : ℕ) → Passes largest (moment ∷ []) (slice_get a n) (slice_get b n)) → b ≡ c → Passed a → Passed c
+    passed_on : (a b c : List Lot) → ((n : ℕ) → EndsOrDrops largest (moment ∷ []) (slice_get a n) (slice_get b n)) → b ≡ c → Passed a → Passed c
     passed_on a b c on same p n =
-        subst (λ (ls : List Lot). Passes largest (moment ∷ []) (slice_get base n) (slice_get ls n)) same (passes_trans largest (moment ∷ []) (slice_get base n) (slice_get a n) (slice_get b n) (p n) (on n))
+        subst (λ (ls : List Lot). EndsOrDrops largest (moment ∷ []) (slice_get base n) (slice_get ls n)) same (passes_trans largest (moment ∷ []) (slice_get base n) (slice_get a n) (slice_get b n) (p n) (on n))
 
     -- the SUBSCRIBE is read, and what is behind it
     wish_read : (u : Wish) (rest : List Back) (h : Hop) (w : World) → Here number largest window ids birth ns client (asks_for u ∷ rest) h w → Orderly limits ids granted w → AllByRecursion IsAnswer rest → Passed h.copies
@@ -502,7 +502,7 @@ module _ (limits : Limits) (choice : MemberChoice) (client : List ℕ) (number :
           after = c.copies;
           same = c.same;
           run_is = c.run_is;
-          ends = λ j. ends_or_drops largest (moment ∷ []) (slice_get base j) (slice_get c.copies j) (behind j);
+          ends = behind;
         })
 
     all_back : (ups : List Back) (h : Hop) (w : World) → Here number largest window ids birth ns client ups h w → Orderly limits ids granted w → AsksOnce ups → Passed h.copies → Behind h (run limits (times (length ups) reads_back) w)
@@ -524,7 +524,7 @@ module _ (limits : Limits) (choice : MemberChoice) (client : List ℕ) (number :
           after = c.copies;
           same = c.same ∙ sym none;
           run_is = c.run_is;
-          ends = λ j. ends_or_drops largest (moment ∷ []) (slice_get base j) (slice_get c.copies j) (subst Passed (sym same) p j);
+          ends = subst Passed (sym same) p;
         }
     all_back (asks_for u ∷ rest) h w x o once p = wish_read u rest h w x o once p
     all_back (answers a ∷ rest) h w x o once p =
@@ -574,8 +574,8 @@ first_round_of number largest window ids birth ns limits choice client copies r 
     orderly_on limits ids granted sent was (subst (IsTidy limits) (sym unread) o1.tidy) (record { retained = ap (λ (b : Broker). b.records.retained) unread; subscribes = ap (λ (b : Broker). b.records.subscribes) unread }) o1 in
     let first = reached number largest window ids birth ns h r w.broker x0.at in
     let read : h2.copies ≡ h1.copies = ends_copies largest (length h1.down) h1 in
-    let passed : (n : ℕ) → Passes largest (now ∷ []) (slice_get copies n) (slice_get h2.copies n) =
-    λ n. subst (λ (ls : List Lot). Passes largest (now ∷ []) (slice_get copies n) (slice_get ls n)) (sym read) (pump_passes largest window now n h first) in
+    let passed : (n : ℕ) → EndsOrDrops largest (now ∷ []) (slice_get copies n) (slice_get h2.copies n) =
+    λ n. subst (λ (ls : List Lot). EndsOrDrops largest (now ∷ []) (slice_get copies n) (slice_get ls n)) (sym read) (pump_passes largest window now n h first) in
     let y = all_back limits choice client number largest window ids birth ns granted now copies x2.ups h2 was x2.sees o2 (x2.answering may.asking) passed in
     let last : ups_by (receiver_named client was) ≡ length x2.ups = ap ups_by x2.sees.named ∙ ap length x2.sees.up in
     let z : DrainsBehind largest window ids birth ns client (suc granted) (length (queue_of h2.copies)) now copies (run limits (all_to_broker choice client was) was) =
@@ -702,3 +702,44 @@ module _ (largest window : ℕ) (ids : List CopyId) (birth : ℕ) (ns : List ℕ
           rw o (subst (λ (u : World). is_over client u ≡ true) (sym (run_append limits (round_turns limits choice client w) (drain_turns limits choice client more v) w))
           (ap (λ (j : ℕ). is_none_left j || not (line_stands (receiver_named client (drained limits choice client more v)) (drained limits choice client more v))) none)))
           (test_cases (is_over client w))
+
+-- one round more, where it is not over
+pub more_rounds : (limits : Limits) (choice : MemberChoice) (client : List ℕ) (most : ℕ) (w : World) → is_over client w ≡ false → drained limits choice client (suc most) w ≡ drained limits choice client most (after_round limits choice client w)
+more_rounds limits choice client most w o =
+    let v = after_round limits choice client w in
+    rw o (run_append limits (round_turns limits choice client w) (drain_turns limits choice client most v) w)
+
+-- so many copies stand as of those that it sees
+pub left_of : (number : Numbering) (largest window : ℕ) (ids : List CopyId) (birth : ℕ) (ns : List ℕ) (limits : Limits) (choice : MemberChoice) (client : List ℕ) (copies : List Lot) (r : Receiver) (w : World)
+    → MayDrain largest window ids birth ns client r w → map id_of copies ≡ ids → IsRun number largest copies r w.broker → copies_left client w ≡ length (queue_of copies)
+left_of number largest window ids birth ns limits choice client copies r w may same run_is =
+    left_is limits choice client number largest window ids birth ns (seen number copies r w.broker) w (record { receiver = r; may = may; copies = copies; same = same; run_is = run_is; seen_is = refl })
+
+-- ---- the whole drain, where a SUBSCRIBE is under way
+
+pub subscribe_is_drained : (number : Numbering) (largest window : ℕ) (ids : List CopyId) (birth : ℕ) (ns : List ℕ) (limits : Limits) (choice : MemberChoice) (client : List ℕ) (copies : List Lot) (most : ℕ) (r : Receiver) (w : World)
+    → 1 ≤ window → MayAsk limits largest window ids birth ns client r w → map id_of copies ≡ ids → IsRun number largest copies r w.broker → is_over client w ≡ false
+    → DrainsBehind largest window ids birth ns client (suc w.broker.records.subscribes) (copies_left client w) (moment_of w) copies (drained limits choice client (suc most) w)
+subscribe_is_drained number largest window ids birth ns limits choice client copies most r w room may same run_is o =
+    let granted = suc w.broker.records.subscribes in
+    let v = after_round limits choice client w in
+    let z = drained limits choice client most v in
+    let first = first_round_of number largest window ids birth ns limits choice client copies r w may same run_is in
+    let d = first.drains in
+    let ids2 = ids ++ d.more in
+    let y = drain_is first.numbering largest window ids2 birth ns limits choice client first.after d.receiver v d.may first.same first.run_is most room in
+    let now : moment_of v ≡ moment_of w = round_moment limits choice client w in
+    let left = left_of first.numbering largest window ids2 birth ns limits choice client first.after d.receiver v d.may first.same first.run_is in
+    let left_last = left_of first.numbering largest window ids2 birth ns limits choice client y.after y.receiver z y.may y.same y.run_is in
+    let long : length y.after ≡ length first.after = sym (length_map id_of y.after) ∙ (ap length (y.same ∙ sym first.same) ∙ length_map id_of first.after) in
+    let fewer = no_more_rest first.after y.after long (λ n. ended_rests largest (moment_of v ∷ []) (slice_get first.after n) (slice_get y.after n) (y.ends n)) in
+    let less = d.few in
+    subst (DrainsBehind largest window ids birth ns client granted (copies_left client w) (moment_of w) copies) (sym (more_rounds limits choice client most w o)) (record {
+      drains = record { more = d.more; new = d.new; differ = d.differ; receiver = y.receiver; may = y.may; few = omega (arith, left, left_last, fewer, less) };
+      numbering = first.numbering;
+      after = y.after;
+      same = y.same;
+      run_is = y.run_is;
+      ends = λ n. passes_trans largest (moment_of w ∷ []) (slice_get copies n) (slice_get first.after n) (slice_get y.after n) (first.ends n)
+          (subst (λ (k : ℕ). EndsOrDrops largest (k ∷ []) (slice_get first.after n) (slice_get y.after n)) now (drops_none largest (moment_of v ∷ []) (slice_get first.after n) (slice_get y.after n) (y.ends n)));
+    })

@@ -114,10 +114,12 @@ IsDrainCause largest moments copy TooLarge = nat_lt largest copy.size ≡ true
 IsDrainCause largest moments copy SessionEnded = ⊥
 IsDrainCause largest moments copy Dropped = ⊥
 
--- a copy that stood stands still, or has ended
+-- a copy that stood stands still, or has ended by such a cause; one that had ended has ended for the same one
 abbrev pub EndsBy : ℕ → List ℕ → Option Lot → Option Lot → Type 0
 EndsBy largest moments None later = ⊤
-EndsBy largest moments (Some (past ending e m)) later = ⊤
 EndsBy largest moments (Some (standing e m)) None = ⊥
-EndsBy largest moments (Some (standing e m)) (Some (standing f k)) = ⊤
+EndsBy largest moments (Some (standing e m)) (Some (standing f k)) = f.copy ≡ e.copy
 EndsBy largest moments (Some (standing e m)) (Some (past ending f k)) = IsDrainCause largest moments e.copy ending
+EndsBy largest moments (Some (past ending e m)) None = ⊥
+EndsBy largest moments (Some (past ending e m)) (Some (standing f k)) = ⊥
+EndsBy largest moments (Some (past ending e m)) (Some (past other f k)) = other ≡ ending

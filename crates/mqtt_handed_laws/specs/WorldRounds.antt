@@ -99,10 +99,12 @@ pub record DrainsWith (largest window : ℕ) (ids : List CopyId) (birth : ℕ) (
 -- where a filter is granted meanwhile, one that stood may also have been dropped, to make way in a full queue
 abbrev pub EndsOrDrops : ℕ → List ℕ → Option Lot → Option Lot → Type 0
 EndsOrDrops largest moments None later = ⊤
-EndsOrDrops largest moments (Some (past ending e m)) later = ⊤
 EndsOrDrops largest moments (Some (standing e m)) None = ⊥
-EndsOrDrops largest moments (Some (standing e m)) (Some (standing f k)) = ⊤
+EndsOrDrops largest moments (Some (standing e m)) (Some (standing f k)) = f.copy ≡ e.copy
 EndsOrDrops largest moments (Some (standing e m)) (Some (past ending f k)) = (ending ≡ Dropped) ⊎ IsDrainCause largest moments e.copy ending
+EndsOrDrops largest moments (Some (past ending e m)) None = ⊥
+EndsOrDrops largest moments (Some (past ending e m)) (Some (standing f k)) = ⊥
+EndsOrDrops largest moments (Some (past ending e m)) (Some (past other f k)) = other ≡ ending
 
 -- the same, with what became of the copies that stood at the start
 pub record DrainsBehind (largest window : ℕ) (ids : List CopyId) (birth : ℕ) (ns : List ℕ) (client : List ℕ)

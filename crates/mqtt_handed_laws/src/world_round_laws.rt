@@ -1,5 +1,5 @@
 //! Laws of drains of the world: of a receiver that is in step and connected (4.3, 4.4, 4.6).
-ghost use Rattle.std.specs.Prelude.{◌*◌, ◌+◌, ◌≡◌, ◌≤◌, ℕ, List, length, map, suc, true};
+ghost use Rattle.std.specs.Prelude.{◌*◌, ◌+◌, ◌≡◌, ◌≤◌, ℕ, List, length, map, false, suc, true};
 ghost use Rattle.mqtt_base.specs.declared.session.CopyId.{CopyId};
 ghost use Rattle.mqtt_flow.specs.OutboundWorld.{Lot};
 ghost use Rattle.mqtt_handed_laws.specs.Drains.{after_round, copies_left, drained, enough_rounds, is_over, rounds_taken};
@@ -87,6 +87,14 @@ pub fn a_drain_with_a_subscribe_ends()
         → MayAsk limits largest window ids birth ns client r w → map id_of copies ≡ ids → IsRun number largest copies r w.broker
         → DrainsBehind largest window ids birth ns client (suc w.broker.records.subscribes) (copies_left client w)
         (moment_of w) copies (after_round limits choice client w) }
+
+    // So it is after any number of rounds, where the drain is not over at its start.
+    ensures is_drained { (number : Numbering) (largest window : ℕ) (ids : List CopyId) (birth : ℕ) (ns : List ℕ)
+        → (limits : Limits) (choice : MemberChoice) (client : List ℕ) (copies : List Lot) (most : ℕ) (r : Receiver)
+        → (w : World) → 1 ≤ window → MayAsk limits largest window ids birth ns client r w → map id_of copies ≡ ids
+        → IsRun number largest copies r w.broker → is_over client w ≡ false
+        → DrainsBehind largest window ids birth ns client (suc w.broker.records.subscribes) (copies_left client w)
+        (moment_of w) copies (drained limits choice client (suc most) w) }
 
     // So many rounds are enough for the copies that stand at the start and those that the filter brings.
     ensures is_enough { (largest window : ℕ) (ids : List CopyId) (birth : ℕ) (ns : List ℕ) (limits : Limits)
