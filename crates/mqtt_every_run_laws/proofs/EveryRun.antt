@@ -12,7 +12,8 @@ use Rattle.mqtt_rules.proofs.FlightRows.{all_more}
 use Rattle.mqtt_rules.specs.Laws.{AreWithin}
 use Rattle.mqtt_rules.specs.State.{MemberChoice, session_named}
 use Rattle.mqtt_rules.specs.declared.Limits.{Limits}
-use Rattle.mqtt_world_laws.specs.Fair.{IsFair}
+use Rattle.mqtt_rules.specs.Step.{is_opening_spent}
+use Rattle.mqtt_world_laws.specs.Fair.{IsFair, opened_world}
 use Rattle.mqtt_world_laws.specs.Spending.{run_spends, spending}
 use Rattle.mqtt_world_laws.proofs.Runs.{both_true, either}
 use Rattle.mqtt_handed_laws.specs.Drains.{after_round, copies_left, drained, enough_rounds, is_over, round_turns, rounds_taken}
@@ -32,6 +33,7 @@ use Rattle.mqtt_every_run_laws.proofs.QueueOrder.{handed_in_queue_order}
 use Rattle.mqtt_every_run_laws.proofs.Runs.{IsKept, run_kept}
 use Rattle.mqtt_every_run_laws.proofs.Standings.{handed_in_order, new_stands, runs_so}
 use Rattle.mqtt_every_run_laws.proofs.Taking.{new_takes, takes_there}
+use Rattle.mqtt_every_run_laws.proofs.Untouched.{opened_untouched}
 
 -- ---- the run
 
@@ -43,6 +45,14 @@ untouched_kept c limits w within u = record {
 
 fair_run_kept : (limits : Limits) (ts : List Turn) (w : World) → IsUntouched limits w → IsFair limits ts w → (c : List ℕ) → IsKept [] c limits (run limits ts w)
 fair_run_kept limits ts w u fair c = run_kept [] c limits ts w (untouched_kept c limits w fair.within u) fair.unspent fair.carried
+
+-- what it has stored may be opened again
+pub run_opens_again : (limits : Limits) (ts : List Turn) (choice : MemberChoice) (now : ℕ) (w : World) → IsUntouched limits w → IsFair limits ts w → is_opening_spent limits choice now (run limits ts w).broker.records ≡ false
+    → IsUntouched limits (opened_world limits choice now (run limits ts w).broker.records)
+run_opens_again limits ts choice now w u fair unspent =
+    let k = fair_run_kept limits ts w u fair [] in
+    let a = k.stands.standing.around in
+    opened_untouched limits choice now (run limits ts w).broker.records fair.within (record { coherent = a.steady.coherent; room = a.steady.room; unspent = unspent }) a.tidy.queues k.fit.distinct k.fit.once
 
 pub run_hands : (limits : Limits) (ts : List Turn) (w : World) → IsUntouched limits w → IsFair limits ts w → (c : List ℕ) (r : Receiver) → receiver_named c (run limits ts w) ≡ Some r → WasHandedOver r (run limits ts w).broker
 run_hands limits ts w u fair c r e = handed_over [] c any_size limits r (run limits ts w) (fair_run_kept limits ts w u fair c).stands e
