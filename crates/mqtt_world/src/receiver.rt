@@ -1,14 +1,15 @@
 //! A conforming receiver: what it sends, and what it does with what it reads (MQTT 5.0, 4.3.2, 4.3.3, 4.4).
 
-ghost use Rattle.std.specs.Prelude.{◌≡◌, [], ◌∷◌, ◌++◌, true, if◌then◌else◌, OnOk};
+ghost use Rattle.std.specs.Prelude.{◌≡◌, [], ◌∷◌, ◌++◌, true, if◌then◌else◌, IfErr, IfOk, OnOk, Some};
 ghost use Rattle.mqtt_base.specs.Codes.{identifier_not_found, success};
 ghost use Rattle.mqtt_flow.specs.Receiver.{kept_after, pubcomp};
 ghost use Rattle.mqtt_inbound.specs.Identifiers.{ids_without, is_among};
 ghost use Rattle.mqtt_inbound.specs.Line.{asked};
 ghost use Rattle.mqtt_laws.specs.Ends.{answers_with, hears, new_receiver, reads_publish, receiver_connack};
 ghost use Rattle.mqtt_laws.specs.Ends.{receiver_reads};
+ghost use Rattle.mqtt_laws.specs.Tellings.{handed_by};
 ghost use Rattle.mqtt_laws.specs.World.{asks_wish};
-ghost use Rattle.mqtt_world.specs.Receivers.{hears_control, wish_of};
+ghost use Rattle.mqtt_world.specs.Receivers.{hears_control, IsControl, publication_of, publications_of, wish_of};
 
 use crate::back::Back;
 use crate::line::{Down, Line, Link};
@@ -37,6 +38,18 @@ impl Model for Entry {
       copy = e.copy;
       body = record { twice = e.twice; topic = e.topic; payload = e.payload };
     } };
+}
+
+impl Entry {
+    /// The number of the publication that it is a copy of. Takes no memory.
+    fn publication(&self) -> Option<u64>
+        ensures { result ≡ publication_of self.now }
+    {
+        match &self.copy {
+            None => None,
+            Some(copy) => Some(copy.publication),
+        }
+    }
 }
 
 /// A receiver. After a call that finds no memory it is good for nothing more.
@@ -70,6 +83,17 @@ impl Model for ReceiverEnd {
     } };
 }
 
+/// The PUBLISH, or else the packet.
+fn message_in(packet: Packet) -> Result<Publish, Packet>
+    ensures message { IfOk result (λ p. packet ≡ Packet.Publish p) }
+    ensures other { IfErr result (λ other. (packet ≡ other) × IsControl other) }
+{
+    match packet {
+        Packet::Publish(publish) => Ok(publish),
+        other => Err(other),
+    }
+}
+
 /// Forgets an identifier.
 fn forget(kept: &mut Vec<u16>, identifier: u16)
     ensures { kept.new.items ≡ ids_without identifier kept.old.items }
@@ -82,6 +106,19 @@ fn is_kept(kept: &[u16], identifier: u16) -> bool
     ensures { result ≡ is_among identifier kept.now }
 {
     kept.iter().any(|other| *other == identifier)
+}
+
+/// The publications of these, in order.
+fn publications(alloc: Global, entries: &[Entry]) -> Result<Vec<u64>, AllocError>
+    ensures { IfOk result (λ numbers. numbers.items ≡ publications_of entries.now) }
+{
+    let mut numbers = Vec::new(alloc);
+    for entry in entries {
+        if let Some(publication) = entry.publication() {
+            numbers.push(publication)?;
+        }
+    }
+    Ok(numbers)
 }
 
 impl ReceiverEnd {
@@ -100,6 +137,13 @@ impl ReceiverEnd {
             once: Vec::new(alloc),
             line: Line::new(alloc),
         }
+    }
+
+    /// The publications of the copies of QoS 2 that it was handed, in order (4.3.3).
+    pub fn handed(&self, alloc: Global) -> Result<Vec<u64>, AllocError>
+        ensures { IfOk result (λ numbers. numbers.items ≡ handed_by (Some self.now)) }
+    {
+        publications(alloc, &self.ledger)
     }
 
     /// SUBSCRIBE goes out (3.8), and is lost where its line no longer stands.
@@ -124,9 +168,9 @@ impl ReceiverEnd {
         ensures { OnOk result (self.new ≡ hears stands down.copy down.packet self.old) }
     {
         let Down { packet, copy } = down;
-        match packet {
-            Packet::Publish(publish) => self.hear_publish(publish, copy, stands),
-            packet => {
+        match message_in(packet) {
+            Ok(publish) => self.hear_publish(publish, copy, stands),
+            Err(packet) => {
                 let done = self.hear_control(&packet, stands);
                 drop(packet);
                 drop(copy);
