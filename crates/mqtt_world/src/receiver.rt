@@ -2,10 +2,10 @@
 
 ghost use Rattle.std.specs.Prelude.{◌≡◌, [], ◌∷◌, ◌++◌, true, if◌then◌else◌, IfErr, IfOk, OnOk, Some};
 ghost use Rattle.mqtt_base.specs.Codes.{identifier_not_found, success};
-ghost use Rattle.mqtt_flow.specs.Receiver.{kept_after, pubcomp};
+ghost use Rattle.mqtt_flow.specs.Receiver.{kept_after, puback, pubcomp, pubrec};
 ghost use Rattle.mqtt_inbound.specs.Identifiers.{ids_without, is_among};
 ghost use Rattle.mqtt_inbound.specs.Line.{asked};
-ghost use Rattle.mqtt_laws.specs.Ends.{answers_with, hears, new_receiver, reads_publish, receiver_connack};
+ghost use Rattle.mqtt_laws.specs.Ends.{answers_with, entry_of, hears, new_receiver, reads_publish, receiver_connack};
 ghost use Rattle.mqtt_laws.specs.Ends.{receiver_reads};
 ghost use Rattle.mqtt_laws.specs.Tellings.{handed_by};
 ghost use Rattle.mqtt_laws.specs.World.{asks_wish};
@@ -41,6 +41,19 @@ impl Model for Entry {
 }
 
 impl Entry {
+    /// What a PUBLISH carries.
+    fn new(twice: bool, copy: Option<CopyId>, publish: Publish) -> Entry
+        ensures { result ≡ entry_of twice copy publish }
+    {
+        let Publish { topic, payload, .. } = publish;
+        Entry {
+            copy,
+            twice,
+            topic,
+            payload,
+        }
+    }
+
     /// The number of the publication that it is a copy of. Takes no memory.
     fn publication(&self) -> Option<u64>
         ensures { result ≡ publication_of self.now }
@@ -243,51 +256,57 @@ impl ReceiverEnd {
     ) -> Result<(), AllocError>
         ensures { OnOk result (self.new ≡ reads_publish stands copy publish publish.delivery self.old) }
     {
-        let Publish {
-            delivery,
-            topic,
-            payload,
-            ..
-        } = publish;
-        match delivery {
-            Delivery::AtMostOnce => Ok(()),
+        match publish.delivery {
+            Delivery::AtMostOnce => {
+                drop(publish);
+                drop(copy);
+                Ok(())
+            }
             Delivery::AtLeastOnce { identifier, .. } => {
-                let twice = false;
-                self.once.push(Entry {
-                    copy,
-                    twice,
-                    topic,
-                    payload,
-                })?;
-                self.line
-                    .send(Back::puback(identifier, Reason::SUCCESS.0), stands)
+                let entry = Entry::new(false, copy, publish);
+                self.take_once(identifier, entry, stands)
             }
             Delivery::ExactlyOnce { identifier, .. } => {
-                let twice = true;
-                let entry = Entry {
-                    copy,
-                    twice,
-                    topic,
-                    payload,
-                };
-                self.hand_over(identifier, entry)?;
-                self.line
-                    .send(Back::pubrec(identifier, Reason::SUCCESS.0), stands)
+                let entry = Entry::new(true, copy, publish);
+                self.take_twice(identifier, entry, stands)
             }
         }
     }
 
-    /// A message of QoS 2 is handed over where its identifier isn't kept (4.3.3).
+    /// A message of QoS 1 is read, and answered by PUBACK (4.3.2).
+    fn take_once(&mut self, identifier: u16, entry: Entry, stands: bool) -> Result<(), AllocError>
+        ensures { OnOk result (self.new ≡ answers_with stands (puback identifier success)
+            (record self.old { once = self.old.once ++ entry ∷ [] })) }
+    {
+        self.once.push(entry)?;
+        self.line
+            .send(Back::puback(identifier, Reason::SUCCESS.0), stands)
+    }
+
+    /// A message of QoS 2 is answered by PUBREC, and handed over where its identifier isn't kept (4.3.3).
+    fn take_twice(&mut self, identifier: u16, entry: Entry, stands: bool) -> Result<(), AllocError>
+        ensures { OnOk result (self.new ≡ answers_with stands (pubrec identifier success) (record self.old {
+          kept = kept_after identifier self.old.kept;
+          ledger = if is_among identifier self.old.kept then self.old.ledger else self.old.ledger ++ entry ∷ [];
+        })) }
+    {
+        self.hand_over(identifier, entry)?;
+        self.line
+            .send(Back::pubrec(identifier, Reason::SUCCESS.0), stands)
+    }
+
     fn hand_over(&mut self, identifier: u16, entry: Entry) -> Result<(), AllocError>
         ensures { OnOk result (self.new ≡ record self.old {
           kept = kept_after identifier self.old.kept;
           ledger = if is_among identifier self.old.kept then self.old.ledger else self.old.ledger ++ entry ∷ [];
         }) }
     {
-        if !is_kept(&self.kept, identifier) {
-            self.kept.push(identifier)?;
-            self.ledger.push(entry)?;
+        if is_kept(&self.kept, identifier) {
+            drop(entry);
+            return Ok(());
         }
+        self.ledger.push(entry)?;
+        self.kept.push(identifier)?;
         Ok(())
     }
 
