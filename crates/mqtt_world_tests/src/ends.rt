@@ -75,46 +75,96 @@ fn receiver_reads(end: &mut ReceiverEnd, packet: Packet) -> Result<(), AllocErro
     end.read(true)
 }
 
-/// A message waits for CONNACK, goes out, is released and done.
-fn send(rt: &impl Abort, alloc: Global, end: &mut PublisherEnd) -> Result<(), AllocError> {
+/// Whether the publisher has a packet under way is as is said.
+fn publisher_sends(rt: &impl Abort, end: &mut PublisherEnd, wanted: bool) {
+    let sent = end.line.take_up();
+    let is_sent = sent.is_some();
+    drop(sent);
+    assert_eq!(rt; is_sent, wanted, "a packet of the publisher");
+}
+
+/// And the receiver.
+fn receiver_sends(rt: &impl Abort, end: &mut ReceiverEnd, wanted: bool) {
+    let sent = end.line.take_up();
+    let is_sent = sent.is_some();
+    drop(sent);
+    assert_eq!(rt; is_sent, wanted, "a packet of the receiver");
+}
+
+/// A message waits for CONNACK.
+fn publish_early(rt: &impl Abort, alloc: Global, end: &mut PublisherEnd) -> Result<(), AllocError> {
     end.line.join(Sent::connect(true), 1, true)?;
     end.publish(draft(alloc)?, true)?;
-    assert!(rt; end.line.take_up().is_some(), "CONNECT");
-    assert!(rt; end.line.take_up().is_none(), "nothing before CONNACK");
-    publisher_reads(end, connack())?;
-    assert!(rt; end.line.take_up().is_some(), "PUBLISH");
-    publisher_reads(end, Packet::Pubrec(ack()))?;
-    assert!(rt; end.line.take_up().is_some(), "PUBREL");
-    publisher_reads(end, Packet::Pubcomp(ack()))?;
-    assert!(rt; end.line.take_up().is_none(), "it is done");
+    publisher_sends(rt, end, true);
+    publisher_sends(rt, end, false);
     Ok(())
 }
 
-/// A message is read twice, and released.
+/// It goes out, is released and done.
+fn send(rt: &impl Abort, end: &mut PublisherEnd) -> Result<(), AllocError> {
+    publisher_reads(end, connack())?;
+    publisher_sends(rt, end, true);
+    publisher_reads(end, Packet::Pubrec(ack()))?;
+    publisher_sends(rt, end, true);
+    publisher_reads(end, Packet::Pubcomp(ack()))?;
+    publisher_sends(rt, end, false);
+    Ok(())
+}
+
+/// A receiver joins, and a message is read twice.
 fn take(rt: &impl Abort, alloc: Global, end: &mut ReceiverEnd) -> Result<(), AllocError> {
     end.line.join(Back::connect(true), 2, true)?;
     receiver_reads(end, connack())?;
-    assert!(rt; end.line.take_up().is_some(), "CONNECT");
+    receiver_sends(rt, end, true);
     receiver_reads(end, publish(alloc)?)?;
     receiver_reads(end, publish(alloc)?)?;
-    receiver_reads(end, Packet::Pubrel(ack()))?;
-    assert!(rt; end.line.take_up().is_some(), "PUBREC");
-    assert!(rt; end.line.take_up().is_some(), "PUBREC once more");
-    assert!(rt; end.line.take_up().is_some(), "PUBCOMP");
-    end.line.give_up();
-    assert!(rt; end.line.take_old().is_none(), "nothing more");
+    receiver_sends(rt, end, true);
+    receiver_sends(rt, end, true);
     Ok(())
 }
 
+/// It is released, and nothing is left on a line that is given up.
+fn release(rt: &impl Abort, end: &mut ReceiverEnd) -> Result<(), AllocError> {
+    receiver_reads(end, Packet::Pubrel(ack()))?;
+    receiver_sends(rt, end, true);
+    end.line.give_up();
+    let late = end.line.take_old();
+    let is_late = late.is_some();
+    drop(late);
+    assert!(rt; !is_late, "nothing is under way");
+    Ok(())
+}
+
+/// A publisher from its CONNECT on.
+fn publisher_lives(
+    rt: &impl Abort,
+    alloc: Global,
+    end: &mut PublisherEnd,
+) -> Result<(), AllocError> {
+    publish_early(rt, alloc, end)?;
+    send(rt, end)
+}
+
+/// And a receiver.
+fn receiver_lives(rt: &impl Abort, alloc: Global, end: &mut ReceiverEnd) -> Result<(), AllocError> {
+    take(rt, alloc, end)?;
+    release(rt, end)
+}
+
 #[test]
-fn ends_answer_what_they_read(rt: HostRuntime) -> Result<(), AllocError> {
+fn a_publisher_is_answered(rt: HostRuntime) -> Result<(), AllocError> {
     let alloc = rt.alloc();
-    let mut publisher = PublisherEnd::new(alloc, text(alloc, "p1")?);
-    let mut receiver = ReceiverEnd::new(alloc, text(alloc, "r1")?, 10, 0);
-    let done = send(&rt, alloc, &mut publisher);
-    drop(publisher);
-    done?;
-    let done = take(&rt, alloc, &mut receiver);
-    drop(receiver);
+    let mut end = PublisherEnd::new(alloc, text(alloc, "p1")?);
+    let done = publisher_lives(&rt, alloc, &mut end);
+    drop(end);
+    done
+}
+
+#[test]
+fn a_receiver_answers(rt: HostRuntime) -> Result<(), AllocError> {
+    let alloc = rt.alloc();
+    let mut end = ReceiverEnd::new(alloc, text(alloc, "r1")?, 10, 0);
+    let done = receiver_lives(&rt, alloc, &mut end);
+    drop(end);
     done
 }
