@@ -12,25 +12,28 @@ use Rattle.mqtt_rules.proofs.FlightRows.{all_more}
 use Rattle.mqtt_rules.specs.Laws.{AreWithin}
 use Rattle.mqtt_rules.specs.State.{MemberChoice, session_named}
 use Rattle.mqtt_rules.specs.declared.Limits.{Limits}
-use Rattle.mqtt_world_laws.specs.Fair.{IsFair}
+use Rattle.mqtt_rules.specs.Step.{is_opening_spent}
+use Rattle.mqtt_world_laws.specs.Fair.{IsFair, opened_world}
 use Rattle.mqtt_world_laws.specs.Spending.{run_spends, spending}
 use Rattle.mqtt_world_laws.proofs.Runs.{both_true, either}
 use Rattle.mqtt_handed_laws.specs.Drains.{after_round, copies_left, drained, enough_rounds, is_over, round_turns, rounds_taken}
 use Rattle.mqtt_rows.specs.Distinct.{AllDiffer}
 use Rattle.mqtt_handed_laws.specs.Tags.{id_of}
 use Rattle.mqtt_handed_laws.proofs.DrainRuns.{run_append}
-use Rattle.mqtt_every_run_laws.specs.HandedOver.{AreHandedInOrder, WasHandedOver, queued_by}
+use Rattle.mqtt_every_run_laws.specs.HandedOver.{AreHandedInOrder, CarryQueued, WasHandedOver, queued_by}
 use Rattle.mqtt_every_run_laws.specs.Standing.{IsPlaced, IsSeen}
 use Rattle.mqtt_every_run_laws.specs.Taking.{EachTakes, ItsLineTakes, ReceiverTakes, any_size}
 use Rattle.mqtt_every_run_laws.specs.Untouched.{IsUntouched}
 use Rattle.mqtt_every_run_laws.proofs.Drains.{MayBeDrained, TakesSome, ends_over, ends_within, none_after, over_or_drains, round_carried}
 use Rattle.mqtt_every_run_laws.proofs.Growing.{begin_same}
 use Rattle.mqtt_every_run_laws.proofs.HandedOver.{handed_over}
-use Rattle.mqtt_every_run_laws.proofs.Ledgers.{handed_for_good}
+use Rattle.mqtt_every_run_laws.proofs.Ledgers.{Grows, handed_for_good, run_remains}
+use Rattle.mqtt_every_run_laws.proofs.QueueContents.{carry_queued}
 use Rattle.mqtt_every_run_laws.proofs.QueueOrder.{handed_in_queue_order}
 use Rattle.mqtt_every_run_laws.proofs.Runs.{IsKept, run_kept}
 use Rattle.mqtt_every_run_laws.proofs.Standings.{handed_in_order, new_stands, runs_so}
 use Rattle.mqtt_every_run_laws.proofs.Taking.{new_takes, takes_there}
+use Rattle.mqtt_every_run_laws.proofs.Untouched.{opened_untouched}
 
 -- ---- the run
 
@@ -43,6 +46,14 @@ untouched_kept c limits w within u = record {
 fair_run_kept : (limits : Limits) (ts : List Turn) (w : World) → IsUntouched limits w → IsFair limits ts w → (c : List ℕ) → IsKept [] c limits (run limits ts w)
 fair_run_kept limits ts w u fair c = run_kept [] c limits ts w (untouched_kept c limits w fair.within u) fair.unspent fair.carried
 
+-- what it has stored may be opened again
+pub run_opens_again : (limits : Limits) (ts : List Turn) (choice : MemberChoice) (now : ℕ) (w : World) → IsUntouched limits w → IsFair limits ts w → is_opening_spent limits choice now (run limits ts w).broker.records ≡ false
+    → IsUntouched limits (opened_world limits choice now (run limits ts w).broker.records)
+run_opens_again limits ts choice now w u fair unspent =
+    let k = fair_run_kept limits ts w u fair [] in
+    let a = k.stands.standing.around in
+    opened_untouched limits choice now (run limits ts w).broker.records fair.within (record { coherent = a.steady.coherent; room = a.steady.room; unspent = unspent }) a.tidy.queues k.fit.distinct k.fit.once
+
 pub run_hands : (limits : Limits) (ts : List Turn) (w : World) → IsUntouched limits w → IsFair limits ts w → (c : List ℕ) (r : Receiver) → receiver_named c (run limits ts w) ≡ Some r → WasHandedOver r (run limits ts w).broker
 run_hands limits ts w u fair c r e = handed_over [] c any_size limits r (run limits ts w) (fair_run_kept limits ts w u fair c).stands e
 
@@ -52,6 +63,14 @@ run_hands_once limits ts w u fair c r e = (run_hands limits ts w u fair c r e).o
 pub run_hands_released : (limits : Limits) (ts : List Turn) (w : World) → IsUntouched limits w → IsFair limits ts w → (c : List ℕ) (r : Receiver) → receiver_named c (run limits ts w) ≡ Some r
     → All (λ (copy : CopyId). handed_count copy r ≡ 1) (released_in (session_named r.client (run limits ts w).broker.records))
 run_hands_released limits ts w u fair c r e = (run_hands limits ts w u fair c r e).released
+
+pub run_carries : (limits : Limits) (ts : List Turn) (w : World) → IsUntouched limits w → IsFair limits ts w → (c : List ℕ) (r : Receiver) → receiver_named c (run limits ts w) ≡ Some r
+    → CarryQueued (session_named r.client (run limits ts w).broker.records) r.ledger × CarryQueued (session_named r.client (run limits ts w).broker.records) r.once
+run_carries limits ts w u fair c r e =
+    let h = run_hands limits ts w u fair c r e in
+    let b = (run limits ts w).broker in
+    let o = session_named r.client b.records in
+    (carry_queued h.number h.copies h.numbered o b r.ledger h.queued h.carried.0, carry_queued h.number h.copies h.numbered o b r.once h.queued h.carried.1)
 
 -- ---- runs one after the other
 
@@ -107,6 +126,13 @@ run_for_good limits xs ys w u fair c q r e f =
     All-from_recursion (λ (copy : CopyId). handed_count copy r ≡ 1) copies
     (all_more (λ (copy : CopyId). handed_count copy q ≡ 1) (λ (copy : CopyId). handed_count copy r ≡ 1) copies (λ copy one. handed_for_good c limits ys v q r copy e found one (once copy))
     (recursion_from_All (λ (copy : CopyId). handed_count copy q ≡ 1) copies then_))
+
+pub run_keeps_ledger : (limits : Limits) (ys : List Turn) (v : World) (c : List ℕ) (q r : Receiver) → receiver_named c v ≡ Some q → receiver_named c (run limits ys v) ≡ Some r → Grows q r
+run_keeps_ledger limits ys v c q r e f =
+    let x = run_remains c limits ys v q e in
+    let both : Some x.0 ≡ Some r = sym x.1 ∙ f in
+    let same : x.0 ≡ r = cc in
+    subst (Grows q) same x.2
 
 -- ---- a drain
 

@@ -79,7 +79,7 @@ grows_reading t (d ∷ rest) r = grows_packet t d.copy d.packet (record r { line
 
 -- ---- the receiver of a name in a later world
 
-abbrev Remains : List ℕ → World → World → Type 0
+abbrev pub Remains : List ℕ → World → World → Type 0
 Remains c w v = (q : Receiver) → receiver_named c w ≡ Some q → (r : Receiver) × (receiver_named c v ≡ Some r) × Grows q r
 
 module _ (c : List ℕ) where

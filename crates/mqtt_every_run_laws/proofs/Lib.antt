@@ -37,3 +37,4 @@ pub mod QueueOrder
 pub mod Ledgers
 pub mod QueueGrowth
 pub mod DrainBounds
+pub mod QueueContents

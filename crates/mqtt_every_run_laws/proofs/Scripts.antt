@@ -17,7 +17,7 @@ use Rattle.mqtt_handed_laws.specs.Drains.{Doing, after_round, all_turns, copies_
 use Rattle.mqtt_every_run_laws.specs.Scripts.{AllDrainsEnd, DeliversOnce, DrainEnds, EndsWhere}
 use Rattle.mqtt_every_run_laws.specs.Untouched.{IsUntouched}
 use Rattle.mqtt_every_run_laws.proofs.Drains.{ends_over, ends_within}
-use Rattle.mqtt_every_run_laws.proofs.EveryRun.{carried_append, over_or_drained, run_for_good, run_hands, run_in_order, spent_append, untouched_kept}
+use Rattle.mqtt_every_run_laws.proofs.EveryRun.{carried_append, over_or_drained, run_carries, run_for_good, run_hands, run_in_order, spent_append, untouched_kept}
 use Rattle.mqtt_every_run_laws.proofs.Runs.{IsKept, run_kept}
 use Rattle.mqtt_every_run_laws.proofs.Untouched.{start_untouched}
 
@@ -35,6 +35,7 @@ run_delivers limits ts w u apart fair = record {
   balanced = run_balances limits ts w u.new fair;
   goes_out = run_goes_out limits ts w u.new fair;
   handed = run_hands limits ts w u fair;
+  carries = run_carries limits ts w u fair;
   for_good = λ xs ys is c q r e f. run_for_good limits xs ys w u (subst (λ (zs : List Turn). IsFair limits zs w) (sym is) fair) c q r e (ap (λ (zs : List Turn). receiver_named c (run limits zs w)) is ∙ f);
   in_order = λ xs ys is c q r e f. run_in_order limits xs ys w u (subst (λ (zs : List Turn). IsFair limits zs w) (sym is) fair) c q r e (ap (λ (zs : List Turn). receiver_named c (run limits zs w)) is ∙ f);
 }

@@ -1,5 +1,5 @@
 -- What a receiver was handed of its copies (MQTT 5.0, 4.3.2, 4.3.3, 4.6).
-use Rattle.std.specs.Prelude.{◌≡◌, ℕ, ◌≤◌, All, Bool, List, [], filter, map, Option, None, Some, is_some, slice_get, true}
+use Rattle.std.specs.Prelude.{◌≡◌, ℕ, ◌≤◌, ⊤, All, Bool, List, [], filter, map, Option, None, Some, is_some, slice_get, true}
 use Rattle.std.specs.List.{AllByRecursion, list_any}
 use Rattle.mqtt_base.specs.declared.session.CopyId.{CopyId}
 use Rattle.mqtt_base.specs.declared.session.Ending.TheVariants.{Dropped, Expired, Taken}
@@ -11,6 +11,8 @@ use Rattle.mqtt_handed_laws.specs.Seen.{AreQueued, Numbering}
 use Rattle.mqtt_handed_laws.specs.Tags.{AreNumbered, id_of}
 use Rattle.mqtt_laws.specs.Ends.{Entry, Receiver}
 use Rattle.mqtt_laws.specs.Laws.{copies_in, handed_count, is_copy, read_count, released_in, stand_among, standing_in}
+use Rattle.mqtt_message.specs.Queue.{CopyRow}
+use Rattle.mqtt_message.specs.declared.message.MessageCopy.{MessageCopy}
 use Rattle.mqtt_records.specs.declared.session.Session.{Session}
 use Rattle.mqtt_rows.specs.Distinct.{AllDiffer}
 use Rattle.mqtt_rules.specs.State.{Broker, session_named}
@@ -50,3 +52,15 @@ is_among copies copy = list_any (is_copy copy) copies
 -- of these copies, those that it was handed stand in its ledger in their order
 abbrev pub AreHandedInOrder : List CopyId → Receiver → Type 0
 AreHandedInOrder copies r = stand_among (filter (is_among copies) (copies_in r.ledger)) copies ≡ true
+
+-- ---- with its topic and payload
+
+-- what was read of this copy
+abbrev pub CarriesCopy : MessageCopy → Entry → Type 0
+CarriesCopy copy e =
+    e.copy ≡ Some copy.id → (e.body.topic ≡ copy.content.topic) × (e.body.payload ≡ copy.content.payload)
+
+-- what was read of the copies that stand in a session's queue
+abbrev pub CarryQueued : Option Session → List Entry → Type 0
+CarryQueued None es = ⊤
+CarryQueued (Some s) es = AllByRecursion (λ (row : CopyRow). AllByRecursion (CarriesCopy row.copy) es) s.queue

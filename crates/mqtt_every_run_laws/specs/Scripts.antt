@@ -14,7 +14,7 @@ use Rattle.mqtt_world_laws.specs.Copies.{AreCountedOn, AreRouted, IsBalanced}
 use Rattle.mqtt_world_laws.specs.Entries.{IsEntered}
 use Rattle.mqtt_world_laws.specs.Identities.{EndsOnce, EntersOnce, WaitsOrHasEnded}
 use Rattle.mqtt_world_laws.specs.Once.{HasCarried, IsAcceptedOnce}
-use Rattle.mqtt_every_run_laws.specs.HandedOver.{AreHandedInOrder, WasHandedOver, queued_by}
+use Rattle.mqtt_every_run_laws.specs.HandedOver.{AreHandedInOrder, CarryQueued, WasHandedOver, queued_by}
 
 -- ---- a run
 
@@ -34,6 +34,9 @@ pub record DeliversOnce (limits : Limits) (ts : List Turn) (w : World) : Type 0 
   pub goes_out : AllGoOut limits ts w
   pub handed : (client : List ℕ) (r : Receiver) → receiver_named client (run limits ts w) ≡ Some r
       → WasHandedOver r (run limits ts w).broker
+  pub carries : (client : List ℕ) (r : Receiver) → receiver_named client (run limits ts w) ≡ Some r
+      → CarryQueued (session_named r.client (run limits ts w).broker.records) r.ledger
+      × CarryQueued (session_named r.client (run limits ts w).broker.records) r.once
   -- from any moment of the run, at which the receiver was q, to its end
   pub for_good : (xs ys : List Turn) → xs ++ ys ≡ ts → (client : List ℕ) (q r : Receiver)
       → receiver_named client (run limits xs w) ≡ Some q → receiver_named client (run limits ts w) ≡ Some r

@@ -7,9 +7,11 @@ mod line;
 mod publisher;
 mod receiver;
 mod sent;
+mod told;
 
 pub use back::Back;
 pub use line::{Down, Line, Link};
 pub use publisher::PublisherEnd;
 pub use receiver::{Entry, ReceiverEnd};
 pub use sent::Sent;
+pub use told::{RunFault, Told};

@@ -1,14 +1,15 @@
 //! A conforming receiver: what it sends, and what it does with what it reads (MQTT 5.0, 4.3.2, 4.3.3, 4.4).
 
-ghost use Rattle.std.specs.Prelude.{◌≡◌, [], ◌∷◌, ◌++◌, true, if◌then◌else◌, OnOk};
+ghost use Rattle.std.specs.Prelude.{◌≡◌, [], ◌∷◌, ◌++◌, true, if◌then◌else◌, IfErr, IfOk, OnOk, Some};
 ghost use Rattle.mqtt_base.specs.Codes.{identifier_not_found, success};
-ghost use Rattle.mqtt_flow.specs.Receiver.{kept_after, pubcomp};
+ghost use Rattle.mqtt_flow.specs.Receiver.{kept_after, puback, pubcomp, pubrec};
 ghost use Rattle.mqtt_inbound.specs.Identifiers.{ids_without, is_among};
 ghost use Rattle.mqtt_inbound.specs.Line.{asked};
-ghost use Rattle.mqtt_laws.specs.Ends.{answers_with, hears, new_receiver, reads_publish, receiver_connack};
+ghost use Rattle.mqtt_laws.specs.Ends.{answers_with, entry_of, hears, new_receiver, reads_publish, receiver_connack};
 ghost use Rattle.mqtt_laws.specs.Ends.{receiver_reads};
+ghost use Rattle.mqtt_laws.specs.Tellings.{handed_by};
 ghost use Rattle.mqtt_laws.specs.World.{asks_wish};
-ghost use Rattle.mqtt_world.specs.Receivers.{hears_control, wish_of};
+ghost use Rattle.mqtt_world.specs.Receivers.{hears_control, IsControl, publication_of, publications_of, wish_of};
 
 use crate::back::Back;
 use crate::line::{Down, Line, Link};
@@ -37,6 +38,31 @@ impl Model for Entry {
       copy = e.copy;
       body = record { twice = e.twice; topic = e.topic; payload = e.payload };
     } };
+}
+
+impl Entry {
+    /// What a PUBLISH carries.
+    fn new(twice: bool, copy: Option<CopyId>, publish: Publish) -> Entry
+        ensures { result ≡ entry_of twice copy publish }
+    {
+        let Publish { topic, payload, .. } = publish;
+        Entry {
+            copy,
+            twice,
+            topic,
+            payload,
+        }
+    }
+
+    /// The number of the publication that it is a copy of. Takes no memory.
+    fn publication(&self) -> Option<u64>
+        ensures { result ≡ publication_of self.now }
+    {
+        match &self.copy {
+            None => None,
+            Some(copy) => Some(copy.publication),
+        }
+    }
 }
 
 /// A receiver. After a call that finds no memory it is good for nothing more.
@@ -70,6 +96,17 @@ impl Model for ReceiverEnd {
     } };
 }
 
+/// The PUBLISH, or else the packet.
+fn message_in(packet: Packet) -> Result<Publish, Packet>
+    ensures message { IfOk result (λ p. packet ≡ Packet.Publish p) }
+    ensures other { IfErr result (λ other. (packet ≡ other) × IsControl other) }
+{
+    match packet {
+        Packet::Publish(publish) => Ok(publish),
+        other => Err(other),
+    }
+}
+
 /// Forgets an identifier.
 fn forget(kept: &mut Vec<u16>, identifier: u16)
     ensures { kept.new.items ≡ ids_without identifier kept.old.items }
@@ -82,6 +119,19 @@ fn is_kept(kept: &[u16], identifier: u16) -> bool
     ensures { result ≡ is_among identifier kept.now }
 {
     kept.iter().any(|other| *other == identifier)
+}
+
+/// The publications of these, in order.
+fn publications(alloc: Global, entries: &[Entry]) -> Result<Vec<u64>, AllocError>
+    ensures { IfOk result (λ numbers. numbers.items ≡ publications_of entries.now) }
+{
+    let mut numbers = Vec::new(alloc);
+    for entry in entries {
+        if let Some(publication) = entry.publication() {
+            numbers.push(publication)?;
+        }
+    }
+    Ok(numbers)
 }
 
 impl ReceiverEnd {
@@ -100,6 +150,13 @@ impl ReceiverEnd {
             once: Vec::new(alloc),
             line: Line::new(alloc),
         }
+    }
+
+    /// The publications of the copies of QoS 2 that it was handed, in order (4.3.3).
+    pub fn handed(&self, alloc: Global) -> Result<Vec<u64>, AllocError>
+        ensures { IfOk result (λ numbers. numbers.items ≡ handed_by (Some self.now)) }
+    {
+        publications(alloc, &self.ledger)
     }
 
     /// SUBSCRIBE goes out (3.8), and is lost where its line no longer stands.
@@ -124,9 +181,9 @@ impl ReceiverEnd {
         ensures { OnOk result (self.new ≡ hears stands down.copy down.packet self.old) }
     {
         let Down { packet, copy } = down;
-        match packet {
-            Packet::Publish(publish) => self.hear_publish(publish, copy, stands),
-            packet => {
+        match message_in(packet) {
+            Ok(publish) => self.hear_publish(publish, copy, stands),
+            Err(packet) => {
                 let done = self.hear_control(&packet, stands);
                 drop(packet);
                 drop(copy);
@@ -199,51 +256,57 @@ impl ReceiverEnd {
     ) -> Result<(), AllocError>
         ensures { OnOk result (self.new ≡ reads_publish stands copy publish publish.delivery self.old) }
     {
-        let Publish {
-            delivery,
-            topic,
-            payload,
-            ..
-        } = publish;
-        match delivery {
-            Delivery::AtMostOnce => Ok(()),
+        match publish.delivery {
+            Delivery::AtMostOnce => {
+                drop(publish);
+                drop(copy);
+                Ok(())
+            }
             Delivery::AtLeastOnce { identifier, .. } => {
-                let twice = false;
-                self.once.push(Entry {
-                    copy,
-                    twice,
-                    topic,
-                    payload,
-                })?;
-                self.line
-                    .send(Back::puback(identifier, Reason::SUCCESS.0), stands)
+                let entry = Entry::new(false, copy, publish);
+                self.take_once(identifier, entry, stands)
             }
             Delivery::ExactlyOnce { identifier, .. } => {
-                let twice = true;
-                let entry = Entry {
-                    copy,
-                    twice,
-                    topic,
-                    payload,
-                };
-                self.hand_over(identifier, entry)?;
-                self.line
-                    .send(Back::pubrec(identifier, Reason::SUCCESS.0), stands)
+                let entry = Entry::new(true, copy, publish);
+                self.take_twice(identifier, entry, stands)
             }
         }
     }
 
-    /// A message of QoS 2 is handed over where its identifier isn't kept (4.3.3).
+    /// A message of QoS 1 is read, and answered by PUBACK (4.3.2).
+    fn take_once(&mut self, identifier: u16, entry: Entry, stands: bool) -> Result<(), AllocError>
+        ensures { OnOk result (self.new ≡ answers_with stands (puback identifier success)
+            (record self.old { once = self.old.once ++ entry ∷ [] })) }
+    {
+        self.once.push(entry)?;
+        self.line
+            .send(Back::puback(identifier, Reason::SUCCESS.0), stands)
+    }
+
+    /// A message of QoS 2 is answered by PUBREC, and handed over where its identifier isn't kept (4.3.3).
+    fn take_twice(&mut self, identifier: u16, entry: Entry, stands: bool) -> Result<(), AllocError>
+        ensures { OnOk result (self.new ≡ answers_with stands (pubrec identifier success) (record self.old {
+          kept = kept_after identifier self.old.kept;
+          ledger = if is_among identifier self.old.kept then self.old.ledger else self.old.ledger ++ entry ∷ [];
+        })) }
+    {
+        self.hand_over(identifier, entry)?;
+        self.line
+            .send(Back::pubrec(identifier, Reason::SUCCESS.0), stands)
+    }
+
     fn hand_over(&mut self, identifier: u16, entry: Entry) -> Result<(), AllocError>
         ensures { OnOk result (self.new ≡ record self.old {
           kept = kept_after identifier self.old.kept;
           ledger = if is_among identifier self.old.kept then self.old.ledger else self.old.ledger ++ entry ∷ [];
         }) }
     {
-        if !is_kept(&self.kept, identifier) {
-            self.kept.push(identifier)?;
-            self.ledger.push(entry)?;
+        if is_kept(&self.kept, identifier) {
+            drop(entry);
+            return Ok(());
         }
+        self.ledger.push(entry)?;
+        self.kept.push(identifier)?;
         Ok(())
     }
 
