@@ -4,6 +4,7 @@ import re
 import shutil
 import sys
 import threading
+import time
 from concurrent.futures import FIRST_COMPLETED, ThreadPoolExecutor, wait
 
 ROOT = os.path.dirname(os.path.dirname(os.path.realpath(__file__)))
@@ -117,11 +118,49 @@ def free_memory():
     return min(found)
 
 
-def side_by_side(tasks):
+def at_run():
+    """Returns how many other processes want a processor now: the most of three looks in a second."""
+    most = 0
+    for _ in range(3):
+        states = []
+        for it in filter(str.isdigit, os.listdir("/proc")):
+            try:
+                with open(f"/proc/{it}/stat", encoding="utf-8", errors="replace") as stat:
+                    states += [stat.read().rpartition(")")[2].split()[0]] if it != str(os.getpid()) else []
+            except OSError:
+                pass
+        most = max(most, states.count("R"))
+        time.sleep(0.3)
+    return most
+
+
+class Beside:
+    """A run of rt ci, beside which tasks begin where it leaves processors and memory idle.
+
+    Its file has a line for each crate that rt ci has proved, and in the end the line 'over'. While it isn't over a task waits for the
+    proofs of all crates below its own, one begins at a time, with one job, and some gigabytes of memory stay for what rt ci begins next.
+    """
+
+    KEPT = 6_000_000_000
+
+    def __init__(self, file):
+        self.file, self.below = file, {}
+
+    def told(self):
+        with open(self.file, encoding="utf-8") as it:
+            return {*it.read().split("\n")[:-1]}
+
+    def begins(self, key, need, lanes, told):
+        """Returns whether a task of a crate may begin beside it."""
+        return self.below[key] <= told and free_memory() - self.KEPT >= need and at_run() < lanes
+
+
+def side_by_side(tasks, beside=None):
     """Runs tasks, each once those that it waits for have ended, as many as processors and memory hold.
 
     A task is its key, the keys that it waits for, its memory in bytes, its weight, and a call that takes a number of jobs. Those with
     the greatest weight behind them go first. Returns what each call gave, by key. RT_JOBS is how many run at a time, as under rt ci.
+    Beside a run of rt ci they begin as `Beside` says, until it is over.
     """
     number = os.environ.get("RT_JOBS", "")
     fixed = int(number) if number.isdigit() else 0
@@ -134,17 +173,28 @@ def side_by_side(tasks):
     running, given, turn = {}, {}, threading.Lock()
     with ThreadPoolExecutor(lanes) as pool:
         while left or running:
+            told = beside.told() if beside else set()
+            if "over" in told:
+                beside, memory = None, 0.85 * free_memory() + sum(it for _, it, _ in running.values())
             ready = [it for it in left if all(below in given for below in by_key[it][1])]
             for at, key in enumerate(ready):
                 _, _, need, _, call = by_key[key]
                 free = lanes - sum(jobs for _, _, jobs in running.values())
                 room = memory - sum(it for _, it, _ in running.values())
-                if free > 0 and (fixed or not running or need <= room):
+                if beside and free > 0 and beside.begins(key, need, lanes, told):
+                    jobs = 1
+                elif not beside and free > 0 and (fixed or not running or need <= room):
                     # a further job is for the processors that no other task waits for
                     jobs = 1 if fixed else max(1, min(4, free // (len(ready) - at), 1 + int((room / need - 1) / 0.6)))
-                    with turn:
-                        left.remove(key)
-                    running[pool.submit(call, jobs)] = key, need * (1 + 0.6 * (jobs - 1)), jobs
-            for it in wait(running, return_when=FIRST_COMPLETED).done:
+                else:
+                    continue
+                with turn:
+                    left.remove(key)
+                running[pool.submit(call, jobs)] = key, need * (1 + 0.6 * (jobs - 1)), jobs
+                if beside:
+                    break
+            for it in wait(running, 15 if beside else None, return_when=FIRST_COMPLETED).done:
                 given[running.pop(it)[0]] = it.result()
+            if beside and not running:
+                time.sleep(5)
     return given

@@ -6,6 +6,7 @@ mod asking;
 mod engine;
 mod held;
 mod laws;
+mod looks;
 mod opening;
 
 pub use engine::Engine;

@@ -7,6 +7,7 @@ mod engine;
 mod finishing;
 mod holding;
 mod indexing;
+mod looks;
 mod outcome;
 
 pub use engine::Engine;

@@ -18,7 +18,7 @@ use Rattle.mqtt_rules.specs.declared.Limits.{Limits}
 use Rattle.mqtt_world_laws.specs.Spending.{spending}
 use Rattle.mqtt_world_laws.proofs.Ends.{named_publisher, named_receiver}
 use Rattle.mqtt_world_laws.proofs.FirstPackets.{Takes, takes_old, takes_up}
-use Rattle.mqtt_every_run_laws.specs.Standing.{HasOthers, IsAnothers, IsAround, IsOtherPublisher, IsOtherReceiver, Stands, StandsWith}
+use Rattle.mqtt_every_run_laws.specs.Standing.{BeginWith, HasOthers, IsAnothers, IsAround, IsOtherPublisher, IsOtherReceiver, Stands, StandsWith}
 use Rattle.mqtt_every_run_laws.proofs.Around.{IsNotIts, changed_not, end_others, on_back, on_line}
 use Rattle.mqtt_every_run_laws.proofs.Outside.{IsOutside, if_stands, if_there}
 
@@ -43,13 +43,13 @@ all_wired c f [] h = tt
 all_wired c f (x ∷ xs) h = (h x, all_wired c f xs h)
 
 -- what another end has under way
-record IsForeign (c ns : List ℕ) (given : ℕ) (v : View) : Type 0 where
+pub record IsForeign (c ns : List ℕ) (given : ℕ) (v : View) : Type 0 where
   pub number : IsAnothers ns given v.number
   pub up : AllByRecursion (IsOthers c) v.up
   pub old_number : IsAnothers ns given v.old_number
   pub old : AllByRecursion (IsOthers c) v.old
 
-foreign : (c d : List ℕ) (limits : Limits) (ns : List ℕ) (w : World) → IsAround c limits ns w → (d ≡ c → ⊥) → IsForeign c ns w.broker.given (view_of d w)
+pub foreign : (c d : List ℕ) (limits : Limits) (ns : List ℕ) (w : World) → IsAround c limits ns w → (d ≡ c → ⊥) → IsForeign c ns w.broker.given (view_of d w)
 foreign c d limits ns w a differ = by (publisher_named d w) (receiver_named d w) refl refl
   where
     by : (x : Option Publisher) (y : Option Receiver) → publisher_named d w ≡ x → receiver_named d w ≡ y → IsForeign c ns w.broker.given (view_by x y)
@@ -77,7 +77,7 @@ foreign c d limits ns w a differ = by (publisher_named d w) (receiver_named d w)
         ]
     by None None e f = record { number = λ n is. absurd cc; up = tt; old_number = λ n is. absurd cc; old = tt }
 
-input_outside : (c ns : List ℕ) (given : ℕ) (x : Option ℕ) (packets : List Packet) (call : Call) → IsAnothers ns given x → AllByRecursion (IsOthers c) packets → input_on x packets ≡ Some call → IsOutside c ns call
+pub input_outside : (c ns : List ℕ) (given : ℕ) (x : Option ℕ) (packets : List Packet) (call : Call) → IsAnothers ns given x → AllByRecursion (IsOthers c) packets → input_on x packets ≡ Some call → IsOutside c ns call
 input_outside c ns given None packets call free all e = absurd cc
 input_outside c ns given (Some n) [] call free all e = absurd cc
 input_outside c ns given (Some n) (packet ∷ rest) call free all e =
@@ -101,50 +101,50 @@ takes_others ns given f t l h = record {
 }
 
 -- without its copies and lines
-abbrev pub hidden : (c : List ℕ) (largest : ℕ) (limits : Limits) (ids : List CopyId) (ns : List ℕ) (w : World) → StandsWith c largest limits ids ns w → Stands c largest limits w
-hidden c largest limits ids ns w h = record { ids = ids; ns = ns; standing = h }
+abbrev pub hidden : (first : List CopyId) (c : List ℕ) (largest : ℕ) (limits : Limits) (ids : List CopyId) (ns : List ℕ) (w : World) → BeginWith first ids → StandsWith c largest limits ids ns w → Stands first c largest limits w
+hidden first c largest limits ids ns w g h = record { ids = ids; grown = g; ns = ns; standing = h }
 
-pub other_reads : (c d : List ℕ) (largest : ℕ) (set : Setting) (w : World) → Stands c largest set.limits w → IsNotIts c d w → read_first spending set (to_broker d) w ≡ false → Stands c largest set.limits (first_step set (to_broker d) w)
-other_reads c d largest set w s not_its unspent =
+pub other_reads : (first : List CopyId) (c d : List ℕ) (largest : ℕ) (set : Setting) (w : World) → Stands first c largest set.limits w → IsNotIts c d w → read_first spending set (to_broker d) w ≡ false → Stands first c largest set.limits (first_step set (to_broker d) w)
+other_reads first c d largest set w s not_its unspent =
     let v = view_of d w in
     let w1 = with_line d taken_up taken_up w in
     let h = end_others c d largest set.limits s.ids s.ns w (on_line taken_up) (on_back taken_up) (λ p. refl) (λ r. refl) (λ p. takes_others s.ns w.broker.given taken_up takes_up p.line) (λ r. takes_others s.ns w.broker.given taken_up takes_up r.line) not_its s.standing in
-    if_stands c largest set (call_of set (to_broker d) w) w1 (hidden c largest set.limits s.ids s.ns w1 h) unspent
+    if_stands first c largest set (call_of set (to_broker d) w) w1 (hidden first c largest set.limits s.ids s.ns w1 s.grown h) unspent
     (λ there call is.
     let f = foreign c d set.limits s.ns w s.standing.around (not_its (sym (ap is_some (changed_not c d (on_back taken_up) w (λ r. refl) not_its)) ∙ there)) in
     input_outside c s.ns w.broker.given v.number v.up call f.number f.up is)
 
-pub other_reads_old : (c d : List ℕ) (largest : ℕ) (set : Setting) (w : World) → Stands c largest set.limits w → IsNotIts c d w → read_first spending set (old_to_broker d) w ≡ false → Stands c largest set.limits (first_step set (old_to_broker d) w)
-other_reads_old c d largest set w s not_its unspent =
+pub other_reads_old : (first : List CopyId) (c d : List ℕ) (largest : ℕ) (set : Setting) (w : World) → Stands first c largest set.limits w → IsNotIts c d w → read_first spending set (old_to_broker d) w ≡ false → Stands first c largest set.limits (first_step set (old_to_broker d) w)
+other_reads_old first c d largest set w s not_its unspent =
     let v = view_of d w in
     let w1 = with_line d taken_old taken_old w in
     let h = end_others c d largest set.limits s.ids s.ns w (on_line taken_old) (on_back taken_old) (λ p. refl) (λ r. refl) (λ p. takes_others s.ns w.broker.given taken_old takes_old p.line) (λ r. takes_others s.ns w.broker.given taken_old takes_old r.line) not_its s.standing in
-    if_stands c largest set (call_of set (old_to_broker d) w) w1 (hidden c largest set.limits s.ids s.ns w1 h) unspent
+    if_stands first c largest set (call_of set (old_to_broker d) w) w1 (hidden first c largest set.limits s.ids s.ns w1 s.grown h) unspent
     (λ there call is.
     let f = foreign c d set.limits s.ns w s.standing.around (not_its (sym (ap is_some (changed_not c d (on_back taken_old) w (λ r. refl) not_its)) ∙ there)) in
     input_outside c s.ns w.broker.given v.old_number v.old call f.old_number f.old is)
 
 -- ---- it is sent what waits for it, or its line is lost
 
-pub other_pumped : (c d : List ℕ) (largest : ℕ) (set : Setting) (w : World) → Stands c largest set.limits w → IsNotIts c d w → read_first spending set (pump d) w ≡ false → Stands c largest set.limits (first_step set (pump d) w)
-other_pumped c d largest set w s not_its unspent =
+pub other_pumped : (first : List CopyId) (c d : List ℕ) (largest : ℕ) (set : Setting) (w : World) → Stands first c largest set.limits w → IsNotIts c d w → read_first spending set (pump d) w ≡ false → Stands first c largest set.limits (first_step set (pump d) w)
+other_pumped first c d largest set w s not_its unspent =
     let v = view_of d w in
-    if_stands c largest set (pump_on v.number) w s unspent
+    if_stands first c largest set (pump_on v.number) w s unspent
     (λ there call is. let f = foreign c d set.limits s.ns w s.standing.around (not_its there) in pump_outside c s.ns w.broker.given v.number call f.number is)
 
-pub other_lost : (c d : List ℕ) (largest : ℕ) (set : Setting) (w : World) → Stands c largest set.limits w → IsNotIts c d w → read_first spending set (break d) w ≡ false → Stands c largest set.limits (first_step set (break d) w)
-other_lost c d largest set w s not_its unspent =
+pub other_lost : (first : List CopyId) (c d : List ℕ) (largest : ℕ) (set : Setting) (w : World) → Stands first c largest set.limits w → IsNotIts c d w → read_first spending set (break d) w ≡ false → Stands first c largest set.limits (first_step set (break d) w)
+other_lost first c d largest set w s not_its unspent =
     let v = view_of d w in
-    if_stands c largest set (lost_on v.number) w s unspent
+    if_stands first c largest set (lost_on v.number) w s unspent
     (λ there call is. let f = foreign c d set.limits s.ns w s.standing.around (not_its there) in lost_outside c s.ns w.broker.given v.number call f.number is)
 
 left_others : {U : Type 0} (ns : List ℕ) (given : ℕ) (l : Line U) → HasOthers ns given l → HasOthers ns given (left l)
 left_others ns given l h = record { number = λ n is. absurd cc; old_number = h.old_number }
 
-pub other_breaks : (c d : List ℕ) (largest : ℕ) (set : Setting) (w : World) → Stands c largest set.limits w → IsNotIts c d w → read_first spending set (break d) w ≡ false → Stands c largest set.limits (asks set (break d) w)
-other_breaks c d largest set w s not_its unspent =
+pub other_breaks : (first : List CopyId) (c d : List ℕ) (largest : ℕ) (set : Setting) (w : World) → Stands first c largest set.limits w → IsNotIts c d w → read_first spending set (break d) w ≡ false → Stands first c largest set.limits (asks set (break d) w)
+other_breaks first c d largest set w s not_its unspent =
     let w1 = first_step set (break d) w in
-    let x = other_lost c d largest set w s not_its unspent in
-    hidden c largest set.limits x.ids x.ns (asks set (break d) w)
+    let x = other_lost first c d largest set w s not_its unspent in
+    hidden first c largest set.limits x.ids x.ns (asks set (break d) w) x.grown
     (end_others c d largest set.limits x.ids x.ns w1 (on_line left) (on_back left) (λ p. refl) (λ r. refl) (λ p. left_others x.ns w1.broker.given p.line) (λ r. left_others x.ns w1.broker.given r.line)
     (λ there. not_its (sym (if_there c set (lost_on (view_of d w).number) w) ∙ there)) x.standing)

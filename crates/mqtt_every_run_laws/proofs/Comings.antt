@@ -88,8 +88,7 @@ new_placed c largest window since b named none = record {
   its_line = refl;
   apart = λ n e f. absurd cc;
   named = named_so c named;
-  differ = tt;
-  past = tt;
+  told = record { come = tt; differ = tt };
 }
 
 pub receiver_comes : (c d : List ℕ) (largest window : ℕ) (set : Setting) (ids : List CopyId) (ns : List ℕ) (w : World) → StandsWith c largest set.limits ids ns w → is_bad (receiver d window) w ≡ false
@@ -147,8 +146,7 @@ placed_does largest ids ns r q b placed client along seat apart = record {
   its_line = placed.its_line;
   apart = apart;
   named = subst IsNamed (sym client) placed.named;
-  differ = placed.differ;
-  past = placed.past;
+  told = placed.told;
 }
 
 -- ---- an end gives its line up
@@ -196,7 +194,7 @@ given_up_stands c d largest set ids ns w h carried = elim (whose_name c d w) [
         ap (λ (o : Option Publisher). not (is_asked (link_by o (receiver_named c w)) && is_clean o (receiver_named c w))) none
         ∙ ap (λ (o : Option Receiver). not (is_asked (link_by None o) && is_clean None o)) e in
         let may = may_give r.line.link r.line.clean (sym asks_ ∙ carries) in
-        let run = run_of placed.birth largest ids ns r w.broker placed.along placed.differ in
+        let run = run_of placed.birth largest ids ns r w.broker placed.along placed.told.differ in
         own_stands c largest set.limits ids ns w r (on_line gives) (on_back gives_back) (λ p. refl) (λ q. refl) e h.around
         (placed_does largest ids ns r (on_back gives_back r) w.broker placed refl (given_along placed.birth largest ids ns r w.broker placed.along may)
         (seat_given placed.birth placed.line r w.broker placed.seat (calm_up (place_of ids) largest run.0 r w.broker run.1) may) (given_apart r.line.link r placed.apart))
@@ -308,10 +306,10 @@ read_stands c d largest set ids ns w h = elim (whose_name c d w) [
   | inl own ↦
       let r = own.0 in
       let placed = subst (IsSeen largest ids ns w.broker) own.1 h.seen in
-      let run = run_of placed.birth largest ids ns r w.broker placed.along placed.differ in
+      let run = run_of placed.birth largest ids ns r w.broker placed.along placed.told.differ in
       subst (λ (x : List ℕ). StandsWith c largest set.limits ids ns (happens set (to_end x) w)) (sym own.2)
       (own_stands c largest set.limits ids ns w r F G keeps keeps_there own.1 h.around
-      (placed_does largest ids ns r (G r) w.broker placed (keeps_there r) (read_along placed.birth placed.line largest ids ns r w.broker placed.along placed.differ placed.seat.present)
+      (placed_does largest ids ns r (G r) w.broker placed (keeps_there r) (read_along placed.birth placed.line largest ids ns r w.broker placed.along placed.told.differ placed.seat.present)
       (seat_read (place_of ids) largest run.0 placed.birth placed.line r w.broker run.1 placed.seat) (read_apart (stands r.line.number w.broker) r placed.apart)))
 ]
   where

@@ -1,7 +1,6 @@
 -- An end joins by a new line and CONNECT, in the eyes of one receiver: itself, or another.
 use Rattle.std.proofs.Common.{◌≡◌, ℕ, suc, ◌≤◌, Bool, true, false, cond, not, ◌||◌, ◌⊎◌, List, ◌∷◌, Option, Some, None, nat_eq, refl, sym, ap, subst, ◌∙◌, arith, inl, inr}
 use Rattle.std.specs.Prelude.{is_some, option_map}
-use Rattle.std.specs.List.{AllByRecursion}
 use Rattle.std.proofs.lemmas.Bool.{cases_Bool, eqb-true}
 use Rattle.mqtt_base.specs.declared.session.CopyId.{CopyId}
 use Rattle.mqtt_flow.specs.Receiver.{connect}
@@ -11,20 +10,22 @@ use Rattle.mqtt_laws.specs.Ends.{Back, Publisher, Receiver, Sent, answers, shake
 use Rattle.mqtt_laws.specs.Lines.{Line, is_one_of, joined}
 use Rattle.mqtt_laws.specs.Run.{carries_clean, is_clean}
 use Rattle.mqtt_laws.specs.World.{Setting, World, calls, connect_end, happens, is_away, is_bad, link_by, links, publisher_told, receiver_named, receiver_told}
-use Rattle.mqtt_laws.proofs.Joins.{new_is}
+use Rattle.mqtt_rules.proofs.NumberSteps.{step_fell}
 use Rattle.mqtt_rules.specs.State.{Broker}
 use Rattle.mqtt_rules.specs.Step.{NewLine, can_link, stepped, told}
 use Rattle.mqtt_world_laws.proofs.Ends.{all_turned}
 use Rattle.mqtt_world_laws.proofs.Steady.{linking_spends_none, steady_step}
 use Rattle.mqtt_world_laws.proofs.Strangers.{linked_given}
 use Rattle.mqtt_handed_laws.specs.Handing.{MayComeBack, receiver_joined}
+use Rattle.mqtt_handed_laws.proofs.Apart.{apart_still}
 use Rattle.mqtt_handed_laws.proofs.OwnDoings.{joins_awaiting, joins_in_step}
 use Rattle.mqtt_handed_laws.proofs.Stopping.{step_tidy}
-use Rattle.mqtt_every_run_laws.specs.Standing.{GoesAlong, HasOthers, IsAnothers, IsAround, IsOtherStranger, IsPast, IsPlaced, IsSeen, Stands, StandsWith}
+use Rattle.mqtt_every_run_laws.specs.Standing.{GoesAlong, HasOthers, IsAnothers, IsAround, IsOtherStranger, IsPlaced, IsSeen, Stands, StandsWith, BeginWith}
 use Rattle.mqtt_every_run_laws.proofs.Around.{IsNotIts, around_mapped, end_others, on_back, on_line, own_stands, whose_name}
 use Rattle.mqtt_every_run_laws.proofs.Like.{seat_joined}
 use Rattle.mqtt_every_run_laws.proofs.Outside.{if_there, lines_of, named_called}
 use Rattle.mqtt_every_run_laws.proofs.Strangers.{linking_stands, next_free}
+use Rattle.mqtt_every_run_laws.proofs.Growing.{begin_then}
 
 -- ---- its copies and lines
 
@@ -44,9 +45,6 @@ wider n m ns h = by (nat_eq 0 n) h
     by true h = refl
     by false h = or_right (nat_eq m n) (is_one_of (Some n) ns) h
 
-same_publications : (set : Setting) (now : ℕ) (b : Broker) → can_link b ≡ true → (stepped set.limits set.choice now NewLine b).records.publications ≡ b.records.publications
-same_publications set now b can = ap (λ (c : Broker). c.records.publications) (new_is set.limits set.choice now b can)
-
 joined_placed : (largest : ℕ) (ids : List CopyId) (ns : List ℕ) (set : Setting) (now : ℕ) (clean : Bool) (r : Receiver) (b : Broker) → IsPlaced largest ids ns r b → MayComeBack clean r b → ((n : ℕ) → is_one_of (Some n) ns ≡ true → n ≤ b.given)
     → IsPlaced largest ids (suc b.given ∷ ns) (receiver_joined set.limits set.choice now clean r b) (stepped set.limits set.choice now NewLine b)
 joined_placed largest ids ns set now clean r b placed may known = record {
@@ -60,8 +58,7 @@ joined_placed largest ids ns set now clean r b placed may known = record {
       let le = known n ((lines_of placed.birth largest ids ns r b placed.along).old n old) in
       omega (arith, it, le);
   named = placed.named;
-  differ = placed.differ;
-  past = subst (λ (n : ℕ). AllByRecursion (IsPast n) ids) (sym (same_publications set now b may.can)) placed.past;
+  told = apart_still ids b.records (stepped set.limits set.choice now NewLine b).records placed.told (step_fell set.limits set.choice now NewLine b);
 }
 
 -- ---- the lines of others
@@ -72,7 +69,7 @@ others_off n m ns le h = elim (cases_Bool (nat_eq (suc m) n)) [
   | inr other ↦ rw other h
 ]
 
-module _ (c d : List ℕ) (clean : Bool) (largest : ℕ) (set : Setting) (w : World) (can : can_link w.broker ≡ true) where
+module _ (first : List CopyId) (c d : List ℕ) (clean : Bool) (largest : ℕ) (set : Setting) (w : World) (can : can_link w.broker ≡ true) where
   abbrev next : ℕ
   next = suc w.broker.given
 
@@ -86,12 +83,13 @@ module _ (c d : List ℕ) (clean : Bool) (largest : ℕ) (set : Setting) (w : Wo
   joins_there l = joined (answers (connect clean)) next clean l
 
   -- another
-  other_joins : (ids : List CopyId) (ns : List ℕ) → StandsWith c largest set.limits ids ns w → IsNotIts c d w → Stands c largest set.limits (links set (Some next) d clean w)
-  other_joins ids ns h not_its =
+  other_joins : (ids : List CopyId) (ns : List ℕ) → BeginWith first ids → StandsWith c largest set.limits ids ns w → IsNotIts c d w → Stands first c largest set.limits (links set (Some next) d clean w)
+  other_joins ids ns g h not_its =
       let x = linking_stands c largest set ids ns w h in
       let free = next_free c largest set ids ns w h can in
       record {
         ids = x.0;
+        grown = begin_then first ids x.0 g x.2;
         ns = ns;
         standing = end_others c d largest set.limits x.0 ns (calls set NewLine w) (on_line joins_so) (on_back joins_there) (λ p. refl) (λ r. refl)
             (λ p f. record { number = free; old_number = f.old_number }) (λ r f. record { number = free; old_number = f.old_number })
@@ -132,14 +130,15 @@ module _ (c d : List ℕ) (clean : Bool) (largest : ℕ) (set : Setting) (w : Wo
         | inr other ↦ let le = a.known n (rw other at inside) in let given = linked_given set w.now w.broker can in omega (arith, le, given)
       ]
 
-  its_joins : (ids : List CopyId) (ns : List ℕ) (r : Receiver) → StandsWith c largest set.limits ids ns w → receiver_named c w ≡ Some r → r.line.link ≡ away → (r.line.clean ≡ true → clean ≡ true)
-      → Stands c largest set.limits (links set (Some next) c clean w)
-  its_joins ids ns r h e is_away_ carried =
+  its_joins : (ids : List CopyId) (ns : List ℕ) (r : Receiver) → BeginWith first ids → StandsWith c largest set.limits ids ns w → receiver_named c w ≡ Some r → r.line.link ≡ away → (r.line.clean ≡ true → clean ≡ true)
+      → Stands first c largest set.limits (links set (Some next) c clean w)
+  its_joins ids ns r g h e is_away_ carried =
       let out = told set.limits set.choice w.now NewLine w.broker in
       let placed = subst (IsSeen largest ids ns w.broker) e h.seen in
       let may : MayComeBack clean r w.broker = record { can = can; given = h.around.steady.lines.given; away = is_away_; carried = carried } in
       record {
         ids = ids;
+        grown = g;
         ns = next ∷ ns;
         standing = own_stands c largest set.limits ids (next ∷ ns) (calls set NewLine w) (receiver_told new out r) (on_line joins_so) (on_back joins_there) (λ p. refl) (λ q. refl)
             (named_called c set NewLine w ∙ ap (option_map (receiver_told new out)) e) (its_around ns h.around)
@@ -158,14 +157,14 @@ so_clean true was h is = refl
 so_clean false true h is = absurd cc
 so_clean false false h is = absurd cc
 
-pub joined_stands : (c d : List ℕ) (clean : Bool) (largest : ℕ) (set : Setting) (w : World) → Stands c largest set.limits w → is_bad (connect_end d clean) w ≡ false → carries_clean (connect_end d clean) w ≡ true
-    → Stands c largest set.limits (happens set (connect_end d clean) w)
-joined_stands c d clean largest set w stay good carried = by (can_link w.broker) refl
+pub joined_stands : (first : List CopyId) (c d : List ℕ) (clean : Bool) (largest : ℕ) (set : Setting) (w : World) → Stands first c largest set.limits w → is_bad (connect_end d clean) w ≡ false → carries_clean (connect_end d clean) w ≡ true
+    → Stands first c largest set.limits (happens set (connect_end d clean) w)
+joined_stands first c d clean largest set w stay good carried = by (can_link w.broker) refl
   where
-    by : (t : Bool) → can_link w.broker ≡ t → Stands c largest set.limits (links set (cond t (Some (suc w.broker.given)) None) d clean w)
+    by : (t : Bool) → can_link w.broker ≡ t → Stands first c largest set.limits (links set (cond t (Some (suc w.broker.given)) None) d clean w)
     by false can = stay
     by true can = elim (whose_name c d w) [
-      | inr not_its ↦ other_joins c d clean largest set w can stay.ids stay.ns stay.standing not_its
+      | inr not_its ↦ other_joins first c d clean largest set w can stay.ids stay.ns stay.grown stay.standing not_its
       | inl own ↦
           let r = own.0 in
           let none = stay.standing.around.alone (ap is_some own.1) in
@@ -174,6 +173,6 @@ joined_stands c d clean largest set w stay good carried = by (can_link w.broker)
           sym (ap (λ (x : Option Publisher). not (is_away (link_by x o))) none ∙ ap (λ (x : Option Receiver). not (is_away (link_by None x))) own.1) ∙ subst (λ (x : List ℕ). is_bad (connect_end x clean) w ≡ false) own.2 good in
           let kept : (clean || not r.line.clean) ≡ true =
           sym (ap (λ (x : Option Publisher). clean || not (is_clean x o)) none ∙ ap (λ (x : Option Receiver). clean || not (is_clean None x)) own.1) ∙ subst (λ (x : List ℕ). carries_clean (connect_end x clean) w ≡ true) own.2 carried in
-          subst (λ (x : List ℕ). Stands c largest set.limits (links set (Some (suc w.broker.given)) x clean w)) (sym own.2)
-          (its_joins c d clean largest set w can stay.ids stay.ns r stay.standing own.1 (so_away r.line.link free) (so_clean clean r.line.clean kept))
+          subst (λ (x : List ℕ). Stands first c largest set.limits (links set (Some (suc w.broker.given)) x clean w)) (sym own.2)
+          (its_joins first c d clean largest set w can stay.ids stay.ns r stay.grown stay.standing own.1 (so_away r.line.link free) (so_clean clean r.line.clean kept))
     ]

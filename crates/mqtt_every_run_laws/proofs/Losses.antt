@@ -1,7 +1,6 @@
 -- The line of an end is lost, and the end leaves it, in the eyes of one receiver: its own, or another's (MQTT 5.0, 4.4).
 use Rattle.std.proofs.Common.{◌≡◌, ℕ, suc, true, false, ◌⊎◌, List, [], ◌∷◌, ◌++◌, Option, Some, None, nat_eq, bytes_eq, refl, sym, ap, subst, ◌∙◌, arith, inl, inr}
 use Rattle.std.specs.Prelude.{find, is_some, option_map}
-use Rattle.std.specs.List.{AllByRecursion}
 use Rattle.std.proofs.lemmas.Bool.{cases_Bool, eqb-true}
 use Rattle.std.proofs.lemmas.Slice.Eq.{bytes_eq-Decides}
 use Rattle.mqtt_base.specs.declared.session.CopyId.{CopyId}
@@ -29,16 +28,17 @@ use Rattle.mqtt_world_laws.specs.Spending.{spending}
 use Rattle.mqtt_handed_laws.specs.Handing.{IsRun, receiver_lost}
 use Rattle.mqtt_handed_laws.specs.Own.{IsInStep, Listens}
 use Rattle.mqtt_handed_laws.specs.Seen.{Numbering}
+use Rattle.mqtt_handed_laws.proofs.Apart.{apart_still}
 use Rattle.mqtt_handed_laws.proofs.IdleLines.{idle_loss_awaiting, idle_loss_in_step}
 use Rattle.mqtt_handed_laws.proofs.Listening.{listens_in_step}
 use Rattle.mqtt_handed_laws.proofs.OwnCalls.{loss_in_step}
 use Rattle.mqtt_handed_laws.proofs.Refusals.{run_append}
-use Rattle.mqtt_every_run_laws.specs.Standing.{GoesAlong, IsPast, IsPlaced, IsSeen, Stands, line_like, publisher_like}
+use Rattle.mqtt_every_run_laws.specs.Standing.{GoesAlong, IsPlaced, IsSeen, Stands, line_like, publisher_like}
 use Rattle.mqtt_every_run_laws.proofs.Around.{on_back, on_line, own_stands, whose_name}
 use Rattle.mqtt_every_run_laws.proofs.Asking.{other_breaks}
 use Rattle.mqtt_every_run_laws.proofs.Like.{former_as, told_like}
 use Rattle.mqtt_handed_laws.proofs.Numbers.{place_of, places_number}
-use Rattle.mqtt_every_run_laws.proofs.Outside.{calls_around, lines_of, listed, named_called, past_later}
+use Rattle.mqtt_every_run_laws.proofs.Outside.{calls_around, lines_of, listed, named_called}
 
 -- ---- it leaves a line that it hasn't
 
@@ -86,8 +86,7 @@ left_placed largest ids ns r b placed = record {
   its_line = placed.its_line;
   apart = λ n e f. absurd cc;
   named = placed.named;
-  differ = placed.differ;
-  past = placed.past;
+  told = placed.told;
 }
 
 -- ---- whose session it is, where it is in step or awaits one
@@ -177,8 +176,7 @@ lost_placed largest ids ns limits choice now n r b placed steady is =
       its_line = its x.line x.its_line;
       apart = λ m e f. absurd cc;
       named = placed.named;
-      differ = placed.differ;
-      past = later ids placed.past;
+      told = apart_still ids b.records new.records placed.told (step_fell limits choice now (Lost n) b);
     }
   where
     q : Receiver
@@ -189,23 +187,20 @@ lost_placed largest ids ns limits choice now n r b placed steady is =
 
     birth_is : (o p : Option ℕ) (k : ℕ) → GoesAlong o largest ids ns r b → GoesAlong o largest ids ns q new → IsHis r.client o placed.line b → IsHis r.client p k new → p ≡ o
     birth_is None p k before along his there = his_none r.client p k new (still_none limits choice now n r b placed.named his) there
-    birth_is (Some birth) p k before along his there = his_birth largest ids birth ns q new p k along placed.differ there
+    birth_is (Some birth) p k before along his there = his_birth largest ids birth ns q new p k along placed.told.differ there
 
     its : (k : ℕ) → (k ≡ placed.line) ⊎ ((r.line.number ≡ Some k) ⊎ (r.line.old_number ≡ Some k)) → is_one_of (Some k) (0 ∷ ns) ≡ true
     its k (inl e) = ap (λ (m : ℕ). is_one_of (Some m) (0 ∷ ns)) e ∙ placed.its_line
     its k (inr (inl e)) = listed k ns ((lines_of placed.birth largest ids ns r b placed.along).own k e)
     its k (inr (inr e)) = listed k ns ((lines_of placed.birth largest ids ns r b placed.along).old k e)
 
-    later : (xs : List CopyId) → AllByRecursion (IsPast b.records.publications) xs → AllByRecursion (IsPast new.records.publications) xs
-    later xs h = past_later b.records.publications new.records.publications xs ((step_fell limits choice now (Lost n) b).1) h
-
 -- ---- as an event
 
-its_breaks : (c : List ℕ) (largest : ℕ) (set : Setting) (w : World) (s : Stands c largest set.limits w) (r : Receiver) → receiver_named c w ≡ Some r → read_first spending set (break c) w ≡ false → Stands c largest set.limits (asks set (break c) w)
-its_breaks c largest set w s r e unspent = subst (λ (o : Option ℕ). read_if spending set (lost_on o) w ≡ false → Goal o) (sym view) (by r.line.number refl) unspent
+its_breaks : (first : List CopyId) (c : List ℕ) (largest : ℕ) (set : Setting) (w : World) (s : Stands first c largest set.limits w) (r : Receiver) → receiver_named c w ≡ Some r → read_first spending set (break c) w ≡ false → Stands first c largest set.limits (asks set (break c) w)
+its_breaks first c largest set w s r e unspent = subst (λ (o : Option ℕ). read_if spending set (lost_on o) w ≡ false → Goal o) (sym view) (by r.line.number refl) unspent
   where
     Goal : Option ℕ → Type 0
-    Goal o = Stands c largest set.limits (with_line c left left (calls_if set (lost_on o) w))
+    Goal o = Stands first c largest set.limits (with_line c left left (calls_if set (lost_on o) w))
 
     view : (view_of c w).number ≡ r.line.number
     view = ap (λ (o : Option Publisher). (view_by o (receiver_named c w)).number) (s.standing.around.alone (ap is_some e)) ∙ ap (λ (o : Option Receiver). (view_by None o).number) e
@@ -216,6 +211,7 @@ its_breaks c largest set w s r e unspent = subst (λ (o : Option ℕ). read_if s
     by : (x : Option ℕ) → r.line.number ≡ x → read_if spending set (lost_on x) w ≡ false → Goal x
     by None is u = record {
       ids = s.ids;
+      grown = s.grown;
       ns = s.ns;
       standing = own_stands c largest set.limits s.ids s.ns w r (on_line left) (on_back left) (λ p. refl) (λ q. refl) e s.standing.around (left_placed largest s.ids s.ns r w.broker placed);
     }
@@ -224,15 +220,16 @@ its_breaks c largest set w s r e unspent = subst (λ (o : Option ℕ). read_if s
         let out = told set.limits set.choice w.now (Lost n) w.broker in
         record {
           ids = s.ids;
+          grown = s.grown;
           ns = s.ns;
           standing = own_stands c largest set.limits s.ids s.ns (calls set (Lost n) w) (receiver_told new out r) (on_line left) (on_back left) (λ p. refl) (λ q. refl)
               (named_called c set (Lost n) w ∙ ap (option_map (receiver_told new out)) e) (calls_around c set s.ns (Lost n) w s.standing.around u)
               (lost_placed largest s.ids s.ns set.limits set.choice w.now n r w.broker placed s.standing.around.steady is);
         }
 
-pub broken_stands : (c d : List ℕ) (largest : ℕ) (set : Setting) (w : World) → Stands c largest set.limits w → read_first spending set (break d) w ≡ false → Stands c largest set.limits (asks set (break d) w)
-broken_stands c d largest set w s unspent = elim (whose_name c d w) [
-  | inr not_its ↦ other_breaks c d largest set w s not_its unspent
-  | inl own ↦ subst (λ (x : List ℕ). Stands c largest set.limits (asks set (break x) w)) (sym own.2)
-      (its_breaks c largest set w s own.0 own.1 (subst (λ (x : List ℕ). read_first spending set (break x) w ≡ false) own.2 unspent))
+pub broken_stands : (first : List CopyId) (c d : List ℕ) (largest : ℕ) (set : Setting) (w : World) → Stands first c largest set.limits w → read_first spending set (break d) w ≡ false → Stands first c largest set.limits (asks set (break d) w)
+broken_stands first c d largest set w s unspent = elim (whose_name c d w) [
+  | inr not_its ↦ other_breaks first c d largest set w s not_its unspent
+  | inl own ↦ subst (λ (x : List ℕ). Stands first c largest set.limits (asks set (break x) w)) (sym own.2)
+      (its_breaks first c largest set w s own.0 own.1 (subst (λ (x : List ℕ). read_first spending set (break x) w ≡ false) own.2 unspent))
 ]

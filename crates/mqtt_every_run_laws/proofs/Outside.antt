@@ -1,6 +1,6 @@
 -- A call of the broker that is made for others, in the eyes of one receiver.
 use Rattle.std.proofs.Common.{◌≡◌, ℕ, suc, ◌≤◌, Bool, true, false, ◌||◌, ◌⊎◌, List, [], ◌∷◌, ◌++◌, Option, Some, None, nat_eq, refl, sym, ap, subst, ◌∙◌, append-nil, arith, inl, inr}
-use Rattle.std.specs.Prelude.{◌≢◌, ⊤, is_some, option_map}
+use Rattle.std.specs.Prelude.{⊤, is_some, option_map}
 use Rattle.std.specs.List.{AllByRecursion}
 use Rattle.std.proofs.lemmas.Bool.{cases_Bool, eqb-true}
 use Rattle.mqtt_base.specs.declared.session.CopyId.{CopyId}
@@ -11,25 +11,25 @@ use Rattle.mqtt_laws.specs.Run.{read_if}
 use Rattle.mqtt_laws.specs.Seats.{IsElsewhere, IsHis, IsNamed, IsOff, Seat}
 use Rattle.mqtt_laws.specs.World.{Setting, World, calls, calls_if, publisher_told, receiver_named, receiver_told}
 use Rattle.mqtt_rows.specs.Distinct.{AllDiffer}
-use Rattle.mqtt_rules.proofs.Copies.{each_append}
-use Rattle.mqtt_rules.proofs.FlightRows.{all_more}
 use Rattle.mqtt_rules.proofs.NumberSteps.{step_fell}
+use Rattle.mqtt_rules.specs.Numbers.{NoneFell}
 use Rattle.mqtt_rules.specs.State.{Broker, MemberChoice}
 use Rattle.mqtt_rules.specs.Step.{BadInput, Call, Input, Lost, NewLine, Pump, Tick, at_moment, stepped, told}
 use Rattle.mqtt_rules.specs.declared.Limits.{Limits}
 use Rattle.mqtt_world_laws.specs.Spending.{spending}
-use Rattle.mqtt_world_laws.proofs.Differ.{AreApart, differ_join}
 use Rattle.mqtt_world_laws.proofs.Ends.{all_turned, find_receiver, is_some_mapped, named_receiver}
 use Rattle.mqtt_world_laws.proofs.Steady.{given_grows, steady_step}
 use Rattle.mqtt_handed_laws.specs.Calls.{receiver_called}
 use Rattle.mqtt_handed_laws.specs.Own.{IsAwaiting, StepsOn}
 use Rattle.mqtt_handed_laws.specs.Served.{HasLines, IsCallOfOthers, IsNewCopy, IsTidy}
+use Rattle.mqtt_handed_laws.proofs.Apart.{apart_entered}
 use Rattle.mqtt_handed_laws.proofs.AwaitingOthers.{others_awaiting}
 use Rattle.mqtt_handed_laws.proofs.OwnOthers.{others_in_step}
 use Rattle.mqtt_handed_laws.proofs.Stopping.{step_tidy}
-use Rattle.mqtt_every_run_laws.specs.Standing.{GoesAlong, HasOthers, IsAround, IsOtherStranger, IsPast, IsPlaced, IsSeen, Stands, StandsWith, publisher_like}
+use Rattle.mqtt_every_run_laws.specs.Standing.{GoesAlong, HasOthers, IsAround, IsOtherStranger, IsPlaced, IsSeen, Stands, StandsWith, publisher_like, BeginWith}
 use Rattle.mqtt_every_run_laws.proofs.Around.{around_mapped, given_later, others_later}
 use Rattle.mqtt_every_run_laws.proofs.Like.{seat_of_others}
+use Rattle.mqtt_every_run_laws.proofs.Growing.{begin_on, begin_same, begin_then}
 
 -- ---- on none of its lines, and no CONNECT of its client; whether a tick is one is seen at the broker
 
@@ -103,24 +103,16 @@ pub record GoesFurther (largest : ℕ) (ids : List CopyId) (ns : List ℕ) (r : 
   pub more : List CopyId
   pub placed : IsPlaced largest (ids ++ more) ns r b
 
-pub past_later : (few many : ℕ) (ids : List CopyId) → few ≤ many → AllByRecursion (IsPast few) ids → AllByRecursion (IsPast many) ids
-past_later few many ids le h = all_more (IsPast few) (IsPast many) ids (λ x p. omega (arith, p, le)) h
+-- with none more
+pub goes_as : (largest : ℕ) (ids : List CopyId) (ns : List ℕ) (r : Receiver) (b : Broker) → IsPlaced largest ids ns r b → GoesFurther largest ids ns r b
+goes_as largest ids ns r b placed = record { more = []; placed = subst (λ (all : List CopyId). IsPlaced largest all ns r b) (sym (append-nil ids)) placed }
 
-new_past : (birth before last : ℕ) (ids : List CopyId) → AllByRecursion (IsNewCopy birth before last) ids → AllByRecursion (IsPast last) ids
-new_past birth before last ids h = all_more (IsNewCopy birth before last) (IsPast last) ids (λ x p. p.within) h
-
-new_apart : (birth before last : ℕ) (ids more : List CopyId) → AllByRecursion (IsPast before) ids → AllByRecursion (IsNewCopy birth before last) more → AreApart ids more
-new_apart birth before last ids more p q =
-    all_more (IsPast before) (λ x. AllByRecursion (λ y. x ≢ y) more) ids
-    (λ x h. all_more (IsNewCopy birth before last) (λ y. x ≢ y) more
-    (λ y g e. let same = ap (λ (id : CopyId). id.publication) e in let above = g.above in omega (arith, same, h, above)) q) p
-
--- at a broker that has accepted no fewer publications, with the seat that it has there
-pub placed_on : (largest : ℕ) (ids more : List CopyId) (ns ms : List ℕ) (birth before line : ℕ) (o : Option ℕ) (r q : Receiver) (b c : Broker) (placed : IsPlaced largest ids ns r b)
-    → b.records.publications ≤ before → before ≤ c.records.publications → q.client ≡ r.client → AllByRecursion (IsNewCopy birth before c.records.publications) more → AllDiffer more
+-- at a broker whose counts have not fallen, with the seat that it has there
+pub placed_on : (largest : ℕ) (ids more : List CopyId) (ns ms : List ℕ) (birth line : ℕ) (o : Option ℕ) (r q : Receiver) (b c : Broker) (placed : IsPlaced largest ids ns r b)
+    → NoneFell b.records c.records → q.client ≡ r.client → AllByRecursion (IsNewCopy birth b.records.publications c.records.publications) more → AllDiffer more
     → GoesAlong o largest (ids ++ more) ms q c → Seat o line (publisher_like q) c → is_one_of (Some line) (0 ∷ ms) ≡ true
     → ((n : ℕ) → q.line.number ≡ Some n → q.line.old_number ≡ Some n → ⊥) → IsPlaced largest (ids ++ more) ms q c
-placed_on largest ids more ns ms birth before line o r q b c placed first last client new differ along seat its_line apart = record {
+placed_on largest ids more ns ms birth line o r q b c placed fell client new differ along seat its_line apart = record {
   birth = o;
   line = line;
   along = along;
@@ -128,8 +120,7 @@ placed_on largest ids more ns ms birth before line o r q b c placed first last c
   its_line = its_line;
   apart = apart;
   named = subst IsNamed (sym client) placed.named;
-  differ = differ_join ids more placed.differ differ (new_apart birth before c.records.publications ids more (past_later b.records.publications before ids first placed.past) new);
-  past = each_append (IsPast c.records.publications) ids more (past_later b.records.publications c.records.publications ids (omega (arith, first, last)) placed.past) (new_past birth before c.records.publications more new);
+  told = apart_entered birth ids more b.records c.records placed.told fell new differ;
 }
 
 -- a call for others, with the seat that it has then
@@ -144,22 +135,22 @@ placed_others largest ids ns limits choice now call r b placed tidy its seat = b
     new : Broker
     new = stepped limits choice now call b
 
-    grows : b.records.publications ≤ new.records.publications
-    grows = (step_fell limits choice now call b).1
+    grows : NoneFell b.records new.records
+    grows = step_fell limits choice now call b
 
     by : (o : Option ℕ) → GoesAlong o largest ids ns r b → IsHis r.client o placed.line b → Seat o placed.line (publisher_like q) new → GoesFurther largest ids ns q new
     by None along his seat =
         let x = others_awaiting largest ids limits choice now call ns r b along his placed.named.plain its in
         record {
           more = [];
-          placed = placed_on largest ids [] ns ns 0 b.records.publications placed.line None r q b new placed (omega arith) grows refl tt tt
+          placed = placed_on largest ids [] ns ns 0 placed.line None r q b new placed grows refl tt tt
               (subst (λ (all : List CopyId). IsAwaiting largest all ns q new) (sym (append-nil ids)) x.0) seat placed.its_line (λ n e f. placed.apart n e f);
         }
     by (Some birth) along his seat =
         let x : StepsOn largest ids birth ns b.records.publications q new = others_in_step largest ids limits choice now call birth ns r b along tidy placed.named.plain its in
         record {
           more = x.more;
-          placed = placed_on largest ids x.more ns ns birth b.records.publications placed.line (Some birth) r q b new placed (omega arith) grows refl x.new x.differ x.in_step seat placed.its_line (λ n e f. placed.apart n e f);
+          placed = placed_on largest ids x.more ns ns birth placed.line (Some birth) r q b new placed grows refl x.new x.differ x.in_step seat placed.its_line (λ n e f. placed.apart n e f);
         }
 
 pub placed_called : (largest : ℕ) (ids : List CopyId) (ns : List ℕ) (limits : Limits) (choice : MemberChoice) (now : ℕ) (call : Call) (r : Receiver) (b : Broker) → IsPlaced largest ids ns r b → IsTidy limits b → IsOutside r.client ns call
@@ -196,7 +187,7 @@ calls_around c set ns call w a unspent =
 -- by what becomes of the receiver
 pub calls_with : (c : List ℕ) (largest : ℕ) (set : Setting) (call : Call) (ids : List CopyId) (ns : List ℕ) (w : World) → StandsWith c largest set.limits ids ns w → read_if spending set (Some call) w ≡ false
     → ((r : Receiver) → receiver_named c w ≡ Some r → IsPlaced largest ids ns r w.broker → GoesFurther largest ids ns (receiver_called set.limits set.choice w.now call r w.broker) (stepped set.limits set.choice w.now call w.broker))
-    → (all : List CopyId) × StandsWith c largest set.limits all ns (calls set call w)
+    → (all : List CopyId) × StandsWith c largest set.limits all ns (calls set call w) × BeginWith ids all
 calls_with c largest set call ids ns w h unspent goes = by (receiver_named c w) refl
   where
     new : Broker
@@ -205,13 +196,14 @@ calls_with c largest set call ids ns w h unspent goes = by (receiver_named c w) 
     around : IsAround c set.limits ns (calls set call w)
     around = calls_around c set ns call w h.around unspent
 
-    by : (o : Option Receiver) → receiver_named c w ≡ o → (all : List CopyId) × StandsWith c largest set.limits all ns (calls set call w)
+    by : (o : Option Receiver) → receiver_named c w ≡ o → (all : List CopyId) × StandsWith c largest set.limits all ns (calls set call w) × BeginWith ids all
     by None e = (
       ids,
       record {
         around = around;
         seen = subst (IsSeen largest ids ns new) (sym (named_called c set call w ∙ ap (option_map _) e)) (subst (IsSeen largest ids ns w.broker) e h.seen);
       },
+      begin_same ids,
     )
     by (Some r) e =
         let x = goes r e (subst (IsSeen largest ids ns w.broker) e h.seen) in (
@@ -220,16 +212,17 @@ calls_with c largest set call ids ns w h unspent goes = by (receiver_named c w) 
             around = around;
             seen = subst (IsSeen largest (ids ++ x.more) ns new) (sym (named_called c set call w ∙ ap (option_map _) e)) x.placed;
           },
+          begin_on ids x.more,
         )
 
 pub called_copies : (c : List ℕ) (largest : ℕ) (set : Setting) (call : Call) (ids : List CopyId) (ns : List ℕ) (w : World) → StandsWith c largest set.limits ids ns w → read_if spending set (Some call) w ≡ false
-    → (is_some (receiver_named c w) ≡ true → IsOutside c ns call) → (all : List CopyId) × StandsWith c largest set.limits all ns (calls set call w)
+    → (is_some (receiver_named c w) ≡ true → IsOutside c ns call) → (all : List CopyId) × StandsWith c largest set.limits all ns (calls set call w) × BeginWith ids all
 called_copies c largest set call ids ns w h unspent out = calls_with c largest set call ids ns w h unspent (λ r e placed.
     placed_called largest ids ns set.limits set.choice w.now call r w.broker placed h.around.tidy (subst (λ (z : List ℕ). IsOutside z ns call) (sym (named_receiver c r w e)) (out (ap is_some e))))
 
-pub calls_stand : (c : List ℕ) (largest : ℕ) (set : Setting) (call : Call) (ids : List CopyId) (ns : List ℕ) (w : World) → StandsWith c largest set.limits ids ns w → read_if spending set (Some call) w ≡ false
-    → (is_some (receiver_named c w) ≡ true → IsOutside c ns call) → Stands c largest set.limits (calls set call w)
-calls_stand c largest set call ids ns w h unspent out = let x = called_copies c largest set call ids ns w h unspent out in record { ids = x.0; ns = ns; standing = x.1 }
+pub calls_stand : (first : List CopyId) (c : List ℕ) (largest : ℕ) (set : Setting) (call : Call) (ids : List CopyId) (ns : List ℕ) (w : World) → BeginWith first ids → StandsWith c largest set.limits ids ns w → read_if spending set (Some call) w ≡ false
+    → (is_some (receiver_named c w) ≡ true → IsOutside c ns call) → Stands first c largest set.limits (calls set call w)
+calls_stand first c largest set call ids ns w g h unspent out = let x = called_copies c largest set call ids ns w h unspent out in record { ids = x.0; grown = begin_then first ids x.0 g x.2; ns = ns; standing = x.1 }
 
 -- a number above all that were given
 pub fresh_unlisted : (n : ℕ) (ns : List ℕ) (given : ℕ) → suc given ≡ n → ((m : ℕ) → is_one_of (Some m) ns ≡ true → m ≤ given) → is_one_of (Some n) (0 ∷ ns) ≡ false
@@ -242,10 +235,10 @@ fresh_unlisted n ns given is known = elim (cases_Bool (is_one_of (Some n) ns)) [
 ]
 
 -- a call that may be asked for
-pub if_stands : (c : List ℕ) (largest : ℕ) (set : Setting) (call : Option Call) (w : World) (h : Stands c largest set.limits w) → read_if spending set call w ≡ false
-    → (is_some (receiver_named c w) ≡ true → (x : Call) → call ≡ Some x → IsOutside c h.ns x) → Stands c largest set.limits (calls_if set call w)
-if_stands c largest set None w h unspent out = h
-if_stands c largest set (Some call) w h unspent out = calls_stand c largest set call h.ids h.ns w h.standing unspent (λ there. out there call refl)
+pub if_stands : (first : List CopyId) (c : List ℕ) (largest : ℕ) (set : Setting) (call : Option Call) (w : World) (h : Stands first c largest set.limits w) → read_if spending set call w ≡ false
+    → (is_some (receiver_named c w) ≡ true → (x : Call) → call ≡ Some x → IsOutside c h.ns x) → Stands first c largest set.limits (calls_if set call w)
+if_stands first c largest set None w h unspent out = h
+if_stands first c largest set (Some call) w h unspent out = calls_stand first c largest set call h.ids h.ns w h.grown h.standing unspent (λ there. out there call refl)
 
 pub if_there : (c : List ℕ) (set : Setting) (call : Option Call) (w : World) → is_some (receiver_named c (calls_if set call w)) ≡ is_some (receiver_named c w)
 if_there c set None w = refl

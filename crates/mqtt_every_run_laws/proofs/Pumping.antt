@@ -1,5 +1,5 @@
 -- The broker sends what waits for a receiver, on its own line (MQTT 5.0, 4.4, 4.6, 4.9).
-use Rattle.std.proofs.Common.{◌≡◌, ℕ, false, List, [], Option, Some, None, refl, sym, ap, subst, ◌∙◌, append-nil, arith}
+use Rattle.std.proofs.Common.{◌≡◌, ℕ, false, List, [], Option, Some, None, refl, sym, ap, subst, ◌∙◌, append-nil}
 use Rattle.std.specs.Prelude.{is_some}
 use Rattle.mqtt_base.specs.declared.session.CopyId.{CopyId}
 use Rattle.mqtt_laws.specs.Ends.{Publisher, Receiver}
@@ -22,6 +22,7 @@ use Rattle.mqtt_handed_laws.proofs.OwnCalls.{pump_in_step}
 use Rattle.mqtt_every_run_laws.specs.Standing.{GoesAlong, IsPlaced, Stands, line_like}
 use Rattle.mqtt_every_run_laws.proofs.Like.{seat_of_others}
 use Rattle.mqtt_every_run_laws.proofs.Outside.{GoesFurther, calls_with, placed_on}
+use Rattle.mqtt_every_run_laws.proofs.Growing.{begin_then}
 
 idle_sent : (o : Option ℕ) (largest : ℕ) (ids : List CopyId) (ns : List ℕ) (limits : Limits) (choice : MemberChoice) (now n : ℕ) (r : Receiver) (b : Broker) → GoesAlong o largest ids ns r b → IsIdle n b
     → GoesAlong o largest ids ns (receiver_called limits choice now (Pump n) r b) (stepped limits choice now (Pump n) b)
@@ -62,19 +63,19 @@ sent_placed largest ids ns limits choice now n r b placed steady distinct is fit
     let along = sent_along placed.birth largest ids ns limits choice now n placed.line r b placed.along steady distinct is fits placed.apart placed.seat.present in
     record {
       more = [];
-      placed = placed_on largest ids [] ns ns 0 b.records.publications placed.line placed.birth r q b new placed (omega arith) ((step_fell limits choice now (Pump n) b).1) refl tt tt
+      placed = placed_on largest ids [] ns ns 0 placed.line placed.birth r q b new placed (step_fell limits choice now (Pump n) b) refl tt tt
           (subst (λ (all : List CopyId). GoesAlong placed.birth largest all ns q new) (sym (append-nil ids)) along)
           (seat_of_others limits choice now (Pump n) placed.birth placed.line r b placed.seat placed.named tt (off_pump r.line.number n) (off_pump r.line.old_number n))
           placed.its_line (λ m e f. placed.apart m e f);
     }
 
-pub sent_stands : (c : List ℕ) (largest : ℕ) (set : Setting) (r : Receiver) (w : World) → Stands c largest set.limits w → receiver_named c w ≡ Some r → HasDistinctIdentifiers w.broker.records
+pub sent_stands : (first : List CopyId) (c : List ℕ) (largest : ℕ) (set : Setting) (r : Receiver) (w : World) → Stands first c largest set.limits w → receiver_named c w ≡ Some r → HasDistinctIdentifiers w.broker.records
     → ((n : ℕ) (l : BrokerLine) (birth : ℕ) → r.line.number ≡ Some n → line_at n w.broker ≡ Some l → l.session ≡ Some birth → l.largest ≡ largest)
-    → read_first spending set (pump c) w ≡ false → Stands c largest set.limits (asks set (pump c) w)
-sent_stands c largest set r w s e distinct fits unspent = subst (λ (o : Option ℕ). read_if spending set (pump_on o) w ≡ false → Goal o) (sym view) (by r.line.number refl) unspent
+    → read_first spending set (pump c) w ≡ false → Stands first c largest set.limits (asks set (pump c) w)
+sent_stands first c largest set r w s e distinct fits unspent = subst (λ (o : Option ℕ). read_if spending set (pump_on o) w ≡ false → Goal o) (sym view) (by r.line.number refl) unspent
   where
     Goal : Option ℕ → Type 0
-    Goal o = Stands c largest set.limits (calls_if set (pump_on o) w)
+    Goal o = Stands first c largest set.limits (calls_if set (pump_on o) w)
 
     view : (view_of c w).number ≡ r.line.number
     view = ap (λ (o : Option Publisher). (view_by o (receiver_named c w)).number) (s.standing.around.alone (ap is_some e)) ∙ ap (λ (o : Option Receiver). (view_by None o).number) e
@@ -86,4 +87,4 @@ sent_stands c largest set r w s e distinct fits unspent = subst (λ (o : Option 
         let both : Some r ≡ Some q = sym e ∙ f in
         let same : r ≡ q = cc in
         sent_placed largest s.ids s.ns set.limits set.choice w.now n q w.broker placed s.standing.around.steady distinct (ap (λ (z : Receiver). z.line.number) (sym same) ∙ is) (λ l birth at on. fits n l birth is at on)) in
-        record { ids = x.0; ns = s.ns; standing = x.1 }
+        record { ids = x.0; grown = begin_then first s.ids x.0 s.grown x.2; ns = s.ns; standing = x.1 }

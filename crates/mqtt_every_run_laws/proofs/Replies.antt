@@ -1,6 +1,6 @@
 -- The broker reads a receiver's answer on its line: PUBACK, PUBREC or PUBCOMP (MQTT 5.0, 4.3.2, 4.3.3, 4.13).
-use Rattle.std.proofs.Common.{◌≡◌, ℕ, Bool, true, false, List, [], ◌∷◌, map, Option, Some, None, refl, sym, ap, subst, ◌∙◌, inl, inr}
-use Rattle.std.specs.Prelude.{Err, Ok, is_some, option_map}
+use Rattle.std.proofs.Common.{◌≡◌, ℕ, false, List, [], ◌∷◌, Option, Some, None, refl, sym, subst, inl, inr}
+use Rattle.std.specs.Prelude.{Err, Ok}
 use Rattle.mqtt_base.specs.Codes.{protocol_error}
 use Rattle.mqtt_base.specs.declared.session.CopyId.{CopyId}
 use Rattle.mqtt_codec.specs.declared.packet.Packet.{Packet}
@@ -8,43 +8,36 @@ use Rattle.mqtt_flow.specs.Outbound as rules
 use Rattle.mqtt_flow.specs.Receiver.{Answer, HasNoConnect, connect, puback, pubcomp, pubrec}
 use Rattle.mqtt_flow.specs.declared.entry.Turn.{Turn}
 use Rattle.mqtt_flow.specs.declared.entry.Turn.TheVariants as turns
-use Rattle.mqtt_inbound.specs.Publisher.{CONNECT}
-use Rattle.mqtt_laws.specs.Ends.{Back, Publisher, Receiver, Sent, answers, no_content, plain, shake, wire_back}
+use Rattle.mqtt_laws.specs.Ends.{Back, Receiver, answers, wire_back}
 use Rattle.mqtt_laws.specs.Hops.{Own}
-use Rattle.mqtt_laws.specs.Lines.{Line}
-use Rattle.mqtt_laws.specs.Run.{read_first, read_if}
-use Rattle.mqtt_laws.specs.Seats.{Former, Present, Seat, absent, closed, joined, waiting}
-use Rattle.mqtt_laws.specs.World.{Setting, View, World, asks, calls_if, input_on, receiver_named, receiver_told, taken_up, to_broker, view_by, view_of, with_line}
+use Rattle.mqtt_laws.specs.Run.{read_first}
+use Rattle.mqtt_laws.specs.World.{Setting, World, asks, receiver_named, to_broker}
 use Rattle.mqtt_laws.proofs.Frame.{own_done}
 use Rattle.mqtt_laws.proofs.Mine.{AreMine, mine_append, mine_owns}
-use Rattle.mqtt_laws.proofs.OwnCalls.{input_elsewhere}
-use Rattle.mqtt_laws.proofs.OwnSeats.{former_after, joined_after, line_of_on, not_among}
 use Rattle.mqtt_laws.proofs.OwnStep.{heard_of, input_is}
 use Rattle.mqtt_laws.proofs.Publishes.{drop_is}
 use Rattle.mqtt_message.specs.Queue.{CopyRow}
 use Rattle.mqtt_records.specs.Session.{copy_place}
 use Rattle.mqtt_records.specs.declared.session.Session.{Session}
-use Rattle.mqtt_rows.specs.Distinct.{AllDiffer}
 use Rattle.mqtt_rows.specs.Order.{row_at}
 use Rattle.mqtt_rules.proofs.NumberSteps.{step_fell}
 use Rattle.mqtt_rules.specs.Deeds.{Deed, after_all, rows_of_all}
 use Rattle.mqtt_rules.specs.Inbound.{on_answer}
 use Rattle.mqtt_rules.specs.Outbound.{of_entry, turn_deeds}
-use Rattle.mqtt_rules.specs.State.{Line as BrokerLine, Broker, Env, MemberChoice, queue_on, session_at, session_named}
-use Rattle.mqtt_rules.specs.Step.{Call, Input, at_moment, deeds, env_of, next_packet, stepped, told}
+use Rattle.mqtt_rules.specs.State.{Line as BrokerLine, Broker, Env, MemberChoice, queue_on, session_at}
+use Rattle.mqtt_rules.specs.Step.{Input, at_moment, deeds, env_of, next_packet, stepped}
 use Rattle.mqtt_rules.specs.declared.Limits.{Limits}
 use Rattle.mqtt_world_laws.specs.Fair.{IsSteady}
 use Rattle.mqtt_world_laws.specs.Spending.{spending}
 use Rattle.mqtt_handed_laws.specs.Handing.{IsListening, after_answer, reads_answer}
-use Rattle.mqtt_handed_laws.specs.Own.{IsInStep, Listens}
-use Rattle.mqtt_handed_laws.proofs.Listening.{listens_in_step}
+use Rattle.mqtt_handed_laws.specs.Own.{IsInStep}
+use Rattle.mqtt_handed_laws.proofs.Apart.{apart_still}
 use Rattle.mqtt_handed_laws.proofs.OwnCalls.{puback_in_step, pubcomp_in_step, pubrec_in_step}
-use Rattle.mqtt_every_run_laws.specs.Standing.{GoesAlong, IsAround, IsPlaced, IsSeen, Stands, line_like, packet_like, publisher_like}
-use Rattle.mqtt_every_run_laws.proofs.Around.{changed_its, on_back, on_line, own_around}
-use Rattle.mqtt_every_run_laws.proofs.Like.{former_as, told_like}
-use Rattle.mqtt_every_run_laws.proofs.Losses.{none_named}
-use Rattle.mqtt_handed_laws.proofs.Numbers.{place_of, places_number}
-use Rattle.mqtt_every_run_laws.proofs.Outside.{calls_around, named_called, past_later}
+use Rattle.mqtt_every_run_laws.specs.Standing.{IsPlaced, IsSeen, Stands}
+use Rattle.mqtt_every_run_laws.proofs.Fronts.{IsJoined, front, no_connect}
+use Rattle.mqtt_every_run_laws.proofs.Heard.{hears, placed_after}
+use Rattle.mqtt_every_run_laws.proofs.Outside.{goes_as}
+use Rattle.mqtt_every_run_laws.proofs.Reading.{first_read}
 
 -- ---- the session and its line stay its own
 
@@ -67,45 +60,24 @@ module _ (client : List ℕ) (birth n : ℕ) where
   mine_answer env (Ok (Some t)) r l s b c a at = mine_turn c.now l.number s t
   mine_answer env (Err fault) r l s b c a at = subst (AreMine client birth n) (sym (drop_is env protocol_error l s c at a.connected a.no_will a.no_end)) (inr tt, (inr tt, (inr tt, tt)))
 
-  pub answer_owns : (limits : Limits) (choice : MemberChoice) (now : ℕ) (packet : Packet) (x : rules.Answer) (r : Receiver) (l : BrokerLine) (s : Session) (b : Broker) → IsListening r l s b
-      → next_packet (env_of limits choice b) l packet s (heard_of now l.number b) ≡ on_answer x (env_of limits choice b) l s (heard_of now l.number b)
-      → Own client birth n b → Own client birth n (stepped limits choice now (Input l.number packet) b)
-  answer_owns limits choice now packet x r l s b a e own =
-      let env = env_of limits choice b in
+  -- whatever packet it is whose deeds keep them so
+  pub packet_owns : (limits : Limits) (choice : MemberChoice) (now : ℕ) (packet : Packet) (r : Receiver) (l : BrokerLine) (s : Session) (b : Broker) → IsListening r l s b
+      → AreMine client birth n (next_packet (env_of limits choice b) l packet s (heard_of now l.number b)) → Own client birth n b → Own client birth n (stepped limits choice now (Input l.number packet) b)
+  packet_owns limits choice now packet r l s b a mine own =
       let first = at_moment now b in
-      let c = heard_of now l.number b in
       let ds = deeds limits choice now (Input l.number packet) b in
-      let next = next_packet env l packet s c in
-      let mine : AreMine client birth n next = subst (AreMine client birth n) (sym e) (mine_answer env x r l s b c a a.session) in
+      let next = next_packet (env_of limits choice b) l packet s (heard_of now l.number b) in
       let all : AreMine client birth n ds = subst (AreMine client birth n) (sym (input_is limits choice now packet l s b a.line a.connected a.session)) (inl (inl tt), mine_append client birth n next [] mine tt) in
       let o : Own client birth n first = record { sessions = own.sessions; lines = own.lines; births = own.births; given = own.given } in
       own_done client birth n (rows_of_all ds first.records) (after_all ds first) (mine_owns client birth n ds first all o)
 
--- ---- what is under way there
-
-pub some_up : (x : Answer) (rest xs : List Back) → xs ≡ answers x ∷ rest → map packet_like xs ≡ [] → ⊥
-some_up x rest xs up e = let clash : packet_like (answers x) ∷ map packet_like rest ≡ [] = sym (ap (map packet_like) up) ∙ e in absurd cc
-
-pub no_connect_up : (x : Answer) (clean : Bool) (rest xs : List Back) → HasNoConnect (x ∷ []) → xs ≡ answers x ∷ rest → map packet_like xs ≡ shake (CONNECT clean) ∷ [] → ⊥
-no_connect_up (connect c) clean rest xs none up e = none
-no_connect_up (puback i code) clean rest xs none up e = let clash : plain no_content ∷ map packet_like rest ≡ shake (CONNECT clean) ∷ [] = sym (ap (map packet_like) up) ∙ e in absurd cc
-no_connect_up (pubrec i code) clean rest xs none up e = let clash : plain no_content ∷ map packet_like rest ≡ shake (CONNECT clean) ∷ [] = sym (ap (map packet_like) up) ∙ e in absurd cc
-no_connect_up (pubcomp i code) clean rest xs none up e = let clash : plain no_content ∷ map packet_like rest ≡ shake (CONNECT clean) ∷ [] = sym (ap (map packet_like) up) ∙ e in absurd cc
-
-no_number : (o : Option ℕ) (k : ℕ) (x : Answer) (rest : List Back) (r : Receiver) (b : Broker) → Present o k (line_like r.line) b → r.line.number ≡ None → r.line.up ≡ answers x ∷ rest → ⊥
-no_number o k x rest r b (absent none none_up) is up = some_up x rest r.line.up up none_up
-no_number o k x rest r b (closed n at none_up idle none) is up = some_up x rest r.line.up up none_up
-no_number o k x rest r b (waiting n clean at link_is clean_is connects_ down idle there) is up = let clash : Some n ≡ None = sym at ∙ is in absurd cc
-no_number o k x rest r b (joined birth own at there) is up = let clash : Some k ≡ None = sym at ∙ is in absurd cc
+  pub answer_owns : (limits : Limits) (choice : MemberChoice) (now : ℕ) (packet : Packet) (x : rules.Answer) (r : Receiver) (l : BrokerLine) (s : Session) (b : Broker) → IsListening r l s b
+      → next_packet (env_of limits choice b) l packet s (heard_of now l.number b) ≡ on_answer x (env_of limits choice b) l s (heard_of now l.number b)
+      → Own client birth n b → Own client birth n (stepped limits choice now (Input l.number packet) b)
+  answer_owns limits choice now packet x r l s b a e own =
+      packet_owns limits choice now packet r l s b a (subst (AreMine client birth n) (sym e) (mine_answer (env_of limits choice b) x r l s b (heard_of now l.number b) a a.session)) own
 
 -- ---- where it is after it
-
-pub named_there : (largest : ℕ) (ids : List CopyId) (birth : ℕ) (ns : List ℕ) (r : Receiver) (b : Broker) → IsInStep largest ids birth ns r b → AllDiffer ids → is_some (session_named r.client b.records) ≡ true
-named_there largest ids birth ns r b k differ = by (session_named r.client b.records) refl
-  where
-    by : (o : Option Session) → session_named r.client b.records ≡ o → is_some o ≡ true
-    by None e = let h = k.runs (place_of ids) (places_number ids differ) in absurd (none_named r.client h.session.birth h.session b.records.sessions h.receiving.session h.receiving.client e)
-    by (Some s) e = refl
 
 module _ (largest : ℕ) (ids : List CopyId) (ns : List ℕ) (limits : Limits) (choice : MemberChoice) (now : ℕ) (rest : List Back) (r : Receiver) (l : BrokerLine) (s : Session) (b : Broker) (a : IsListening r l s b) where
   read_step : (x : Answer) (birth : ℕ) → IsInStep largest ids birth ns r b → HasNoConnect (x ∷ []) → r.line.up ≡ answers x ∷ rest
@@ -115,99 +87,37 @@ module _ (largest : ℕ) (ids : List CopyId) (ns : List ℕ) (limits : Limits) (
   read_step (pubrec i code) birth k none up = pubrec_in_step largest ids birth ns limits choice now i code rest r l s b k a up
   read_step (pubcomp i code) birth k none up = pubcomp_in_step largest ids birth ns limits choice now i code rest r l s b k a up
 
-  read_owns : (x : Answer) (birth n : ℕ) → HasNoConnect (x ∷ []) → Own r.client birth n b → Own r.client birth n (after_answer limits choice now l.number x r b)
+  -- whichever of its lines the receiver has as its own
+  pub read_owns : (x : Answer) (birth n : ℕ) → HasNoConnect (x ∷ []) → Own r.client birth n b → Own r.client birth n (after_answer limits choice now l.number x r b)
   read_owns (connect clean) birth n none own = absurd none
   read_owns (puback i code) birth n none own = answer_owns r.client birth n limits choice now (wire_back r.client r.window (answers (puback i code))) (rules.puback i code (queue_on l.went s)) r l s b a refl own
   read_owns (pubrec i code) birth n none own = answer_owns r.client birth n limits choice now (wire_back r.client r.window (answers (pubrec i code))) (rules.pubrec i code (queue_on l.went s)) r l s b a refl own
   read_owns (pubcomp i code) birth n none own = answer_owns r.client birth n limits choice now (wire_back r.client r.window (answers (pubcomp i code))) (rules.pubcomp i (queue_on l.went s)) r l s b a refl own
 
-read_placed : (largest : ℕ) (ids : List CopyId) (ns : List ℕ) (limits : Limits) (choice : MemberChoice) (now n : ℕ) (x : Answer) (rest : List Back) (r : Receiver) (b : Broker) → IsPlaced largest ids ns r b → IsSteady limits b
-    → r.line.number ≡ Some n → HasNoConnect (x ∷ []) → r.line.up ≡ answers x ∷ rest → IsPlaced largest ids ns (reads_answer limits choice now n x r b) (after_answer limits choice now n x r b)
-read_placed largest ids ns limits choice now n x rest r b placed steady is none up = by placed.seat.present
-  where
-    Goal : ℕ → Type 0
-    Goal m = IsPlaced largest ids ns (reads_answer limits choice now m x r b) (after_answer limits choice now m x r b)
-
-    by : Present placed.birth placed.line (line_like r.line) b → Goal n
-    by (absent nothing none_up) = let clash : None ≡ Some n = sym nothing ∙ is in absurd cc
-    by (closed m at none_up idle nothing) = absurd (some_up x rest r.line.up up none_up)
-    by (waiting m clean at link_is clean_is connects_ down idle there) = absurd (no_connect_up x clean rest r.line.up none up connects_)
-    by (joined birth own at there) =
-        let both : Some placed.line ≡ Some n = sym at ∙ is in
-        let same : placed.line ≡ n = cc in
-        let y = line_of_on placed.line (Some birth) b there in
-        let l = y.0 in
-        let number : l.number ≡ placed.line = y.3 in
-        let step = subst (λ (z : Option ℕ). GoesAlong z largest ids ns r b) own placed.along in
-        let seat = subst (λ (z : Option ℕ). Seat z placed.line (publisher_like r) b) own placed.seat in
-        let listens : Listens r l birth b = listens_in_step largest ids birth ns placed.line birth r l b step steady.lines steady.coherent.ordered at y.1 y.2 (not_among r.line.old_number placed.line (λ e. placed.apart placed.line at e)) in
-        let s = listens.session in
-        let a = listens.listening in
-        let call = Input l.number (wire_back r.client r.window (answers x)) in
-        let new = stepped limits choice now call b in
-        let after_ = read_step largest ids ns limits choice now rest r l s b a x birth step none up in
-        let owns = read_owns largest ids ns limits choice now rest r l s b a x birth placed.line none seat.his.0 in
-        let taken = record r { line = taken_up r.line } in
-        let far = input_elsewhere limits choice now l.number (wire_back r.client r.window (answers x)) r.line.old_number b (λ m e same_. placed.apart m (at ∙ ap Some (sym number ∙ same_)) e) in
-        let present = joined_after limits choice now call b r.client birth placed.line (line_like taken.line) owns at there in
-        let former = former_after limits choice now call b (Some birth) (Some birth) placed.line placed.line (line_like taken.line) far (λ z of e calm on. absurd (placed.apart placed.line at e))
-        (former_as (Some birth) placed.line (line_like r.line) (line_like taken.line) b refl refl seat.former) in
-        let out = told limits choice now call b in
-        let line_is = ap (λ (p : Publisher). p.line) (told_like new out taken) in
-        let result : Goal l.number = record {
-          birth = Some birth;
-          line = placed.line;
-          along = after_;
-          seat = record {
-            his = (owns, named_there largest ids birth ns (reads_answer limits choice now l.number x r b) new after_ placed.differ);
-            present = subst (λ (z : Line Sent). Present (Some birth) placed.line z new) line_is present;
-            former = subst (λ (z : Line Sent). Former (Some birth) placed.line z new) line_is former;
-          };
-          its_line = placed.its_line;
-          apart = λ m e f. placed.apart m e f;
-          named = placed.named;
-          differ = placed.differ;
-          past = past_later b.records.publications new.records.publications ids ((step_fell limits choice now call b).1) placed.past;
-        } in
-        subst Goal (number ∙ same) result
+read_placed : (largest : ℕ) (ids : List CopyId) (ns : List ℕ) (limits : Limits) (choice : MemberChoice) (now : ℕ) (x : Answer) (rest : List Back) (r : Receiver) (b : Broker) (placed : IsPlaced largest ids ns r b) → IsSteady limits b
+    → IsJoined placed.birth placed.line r.line.number b → HasNoConnect (x ∷ []) → r.line.up ≡ answers x ∷ rest
+    → IsPlaced largest ids ns (reads_answer limits choice now placed.line x r b) (after_answer limits choice now placed.line x r b)
+read_placed largest ids ns limits choice now x rest r b placed steady j none up =
+    let h = hears largest ids ns limits j.birth r b placed j.own j.there steady j.at in
+    let l = h.line in
+    let s = h.listens.session in
+    let a = h.listens.listening in
+    let packet = wire_back r.client r.window (answers x) in
+    let new = after_answer limits choice now l.number x r b in
+    let owns = read_owns largest ids ns limits choice now rest r l s b a x j.birth placed.line none h.owns in
+    let told = apart_still ids b.records new.records placed.told (step_fell limits choice now (Input l.number packet) b) in
+    subst (λ (m : ℕ). IsPlaced largest ids ns (reads_answer limits choice now m x r b) (after_answer limits choice now m x r b)) h.number
+    (placed_after largest ids ns limits j.birth r b placed j.own j.there choice now l.number packet ids h.number owns told j.at (read_step largest ids ns limits choice now rest r l s b a x j.birth h.step none up))
 
 -- ---- as an event
 
-pub answered_stands : (c : List ℕ) (x : Answer) (rest : List Back) (largest : ℕ) (set : Setting) (r : Receiver) (w : World) → Stands c largest set.limits w → receiver_named c w ≡ Some r → HasNoConnect (x ∷ []) → r.line.up ≡ answers x ∷ rest
-    → read_first spending set (to_broker c) w ≡ false → Stands c largest set.limits (asks set (to_broker c) w)
-answered_stands c x rest largest set r w s e none up unspent = by r.line.number refl
+pub answered_stands : (first : List CopyId) (c : List ℕ) (x : Answer) (rest : List Back) (largest : ℕ) (set : Setting) (r : Receiver) (w : World) → Stands first c largest set.limits w → receiver_named c w ≡ Some r → HasNoConnect (x ∷ []) → r.line.up ≡ answers x ∷ rest
+    → read_first spending set (to_broker c) w ≡ false → Stands first c largest set.limits (asks set (to_broker c) w)
+answered_stands first c x rest largest set r w s e none up unspent = elim (front placed.birth placed.line (answers x) rest r w.broker placed.seat.present up) [
+  | inl j ↦ first_read first c (answers x) rest largest set r w s e placed.line j.at up
+      (λ after_. goes_as largest s.ids s.ns _ _ (read_placed largest s.ids s.ns set.limits set.choice w.now x rest r w.broker placed s.standing.around.steady j none up)) unspent
+  | inr h ↦ absurd (no_connect x h.0 none h.1.packet)
+]
   where
-    view : view_of c w ≡ view_by None (Some r)
-    view = ap (λ (o : Option Publisher). view_by o (receiver_named c w)) (s.standing.around.alone (ap is_some e)) ∙ ap (λ (o : Option Receiver). view_by None o) e
-
     placed : IsPlaced largest s.ids s.ns r w.broker
     placed = subst (IsSeen largest s.ids s.ns w.broker) e s.standing.seen
-
-    w1 : World
-    w1 = with_line c taken_up taken_up w
-
-    found : receiver_named c w1 ≡ Some (record r { line = taken_up r.line })
-    found = changed_its c (on_back taken_up) w r (λ q. refl) e
-
-    around : IsAround c set.limits s.ns w1
-    around = own_around c set.limits s.ns w (on_line taken_up) (on_back taken_up) (λ p. refl) (λ q. refl) (s.standing.around.alone (ap is_some e)) s.standing.around
-
-    by : (o : Option ℕ) → r.line.number ≡ o → Stands c largest set.limits (asks set (to_broker c) w)
-    by None is = absurd (no_number placed.birth placed.line x rest r w.broker placed.seat.present is up)
-    by (Some n) is =
-        let call = Input n (wire_back r.client r.window (answers x)) in
-        let asked : input_on (view_of c w).number (view_of c w).up ≡ Some call =
-        ap (λ (v : View). input_on v.number v.up) view ∙ (ap (λ (o : Option ℕ). input_on o (map (wire_back r.client r.window) r.line.up)) is ∙ ap (λ (xs : List Back). input_on (Some n) (map (wire_back r.client r.window) xs)) up) in
-        let cost : read_if spending set (Some call) w1 ≡ false = sym (ap (λ (o : Option Call). read_if spending set o w1) asked) ∙ unspent in
-        let new = stepped set.limits set.choice w.now call w.broker in
-        let out = told set.limits set.choice w.now call w.broker in
-        subst (λ (o : Option Call). Stands c largest set.limits (calls_if set o w1)) (sym asked)
-        (record {
-          ids = s.ids;
-          ns = s.ns;
-          standing = record {
-            around = calls_around c set s.ns call w1 around cost;
-            seen = subst (IsSeen largest s.ids s.ns new) (sym (named_called c set call w1 ∙ ap (option_map (receiver_told new out)) found))
-                (read_placed largest s.ids s.ns set.limits set.choice w.now n x rest r w.broker placed s.standing.around.steady is none up);
-          };
-        })

@@ -1,5 +1,5 @@
 -- The broker restarts, or stops before a commit and restarts, in the eyes of one receiver (MQTT 5.0, 4.1).
-use Rattle.std.proofs.Common.{◌≡◌, ℕ, ◌≤◌, Bool, true, false, cond, List, [], ◌∷◌, ◌++◌, map, Option, Some, None, bytes_eq, refl, sym, ap, subst, ◌∙◌, append-nil, arith, inr}
+use Rattle.std.proofs.Common.{◌≡◌, ℕ, Bool, true, false, cond, List, [], ◌∷◌, ◌++◌, map, Option, Some, None, bytes_eq, refl, sym, ap, subst, ◌∙◌, append-nil, inr}
 use Rattle.std.specs.Prelude.{⊤, is_some, option_map}
 use Rattle.std.specs.List.{AllByRecursion}
 use Rattle.mqtt_base.specs.declared.session.CopyId.{CopyId}
@@ -13,6 +13,7 @@ use Rattle.mqtt_laws.specs.World.{Asking, Setting, Stranger, World, before, brea
 use Rattle.mqtt_laws.proofs.Restarts.{restart_is_hop, restart_owns}
 use Rattle.mqtt_laws.proofs.Seats.{kept_of}
 use Rattle.mqtt_rules.proofs.NumberSteps.{opening_fell}
+use Rattle.mqtt_rules.specs.Numbers.{NoneFell}
 use Rattle.mqtt_rules.specs.State.{Line as BrokerLine, Broker, MemberChoice, session_named}
 use Rattle.mqtt_rules.specs.declared.Limits.{Limits}
 use Rattle.mqtt_world_laws.specs.Spending.{spending}
@@ -24,12 +25,13 @@ use Rattle.mqtt_handed_laws.specs.Restarts.{reopened}
 use Rattle.mqtt_handed_laws.specs.Served.{IsTidy}
 use Rattle.mqtt_handed_laws.proofs.Restarting.{lost_lines, restart_goes_on, restart_without}
 use Rattle.mqtt_handed_laws.proofs.Stopping.{opening_tidy}
-use Rattle.mqtt_every_run_laws.specs.Standing.{GoesAlong, IsAround, IsOtherStranger, IsPlaced, IsSeen, Stands, publisher_like}
+use Rattle.mqtt_every_run_laws.specs.Standing.{GoesAlong, IsAround, IsOtherStranger, IsPlaced, IsSeen, Stands, publisher_like, BeginWith}
 use Rattle.mqtt_every_run_laws.proofs.Around.{around_mapped, end_around, on_back, on_line, unlined}
 use Rattle.mqtt_every_run_laws.proofs.Asking.{takes_others}
 use Rattle.mqtt_every_run_laws.proofs.Comings.{run_of}
 use Rattle.mqtt_every_run_laws.proofs.Outside.{GoesFurther, placed_on}
 use Rattle.mqtt_every_run_laws.proofs.Strangers.{comes_stands}
+use Rattle.mqtt_every_run_laws.proofs.Growing.{begin_on, begin_then}
 
 -- ---- the receiver
 
@@ -48,12 +50,12 @@ placed_restarted largest ids ns limits choice now r b placed tidy = by placed.bi
     new : Broker
     new = reopened limits choice now b
 
-    grows : b.records.publications ≤ new.records.publications
-    grows = (opening_fell limits choice now b.records).1
+    grows : NoneFell b.records new.records
+    grows = opening_fell limits choice now b.records
 
     by : (o : Option ℕ) → GoesAlong o largest ids ns r b → IsHis r.client o placed.line b → GoesFurther largest ids [] q new
     by None along his =
-        let run = run_of None largest ids ns r b along placed.differ in
+        let run = run_of None largest ids ns r b along placed.told.differ in
         let none = (restart_without _ largest run.0 limits choice now r b run.1 his).1 in
         let awaits : IsAwaiting largest ids [] q new = record {
           runs = λ number numbered.
@@ -66,7 +68,7 @@ placed_restarted largest ids ns limits choice now r b placed tidy = by placed.bi
         } in
         record {
           more = [];
-          placed = placed_on largest ids [] ns [] 0 b.records.publications 0 None r q b new placed (omega arith) grows refl tt tt
+          placed = placed_on largest ids [] ns [] 0 0 None r q b new placed grows refl tt tt
               (subst (λ (all : List CopyId). IsAwaiting largest all [] q new) (sym (append-nil ids)) awaits) (record { his = none; present = absent refl refl; former = over refl }) refl (λ n e f. absurd cc);
         }
     by (Some birth) along his =
@@ -79,7 +81,7 @@ placed_restarted largest ids ns limits choice now r b placed tidy = by placed.bi
         let step : IsInStep largest (ids ++ x.more) birth [] q new = record { runs = x.runs; served = x.served; lines = lost_lines r } in
         record {
           more = x.more;
-          placed = placed_on largest ids x.more ns [] birth b.records.publications 0 (Some birth) r q b new placed (omega arith) grows refl x.new x.differ step
+          placed = placed_on largest ids x.more ns [] birth 0 (Some birth) r q b new placed grows refl x.new x.differ step
               (record { his = (owns, stands); present = absent refl refl; former = over refl }) refl (λ n e f. absurd cc);
         }
 
@@ -95,8 +97,9 @@ abbrev pub RestsAs : ℕ → List CopyId → List ℕ → Broker → Option Rece
 RestsAs largest ids ns b None = (ids ≡ []) × (ns ≡ [])
 RestsAs largest ids ns b (Some q) = Rests largest ids ns q b
 
-pub record MayRestart (c : List ℕ) (largest : ℕ) (limits : Limits) (w : World) : Type 0 where
+pub record MayRestart (first : List CopyId) (c : List ℕ) (largest : ℕ) (limits : Limits) (w : World) : Type 0 where
   pub ids : List CopyId
+  pub grown : BeginWith first ids
   pub ns : List ℕ
   pub around : IsAround c limits ns w
   pub seen : RestsAs largest ids ns w.broker (receiver_named c w)
@@ -105,9 +108,10 @@ rests_of : (largest : ℕ) (ids : List CopyId) (ns : List ℕ) (b : Broker) (o :
 rests_of largest ids ns b None h = h
 rests_of largest ids ns b (Some r) h = record { before = r; placed = h; same = refl }
 
-pub may_restart : (c : List ℕ) (largest : ℕ) (limits : Limits) (w : World) → Stands c largest limits w → MayRestart c largest limits w
-may_restart c largest limits w s = record {
+pub may_restart : (first : List CopyId) (c : List ℕ) (largest : ℕ) (limits : Limits) (w : World) → Stands first c largest limits w → MayRestart first c largest limits w
+may_restart first c largest limits w s = record {
   ids = s.ids;
+  grown = s.grown;
   ns = s.ns;
   around = s.standing.around;
   seen = rests_of largest s.ids s.ns w.broker (receiver_named c w) s.standing.seen;
@@ -115,8 +119,8 @@ may_restart c largest limits w s = record {
 
 -- ---- the restart: nobody has a line
 
-pub restart_stands : (c : List ℕ) (largest : ℕ) (set : Setting) (w : World) → MayRestart c largest set.limits w → read_opening spending set w ≡ false → Stands c largest set.limits (restarts set w)
-restart_stands c largest set w h unspent = by (receiver_named c w) h.seen found
+pub restart_stands : (first : List CopyId) (c : List ℕ) (largest : ℕ) (set : Setting) (w : World) → MayRestart first c largest set.limits w → read_opening spending set w ≡ false → Stands first c largest set.limits (restarts set w)
+restart_stands first c largest set w h unspent = by (receiver_named c w) h.seen found
   where
     new : Broker
     new = reopened set.limits set.choice w.now w.broker
@@ -131,9 +135,10 @@ restart_stands c largest set w h unspent = by (receiver_named c w) h.seen found
         (λ p x. unlined [] new.given (publisher_restarted p).line refl refl) (λ r x. inr (unlined [] new.given (receiver_restarted r).line refl refl))
         (all_mapped (λ (s : Stranger). ⊤) (IsOtherStranger [] new.given) unlinked w.strangers (λ s x. λ n is. absurd cc) (anything w.strangers))
 
-    by : (o : Option Receiver) → RestsAs largest h.ids h.ns w.broker o → receiver_named c (restarts set w) ≡ option_map receiver_restarted o → Stands c largest set.limits (restarts set w)
+    by : (o : Option Receiver) → RestsAs largest h.ids h.ns w.broker o → receiver_named c (restarts set w) ≡ option_map receiver_restarted o → Stands first c largest set.limits (restarts set w)
     by None x is = record {
       ids = [];
+      grown = subst (BeginWith first) x.0 h.grown;
       ns = [];
       standing = record { around = around; seen = subst (IsSeen largest [] [] new) (sym is) (refl, refl) };
     }
@@ -141,6 +146,7 @@ restart_stands c largest set w h unspent = by (receiver_named c w) h.seen found
         let g = placed_restarted largest h.ids h.ns set.limits set.choice w.now x.before w.broker x.placed h.around.tidy in
         record {
           ids = h.ids ++ g.more;
+          grown = begin_then first h.ids (h.ids ++ g.more) h.grown (begin_on h.ids g.more);
           ns = [];
           standing = record {
             around = around;
@@ -150,10 +156,11 @@ restart_stands c largest set w h unspent = by (receiver_named c w) h.seen found
 
 -- ---- a stop before the first step: a packet that was taken off a line is lost with the line
 
-taken_rests : (c d : List ℕ) (largest : ℕ) (limits : Limits) (w : World) (f : Line Sent → Line Sent) (g : Line Back → Line Back) → Takes f → Takes g
-    → ((r : Receiver) → receiver_restarted (on_back g r) ≡ receiver_restarted r) → Stands c largest limits w → MayRestart c largest limits (with_line d f g w)
-taken_rests c d largest limits w f g f_takes g_takes lost s = record {
+taken_rests : (first : List CopyId) (c d : List ℕ) (largest : ℕ) (limits : Limits) (w : World) (f : Line Sent → Line Sent) (g : Line Back → Line Back) → Takes f → Takes g
+    → ((r : Receiver) → receiver_restarted (on_back g r) ≡ receiver_restarted r) → Stands first c largest limits w → MayRestart first c largest limits (with_line d f g w)
+taken_rests first c d largest limits w f g f_takes g_takes lost s = record {
   ids = s.ids;
+  grown = s.grown;
   ns = s.ns;
   around = end_around c d limits s.ns w (on_line f) (on_back g) (λ p. refl) (λ r. refl) (λ p. takes_others s.ns w.broker.given f f_takes p.line) (λ r. takes_others s.ns w.broker.given g g_takes r.line) s.standing.around;
   seen = subst (RestsAs largest s.ids s.ns w.broker) (sym (find_receiver c G (λ r. only_receiver (bytes_eq r.client d) (on_back g) r refl) w.receivers)) (by (receiver_named c w) s.standing.seen);
@@ -170,18 +177,18 @@ taken_rests c d largest limits w f g f_takes g_takes lost s = record {
     by None x = x
     by (Some r) x = record { before = r; placed = x; same = same (bytes_eq r.client d) r }
 
-pub before_rests : (c : List ℕ) (a : Asking) (largest : ℕ) (set : Setting) (w : World) → Stands c largest set.limits w → MayRestart c largest set.limits (before set a w)
-before_rests c (to_broker d) largest set w h = taken_rests c d largest set.limits w taken_up taken_up takes_up takes_up (λ r. refl) h
-before_rests c (old_to_broker d) largest set w h = taken_rests c d largest set.limits w taken_old taken_old takes_old takes_old (λ r. refl) h
-before_rests c (break d) largest set w h = may_restart c largest set.limits w h
-before_rests c (pump d) largest set w h = may_restart c largest set.limits w h
-before_rests c tick largest set w h = may_restart c largest set.limits w h
-before_rests c (stranger name bytes) largest set w h = may_restart c largest set.limits (before set (stranger name bytes) w) (comes_stands c largest set name bytes w h)
+pub before_rests : (first : List CopyId) (c : List ℕ) (a : Asking) (largest : ℕ) (set : Setting) (w : World) → Stands first c largest set.limits w → MayRestart first c largest set.limits (before set a w)
+before_rests first c (to_broker d) largest set w h = taken_rests first c d largest set.limits w taken_up taken_up takes_up takes_up (λ r. refl) h
+before_rests first c (old_to_broker d) largest set w h = taken_rests first c d largest set.limits w taken_old taken_old takes_old takes_old (λ r. refl) h
+before_rests first c (break d) largest set w h = may_restart first c largest set.limits w h
+before_rests first c (pump d) largest set w h = may_restart first c largest set.limits w h
+before_rests first c tick largest set w h = may_restart first c largest set.limits w h
+before_rests first c (stranger name bytes) largest set w h = may_restart first c largest set.limits (before set (stranger name bytes) w) (comes_stands first c largest set name bytes w h)
 
 -- ---- as events
 
-pub restarted_stands : (c : List ℕ) (largest : ℕ) (set : Setting) (w : World) → Stands c largest set.limits w → read_opening spending set w ≡ false → Stands c largest set.limits (happens set restart w)
-restarted_stands c largest set w h unspent = restart_stands c largest set w (may_restart c largest set.limits w h) unspent
+pub restarted_stands : (first : List CopyId) (c : List ℕ) (largest : ℕ) (set : Setting) (w : World) → Stands first c largest set.limits w → read_opening spending set w ≡ false → Stands first c largest set.limits (happens set restart w)
+restarted_stands first c largest set w h unspent = restart_stands first c largest set w (may_restart first c largest set.limits w h) unspent
 
-pub stopped_stands : (c : List ℕ) (a : Asking) (largest : ℕ) (set : Setting) (w : World) → Stands c largest set.limits w → read_opening spending set (before set a w) ≡ false → Stands c largest set.limits (happens set (stop_before a) w)
-stopped_stands c a largest set w h unspent = restart_stands c largest set (before set a w) (before_rests c a largest set w h) unspent
+pub stopped_stands : (first : List CopyId) (c : List ℕ) (a : Asking) (largest : ℕ) (set : Setting) (w : World) → Stands first c largest set.limits w → read_opening spending set (before set a w) ≡ false → Stands first c largest set.limits (happens set (stop_before a) w)
+stopped_stands first c a largest set w h unspent = restart_stands first c largest set (before set a w) (before_rests first c a largest set w h) unspent

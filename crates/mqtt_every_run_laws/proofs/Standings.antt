@@ -19,9 +19,10 @@ use Rattle.mqtt_handed_laws.proofs.Numbers.{place_of, places_number}
 use Rattle.mqtt_rows.specs.Distinct.{AllDiffer}
 use Rattle.mqtt_rules.specs.State.{Broker}
 
-pub new_stands : (c : List ℕ) (largest : ℕ) (limits : Limits) (w : World) → AreWithin limits → IsTidy limits w.broker → IsNew limits w → Stands c largest limits w
+pub new_stands : (c : List ℕ) (largest : ℕ) (limits : Limits) (w : World) → AreWithin limits → IsTidy limits w.broker → IsNew limits w → Stands [] c largest limits w
 new_stands c largest limits w within tidy new = record {
   ids = [];
+  grown = ([], refl);
   ns = [];
   standing = record {
     around = record {
@@ -52,7 +53,7 @@ runs_alone (Some birth) largest ids ns r b k differ = let x = k.runs (place_of i
 
 module _ (c : List ℕ) (largest : ℕ) (limits : Limits) (ids : List CopyId) (ns : List ℕ) (r : Receiver) (w : World) (h : StandsWith c largest limits ids ns w) (e : receiver_named c w ≡ Some r) where
   pub runs_so : RunsAlone (place_of ids) largest ids r w.broker
-  runs_so = let placed = subst (IsSeen largest ids ns w.broker) e h.seen in runs_alone placed.birth largest ids ns r w.broker placed.along placed.differ
+  runs_so = let placed = subst (IsSeen largest ids ns w.broker) e h.seen in runs_alone placed.birth largest ids ns r w.broker placed.along placed.told.differ
 
   pub handed_once : (copy : CopyId) → handed_count copy r ≤ 1
   handed_once copy = let x = runs_so in at_most_once (place_of ids) largest x.after r w.broker x.run_is copy

@@ -21,15 +21,16 @@ use Rattle.mqtt_world_laws.specs.Spending.{spending}
 use Rattle.mqtt_world_laws.proofs.Steady.{linking_spends_none}
 use Rattle.mqtt_world_laws.proofs.Strangers.{linked_given}
 use Rattle.mqtt_world_laws.proofs.Ends.{all_mapped, all_appended, find_last}
-use Rattle.mqtt_every_run_laws.specs.Standing.{IsAnothers, IsOtherStranger, Stands, StandsWith}
+use Rattle.mqtt_every_run_laws.specs.Standing.{IsAnothers, IsOtherStranger, Stands, StandsWith, BeginWith}
 use Rattle.mqtt_every_run_laws.proofs.Outside.{IsOutside, called_copies, fresh_unlisted, if_stands, if_there}
+use Rattle.mqtt_every_run_laws.proofs.Growing.{begin_then}
 
 -- ---- lists of strangers
 
-abbrev changed : List ℕ → (Stranger → Stranger) → Stranger → Stranger
+abbrev pub changed : List ℕ → (Stranger → Stranger) → Stranger → Stranger
 changed name f s = cond (bytes_eq s.name name) (f s) s
 
-find_changed : (name : List ℕ) (f : Stranger → Stranger) (ss : List Stranger) → ((s : Stranger) → (f s).name ≡ s.name)
+pub find_changed : (name : List ℕ) (f : Stranger → Stranger) (ss : List Stranger) → ((s : Stranger) → (f s).name ≡ s.name)
     → find (λ (s : Stranger). bytes_eq s.name name) (map (changed name f) ss) ≡ option_map f (find (λ (s : Stranger). bytes_eq s.name name) ss)
 find_changed name f [] h = refl
 find_changed name f (s ∷ ss) h = elim (cases_Bool (bytes_eq s.name name)) [
@@ -48,12 +49,13 @@ all_changed P name f ss h a = all_mapped P P (changed name f) ss (λ s q. by (by
 
 -- ---- its bytes change nothing of the broker and of the ends
 
-abbrev with_strangers : (c : List ℕ) (largest : ℕ) (limits : Limits) (w : World) (ss : List Stranger) (s : Stands c largest limits w) → AllByRecursion (IsOtherStranger s.ns w.broker.given) ss
-    → Stands c largest limits (record w { strangers = ss })
-with_strangers c largest limits w ss s a =
+abbrev with_strangers : (first : List CopyId) (c : List ℕ) (largest : ℕ) (limits : Limits) (w : World) (ss : List Stranger) (s : Stands first c largest limits w) → AllByRecursion (IsOtherStranger s.ns w.broker.given) ss
+    → Stands first c largest limits (record w { strangers = ss })
+with_strangers first c largest limits w ss s a =
     let h = s.standing in
     record {
       ids = s.ids;
+      grown = s.grown;
       ns = s.ns;
       standing = record {
         around = record {
@@ -70,14 +72,14 @@ with_strangers c largest limits w ss s a =
       };
     }
 
-abbrev held_stands : (c : List ℕ) (largest : ℕ) (limits : Limits) (name : List ℕ) (w : World) → Stands c largest limits w → Stands c largest limits (next_held name w)
-held_stands c largest limits name w s =
-    with_strangers c largest limits w (map (changed name (λ (x : Stranger). record x { held = held_after x.held })) w.strangers) s
+abbrev held_stands : (first : List CopyId) (c : List ℕ) (largest : ℕ) (limits : Limits) (name : List ℕ) (w : World) → Stands first c largest limits w → Stands first c largest limits (next_held name w)
+held_stands first c largest limits name w s =
+    with_strangers first c largest limits w (map (changed name (λ (x : Stranger). record x { held = held_after x.held })) w.strangers) s
     (all_changed (IsOtherStranger s.ns w.broker.given) name (λ (x : Stranger). record x { held = held_after x.held }) w.strangers (λ x q. q) s.standing.around.strangers)
 
 -- ---- it comes
 
-pub linking_stands : (c : List ℕ) (largest : ℕ) (set : Setting) (ids : List CopyId) (ns : List ℕ) (w : World) → StandsWith c largest set.limits ids ns w → (all : List CopyId) × StandsWith c largest set.limits all ns (calls set NewLine w)
+pub linking_stands : (c : List ℕ) (largest : ℕ) (set : Setting) (ids : List CopyId) (ns : List ℕ) (w : World) → StandsWith c largest set.limits ids ns w → (all : List CopyId) × StandsWith c largest set.limits all ns (calls set NewLine w) × BeginWith ids all
 linking_stands c largest set ids ns w h = called_copies c largest set NewLine ids ns w h (linking_spends_none set.limits set.choice w.now w.broker) (λ there. tt)
 
 -- the next line is no one's
@@ -88,21 +90,21 @@ next_free c largest set ids ns w h can = λ n is.
     let given = linked_given set w.now w.broker can in
     (fresh_unlisted n ns w.broker.given it h.around.known, omega (arith, it, given))
 
-pub comes_stands : (c : List ℕ) (largest : ℕ) (set : Setting) (name bytes : List ℕ) (w : World) → Stands c largest set.limits w → Stands c largest set.limits (comes set name bytes w)
-comes_stands c largest set name bytes w s = by (is_some (stranger_named name w))
+pub comes_stands : (first : List CopyId) (c : List ℕ) (largest : ℕ) (set : Setting) (name bytes : List ℕ) (w : World) → Stands first c largest set.limits w → Stands first c largest set.limits (comes set name bytes w)
+comes_stands first c largest set name bytes w s = by (is_some (stranger_named name w))
   where
     free : (t : Bool) → can_link w.broker ≡ t → IsAnothers s.ns (stepped set.limits set.choice w.now NewLine w.broker).given (cond t (Some (suc w.broker.given)) None)
     free false can = λ n is. absurd cc
     free true can = next_free c largest set s.ids s.ns w s.standing can
 
-    by : (t : Bool) → Stands c largest set.limits (linked_at set t name bytes w)
+    by : (t : Bool) → Stands first c largest set.limits (linked_at set t name bytes w)
     by true =
-        with_strangers c largest set.limits w (map (changed name (λ (x : Stranger). record x { held = x.held ++ bytes })) w.strangers) s
+        with_strangers first c largest set.limits w (map (changed name (λ (x : Stranger). record x { held = x.held ++ bytes })) w.strangers) s
         (all_changed (IsOtherStranger s.ns w.broker.given) name (λ (x : Stranger). record x { held = x.held ++ bytes }) w.strangers (λ x q. q) s.standing.around.strangers)
     by false =
         let linked = linking_stands c largest set s.ids s.ns w s.standing in
         let x : Stranger = record { name = name; number = cond (can_link w.broker) (Some (suc w.broker.given)) None; held = bytes } in
-        with_strangers c largest set.limits (calls set NewLine w) (w.strangers ++ x ∷ []) (record { ids = linked.0; ns = s.ns; standing = linked.1 })
+        with_strangers first c largest set.limits (calls set NewLine w) (w.strangers ++ x ∷ []) (record { ids = linked.0; grown = begin_then first s.ids linked.0 s.grown linked.2; ns = s.ns; standing = linked.1 })
         (all_appended (IsOtherStranger s.ns (calls set NewLine w).broker.given) w.strangers x linked.1.around.strangers (free (can_link w.broker) refl))
 
 -- whoever is there then was there before
@@ -162,9 +164,9 @@ held_outside c ns given w s call there free h e = by s.number free e
     by (Some n) f e = front_outside c ns given n s.held w (first_of s.held) call there f h e
 
 -- the next of them is a step of others; w is the world in which the bytes came
-next_outside : (c : List ℕ) (largest : ℕ) (limits : Limits) (name : List ℕ) (w v : World) (h : Stands c largest limits v) → is_some (receiver_named c v) ≡ is_some (receiver_named c w)
+next_outside : (first : List CopyId) (c : List ℕ) (largest : ℕ) (limits : Limits) (name : List ℕ) (w v : World) (h : Stands first c largest limits v) → is_some (receiver_named c v) ≡ is_some (receiver_named c w)
     → front_names (first_of (bytes_held (stranger_named name v))) w ≡ false → is_some (receiver_named c v) ≡ true → (x : Call) → call_of_stranger (stranger_named name v) ≡ Some x → IsOutside c h.ns x
-next_outside c largest limits name w v h there good found x is = by (stranger_named name v) refl
+next_outside first c largest limits name w v h there good found x is = by (stranger_named name v) refl
   where
     by : (o : Option Stranger) → stranger_named name v ≡ o → IsOutside c h.ns x
     by None e = let clash : None ≡ Some x = sym (ap call_of_stranger e) ∙ is in absurd cc
@@ -192,16 +194,16 @@ held_next : (set : Setting) (name : List ℕ) (v : World) (x : Option Call) → 
 held_next set name v None = held_once name v
 held_next set name v (Some x) = held_once name v
 
-rest_stands : (more : ℕ) (c : List ℕ) (largest : ℕ) (set : Setting) (name : List ℕ) (w v : World) → Stands c largest set.limits v → is_some (receiver_named c v) ≡ is_some (receiver_named c w)
-    → bytes_name more (bytes_held (stranger_named name v)) w ≡ false → read_rest spending set more name v ≡ false → Stands c largest set.limits (answers_rest set more name v)
-rest_stands zero c largest set name w v h there good unspent = h
-rest_stands (suc more) c largest set name w v h there good unspent =
+rest_stands : (first : List CopyId) (more : ℕ) (c : List ℕ) (largest : ℕ) (set : Setting) (name : List ℕ) (w v : World) → Stands first c largest set.limits v → is_some (receiver_named c v) ≡ is_some (receiver_named c w)
+    → bytes_name more (bytes_held (stranger_named name v)) w ≡ false → read_rest spending set more name v ≡ false → Stands first c largest set.limits (answers_rest set more name v)
+rest_stands first zero c largest set name w v h there good unspent = h
+rest_stands first (suc more) c largest set name w v h there good unspent =
     let call = call_of_stranger (stranger_named name v) in
     let u = next_held name v in
     let both = either_false (front_names (first_of (bytes_held (stranger_named name v))) w) (bytes_name more (held_after (bytes_held (stranger_named name v))) w) good in
     let costs = either_false (read_if spending set call v) (read_rest spending set more name (calls_if set call u)) unspent in
-    let next = if_stands c largest set call u (held_stands c largest set.limits name v h) (same_cost set name v call costs.0) (next_outside c largest set.limits name w v h there both.0) in
-    rest_stands more c largest set name w (calls_if set call u) next (if_there c set call u ∙ there) (ap (λ (bytes : List ℕ). bytes_name more bytes w) (held_next set name v call) ∙ both.1) costs.1
+    let next = if_stands first c largest set call u (held_stands first c largest set.limits name v h) (same_cost set name v call costs.0) (next_outside first c largest set.limits name w v h there both.0) in
+    rest_stands first more c largest set name w (calls_if set call u) next (if_there c set call u ∙ there) (ap (λ (bytes : List ℕ). bytes_name more bytes w) (held_next set name v call) ∙ both.1) costs.1
 
 -- ---- its bytes are answered, whole or the first packet alone
 
@@ -215,11 +217,11 @@ good_then set name bytes w good =
     count_is None = refl
     count_is (Some s) = refl
 
-pub stranger_stands : (c name bytes : List ℕ) (largest : ℕ) (set : Setting) (w : World) → Stands c largest set.limits w → is_bad_asking (stranger name bytes) w ≡ false → read_asked spending set (stranger name bytes) w ≡ false
-    → Stands c largest set.limits (asks set (stranger name bytes) w)
-stranger_stands c name bytes largest set w h good unspent =
+pub stranger_stands : (first : List CopyId) (c name bytes : List ℕ) (largest : ℕ) (set : Setting) (w : World) → Stands first c largest set.limits w → is_bad_asking (stranger name bytes) w ≡ false → read_asked spending set (stranger name bytes) w ≡ false
+    → Stands first c largest set.limits (asks set (stranger name bytes) w)
+stranger_stands first c name bytes largest set w h good unspent =
     let v = comes set name bytes w in
-    rest_stands (held_count (stranger_named name v)) c largest set name w v (comes_stands c largest set name bytes w h) (comes_there c set name bytes w) (good_then set name bytes w good) unspent
+    rest_stands first (held_count (stranger_named name v)) c largest set name w v (comes_stands first c largest set name bytes w h) (comes_there c set name bytes w) (good_then set name bytes w good) unspent
 
 -- nothing is held of a stranger that is asked for nothing
 first_good : (bytes : List ℕ) (w : World) → bytes_name (length bytes) bytes w ≡ false → front_names (first_of bytes) w ≡ false
@@ -227,12 +229,12 @@ unfolding first_of fronts.size_at
 first_good [] w good = refl
 first_good (x ∷ xs) w good = (either_false (front_names (first_of (x ∷ xs)) w) (bytes_name (length xs) (held_after (x ∷ xs)) w) good).0
 
-pub stranger_first : (c name bytes : List ℕ) (largest : ℕ) (set : Setting) (w : World) → Stands c largest set.limits w → is_bad_asking (stranger name bytes) w ≡ false → read_first spending set (stranger name bytes) w ≡ false
-    → Stands c largest set.limits (first_step set (stranger name bytes) w)
-stranger_first c name bytes largest set w h good unspent =
+pub stranger_first : (first : List CopyId) (c name bytes : List ℕ) (largest : ℕ) (set : Setting) (w : World) → Stands first c largest set.limits w → is_bad_asking (stranger name bytes) w ≡ false → read_first spending set (stranger name bytes) w ≡ false
+    → Stands first c largest set.limits (first_step set (stranger name bytes) w)
+stranger_first first c name bytes largest set w h good unspent =
     let v = comes set name bytes w in
     let all = bytes_held (stranger_named name w) ++ bytes in
-    let v_stands = comes_stands c largest set name bytes w h in
-    if_stands c largest set (call_of_stranger (stranger_named name v)) v v_stands unspent
-    (next_outside c largest set.limits name w v v_stands (comes_there c set name bytes w)
+    let v_stands = comes_stands first c largest set name bytes w h in
+    if_stands first c largest set (call_of_stranger (stranger_named name v)) v v_stands unspent
+    (next_outside first c largest set.limits name w v v_stands (comes_there c set name bytes w)
     (ap (λ (xs : List ℕ). front_names (first_of xs) w) (comes_held set name bytes w) ∙ first_good all w good))

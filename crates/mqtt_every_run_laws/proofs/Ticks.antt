@@ -1,6 +1,6 @@
 -- A tick, in the eyes of one receiver: it does something for others, or closes a line on which its CONNECT didn't come in time
 -- (MQTT 5.0, 3.1, 4.1).
-use Rattle.std.proofs.Common.{◌≡◌, ℕ, ◌≤◌, true, false, List, [], ◌∷◌, Option, Some, None, nat_lt, refl, sym, ap, subst, ◌∙◌, append-nil, arith, inl, inr}
+use Rattle.std.proofs.Common.{◌≡◌, ℕ, true, false, List, [], ◌∷◌, Option, Some, None, nat_lt, refl, sym, ap, subst, ◌∙◌, append-nil, inl, inr}
 use Rattle.std.specs.Prelude.{find}
 use Rattle.std.specs.List.{AllByRecursion}
 use Rattle.std.proofs.lemmas.Bool.{cases_Bool}
@@ -13,6 +13,7 @@ use Rattle.mqtt_laws.specs.Seats.{HasNobody, IsHis, IsIdle, IsOff, Seat}
 use Rattle.mqtt_laws.specs.World.{Setting, World, asks, tick}
 use Rattle.mqtt_laws.proofs.Lists.{all_find}
 use Rattle.mqtt_rules.proofs.NumberSteps.{step_fell}
+use Rattle.mqtt_rules.specs.Numbers.{NoneFell}
 use Rattle.mqtt_rules.specs.State.{Line as BrokerLine, Broker, MemberChoice}
 use Rattle.mqtt_rules.specs.Step.{Tick, at_moment, stepped}
 use Rattle.mqtt_rules.specs.Tick.{is_silent}
@@ -26,6 +27,7 @@ use Rattle.mqtt_handed_laws.proofs.OwnOthers.{late_in_step}
 use Rattle.mqtt_every_run_laws.specs.Standing.{GoesAlong, IsPlaced, Stands, publisher_like}
 use Rattle.mqtt_every_run_laws.proofs.Like.{seat_of_others}
 use Rattle.mqtt_every_run_laws.proofs.Outside.{GoesFurther, calls_with, placed_on, placed_others}
+use Rattle.mqtt_every_run_laws.proofs.Growing.{begin_then}
 
 -- ---- nobody is connected on a line of its that a tick finds silent
 
@@ -81,8 +83,8 @@ placed_ticked largest ids ns limits choice now r b placed tidy = by (find (λ (x
     new : Broker
     new = stepped limits choice now Tick b
 
-    grows : b.records.publications ≤ new.records.publications
-    grows = (step_fell limits choice now Tick b).1
+    grows : NoneFell b.records new.records
+    grows = step_fell limits choice now Tick b
 
     seat : Seat placed.birth placed.line (publisher_like q) new
     seat = seat_of_others limits choice now Tick placed.birth placed.line r b placed.seat placed.named tt (off_tick r.line.number) (off_tick r.line.old_number)
@@ -95,7 +97,7 @@ placed_ticked largest ids ns limits choice now r b placed tidy = by (find (λ (x
         let x = late_awaiting largest ids limits choice now ns l.number r b along his late in
         record {
           more = [];
-          placed = placed_on largest ids [] ns ns 0 b.records.publications placed.line None r q b new placed (omega arith) grows refl tt tt
+          placed = placed_on largest ids [] ns ns 0 placed.line None r q b new placed grows refl tt tt
               (subst (λ (all : List CopyId). IsAwaiting largest all ns q new) (sym (append-nil ids)) x.0) there placed.its_line (λ n e f. placed.apart n e f);
         }
     closes (Some birth) l along his there inside found =
@@ -104,7 +106,7 @@ placed_ticked largest ids ns limits choice now r b placed tidy = by (find (λ (x
         let x = late_in_step largest ids limits choice now birth ns l.number r b along late in
         record {
           more = [];
-          placed = placed_on largest ids [] ns ns birth b.records.publications placed.line (Some birth) r q b new placed (omega arith) grows refl tt tt
+          placed = placed_on largest ids [] ns ns birth placed.line (Some birth) r q b new placed grows refl tt tt
               (subst (λ (all : List CopyId). IsInStep largest all birth ns q new) (sym (append-nil ids)) x) there placed.its_line (λ n e f. placed.apart n e f);
         }
 
@@ -116,7 +118,7 @@ placed_ticked largest ids ns limits choice now r b placed tidy = by (find (λ (x
           (λ x f. let both : Some l ≡ Some x = sym e ∙ f in let same : l ≡ x = cc in ap (λ (y : BrokerLine). is_one_of (Some y.number) ns) (sym same) ∙ outside) seat
     ]
 
-pub ticked_stands : (c : List ℕ) (largest : ℕ) (set : Setting) (w : World) → Stands c largest set.limits w → read_first spending set tick w ≡ false → Stands c largest set.limits (asks set tick w)
-ticked_stands c largest set w s unspent =
+pub ticked_stands : (first : List CopyId) (c : List ℕ) (largest : ℕ) (set : Setting) (w : World) → Stands first c largest set.limits w → read_first spending set tick w ≡ false → Stands first c largest set.limits (asks set tick w)
+ticked_stands first c largest set w s unspent =
     let x = calls_with c largest set Tick s.ids s.ns w s.standing unspent (λ r e placed. placed_ticked largest s.ids s.ns set.limits set.choice w.now r w.broker placed s.standing.around.tidy) in
-    record { ids = x.0; ns = s.ns; standing = x.1 }
+    record { ids = x.0; grown = begin_then first s.ids x.0 s.grown x.2; ns = s.ns; standing = x.1 }

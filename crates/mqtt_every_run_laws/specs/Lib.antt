@@ -1,1 +1,7 @@
+pub mod Alone
 pub mod Standing
+pub mod HandedOver
+pub mod Retaining
+pub mod Taking
+pub mod Untouched
+pub mod Scripts

@@ -1,9 +1,10 @@
 -- Where a receiver is in a run of the world: what it sees is a run of its hop, its session and its lines are its own, and all
 -- others have other lines (MQTT 5.0, 3.1.2.4, 3.1.4, 4.4).
-use Rattle.std.specs.Prelude.{◌≡◌, ℕ, ◌≤◌, ⊤, ◌⊎◌, false, true, List, [], ◌∷◌, map, Option, Some, None, is_some}
+use Rattle.std.specs.Prelude.{◌≡◌, ℕ, ◌≤◌, ⊤, ◌⊎◌, false, true, List, [], ◌∷◌, ◌++◌, map, Option, Some, None, is_some}
 use Rattle.std.specs.List.{AllByRecursion}
 use Rattle.mqtt_base.specs.declared.session.CopyId.{CopyId}
 use Rattle.mqtt_flow.specs.Receiver.{connect, puback, pubrec, pubcomp}
+use Rattle.mqtt_handed_laws.specs.Apart.{AreToldApart}
 use Rattle.mqtt_handed_laws.specs.Own.{IsAwaiting, IsInStep}
 use Rattle.mqtt_handed_laws.specs.Served.{IsTidy}
 use Rattle.mqtt_inbound.specs.Publisher.{CONNECT}
@@ -12,7 +13,6 @@ use Rattle.mqtt_laws.specs.Lines.{Line, is_one_of}
 use Rattle.mqtt_laws.specs.Seats.{IsApart, IsNamed, Seat}
 use Rattle.mqtt_laws.specs.World.{Asking, Stranger, World, break, old_to_broker, publisher_named, pump, receiver_named}
 use Rattle.mqtt_laws.specs.World.{stranger, tick, to_broker}
-use Rattle.mqtt_rows.specs.Distinct.{AllDiffer}
 use Rattle.mqtt_rules.specs.Laws.{AreWithin}
 use Rattle.mqtt_rules.specs.State.{Broker}
 use Rattle.mqtt_rules.specs.declared.Limits.{Limits}
@@ -48,10 +48,6 @@ abbrev pub GoesAlong : Option ℕ → ℕ → List CopyId → List ℕ → Recei
 GoesAlong None largest ids ns r b = IsAwaiting largest ids ns r b
 GoesAlong (Some birth) largest ids ns r b = IsInStep largest ids birth ns r b
 
--- of a publication that was accepted
-abbrev pub IsPast : ℕ → CopyId → Type 0
-IsPast publications id = id.publication ≤ publications
-
 -- what it sees is a run of its hop, with copies of these identities; these are the numbers of the lines that it had
 pub record IsPlaced (largest : ℕ) (ids : List CopyId) (ns : List ℕ) (r : Receiver) (b : Broker) : Type 0 where
   pub birth : Option ℕ
@@ -61,8 +57,7 @@ pub record IsPlaced (largest : ℕ) (ids : List CopyId) (ns : List ℕ) (r : Rec
   pub its_line : is_one_of (Some line) (0 ∷ ns) ≡ true
   pub apart : IsApart r.line.number r.line.old_number
   pub named : IsNamed r.client
-  pub differ : AllDiffer ids
-  pub past : AllByRecursion (IsPast b.records.publications) ids
+  pub told : AreToldApart ids b.records
 
 -- ---- the others
 
@@ -107,9 +102,14 @@ pub record StandsWith (client : List ℕ) (largest : ℕ) (limits : Limits) (ids
   pub around : IsAround client limits ns w
   pub seen : IsSeen largest ids ns w.broker (receiver_named client w)
 
--- with whatever copies and lines
-pub record Stands (client : List ℕ) (largest : ℕ) (limits : Limits) (w : World) : Type 0 where
+-- these copies, and some more behind them, or none
+abbrev pub BeginWith : List CopyId → List CopyId → Type 0
+BeginWith first ids = (more : List CopyId) × (ids ≡ first ++ more)
+
+-- with copies that begin with these, and whatever lines
+pub record Stands (first : List CopyId) (client : List ℕ) (largest : ℕ) (limits : Limits) (w : World) : Type 0 where
   pub ids : List CopyId
+  pub grown : BeginWith first ids
   pub ns : List ℕ
   pub standing : StandsWith client largest limits ids ns w
 

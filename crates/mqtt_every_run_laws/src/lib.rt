@@ -1,16 +1,30 @@
 //! Laws of every run of the world, for what receivers are handed (MQTT 5.0, 4.3, 4.4).
 #![tactic(auto)]
 
+mod broker_laws;
+mod connect_laws;
 mod receiver_laws;
+mod run_laws;
+mod script_laws;
 mod standing_laws;
+mod taking_laws;
+mod wish_laws;
 
+pub use broker_laws::{a_line_without_session_has_sent_nothing, identifiers_in_flight_stay_unique};
+pub use connect_laws::a_connect_leaves_a_receiver_standing;
 pub use receiver_laws::{
     a_receiver_that_stands_was_handed_its_copies_once, every_receiver_stands_in_a_new_world,
 };
+pub use run_laws::{a_world_may_begin_untouched, every_drain_ends, every_run_hands_over_once};
+pub use script_laws::every_script_delivers_exactly_once;
 pub use standing_laws::{
     a_lost_line_leaves_a_receiver_standing, a_new_line_leaves_a_receiver_standing,
     a_restart_leaves_a_receiver_standing, a_stop_after_the_commit_leaves_a_receiver_standing,
     a_tick_leaves_a_receiver_standing, an_answer_leaves_a_receiver_standing,
     sending_leaves_a_receiver_standing, what_ends_do_leaves_a_receiver_standing,
     what_is_asked_for_others_leaves_a_receiver_standing,
+};
+pub use taking_laws::its_line_takes_what_its_connect_says;
+pub use wish_laws::{
+    a_subscribe_leaves_a_receiver_standing, retained_messages_stay_of_different_publications,
 };

@@ -1,6 +1,6 @@
 //! Laws of a receiver that stands in the world: each does at the beginning, and what follows for what it has read (4.3.2,
 //! 4.3.3, 4.6).
-ghost use Rattle.std.specs.Prelude.{◌≡◌, ◌≤◌, All, ℕ, List, Some, true};
+ghost use Rattle.std.specs.Prelude.{◌≡◌, ◌≤◌, All, [], ℕ, List, Some, true};
 ghost use Rattle.mqtt_base.specs.declared.session.CopyId.{CopyId};
 ghost use Rattle.mqtt_every_run_laws.specs.Standing.{Stands, StandsWith};
 ghost use Rattle.mqtt_handed_laws.specs.Own.{RunsAlone};
@@ -18,7 +18,7 @@ ghost use Rattle.mqtt_world_laws.specs.Fair.{IsNew};
 /// and tables in order with queues within the limit (4.1).
 pub fn every_receiver_stands_in_a_new_world()
     ensures begins { (client : List ℕ) (largest : ℕ) (limits : Limits) (w : World)
-        → AreWithin limits → IsTidy limits w.broker → IsNew limits w → Stands client largest limits w }
+        → AreWithin limits → IsTidy limits w.broker → IsNew limits w → Stands [] client largest limits w }
 {}
 
 /// Where a receiver stands, what it sees of the world is a run of its hop: each copy of QoS 2 was handed over at most once,

@@ -49,7 +49,7 @@ apart_entered birth ids more old new h fell entered differ =
 -- ---- copies of retained messages
 
 -- behind those of before
-apart_brought : (birth : ℕ) (ids more : List CopyId) (old new : Records) → AreToldApart ids old → NoneFell old new → AllByRecursion (IsBroughtCopy birth (suc old.subscribes)) more → AreToldApart more new
+pub apart_brought : (birth : ℕ) (ids more : List CopyId) (old new : Records) → AreToldApart ids old → NoneFell old new → AllByRecursion (IsBroughtCopy birth (suc old.subscribes)) more → AreToldApart more new
     → AreToldApart (ids ++ more) new
 apart_brought birth ids more old new h fell brought apart =
     let first = come_still old.publications old.subscribes new.publications new.subscribes ids fell.1 fell.2 h.come in

@@ -216,28 +216,28 @@ module _ (number : Numbering) (largest : ℕ) (copies : List Lot) (limits : Limi
         }
 
     -- the hop makes a new session too
-    pub begins_run : IsRun number largest copies r b → r.line.up ≡ answers (connect clean) ∷ rest → step largest w (to_broker false) ≡ made_new (filter_map answered rest) w
-        → RunsOn number largest copies (reads_answer limits choice now l.number (connect clean) r b) (after_answer limits choice now l.number (connect clean) r b)
-    begins_run h up hop =
+    pub begins_is : IsRun number largest copies r b → r.line.up ≡ answers (connect clean) ∷ rest → step largest w (to_broker false) ≡ made_new (filter_map answered rest) w
+        → IsRun number largest copies2 (reads_answer limits choice now l.number (connect clean) r b) (after_answer limits choice now l.number (connect clean) r b)
+    begins_is h up hop =
         let e = to_broker false in
         let ups : filter_map answered (drop 1 r.line.up) ≡ filter_map answered rest = ap (λ (xs : List Back). filter_map answered (drop 1 xs)) up in
         let olds = c.old in
         let makes_new : hop_called number copies2 ids limits choice now (Input n packet) q n birth b (connack false ∷ []) false (is_one_of r.line.old_number ns) ≡ made_new (filter_map answered rest) w =
         λ i. record w { copies = copies2; stands = true; linked = true; up = ups i; down = w.down ++ connack false ∷ []; old = olds i } in
         record {
-          after = copies2;
-          same = cut_ids copies;
-          run_is = record {
-            events = h.events ++ e ∷ [];
-            seen_is = called_seen number copies2 ids limits choice now (Input n packet) q n birth b (connack false ∷ []) false (is_one_of r.line.old_number ns) makes
-                ∙ (makes_new ∙ (sym hop ∙ (ap (λ (v : Hop). step largest v e) h.seen_is ∙ sym (run_append largest h.events (e ∷ []) start))));
-            queue_is = called_queue number copies2 ids limits choice now (Input n packet) q n birth b (connack false ∷ []) false (is_one_of r.line.old_number ns) makes;
-            numbered = subst (AreNumbered number) (sym (cut_ids copies)) h.numbered;
-            tagged = subst (λ (cs : List CopyId). AreTagged number cs (reads_answer limits choice now n (connect clean) r b)) (sym (cut_ids copies))
-                (called_tags number copies2 ids limits choice now (Input n packet) q n birth b (connack false ∷ []) false (is_one_of r.line.old_number ns) makes
-                (record { down = h.tagged.down; ledger = h.tagged.ledger; once = h.tagged.once }));
-          };
+          events = h.events ++ e ∷ [];
+          seen_is = called_seen number copies2 ids limits choice now (Input n packet) q n birth b (connack false ∷ []) false (is_one_of r.line.old_number ns) makes
+              ∙ (makes_new ∙ (sym hop ∙ (ap (λ (v : Hop). step largest v e) h.seen_is ∙ sym (run_append largest h.events (e ∷ []) start))));
+          queue_is = called_queue number copies2 ids limits choice now (Input n packet) q n birth b (connack false ∷ []) false (is_one_of r.line.old_number ns) makes;
+          numbered = subst (AreNumbered number) (sym (cut_ids copies)) h.numbered;
+          tagged = subst (λ (cs : List CopyId). AreTagged number cs (reads_answer limits choice now n (connect clean) r b)) (sym (cut_ids copies))
+              (called_tags number copies2 ids limits choice now (Input n packet) q n birth b (connack false ∷ []) false (is_one_of r.line.old_number ns) makes
+              (record { down = h.tagged.down; ledger = h.tagged.ledger; once = h.tagged.once }));
         }
+
+    pub begins_run : IsRun number largest copies r b → r.line.up ≡ answers (connect clean) ∷ rest → step largest w (to_broker false) ≡ made_new (filter_map answered rest) w
+        → RunsOn number largest copies (reads_answer limits choice now l.number (connect clean) r b) (after_answer limits choice now l.number (connect clean) r b)
+    begins_run h up hop = record { after = copies2; same = cut_ids copies; run_is = begins_is h up hop }
 
 -- ---- no session of its name stands: one begins
 

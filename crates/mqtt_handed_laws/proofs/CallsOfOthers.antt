@@ -206,7 +206,7 @@ carried_run number largest copies r b c sessions lines h =
       tagged = h.tagged;
     }
 
-moment_runs : (number : Numbering) (largest : ℕ) (copies : List Lot) (r : Receiver) (rows : List Change) (b : Broker) → IsRun number largest copies r b → IsRun number largest copies r (with_moment rows b)
+pub moment_runs : (number : Numbering) (largest : ℕ) (copies : List Lot) (r : Receiver) (rows : List Change) (b : Broker) → IsRun number largest copies r b → IsRun number largest copies r (with_moment rows b)
 moment_runs number largest copies r rows b h = carried_run number largest copies r b (with_moment rows b) (done_sessions rows b) (done_lines rows b) h
 
 moment_receives : (r : Receiver) (s : Session) (rows : List Change) (b : Broker) → IsReceiving r s b → IsReceiving r s (with_moment rows b)

@@ -1,5 +1,5 @@
 -- Worked drains: how many rounds they take, how each copy ends, and what is handed over (MQTT 5.0, 4.3, 4.4, 4.9).
-use Rattle.std.proofs.Common.{◌≡◌, ℕ, true, false, List, [], ◌∷◌, ◌++◌, length, refl}
+use Rattle.std.proofs.Common.{◌≡◌, ℕ, ◌+◌, true, false, List, [], ◌∷◌, ◌++◌, length, refl}
 use Rattle.std.specs.Prelude.{codes, filter_map}
 use Rattle.std.specs.Str.{is_utf8, chars}
 use Rattle.std.proofs.Math.Utf8.{encode}
@@ -7,21 +7,24 @@ use Rattle.mqtt_base.specs.Values.{varint}
 use Rattle.mqtt_base.specs.Reading.{groups_at, varint_at, blob_at, text_at}
 use Rattle.mqtt_base.specs.Items.{items_in, items_at}
 use Rattle.mqtt_base.specs.declared.session.CopyId.{CopyId}
-use Rattle.mqtt_base.specs.declared.session.Cause.TheVariants.{Direct}
-use Rattle.mqtt_base.specs.declared.session.Ending.TheVariants.{Taken, Expired, SessionEnded}
+use Rattle.mqtt_base.specs.declared.session.Cause.TheVariants.{Direct, Retained}
+use Rattle.mqtt_base.specs.declared.session.Ending.TheVariants.{Taken, Expired, SessionEnded, Dropped}
 use Rattle.mqtt_props.specs.Reading.{value_at, prop_at, block_at}
 use Rattle.mqtt_props.specs.Laws.{layout_at}
 use Rattle.mqtt_codec.specs.Connect.{will_at, user_name_at, password_at, fields_at, connect_at}
 use Rattle.mqtt_codec.specs.Publish.{delivery_at, publish_at}
 use Rattle.mqtt_codec.specs.Frames.{frame_at, body_at, versioned_at, lawful_at, packet_at}
 use Rattle.mqtt_packet.specs.Front.{size_at, first_of}
+use Rattle.mqtt_flow.specs.declared.entry.Full.TheVariants.{Drop}
 use Rattle.mqtt_rules.specs.Deeds.{output, report}
+use Rattle.mqtt_rules.specs.declared.Limits.{Limits}
 use Rattle.mqtt_rules.specs.declared.Report.{Report}
-use Rattle.mqtt_rules.specs.declared.Report.TheVariants.{Ended}
+use Rattle.mqtt_rules.specs.declared.Report.TheVariants.{Ended, Entered}
 use Rattle.mqtt_rules.proofs.Play.{usual, first, bytes}
+use Rattle.mqtt_laws.specs.Ends.{Draft}
 use Rattle.mqtt_laws.specs.Run.{after, deeds_over}
-use Rattle.mqtt_laws.specs.World.{World, Event, receiver, publisher, publish, connect_end, give_up, clock, ask, to_broker, stranger}
-use Rattle.mqtt_laws.proofs.Scripts.{p1, r1, draft, joins, subscribes, round, turns, Sum, sum_of}
+use Rattle.mqtt_laws.specs.World.{World, Event, receiver, publisher, publish, connect_end, give_up, clock, ask, to_broker, stranger, subscribe}
+use Rattle.mqtt_laws.proofs.Scripts.{p1, r1, draft, wish, joins, subscribes, round, turns, Sum, sum_of}
 use Rattle.mqtt_handed_laws.specs.Drains.{copies_left, drain_turns, drained, enough_rounds, is_bad_drain, rounds_taken}
 
 abbrev copy : ℕ → CopyId
@@ -35,21 +38,20 @@ record Drained : Type 0 where
   pub out : ℕ
   pub left : ℕ
 
-abbrev drains_from : World → Drained
-drains_from w =
-    let most = enough_rounds (copies_left r1 w) in
-    let turns_made = drain_turns usual first r1 most w in
-    let ds = deeds_over usual turns_made w in
+abbrev drains_from : Limits → ℕ → World → Drained
+drains_from limits most w =
+    let turns_made = drain_turns limits first r1 most w in
+    let ds = deeds_over limits turns_made w in
     record {
       most = most;
-      rounds = rounds_taken usual first r1 most w;
+      rounds = rounds_taken limits first r1 most w;
       ended = filter_map report ds;
       out = length (filter_map output ds);
-      left = copies_left r1 (drained usual first r1 most w);
+      left = copies_left r1 (drained limits first r1 most w);
     }
 
 abbrev drains_after : List Event → Drained
-drains_after es = drains_from (after usual (turns es))
+drains_after es = let w = after usual (turns es) in drains_from usual (enough_rounds (copies_left r1 w)) w
 
 abbrev sum_after : List Event → Sum
 sum_after es = let w = after usual (turns es) in sum_of (drained usual first r1 (enough_rounds (copies_left r1 w)) w)
@@ -110,6 +112,34 @@ pub a_clean_start_ends_them : drains_after starts_anew
     ≡ record { most = 5; rounds = 1; ended = Ended (copy 1) r1 SessionEnded ∷ Ended (copy 2) r1 SessionEnded ∷ []; out = 2; left = 0 }
 unfolding varint
 a_clean_start_ends_them = refl
+
+-- ---- a SUBSCRIBE is under way, and the queue drops when it is full: of two copies the one that waits makes way for that of the
+-- retained message; it counts as one that entered
+
+abbrev dropping : Limits
+dropping = record usual { full = Drop; queue = 2 }
+
+abbrev kept_draft : Draft
+kept_draft = record draft { content = record draft.content { retain = true } }
+
+abbrev asks_while_full : List Event
+asks_while_full =
+    receiver r1 1 ∷ publisher p1 ∷ joins r1 false ++ (subscribes r1 ++ (joins p1 false
+    ++ (publish p1 kept_draft ∷ publish p1 kept_draft ∷ ask (to_broker p1) ∷ ask (to_broker p1) ∷ subscribe r1 wish ∷ [])))
+
+abbrev brought : CopyId
+brought = record { publication = 2; birth = 1; cause = Retained 2 }
+
+pub one_makes_way : drains_from dropping (enough_rounds (2 + 1)) (after dropping (turns asks_while_full))
+    ≡ record {
+      most = 7;
+      rounds = 4;
+      ended = Ended (copy 2) r1 Dropped ∷ Entered brought r1 ∷ Ended (copy 1) r1 Taken ∷ Ended brought r1 Taken ∷ [];
+      out = 5;
+      left = 0;
+    }
+unfolding varint
+one_makes_way = refl
 
 -- ---- an empty queue takes no round; nobody drains a publisher, or an end without a line
 

@@ -6,13 +6,14 @@ use Rattle.std.specs.List.{AllByRecursion}
 use Rattle.std.proofs.lemmas.Bool.{cases_Bool, eqb-true}
 use Rattle.std.proofs.lemmas.Cmp.{nat_eq_equiv}
 use Rattle.std.proofs.lemmas.List.Sums.{sum_by-cons}
+use Rattle.std.proofs.lemmas.Option.{slice_get-map}
 use Rattle.mqtt_base.specs.declared.limits.TheConstants.{QUEUE_LIMIT}
 use Rattle.mqtt_base.specs.declared.session.CopyId.{CopyId}
 use Rattle.mqtt_base.specs.declared.session.Ending.{Ending}
 use Rattle.mqtt_base.specs.declared.session.Ending.TheVariants.{Dropped, Expired}
 use Rattle.mqtt_base.specs.declared.session.Phase.TheVariants.{Waiting}
 use Rattle.mqtt_flow.specs.Outbound.{dropped, dropped_at, expired, expired_at, gives_way, has_room, is_late, is_waiting, staying, unsent, way_made}
-use Rattle.mqtt_flow.specs.OutboundWorld.{Lot, World as Hop, enter, enters, ended_by, expire, is_granted, lots_after, past, pushes, queue_of, renewed, standing, start, step, take_turn, take_turns}
+use Rattle.mqtt_flow.specs.OutboundWorld.{Lot, World as Hop, enter, enters, ended_by, expire, is_granted, lot_after, lots_after, past, pushes, queue_of, renewed, standing, start, step, take_turn, take_turns}
 use Rattle.mqtt_flow.specs.Queue as flow
 use Rattle.mqtt_flow.specs.Queue.{entering, greatest_place, next_place}
 use Rattle.mqtt_flow.specs.declared.entry.Entry.{Entry as FlowEntry}
@@ -51,7 +52,7 @@ use Rattle.mqtt_rules.specs.Deeds.{At, Deed, Enter, Leave, after, after_all, new
 use Rattle.mqtt_rules.specs.Outbound.{enter_deeds, leave_deeds, of_entry, queue_limits, since}
 use Rattle.mqtt_rules.specs.Tick.{lapse_deeds}
 use Rattle.mqtt_rules.specs.State.{Line as BrokerLine, Broker, Env, entry_on, next_of, queue_on, queued_copy, session_at, session_named}
-use Rattle.mqtt_handed_laws.specs.Entering.{AreKnown, IsReceiving, MayEnter, RunsStill, RunsWith}
+use Rattle.mqtt_handed_laws.specs.Entering.{AreKnown, IsReceiving, MakesWay, MayEnter, RunsStill, RunsWith}
 use Rattle.mqtt_handed_laws.specs.Handing.{IsRun}
 use Rattle.mqtt_handed_laws.specs.Seen.{AreQueued, Numbering, StandOn, content_of, lot_on, seen, still_standing, went_in}
 use Rattle.mqtt_handed_laws.specs.Tags.{AreNumbered, AreTagged, IsTagged, IsTaggedBy, IsTaggedWith, Names, WasTagged, id_of}
@@ -64,7 +65,7 @@ use Rattle.mqtt_handed_laws.proofs.Turns.{ids_after, left_lots, same_entries}
 
 -- ---- room, and who makes way: whether a PUBLISH went out on a line is not looked at
 
-long_renewed : (lots : List Lot) → length (queue_of (map renewed lots)) ≡ length (queue_of lots)
+pub long_renewed : (lots : List Lot) → length (queue_of (map renewed lots)) ≡ length (queue_of lots)
 long_renewed [] = refl
 long_renewed (standing e m ∷ ls) = ap suc (long_renewed ls)
 long_renewed (past ending e m ∷ ls) = long_renewed ls
@@ -153,7 +154,7 @@ next_is lots queue o h =
     let same : greatest_place (queue_of lots) ≡ greatest (map copy_place queue) = sym (greatest_renewed lots) ∙ (ap greatest_place rows ∙ greatest_rows queue) in
     ap (λ (n : ℕ). n + 1) same ∙ omega arith
 
-long_is : (lots : List Lot) (queue : List CopyRow) (o : Option (List ℕ)) → StandOn lots queue o → length queue ≡ length (queue_of lots)
+pub long_is : (lots : List Lot) (queue : List CopyRow) (o : Option (List ℕ)) → StandOn lots queue o → length queue ≡ length (queue_of lots)
 long_is lots queue o h =
     let rows : queue_of (map renewed lots) ≡ map (entry_on []) queue = same_entries (map renewed lots) [] queue (renewed_standing lots queue o h) in
     sym (length-mapped (entry_on []) queue) ∙ (ap length (sym rows) ∙ long_renewed lots)
@@ -332,6 +333,66 @@ module _ (client : List ℕ) (s : Session) (ids : List CopyId) (lines_first : Li
         pushed_stand copy lots queue (its_went s.birth b.lines) h.queued h.known,
       )
 
+-- ---- who makes way
+
+abbrev IsDrop : Turn → Type 0
+IsDrop (turns.Leave place ending) = ending ≡ Dropped
+IsDrop t = ⊥
+
+dropped_one : (t : Bool) (e : FlowEntry) (fewer as_many : List Turn) → AllByRecursion IsDrop fewer → AllByRecursion IsDrop as_many → AllByRecursion IsDrop (dropped_at t e fewer as_many)
+dropped_one true e fewer as_many f h = (refl, f)
+dropped_one false e fewer as_many f h = h
+
+all_dropped : (k since : ℕ) (es : List FlowEntry) → AllByRecursion IsDrop (dropped k since es)
+all_dropped k since [] = tt
+all_dropped zero since (e ∷ es) = tt
+all_dropped (suc k) since (e ∷ es) = dropped_one (gives_way since e) e (dropped k since es) (dropped (suc k) since es) (all_dropped k since es) (all_dropped (suc k) since es)
+
+pub way_same : (o : Option Lot) → MakesWay o o
+way_same None = tt
+way_same (Some (standing e m)) = refl
+way_same (Some (past x e m)) = refl
+
+pub way_trans : (o p q : Option Lot) → MakesWay o p → MakesWay p q → MakesWay o q
+way_trans None p q a b = tt
+way_trans (Some (standing e m)) None q a b = absurd a
+way_trans (Some (standing e m)) (Some (standing f k)) None a b = absurd b
+way_trans (Some (standing e m)) (Some (standing f k)) (Some (standing z l)) a b = b ∙ a
+way_trans (Some (standing e m)) (Some (standing f k)) (Some (past y z l)) a b = b
+way_trans (Some (standing e m)) (Some (past x f k)) None a b = absurd b
+way_trans (Some (standing e m)) (Some (past x f k)) (Some (standing z l)) a b = absurd b
+way_trans (Some (standing e m)) (Some (past x f k)) (Some (past y z l)) a b = b ∙ a
+way_trans (Some (past x e m)) None q a b = absurd a
+way_trans (Some (past x e m)) (Some (standing f k)) q a b = absurd a
+way_trans (Some (past x e m)) (Some (past y f k)) None a b = absurd b
+way_trans (Some (past x e m)) (Some (past y f k)) (Some (standing z l)) a b = absurd b
+way_trans (Some (past x e m)) (Some (past y f k)) (Some (past v z l)) a b = b ∙ a
+
+way_turn : (t : Turn) (o : Option Lot) → IsDrop t → MakesWay o (option_map (lot_after t) o)
+way_turn t None h = tt
+way_turn t (Some (past x e m)) h = refl
+way_turn (turns.Leave place ending) (Some (standing e m)) h = by (nat_eq e.place place)
+  where
+    by : (t : Bool) → MakesWay (Some (standing e m)) (Some (ended_by t ending e m))
+    by true = h
+    by false = refl
+way_turn t (Some (standing e m)) h = absurd h
+
+way_turns : (ts : List Turn) (lots : List Lot) (n : ℕ) → AllByRecursion IsDrop ts → MakesWay (slice_get lots n) (slice_get (lots_by ts lots) n)
+way_turns [] lots n h = way_same (slice_get lots n)
+way_turns (t ∷ ts) lots n h =
+    way_trans (slice_get lots n) (slice_get (lots_after t lots) n) (slice_get (lots_by ts (lots_after t lots)) n)
+    (subst (MakesWay (slice_get lots n)) (sym (slice_get-map (lot_after t) lots n)) (way_turn t (slice_get lots n) h.0)) (way_turns ts (lots_after t lots) n h.1)
+
+way_behind : (o : Option Lot) (lots : List Lot) (x : Lot) (n : ℕ) → MakesWay o (slice_get lots n) → MakesWay o (slice_get (lots ++ x ∷ []) n)
+way_behind None lots x n h = tt
+way_behind (Some (standing e m)) [] x n h = absurd h
+way_behind (Some (past y e m)) [] x n h = absurd h
+way_behind (Some (standing e m)) (l ∷ ls) x zero h = h
+way_behind (Some (past y e m)) (l ∷ ls) x zero h = h
+way_behind (Some (standing e m)) (l ∷ ls) x (suc n) h = way_behind (Some (standing e m)) ls x n h
+way_behind (Some (past y e m)) (l ∷ ls) x (suc n) h = way_behind (Some (past y e m)) ls x n h
+
 -- ---- what the receiver sees of it
 
 pub linked_same : (o : Option ℕ) (b c : Broker) → ((m : ℕ) → session_on m c.lines ≡ session_on m b.lines) → is_linked o c ≡ is_linked o b
@@ -390,6 +451,8 @@ entering_runs number largest copies env copy r s b h x may numbered =
     subst (λ (y : Broker). RunsWith number largest copies copy.id r y) (sym end) (record {
       after = lots2;
       same = same_ids;
+      way = λ n. way_behind (slice_get copies n) lots (standing (entering (queued_copy copy) (queue_of lots)) (content_of copy)) n
+          (way_turns ts copies n (all_dropped (length (queue_on [] s) + 1 - env.limits.queue) first (queue_on [] s)));
       run_is = record {
         events = h.events ++ e ∷ [];
         seen_is = same ∙ (sym hop ∙ (ap (λ (v : Hop). step largest v e) h.seen_is ∙ sym (run_append largest h.events (e ∷ []) start)));

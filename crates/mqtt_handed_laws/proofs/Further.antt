@@ -1,5 +1,6 @@
 -- How far copies have to go, and that an answer takes one of them further.
-use Rattle.std.proofs.Common.{◌≡◌, inl, inr, ⊎_elim, ℕ, zero, suc, ◌+◌, ◌<◌, ◌≤◌, Bool, true, false, List, [], ◌∷◌, ◌++◌, length, map, nat_eq, refl, sym, ap, ◌∙◌, subst, arith, Some, slice_get, Option}
+use Rattle.std.proofs.Common.{◌≡◌, inl, inr, ⊎_elim, ℕ, zero, suc, ◌+◌, ◌<◌, ◌≤◌, Bool, true, false, List, [], ◌∷◌, ◌++◌, length, map, nat_eq, refl, sym, ap, ◌∙◌, subst, arith, Some, None, slice_get, Option}
+use Rattle.std.specs.Prelude.{⊤}
 use Rattle.mqtt_base.specs.declared.session.Phase.{Phase}
 use Rattle.mqtt_base.specs.declared.session.Phase.TheVariants.{Waiting, Sent, Released, Oversize}
 use Rattle.mqtt_inbound.proofs.Identifiers.{test_cases}
@@ -63,6 +64,30 @@ no_more_left (l ∷ ls) (k ∷ ks) e h =
     let here = next_left l k (h 0) in
     let rest = no_more_left ls ks (omega arith) (λ n. h (suc n)) in
     omega arith
+
+-- and no more copies stand than before, where none that has ended stands again
+abbrev pub Rests : Option Lot → Option Lot → Type 0
+Rests (Some (past x e m)) (Some (standing f k)) = ⊥
+Rests o p = ⊤
+
+rests_on : (o p : Option Lot) → GoesOn o p → Rests o p
+rests_on None p h = tt
+rests_on (Some (standing e m)) p h = tt
+rests_on (Some (past x e m)) None h = tt
+rests_on (Some (past x e m)) (Some (standing f k)) h = h
+rests_on (Some (past x e m)) (Some (past y f k)) h = tt
+
+pub no_more_rest : (ls ks : List Lot) → length ks ≡ length ls → ((n : ℕ) → Rests (slice_get ls n) (slice_get ks n)) → length (queue_of ks) ≤ length (queue_of ls)
+no_more_rest [] [] e h = omega arith
+no_more_rest [] (k ∷ ks) e h = absurd (omega arith)
+no_more_rest (l ∷ ls) [] e h = omega arith
+no_more_rest (standing x m ∷ ls) (standing y n ∷ ks) e h = let rest = no_more_rest ls ks (omega arith) (λ n. h (suc n)) in omega arith
+no_more_rest (standing x m ∷ ls) (past a y n ∷ ks) e h = let rest = no_more_rest ls ks (omega arith) (λ n. h (suc n)) in omega arith
+no_more_rest (past a x m ∷ ls) (standing y n ∷ ks) e h = absurd (h 0)
+no_more_rest (past a x m ∷ ls) (past c y n ∷ ks) e h = no_more_rest ls ks (omega arith) (λ n. h (suc n))
+
+pub no_more_stand : (ls ks : List Lot) → length ks ≡ length ls → Onward ls ks → length (queue_of ks) ≤ length (queue_of ls)
+no_more_stand ls ks e h = no_more_rest ls ks e (λ n. rests_on (slice_get ls n) (slice_get ks n) (h n))
 
 pub less_left : (ls ks : List Lot) → length ks ≡ length ls → Onward ls ks → (n : ℕ) (l k : Lot) → slice_get ls n ≡ Some l → slice_get ks n ≡ Some k → way_left k < way_left l → all_left ks < all_left ls
 less_left [] ks e h n l k a b f = absurd (cc)

@@ -37,6 +37,7 @@ pub mod OwnDoings
 pub mod OwnRefusals
 pub mod OwnOthers
 pub mod Listening
+pub mod QueueLengths
 pub mod OwnSubscribes
 pub mod Apart
 pub mod Examples
@@ -53,5 +54,8 @@ pub mod WorldRoundLines
 pub mod WorldRoundSteps
 pub mod WorldRoundReads
 pub mod WorldRoundWishes
+pub mod Renumbering
 pub mod WorldRounds
+pub mod Greetings
+pub mod WorldRoundConnects
 pub mod DrainExamples

@@ -1,7 +1,7 @@
 -- The broker reads a receiver's SUBSCRIBE: the copies of retained messages that its filter brings enter its queue, the
 -- answer goes out, and the two stay in step.
-use Rattle.std.proofs.Common.{◌≡◌, ℕ, suc, ◌-◌, ◌≤◌, Bool, true, false, cond, not, ◌⊎◌, List, [], ◌∷◌, ◌++◌, drop, filter, length, map, Option, Some, None, nat_eq, nat_lt, refl, sym, ap, subst, ◌∙◌, append-nil, append_assoc, arith, inl, inr}
-use Rattle.std.specs.Prelude.{⊤, ◌&&◌, ◌||◌, filter_map, flat_map, is_some, nat_le}
+use Rattle.std.proofs.Common.{◌≡◌, ℕ, suc, ◌+◌, ◌-◌, ◌≤◌, Bool, true, false, cond, not, ◌⊎◌, List, [], ◌∷◌, ◌++◌, drop, filter, length, map, Option, Some, None, nat_eq, nat_lt, refl, sym, ap, subst, ◌∙◌, append-nil, append_assoc, arith, inl, inr}
+use Rattle.std.specs.Prelude.{⊤, ◌&&◌, ◌||◌, filter_map, flat_map, is_some, nat_le, slice_get}
 use Rattle.std.specs.List.{AllByRecursion}
 use Rattle.std.proofs.lemmas.Bool.{cases_Bool, leb-true}
 use Rattle.mqtt_base.specs.Codes.{identifier_in_use, quota_exceeded, topic_filter_invalid}
@@ -23,6 +23,7 @@ use Rattle.mqtt_laws.proofs.Joins.{none_closed}
 use Rattle.mqtt_laws.proofs.Names.{named_is, only_deeds}
 use Rattle.mqtt_laws.proofs.OwnStep.{heard_of, input_is}
 use Rattle.mqtt_laws.proofs.Quiet.{quiet_line, session_on}
+use Rattle.mqtt_laws.proofs.Seeing.{done_sessions}
 use Rattle.mqtt_message.specs.declared.message.MessageCopy.{MessageCopy}
 use Rattle.mqtt_message.specs.declared.message.RetainedMessage.{RetainedMessage}
 use Rattle.mqtt_props.specs.declared.table.PropName.TheVariants.{SubscriptionIdentifier}
@@ -33,6 +34,7 @@ use Rattle.mqtt_records.specs.declared.session.Session.{Session}
 use Rattle.mqtt_records.specs.declared.subscription.Subscription.{Subscription}
 use Rattle.mqtt_routes.specs.Retained.{kept_for}
 use Rattle.mqtt_rows.specs.Distinct.{AllDiffer}
+use Rattle.mqtt_rows.specs.Order.{row_at}
 use Rattle.mqtt_rules.proofs.Acts.{brought_to}
 use Rattle.mqtt_rules.proofs.Copies.{IsMade, IsOf, brought_made as all_made, each_append, each_filter, each_more}
 use Rattle.mqtt_rules.proofs.FlightRows.{all_at, all_more, change_row-here, found_key}
@@ -55,7 +57,7 @@ use Rattle.mqtt_subscribe.specs.declared.subscribe.Subscribe.{Subscribe as Askin
 use Rattle.mqtt_topic.specs.Filters.{is_filter}
 use Rattle.mqtt_world_laws.proofs.CopiesApart.{brought_differ, number_of, queued_differ}
 use Rattle.mqtt_handed_laws.specs.Apart.{AreToldApart, HasCome}
-use Rattle.mqtt_handed_laws.specs.Entering.{AreKnown, IsReceiving}
+use Rattle.mqtt_handed_laws.specs.Entering.{AreKnown, IsReceiving, MakesWay}
 use Rattle.mqtt_handed_laws.specs.Calls.{IsLingering, turned_back}
 use Rattle.mqtt_handed_laws.specs.Handing.{IsListening, IsRun, receiver_after}
 use Rattle.mqtt_handed_laws.specs.Late.{reads_old_wish}
@@ -64,11 +66,13 @@ use Rattle.mqtt_handed_laws.specs.Seen.{AreQueued, Numbering, StandOn, answered,
 use Rattle.mqtt_handed_laws.specs.Served.{HasLines, IsServed, IsTidy, RunsFor, RunsWithAll}
 use Rattle.mqtt_handed_laws.specs.Tags.{AreNumbered, IsTagged, IsTaggedBy, IsTaggedWith, id_of}
 use Rattle.mqtt_handed_laws.proofs.Answering.{all_join, heard_append, its_went, went_heard}
-use Rattle.mqtt_handed_laws.proofs.CallsOfOthers.{done_all, first_runs, moment_served}
-use Rattle.mqtt_handed_laws.proofs.Entering.{linked_same}
+use Rattle.mqtt_handed_laws.proofs.CallsOfOthers.{carried_run, done_all, first_runs, moment_runs, moment_served}
+use Rattle.mqtt_handed_laws.proofs.Entering.{linked_same, way_same, way_trans}
 use Rattle.mqtt_handed_laws.proofs.Own.{safe_served, session_is, some_is}
+use Rattle.mqtt_handed_laws.proofs.QueueLengths.{IsUpTo, entered_upto}
+use Rattle.mqtt_handed_laws.proofs.RoundPhases.{length_map}
 use Rattle.mqtt_handed_laws.proofs.Serving.{AreOfQueue, served_parts}
-use Rattle.mqtt_handed_laws.proofs.Walk.{entered_runs, queue_enter, unheard_of}
+use Rattle.mqtt_handed_laws.proofs.Walk.{entered_runs, entered_with, numbered_front, queue_enter, unheard_of}
 
 -- ---- its session, changed otherwise than in its queue
 
@@ -188,11 +192,11 @@ hush_queue (At who part ∷ ds) q = (tt, hush_queue ds q.1)
 hush_queue (d ∷ ds) q = absurd q.0
 
 -- the SUBSCRIBE is taken off a line, which leaves these packets, and nothing of copies comes to it
-told_hushed : (number : Numbering) (largest : ℕ) (all : List CopyId) (birth : ℕ) (r : Receiver) (call : Call) (up old : List Back) (ds : List Deed) (new : Broker) → AllByRecursion IsHushed ds
+told_hushed_run : (number : Numbering) (largest : ℕ) (lots : List Lot) (r : Receiver) (call : Call) (up old : List Back) (ds : List Deed) (new : Broker) → AllByRecursion IsHushed ds
     → filter_map answered up ≡ filter_map answered r.line.up → filter_map answered old ≡ filter_map answered r.line.old
-    → RunsWithAll number largest all birth r new → RunsWithAll number largest all birth (receiver_told new (outcome_of call ds) (record r { line = record r.line { up = up; old = old } })) new
-told_hushed number largest all birth r call up old ds new hush same_up same_old h =
-    let ids = map id_of h.after in
+    → IsRun number largest lots r new → IsRun number largest lots (receiver_told new (outcome_of call ds) (record r { line = record r.line { up = up; old = old } })) new
+told_hushed_run number largest lots r call up old ds new hush same_up same_old h =
+    let ids = map id_of lots in
     let x = hushed_on number ids r.line.number new ds hush in
     let none = hush_closes ds hush in
     let out = outcome_of call ds in
@@ -204,21 +208,34 @@ told_hushed number largest all birth r call up old ds new hush same_up same_old 
     ap (λ (t : Bool). filter_map answered (unless_closed t old)) (ap (is_one_of r.line.old_number) none ∙ none_closed r.line.old_number) ∙ same_old in
     let downs : filter_map (heard_in number) (r.line.down ++ sent) ≡ filter_map (heard_in number) r.line.down =
     heard_append number r.line.down sent ∙ (ap (λ (xs : List Output). filter_map (heard_in number) r.line.down ++ xs) x.heard_is ∙ append-nil (filter_map (heard_in number) r.line.down)) in
-    let same : seen number h.after q new ≡ seen number h.after r new = λ i. record (seen number h.after r new) { up = ups i; down = downs i; old = olds i } in
+    let same : seen number lots q new ≡ seen number lots r new = λ i. record (seen number lots r new) { up = ups i; down = downs i; old = olds i } in
+    record {
+      events = h.events;
+      seen_is = same ∙ h.seen_is;
+      queue_is = h.queue_is;
+      numbered = h.numbered;
+      tagged = record { down = all_join (IsTagged number ids) r.line.down sent h.tagged.down x.tagged; ledger = h.tagged.ledger; once = h.tagged.once };
+    }
+
+told_hushed : (number : Numbering) (largest : ℕ) (all : List CopyId) (birth : ℕ) (r : Receiver) (call : Call) (up old : List Back) (ds : List Deed) (new : Broker) → AllByRecursion IsHushed ds
+    → filter_map answered up ≡ filter_map answered r.line.up → filter_map answered old ≡ filter_map answered r.line.old
+    → RunsWithAll number largest all birth r new → RunsWithAll number largest all birth (receiver_told new (outcome_of call ds) (record r { line = record r.line { up = up; old = old } })) new
+told_hushed number largest all birth r call up old ds new hush same_up same_old h =
     record {
       after = h.after;
       same = h.same;
-      run_is = record {
-        events = h.run_is.events;
-        seen_is = same ∙ h.run_is.seen_is;
-        queue_is = h.run_is.queue_is;
-        numbered = h.run_is.numbered;
-        tagged = record { down = all_join (IsTagged number ids) r.line.down sent h.run_is.tagged.down x.tagged; ledger = h.run_is.tagged.ledger; once = h.run_is.tagged.once };
-      };
+      run_is = told_hushed_run number largest h.after r call up old ds new hush same_up same_old h.run_is;
       session = h.session;
       birth_is = h.birth_is;
       receiving = record { session = h.receiving.session; client = h.receiving.client; only = h.receiving.only; known = h.receiving.known };
     }
+
+-- what it sees with these copies, each of which stands as before, or made way
+pub record LotsOn (number : Numbering) (largest : ℕ) (copies : List Lot) (all : List CopyId) (r : Receiver) (b : Broker) : Type 0 where
+  pub after : List Lot
+  pub same : map id_of after ≡ all
+  pub run_is : IsRun number largest after r b
+  pub way : (n : ℕ) → MakesWay (slice_get copies n) (slice_get after n)
 
 -- ---- copies of retained messages, told apart
 
@@ -261,25 +278,28 @@ moment_apart ids (row ∷ rows) b h = record { come = h.come; differ = h.differ 
 
 -- ---- copies enter one after the other
 
-module _ (largest : ℕ) (env : Env) (small : env.limits.queue ≤ QUEUE_LIMIT) (r : Receiver) (birth : ℕ) (ns : List ℕ) (ids : List CopyId) (has : HasLines ns r) where
+module _ (largest : ℕ) (env : Env) (small : env.limits.queue ≤ QUEUE_LIMIT) (r : Receiver) (birth : ℕ) (ns : List ℕ) (ids : List CopyId) (has : HasLines ns r) (start : Broker) where
   record Going (more : List CopyId) (b : Broker) : Type 0 where
     pub served : IsServed r.client birth ns b
     pub queues : ShortQueues env.limits.queue b.records
     pub session : Session
     pub found : session_at birth b.records ≡ Some session
     pub runs : RunsFor largest (ids ++ more) birth r b
+    -- whatever copies it saw at the start
+    pub lots : (number : Numbering) (copies : List Lot) → AreNumbered number (ids ++ more) → IsRun number largest copies r start → map id_of copies ≡ ids → LotsOn number largest copies (ids ++ more) r b
 
   abbrev HasRoom : ℕ → Broker → Type 0
   HasRoom n b = (x : Session) → session_at birth b.records ≡ Some x → n ≤ env.limits.queue - own_stay env x
 
   -- by these deeds so many copies entered, and so many more may
-  record Grows (ds : List Deed) (n : ℕ) (more : List CopyId) (b : Broker) : Type 0 where
+  record Grows (ds : List Deed) (n entered : ℕ) (more : List CopyId) (b : Broker) : Type 0 where
     pub going : Going more (after_all ds b)
+    pub longer : (most : ℕ) → IsUpTo birth most b → IsUpTo birth (most + entered) (after_all ds b)
     pub room : HasRoom n (after_all ds b)
     pub hush : AllByRecursion IsHushed ds
     pub counted : counts (after_all ds b).records ≡ counts b.records
 
-  enter_one : (d : CopyTo) (n : ℕ) (more : List CopyId) (b : Broker) → d.birth ≡ birth → is_queued d ≡ true → HasRoom (suc n) b → Going more b → Grows (deliver env d b) n (more ++ d.copy.id ∷ []) b
+  enter_one : (d : CopyTo) (n : ℕ) (more : List CopyId) (b : Broker) → d.birth ≡ birth → is_queued d ≡ true → HasRoom (suc n) b → Going more b → Grows (deliver env d b) n 1 (more ++ d.copy.id ∷ []) b
   enter_one d n more b to queued room k =
       let s = k.session in
       let is : s.birth ≡ birth = found_key birth_of birth s b.records.sessions k.found in
@@ -293,10 +313,32 @@ module _ (largest : ℕ) (env : Env) (small : env.limits.queue ≤ QUEUE_LIMIT) 
       let parts = queue_enter env d.copy s in
       let served = served_parts r.client birth ns ds b parts k.served in
       let e = made.0 in
+      let client : s.client ≡ r.client = (all_at birth_of (IsOurs r.client birth) birth s b.records.sessions k.served.sessions k.found).name is in
       let last : session_at birth (after_all ds b).records ≡ Some e.mine = ap (λ (j : ℕ). session_at j (after_all ds b).records) (sym is) ∙ e.found in
       let stays = e.stays in
-      subst (λ (zs : List Deed). Grows zs n (more ++ d.copy.id ∷ []) b) (sym deeds_are) (record {
-        going = record { served = served; queues = made.1; session = e.mine; found = last; runs = entered_runs largest env small r birth ns ids has d.copy s b more queued (omega (arith, all)) is own_at served k.runs };
+      subst (λ (zs : List Deed). Grows zs n 1 (more ++ d.copy.id ∷ []) b) (sym deeds_are) (record {
+        going = record {
+          served = served;
+          queues = made.1;
+          session = e.mine;
+          found = last;
+          runs = entered_runs largest env small r birth ns ids has d.copy s b more queued (omega (arith, all)) is own_at served k.runs;
+          lots = λ number copies numbered first same.
+              let both : AreNumbered number ((ids ++ more) ++ d.copy.id ∷ []) = subst (AreNumbered number) (sym (append_assoc ids more (d.copy.id ∷ []))) numbered in
+              let before = numbered_front number (ids ++ more) (d.copy.id ∷ []) both in
+              let x = k.lots number copies before first same in
+              let receiving = session_is largest birth (ids ++ more) ns number r s b k.served own_at client (k.runs number before) in
+              let y = entered_with largest env small r birth ns ids has d.copy s b (ids ++ more) number x.after queued (omega (arith, all)) x.same both x.run_is receiving in
+              record {
+                after = y.after;
+                same = y.same ∙ (ap (λ (cs : List CopyId). cs ++ d.copy.id ∷ []) x.same ∙ append_assoc ids more (d.copy.id ∷ []));
+                run_is = y.run_is;
+                way = λ j. way_trans (slice_get copies j) (slice_get x.after j) (slice_get y.after j) (x.way j) (y.way j);
+              };
+        };
+        longer = λ most h.
+            let one : most + 1 ≡ suc most = omega arith in
+            subst (λ (k : ℕ). IsUpTo birth k (after_all ds b)) (sym one) (entered_upto birth most env d.copy s b h);
         room = λ x there.
             let it : e.mine ≡ x = some_is e.mine x (sym last ∙ there) in
             subst (λ (y : Session). n ≤ env.limits.queue - own_stay env y) it (omega (arith, all, stays));
@@ -310,8 +352,11 @@ module _ (largest : ℕ) (env : Env) (small : env.limits.queue ≤ QUEUE_LIMIT) 
   abbrev id_in : CopyTo → CopyId
   id_in d = d.copy.id
 
-  enter_all : (ds : List CopyTo) (more : List CopyId) (b : Broker) → AllByRecursion IsToIt ds → HasRoom (length ds) b → Going more b → Grows (series (map (deliver env) ds) b) 0 (more ++ map id_in ds) b
-  enter_all [] more b q room k = record { going = subst (λ (ms : List CopyId). Going ms b) (sym (append-nil more)) k; room = room; hush = tt; counted = refl }
+  plus_none : (most : ℕ) → most ≡ most + 0
+  plus_none most = omega arith
+
+  enter_all : (ds : List CopyTo) (more : List CopyId) (b : Broker) → AllByRecursion IsToIt ds → HasRoom (length ds) b → Going more b → Grows (series (map (deliver env) ds) b) 0 (length ds) (more ++ map id_in ds) b
+  enter_all [] more b q room k = record { going = subst (λ (ms : List CopyId). Going ms b) (sym (append-nil more)) k; longer = λ most h. subst (λ (j : ℕ). IsUpTo birth j b) (plus_none most) h; room = room; hush = tt; counted = refl }
   enter_all (d ∷ ds) more b q room k =
       let first = deliver env d b in
       let c = after_all first b in
@@ -321,6 +366,9 @@ module _ (largest : ℕ) (env : Env) (small : env.limits.queue ≤ QUEUE_LIMIT) 
       let end = after_append first others b in
       record {
         going = subst (λ (z : Broker). Going (more ++ map id_in (d ∷ ds)) z) (sym end) (subst (λ (ms : List CopyId). Going ms (after_all others c)) (append_assoc more (d.copy.id ∷ []) (map id_in ds)) rest.going);
+        longer = λ most h.
+            let all : most + 1 + length ds ≡ most + suc (length ds) = omega arith in
+            subst (λ (z : Broker). IsUpTo birth (most + suc (length ds)) z) (sym end) (subst (λ (j : ℕ). IsUpTo birth j (after_all others c)) all (rest.longer (most + 1) (one.longer most h)));
         room = subst (λ (z : Broker). HasRoom 0 z) (sym end) rest.room;
         hush = each_append IsHushed first others one.hush rest.hush;
         counted = ap (λ (z : Broker). counts z.records) end ∙ (rest.counted ∙ one.counted);
@@ -364,6 +412,10 @@ module _ (largest : ℕ) (env : Env) (small : env.limits.queue ≤ QUEUE_LIMIT) 
         session = with_subscription x s;
         found = last;
         runs = moved_for largest (ids ++ []) birth ns r s (with_subscription x s) b c v own_at client is stands k.runs;
+        lots = λ number copies numbered before same.
+            let y = k.lots number copies numbered before same in
+            let receiving = session_is largest birth (ids ++ []) ns number r s b v own_at client (k.runs number numbered) in
+            record { after = y.after; same = y.same; run_is = moved_run number largest y.after r s (with_subscription x s) b c y.run_is receiving stands; way = y.way };
       }
 
   -- what becomes of a filter: nothing, or it is granted, with the copies that it brings
@@ -371,13 +423,14 @@ module _ (largest : ℕ) (env : Env) (small : env.limits.queue ≤ QUEUE_LIMIT) 
     pub more : List CopyId
     pub new : AllByRecursion (IsBroughtCopy birth n) more
     pub going : Going more (after_all g.deeds b)
+    pub longer : (most : ℕ) → IsUpTo birth most b → IsUpTo birth (most + length more) (after_all g.deeds b)
     pub hush : AllByRecursion IsHushed g.deeds
     pub late : AllByRecursion (λ (d : CopyTo). is_queued d ≡ false) g.late
     pub differ : AllDiffer (map number_of b.records.retained) → AllDiffer more
     pub apart : AreRetainedApart b → AreToldApart more (after_all g.deeds b).records
 
   refuses : (code n : ℕ) (b : Broker) → Going [] b → Grants (sub.refused_filter code) n b
-  refuses code n b k = record { more = []; new = tt; going = k; hush = tt; differ = λ apart. tt; late = tt; apart = λ a. record { come = tt; differ = tt } }
+  refuses code n b k = record { more = []; new = tt; going = k; longer = λ most h. subst (λ (j : ℕ). IsUpTo birth j b) (plus_none most) h; hush = tt; differ = λ apart. tt; late = tt; apart = λ a. record { come = tt; differ = tt } }
 
   not_queued : (t : Bool) → (t ≡ true → ⊥) → t ≡ false
   not_queued true h = absurd (h refl)
@@ -443,6 +496,12 @@ module _ (largest : ℕ) (env : Env) (small : env.limits.queue ≤ QUEUE_LIMIT) 
         more = map id_in ds;
         new = queued_new n all made;
         going = subst (Going (map id_in ds)) (sym (after_append first others b)) rest.going;
+        longer = λ most h.
+            let there : IsUpTo birth most c = λ y at_c.
+            let it : with_subscription x s ≡ y = some_is (with_subscription x s) y (sym (subscribed_is x n s b at) ∙ at_c) in
+            subst (λ (z : Session). length z.queue ≤ most) it (h s at) in
+            subst (λ (z : Broker). IsUpTo birth (most + length (map id_in ds)) z) (sym (after_append first others b))
+            (subst (λ (j : ℕ). IsUpTo birth (most + j) (after_all others c)) (sym (length_map id_in ds)) (rest.longer most there));
         hush = each_append IsHushed first others (tt, (tt, tt)) rest.hush;
         differ = λ apart. queued_differ all (brought_differ w s b apart);
         late = late_ones all;
@@ -506,6 +565,7 @@ module _ (largest : ℕ) (env : Env) (small : env.limits.queue ≤ QUEUE_LIMIT) 
     pub more : List CopyId
     pub new : AllByRecursion (IsBroughtCopy birth n) more
     pub going : Going more (after_all ds b)
+    pub longer : (most : ℕ) → IsUpTo birth most b → IsUpTo birth (most + length more) (after_all ds b)
     pub hush : AllByRecursion IsHushed ds
     pub differ : AllDiffer (map number_of b.records.retained) → AllDiffer more
     pub apart : AreRetainedApart b → AreToldApart more (after_all ds b).records
@@ -516,7 +576,7 @@ module _ (largest : ℕ) (env : Env) (small : env.limits.queue ≤ QUEUE_LIMIT) 
       let packet = suback p.identifier (map (λ (x : Asked). identifier_in_use) p.subscriptions) in
       let tells = offer (line_at line b) packet in
       let q = telling_offer (line_at line b) packet tt in
-      record { more = []; new = tt; going = subst (Going []) (sym (telling_after tells b q)) k; hush = telling_hush tells q; differ = λ apart. tt; apart = λ a. record { come = tt; differ = tt } }
+      record { more = []; new = tt; going = subst (Going []) (sym (telling_after tells b q)) k; longer = λ most h. subst (λ (j : ℕ). IsUpTo birth j (after_all tells b)) (plus_none most) (subst (IsUpTo birth most) (sym (telling_after tells b q)) h); hush = telling_hush tells q; differ = λ apart. tt; apart = λ a. record { come = tt; differ = tt } }
   subscribes_by false line s w p a b is k its at =
       let identifier = number_at SubscriptionIdentifier p.properties in
       let n = sub.next_number b.records in
@@ -537,6 +597,7 @@ module _ (largest : ℕ) (env : Env) (small : env.limits.queue ≤ QUEUE_LIMIT) 
         more = one.more;
         new = one.new;
         going = subst (Going one.more) (sym end) one.going;
+        longer = λ most h. subst (IsUpTo birth (most + length one.more)) (sym end) (one.longer most h);
         hush = each_append IsHushed front tells (each_append IsHushed g.deeds [] one.hush tt) (telling_hush tells q);
         differ = one.differ;
         apart = λ a. subst (λ (z : Broker). AreToldApart one.more z.records) (sym end) (one.apart a);
@@ -554,7 +615,9 @@ pub record Brings (largest : ℕ) (ids : List CopyId) (limits : Limits) (choice 
   pub more : List CopyId
   pub new : AllByRecursion (IsBroughtCopy birth (suc b.records.subscribes)) more
   pub runs : RunsFor largest (ids ++ more) birth r (stepped limits choice now (asking w r n) b)
+  pub lots : (number : Numbering) (copies : List Lot) → AreNumbered number (ids ++ more) → IsRun number largest copies r b → map id_of copies ≡ ids → LotsOn number largest copies (ids ++ more) r (stepped limits choice now (asking w r n) b)
   pub served : IsServed r.client birth ns (stepped limits choice now (asking w r n) b)
+  pub longer : (most : ℕ) → IsUpTo birth most b → IsUpTo birth (most + length more) (stepped limits choice now (asking w r n) b)
   pub hush : AllByRecursion IsHushed (deeds_in limits choice now (asking w r n) b)
   pub differ : AllDiffer (map number_of b.records.retained) → AllDiffer more
   pub apart : AreRetainedApart b → AreToldApart more (stepped limits choice now (asking w r n) b).records
@@ -584,28 +647,42 @@ brings largest ids limits choice now birth ns w r there l s b k name a tidy =
       went = went_heard s.birth first.now n b.lines;
       lines = λ m. quiet_line s.birth m first.now (On n Hear) b.lines tt;
     } in
-    let going : Going largest env tidy.within r birth ns ids k.lines [] c = record {
+    let going : Going largest env tidy.within r birth ns ids k.lines b [] c = record {
       served = safe_served r.client birth ns (On n Hear ∷ []) first (tt, tt) served;
       queues = record { ordered = tidy.ordered; short = tidy.queues };
       session = s;
       found = at;
       runs = moved_for largest (ids ++ []) birth ns r s s first c served a.session (a.client ∙ name) its stands runs;
+      lots = λ number copies numbered before same.
+          let receiving = session_is largest birth (ids ++ []) ns number r s first served a.session (a.client ∙ name) (runs number numbered) in
+          record {
+            after = copies;
+            same = same ∙ sym (append-nil ids);
+            run_is = moved_run number largest copies r s s first c (carried_run number largest copies r b first refl refl before) receiving stands;
+            way = λ j. way_same (slice_get copies j);
+          };
     } in
     let p : Asking = record { identifier = 1; properties = identified w.identifier; subscriptions = record { filter = w.filter; options = options_byte w.options } ∷ [] } in
     let own = on_subscribe env n s p c in
-    let does = subscribes_by largest env tidy.within r birth ns ids k.lines (is_among 1 s.inbound) n s w p (record { filter = w.filter; options = options_byte w.options }) c refl going its at in
+    let does = subscribes_by largest env tidy.within r birth ns ids k.lines b (is_among 1 s.inbound) n s w p (record { filter = w.filter; options = options_byte w.options }) c refl going its at in
     let ds = deeds_in limits choice now call b in
     let is : ds ≡ On n Hear ∷ (own ++ []) = input_is limits choice now packet l s b a.line a.connected a.session in
     let end : after_all ds first ≡ after_all own c = ap (λ (xs : List Deed). after_all xs first) is ∙ ap (λ (xs : List Deed). after_all xs c) (append-nil own) in
     let hush : AllByRecursion IsHushed ds = subst (AllByRecursion IsHushed) (sym is) (tt, each_append IsHushed own [] does.hush tt) in
     let rows = rows_of_all ds first.records in
     let last = after_all ds first in
-    let whole : Going largest env tidy.within r birth ns ids k.lines does.more last = subst (Going largest env tidy.within r birth ns ids k.lines does.more) (sym end) does.going in
+    let whole : Going largest env tidy.within r birth ns ids k.lines b does.more last = subst (Going largest env tidy.within r birth ns ids k.lines b does.more) (sym end) does.going in
     record {
       more = does.more;
       new = does.new;
       runs = λ number m. done_all number largest (ids ++ does.more) birth r rows last (whole.runs number m);
+      lots = λ number copies m before same.
+          let y = whole.lots number copies m before same in
+          record { after = y.after; same = y.same; run_is = moment_runs number largest y.after r rows last y.run_is; way = y.way };
       served = moment_served r.client birth ns rows last whole.served;
+      longer = λ most h x e.
+          let k : IsUpTo birth (most + length does.more) last = subst (IsUpTo birth (most + length does.more)) (sym end) (does.longer most h) in
+          k x (ap (row_at birth_of birth) (sym (done_sessions rows last)) ∙ e);
       hush = hush;
       differ = does.differ;
       apart = λ a.
@@ -616,6 +693,9 @@ brings largest ids limits choice now birth ns w r there l s b k name a tidy =
 -- the two are in step, with copies that differ, where no two retained messages are of one publication
 pub record Wished (largest : ℕ) (ids : List CopyId) (limits : Limits) (choice : MemberChoice) (now birth : ℕ) (ns : List ℕ) (w : Wish) (r : Receiver) (n : ℕ) (b : Broker) : Type 0 where
   pub after : Subscribed largest ids birth ns (suc b.records.subscribes) (receiver_after limits choice now (Input n (wire_back r.client r.window (asks_for w))) r b) (stepped limits choice now (Input n (wire_back r.client r.window (asks_for w))) b)
+  pub longer : (most : ℕ) → IsUpTo birth most b → IsUpTo birth (most + length after.more) (stepped limits choice now (Input n (wire_back r.client r.window (asks_for w))) b)
+  pub lots : (number : Numbering) (copies : List Lot) → AreNumbered number (ids ++ after.more) → IsRun number largest copies r b → map id_of copies ≡ ids
+      → LotsOn number largest copies (ids ++ after.more) (receiver_after limits choice now (Input n (wire_back r.client r.window (asks_for w))) r b) (stepped limits choice now (Input n (wire_back r.client r.window (asks_for w))) b)
   pub differ : AllDiffer (map number_of b.records.retained) → AllDiffer after.more
   pub apart : AreRetainedApart b → AreToldApart after.more (stepped limits choice now (Input n (wire_back r.client r.window (asks_for w))) b).records
 
@@ -635,6 +715,10 @@ wished largest ids limits choice now birth ns w rest r l s b k a tidy up =
           lines = record { own = k.lines.own; old = k.lines.old };
         };
       };
+      longer = x.longer;
+      lots = λ number copies m before all.
+          let y = x.lots number copies m before all in
+          record { after = y.after; same = y.same; run_is = told_hushed_run number largest y.after r call (drop 1 r.line.up) r.line.old (deeds_in limits choice now call b) (stepped limits choice now call b) x.hush same refl y.run_is; way = y.way };
       differ = x.differ;
       apart = x.apart;
     }

@@ -6,7 +6,7 @@ use Rattle.std.specs.List.{AllByRecursion}
 use Rattle.std.proofs.lemmas.Bool.{cases_Bool, lt-ltb}
 use Rattle.mqtt_base.specs.declared.session.CopyId.{CopyId}
 use Rattle.mqtt_base.specs.declared.session.Ending.TheVariants.{SessionEnded}
-use Rattle.mqtt_flow.specs.OutboundWorld.{Lot, connects, up_comes}
+use Rattle.mqtt_flow.specs.OutboundWorld.{Lot, connects, cut, up_comes}
 use Rattle.mqtt_flow.specs.Receiver.{Answer, connect}
 use Rattle.mqtt_inbound.specs.Identifiers.{ids_without}
 use Rattle.mqtt_laws.specs.Ends.{Back, Receiver, answers, wire_back}
@@ -34,7 +34,7 @@ use Rattle.mqtt_handed_laws.specs.Entering.{Receives}
 use Rattle.mqtt_handed_laws.specs.Handing.{IsRun, RunsOn, after_answer, reads_answer}
 use Rattle.mqtt_handed_laws.specs.Seen.{Numbering, answered, seen}
 use Rattle.mqtt_handed_laws.proofs.Answering.{IsAsideOf, all_join}
-use Rattle.mqtt_handed_laws.proofs.Beginning.{Clears, begins_receives, begins_run, off_heard}
+use Rattle.mqtt_handed_laws.proofs.Beginning.{Clears, begins_is, begins_receives, cut_ids, off_heard}
 use Rattle.mqtt_handed_laws.proofs.Resuming.{Beside, IsOffIt, call_is, greeting, left_beside, left_closes, left_lines, left_untold, lines_without, refused_not, went_at, went_at_heard, went_at_left}
 
 -- ---- the deeds of the CONNECT
@@ -255,16 +255,23 @@ renewed_beside number ids limits choice now r l s b x m other =
     leaves_aside y [] = tt
     leaves_aside y (e ∷ es) = (tt, leaves_aside y es)
 
+-- each copy that stood ends with its session
+pub renewal_is_run : (number : Numbering) (largest : ℕ) (copies : List Lot) (limits : Limits) (choice : MemberChoice) (now : ℕ) (rest : List Back) (r : Receiver) (l : BrokerLine) (s : Session) (b : Broker)
+    → IsRun number largest copies r b → IsRenewing limits r l s b → r.line.up ≡ answers (connect true) ∷ rest
+    → IsRun number largest (map cut copies) (reads_answer limits choice now l.number (connect true) r b) (after_answer limits choice now l.number (connect true) r b)
+renewal_is_run number largest copies limits choice now rest r l s b h a up =
+    let w = seen number copies r b in
+    let x = renewed_clears limits choice now r l s b a in
+    let stands : is_some (session_named r.client b.records) ≡ true = ap is_some (named_is r.client s.birth b.records s a.resuming.kept.only a.resuming.kept.session a.resuming.kept.name) in
+    begins_is number largest copies limits choice now true rest r l b a.resuming.number (ended_by x.its s (heard_of now l.number b).now) (lines_left (line_of s.birth b)) x.clears h up
+    (ap (λ (xs : List Answer). up_comes false xs w) (ap (filter_map answered) up)
+    ∙ ap (λ (z : Bool). connects z true false (filter_map answered rest) w) stands)
+
 pub renewal_runs : (number : Numbering) (largest : ℕ) (copies : List Lot) (limits : Limits) (choice : MemberChoice) (now : ℕ) (rest : List Back) (r : Receiver) (l : BrokerLine) (s : Session) (b : Broker)
     → IsRun number largest copies r b → IsRenewing limits r l s b → r.line.up ≡ answers (connect true) ∷ rest
     → RunsOn number largest copies (reads_answer limits choice now l.number (connect true) r b) (after_answer limits choice now l.number (connect true) r b)
 renewal_runs number largest copies limits choice now rest r l s b h a up =
-    let w = seen number copies r b in
-    let x = renewed_clears limits choice now r l s b a in
-    let stands : is_some (session_named r.client b.records) ≡ true = ap is_some (named_is r.client s.birth b.records s a.resuming.kept.only a.resuming.kept.session a.resuming.kept.name) in
-    begins_run number largest copies limits choice now true rest r l b a.resuming.number (ended_by x.its s (heard_of now l.number b).now) (lines_left (line_of s.birth b)) x.clears h up
-    (ap (λ (xs : List Answer). up_comes false xs w) (ap (filter_map answered) up)
-    ∙ ap (λ (z : Bool). connects z true false (filter_map answered rest) w) stands)
+    record { after = map cut copies; same = cut_ids copies; run_is = renewal_is_run number largest copies limits choice now rest r l s b h a up }
 
 -- and it may receive more
 pub renewal_receives : (number : Numbering) (largest : ℕ) (copies : List Lot) (limits : Limits) (choice : MemberChoice) (now : ℕ) (rest : List Back) (r : Receiver) (l : BrokerLine) (s : Session) (b : Broker)

@@ -507,22 +507,18 @@ module _ (number : Numbering) (largest : ℕ) (copies : List Lot) (limits : Limi
         ∙ (ap (λ (z : Bool). connects z false false (filter_map answered rest) w) (sym stands)
         ∙ ap (λ (xs : List Answer). up_comes false xs w) (sym (ap (filter_map answered) up))))
 
-    resumes_run : IsRun number largest copies r b → RunsOn number largest copies (reads_answer limits choice now n (connect false) r b) (after_answer limits choice now n (connect false) r b)
-    resumes_run h =
+    resumes_is : IsRun number largest copies r b → IsRun number largest copies2 (reads_answer limits choice now n (connect false) r b) (after_answer limits choice now n (connect false) r b)
+    resumes_is h =
         let e = to_broker false in
         record {
-          after = copies2;
-          same = renewed_ids copies;
-          run_is = record {
-            events = h.events ++ e ∷ [];
-            seen_is = called_seen number copies2 ids limits choice now (Input n packet) q n s.birth b told_all false shut_old makes
-                ∙ (hop_resumes ∙ (ap (λ (v : Hop). step largest v e) h.seen_is ∙ sym (run_append largest h.events (e ∷ []) start)));
-            queue_is = called_queue number copies2 ids limits choice now (Input n packet) q n s.birth b told_all false shut_old makes;
-            numbered = subst (AreNumbered number) (sym (renewed_ids copies)) h.numbered;
-            tagged = subst (λ (cs : List CopyId). AreTagged number cs (reads_answer limits choice now n (connect false) r b)) (sym (renewed_ids copies))
-                (called_tags number copies2 ids limits choice now (Input n packet) q n s.birth b told_all false shut_old makes
-                (record { down = h.tagged.down; ledger = h.tagged.ledger; once = h.tagged.once }));
-          };
+          events = h.events ++ e ∷ [];
+          seen_is = called_seen number copies2 ids limits choice now (Input n packet) q n s.birth b told_all false shut_old makes
+              ∙ (hop_resumes ∙ (ap (λ (v : Hop). step largest v e) h.seen_is ∙ sym (run_append largest h.events (e ∷ []) start)));
+          queue_is = called_queue number copies2 ids limits choice now (Input n packet) q n s.birth b told_all false shut_old makes;
+          numbered = subst (AreNumbered number) (sym (renewed_ids copies)) h.numbered;
+          tagged = subst (λ (cs : List CopyId). AreTagged number cs (reads_answer limits choice now n (connect false) r b)) (sym (renewed_ids copies))
+              (called_tags number copies2 ids limits choice now (Input n packet) q n s.birth b told_all false shut_old makes
+              (record { down = h.tagged.down; ledger = h.tagged.ledger; once = h.tagged.once }));
         }
 
     resumes_receives : Receives (reads_answer limits choice now n (connect false) r b) (after_answer limits choice now n (connect false) r b)
@@ -569,20 +565,27 @@ module _ (number : Numbering) (largest : ℕ) (copies : List Lot) (limits : Limi
       let heard_line = heard_line_of s.birth n now b (line_of s.birth b) refl a.taken in
       takes heard_line.0 heard_line.1 heard_line.2 heard_line.3
 
-  resumed_runs : IsRun number largest copies r b → RunsOn number largest copies (reads_answer limits choice now l.number (connect false) r b) (after_answer limits choice now l.number (connect false) r b)
-  resumed_runs h =
+  resumed_is : IsRun number largest copies r b → IsRun number largest copies2 (reads_answer limits choice now l.number (connect false) r b) (after_answer limits choice now l.number (connect false) r b)
+  resumed_is h =
       let heard_line = heard_line_of s.birth n now b (line_of s.birth b) refl a.taken in
-      resumes_run heard_line.0 heard_line.1 heard_line.2 heard_line.3 h
+      resumes_is heard_line.0 heard_line.1 heard_line.2 heard_line.3 h
 
   resumed_receives : Receives (reads_answer limits choice now l.number (connect false) r b) (after_answer limits choice now l.number (connect false) r b)
   resumed_receives =
       let heard_line = heard_line_of s.birth n now b (line_of s.birth b) refl a.taken in
       resumes_receives heard_line.0 heard_line.1 heard_line.2 heard_line.3
 
+-- with the copies as they are on a new connection
+pub connect_is_run : (number : Numbering) (largest : ℕ) (copies : List Lot) (limits : Limits) (choice : MemberChoice) (now : ℕ) (rest : List Back) (r : Receiver) (l : BrokerLine) (s : Session) (b : Broker)
+    → IsRun number largest copies r b → IsResuming r l s b → r.line.up ≡ answers (connect false) ∷ rest
+    → IsRun number largest (map renewed copies) (reads_answer limits choice now l.number (connect false) r b) (after_answer limits choice now l.number (connect false) r b)
+connect_is_run number largest copies limits choice now rest r l s b h a up = resumed_is number largest copies limits choice now rest r l s b h.queue_is a up h
+
 pub connect_runs : (number : Numbering) (largest : ℕ) (copies : List Lot) (limits : Limits) (choice : MemberChoice) (now : ℕ) (rest : List Back) (r : Receiver) (l : BrokerLine) (s : Session) (b : Broker)
     → IsRun number largest copies r b → IsResuming r l s b → r.line.up ≡ answers (connect false) ∷ rest
     → RunsOn number largest copies (reads_answer limits choice now l.number (connect false) r b) (after_answer limits choice now l.number (connect false) r b)
-connect_runs number largest copies limits choice now rest r l s b h a up = resumed_runs number largest copies limits choice now rest r l s b h.queue_is a up h
+connect_runs number largest copies limits choice now rest r l s b h a up =
+    record { after = map renewed copies; same = renewed_ids copies; run_is = connect_is_run number largest copies limits choice now rest r l s b h a up }
 
 -- and its session may receive more
 pub connect_receives : (number : Numbering) (largest : ℕ) (copies : List Lot) (limits : Limits) (choice : MemberChoice) (now : ℕ) (rest : List Back) (r : Receiver) (l : BrokerLine) (s : Session) (b : Broker)

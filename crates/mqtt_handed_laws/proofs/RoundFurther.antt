@@ -21,6 +21,7 @@ use Rattle.mqtt_flow.specs.Pacing.{Pacing}
 use Rattle.mqtt_flow.specs.Queue.{Ascends, in_window}
 use Rattle.mqtt_flow.specs.Receiver.{Answer, Output, connack, no_connack, publish, pubrel, disconnect}
 use Rattle.mqtt_flow.specs.declared.entry.Entry.{Entry}
+use Rattle.mqtt_flow.specs.declared.entry.QueuedCopy.{QueuedCopy}
 use Rattle.mqtt_flow.specs.declared.entry.Turn.{Turn}
 use Rattle.mqtt_flow.specs.declared.entry.Turn.TheVariants.{Send, Resend, Outgrow, Leave}
 use Rattle.mqtt_flow.specs.declared.entry.Way.{Way}
@@ -85,19 +86,19 @@ answer_any i (a ∷ ups) h = inl refl
 abbrev NoneDue : List Lot → Type 0
 NoneDue ls = (i : ℕ) → Has (is_due i) ls → ⊥
 
-not_here : (p : Phase) (here : Bool) → ((i : ℕ) → is_due_by i here p ≡ true → ⊥) → UnsentBy p here → here ≡ false
-not_here Waiting here n u = u
-not_here (Sent i) true n u = absurd (n i (same_id i))
-not_here (Sent i) false n u = refl
-not_here (Released i order) here n u = absurd (n i (same_id i))
-not_here (Oversize i order) here n u = absurd (n i (same_id i))
+not_here : (largest : ℕ) (copy : QueuedCopy) (p : Phase) (here : Bool) → ((i : ℕ) → is_due_by i here p ≡ true → ⊥) → UnsentBy largest copy p here → here ≡ false
+not_here largest copy Waiting here n u = u
+not_here largest copy (Sent i) true n u = absurd (n i (same_id i))
+not_here largest copy (Sent i) false n u = refl
+not_here largest copy (Released i order) here n u = absurd (n i (same_id i))
+not_here largest copy (Oversize i order) here n u = absurd (n i (same_id i))
 
-window_free : (ls : List Lot) → NoneDue ls → AllUnsent ls → in_window (queue_of ls) ≡ 0
-window_free [] n u = refl
-window_free (past x e m ∷ ls) n u = window_free ls (λ i h. n i (inr h)) u.1
-window_free (standing e m ∷ ls) n u =
-    let h = not_here e.phase e.here (λ i x. n i (inl x)) u.0 in
-    rw h (window_free ls (λ i y. n i (inr y)) u.1)
+window_free : (largest : ℕ) (ls : List Lot) → NoneDue ls → AllUnsent largest ls → in_window (queue_of ls) ≡ 0
+window_free largest [] n u = refl
+window_free largest (past x e m ∷ ls) n u = window_free largest ls (λ i h. n i (inr h)) u.1
+window_free largest (standing e m ∷ ls) n u =
+    let h = not_here largest e.copy e.phase e.here (λ i x. n i (inl x)) u.0 in
+    rw h (window_free largest ls (λ i y. n i (inr y)) u.1)
 
 -- ---- the first copy that stands
 
@@ -202,8 +203,8 @@ idle_pump way k room p xs e m ys w q h linked on (outgrows i order z) =
     (inl (turns_busy (pump_from way (queue_of ys) (paced (Outgrow e.place i order) e.phase p)) (take_turn (Outgrow e.place i order) w)
     (says_busy (pubrel i success) (record w { copies = lots_after (Outgrow e.place i order) w.copies }) refl linked)))
 
-unsent_at : (largest : ℕ) (w : World) → Reached largest w → AllUnsent w.copies
-unsent_at largest w r = subst (λ v. AllUnsent v.copies) r.1 (run_unsent largest r.0 start (sound_start largest) begins tt)
+pub unsent_at : (largest : ℕ) (w : World) → Reached largest w → AllUnsent largest w.copies
+unsent_at largest w r = subst (λ v. AllUnsent largest v.copies) r.1 (run_unsent largest r.0 start (sound_start largest) begins tt)
 
 under_way_at : (largest : ℕ) (w : World) → Reached largest w → w.linked ≡ true → IsUnderWay w
 under_way_at largest w r = subst (λ v. v.linked ≡ true → IsUnderWay v) r.1 (all_under_way largest r.0)
@@ -217,7 +218,7 @@ pump_idle largest window now w r h room some none =
     let way : Way = record { window = window; largest = largest; now = now } in
     let f = first w.copies some in
     let p = pace way (queue_of w.copies) in
-    let free = window_free w.copies none (unsent_at largest w r) in
+    let free = window_free largest w.copies none (unsent_at largest w r) in
     let least : 1 ≤ p.room = rw free (omega arith) in
     let one = not_none p.room least in
     let many : 1 ≤ PUMP_LIMIT = omega arith in

@@ -12,7 +12,7 @@ use Rattle.mqtt_codec.specs.declared.packet.Packet.{Packet}
 use Rattle.mqtt_codec.specs.declared.packet.Packet.TheVariants as packets
 use Rattle.mqtt_codec.specs.declared.publish.Delivery.TheVariants as delivery
 use Rattle.mqtt_flow.specs.Outbound.{staying, way_made}
-use Rattle.mqtt_flow.specs.OutboundWorld.{is_granted}
+use Rattle.mqtt_flow.specs.OutboundWorld.{Lot, is_granted}
 use Rattle.mqtt_flow.specs.declared.entry.Turn.{Turn}
 use Rattle.mqtt_flow.specs.declared.entry.Turn.TheVariants as turns
 use Rattle.mqtt_laws.specs.Ends.{Receiver}
@@ -50,11 +50,12 @@ use Rattle.mqtt_world_laws.proofs.CopiesApart.{accepted_differ}
 use Rattle.mqtt_world_laws.proofs.Differ.{AreApart, differ_filtered, differ_join}
 use Rattle.mqtt_world_laws.proofs.RoutedApart.{id_to}
 use Rattle.mqtt_handed_laws.specs.Calls.{IsOnlyAt}
-use Rattle.mqtt_handed_laws.specs.Entering.{IsReceiving, MayEnter}
+use Rattle.mqtt_handed_laws.specs.Entering.{IsReceiving, MayEnter, RunsWith}
+use Rattle.mqtt_handed_laws.specs.Handing.{IsRun}
 use Rattle.mqtt_handed_laws.specs.Others.{AreOfOthers, IsWithin}
 use Rattle.mqtt_handed_laws.specs.Seen.{Numbering}
 use Rattle.mqtt_handed_laws.specs.Served.{HasLines, IsNewCopy, IsOwnLine, IsServed, RunsFor}
-use Rattle.mqtt_handed_laws.specs.Tags.{AreNumbered}
+use Rattle.mqtt_handed_laws.specs.Tags.{AreNumbered, id_of}
 use Rattle.mqtt_handed_laws.proofs.Entering.{entering_runs, lapsing_runs, slice_more}
 use Rattle.mqtt_handed_laws.proofs.Others.{others_leave, others_run}
 use Rattle.mqtt_handed_laws.proofs.Serving.{AreOfQueue, AreTheirs, IsOfQueue, IsTheirs, parts_stay, publications_stay, served_deeds, served_parts}
@@ -298,7 +299,18 @@ module _ (largest : ℕ) (env : Env) (small : env.limits.queue ≤ QUEUE_LIMIT) 
     | inr other ↦ fewer d rest b fits k x (sym (e.others k other) ∙ at)
   ]
 
-  -- the receiver's own
+  -- the receiver's own, with the copies as they are
+  pub entered_with : (copy : MessageCopy) (s : Session) (b : Broker) (all : List CopyId) (number : Numbering) (lots : List Lot) → is_queued_at copy.qos ≡ true → own_stay env s < env.limits.queue → map id_of lots ≡ all
+      → AreNumbered number (all ++ copy.id ∷ []) → IsRun number largest lots r b → IsReceiving r s b → RunsWith number largest lots copy.id r (after_all (enter_deeds env copy s) b)
+  entered_with copy s b all number lots granted free same n run_is receiving =
+      let count = stay_is env.limits.full (since env s) s.birth s.queue in
+      let may : MayEnter env copy s = record {
+        granted = granted_of copy.qos granted;
+        room = lt-ltb (staying env.limits.full (since env s) (queue_on [] s)) env.limits.queue (omega (arith, count, free));
+        within = small;
+      } in
+      entering_runs number largest lots env copy r s b run_is receiving may (subst (λ (cs : List CopyId). AreNumbered number (cs ++ copy.id ∷ [])) (sym same) n)
+
   pub entered_runs : (copy : MessageCopy) (s : Session) (b : Broker) (more : List CopyId) → is_queued_at copy.qos ≡ true → own_stay env s < env.limits.queue → s.birth ≡ birth → session_at s.birth b.records ≡ Some s
       → IsServed r.client birth ns (after_all (enter_deeds env copy s) b) → RunsFor largest (ids ++ more) birth r b → RunsFor largest (ids ++ (more ++ copy.id ∷ [])) birth r (after_all (enter_deeds env copy s) b)
   entered_runs copy s b more granted free is at served runs number n =
@@ -307,13 +319,7 @@ module _ (largest : ℕ) (env : Env) (small : env.limits.queue ≤ QUEUE_LIMIT) 
       let its : session_at h.session.birth b.records ≡ Some s = ap (λ (m : ℕ). session_at m b.records) (h.birth_is ∙ sym is) ∙ at in
       let same_session : h.session ≡ s = some_is h.session s (sym h.receiving.session ∙ its) in
       let receiving = subst (λ (y : Session). IsReceiving r y b) same_session h.receiving in
-      let count = stay_is env.limits.full (since env s) s.birth s.queue in
-      let may : MayEnter env copy s = record {
-        granted = granted_of copy.qos granted;
-        room = lt-ltb (staying env.limits.full (since env s) (queue_on [] s)) env.limits.queue (omega (arith, count, free));
-        within = small;
-      } in
-      let e = entering_runs number largest h.after env copy r s b h.run_is receiving may (subst (λ (cs : List CopyId). AreNumbered number (cs ++ copy.id ∷ [])) (sym h.same) both) in
+      let e = entered_with copy s b (ids ++ more) number h.after granted free h.same both h.run_is receiving in
       record {
         after = e.after;
         same = e.same ∙ (ap (λ (cs : List CopyId). cs ++ copy.id ∷ []) h.same ∙ append_assoc ids more (copy.id ∷ []));

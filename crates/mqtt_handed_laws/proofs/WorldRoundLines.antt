@@ -1,6 +1,6 @@
 -- Deeds that connect, close and end nobody leave the lines in order, and each with its Receive Maximum and Maximum Packet
 -- Size.
-use Rattle.std.proofs.Common.{◌≡◌, ℕ, Bool, true, false, cond, List, [], ◌∷◌, map, Option, Some, None, nat_eq, refl, ap, ◌∙◌, inl, inr}
+use Rattle.std.proofs.Common.{◌≡◌, ℕ, Bool, true, false, cond, List, [], ◌∷◌, map, Option, Some, None, nat_eq, max, refl, ap, ◌∙◌, inl, inr, arith}
 use Rattle.std.specs.Prelude.{⊤, filter_map, find, option_map}
 use Rattle.std.specs.List.{AllByRecursion}
 use Rattle.std.proofs.lemmas.Bool.{cases_Bool}
@@ -21,6 +21,7 @@ use Rattle.mqtt_laws.proofs.Seeing.{done_lines}
 use Rattle.mqtt_records.specs.declared.change.Change.{Change}
 use Rattle.mqtt_rules.proofs.Goods.{AreGood}
 use Rattle.mqtt_rules.proofs.LineLaw.{unique_quiet}
+use Rattle.mqtt_rules.proofs.NumberFacts.{now_stays}
 use Rattle.mqtt_rules.proofs.LineRows.{IsQuiet, IsQuietOn, numbered}
 use Rattle.mqtt_rules.specs.Deeds.{At, Deed, Gone, Greet, Hear, Leave, Link, LinePart, Mark, On, Part, Send, SetAlias, Went, after, after_all, closing, line_after, lines_at, on_line, part_rows_of, rows_of_all, without_place}
 use Rattle.mqtt_rules.specs.Lines.{HasUniqueLines}
@@ -120,6 +121,21 @@ quiet_unique limits choice now call b q u =
     let ds = deeds limits choice now call b in
     let before : HasUniqueLines first = record { ascending = u.ascending; given = u.given; once = u.once; stands = u.stands; connected = u.connected } in
     moment_unique (rows_of_all ds first.records) (after_all ds first) (unique_quiet ds first q before)
+
+-- the same moment handed in once more is no later
+pub moment_again : (a c : ℕ) → max (max a c) c ≡ max a c
+moment_again a c = omega arith
+
+-- the moment of a step stays
+moment_now : (rows : List Change) (b : Broker) → (with_moment rows b).now ≡ b.now
+moment_now [] b = refl
+moment_now (row ∷ rows) b = refl
+
+pub step_now : (limits : Limits) (choice : MemberChoice) (now : ℕ) (call : Call) (b : Broker) → (stepped limits choice now call b).now ≡ (at_moment now b).now
+step_now limits choice now call b =
+    let first = at_moment now b in
+    let ds = deeds limits choice now call b in
+    moment_now (rows_of_all ds first.records) (after_all ds first) ∙ now_stays ds first
 
 -- ---- turns of a session leave the retained messages, and count no SUBSCRIBE
 

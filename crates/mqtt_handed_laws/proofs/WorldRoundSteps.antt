@@ -92,33 +92,37 @@ module _ (number : Numbering) (largest window : ℕ) (ids : List CopyId) (birth 
   pub listens_now : (r : Receiver) (b : Broker) (c : IsConnected largest window ids birth ns r b) → Listens r c.line birth b
   listens_now r b c = listens_in_step largest ids birth ns c.line.number birth r c.line b c.in_step c.unique c.ordered c.number c.there c.connected c.apart
 
-  -- another receiver on the same line, or the same broker later
-  pub connected_again : (later : List CopyId) (r q : Receiver) (b d : Broker) (c : IsConnected largest window ids birth ns r b) → IsInStep largest later birth ns q d → q.line.number ≡ r.line.number
-      → is_one_of q.line.old_number (c.line.number ∷ []) ≡ false → is_linked q.line.number d ≡ true → way_on c.line.number d.lines ≡ way_on c.line.number b.lines
-      → HasUniqueLines d → IsOrdered d.records → HasDistinctIdentifiers d.records → IsConnected largest window later birth ns q d
-  connected_again later r q b d c k same apart linked way unique ordered distinct =
-      let n = c.line.number in
-      let number : q.line.number ≡ Some n = same ∙ c.number in
+  -- whoever is in step and connected on a line with this Receive Maximum and Maximum Packet Size
+  pub connected_there : (later : List CopyId) (n : ℕ) (q : Receiver) (d : Broker) → IsInStep largest later birth ns q d → q.line.number ≡ Some n → is_one_of q.line.old_number (n ∷ []) ≡ false
+      → is_linked q.line.number d ≡ true → way_on n d.lines ≡ Some (window, largest) → HasUniqueLines d → IsOrdered d.records → HasDistinctIdentifiers d.records → IsConnected largest window later birth ns q d
+  connected_there later n q d k number apart linked way unique ordered distinct =
       let x = line_there (line_at n d) (ap (λ (o : Option ℕ). is_linked o d) (sym number) ∙ linked) in
       let l = x.0 in
       let at = x.1 in
       let both = all_find (IsOwnLine ns birth) (λ (y : BrokerLine). nat_eq y.number n) l d.lines k.served.lines at in
       let is : l.number ≡ n = eqb-true l.number n both.1 in
       let mine : x.2 ≡ birth = both.0.theirs (ap (λ (j : ℕ). is_one_of (Some j) ns) is ∙ k.lines.own n number) x.2 x.3 in
-      let ways : way_by (Some l) ≡ way_by (Some c.line) = sym (ap way_by at) ∙ (way ∙ ap way_by c.there) in
+      let ways : way_by (Some l) ≡ Some (window, largest) = sym (ap way_by at) ∙ way in
       record {
         in_step = k;
         line = l;
         number = number ∙ ap Some (sym is);
         there = ap (λ (j : ℕ). line_at j d) is ∙ at;
         connected = x.3 ∙ ap Some mine;
-        window_is = ap window_in ways ∙ c.window_is;
-        largest_is = ap largest_in ways ∙ c.largest_is;
+        window_is = ap window_in ways;
+        largest_is = ap largest_in ways;
         apart = ap (λ (j : ℕ). is_one_of q.line.old_number (j ∷ [])) is ∙ apart;
         unique = unique;
         ordered = ordered;
         distinct = distinct;
       }
+
+  -- another receiver on the same line, or the same broker later
+  pub connected_again : (later : List CopyId) (r q : Receiver) (b d : Broker) (c : IsConnected largest window ids birth ns r b) → IsInStep largest later birth ns q d → q.line.number ≡ r.line.number
+      → is_one_of q.line.old_number (c.line.number ∷ []) ≡ false → is_linked q.line.number d ≡ true → way_on c.line.number d.lines ≡ way_on c.line.number b.lines
+      → HasUniqueLines d → IsOrdered d.records → HasDistinctIdentifiers d.records → IsConnected largest window later birth ns q d
+  connected_again later r q b d c k same apart linked way unique ordered distinct =
+      connected_there later c.line.number q d k (same ∙ c.number) apart linked (way ∙ (ap way_by c.there ∙ λ i. Some (c.window_is i, c.largest_is i))) unique ordered distinct
 
   -- ---- a call that closes no line and connects nobody
 

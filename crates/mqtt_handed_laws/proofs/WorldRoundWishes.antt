@@ -1,12 +1,13 @@
 -- A receiver that is connected and in step: the broker reads its SUBSCRIBE, and it is so again, with the copies of retained
 -- messages that the filter brings.
-use Rattle.std.proofs.Common.{◌≡◌, ℕ, suc, Bool, true, false, cond, List, [], ◌∷◌, ◌++◌, drop, map, Option, Some, None, refl, sym, ap, subst, ◌∙◌, arith}
+use Rattle.std.proofs.Common.{◌≡◌, ℕ, suc, ◌+◌, Bool, true, false, cond, List, [], ◌∷◌, ◌++◌, drop, length, map, Option, Some, None, refl, sym, ap, subst, ◌∙◌, arith}
 use Rattle.std.specs.Prelude.{◌≢◌, flat_map, nat_le, option_map}
 use Rattle.std.specs.List.{AllByRecursion}
 use Rattle.mqtt_base.specs.declared.session.CopyId.{CopyId}
 use Rattle.mqtt_codec.specs.declared.packet.Packet.{Packet}
 use Rattle.mqtt_codec.specs.Subscriptions.{Subscription as Asked}
 use Rattle.mqtt_base.specs.Codes.{identifier_in_use}
+use Rattle.mqtt_flow.specs.OutboundWorld.{Lot}
 use Rattle.mqtt_inbound.specs.Identifiers.{is_among}
 use Rattle.mqtt_laws.specs.Ends.{Back, Receiver, Wish, asks_for, wire_back}
 use Rattle.mqtt_laws.specs.Seen.{is_linked}
@@ -29,12 +30,14 @@ use Rattle.mqtt_rules.specs.Subscribe as sub
 use Rattle.mqtt_rules.specs.declared.Limits.{Limits}
 use Rattle.mqtt_subscribe.specs.declared.subscribe.Subscribe.{Subscribe as Asking}
 use Rattle.mqtt_world_laws.proofs.Differ.{AreApart, differ_join}
-use Rattle.mqtt_handed_laws.specs.Handing.{receiver_after}
+use Rattle.mqtt_handed_laws.specs.Handing.{IsRun, receiver_after}
 use Rattle.mqtt_handed_laws.specs.Own.{IsBroughtCopy}
 use Rattle.mqtt_handed_laws.specs.Seen.{Numbering}
 use Rattle.mqtt_handed_laws.specs.Served.{IsTidy}
+use Rattle.mqtt_handed_laws.specs.Tags.{AreNumbered, id_of}
 use Rattle.mqtt_handed_laws.specs.WorldRounds.{AreTold, IsConnected, IsOlder}
-use Rattle.mqtt_handed_laws.proofs.OwnSubscribes.{wished}
+use Rattle.mqtt_handed_laws.proofs.OwnSubscribes.{LotsOn, wished}
+use Rattle.mqtt_handed_laws.proofs.QueueLengths.{IsUpTo}
 use Rattle.mqtt_handed_laws.proofs.WorldRoundSteps.{called_again, listens_now, stays_up}
 
 -- ---- its deeds connect, close and end nobody
@@ -104,6 +107,9 @@ module _ (number : Numbering) (largest window : ℕ) (ids : List CopyId) (birth 
     pub more : List CopyId
     pub new : AllByRecursion (IsBroughtCopy birth (suc b.records.subscribes)) more
     pub differ : AllDiffer (ids ++ more)
+    pub longer : (most : ℕ) → IsUpTo birth most b → IsUpTo birth (most + length more) (stepped limits choice now (asking r n w) b)
+    pub lots : (other : Numbering) (copies : List Lot) → AreNumbered other (ids ++ more) → IsRun other largest copies r b → map id_of copies ≡ ids
+        → LotsOn other largest copies (ids ++ more) (receiver_after limits choice now (asking r n w) r b) (stepped limits choice now (asking r n w) b)
     pub connected : IsConnected largest window (ids ++ more) birth ns (receiver_after limits choice now (asking r n w) r b) (stepped limits choice now (asking r n w) b)
     pub up : (receiver_after limits choice now (asking r n w) r b).line.up ≡ rest
 
@@ -134,6 +140,8 @@ module _ (number : Numbering) (largest window : ℕ) (ids : List CopyId) (birth 
         more = x.after.more;
         new = x.after.new;
         differ = differ_join ids x.after.more told.differ (x.differ told.retained) (apart_from birth b.records.subscribes ids x.after.more told.older x.after.new);
+        longer = x.longer;
+        lots = x.lots;
         connected = called_again number largest window ids birth ns limits choice now call r b quiet (ids ++ x.after.more) q c x.after.in_step refl refl linked;
         up = stays_up number largest window ids birth ns limits choice now call r b quiet (drop 1 r.line.up) ∙ ap (drop 1) up;
       }

@@ -1,9 +1,10 @@
 -- Rounds of a drain of the world are rounds of its receiver's hop, so that it ends as the hop's does.
-use Rattle.std.proofs.Common.{◌≡◌, inl, inr, ⊎_elim, ℕ, zero, suc, ◌*◌, ◌≤◌, Bool, true, false, cond, not, ◌||◌, List, [], ◌∷◌, ◌++◌, length, map, Option, Some, None, bytes_eq, refl, sym, ap, subst, ◌∙◌, append-nil, arith}
+use Rattle.std.proofs.Common.{◌≡◌, inl, inr, ⊎_elim, ℕ, zero, suc, ◌+◌, ◌*◌, ◌≤◌, max, Bool, true, false, cond, not, ◌||◌, List, [], ◌∷◌, ◌++◌, length, map, take, Option, Some, None, bytes_eq, refl, sym, ap, subst, ◌∙◌, append-nil, arith}
 use Rattle.std.specs.Prelude.{find, filter_map, is_some, option_map, slice_get}
 use Rattle.std.specs.List.{AllByRecursion}
 use Rattle.std.proofs.lemmas.Bool.{cases_Bool}
 use Rattle.mqtt_base.specs.declared.session.CopyId.{CopyId}
+use Rattle.mqtt_flow.specs.Outbound as rules
 use Rattle.mqtt_flow.specs.OutboundWorld.{Lot, World as Hop, queue_of, step}
 use Rattle.mqtt_flow.specs.OutboundWorld as hop
 use Rattle.mqtt_flow.specs.Receiver.{Answer}
@@ -12,11 +13,12 @@ use Rattle.mqtt_laws.specs.Ends.{Back, Publisher, Receiver, Wish, answers, asks_
 use Rattle.mqtt_message.specs.declared.message.RetainedMessage.{RetainedMessage}
 use Rattle.mqtt_laws.specs.Lines.{stands}
 use Rattle.mqtt_laws.specs.Run.{Turn, run, turned}
-use Rattle.mqtt_laws.specs.World.{Setting, World, ask, calls, end_reads, publisher_named, publisher_told, pump, receiver_named, receiver_told, taken_up, to_broker, to_end, with_line}
+use Rattle.mqtt_laws.specs.World.{Event, Setting, World, ask, call_of, calls, calls_if, end_reads, happens, is_bad, publisher_named, publisher_told, pump, receiver_named, receiver_told, taken_up, to_broker, to_end, with_line}
+use Rattle.mqtt_records.specs.declared.session.Session.{Session}
 use Rattle.mqtt_rows.specs.Distinct.{AllDiffer}
 use Rattle.mqtt_rules.proofs.Copies.{each_append}
 use Rattle.mqtt_rules.proofs.Leads.{found_passes}
-use Rattle.mqtt_rules.specs.State.{Broker, MemberChoice, session_named}
+use Rattle.mqtt_rules.specs.State.{Broker, MemberChoice, capped, session_at, session_named}
 use Rattle.mqtt_rules.specs.Step.{Call, Input, Outcome, Pump, stepped, told}
 use Rattle.mqtt_rules.specs.declared.Limits.{Limits}
 use Rattle.mqtt_world_laws.proofs.Ends.{find_publisher, find_receiver, named_receiver, only_receiver}
@@ -27,24 +29,29 @@ use Rattle.mqtt_handed_laws.specs.Rounds as rounds
 use Rattle.mqtt_handed_laws.specs.Rounds.{EndsBy}
 use Rattle.mqtt_handed_laws.specs.Seen.{Numbering, answered, seen}
 use Rattle.mqtt_handed_laws.specs.Served.{IsTidy, RunsWithAll}
-use Rattle.mqtt_handed_laws.specs.Tags.{id_of}
-use Rattle.mqtt_handed_laws.specs.WorldRounds.{AreTold, AsksOnce, ComesTo, DrainsWith, IsAnswer, IsOlder, MayAsk, IsDrained, MayDrain, moment_of, moments_of}
+use Rattle.mqtt_handed_laws.specs.Tags.{AreNumbered, id_of}
+use Rattle.mqtt_handed_laws.specs.WorldRounds.{AreTold, AsksOnce, ComesTo, DrainsBehind, DrainsWith, EndsOrDrops, IsAnswer, IsOlder, MayAsk, IsDrained, MayDrain, moment_of, moments_of}
 use Rattle.mqtt_handed_laws.proofs.Answering.{named_now, standing_by}
-use Rattle.mqtt_handed_laws.proofs.DrainCauses.{causes_of_run}
+use Rattle.mqtt_handed_laws.proofs.DrainCauses.{answers_pass, causes_of_run, drops_none, ended_rests, ends_by_more, passes_trans, passes_way, pump_passes}
 use Rattle.mqtt_handed_laws.proofs.DrainRuns.{run_append}
+use Rattle.mqtt_handed_laws.proofs.Further.{Reached, goes_on, no_more_rest, no_more_stand}
 use Rattle.mqtt_handed_laws.proofs.Numbers.{place_of, places_number}
 use Rattle.mqtt_handed_laws.proofs.OwnDoings.{keeps_reading}
 use Rattle.mqtt_handed_laws.proofs.RoundFurther.{drain_empties, round_run, rounds_within, two_each}
+use Rattle.mqtt_handed_laws.proofs.Renumbering.{renumbered}
 use Rattle.mqtt_handed_laws.proofs.Stopping.{step_tidy}
+use Rattle.mqtt_handed_laws.proofs.Walk.{numbered_front}
+use Rattle.mqtt_handed_laws.proofs.Own.{some_is}
+use Rattle.mqtt_handed_laws.proofs.RoundPhases.{brokers_length, ends_copies, length_map, turns_length}
 use Rattle.mqtt_handed_laws.proofs.Turns.{same_entries}
-use Rattle.mqtt_handed_laws.proofs.WorldRoundLines.{HasSame}
+use Rattle.mqtt_handed_laws.proofs.WorldRoundLines.{HasSame, moment_again, step_now}
 use Rattle.mqtt_handed_laws.proofs.WorldRoundWishes.{wish_at}
 use Rattle.mqtt_handed_laws.proofs.WorldRoundReads.{Grows, all_read, reads_at}
-use Rattle.mqtt_handed_laws.proofs.WorldRoundSteps.{At, answer_at, hop_linked, listens_now, pump_at, pump_same, pump_up}
+use Rattle.mqtt_handed_laws.proofs.WorldRoundSteps.{At, answer_at, hop_linked, listens_now, pump_at, pump_same, pump_up, reached}
 
 -- ---- who is found by the name, where one is changed
 
-none_changed : {X : Type 0} (test : X → Bool) (f : X → X) (xs : List X) → find test xs ≡ None → find test (map (λ (x : X). cond (test x) (f x) x) xs) ≡ None
+pub none_changed : {X : Type 0} (test : X → Bool) (f : X → X) (xs : List X) → find test xs ≡ None → find test (map (λ (x : X). cond (test x) (f x) x) xs) ≡ None
 none_changed test f [] e = refl
 none_changed test f (x ∷ xs) e = elim (cases_Bool (test x)) [
   | inl its ↦ let found : Some x ≡ None = rw its at e in absurd cc
@@ -93,16 +100,16 @@ module _ (limits : Limits) (choice : MemberChoice) (client : List ℕ) where
   abbrev set : Setting
   set = record { limits = limits; choice = choice }
 
-  pump_is : (w : World) (r : Receiver) (n : ℕ) → receiver_named client w ≡ Some r → publisher_named client w ≡ None → r.line.number ≡ Some n → turned limits (turn_of choice (ask (pump client))) w ≡ calls set (Pump n) w
+  pub pump_is : (w : World) (r : Receiver) (n : ℕ) → receiver_named client w ≡ Some r → publisher_named client w ≡ None → r.line.number ≡ Some n → turned limits (turn_of choice (ask (pump client))) w ≡ calls set (Pump n) w
   pump_is w r n named alone number = rw (named, alone, number) refl
 
   reading_is : (w : World) (r : Receiver) → receiver_named client w ≡ Some r → publisher_named client w ≡ None → turned limits (turn_of choice (to_end client)) w ≡ end_reads client w
   reading_is w r named alone = rw (named, alone) refl
 
-  abbrev taken_off : World → World
+  abbrev pub taken_off : World → World
   taken_off w = with_line client taken_up taken_up w
 
-  back_is : (w : World) (r : Receiver) (n : ℕ) (u : Back) (rest : List Back) → receiver_named client w ≡ Some r → publisher_named client w ≡ None → r.line.number ≡ Some n → r.line.up ≡ u ∷ rest
+  pub back_is : (w : World) (r : Receiver) (n : ℕ) (u : Back) (rest : List Back) → receiver_named client w ≡ Some r → publisher_named client w ≡ None → r.line.number ≡ Some n → r.line.up ≡ u ∷ rest
       → turned limits (turn_of choice (ask (to_broker client))) w ≡ calls set (Input n (wire_back r.client r.window u)) (taken_off w)
   back_is w r n u rest named alone number up = rw (named, alone, number, up) refl
 
@@ -262,16 +269,33 @@ module _ (limits : Limits) (choice : MemberChoice) (client : List ℕ) where
     lengths f [] = refl
     lengths f (x ∷ xs) = ap suc (lengths f xs)
 
+    -- its session, with as many rows in its queue
+    pub record Holds (h : Hop) (w : World) : Type 0 where
+      pub session : Session
+      pub found : session_at birth w.broker.records ≡ Some session
+      pub left : copies_left client w ≡ length session.queue
+      pub many : length session.queue ≡ length (queue_of h.copies)
+
+    pub holds : (ups : List Back) (h : Hop) (w : World) → Sees ups h w → Holds h w
+    holds ups h w x =
+        let r = x.receiver in
+        let li = listens_now number largest window ids birth ns r w.broker x.at.connected in
+        let s = li.session in
+        let l = x.at.connected.line in
+        let name : r.client ≡ client = named_receiver client r w x.named in
+        let found : session_named client w.broker.records ≡ Some s = ap (λ (c : List ℕ). session_named c w.broker.records) (sym name) ∙ named_now r l s w.broker li.listening in
+        record {
+          session = s;
+          found = ap (λ (k : ℕ). session_at k w.broker.records) (sym li.birth_is) ∙ li.listening.session;
+          left = ap copies_by found;
+          many = sym (ap (λ (v : Hop). length (queue_of v.copies)) (sym x.at.seen_is)
+              ∙ (ap length (same_entries x.at.copies l.went s.queue (standing_by x.at.copies r l s w.broker x.at.run_is.queue_is li.listening)) ∙ lengths _ s.queue));
+        }
+
     pub left_is : (h : Hop) (w : World) → Comes h w → copies_left client w ≡ length (queue_of h.copies)
     left_is h w x =
-        let r = x.receiver in
-        let li = listens_now number largest window ids birth ns r w.broker x.may.connected in
-        let s = li.session in
-        let l = x.may.connected.line in
-        let name : r.client ≡ client = named_receiver client r w x.may.named in
-        let found : session_named client w.broker.records ≡ Some s = ap (λ (c : List ℕ). session_named c w.broker.records) (sym name) ∙ named_now r l s w.broker li.listening in
-        ap copies_by found ∙ sym (ap (λ (v : Hop). length (queue_of v.copies)) (sym x.seen_is)
-        ∙ (ap length (same_entries x.copies l.went s.queue (standing_by x.copies r l s w.broker x.run_is.queue_is li.listening)) ∙ lengths _ s.queue))
+        let y = holds x.receiver.line.up h w (record { receiver = x.receiver; named = x.may.named; alone = x.may.alone; at = at_of h w x; up = refl }) in
+        y.left ∙ y.many
 
     over_is : (h : Hop) (w : World) → Comes h w → is_over client w ≡ rounds.is_over h
     over_is h w x =
@@ -305,6 +329,67 @@ module _ (limits : Limits) (choice : MemberChoice) (client : List ℕ) where
     pub moments_length : (most : ℕ) (w : World) → length (moments_of limits choice client most w) ≡ most
     moments_length zero w = refl
     moments_length (suc more) w = ap suc (moments_length more (after_round limits choice client w))
+
+-- ---- the moment stands
+
+moment_if : (s : Setting) (o : Option Call) (w : World) → moment_of (calls_if s o w) ≡ moment_of w
+moment_if s None w = refl
+moment_if s (Some call) w =
+    ap (λ (k : ℕ). max k (capped w.now)) (step_now s.limits s.choice w.now call w.broker) ∙ moment_again w.broker.now (capped w.now)
+
+moment_unless : (bad : Bool) (w v : World) → moment_of v ≡ moment_of w → moment_of (cond bad w v) ≡ moment_of w
+moment_unless true w v e = refl
+moment_unless false w v e = e
+
+module _ (limits : Limits) (choice : MemberChoice) (client : List ℕ) where
+  abbrev KeepsMoment : Event → Type 0
+  KeepsMoment e = (w : World) → moment_of (turned limits (turn_of choice e) w) ≡ moment_of w
+
+  pump_moment : KeepsMoment (ask (pump client))
+  pump_moment w =
+      let s : Setting = record { limits = limits; choice = choice } in
+      moment_unless (is_bad (ask (pump client)) w) w (happens s (ask (pump client)) w) (moment_if s (call_of s (pump client) w) w)
+
+  read_moment : KeepsMoment (to_end client)
+  read_moment w = moment_unless (is_bad (to_end client) w) w (end_reads client w) refl
+
+  back_moment : KeepsMoment (ask (to_broker client))
+  back_moment w =
+      let s : Setting = record { limits = limits; choice = choice } in
+      moment_unless (is_bad (ask (to_broker client)) w) w (happens s (ask (to_broker client)) w) (moment_if s (call_of s (to_broker client) w) (with_line client taken_up taken_up w))
+
+  times_moment : (e : Event) → KeepsMoment e → (k : ℕ) (w : World) → moment_of (run limits (times k (turn_of choice e)) w) ≡ moment_of w
+  times_moment e keeps zero w = refl
+  times_moment e keeps (suc k) w = times_moment e keeps k (turned limits (turn_of choice e) w) ∙ keeps w
+
+  pub round_moment : (w : World) → moment_of (after_round limits choice client w) ≡ moment_of w
+  round_moment w =
+      let sent = run limits (turn_of choice (ask (pump client)) ∷ []) w in
+      let ends = all_to_end choice client sent in
+      let was = run limits ends sent in
+      ap moment_of (run_append limits ends (all_to_broker choice client was) sent)
+      ∙ (times_moment (ask (to_broker client)) back_moment (ups_by (receiver_named client was)) was
+      ∙ (times_moment (to_end client) read_moment (downs_by (receiver_named client sent)) sent ∙ pump_moment w))
+
+  -- so all rounds are at the first one's
+  one_moment : (most k : ℕ) (w : World) (f : ℕ → Bool) → rounds.Has f (take k (moments_of limits choice client most w)) → rounds.Has f (moment_of w ∷ [])
+  one_moment zero zero w f h = absurd h
+  one_moment zero (suc k) w f h = absurd h
+  one_moment (suc more) zero w f h = absurd h
+  one_moment (suc more) (suc k) w f (inl e) = inl e
+  one_moment (suc more) (suc k) w f (inr h) =
+      subst (λ (j : ℕ). rounds.Has f (j ∷ [])) (round_moment w) (one_moment more k (after_round limits choice client w) f h)
+
+-- ---- no more copies stand after a pump and after answers
+
+pump_fewer : (largest window now : ℕ) (h : Hop) → Reached largest h → length (queue_of (step largest h (hop.pump window now)).copies) ≤ length (queue_of h.copies)
+pump_fewer largest window now h r =
+    no_more_stand h.copies (step largest h (hop.pump window now)).copies
+    (turns_length (rules.pump (record { window = window; largest = largest; now = now }) (queue_of h.copies)) h) (goes_on largest h r (hop.pump window now ∷ []))
+
+answers_fewer : (largest k : ℕ) (h : Hop) → Reached largest h → length (queue_of (hop.run largest (times k (hop.to_broker false)) h).copies) ≤ length (queue_of h.copies)
+answers_fewer largest k h r =
+    no_more_stand h.copies (hop.run largest (times k (hop.to_broker false)) h).copies (brokers_length largest k h) (goes_on largest h r (times k (hop.to_broker false)))
 
 -- ---- the first round, where a SUBSCRIBE is under way
 
@@ -353,64 +438,123 @@ module _ (limits : Limits) (choice : MemberChoice) (client : List ℕ) (number :
       subst (Orderly limits ids granted) (sym (back_is limits choice client w r n (answers a) rest x.named x.alone x.at.connected.number x.up))
       (orderly_on limits ids granted w later (step_tidy limits choice w.now call w.broker o.tidy) (answer_at number largest window ids birth ns limits choice w.now a rest h r w.broker x.at x.up).same o)
 
-  -- the SUBSCRIBE is read, and what is behind it
-  wish_read : (u : Wish) (rest : List Back) (h : Hop) (w : World) → Here number largest window ids birth ns client (asks_for u ∷ rest) h w → Orderly limits ids granted w → AllByRecursion IsAnswer rest
-      → DrainsWith largest window ids birth ns client (suc granted) (run limits (times (length rest) reads_back) (turned limits reads_back w))
-  wish_read u rest h w x o all =
-      let r = x.receiver in
-      let n = x.at.connected.line.number in
-      let call = Input n (wire_back r.client r.window (asks_for u)) in
-      let set : Setting = record { limits = limits; choice = choice } in
-      let before = taken_off limits choice client w in
-      let later = calls set call before in
-      let y = wish_at number largest window ids birth ns limits choice w.now u rest r w.broker x.at.connected o.tidy o.told x.up in
-      let q = record r { line = taken_up r.line } in
-      let found : receiver_named client before ≡ Some q = receiver_changed client (λ (s : Receiver). record s { line = taken_up s.line }) r w.receivers (λ s. refl) x.named in
-      let nobody : publisher_named client before ≡ None = none_changed (λ (p : Publisher). bytes_eq p.client client) (λ (p : Publisher). record p { line = taken_up p.line }) w.publishers x.alone in
-      let ids2 = ids ++ y.more in
-      let number2 = place_of ids2 in
-      let k = y.connected.in_step.runs number2 (places_number ids2 y.differ) in
-      let last = receiver_told later.broker (told limits choice w.now call w.broker) q in
-      let hop2 = seen number2 k.after last later.broker in
-      let z : Here number2 largest window ids2 birth ns client rest hop2 later = record {
-        receiver = last;
-        named = receiver_called_is client set call before q found;
-        alone = publisher_called_is client set call before nobody;
-        at = record { connected = y.connected; copies = k.after; same = k.same; run_is = k.run_is; seen_is = refl };
-        up = y.up;
-      } in
-      let end = hop.run largest (times (length rest) (hop.to_broker false)) hop2 in
-      let there = run limits (times (length rest) reads_back) later in
-      let c = sees_comes limits choice client number2 largest window ids2 birth ns end there (brokers_from limits choice client number2 largest window ids2 birth ns rest hop2 later z all) in
-      subst (λ (v : World). DrainsWith largest window ids birth ns client (suc granted) (run limits (times (length rest) reads_back) v)) (sym (back_is limits choice client w r n (asks_for u) rest x.named x.alone x.at.connected.number x.up))
-      (record { more = y.more; new = subst (λ (j : ℕ). AllByRecursion (IsBroughtCopy birth (suc j)) y.more) o.granted_is y.new; differ = y.differ; receiver = c.receiver; may = c.may })
+  -- what has become of the copies that stood at the start
+  module _ (moment : ℕ) (base : List Lot) where
+    abbrev Passed : List Lot → Type 0
+    Passed lots = (n : ℕ) → EndsOrDrops largest (moment ∷ []) (slice_get base n) (slice_get lots n)
 
-  all_back : (ups : List Back) (h : Hop) (w : World) → Here number largest window ids birth ns client ups h w → Orderly limits ids granted w → AsksOnce ups
-      → DrainsWith largest window ids birth ns client (suc granted) (run limits (times (length ups) reads_back) w)
-  all_back [] h w x o once =
-      let c = sees_comes limits choice client number largest window ids birth ns h w x in
-      let none : ids ++ [] ≡ ids = append-nil ids in
-      record {
-        more = [];
-        new = tt;
-        differ = subst AllDiffer (sym none) o.told.differ;
-        receiver = c.receiver;
-        may = subst (λ (all : List CopyId). MayDrain largest window all birth ns client c.receiver w) (sym none) c.may;
-      }
-  all_back (asks_for u ∷ rest) h w x o once = wish_read u rest h w x o once
-  all_back (answers a ∷ rest) h w x o once =
-      all_back rest (step largest h (hop.to_broker false)) (turned limits reads_back w) (answers_one limits choice client number largest window ids birth ns a rest h w x) (answer_orderly a rest h w x o) once
+    abbrev Behind : Hop → World → Type 0
+    Behind h w = DrainsBehind largest window ids birth ns client (suc granted) (length (queue_of h.copies)) moment base w
 
-pub first_round : (largest window : ℕ) (ids : List CopyId) (birth : ℕ) (ns : List ℕ) (limits : Limits) (choice : MemberChoice) (client : List ℕ) (r : Receiver) (w : World) → MayAsk limits largest window ids birth ns client r w
-    → DrainsWith largest window ids birth ns client (suc w.broker.records.subscribes) (after_round limits choice client w)
-first_round largest window ids birth ns limits choice client r w may =
-    let number = place_of ids in
-    let k = may.connected.in_step.runs number (places_number ids may.told.differ) in
-    let h = seen number k.after r w.broker in
+    passed_on : (a b c : List Lot) → ((n : ℕ) → EndsOrDrops largest (moment ∷ []) (slice_get a n) (slice_get b n)) → b ≡ c → Passed a → Passed c
+    passed_on a b c on same p n =
+        subst (λ (ls : List Lot). EndsOrDrops largest (moment ∷ []) (slice_get base n) (slice_get ls n)) same (passes_trans largest (moment ∷ []) (slice_get base n) (slice_get a n) (slice_get b n) (p n) (on n))
+
+    -- the SUBSCRIBE is read, and what is behind it
+    wish_read : (u : Wish) (rest : List Back) (h : Hop) (w : World) → Here number largest window ids birth ns client (asks_for u ∷ rest) h w → Orderly limits ids granted w → AllByRecursion IsAnswer rest → Passed h.copies
+        → Behind h (run limits (times (length rest) reads_back) (turned limits reads_back w))
+    wish_read u rest h w x o all p =
+        let r = x.receiver in
+        let n = x.at.connected.line.number in
+        let call = Input n (wire_back r.client r.window (asks_for u)) in
+        let set : Setting = record { limits = limits; choice = choice } in
+        let before = taken_off limits choice client w in
+        let later = calls set call before in
+        let y = wish_at number largest window ids birth ns limits choice w.now u rest r w.broker x.at.connected o.tidy o.told x.up in
+        let q = record r { line = taken_up r.line } in
+        let found : receiver_named client before ≡ Some q = receiver_changed client (λ (s : Receiver). record s { line = taken_up s.line }) r w.receivers (λ s. refl) x.named in
+        let nobody : publisher_named client before ≡ None = none_changed (λ (p : Publisher). bytes_eq p.client client) (λ (p : Publisher). record p { line = taken_up p.line }) w.publishers x.alone in
+        let ids2 = ids ++ y.more in
+        let number2 = place_of ids2 in
+        let numbered = places_number ids2 y.differ in
+        let first = renumbered number number2 largest x.at.copies r w.broker (subst (AreNumbered number2) (sym x.at.same) (numbered_front number2 ids y.more numbered)) x.at.run_is in
+        let k = y.lots number2 x.at.copies numbered first x.at.same in
+        let last = receiver_told later.broker (told limits choice w.now call w.broker) q in
+        let hop2 = seen number2 k.after last later.broker in
+        let z : Here number2 largest window ids2 birth ns client rest hop2 later = record {
+          receiver = last;
+          named = receiver_called_is client set call before q found;
+          alone = publisher_called_is client set call before nobody;
+          at = record { connected = y.connected; copies = k.after; same = k.same; run_is = k.run_is; seen_is = refl };
+          up = y.up;
+        } in
+        let end = hop.run largest (times (length rest) (hop.to_broker false)) hop2 in
+        let there = run limits (times (length rest) reads_back) later in
+        let c = sees_comes limits choice client number2 largest window ids2 birth ns end there (brokers_from limits choice client number2 largest window ids2 birth ns rest hop2 later z all) in
+        let was = holds limits choice client number largest window ids birth ns (asks_for u ∷ rest) h w x in
+        let now = holds limits choice client number2 largest window ids2 birth ns rest hop2 later z in
+        let grown : length now.session.queue ≤ length was.session.queue + length y.more =
+        y.longer (length was.session.queue) (λ s e. subst (λ (v : Session). length v.queue ≤ length was.session.queue) (some_is was.session s (sym was.found ∙ e)) (omega arith)) now.session now.found in
+        let at = reached number2 largest window ids2 birth ns hop2 last later.broker z.at in
+        let fewer = answers_fewer largest (length rest) hop2 at in
+        let left = left_is limits choice client number2 largest window ids2 birth ns end there c in
+        let few : copies_left client there ≤ length (queue_of h.copies) + length y.more =
+        let a = was.many in let b = now.many in omega (arith, a, b, grown, fewer, left) in
+        let start : Passed x.at.copies = subst Passed (sym (ap (λ (v : Hop). v.copies) x.at.seen_is)) p in
+        let middle : Passed hop2.copies = passed_on x.at.copies k.after hop2.copies (λ j. passes_way largest (moment ∷ []) (slice_get x.at.copies j) (slice_get k.after j) (k.way j)) refl start in
+        let behind : Passed c.copies =
+        passed_on hop2.copies end.copies c.copies (λ j. answers_pass largest (moment ∷ []) (length rest) j hop2 at (hop_linked number2 largest window ids2 birth ns hop2 last later.broker z.at))
+        (sym (ap (λ (v : Hop). v.copies) c.seen_is)) middle in
+        subst (λ (v : World). Behind h (run limits (times (length rest) reads_back) v)) (sym (back_is limits choice client w r n (asks_for u) rest x.named x.alone x.at.connected.number x.up))
+        (record {
+          drains = record { more = y.more; new = subst (λ (j : ℕ). AllByRecursion (IsBroughtCopy birth (suc j)) y.more) o.granted_is y.new; differ = y.differ; receiver = c.receiver; may = c.may; few = few };
+          numbering = number2;
+          after = c.copies;
+          same = c.same;
+          run_is = c.run_is;
+          ends = behind;
+        })
+
+    all_back : (ups : List Back) (h : Hop) (w : World) → Here number largest window ids birth ns client ups h w → Orderly limits ids granted w → AsksOnce ups → Passed h.copies → Behind h (run limits (times (length ups) reads_back) w)
+    all_back [] h w x o once p =
+        let c = sees_comes limits choice client number largest window ids birth ns h w x in
+        let none : ids ++ [] ≡ ids = append-nil ids in
+        let left = left_is limits choice client number largest window ids birth ns h w c in
+        let same : c.copies ≡ h.copies = ap (λ (v : Hop). v.copies) c.seen_is in
+        record {
+          drains = record {
+            more = [];
+            new = tt;
+            differ = subst AllDiffer (sym none) o.told.differ;
+            receiver = c.receiver;
+            may = subst (λ (all : List CopyId). MayDrain largest window all birth ns client c.receiver w) (sym none) c.may;
+            few = omega (arith, left);
+          };
+          numbering = number;
+          after = c.copies;
+          same = c.same ∙ sym none;
+          run_is = c.run_is;
+          ends = subst Passed (sym same) p;
+        }
+    all_back (asks_for u ∷ rest) h w x o once p = wish_read u rest h w x o once p
+    all_back (answers a ∷ rest) h w x o once p =
+        let at = reached number largest window ids birth ns h x.receiver w.broker x.at in
+        let later = step largest h (hop.to_broker false) in
+        let on : Passed later.copies = passed_on h.copies later.copies later.copies (λ j. answers_pass largest (moment ∷ []) 1 j h at (hop_linked number largest window ids birth ns h x.receiver w.broker x.at)) refl p in
+        let y = all_back rest later (turned limits reads_back w) (answers_one limits choice client number largest window ids birth ns a rest h w x) (answer_orderly a rest h w x o) once on in
+        let fewer = answers_fewer largest 1 h at in
+        let d = y.drains in
+        let less = d.few in
+        record {
+          drains = record { more = d.more; new = d.new; differ = d.differ; receiver = d.receiver; may = d.may; few = omega (arith, fewer, less) };
+          numbering = y.numbering;
+          after = y.after;
+          same = y.same;
+          run_is = y.run_is;
+          ends = y.ends;
+        }
+
+-- with the copies that it sees
+pub first_round_of : (number : Numbering) (largest window : ℕ) (ids : List CopyId) (birth : ℕ) (ns : List ℕ) (limits : Limits) (choice : MemberChoice) (client : List ℕ) (copies : List Lot) (r : Receiver) (w : World)
+    → MayAsk limits largest window ids birth ns client r w → map id_of copies ≡ ids → IsRun number largest copies r w.broker
+    → DrainsBehind largest window ids birth ns client (suc w.broker.records.subscribes) (copies_left client w) (moment_of w) copies (after_round limits choice client w)
+first_round_of number largest window ids birth ns limits choice client copies r w may same run_is =
+    let h = seen number copies r w.broker in
     let granted = w.broker.records.subscribes in
     let ups = r.line.up in
+    let now = moment_of w in
     let sent = run limits (turn_of choice (ask (pump client)) ∷ []) w in
-    let h1 = step largest h (hop.pump window (moment_of w)) in
+    let h1 = step largest h (hop.pump window now) in
     let ends = all_to_end choice client sent in
     let was = run limits ends sent in
     let h2 = hop.run largest (rounds.all_to_end h1) h1 in
@@ -418,22 +562,48 @@ first_round largest window ids birth ns limits choice client r w may =
       receiver = r;
       named = may.named;
       alone = may.alone;
-      at = record { connected = may.connected; copies = k.after; same = k.same; run_is = k.run_is; seen_is = refl };
+      at = record { connected = may.connected; copies = copies; same = same; run_is = run_is; seen_is = refl };
       up = refl;
     } in
     let o0 : Orderly limits ids granted w = record { tidy = may.tidy; told = may.told; granted_is = refl } in
     let x1 = pumps limits choice client number largest window ids birth ns ups h w x0 in
     let o1 = pump_orderly limits choice client number largest window ids birth ns granted ups h w x0 o0 in
     let x2 = reads limits choice client number largest window ids birth ns AsksOnce (record { none = tt; more = once_more }) ups h1 sent x1 in
-    let same : was.broker ≡ sent.broker = reads_broker limits choice client number largest window ids birth ns ups h1 sent x1 in
+    let unread : was.broker ≡ sent.broker = reads_broker limits choice client number largest window ids birth ns ups h1 sent x1 in
     let o2 : Orderly limits ids granted was =
-    orderly_on limits ids granted sent was (subst (IsTidy limits) (sym same) o1.tidy) (record { retained = ap (λ (b : Broker). b.records.retained) same; subscribes = ap (λ (b : Broker). b.records.subscribes) same }) o1 in
-    let y = all_back limits choice client number largest window ids birth ns granted x2.ups h2 was x2.sees o2 (x2.answering may.asking) in
+    orderly_on limits ids granted sent was (subst (IsTidy limits) (sym unread) o1.tidy) (record { retained = ap (λ (b : Broker). b.records.retained) unread; subscribes = ap (λ (b : Broker). b.records.subscribes) unread }) o1 in
+    let first = reached number largest window ids birth ns h r w.broker x0.at in
+    let read : h2.copies ≡ h1.copies = ends_copies largest (length h1.down) h1 in
+    let passed : (n : ℕ) → EndsOrDrops largest (now ∷ []) (slice_get copies n) (slice_get h2.copies n) =
+    λ n. subst (λ (ls : List Lot). EndsOrDrops largest (now ∷ []) (slice_get copies n) (slice_get ls n)) (sym read) (pump_passes largest window now n h first) in
+    let y = all_back limits choice client number largest window ids birth ns granted now copies x2.ups h2 was x2.sees o2 (x2.answering may.asking) passed in
     let last : ups_by (receiver_named client was) ≡ length x2.ups = ap ups_by x2.sees.named ∙ ap length x2.sees.up in
-    let z : DrainsWith largest window ids birth ns client (suc granted) (run limits (all_to_broker choice client was) was) =
-    subst (λ (j : ℕ). DrainsWith largest window ids birth ns client (suc granted) (run limits (times j (turn_of choice (ask (to_broker client)))) was)) (sym last) y in
+    let z : DrainsBehind largest window ids birth ns client (suc granted) (length (queue_of h2.copies)) now copies (run limits (all_to_broker choice client was) was) =
+    subst (λ (j : ℕ). DrainsBehind largest window ids birth ns client (suc granted) (length (queue_of h2.copies)) now copies (run limits (times j (turn_of choice (ask (to_broker client)))) was)) (sym last) y in
     let split : after_round limits choice client w ≡ run limits (all_to_broker choice client was) was = run_append limits ends (all_to_broker choice client was) sent in
-    subst (DrainsWith largest window ids birth ns client (suc granted)) (sym split) z
+    let stood = holds limits choice client number largest window ids birth ns ups h w x0 in
+    let read_many : length (queue_of h2.copies) ≡ length (queue_of h1.copies) = ap (λ (ls : List Lot). length (queue_of ls)) read in
+    let fewer = pump_fewer largest window now h first in
+    let d = z.drains in
+    let less = d.few in
+    let left = stood.left in
+    let many = stood.many in
+    let few : copies_left client (run limits (all_to_broker choice client was) was) ≤ copies_left client w + length d.more = omega (arith, read_many, fewer, less, left, many) in
+    subst (DrainsBehind largest window ids birth ns client (suc granted) (copies_left client w) now copies) (sym split)
+    (record {
+      drains = record { more = d.more; new = d.new; differ = d.differ; receiver = d.receiver; may = d.may; few = few };
+      numbering = z.numbering;
+      after = z.after;
+      same = z.same;
+      run_is = z.run_is;
+      ends = z.ends;
+    })
+
+pub first_round : (largest window : ℕ) (ids : List CopyId) (birth : ℕ) (ns : List ℕ) (limits : Limits) (choice : MemberChoice) (client : List ℕ) (r : Receiver) (w : World) → MayAsk limits largest window ids birth ns client r w
+    → DrainsWith largest window ids birth ns client (suc w.broker.records.subscribes) (copies_left client w) (after_round limits choice client w)
+first_round largest window ids birth ns limits choice client r w may =
+    let k = may.connected.in_step.runs (place_of ids) (places_number ids may.told.differ) in
+    (first_round_of (place_of ids) largest window ids birth ns limits choice client k.after r w may k.same k.run_is).drains
 
 -- ---- the laws
 
@@ -468,20 +638,23 @@ module _ (number : Numbering) (largest window : ℕ) (ids : List CopyId) (birth 
       left_is limits choice client number largest window ids birth ns (rounds.drained largest window moments from) (drained limits choice client most w) (drains_on limits choice client number largest window ids birth ns most from w begun)
       ∙ ap length last.1
 
-  pub drain_is : (most : ℕ) → 1 ≤ window → IsDrained number largest window ids birth ns client copies (drained limits choice client most w)
+  pub drain_is : (most : ℕ) → 1 ≤ window → IsDrained number largest window ids birth ns client (moment_of w) copies (drained limits choice client most w)
   drain_is most room =
       let moments = moments_of limits choice client most w in
       let x = drains_on limits choice client number largest window ids birth ns most from w begun in
       let before : from.copies ≡ copies = sym (ap (λ (v : Hop). v.copies) k.seen_is) in
-      let after : (rounds.drained largest window moments from).copies ≡ x.copies = sym (ap (λ (v : Hop). v.copies) x.seen_is) in
+      let last = rounds.drained largest window moments from in
+      let rounds_made = rounds.rounds_taken largest window moments from in
+      let after : last.copies ≡ x.copies = sym (ap (λ (v : Hop). v.copies) x.seen_is) in
       record {
         receiver = x.receiver;
         may = x.may;
         after = x.copies;
         same = x.same;
         run_is = x.run_is;
-        ends = λ n. subst (λ (ls : List Lot). EndsBy (slice_get copies n) (slice_get ls n)) after
-            (subst (λ (ls : List Lot). EndsBy (slice_get ls n) (slice_get (rounds.drained largest window moments from).copies n)) before (causes_of_run largest window moments k.events n room));
+        ends = λ n. subst (λ (ls : List Lot). EndsBy largest (moment_of w ∷ []) (slice_get copies n) (slice_get ls n)) after
+            (subst (λ (ls : List Lot). EndsBy largest (moment_of w ∷ []) (slice_get ls n) (slice_get last.copies n)) before
+            (ends_by_more largest (take rounds_made moments) (moment_of w ∷ []) (slice_get from.copies n) (slice_get last.copies n) (λ f h. one_moment limits choice client most rounds_made w f h) (causes_of_run largest window moments k.events n room)));
       }
 
 -- however the copies are numbered
@@ -529,3 +702,44 @@ module _ (largest window : ℕ) (ids : List CopyId) (birth : ℕ) (ns : List ℕ
           rw o (subst (λ (u : World). is_over client u ≡ true) (sym (run_append limits (round_turns limits choice client w) (drain_turns limits choice client more v) w))
           (ap (λ (j : ℕ). is_none_left j || not (line_stands (receiver_named client (drained limits choice client more v)) (drained limits choice client more v))) none)))
           (test_cases (is_over client w))
+
+-- one round more, where it is not over
+pub more_rounds : (limits : Limits) (choice : MemberChoice) (client : List ℕ) (most : ℕ) (w : World) → is_over client w ≡ false → drained limits choice client (suc most) w ≡ drained limits choice client most (after_round limits choice client w)
+more_rounds limits choice client most w o =
+    let v = after_round limits choice client w in
+    rw o (run_append limits (round_turns limits choice client w) (drain_turns limits choice client most v) w)
+
+-- so many copies stand as of those that it sees
+pub left_of : (number : Numbering) (largest window : ℕ) (ids : List CopyId) (birth : ℕ) (ns : List ℕ) (limits : Limits) (choice : MemberChoice) (client : List ℕ) (copies : List Lot) (r : Receiver) (w : World)
+    → MayDrain largest window ids birth ns client r w → map id_of copies ≡ ids → IsRun number largest copies r w.broker → copies_left client w ≡ length (queue_of copies)
+left_of number largest window ids birth ns limits choice client copies r w may same run_is =
+    left_is limits choice client number largest window ids birth ns (seen number copies r w.broker) w (record { receiver = r; may = may; copies = copies; same = same; run_is = run_is; seen_is = refl })
+
+-- ---- the whole drain, where a SUBSCRIBE is under way
+
+pub subscribe_is_drained : (number : Numbering) (largest window : ℕ) (ids : List CopyId) (birth : ℕ) (ns : List ℕ) (limits : Limits) (choice : MemberChoice) (client : List ℕ) (copies : List Lot) (most : ℕ) (r : Receiver) (w : World)
+    → 1 ≤ window → MayAsk limits largest window ids birth ns client r w → map id_of copies ≡ ids → IsRun number largest copies r w.broker → is_over client w ≡ false
+    → DrainsBehind largest window ids birth ns client (suc w.broker.records.subscribes) (copies_left client w) (moment_of w) copies (drained limits choice client (suc most) w)
+subscribe_is_drained number largest window ids birth ns limits choice client copies most r w room may same run_is o =
+    let granted = suc w.broker.records.subscribes in
+    let v = after_round limits choice client w in
+    let z = drained limits choice client most v in
+    let first = first_round_of number largest window ids birth ns limits choice client copies r w may same run_is in
+    let d = first.drains in
+    let ids2 = ids ++ d.more in
+    let y = drain_is first.numbering largest window ids2 birth ns limits choice client first.after d.receiver v d.may first.same first.run_is most room in
+    let now : moment_of v ≡ moment_of w = round_moment limits choice client w in
+    let left = left_of first.numbering largest window ids2 birth ns limits choice client first.after d.receiver v d.may first.same first.run_is in
+    let left_last = left_of first.numbering largest window ids2 birth ns limits choice client y.after y.receiver z y.may y.same y.run_is in
+    let long : length y.after ≡ length first.after = sym (length_map id_of y.after) ∙ (ap length (y.same ∙ sym first.same) ∙ length_map id_of first.after) in
+    let fewer = no_more_rest first.after y.after long (λ n. ended_rests largest (moment_of v ∷ []) (slice_get first.after n) (slice_get y.after n) (y.ends n)) in
+    let less = d.few in
+    subst (DrainsBehind largest window ids birth ns client granted (copies_left client w) (moment_of w) copies) (sym (more_rounds limits choice client most w o)) (record {
+      drains = record { more = d.more; new = d.new; differ = d.differ; receiver = y.receiver; may = y.may; few = omega (arith, left, left_last, fewer, less) };
+      numbering = first.numbering;
+      after = y.after;
+      same = y.same;
+      run_is = y.run_is;
+      ends = λ n. passes_trans largest (moment_of w ∷ []) (slice_get copies n) (slice_get first.after n) (slice_get y.after n) (first.ends n)
+          (subst (λ (k : ℕ). EndsOrDrops largest (k ∷ []) (slice_get first.after n) (slice_get y.after n)) now (drops_none largest (moment_of v ∷ []) (slice_get first.after n) (slice_get y.after n) (y.ends n)));
+    })

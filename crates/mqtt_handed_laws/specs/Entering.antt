@@ -1,10 +1,11 @@
 -- When a copy may enter the queue of a receiver's session, and what it makes of the hop (MQTT 5.0, 3.3.4, 4.6).
-use Rattle.std.specs.Prelude.{◌≡◌, ◌≤◌, ◌++◌, ℕ, ⊤, true, List, [], ◌∷◌, map, Option, Some, None}
+use Rattle.std.specs.Prelude.{◌≡◌, ◌≤◌, ◌++◌, ℕ, ⊤, true, List, [], ◌∷◌, map, Option, Some, None, slice_get}
 use Rattle.std.specs.List.{AllByRecursion}
 use Rattle.mqtt_base.specs.declared.limits.TheConstants.{QUEUE_LIMIT}
 use Rattle.mqtt_base.specs.declared.session.CopyId.{CopyId}
+use Rattle.mqtt_base.specs.declared.session.Ending.TheVariants.{Dropped}
 use Rattle.mqtt_flow.specs.Outbound.{has_room}
-use Rattle.mqtt_flow.specs.OutboundWorld.{Lot, is_granted}
+use Rattle.mqtt_flow.specs.OutboundWorld.{Lot, is_granted, past, standing}
 use Rattle.mqtt_laws.specs.Ends.{Receiver}
 use Rattle.mqtt_laws.specs.Hops.{IsOnly}
 use Rattle.mqtt_message.specs.Queue.{CopyRow}
@@ -41,11 +42,22 @@ pub record MayEnter (env : Env) (copy : MessageCopy) (s : Session) : Type 0 wher
   pub room : has_room (queue_limits env) (since env s) (queue_on [] s) ≡ true
   pub within : env.limits.queue ≤ QUEUE_LIMIT
 
+-- a copy that stood stands, or was dropped to make way; one that has ended has ended for the same cause
+abbrev pub MakesWay : Option Lot → Option Lot → Type 0
+MakesWay None later = ⊤
+MakesWay (Some (standing e m)) None = ⊥
+MakesWay (Some (standing e m)) (Some (standing f k)) = f.copy ≡ e.copy
+MakesWay (Some (standing e m)) (Some (past ending f k)) = ending ≡ Dropped
+MakesWay (Some (past ending e m)) None = ⊥
+MakesWay (Some (past ending e m)) (Some (standing f k)) = ⊥
+MakesWay (Some (past ending e m)) (Some (past other f k)) = other ≡ ending
+
 -- what it sees after the deeds is a run of its hop again, with this copy behind the others; and so its session goes on
 pub record RunsWith (number : Numbering) (largest : ℕ) (copies : List Lot) (id : CopyId) (r : Receiver) (b : Broker)
     : Type 0 where
   pub after : List Lot
   pub same : map id_of after ≡ map id_of copies ++ id ∷ []
+  pub way : (n : ℕ) → MakesWay (slice_get copies n) (slice_get after n)
   pub run_is : IsRun number largest after r b
   pub session : Session
   pub receiving : IsReceiving r session b

@@ -10,5 +10,6 @@ pub mod Own
 pub mod Drains
 pub mod Rounds
 pub mod WorldRounds
+pub mod Connecting
 pub mod Apart
 pub mod Late

@@ -1,12 +1,14 @@
 -- A drain as a receiver's hop sees it: how far its copies have to go, what is under way for each, and rounds until none is
 -- left or the session is no longer connected on the receiver's line (MQTT 5.0, 4.3, 4.4).
 use Rattle.std.specs.Prelude.{◌≡◌, ◌<◌, ◌⊎◌, ℕ, suc, ◌+◌, Bool, true, false, cond, not, ◌&&◌, ◌||◌, List, [], ◌∷◌, ◌++◌}
-use Rattle.std.specs.Prelude.{length, nat_eq}
+use Rattle.std.specs.Prelude.{length, nat_eq, nat_lt}
 use Rattle.std.specs.Prelude.{⊤, Option, Some, None}
 use Rattle.mqtt_base.specs.declared.session.Ending.{Ending}
 use Rattle.mqtt_base.specs.declared.session.Ending.TheVariants.{Taken, Refused, Expired, TooLarge, SessionEnded, Dropped}
 use Rattle.mqtt_base.specs.declared.session.Phase.{Phase}
 use Rattle.mqtt_base.specs.declared.session.Phase.TheVariants.{Waiting, Sent, Released, Oversize}
+use Rattle.mqtt_flow.specs.Outbound.{is_late}
+use Rattle.mqtt_flow.specs.declared.entry.QueuedCopy.{QueuedCopy}
 use Rattle.mqtt_flow.specs.OutboundWorld.{Lot, standing, past, queue_of, World, Event, pump, to_broker, to_end, step, run}
 use Rattle.mqtt_flow.specs.Receiver.{Answer, connect, puback, pubrec, pubcomp}
 use Rattle.mqtt_flow.specs.Receiver.{Output, connack, no_connack, publish, pubrel, disconnect}
@@ -100,20 +102,24 @@ rounds_taken largest window [] w = 0
 rounds_taken largest window (now ∷ moments) w =
     cond (is_over w) 0 (suc (rounds_taken largest window moments (after_round largest window now w)))
 
--- ---- by which causes copies end in a drain: they are taken, have expired, or are too large for the receiver
+-- ---- by which causes copies end in a drain, of rounds at these moments: one is taken; it expires only where its Message
+-- Expiry Interval had passed at one of them (3.3.2.3.3); it is too large only where its PUBLISH is larger than the receiver's
+-- Maximum Packet Size (3.1.2.11.4)
 
-abbrev pub IsDrainCause : Ending → Type 0
-IsDrainCause Taken = ⊤
-IsDrainCause Refused = ⊥
-IsDrainCause Expired = ⊤
-IsDrainCause TooLarge = ⊤
-IsDrainCause SessionEnded = ⊥
-IsDrainCause Dropped = ⊥
+abbrev pub IsDrainCause : ℕ → List ℕ → QueuedCopy → Ending → Type 0
+IsDrainCause largest moments copy Taken = ⊤
+IsDrainCause largest moments copy Refused = ⊥
+IsDrainCause largest moments copy Expired = Has (λ (now : ℕ). is_late now copy) moments
+IsDrainCause largest moments copy TooLarge = nat_lt largest copy.size ≡ true
+IsDrainCause largest moments copy SessionEnded = ⊥
+IsDrainCause largest moments copy Dropped = ⊥
 
--- a copy that stood and has ended
-abbrev pub EndsBy : Option Lot → Option Lot → Type 0
-EndsBy None later = ⊤
-EndsBy (Some (past ending e m)) later = ⊤
-EndsBy (Some (standing e m)) None = ⊤
-EndsBy (Some (standing e m)) (Some (standing f k)) = ⊤
-EndsBy (Some (standing e m)) (Some (past ending f k)) = IsDrainCause ending
+-- a copy that stood stands still, or has ended by such a cause; one that had ended has ended for the same one
+abbrev pub EndsBy : ℕ → List ℕ → Option Lot → Option Lot → Type 0
+EndsBy largest moments None later = ⊤
+EndsBy largest moments (Some (standing e m)) None = ⊥
+EndsBy largest moments (Some (standing e m)) (Some (standing f k)) = f.copy ≡ e.copy
+EndsBy largest moments (Some (standing e m)) (Some (past ending f k)) = IsDrainCause largest moments e.copy ending
+EndsBy largest moments (Some (past ending e m)) None = ⊥
+EndsBy largest moments (Some (past ending e m)) (Some (standing f k)) = ⊥
+EndsBy largest moments (Some (past ending e m)) (Some (past other f k)) = other ≡ ending

@@ -1,10 +1,11 @@
 -- A drain of the world as the hop of its receiver sees it: from where receiver and broker are in step and its line is
 -- connected (MQTT 5.0, 4.3, 4.4, 4.6).
-use Rattle.std.specs.Prelude.{◌≡◌, ◌≤◌, ◌++◌, ℕ, ⊤, zero, suc, false, List, [], ◌∷◌, map, None, Some, slice_get}
+use Rattle.std.specs.Prelude.{◌≡◌, ◌≤◌, ◌+◌, ◌++◌, ℕ, ⊤, ◌⊎◌, zero, suc, false, List, [], ◌∷◌, map, Option, None, Some, length, slice_get}
 use Rattle.std.specs.List.{AllByRecursion}
 use Rattle.mqtt_base.specs.declared.session.Cause.TheVariants.{Retained}
 use Rattle.mqtt_base.specs.declared.session.CopyId.{CopyId}
-use Rattle.mqtt_flow.specs.OutboundWorld.{Lot, World as Hop}
+use Rattle.mqtt_base.specs.declared.session.Ending.TheVariants.{Dropped}
+use Rattle.mqtt_flow.specs.OutboundWorld.{Lot, World as Hop, past, standing}
 use Rattle.mqtt_laws.specs.Ends.{Back, Receiver, answers, asks_for}
 use Rattle.mqtt_laws.specs.Lines.{is_one_of}
 use Rattle.mqtt_laws.specs.World.{World, publisher_named, receiver_named}
@@ -16,10 +17,10 @@ use Rattle.mqtt_rules.specs.Lines.{HasUniqueLines}
 use Rattle.mqtt_rules.specs.State.{Line as BrokerLine, Broker, MemberChoice, line_at}
 use Rattle.mqtt_rules.specs.Step.{at_moment}
 use Rattle.mqtt_rules.specs.declared.Limits.{Limits}
-use Rattle.mqtt_handed_laws.specs.Drains.{after_round}
+use Rattle.mqtt_handed_laws.specs.Drains.{after_round, copies_left}
 use Rattle.mqtt_handed_laws.specs.Handing.{IsRun}
 use Rattle.mqtt_handed_laws.specs.Own.{IsBroughtCopy, IsInStep}
-use Rattle.mqtt_handed_laws.specs.Rounds.{EndsBy}
+use Rattle.mqtt_handed_laws.specs.Rounds.{EndsBy, IsDrainCause}
 use Rattle.mqtt_handed_laws.specs.Seen.{Numbering, seen}
 use Rattle.mqtt_handed_laws.specs.Served.{IsTidy}
 use Rattle.mqtt_handed_laws.specs.Tags.{id_of}
@@ -84,14 +85,36 @@ pub record MayAsk (limits : Limits) (largest window : ℕ) (ids : List CopyId) (
   pub told : AreTold ids w.broker
   pub asking : AsksOnce r.line.up
 
--- it may be drained, with the copies that a filter brought behind those that entered before, or with none more
-pub record DrainsWith (largest window : ℕ) (ids : List CopyId) (birth : ℕ) (ns : List ℕ) (client : List ℕ) (number : ℕ)
+-- it may be drained, with the copies that a filter brought behind those that entered before, or with none more; no more stand
+-- than so many, and those that it brought
+pub record DrainsWith (largest window : ℕ) (ids : List CopyId) (birth : ℕ) (ns : List ℕ) (client : List ℕ) (number stood : ℕ)
     (w : World) : Type 0 where
   pub more : List CopyId
   pub new : AllByRecursion (IsBroughtCopy birth number) more
   pub differ : AllDiffer (ids ++ more)
   pub receiver : Receiver
   pub may : MayDrain largest window (ids ++ more) birth ns client receiver w
+  pub few : copies_left client w ≤ stood + length more
+
+-- where a filter is granted meanwhile, one that stood may also have been dropped, to make way in a full queue
+abbrev pub EndsOrDrops : ℕ → List ℕ → Option Lot → Option Lot → Type 0
+EndsOrDrops largest moments None later = ⊤
+EndsOrDrops largest moments (Some (standing e m)) None = ⊥
+EndsOrDrops largest moments (Some (standing e m)) (Some (standing f k)) = f.copy ≡ e.copy
+EndsOrDrops largest moments (Some (standing e m)) (Some (past ending f k)) = (ending ≡ Dropped) ⊎ IsDrainCause largest moments e.copy ending
+EndsOrDrops largest moments (Some (past ending e m)) None = ⊥
+EndsOrDrops largest moments (Some (past ending e m)) (Some (standing f k)) = ⊥
+EndsOrDrops largest moments (Some (past ending e m)) (Some (past other f k)) = other ≡ ending
+
+-- the same, with what became of the copies that stood at the start
+pub record DrainsBehind (largest window : ℕ) (ids : List CopyId) (birth : ℕ) (ns : List ℕ) (client : List ℕ)
+    (number stood moment : ℕ) (copies : List Lot) (w : World) : Type 0 where
+  pub drains : DrainsWith largest window ids birth ns client number stood w
+  pub numbering : Numbering
+  pub after : List Lot
+  pub same : map id_of after ≡ ids ++ drains.more
+  pub run_is : IsRun numbering largest after drains.receiver w.broker
+  pub ends : (n : ℕ) → EndsOrDrops largest (moment ∷ []) (slice_get copies n) (slice_get after n)
 
 -- ---- what becomes of it
 
@@ -115,12 +138,13 @@ moments_of limits choice client zero w = []
 moments_of limits choice client (suc more) w =
     moment_of w ∷ moments_of limits choice client more (after_round limits choice client w)
 
--- it may be drained still; its copies are the same, and each that ended meanwhile was taken, has expired or is too large
+-- it may be drained still; its copies are the same, and each that ended meanwhile was taken, had expired at this moment
+-- already, or is too large
 pub record IsDrained (number : Numbering) (largest window : ℕ) (ids : List CopyId) (birth : ℕ) (ns : List ℕ)
-    (client : List ℕ) (copies : List Lot) (w : World) : Type 0 where
+    (client : List ℕ) (moment : ℕ) (copies : List Lot) (w : World) : Type 0 where
   pub receiver : Receiver
   pub may : MayDrain largest window ids birth ns client receiver w
   pub after : List Lot
   pub same : map id_of after ≡ ids
   pub run_is : IsRun number largest after receiver w.broker
-  pub ends : (n : ℕ) → EndsBy (slice_get copies n) (slice_get after n)
+  pub ends : (n : ℕ) → EndsBy largest (moment ∷ []) (slice_get copies n) (slice_get after n)

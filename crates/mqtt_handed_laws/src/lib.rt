@@ -5,6 +5,7 @@
 mod apart_laws;
 mod call_laws;
 mod connect_laws;
+mod connect_round_laws;
 mod copy_laws;
 mod doing_laws;
 mod drain_laws;
@@ -25,6 +26,7 @@ pub use call_laws::{
     sending_is_a_step_of_the_hop,
 };
 pub use connect_laws::a_connect_on_the_line_given_up_is_a_step_of_the_hop;
+pub use connect_round_laws::a_drain_with_a_connect_ends;
 pub use copy_laws::{
     a_copy_that_enters_is_a_step_of_the_hop, copies_that_expire_are_steps_of_the_hop,
 };

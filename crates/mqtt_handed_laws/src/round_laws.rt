@@ -1,5 +1,5 @@
 //! Laws of the rounds of a drain, as a receiver's hop sees them (4.3, 4.4).
-ghost use Rattle.std.specs.Prelude.{◌*◌, ◌≡◌, ◌≤◌, [], ℕ, List, false, length, slice_get, true};
+ghost use Rattle.std.specs.Prelude.{◌*◌, ◌≡◌, ◌≤◌, [], ℕ, List, false, length, slice_get, take, true};
 ghost use Rattle.mqtt_flow.specs.OutboundWorld.{Event, queue_of, run, start};
 ghost use Rattle.mqtt_handed_laws.specs.Rounds.{EndsBy, IsFurther, IsUnderWay, after_round, drained, is_over, rounds_taken};
 
@@ -22,7 +22,7 @@ pub fn a_round_takes_a_copy_further()
 
 /// So a drain of a hop takes at most two rounds for each copy that stands in the queue, each at a moment of its own; and
 /// where the session is connected on the receiver's line, the queue is empty after so many, and it is connected still.
-/// Each copy that ends in it was taken, has expired, or is too large for the receiver.
+/// Each copy that ends in it was taken, had expired at the moment of one of its rounds, or is too large for the receiver.
 pub fn a_drain_of_a_hop_ends()
     ensures is_within { (largest window : ℕ) (moments : List ℕ) (events : List Event) →
         1 ≤ window →
@@ -38,6 +38,7 @@ pub fn a_drain_of_a_hop_ends()
         (drained largest window moments (run largest events start)).linked ≡ true }
     ensures causes { (largest window : ℕ) (moments : List ℕ) (events : List Event) (n : ℕ) →
         1 ≤ window →
-        EndsBy (slice_get (run largest events start).copies n)
+        EndsBy largest (take (rounds_taken largest window moments (run largest events start)) moments)
+        (slice_get (run largest events start).copies n)
         (slice_get (drained largest window moments (run largest events start)).copies n) }
 {}

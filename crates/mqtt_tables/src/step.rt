@@ -190,6 +190,13 @@ impl Step {
         self.tables.records().publications
     }
 
+    /// The number of the last session that began. Takes no memory.
+    pub fn births(&self) -> u64
+        ensures { result ≡ self.now.broker.records.births }
+    {
+        self.tables.records().births
+    }
+
     /// The number in the last client identifier that was assigned. Takes no memory.
     pub fn autos(&self) -> u64
         ensures { result ≡ self.now.broker.records.autos }

@@ -7,3 +7,8 @@ pub mod Steps
 pub mod Alike
 pub mod Cutting
 pub mod Waiting
+pub mod TakenPackets
+pub mod TakenLines
+pub mod TakenPublishers
+pub mod TakenReceivers
+pub mod TakenEnds

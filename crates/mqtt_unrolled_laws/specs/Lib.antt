@@ -1,2 +1,3 @@
 -- Events of several steps, as events of one step each.
 pub mod Unrolled
+pub mod Taken

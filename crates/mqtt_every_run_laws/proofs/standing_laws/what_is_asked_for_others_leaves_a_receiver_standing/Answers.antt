@@ -5,8 +5,8 @@ use Rattle.mqtt_every_run_laws.proofs.standing_laws.what_is_asked_for_others_lea
 
 pub returns : goal.returns
 returns c = record {
-  reads = λ client name largest set w s other u. other_reads client name largest set w s (λ there. other) u;
-  reads_old = λ client name largest set w s other u. other_reads_old client name largest set w s (λ there. other) u;
-  sends = λ client name largest set w s other u. other_pumped client name largest set w s (λ there. other) u;
+  reads = λ first client name largest set w s other u. other_reads first client name largest set w s (λ there. other) u;
+  reads_old = λ first client name largest set w s other u. other_reads_old first client name largest set w s (λ there. other) u;
+  sends = λ first client name largest set w s other u. other_pumped first client name largest set w s (λ there. other) u;
   comes = stranger_stands;
 }

@@ -1,0 +1,45 @@
+//! What may be looked at between the calls of a broker: its numbers, its sessions' queues and its lines (MQTT 5.0, 4.1, 4.6).
+ghost use Rattle.std.specs.Prelude.{◌≡◌, is_some, length, option_map};
+ghost use Rattle.mqtt_opening.specs.TheRules.State.{line_at, session_named};
+
+use crate::engine::Engine;
+use mqtt_records::Keep;
+
+impl<K: Keep> Engine<K> {
+    /// Whether a line is linked. Takes no memory.
+    pub fn is_linked(&self, line: u64) -> bool
+        ensures { result ≡ is_some (line_at line self.now.running.broker) }
+    {
+        self.inner.is_linked(line)
+    }
+
+    /// How many copies wait for the session of a client identifier, or are in flight to it; None where no session has
+    /// it. Takes no memory.
+    pub fn queue_len(&self, client: &str) -> Option<usize>
+        ensures { result ≡ option_map (λ s. length s.queue)
+            (session_named client.now self.now.running.broker.records) }
+    {
+        self.inner.queue_len(client)
+    }
+
+    /// How many sessions stand. Takes no memory.
+    pub fn sessions_len(&self) -> usize
+        ensures { result ≡ length self.now.running.broker.records.sessions }
+    {
+        self.inner.sessions_len()
+    }
+
+    /// The number of the last session that began: from 1, in the order in which they did. Takes no memory.
+    pub fn births(&self) -> u64
+        ensures { result ≡ self.now.running.broker.records.births }
+    {
+        self.inner.births()
+    }
+
+    /// The number of the last publication that was accepted: from 1, in the order in which they were. Takes no memory.
+    pub fn publications(&self) -> u64
+        ensures { result ≡ self.now.running.broker.records.publications }
+    {
+        self.inner.publications()
+    }
+}

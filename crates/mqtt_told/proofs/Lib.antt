@@ -1,0 +1,2 @@
+-- Lines of events, by computing.
+pub mod Examples
