@@ -1,7 +1,7 @@
 //! A publisher and a receiver from their CONNECT to the end of a handshake (MQTT 5.0, 3.1, 4.3.3).
 
 use bytes::Bytes;
-use mqtt_base::{Qos, Reason, Text};
+use mqtt_base::{Cause, CopyId, Qos, Reason, Text};
 use mqtt_codec::{Ack, Connack, Delivery, Packet, Publish};
 use mqtt_props::PropList;
 use mqtt_script::{Content, Draft};
@@ -75,6 +75,18 @@ fn receiver_reads(end: &mut ReceiverEnd, packet: Packet) -> Result<(), AllocErro
     end.read(true)
 }
 
+/// It reads a copy of the seventh publication.
+fn reads_copy(alloc: Global, end: &mut ReceiverEnd) -> Result<(), AllocError> {
+    let packet = publish(alloc)?;
+    let copy = Some(CopyId {
+        publication: 7,
+        birth: 1,
+        cause: Cause::Direct,
+    });
+    end.line.push_down(Down { packet, copy })?;
+    end.read(true)
+}
+
 /// Whether the publisher has a packet under way is as is said.
 fn publisher_sends(rt: &impl Abort, end: &mut PublisherEnd, wanted: bool) {
     let sent = end.line.take_up();
@@ -116,10 +128,17 @@ fn take(rt: &impl Abort, alloc: Global, end: &mut ReceiverEnd) -> Result<(), All
     end.line.join(Back::connect(true), 2, true)?;
     receiver_reads(end, connack())?;
     receiver_sends(rt, end, true);
-    receiver_reads(end, publish(alloc)?)?;
-    receiver_reads(end, publish(alloc)?)?;
+    reads_copy(alloc, end)?;
+    reads_copy(alloc, end)?;
     receiver_sends(rt, end, true);
     receiver_sends(rt, end, true);
+    Ok(())
+}
+
+/// It was handed over once.
+fn was_handed(rt: &impl Abort, alloc: Global, end: &ReceiverEnd) -> Result<(), AllocError> {
+    let handed = end.handed(alloc)?;
+    assert_eq!(rt; handed.as_slice(), [7].as_slice(), "the seventh, once");
     Ok(())
 }
 
@@ -148,6 +167,7 @@ fn publisher_lives(
 /// And a receiver.
 fn receiver_lives(rt: &impl Abort, alloc: Global, end: &mut ReceiverEnd) -> Result<(), AllocError> {
     take(rt, alloc, end)?;
+    was_handed(rt, alloc, end)?;
     release(rt, end)
 }
 
