@@ -1,8 +1,9 @@
-//! All that is asked of the broker over stores in memory, and over stores whose device fails (MQTT 5.0, 2.1, 3, 4).
+//! All that is asked of the broker over stores in memory, in SQL, and over stores whose device fails (MQTT 5.0, 2.1, 3, 4).
 
 use crate::costly::judge_costly;
 use crate::judging::{How, judge_all};
 use crate::scripts::{clients, closing, filters, publishing, receiving, refusing, turning};
+use crate::sql::judge_spent;
 use crate::sweeps::judge_sweeps;
 use crate::telling::Telling;
 use std::alloc::{AllocError, Global};
@@ -20,6 +21,10 @@ pub enum What {
     Failures,
     /// Whether a store that can't be read is given back as it was.
     Unread,
+    /// Whether scripts tell what they say over a store in SQL, and leave the rows that they leave in memory.
+    InSql,
+    /// Whether nothing changes in a store in SQL, where no publication can be numbered any more.
+    Spent,
     /// Whether what memory was wanting for is done when it is asked again, and leaves the same rows: to be run with each
     /// growth refused in turn.
     Wanting,
@@ -70,6 +75,11 @@ fn judge_what(
         What::Refusals => judge_all(wrong, alloc, hasher, refusing(), How::WithRefusals),
         What::Failures => judge_subjects(wrong, alloc, hasher, How::WithFailures),
         What::Unread => judge_subjects(wrong, alloc, hasher, How::Unread),
+        What::InSql => {
+            judge_subjects(wrong, alloc, hasher, How::InSql);
+            judge_all(wrong, alloc, hasher, refusing(), How::InSql);
+        }
+        What::Spent => judge_spent(wrong, alloc, hasher),
         What::Wanting => judge_subjects(wrong, alloc, hasher, How::Twice(SHORT)),
         What::Frames => judge_sweeps(wrong, script, alloc, hasher),
         What::Costly => judge_costly(wrong, script, alloc, hasher),

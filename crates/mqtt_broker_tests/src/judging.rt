@@ -1,7 +1,8 @@
 //! Whether scripts are played as they say: over a store in memory, with and without what is refused, over a store whose
-//! device fails, and over one that can't be read.
+//! device fails, over one that can't be read, and over one in SQL.
 
 use crate::run::{Part, Played, play_over};
+use crate::sql::judge_in_sql;
 use crate::telling::Telling;
 use crate::unread::UnreadKeep;
 use mqtt_broker::MemKeep;
@@ -24,6 +25,8 @@ pub enum How {
     /// Over stores that can't be read when they are opened for the first time, the second and so on: each is given back as
     /// it was, and opened again.
     Unread,
+    /// Over a store in SQL: each leaves the rows that it leaves in a store in memory.
+    InSql,
 }
 
 /// Plays a script over a store in memory that has nothing yet.
@@ -293,6 +296,7 @@ fn judge_one(
             judge_failures(wrong, alloc, hasher, script)
         }
         How::Unread => judge_each_unread(wrong, alloc, hasher, script),
+        How::InSql => judge_in_sql(wrong, alloc, hasher, script),
         How::Twice(_) | How::WithFailures => Ok(()),
     }
 }

@@ -1,5 +1,5 @@
 //! Tests of the broker over its public calls, as scripts: what it tells, what it refuses, streams that are cut, changed or made
-//! to cost much, want of memory, a store that fails or can't be read (MQTT 5.0, 2.1, 3, 4).
+//! to cost much, want of memory, a store that fails or can't be read, a store in SQL (MQTT 5.0, 2.1, 3, 4).
 #![tactic(auto)]
 
 #[cfg(test)]
@@ -26,6 +26,8 @@ mod reading;
 mod run;
 #[cfg(test)]
 mod scripts;
+#[cfg(test)]
+mod sql;
 #[cfg(test)]
 mod streams;
 #[cfg(test)]

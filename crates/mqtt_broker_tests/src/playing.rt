@@ -29,6 +29,18 @@ fn a_store_that_cannot_be_read_is_given_back_as_it_was(rt: HostRuntime) -> Resul
 }
 
 #[test]
+fn scripts_leave_the_same_rows_in_a_store_in_sql(rt: HostRuntime) -> Result<(), Fail> {
+    let hasher = RandomState::new(&rt)?;
+    check(rt.alloc(), hasher, What::InSql)
+}
+
+#[test]
+fn nothing_changes_once_the_numbers_of_publications_are_spent(rt: HostRuntime) -> Result<(), Fail> {
+    let hasher = RandomState::new(&rt)?;
+    check(rt.alloc(), hasher, What::Spent)
+}
+
+#[test]
 fn what_memory_was_wanting_for_is_done_when_it_is_asked_again(rt: HostRuntime) -> Result<(), Fail> {
     let hasher = RandomState::new(&rt)?;
     check(rt.alloc(), hasher, What::Wanting)
