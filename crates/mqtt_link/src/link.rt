@@ -16,7 +16,7 @@ pub enum Got<T> {
 }
 
 /// A listener and its connections, none of whose calls waits. A link that tells its calls and bytes has `accepts`,
-/// `reads`, `was_read` and `written`; of another they say nothing.
+/// `reads`, `writes`, `was_read` and `written`; of another they say nothing.
 pub trait Link {
     /// A connection.
     type Peer: Drop;
@@ -26,6 +26,9 @@ pub trait Link {
 
     /// How often a connection was read, modulo 2^64, if that is told.
     ghost reads: { Self.Peer → Option ℕ } = { λ _. None };
+
+    /// How often a connection was written to, modulo 2^64, if that is told.
+    ghost writes: { Self.Peer → Option ℕ } = { λ _. None };
 
     /// The bytes that reads from a connection have given, if they are told.
     ghost was_read: { Self.Peer → Option (List ℕ) } = { λ _. None };
@@ -43,11 +46,13 @@ pub trait Link {
         ensures counted { reads peer.new ≡ one_more (reads peer.old) }
         ensures bytes { was_read peer.new ≡ and_then (was_read peer.old) (handed result buffer.new) }
         ensures kept { written peer.new ≡ written peer.old }
+        ensures unwritten { writes peer.new ≡ writes peer.old }
         ensures same { accepts self.new ≡ accepts self.old };
 
     /// Writes a beginning of the bytes.
     fn write(&mut self, peer: &mut Self::Peer, bytes: &[u8]) -> Got<usize>
         ensures bound { GivesAtMost result (length bytes.now) }
+        ensures counted { writes peer.new ≡ one_more (writes peer.old) }
         ensures bytes { written peer.new ≡ and_then (written peer.old) (handed result bytes.now) }
         ensures kept { was_read peer.new ≡ was_read peer.old }
         ensures uncounted { reads peer.new ≡ reads peer.old }

@@ -1,6 +1,7 @@
 //! Sockets of the runtime whose calls never wait (MQTT 5.0, 4.2).
-ghost use Rattle.std.specs.Prelude.{ℕ, List, length};
+ghost use Rattle.std.specs.Prelude.{◌≡◌, ◌≢◌, ◌⊎◌, ℕ, List, length, Ok, IfOk, IfErr};
 ghost use Rattle.std.specs.Io.{ReadsAtMost, WritesAtMost};
+ghost use Rattle.std.specs.IoError.{error_kind};
 ghost use Rattle.mqtt_link.specs.Links.{GivesAtMost};
 
 use crate::link::{Got, Link};
@@ -31,6 +32,12 @@ impl<R: Net> NetLink<R> {
 /// What a call of a socket that didn't wait gave: nothing where it would have waited or was interrupted, the end where
 /// it moved no byte. Takes no memory.
 pub fn got(count: io::Result<usize>) -> Got<usize>
+    ensures end { count ≡ Ok 0 → result ≡ Got.End }
+    ensures gave { IfOk count (λ moved. moved ≢ 0 → result ≡ Got.Given moved) }
+    ensures waits { IfErr count (λ fault. (error_kind fault ≡ ErrorKind.WouldBlock) ⊎ (error_kind fault ≡ ErrorKind.Interrupted)
+        → result ≡ Got.Nothing) }
+    ensures failed { IfErr count (λ fault. error_kind fault ≢ ErrorKind.WouldBlock → error_kind fault ≢ ErrorKind.Interrupted
+        → result ≡ Got.Failure) }
     ensures wrote { (bytes : List ℕ) → WritesAtMost count bytes → GivesAtMost result (length bytes) }
     ensures read { (buffer : List ℕ) → ReadsAtMost count buffer → GivesAtMost result (length buffer) }
 {

@@ -2,14 +2,15 @@
 use mqtt_link::{Got, Link};
 use std::alloc::{AllocError, Global};
 
-/// What it will give, what it has given and taken, how often it was read, and how many bytes a call moves; 0 for a
-/// connection that failed.
+/// What it will give, what it has given and taken, how often it was read and written to, and how many bytes a call moves; 0
+/// for a connection that failed.
 #[derive(Drop)]
 pub struct MemoryPeer {
     incoming: Vec<u8>,
     given: Vec<u8>,
     taken: Vec<u8>,
     reads: u64,
+    writes: u64,
     chunk: usize,
 }
 
@@ -20,6 +21,7 @@ impl MemoryPeer {
             given: Vec::new(alloc),
             taken: Vec::new(alloc),
             reads: 0,
+            writes: 0,
             chunk,
         })
     }
@@ -58,6 +60,8 @@ impl Link for MemoryLink {
 
     ghost reads = { λ peer. Some peer.reads };
 
+    ghost writes = { λ peer. Some peer.writes };
+
     ghost was_read = { λ peer. Some peer.given.items };
 
     ghost written = { λ peer. Some peer.taken.items };
@@ -89,6 +93,7 @@ impl Link for MemoryLink {
     }
 
     fn write(&mut self, peer: &mut MemoryPeer, bytes: &[u8]) -> Got<usize> {
+        peer.writes = peer.writes.wrapping_add(1);
         if peer.chunk == 0 {
             return Got::Failure;
         }

@@ -1,5 +1,5 @@
 -- Bytes that join what is told.
-use Rattle.std.proofs.Common.{◌≡◌, ◌≤◌, ℕ, Bool, true, false, List, ◌++◌, Option, Some, None, refl, sym, ap, inl, inr, take}
+use Rattle.std.proofs.Common.{◌≡◌, ◌≤◌, ℕ, Bool, true, false, List, ◌++◌, Option, Some, None, refl, sym, ap, ap₂, inl, inr, take}
 use Rattle.std.proofs.lemmas.List.{append_assoc}
 use Rattle.mqtt_link.specs.Links.{and_then}
 use Rattle.mqtt_serving.specs.declared.connection.Fate.{Fate}
@@ -12,11 +12,12 @@ and_then_append None a b = refl
 and_then_append (Some bytes) a b = ap Some (sym (append_assoc bytes a b))
 
 -- what waited grew, and nothing else
-pub said_more : (number : ℕ) (reads : Option ℕ) (heard said more : Option (List ℕ)) (fate : Fate) (bytes : List ℕ) → more ≡ and_then said bytes
-    → record { number = number; reads = reads; heard = heard; said = more; fate = fate }
-    ≡ hearing_more bytes (record { number = number; reads = reads; heard = heard; said = said; fate = fate })
-said_more number reads heard said more fate bytes e =
-    ap (λ (s : Option (List ℕ)). let w : Wire = record { number = number; reads = reads; heard = heard; said = s; fate = fate } in w) e
+pub said_more : (number : ℕ) (reads writes : Option ℕ) (heard said more : Option (List ℕ)) (fate : Fate) (rest waits bytes : List ℕ)
+    → rest ≡ waits ++ bytes → more ≡ and_then said bytes
+    → record { number = number; reads = reads; heard = heard; writes = writes; waits = rest; said = more; fate = fate }
+    ≡ hearing_more bytes (record { number = number; reads = reads; heard = heard; writes = writes; waits = waits; said = said; fate = fate })
+said_more number reads writes heard said more fate rest waits bytes is e =
+    ap₂ (λ (w : List ℕ) (s : Option (List ℕ)). let c : Wire = record { number = number; reads = reads; heard = heard; writes = writes; waits = w; said = s; fate = fate } in c) is e
 
 -- all was said to one that stands
 pub hears_all : (fate : Fate) (outputs : List (ℕ × List ℕ)) (old new : Wire) → is_standing fate ≡ true

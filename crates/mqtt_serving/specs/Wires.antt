@@ -1,17 +1,19 @@
 -- A connection as a turn has it, and what happens to it (MQTT 5.0, 4.2).
-use Rattle.std.specs.Prelude.{◌≡◌, ◌⊎◌, ℕ, Bool, true, false, cond, List, [], take, nat_eq, Option, Some}
+use Rattle.std.specs.Prelude.{◌≡◌, ◌⊎◌, ℕ, Bool, true, false, cond, List, [], ◌++◌, take, nat_eq, Option, Some}
 use Rattle.std.specs.List.{flat_map, list_any}
-use Rattle.mqtt_link.specs.Links.{and_then, one_more}
+use Rattle.mqtt_link.specs.Links.{and_then, one_more, one_more_if_any}
 use Rattle.mqtt_serving.specs.declared.connection.Fate.{Fate}
 use Rattle.mqtt_serving.specs.declared.connection.Fate.TheVariants.{Stands, Lost, Closed}
 use Rattle.mqtt_serving.specs.Related.{Related}
 
--- its line; how often it was read and what these reads gave; what was said to it, which is what was written and then what
--- waits; and what becomes of it
+-- its line; how often it was read and what these reads gave; how often it was written to, and what waits to go out; what
+-- was said to it, which is what was written and then what waits; and what becomes of it
 pub record Wire : Type 0 where
   pub number : ℕ
   pub reads : Option ℕ
   pub heard : Option (List ℕ)
+  pub writes : Option ℕ
+  pub waits : List ℕ
   pub said : Option (List ℕ)
   pub fate : Fate
 
@@ -44,12 +46,23 @@ Reads Stands bytes old new = (new ≡ hearing bytes old) ⊎ ((bytes ≡ []) × 
 Reads Lost bytes old new = (bytes ≡ []) × (new ≡ old)
 Reads Closed bytes old new = (bytes ≡ []) × (new ≡ old)
 
--- ---- writing: what was written, and then what waits, stays; one that stands may be lost by it
+-- ---- writing: what was written, and then what waits, stays
 
+-- it is written to once, if anything waits; what it did not take waits
+abbrev pub writing : List ℕ → Wire → Wire
+writing rest w = record w { writes = one_more_if_any w.waits w.writes; waits = rest }
+
+-- one that stands may be lost by it; one that is lost isn't written to
 abbrev pub Writes : Fate → Wire → Wire → Type 0
-Writes Stands old new = (new ≡ old) ⊎ (new ≡ lost old)
+Writes Stands old new = (new ≡ writing new.waits old) ⊎ (new ≡ lost (writing new.waits old))
 Writes Lost old new = new ≡ old
-Writes Closed old new = new ≡ old
+Writes Closed old new = new ≡ writing new.waits old
+
+-- one that the broker closed is written to once more
+abbrev pub WritesLast : Fate → Wire → Wire → Type 0
+WritesLast Stands old new = new ≡ old
+WritesLast Lost old new = new ≡ old
+WritesLast Closed old new = new ≡ writing new.waits old
 
 -- ---- what the broker says to a line
 
@@ -62,7 +75,7 @@ abbrev pub bytes_to : ℕ → List (ℕ × List ℕ) → List ℕ
 bytes_to number outputs = flat_map (bytes_if number) outputs
 
 abbrev pub hearing_more : List ℕ → Wire → Wire
-hearing_more bytes w = record w { said = and_then w.said bytes }
+hearing_more bytes w = record w { waits = w.waits ++ bytes; said = and_then w.said bytes }
 
 -- too much would wait, or memory is wanting: it is lost, and a beginning of the outputs was said
 pub record IsCutOff (outputs : List (ℕ × List ℕ)) (old new : Wire) : Type 0 where

@@ -1,6 +1,6 @@
 //! A connection: its line of the broker, what waits to go out on it, and what becomes of it (MQTT 5.0, 4.2).
-ghost use Rattle.std.specs.Prelude.{◌≡◌, ◌≤◌, ◌++◌, ℕ, length, take, IsTrue, IsFalse};
-ghost use Rattle.mqtt_serving.specs.Wires.{Reads, Hears, Writes, bytes_to, closing, is_standing, is_lost, is_closed};
+ghost use Rattle.std.specs.Prelude.{◌≡◌, ◌≤◌, ◌++◌, [], ℕ, length, take, IsTrue, IsFalse};
+ghost use Rattle.mqtt_serving.specs.Wires.{Reads, Hears, Writes, WritesLast, bytes_to, closing, is_standing, is_lost, is_closed};
 
 use bytes::Bytes;
 use mqtt_link::{Got, Link, Waiting};
@@ -38,6 +38,8 @@ impl<L: Link> Model for Connection<L> {
       number = c.number;
       reads = L.reads c.peer;
       heard = L.was_read c.peer;
+      writes = L.writes c.peer;
+      waits = c.waiting;
       said = and_then (L.written c.peer) c.waiting;
       fate = c.fate;
     } };
@@ -63,6 +65,9 @@ impl<L: Link> Connection<L> {
     pub fn new(alloc: Global, number: u64, peer: L::Peer) -> Connection<L>
         ensures number { result.number ≡ number }
         ensures fate { result.fate ≡ Fate.Stands }
+        ensures silent { result.waits ≡ [] }
+        ensures read { (result.reads ≡ L.reads peer) × (result.heard ≡ L.was_read peer) }
+        ensures unwritten { (result.writes ≡ L.writes peer) × (result.said ≡ L.written peer) }
     {
         Connection {
             number,
@@ -136,7 +141,7 @@ impl<L: Link> Connection<L> {
 
     /// Writes once more what waits, where the broker has closed its line.
     pub fn write_last(&mut self, link: &mut L)
-        ensures kept { self.new ≡ self.old }
+        ensures writes { WritesLast self.old.fate self.old self.new }
         ensures same { L.accepts link.new ≡ L.accepts link.old }
     {
         if self.is_closed() {

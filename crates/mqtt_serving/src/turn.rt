@@ -1,7 +1,8 @@
 //! A turn of the server (MQTT 5.0, 4.2).
 ghost use Rattle.std.specs.Prelude.{◌≡◌, ◌≢◌, [], length, filter, not, OnOk, IfErr};
 ghost use Rattle.mqtt_link.specs.Links.{one_more};
-ghost use Rattle.mqtt_serving.specs.Wires.{is_closed};
+ghost use Rattle.mqtt_serving.specs.Related.{Related};
+ghost use Rattle.mqtt_serving.specs.Wires.{WritesLast, is_closed};
 ghost use Rattle.mqtt_serving.specs.Turns.{server, ServesBelow, Ticks, Turn};
 
 use crate::accepting::accept;
@@ -109,7 +110,7 @@ fn tick_all<L: Link, K: Keep>(
 
 /// What waits on connections that the broker closed is written once more.
 fn write_closed<L: Link>(link: &mut L, lines: &mut Vec<Connection<L>>)
-    ensures kept { lines.new.items ≡ lines.old.items }
+    ensures writes { Related (λ x y. WritesLast x.fate x y) lines.old.items lines.new.items }
     ensures same { L.accepts link.new ≡ L.accepts link.old }
 {
     for line in lines.iter_mut() {

@@ -1,5 +1,4 @@
-use Rattle.std.proofs.Common.{ap, ◌∙◌, filter, not}
-use Rattle.mqtt_serving.specs.Wires.{Wire, is_closed}
+use Rattle.std.proofs.Common.{ap}
 use Rattle.mqtt_serving.specs.Turns.{server}
 use Rattle.mqtt_serving.proofs.turn.serve_turn.Goals as goal
 
@@ -10,6 +9,8 @@ returns-clause-turn g c = rw (← c.links.view_is) (record {
   ticked = server c.tick_all.new.engine c.tick_all.new.lines.items;
   accepts = c.accept-came.ensures.accepts;
   serves = c.in_ok-moved.ensures.serves;
+  written = c.write_closed.new.lines.items;
   ticks = c.in_ok-tick_all.ensures.ticks;
-  drops = ap (server c.tick_all.new.engine) (c.drop_closed.ensures ∙ ap (filter (λ (w : Wire). not (is_closed w.fate))) c.write_closed.ensures.kept);
+  writes = c.write_closed.ensures.writes;
+  drops = ap (server c.tick_all.new.engine) c.drop_closed.ensures;
 })

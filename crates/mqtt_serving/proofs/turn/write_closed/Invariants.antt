@@ -1,5 +1,8 @@
 use Rattle.std.proofs.Common.{◌≡◌}
+use Rattle.mqtt_serving.specs.Related.{RelatedBelow}
+use Rattle.mqtt_serving.specs.Wires.{WritesLast}
 use Rattle.mqtt_serving.proofs.turn.write_closed.Given as goal
 
 abbrev pub invariant-loop-line : goal.invariant-loop-line
-invariant-loop-line g l = (l.line-items ≡ l.fn.lines.items) × (g.L.Link.accepts l.link ≡ g.L.Link.accepts l.fn.link)
+invariant-loop-line g l =
+    RelatedBelow (λ x y. WritesLast x.fate x y) l.line-index l.fn.lines.items l.line-items × (g.L.Link.accepts l.link ≡ g.L.Link.accepts l.fn.link)

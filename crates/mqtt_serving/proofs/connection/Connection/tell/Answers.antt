@@ -5,4 +5,4 @@ use Rattle.mqtt_serving.proofs.connection.Connection.tell.Goals as goal
 
 pub returns-else-not-push_all : goal.returns-else-not-push_all
 returns-else-not-push_all g c =
-    rw (← c.self.view_is) (hears_all _ _ _ _ (search rules) (said_more _ _ _ _ _ _ _ (ap (and_then (g.L.Link.written c.self.inside.peer)) (search rules) ∙ and_then_append _ _ _)))
+    rw (← c.self.view_is) (hears_all _ _ _ _ (search rules) (said_more _ _ _ _ _ _ _ _ _ _ (search rules) (ap (and_then (g.L.Link.written c.self.inside.peer)) (search rules) ∙ and_then_append _ _ _)))
