@@ -36,3 +36,5 @@ pub mod Scripts
 pub mod QueueOrder
 pub mod Ledgers
 pub mod QueueContents
+pub mod Acknowledging
+pub mod Acknowledged
