@@ -4,10 +4,11 @@ use Rattle.std.specs.Prelude.{All}
 use Rattle.std.proofs.lemmas.Bool.{ltb-true}
 use Rattle.std.proofs.lemmas.List.Elements.{All-from_recursion, recursion_from_All}
 use Rattle.mqtt_base.specs.declared.session.CopyId.{CopyId}
-use Rattle.mqtt_laws.specs.Ends.{Receiver}
+use Rattle.mqtt_flow.specs.Receiver.{puback}
+use Rattle.mqtt_laws.specs.Ends.{Back, answers, Receiver}
 use Rattle.mqtt_laws.specs.Laws.{copies_in, handed_count, released_in, stand_among}
 use Rattle.mqtt_laws.specs.Run.{Turn, are_clean_starts_carried, carries_clean, read_at, run, setting, turned}
-use Rattle.mqtt_laws.specs.World.{World, receiver_named}
+use Rattle.mqtt_laws.specs.World.{World, ask, old_to_broker, receiver_named, to_broker}
 use Rattle.mqtt_rules.proofs.FlightRows.{all_more}
 use Rattle.mqtt_rules.specs.Laws.{AreWithin}
 use Rattle.mqtt_rules.specs.State.{MemberChoice, session_named}
@@ -20,10 +21,12 @@ use Rattle.mqtt_handed_laws.specs.Drains.{after_round, copies_left, drained, eno
 use Rattle.mqtt_rows.specs.Distinct.{AllDiffer}
 use Rattle.mqtt_handed_laws.specs.Tags.{id_of}
 use Rattle.mqtt_handed_laws.proofs.DrainRuns.{run_append}
+use Rattle.mqtt_every_run_laws.specs.Acknowledging.{AreRead}
 use Rattle.mqtt_every_run_laws.specs.HandedOver.{AreHandedInOrder, CarryQueued, WasHandedOver, queued_by}
 use Rattle.mqtt_every_run_laws.specs.Standing.{IsPlaced, IsSeen}
 use Rattle.mqtt_every_run_laws.specs.Taking.{EachTakes, ItsLineTakes, ReceiverTakes, any_size}
 use Rattle.mqtt_every_run_laws.specs.Untouched.{IsUntouched}
+use Rattle.mqtt_every_run_laws.proofs.Acknowledged.{acknowledged_read, acknowledged_read_there}
 use Rattle.mqtt_every_run_laws.proofs.Drains.{MayBeDrained, TakesSome, ends_over, ends_within, none_after, over_or_drains, round_carried}
 use Rattle.mqtt_every_run_laws.proofs.Growing.{begin_same}
 use Rattle.mqtt_every_run_laws.proofs.HandedOver.{handed_over}
@@ -133,6 +136,16 @@ run_keeps_ledger limits ys v c q r e f =
     let both : Some x.0 ≡ Some r = sym x.1 ∙ f in
     let same : x.0 ≡ r = cc in
     subst (Grows q) same x.2
+
+-- ---- what is acknowledged
+
+pub run_acknowledges : (limits : Limits) (ts : List Turn) (choice : MemberChoice) (w : World) → IsUntouched limits w → IsFair limits ts w → (c : List ℕ) (i code : ℕ) (rest : List Back) (r : Receiver) → receiver_named c (run limits ts w) ≡ Some r
+    → r.line.up ≡ answers (puback i code) ∷ rest → AreRead r (record { limits = limits; choice = choice }) (ask (to_broker c)) (run limits ts w)
+run_acknowledges limits ts choice w u fair c i code rest r e up = acknowledged_read [] c any_size i code rest (record { limits = limits; choice = choice }) r (run limits ts w) (fair_run_kept limits ts w u fair c).stands e up
+
+pub run_acknowledges_there : (limits : Limits) (ts : List Turn) (choice : MemberChoice) (w : World) → IsUntouched limits w → IsFair limits ts w → (c : List ℕ) (i code : ℕ) (rest : List Back) (r : Receiver) → receiver_named c (run limits ts w) ≡ Some r
+    → r.line.old ≡ answers (puback i code) ∷ rest → AreRead r (record { limits = limits; choice = choice }) (ask (old_to_broker c)) (run limits ts w)
+run_acknowledges_there limits ts choice w u fair c i code rest r e old = acknowledged_read_there [] c any_size i code rest (record { limits = limits; choice = choice }) r (run limits ts w) (fair_run_kept limits ts w u fair c).stands e old
 
 -- ---- a drain
 

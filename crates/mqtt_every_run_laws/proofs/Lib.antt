@@ -38,3 +38,5 @@ pub mod Ledgers
 pub mod QueueGrowth
 pub mod DrainBounds
 pub mod QueueContents
+pub mod Acknowledging
+pub mod Acknowledged

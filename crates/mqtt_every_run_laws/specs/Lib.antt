@@ -5,3 +5,4 @@ pub mod Retaining
 pub mod Taking
 pub mod Untouched
 pub mod Scripts
+pub mod Acknowledging

@@ -17,7 +17,10 @@ pub use drain_laws::a_drain_takes_its_copies;
 pub use receiver_laws::{
     a_receiver_that_stands_was_handed_its_copies_once, every_receiver_stands_in_a_new_world,
 };
-pub use run_laws::{a_world_may_begin_untouched, every_drain_ends, every_run_hands_over_once};
+pub use run_laws::{
+    a_world_may_begin_untouched, every_drain_ends, every_run_hands_over_once,
+    what_is_acknowledged_was_read,
+};
 pub use script_laws::every_script_delivers_exactly_once;
 pub use standing_laws::{
     a_lost_line_leaves_a_receiver_standing, a_new_line_leaves_a_receiver_standing,

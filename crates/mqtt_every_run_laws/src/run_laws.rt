@@ -1,14 +1,16 @@
 //! Laws of every run of the world, for what receivers are handed, and of drains from wherever one comes to (4.3, 4.4, 4.6).
-ghost use Rattle.std.specs.Prelude.{◌++◌, ◌≡◌, ◌≤◌, All, ℕ, List, Some, false, true};
+ghost use Rattle.std.specs.Prelude.{◌++◌, ◌∷◌, ◌≡◌, ◌≤◌, All, ℕ, List, Some, false, true};
 ghost use Rattle.mqtt_base.specs.declared.session.CopyId.{CopyId};
+ghost use Rattle.mqtt_every_run_laws.specs.Acknowledging.{AreRead};
 ghost use Rattle.mqtt_every_run_laws.specs.HandedOver.{AreHandedInOrder, CarryQueued, WasHandedOver, queued_by};
 ghost use Rattle.mqtt_every_run_laws.specs.Untouched.{IsUntouched};
 ghost use Rattle.mqtt_every_run_laws.specs.Retaining.{AreRetainedOnce};
+ghost use Rattle.mqtt_flow.specs.Receiver.{puback};
 ghost use Rattle.mqtt_handed_laws.specs.Drains.{after_round, copies_left, drained, enough_rounds, is_over, round_turns, rounds_taken};
-ghost use Rattle.mqtt_laws.specs.Ends.{Entry, Receiver};
+ghost use Rattle.mqtt_laws.specs.Ends.{Back, Entry, Receiver, answers};
 ghost use Rattle.mqtt_laws.specs.Laws.{handed_count, released_in};
 ghost use Rattle.mqtt_laws.specs.Run.{Turn, run};
-ghost use Rattle.mqtt_laws.specs.World.{World, receiver_named, start};
+ghost use Rattle.mqtt_laws.specs.World.{World, ask, old_to_broker, receiver_named, start, to_broker};
 ghost use Rattle.mqtt_records.specs.declared.records.Records.{Records};
 ghost use Rattle.mqtt_rules.specs.Flight.{HasDistinctIdentifiers};
 ghost use Rattle.mqtt_rules.specs.Laws.{AreWithin, QueuesWithin};
@@ -81,4 +83,17 @@ pub fn every_drain_ends()
         → run_spends limits (round_turns limits choice client (run limits ts w)) (run limits ts w) ≡ false
         → enough_rounds (copies_left client (after_round limits choice client (run limits ts w))) ≤ most
         → is_over client (drained limits choice client most (run limits ts w)) ≡ true }
+{}
+
+/// At the end of any fair run: where the broker reads a receiver's PUBACK, on its line or on the one that it gave up, whatever
+/// copy of QoS 1 ends as taken in that event was read by the receiver, at least once (4.3.2).
+pub fn what_is_acknowledged_was_read()
+    ensures reads { (limits : Limits) (ts : List Turn) (choice : MemberChoice) (w : World) → IsUntouched limits w
+        → IsFair limits ts w → (client : List ℕ) (i code : ℕ) (rest : List Back) (r : Receiver)
+        → receiver_named client (run limits ts w) ≡ Some r → r.line.up ≡ answers (puback i code) ∷ rest
+        → AreRead r (record { limits = limits; choice = choice }) (ask (to_broker client)) (run limits ts w) }
+    ensures reads_old { (limits : Limits) (ts : List Turn) (choice : MemberChoice) (w : World) → IsUntouched limits w
+        → IsFair limits ts w → (client : List ℕ) (i code : ℕ) (rest : List Back) (r : Receiver)
+        → receiver_named client (run limits ts w) ≡ Some r → r.line.old ≡ answers (puback i code) ∷ rest
+        → AreRead r (record { limits = limits; choice = choice }) (ask (old_to_broker client)) (run limits ts w) }
 {}

@@ -1,0 +1,17 @@
+-- What a receiver acknowledges was read by it (MQTT 5.0, 4.3.2).
+use Rattle.std.specs.Prelude.{◌≡◌, ◌≤◌, filter_map}
+use Rattle.std.specs.List.{AllByRecursion}
+use Rattle.mqtt_base.specs.declared.session.Ending.TheVariants.{Taken}
+use Rattle.mqtt_base.specs.declared.session.Qos.TheVariants.{AtLeastOnce}
+use Rattle.mqtt_laws.specs.Ends.{Receiver}
+use Rattle.mqtt_laws.specs.Laws.{read_count}
+use Rattle.mqtt_laws.specs.Run.{End, deeds_at, ended_in}
+use Rattle.mqtt_laws.specs.World.{Event, Setting, World}
+
+-- a copy of QoS 1 that ends as taken was read
+abbrev pub WasRead : Receiver → End → Type 0
+WasRead r e = e.by ≡ Taken → e.qos ≡ AtLeastOnce → 1 ≤ read_count e.copy r
+
+-- each that ends in this event
+abbrev pub AreRead : Receiver → Setting → Event → World → Type 0
+AreRead r set e w = AllByRecursion (WasRead r) (filter_map ended_in (deeds_at set e w))
