@@ -1,13 +1,13 @@
 -- So it is in the world: where the broker reads a receiver's PUBACK, on its line or on the one that it gave up, the copy that ends
 -- as taken was read (MQTT 5.0, 4.3.2, 4.4).
-use Rattle.std.proofs.Common.{◌≡◌, ℕ, Bool, true, false, cond, List, [], ◌∷◌, map, Option, Some, None, sym, ap, subst, ◌∙◌, inl, inr}
+use Rattle.std.proofs.Common.{◌≡◌, ℕ, false, List, ◌∷◌, map, Option, Some, None, sym, ap, subst, ◌∙◌, inl, inr}
 use Rattle.std.specs.Prelude.{filter_map, is_some}
 use Rattle.std.specs.List.{AllByRecursion}
 use Rattle.mqtt_base.specs.declared.session.CopyId.{CopyId}
 use Rattle.mqtt_flow.specs.Receiver.{puback}
 use Rattle.mqtt_laws.specs.Ends.{Back, Publisher, Receiver, answers, wire_back}
-use Rattle.mqtt_laws.specs.Run.{ended_in, read_if, read_in, the_deeds}
-use Rattle.mqtt_laws.specs.World.{Setting, View, World, ask, input_on, is_bad, old_to_broker, receiver_named, taken_old, taken_up, to_broker, view_by, view_of, with_line}
+use Rattle.mqtt_laws.specs.Run.{ended_in, read_if, the_deeds}
+use Rattle.mqtt_laws.specs.World.{Setting, View, World, input_on, old_to_broker, receiver_named, taken_old, taken_up, to_broker, view_by, view_of, with_line}
 use Rattle.mqtt_rules.specs.Deeds.{Deed}
 use Rattle.mqtt_rules.specs.Step.{Call, Input, deeds}
 use Rattle.mqtt_handed_laws.specs.Calls.{turned_back}
@@ -33,13 +33,8 @@ module _ (first : List CopyId) (c : List ℕ) (largest i code : ℕ) (rest : Lis
   abbrev call : ℕ → Call
   call n = Input n (wire_back r.client r.window (answers (puback i code)))
 
-  -- whether it is bad or not
-  each_read : (bad : Bool) (ds : List Deed) → ends_read ds → ends_read (cond bad [] ds)
-  each_read true ds h = tt
-  each_read false ds h = h
-
-  pub acknowledged_read : r.line.up ≡ answers (puback i code) ∷ rest → AreRead r set (ask (to_broker c)) w
-  acknowledged_read up = each_read (is_bad (ask (to_broker c)) w) (read_in the_deeds set (ask (to_broker c)) w) (elim (front placed.birth placed.line (answers (puback i code)) rest r w.broker placed.seat.present up) [
+  pub acknowledged_read : r.line.up ≡ answers (puback i code) ∷ rest → AreRead r set (to_broker c) w
+  acknowledged_read up = elim (front placed.birth placed.line (answers (puback i code)) rest r w.broker placed.seat.present up) [
     | inl j ↦
         let h = hears largest s.ids s.ns set.limits j.birth r w.broker placed j.own j.there s.standing.around.steady j.at in
         let x = h.step.runs (place_of s.ids) (places_number s.ids placed.told.differ) in
@@ -52,10 +47,10 @@ module _ (first : List CopyId) (c : List ℕ) (largest i code : ℕ) (rest : Lis
         subst (λ (o : Option Call). ends_read (read_if the_deeds set o (with_line c taken_up taken_up w))) (sym asked)
         (subst (λ (n : ℕ). ends_read (deeds set.limits set.choice w.now (call n) w.broker)) h.number read_)
     | inr h ↦ absurd (no_connect (puback i code) h.0 tt h.1.packet)
-  ])
+  ]
 
-  pub acknowledged_read_there : r.line.old ≡ answers (puback i code) ∷ rest → AreRead r set (ask (old_to_broker c)) w
-  acknowledged_read_there old = each_read (is_bad (ask (old_to_broker c)) w) (read_in the_deeds set (ask (old_to_broker c)) w) (elim (front_there placed.birth placed.line (answers (puback i code)) rest r w.broker placed.seat.former old) [
+  pub acknowledged_read_there : r.line.old ≡ answers (puback i code) ∷ rest → AreRead r set (old_to_broker c) w
+  acknowledged_read_there old = elim (front_there placed.birth placed.line (answers (puback i code)) rest r w.broker placed.seat.former old) [
     | inl joined ↦
         let j = joined.0 in
         let h = hears_there largest s.ids s.ns set.limits j.birth r w.broker placed j.own j.there s.standing.around.steady j.at in
@@ -69,4 +64,4 @@ module _ (first : List CopyId) (c : List ℕ) (largest i code : ℕ) (rest : Lis
         subst (λ (o : Option Call). ends_read (read_if the_deeds set o (with_line c taken_old taken_old w))) (sym asked)
         (subst (λ (n : ℕ). ends_read (deeds set.limits set.choice w.now (call n) w.broker)) h.number read_)
     | inr h ↦ absurd (no_connect (puback i code) false tt h.packet)
-  ])
+  ]

@@ -8,7 +8,7 @@ use Rattle.mqtt_flow.specs.Receiver.{puback}
 use Rattle.mqtt_laws.specs.Ends.{Back, answers, Receiver}
 use Rattle.mqtt_laws.specs.Laws.{copies_in, handed_count, released_in, stand_among}
 use Rattle.mqtt_laws.specs.Run.{Turn, are_clean_starts_carried, carries_clean, read_at, run, setting, turned}
-use Rattle.mqtt_laws.specs.World.{World, ask, old_to_broker, receiver_named, to_broker}
+use Rattle.mqtt_laws.specs.World.{World, old_to_broker, receiver_named, to_broker}
 use Rattle.mqtt_rules.proofs.FlightRows.{all_more}
 use Rattle.mqtt_rules.specs.Laws.{AreWithin}
 use Rattle.mqtt_rules.specs.State.{MemberChoice, session_named}
@@ -140,11 +140,11 @@ run_keeps_ledger limits ys v c q r e f =
 -- ---- what is acknowledged
 
 pub run_acknowledges : (limits : Limits) (ts : List Turn) (choice : MemberChoice) (w : World) → IsUntouched limits w → IsFair limits ts w → (c : List ℕ) (i code : ℕ) (rest : List Back) (r : Receiver) → receiver_named c (run limits ts w) ≡ Some r
-    → r.line.up ≡ answers (puback i code) ∷ rest → AreRead r (record { limits = limits; choice = choice }) (ask (to_broker c)) (run limits ts w)
+    → r.line.up ≡ answers (puback i code) ∷ rest → AreRead r (record { limits = limits; choice = choice }) (to_broker c) (run limits ts w)
 run_acknowledges limits ts choice w u fair c i code rest r e up = acknowledged_read [] c any_size i code rest (record { limits = limits; choice = choice }) r (run limits ts w) (fair_run_kept limits ts w u fair c).stands e up
 
 pub run_acknowledges_there : (limits : Limits) (ts : List Turn) (choice : MemberChoice) (w : World) → IsUntouched limits w → IsFair limits ts w → (c : List ℕ) (i code : ℕ) (rest : List Back) (r : Receiver) → receiver_named c (run limits ts w) ≡ Some r
-    → r.line.old ≡ answers (puback i code) ∷ rest → AreRead r (record { limits = limits; choice = choice }) (ask (old_to_broker c)) (run limits ts w)
+    → r.line.old ≡ answers (puback i code) ∷ rest → AreRead r (record { limits = limits; choice = choice }) (old_to_broker c) (run limits ts w)
 run_acknowledges_there limits ts choice w u fair c i code rest r e old = acknowledged_read_there [] c any_size i code rest (record { limits = limits; choice = choice }) r (run limits ts w) (fair_run_kept limits ts w u fair c).stands e old
 
 -- ---- a drain

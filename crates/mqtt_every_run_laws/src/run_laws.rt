@@ -10,7 +10,7 @@ ghost use Rattle.mqtt_handed_laws.specs.Drains.{after_round, copies_left, draine
 ghost use Rattle.mqtt_laws.specs.Ends.{Back, Entry, Receiver, answers};
 ghost use Rattle.mqtt_laws.specs.Laws.{handed_count, released_in};
 ghost use Rattle.mqtt_laws.specs.Run.{Turn, run};
-ghost use Rattle.mqtt_laws.specs.World.{World, ask, old_to_broker, receiver_named, start, to_broker};
+ghost use Rattle.mqtt_laws.specs.World.{World, old_to_broker, receiver_named, start, to_broker};
 ghost use Rattle.mqtt_records.specs.declared.records.Records.{Records};
 ghost use Rattle.mqtt_rules.specs.Flight.{HasDistinctIdentifiers};
 ghost use Rattle.mqtt_rules.specs.Laws.{AreWithin, QueuesWithin};
@@ -85,15 +85,16 @@ pub fn every_drain_ends()
         → is_over client (drained limits choice client most (run limits ts w)) ≡ true }
 {}
 
-/// At the end of any fair run: where the broker reads a receiver's PUBACK, on its line or on the one that it gave up, whatever
-/// copy of QoS 1 ends as taken in that event was read by the receiver, at least once (4.3.2).
+/// At the end of any fair run: where the broker reads a receiver's PUBACK, on its line or on the one that it gave up, and
+/// whether it stops after the commit of that step or not, whatever copy of QoS 1 ends as taken in it was read by the
+/// receiver, at least once (4.3.2).
 pub fn what_is_acknowledged_was_read()
     ensures reads { (limits : Limits) (ts : List Turn) (choice : MemberChoice) (w : World) → IsUntouched limits w
         → IsFair limits ts w → (client : List ℕ) (i code : ℕ) (rest : List Back) (r : Receiver)
         → receiver_named client (run limits ts w) ≡ Some r → r.line.up ≡ answers (puback i code) ∷ rest
-        → AreRead r (record { limits = limits; choice = choice }) (ask (to_broker client)) (run limits ts w) }
+        → AreRead r (record { limits = limits; choice = choice }) (to_broker client) (run limits ts w) }
     ensures reads_old { (limits : Limits) (ts : List Turn) (choice : MemberChoice) (w : World) → IsUntouched limits w
         → IsFair limits ts w → (client : List ℕ) (i code : ℕ) (rest : List Back) (r : Receiver)
         → receiver_named client (run limits ts w) ≡ Some r → r.line.old ≡ answers (puback i code) ∷ rest
-        → AreRead r (record { limits = limits; choice = choice }) (ask (old_to_broker client)) (run limits ts w) }
+        → AreRead r (record { limits = limits; choice = choice }) (old_to_broker client) (run limits ts w) }
 {}
