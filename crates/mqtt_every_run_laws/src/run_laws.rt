@@ -22,9 +22,9 @@ ghost use Rattle.mqtt_world_laws.specs.Spending.{run_spends};
 
 /// Whatever happens, with any number of publishers, receivers and strangers, lines lost and given up, restarts, and stops
 /// before or after a commit: each copy of QoS 2 was handed over to its receiver at most once, and exactly once from when the
-/// broker took its PUBREC, for good, whatever becomes of its session; of the copies that stand in its queue at any moment of the run, those that
-/// it was handed by any later one stand in its ledger in the order of the queue; what it has read of them carries their topic
-/// and payload, and stays in the ledger, behind which alone more comes (4.3.2, 4.3.3, 4.4, 4.6).
+/// broker took its PUBREC, for good, whatever becomes of its session; of the copies that stand in its queue at any moment of
+/// the run, those that it was handed by any later one stand in its ledger in the order of the queue; what it has read of them
+/// carries their topic and payload, and stays in the ledger, behind which alone more comes (4.3.2, 4.3.3, 4.4, 4.6).
 pub fn every_run_hands_over_once()
     ensures once { (limits : Limits) (ts : List Turn) (w : World) → IsUntouched limits w → IsFair limits ts w
         → (client : List ℕ) (r : Receiver) → receiver_named client (run limits ts w) ≡ Some r
