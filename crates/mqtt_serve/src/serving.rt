@@ -77,8 +77,8 @@ fn write_done<W: Write>(writer: &mut W) -> Result<(), ServeFault>
     }
 }
 
-/// Runs so many turns, each at the moment that the clock then tells. One in which nothing was accepted, read or written
-/// waits a little.
+/// Runs so many turns, each at the moment that the clock then tells, and none before the one before it. One in which nothing
+/// was accepted, read or written waits a little.
 fn run_turns<K: Keep>(
     rt: &impl Clock,
     links: &mut Links<PollLink>,
@@ -86,7 +86,7 @@ fn run_turns<K: Keep>(
     turns: u32,
     begin: u64,
 ) -> Result<(), ServeFault>
-    ensures ran { OnOk result (TurnsOn K.Keep turns
+    ensures ran { OnOk result ((last : _) × TurnsOn K.Keep begin turns last
         (server engine.old links.old.wires) (server engine.new links.new.wires)) }
     ensures fault { IfErr result (λ fault. fault ≡ ServeFault.Store) }
 {
@@ -112,7 +112,7 @@ fn serve_engine<K: Keep, W: Write>(
     writer: &mut W,
 ) -> Result<(), ServeFault>
     ensures ok { OnOk result (Announces (W.contents writer.old) (W.contents writer.new) []) }
-    ensures ran { OnOk result (TurnsFrom K.Keep turns engine.old engine.new) }
+    ensures ran { OnOk result (TurnsFrom K.Keep begin turns engine.old engine.new) }
     ensures socket { IfErr result (λ fault. fault ≡ ServeFault.Socket
         → Keeps (W.contents writer.old) (W.contents writer.new)) }
 {
@@ -135,7 +135,7 @@ pub fn serve_over<K: Keep, W: Write>(
 ) -> Result<K, ServeFault>
     ensures ok { OnOk result (Announces (W.contents writer.old) (W.contents writer.new) []) }
     ensures ran { IfOk result (λ given. Runs K.Keep turns keep given) }
-    ensures order { IfErr result (λ fault. fault ≡ ServeFault.Socket → (start : _) × Begins K.Keep keep start) }
+    ensures order { IfErr result (λ fault. fault ≡ ServeFault.Socket → (begin : _) × (start : _) × Begins K.Keep begin keep start) }
     ensures socket { IfErr result (λ fault. fault ≡ ServeFault.Socket
         → Keeps (W.contents writer.old) (W.contents writer.new)) }
 {

@@ -69,7 +69,7 @@ pub(crate) fn open_engine<K: Keep>(
     keep: K,
     moment: u64,
 ) -> Result<Engine<K>, ServeFault>
-    ensures begun { IfOk result (λ engine. Begins K.Keep keep engine) }
+    ensures begun { IfOk result (λ engine. Begins K.Keep moment keep engine) }
     ensures fault { IfErr result (λ fault. fault ≢ ServeFault.Socket) }
 {
     let Ok(hasher) = RandomState::new(rt) else {

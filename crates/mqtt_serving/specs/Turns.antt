@@ -1,5 +1,5 @@
 -- A turn of the server: what is asked of the broker, in order, and what its answers make of the connections (MQTT 5.0, 4.2).
-use Rattle.std.specs.Prelude.{◌≡◌, ◌≢◌, ◌⊎◌, ℕ, suc, ◌+◌, ◌<◌, Bool, true, false, not, List, [], ◌∷◌, ◌++◌, length, take, drop, filter, slice_get, Option, Some, None, option_map, Result, Ok, Err}
+use Rattle.std.specs.Prelude.{◌≡◌, ◌≢◌, ◌⊎◌, ℕ, suc, ◌+◌, ◌<◌, ◌≤◌, Bool, true, false, not, List, [], ◌∷◌, ◌++◌, length, take, drop, filter, slice_get, Option, Some, None, option_map, Result, Ok, Err}
 use Rattle.mqtt_records.specs.declared.keep.Keep.{Ghosts}
 use Rattle.mqtt_records.specs.declared.records.Records.{Records}
 use Rattle.mqtt_broker.specs.TheTables.declared.call.EngineError.{EngineError}
@@ -198,22 +198,23 @@ pub record Turn {K : Type 0} (g : Ghosts K) (now : ℕ) (old new : Server (Servi
   pub ticks : Ticks g now TICK_LIMIT served ticked
   pub drops : new ≡ server ticked.engine (filter (λ w. not (is_closed w.fate)) ticked.wires)
 
--- ---- turns one after the other, each at the moment that the clock then told
+-- ---- turns one after the other, each at the moment that the clock then told, and none before the one before it
 
-pub data TurnsOn {K : Type 0} (g : Ghosts K) : ℕ → Server (Serving K) → Server (Serving K) → Type 0 where
-  no_turn : {s : Server (Serving K)} → TurnsOn g 0 s s
-  turn_after : {n now : ℕ} {s t u : Server (Serving K)} → TurnsOn g n s t → Turn g now t u → TurnsOn g (n + 1) s u
+-- since a moment: how many, and the moment of the last
+pub data TurnsOn {K : Type 0} (g : Ghosts K) (begin : ℕ) : ℕ → ℕ → Server (Serving K) → Server (Serving K) → Type 0 where
+  no_turn : {s : Server (Serving K)} → TurnsOn g begin 0 begin s s
+  turn_after : {n last now : ℕ} {s t u : Server (Serving K)} → TurnsOn g begin n last s t → last ≤ now → Turn g now t u
+      → TurnsOn g begin (n + 1) now s u
 
--- from an engine on which nobody is
-abbrev pub TurnsFrom : {K : Type 0} → Ghosts K → ℕ → Serving K → Serving K → Type 0
-TurnsFrom g turns old new = (wires : List Wire) × TurnsOn g turns (server old []) (server new wires)
+-- from an engine on which nobody is, since a moment
+abbrev pub TurnsFrom : {K : Type 0} → Ghosts K → ℕ → ℕ → Serving K → Serving K → Type 0
+TurnsFrom g begin turns old new = (last : ℕ) × (wires : List Wire) × TurnsOn g begin turns last (server old []) (server new wires)
 
--- ---- a store is served: the broker begins with the opening of what the store held, with limits within those of the
--- tables, has so many turns, and gives the store back (4.1)
+-- ---- a store is served: at a moment the broker begins with the opening of what the store held, with limits within those
+-- of the tables, has so many turns since then, and gives the store back (4.1)
 
-pub record Begins {K : Type 0} (g : Ghosts K) (keep : K) (start : Serving K) : Type 0 where
+pub record Begins {K : Type 0} (g : Ghosts K) (moment : ℕ) (keep : K) (start : Serving K) : Type 0 where
   pub limits : Limits
-  pub moment : ℕ
   pub records : Records
   pub within : AreWithin limits
   -- of a device that lied nothing is said
@@ -223,8 +224,9 @@ pub record Begins {K : Type 0} (g : Ghosts K) (keep : K) (start : Serving K) : T
   pub silent : start.held ≡ []
 
 pub record Runs {K : Type 0} (g : Ghosts K) (turns : ℕ) (old new : K) : Type 0 where
+  pub moment : ℕ
   pub start : Serving K
   pub stop : Serving K
-  pub begins : Begins g old start
-  pub ran : TurnsFrom g turns start stop
+  pub begins : Begins g moment old start
+  pub ran : TurnsFrom g moment turns start stop
   pub closed : new ≡ stop.running.keep

@@ -8,6 +8,6 @@ loop-init g c = no_turn
 
 pub loop-preserved : goal.loop-preserved
 loop-preserved g c = elim c.if-serve_turn.branch [
-  | in-Ok-true w ↦ turn_after {now = c.moment-now.result} c.loop.invariant (search rules)
-  | in-Ok-false w ↦ turn_after {now = c.moment-now.result} c.loop.invariant (search rules)
+  | in-Ok-true w ↦ turn_after c.loop.invariant c.moment-now.late (search rules)
+  | in-Ok-false w ↦ turn_after c.loop.invariant c.moment-now.late (search rules)
 ]
