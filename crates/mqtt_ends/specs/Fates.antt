@@ -1,5 +1,5 @@
 -- What became of a publisher's messages, in the program and in the definitions of the hop (MQTT 5.0, 4.3.2, 4.3.3).
-use Rattle.std.specs.Prelude.{ℕ, Bool, true, List, map, Option, Some, None}
+use Rattle.std.specs.Prelude.{ℕ, Bool, true, false, List, map, Option, Some, None}
 use Rattle.mqtt_inbound.specs.Publisher as publisher
 use Rattle.mqtt_inbound.specs.Publisher.{is_sent, on_new_session, on_puback, on_pubcomp, on_pubrec}
 use Rattle.mqtt_ends.specs.declared.fates.Fate.{Fate}
@@ -53,6 +53,25 @@ identifier_of (publisher.ended_1 by) = None
 identifier_of (publisher.sent identifier) = Some identifier
 identifier_of (publisher.released identifier) = Some identifier
 identifier_of (publisher.ended by) = None
+
+-- ---- what is done
+
+-- by PUBACK of success, or by PUBCOMP (4.3.2, 4.3.3)
+abbrev pub by_last_packet : publisher.Finish → Bool
+by_last_packet publisher.completed = true
+by_last_packet publisher.refused = false
+by_last_packet publisher.forgotten = false
+
+-- the handshake of the message ended so
+abbrev pub is_completed : publisher.Fate → Bool
+is_completed (publisher.sent_1 identifier) = false
+is_completed (publisher.ended_1 by) = by_last_packet by
+is_completed (publisher.sent identifier) = false
+is_completed (publisher.released identifier) = false
+is_completed (publisher.ended by) = by_last_packet by
+
+abbrev pub has_completed : Fate → Bool
+has_completed fate = is_completed (fate_of fate)
 
 -- ---- what is heard
 

@@ -3,7 +3,8 @@
 ghost use Rattle.std.specs.Prelude.{◌≡◌};
 ghost use Rattle.mqtt_base.specs.Codes.{is_success};
 ghost use Rattle.mqtt_inbound.specs.Publisher.{on_new_session, on_puback, on_pubcomp, on_pubrec};
-ghost use Rattle.mqtt_ends.specs.Fates.{fate_for, fate_of, heard_by, identifier_of};
+ghost use Rattle.mqtt_ends.specs.Fates.{by_last_packet, fate_for, fate_of, finish_of, has_completed, heard_by};
+ghost use Rattle.mqtt_ends.specs.Fates.{identifier_of};
 
 /// How a handshake ended.
 #[derive(Clone, Copy, Debug, PartialEq, Eq)]
@@ -14,6 +15,18 @@ pub enum Finish {
     Refused,
     /// With the session.
     Forgotten,
+}
+
+impl Finish {
+    /// Whether it ended by its last packet. Takes no memory.
+    fn is_completed(self) -> bool
+        ensures { result ≡ by_last_packet (finish_of self) }
+    {
+        match self {
+            Finish::Completed => true,
+            Finish::Refused | Finish::Forgotten => false,
+        }
+    }
 }
 
 /// What became of a message that went out.
@@ -56,6 +69,16 @@ impl Fate {
             | Fate::Sent { identifier }
             | Fate::Released { identifier } => Some(*identifier),
             Fate::EndedOnce { .. } | Fate::Ended { .. } => None,
+        }
+    }
+
+    /// Whether its handshake ended by its last packet. Takes no memory.
+    pub(crate) fn is_completed(&self) -> bool
+        ensures { result ≡ has_completed self.now }
+    {
+        match self {
+            Fate::EndedOnce { by } | Fate::Ended { by } => by.is_completed(),
+            Fate::SentOnce { .. } | Fate::Sent { .. } | Fate::Released { .. } => false,
         }
     }
 }

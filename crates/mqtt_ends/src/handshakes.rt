@@ -1,11 +1,11 @@
 //! The handshakes of a publisher's messages (MQTT 5.0, 4.3.2, 4.3.3, 4.4, 4.9).
 
-ghost use Rattle.std.specs.Prelude.{◌≡◌, [], ◌∷◌, ◌++◌, ◌<◌, length, map, nat_lt, IfOk, OnOk, OnErr};
+ghost use Rattle.std.specs.Prelude.{◌≡◌, [], ◌∷◌, ◌++◌, ◌<◌, ◌^◌, length, count_by, map, nat_lt, IfOk, OnOk, OnErr};
 ghost use Rattle.std.specs.List.{list_any};
 ghost use Rattle.mqtt_inbound.specs.Identifiers.{free_identifier};
 ghost use Rattle.mqtt_inbound.specs.Publisher.{first_fate, first_packet, in_flight, pubrel_for, pubrel_if};
 ghost use Rattle.mqtt_inbound.specs.Publisher.{resent_from};
-ghost use Rattle.mqtt_ends.specs.Fates.{awaits, fates_of, heard_by, on_heard, packet_of, packets_of, qos_of};
+ghost use Rattle.mqtt_ends.specs.Fates.{awaits, fates_of, has_completed, heard_by, is_completed, on_heard, packet_of, packets_of, qos_of};
 
 use crate::fates::{Fate, Heard, after, is_success};
 use crate::shakes::{Assurance, Shake};
@@ -53,6 +53,20 @@ fn identifiers(alloc: Global, fates: &[Fate]) -> Result<Vec<u16>, AllocError>
     Ok(ids)
 }
 
+/// How many of the handshakes ended by their last packet.
+#[tactic(auto, using(std::proofs::lemmas::List::Sums::count_by_more_yes, std::proofs::lemmas::List::Sums::count_by_more_no))]
+fn completed(fates: &[Fate]) -> usize
+    ensures { result ≡ count_by has_completed fates.now }
+{
+    let mut count = 0;
+    for fate in fates {
+        if fate.is_completed() {
+            count += 1;
+        }
+    }
+    count
+}
+
 /// What goes out again, in the order of the messages' numbers.
 fn resent(alloc: Global, fates: &[Fate]) -> Result<Vec<Shake>, AllocError>
     ensures { IfOk result (λ packets. packets_of packets.items ≡ resent_from 0 (fates_of fates.now)) }
@@ -81,6 +95,22 @@ impl Handshakes {
         Handshakes {
             fates: Vec::new(alloc),
         }
+    }
+
+    /// How many messages were sent. Takes no memory.
+    pub fn len(&self) -> usize
+        ensures value { result ≡ length self.now }
+        ensures bound { result < 2 ^ 63 }
+    {
+        self.fates.len()
+    }
+
+    /// How many of the handshakes ended by their last packet (4.3.2, 4.3.3). Takes no memory.
+    #[tactic(auto, using(crate::proofs::Hearing::all_completed))]
+    pub fn completed(&self) -> usize
+        ensures { result ≡ count_by is_completed self.now }
+    {
+        completed(&self.fates)
     }
 
     /// What is heard does with each message what it says (4.1, 4.3.2, 4.3.3). Takes no memory.

@@ -8,21 +8,21 @@ use Rattle.mqtt_inbound.specs.Publisher.{CONNECT}
 use Rattle.mqtt_laws.specs.Ends.{Back, Receiver, shake}
 use Rattle.mqtt_laws.specs.Lines.{stands, unless_closed}
 use Rattle.mqtt_laws.specs.Run.{Turn, are_clean_starts_carried, carries_clean, run, turned}
-use Rattle.mqtt_laws.specs.Seats.{Present, absent, closed, joined, waiting}
+use Rattle.mqtt_laws.specs.Seats.{Present, absent, closed, connected_at, joined, waiting}
 use Rattle.mqtt_laws.specs.World.{Event, Setting, World, ask, asks, call_of, calls_if, is_end, publisher_named, pump, receiver_named, receiver_told, taken_up, to_broker, to_end}
 use Rattle.mqtt_laws.proofs.OwnSeats.{line_of_on, not_among}
 use Rattle.mqtt_rows.specs.Distinct.{AllDiffer}
 use Rattle.mqtt_rules.specs.Flight.{HasDistinctIdentifiers}
-use Rattle.mqtt_rules.specs.State.{Line as BrokerLine, MemberChoice, line_at}
+use Rattle.mqtt_rules.specs.State.{Line as BrokerLine, Broker, MemberChoice, line_at}
 use Rattle.mqtt_rules.specs.Step.{Call, stepped, told}
 use Rattle.mqtt_rules.specs.declared.Limits.{Limits}
 use Rattle.mqtt_world_laws.proofs.Ends.{find_receiver, only_receiver}
 use Rattle.mqtt_world_laws.proofs.Runs.{both_true}
 use Rattle.mqtt_handed_laws.specs.Drains.{after_round, all_to_broker, all_to_end, copies_left, count_by_end, downs_by, drain_by, drain_turns, drained, enough_rounds, is_none_left, is_over, line_stands, round_turns, rounds_taken, times, turn_of, ups_by}
-use Rattle.mqtt_handed_laws.specs.WorldRounds.{IsAnswer, MayDrain}
+use Rattle.mqtt_handed_laws.specs.WorldRounds.{IsAnswer, IsConnected, MayDrain}
 use Rattle.mqtt_handed_laws.proofs.DrainRuns.{run_append}
 use Rattle.mqtt_handed_laws.proofs.WorldRounds.{drain_over_later, drain_within_later}
-use Rattle.mqtt_every_run_laws.specs.Standing.{GoesAlong, IsPlaced, IsSeen, Stands, line_like, packet_like}
+use Rattle.mqtt_every_run_laws.specs.Standing.{GoesAlong, IsPlaced, IsSeen, Stands, StandsWith, line_like, packet_like}
 use Rattle.mqtt_every_run_laws.proofs.Around.{changed_its, on_back}
 use Rattle.mqtt_every_run_laws.proofs.Like.{closed_stands, none_stands}
 use Rattle.mqtt_every_run_laws.proofs.Outside.{named_called}
@@ -159,9 +159,42 @@ pub record MayBeDrained (c : List ℕ) (largest : ℕ) (v : World) : Type 0 wher
 abbrev pub TakesSome : List ℕ → ℕ → World → Type 0
 TakesSome c largest v = (r : Receiver) (n birth : ℕ) (l : BrokerLine) → receiver_named c v ≡ Some r → r.line.number ≡ Some n → line_at n v.broker ≡ Some l → l.session ≡ Some birth → (l.largest ≡ largest) × (1 ≤ l.window)
 
-over_if : (a b : Bool) → b ≡ false → (a || not b) ≡ true
+pub over_if : (a b : Bool) → b ≡ false → (a || not b) ≡ true
 over_if true b h = refl
 over_if false b h = ap not h
+
+-- where its session is connected on its line, through some Receive Maximum
+pub record Connection (largest : ℕ) (ids : List CopyId) (birth : ℕ) (ns : List ℕ) (r : Receiver) (b : Broker) : Type 0 where
+  pub window : ℕ
+  pub room : 1 ≤ window
+  pub connected : IsConnected largest window ids birth ns r b
+
+pub connection_of : (c : List ℕ) (largest : ℕ) (limits : Limits) (ids : List CopyId) (ns : List ℕ) (r : Receiver) (v : World) → StandsWith c largest limits ids ns v → receiver_named c v ≡ Some r → HasDistinctIdentifiers v.broker.records
+    → TakesSome c largest v → (placed : IsPlaced largest ids ns r v.broker) (birth : ℕ) → placed.birth ≡ Some birth → r.line.number ≡ Some placed.line → connected_at placed.line v.broker.lines ≡ Some (Some birth)
+    → Connection largest ids birth ns r v.broker
+connection_of c largest limits ids ns r v s e distinct takes placed birth own at there =
+    let x = line_of_on placed.line (Some birth) v.broker there in
+    let l = x.0 in
+    let number : r.line.number ≡ Some l.number = at ∙ ap Some (sym x.3) in
+    let there_ : line_at l.number v.broker ≡ Some l = ap (λ (n : ℕ). line_at n v.broker) x.3 ∙ x.1 in
+    let size = takes r l.number birth l e number there_ x.2 in
+    record {
+      window = l.window;
+      room = size.1;
+      connected = record {
+        in_step = subst (λ (z : Option ℕ). GoesAlong z largest ids ns r v.broker) own placed.along;
+        line = l;
+        number = number;
+        there = there_;
+        connected = x.2;
+        window_is = refl;
+        largest_is = size.0;
+        apart = not_among r.line.old_number l.number (λ f. placed.apart l.number number f);
+        unique = s.around.steady.lines;
+        ordered = s.around.steady.coherent.ordered;
+        distinct = distinct;
+      };
+    }
 
 pub over_or_drains : (first : List CopyId) (c : List ℕ) (largest : ℕ) (limits : Limits) (v : World) → Stands first c largest limits v → HasDistinctIdentifiers v.broker.records → TakesSome c largest v → HasUp c 0 v
     → (is_over c v ≡ true) ⊎ MayBeDrained c largest v
@@ -188,14 +221,10 @@ over_or_drains first c largest limits v s distinct takes none = by (receiver_nam
         present (closed n at none_up idle nothing) = inl (gone (closed_stands r.line.number n v.broker at nothing))
         present (waiting n clean at link_is clean_is connects_ down idle there) = let clash : shake (CONNECT clean) ∷ [] ≡ [] = sym connects_ ∙ ap (map packet_like) up in absurd cc
         present (joined birth own at there) =
-            let x = line_of_on placed.line (Some birth) v.broker there in
-            let l = x.0 in
-            let number : r.line.number ≡ Some l.number = at ∙ ap Some (sym x.3) in
-            let there_ : line_at l.number v.broker ≡ Some l = ap (λ (n : ℕ). line_at n v.broker) x.3 ∙ x.1 in
-            let size = takes r l.number birth l e number there_ x.2 in
+            let x = connection_of c largest limits s.ids s.ns r v s.standing e distinct takes placed birth own at there in
             inr (record {
-              window = l.window;
-              room = size.1;
+              window = x.window;
+              room = x.room;
               ids = s.ids;
               differ = placed.told.differ;
               birth = birth;
@@ -204,19 +233,7 @@ over_or_drains first c largest limits v s distinct takes none = by (receiver_nam
               may = record {
                 named = e;
                 alone = s.standing.around.alone (ap is_some e);
-                connected = record {
-                  in_step = subst (λ (z : Option ℕ). GoesAlong z largest s.ids s.ns r v.broker) own placed.along;
-                  line = l;
-                  number = number;
-                  there = there_;
-                  connected = x.2;
-                  window_is = refl;
-                  largest_is = size.0;
-                  apart = not_among r.line.old_number l.number (λ f. placed.apart l.number number f);
-                  unique = s.standing.around.steady.lines;
-                  ordered = s.standing.around.steady.coherent.ordered;
-                  distinct = distinct;
-                };
+                connected = x.connected;
                 answering = subst (λ (xs : List Back). AllByRecursion IsAnswer xs) (sym up) tt;
               };
             })

@@ -46,7 +46,7 @@ untouched_kept c limits w within u = record {
   fit = record { unused = u.unused; distinct = u.distinct; once = u.retained; takes = new_takes c limits w u.new };
 }
 
-fair_run_kept : (limits : Limits) (ts : List Turn) (w : World) → IsUntouched limits w → IsFair limits ts w → (c : List ℕ) → IsKept [] c limits (run limits ts w)
+pub fair_run_kept : (limits : Limits) (ts : List Turn) (w : World) → IsUntouched limits w → IsFair limits ts w → (c : List ℕ) → IsKept [] c limits (run limits ts w)
 fair_run_kept limits ts w u fair c = run_kept [] c limits ts w (untouched_kept c limits w fair.within u) fair.unspent fair.carried
 
 -- what it has stored may be opened again
@@ -149,7 +149,7 @@ run_acknowledges_there limits ts choice w u fair c i code rest r e old = acknowl
 
 -- ---- a drain
 
-takes_some : (c : List ℕ) (w : World) → ItsLineTakes c w → TakesSome c any_size w
+pub takes_some : (c : List ℕ) (w : World) → ItsLineTakes c w → TakesSome c any_size w
 takes_some c w takes r n birth l e is at on =
     let x = takes_there c r n birth l w takes e is at on in
     let its : ReceiverTakes r w.broker = subst (λ (o : _). EachTakes o w.broker) e takes in

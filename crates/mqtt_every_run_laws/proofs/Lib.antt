@@ -40,3 +40,10 @@ pub mod DrainBounds
 pub mod QueueContents
 pub mod Acknowledging
 pub mod Acknowledged
+pub mod DrainCauses
+pub mod Among
+pub mod QueueEntering
+pub mod Coming
+pub mod Telling
+pub mod WholeOrder
+pub mod Newcomers

@@ -20,7 +20,7 @@ use Rattle.mqtt_every_run_laws.specs.HandedOver.{AreHandedInOrder, is_among, que
 
 -- ---- of what stands in order a part stands in the order of that part
 
-none_first : (ys : List CopyId) → stand_among [] ys ≡ true
+pub none_first : (ys : List CopyId) → stand_among [] ys ≡ true
 none_first [] = refl
 none_first (y ∷ ys) = refl
 
@@ -38,14 +38,14 @@ without x (v ∷ vs) (y ∷ ys) h =
       | inr other ↦ rw other behind
     ]
 
-behind_one : (xs : List CopyId) (y : CopyId) (ys : List CopyId) → stand_among xs ys ≡ true → stand_among xs (y ∷ ys) ≡ true
+pub behind_one : (xs : List CopyId) (y : CopyId) (ys : List CopyId) → stand_among xs ys ≡ true → stand_among xs (y ∷ ys) ≡ true
 behind_one [] y ys h = refl
 behind_one (x ∷ xs) y ys h = elim (cases_Bool (is_copy x y)) [
   | inl its ↦ rw its (without x xs ys h)
   | inr other ↦ rw other h
 ]
 
-part_stands : (p : CopyId → Bool) (xs ys : List CopyId) → stand_among xs ys ≡ true → stand_among (filter p xs) (filter p ys) ≡ true
+pub part_stands : (p : CopyId → Bool) (xs ys : List CopyId) → stand_among xs ys ≡ true → stand_among (filter p xs) (filter p ys) ≡ true
 part_stands p [] ys h = none_first (filter p ys)
 part_stands p (x ∷ xs) [] h = absurd cc
 part_stands p (x ∷ xs) (y ∷ ys) h = elim (cases_Bool (is_copy x y)) [
@@ -66,10 +66,10 @@ part_stands p (x ∷ xs) (y ∷ ys) h = elim (cases_Bool (is_copy x y)) [
 
 -- ---- what stands of the copies that have entered, picked among all that enter
 
-abbrev standing_ids : List Lot → List CopyId
+abbrev pub standing_ids : List Lot → List CopyId
 standing_ids lots = map id_of (still_standing lots)
 
-other_copy : (c d : CopyId) → c ≢ d → is_copy c d ≡ false
+pub other_copy : (c d : CopyId) → c ≢ d → is_copy c d ≡ false
 other_copy c d differ = elim (cases_Bool (is_copy c d)) [ inl same ↦ absurd (differ (copy_is c d same)) | inr other ↦ other ]
 
 not_standing : (c : CopyId) (lots : List Lot) (more : List CopyId) → AllByRecursion (λ (d : CopyId). c ≢ d) (map id_of lots ++ more) → is_among (standing_ids lots) c ≡ false
@@ -77,7 +77,7 @@ not_standing c [] more h = refl
 not_standing c (standing e m ∷ lots) more h = rw (other_copy c e.copy.id h.0) (not_standing c lots more h.1)
 not_standing c (past ending e m ∷ lots) more h = not_standing c lots more h.1
 
-none_kept : (keep : CopyId → Bool) (more : List CopyId) → AllByRecursion (λ (c : CopyId). keep c ≡ false) more → filter keep more ≡ []
+pub none_kept : (keep : CopyId → Bool) (more : List CopyId) → AllByRecursion (λ (c : CopyId). keep c ≡ false) more → filter keep more ≡ []
 none_kept keep [] h = refl
 none_kept keep (c ∷ more) h = rw h.0 (none_kept keep more h.1)
 
@@ -106,7 +106,7 @@ lots_ids : (went : List ℕ) (queue : List CopyRow) → map id_of (map (lot_on w
 lots_ids went [] = refl
 lots_ids went (e ∷ queue) = ap (λ (ids : List CopyId). e.copy.id ∷ ids) (lots_ids went queue)
 
-queue_ids : (lots : List Lot) (o : Option Session) (b : Broker) → AreQueued lots o b → standing_ids lots ≡ queued_by o
+pub queue_ids : (lots : List Lot) (o : Option Session) (b : Broker) → AreQueued lots o b → standing_ids lots ≡ queued_by o
 queue_ids lots None b h = ap (map id_of) h
 queue_ids lots (Some s) b h = by (went_in s.birth b) h
   where

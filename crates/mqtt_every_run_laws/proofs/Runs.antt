@@ -58,7 +58,7 @@ pub record IsKept (first : List CopyId) (c : List ℕ) (limits : Limits) (w : Wo
   pub stands : Stands first c any_size limits w
   pub fit : IsFit c w
 
-turn_kept : (first : List CopyId) (c : List ℕ) (limits : Limits) (t : Turn) (w : World) → IsKept first c limits w → carries_clean t.event w ≡ true → read_at spending (setting limits t) t.event w ≡ false → IsKept first c limits (turned limits t w)
+pub turn_kept : (first : List CopyId) (c : List ℕ) (limits : Limits) (t : Turn) (w : World) → IsKept first c limits w → carries_clean t.event w ≡ true → read_at spending (setting limits t) t.event w ≡ false → IsKept first c limits (turned limits t w)
 turn_kept first c limits t w k carried unspent = record { stands = by (is_bad t.event w) refl unspent; fit = fit_after first c limits t w k.stands k.fit unspent }
   where
     set : Setting

@@ -40,7 +40,7 @@ find_changed name f (s ∷ ss) h = elim (cases_Bool (bytes_eq s.name name)) [
   | inr other ↦ rw (other, other) (find_changed name f ss h)
 ]
 
-all_changed : (P : Stranger → Type 0) (name : List ℕ) (f : Stranger → Stranger) (ss : List Stranger) → ((s : Stranger) → P s → P (f s)) → AllByRecursion P ss → AllByRecursion P (map (changed name f) ss)
+pub all_changed : (P : Stranger → Type 0) (name : List ℕ) (f : Stranger → Stranger) (ss : List Stranger) → ((s : Stranger) → P s → P (f s)) → AllByRecursion P ss → AllByRecursion P (map (changed name f) ss)
 all_changed P name f ss h a = all_mapped P P (changed name f) ss (λ s q. by (bytes_eq s.name name) s q) a
   where
     by : (t : Bool) (s : Stranger) → P s → P (cond t (f s) s)
@@ -49,7 +49,7 @@ all_changed P name f ss h a = all_mapped P P (changed name f) ss (λ s q. by (by
 
 -- ---- its bytes change nothing of the broker and of the ends
 
-abbrev with_strangers : (first : List CopyId) (c : List ℕ) (largest : ℕ) (limits : Limits) (w : World) (ss : List Stranger) (s : Stands first c largest limits w) → AllByRecursion (IsOtherStranger s.ns w.broker.given) ss
+abbrev pub with_strangers : (first : List CopyId) (c : List ℕ) (largest : ℕ) (limits : Limits) (w : World) (ss : List Stranger) (s : Stands first c largest limits w) → AllByRecursion (IsOtherStranger s.ns w.broker.given) ss
     → Stands first c largest limits (record w { strangers = ss })
 with_strangers first c largest limits w ss s a =
     let h = s.standing in
@@ -72,7 +72,7 @@ with_strangers first c largest limits w ss s a =
       };
     }
 
-abbrev held_stands : (first : List CopyId) (c : List ℕ) (largest : ℕ) (limits : Limits) (name : List ℕ) (w : World) → Stands first c largest limits w → Stands first c largest limits (next_held name w)
+abbrev pub held_stands : (first : List CopyId) (c : List ℕ) (largest : ℕ) (limits : Limits) (name : List ℕ) (w : World) → Stands first c largest limits w → Stands first c largest limits (next_held name w)
 held_stands first c largest limits name w s =
     with_strangers first c largest limits w (map (changed name (λ (x : Stranger). record x { held = held_after x.held })) w.strangers) s
     (all_changed (IsOtherStranger s.ns w.broker.given) name (λ (x : Stranger). record x { held = held_after x.held }) w.strangers (λ x q. q) s.standing.around.strangers)
@@ -108,7 +108,7 @@ comes_stands first c largest set name bytes w s = by (is_some (stranger_named na
         (all_appended (IsOtherStranger s.ns (calls set NewLine w).broker.given) w.strangers x linked.1.around.strangers (free (can_link w.broker) refl))
 
 -- whoever is there then was there before
-comes_there : (c : List ℕ) (set : Setting) (name bytes : List ℕ) (w : World) → is_some (receiver_named c (comes set name bytes w)) ≡ is_some (receiver_named c w)
+pub comes_there : (c : List ℕ) (set : Setting) (name bytes : List ℕ) (w : World) → is_some (receiver_named c (comes set name bytes w)) ≡ is_some (receiver_named c w)
 comes_there c set name bytes w = by (is_some (stranger_named name w))
   where
     by : (t : Bool) → is_some (receiver_named c (linked_at set t name bytes w)) ≡ is_some (receiver_named c w)
@@ -131,7 +131,7 @@ comes_held set name bytes w = by (stranger_named name w) refl
 
 -- ---- its packets
 
-either_false : (a b : Bool) → (a || b) ≡ false → (a ≡ false) × (b ≡ false)
+pub either_false : (a b : Bool) → (a || b) ≡ false → (a ≡ false) × (b ≡ false)
 either_false true b h = absurd cc
 either_false false b h = (refl, h)
 
@@ -164,7 +164,7 @@ held_outside c ns given w s call there free h e = by s.number free e
     by (Some n) f e = front_outside c ns given n s.held w (first_of s.held) call there f h e
 
 -- the next of them is a step of others; w is the world in which the bytes came
-next_outside : (first : List CopyId) (c : List ℕ) (largest : ℕ) (limits : Limits) (name : List ℕ) (w v : World) (h : Stands first c largest limits v) → is_some (receiver_named c v) ≡ is_some (receiver_named c w)
+pub next_outside : (first : List CopyId) (c : List ℕ) (largest : ℕ) (limits : Limits) (name : List ℕ) (w v : World) (h : Stands first c largest limits v) → is_some (receiver_named c v) ≡ is_some (receiver_named c w)
     → front_names (first_of (bytes_held (stranger_named name v))) w ≡ false → is_some (receiver_named c v) ≡ true → (x : Call) → call_of_stranger (stranger_named name v) ≡ Some x → IsOutside c h.ns x
 next_outside first c largest limits name w v h there good found x is = by (stranger_named name v) refl
   where
@@ -174,7 +174,7 @@ next_outside first c largest limits name w v h there good found x is = by (stran
         let free = (all_find (IsOtherStranger h.ns v.broker.given) (λ (z : Stranger). bytes_eq z.name name) s v.strangers h.standing.around.strangers e).0 in
         held_outside c h.ns v.broker.given w s x (sym there ∙ found) free (sym (ap (λ (z : Option Stranger). front_names (first_of (bytes_held z)) w) e) ∙ good) (sym (ap call_of_stranger e) ∙ is)
 
-same_cost : (set : Setting) (name : List ℕ) (v : World) (x : Option Call) → read_if spending set x v ≡ false → read_if spending set x (next_held name v) ≡ false
+pub same_cost : (set : Setting) (name : List ℕ) (v : World) (x : Option Call) → read_if spending set x v ≡ false → read_if spending set x (next_held name v) ≡ false
 same_cost set name v None e = refl
 same_cost set name v (Some x) e = e
 
@@ -190,7 +190,7 @@ held_once name v = ap bytes_held (find_changed name (λ (s : Stranger). record s
     by None = sym nothing_held
     by (Some s) = refl
 
-held_next : (set : Setting) (name : List ℕ) (v : World) (x : Option Call) → bytes_held (stranger_named name (calls_if set x (next_held name v))) ≡ held_after (bytes_held (stranger_named name v))
+pub held_next : (set : Setting) (name : List ℕ) (v : World) (x : Option Call) → bytes_held (stranger_named name (calls_if set x (next_held name v))) ≡ held_after (bytes_held (stranger_named name v))
 held_next set name v None = held_once name v
 held_next set name v (Some x) = held_once name v
 
@@ -207,7 +207,7 @@ rest_stands first (suc more) c largest set name w v h there good unspent =
 
 -- ---- its bytes are answered, whole or the first packet alone
 
-good_then : (set : Setting) (name bytes : List ℕ) (w : World) → is_bad_asking (stranger name bytes) w ≡ false
+pub good_then : (set : Setting) (name bytes : List ℕ) (w : World) → is_bad_asking (stranger name bytes) w ≡ false
     → bytes_name (held_count (stranger_named name (comes set name bytes w))) (bytes_held (stranger_named name (comes set name bytes w))) w ≡ false
 good_then set name bytes w good =
     let s = stranger_named name (comes set name bytes w) in

@@ -6,3 +6,5 @@ pub mod Taking
 pub mod Untouched
 pub mod Scripts
 pub mod Acknowledging
+pub mod DrainCauses
+pub mod Coming

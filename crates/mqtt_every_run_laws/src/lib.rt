@@ -13,13 +13,13 @@ mod wish_laws;
 
 pub use broker_laws::{a_line_without_session_has_sent_nothing, identifiers_in_flight_stay_unique};
 pub use connect_laws::a_connect_leaves_a_receiver_standing;
-pub use drain_laws::a_drain_takes_its_copies;
+pub use drain_laws::{a_drain_takes_its_copies, copies_end_in_a_drain_by_a_cause};
 pub use receiver_laws::{
     a_receiver_that_stands_was_handed_its_copies_once, every_receiver_stands_in_a_new_world,
 };
 pub use run_laws::{
-    a_world_may_begin_untouched, every_drain_ends, every_run_hands_over_once,
-    what_is_acknowledged_was_read,
+    a_world_may_begin_untouched, copies_are_handed_over_as_they_entered, every_drain_ends,
+    every_run_hands_over_once, what_is_acknowledged_was_read,
 };
 pub use script_laws::every_script_delivers_exactly_once;
 pub use standing_laws::{

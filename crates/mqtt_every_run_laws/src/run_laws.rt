@@ -1,22 +1,24 @@
 //! Laws of every run of the world, for what receivers are handed, and of drains from wherever one comes to (4.3, 4.4, 4.6).
-ghost use Rattle.std.specs.Prelude.{◌++◌, ◌∷◌, ◌≡◌, ◌≤◌, All, ℕ, List, Some, false, true};
+ghost use Rattle.std.specs.Prelude.{◌++◌, ◌∷◌, ◌≡◌, ◌≤◌, All, [], ℕ, List, Some, false, filter, true};
 ghost use Rattle.mqtt_base.specs.declared.session.CopyId.{CopyId};
 ghost use Rattle.mqtt_every_run_laws.specs.Acknowledging.{AreRead};
-ghost use Rattle.mqtt_every_run_laws.specs.HandedOver.{AreHandedInOrder, CarryQueued, WasHandedOver, queued_by};
+ghost use Rattle.mqtt_every_run_laws.specs.Coming.{come_over, queue_at};
+ghost use Rattle.mqtt_every_run_laws.specs.HandedOver.{AreHandedInOrder, CarryQueued, WasHandedOver, is_among, queued_by};
 ghost use Rattle.mqtt_every_run_laws.specs.Untouched.{IsUntouched};
 ghost use Rattle.mqtt_every_run_laws.specs.Retaining.{AreRetainedOnce};
 ghost use Rattle.mqtt_flow.specs.Receiver.{puback};
 ghost use Rattle.mqtt_handed_laws.specs.Drains.{after_round, copies_left, drained, enough_rounds, is_over, round_turns, rounds_taken};
 ghost use Rattle.mqtt_laws.specs.Ends.{Back, Entry, Receiver, answers};
-ghost use Rattle.mqtt_laws.specs.Laws.{handed_count, released_in};
+ghost use Rattle.mqtt_laws.specs.Laws.{copies_in, handed_count, released_in, stand_among};
 ghost use Rattle.mqtt_laws.specs.Run.{Turn, run};
-ghost use Rattle.mqtt_laws.specs.World.{World, old_to_broker, receiver_named, start, to_broker};
+ghost use Rattle.mqtt_laws.specs.World.{Setting, World, happens, is_bad, old_to_broker, receiver, receiver_named, start, to_broker};
 ghost use Rattle.mqtt_records.specs.declared.records.Records.{Records};
 ghost use Rattle.mqtt_rules.specs.Flight.{HasDistinctIdentifiers};
 ghost use Rattle.mqtt_rules.specs.Laws.{AreWithin, QueuesWithin};
 ghost use Rattle.mqtt_rules.specs.State.{MemberChoice, session_named};
 ghost use Rattle.mqtt_rules.specs.Step.{is_opening_spent};
 ghost use Rattle.mqtt_rules.specs.declared.Limits.{Limits};
+ghost use Rattle.mqtt_world_laws.specs.Copies.{entered_from};
 ghost use Rattle.mqtt_world_laws.specs.Fair.{IsFair, MayOpen, opened_world};
 ghost use Rattle.mqtt_world_laws.specs.Spending.{run_spends};
 
@@ -97,4 +99,37 @@ pub fn what_is_acknowledged_was_read()
         → IsFair limits ts w → (client : List ℕ) (i code : ℕ) (rest : List Back) (r : Receiver)
         → receiver_named client (run limits ts w) ≡ Some r → r.line.old ≡ answers (puback i code) ∷ rest
         → AreRead r (record { limits = limits; choice = choice }) (old_to_broker client) (run limits ts w) }
+{}
+
+/// Over any events of a run, from any moment at which a receiver has come: of all the copies that stood in its queue at that
+/// moment or after any of the events, those that it was handed by their end stand in its ledger in the order in which they came to
+/// the queue, also where two of them never stood there together; and so they entered, in that order, behind those that stood
+/// there at that moment; none does when the receiver comes. So the whole ledger of each receiver is in the order in which the
+/// copies entered over the run (4.3.3, 4.6).
+pub fn copies_are_handed_over_as_they_entered()
+    ensures as_come { (limits : Limits) (xs ys : List Turn) (w : World) → IsUntouched limits w
+        → IsFair limits (xs ++ ys) w → (client : List ℕ) (q r : Receiver)
+        → receiver_named client (run limits xs w) ≡ Some q → receiver_named client (run limits (xs ++ ys) w) ≡ Some r
+        → AreHandedInOrder (come_over client limits ys (run limits xs w)) r }
+    ensures come { (limits : Limits) (xs ys : List Turn) (w : World) → IsUntouched limits w
+        → IsFair limits (xs ++ ys) w → (client : List ℕ) (q : Receiver) → receiver_named client (run limits xs w) ≡ Some q
+        → stand_among (come_over client limits ys (run limits xs w))
+        (queue_at client (run limits xs w) ++ entered_from limits ys (run limits xs w)) ≡ true }
+    ensures as_entered { (limits : Limits) (xs ys : List Turn) (w : World) → IsUntouched limits w
+        → IsFair limits (xs ++ ys) w → (client : List ℕ) (q r : Receiver)
+        → receiver_named client (run limits xs w) ≡ Some q → receiver_named client (run limits (xs ++ ys) w) ≡ Some r
+        → stand_among (filter (is_among (come_over client limits ys (run limits xs w))) (copies_in r.ledger))
+        (queue_at client (run limits xs w) ++ entered_from limits ys (run limits xs w)) ≡ true }
+    // From when it has read nothing and is told of nothing, as when it comes, its whole ledger is in the order of entering.
+    ensures whole { (limits : Limits) (xs ys : List Turn) (w : World) → IsUntouched limits w
+        → IsFair limits (xs ++ ys) w → (client : List ℕ) (q r : Receiver)
+        → receiver_named client (run limits xs w) ≡ Some q → receiver_named client (run limits (xs ++ ys) w) ≡ Some r
+        → q.ledger ≡ [] → q.line.down ≡ []
+        → stand_among (copies_in r.ledger) (queue_at client (run limits xs w) ++ entered_from limits ys (run limits xs w)) ≡ true }
+    ensures first { (client : List ℕ) (window : ℕ) (set : Setting) (w : World) → is_bad (receiver client window) w ≡ false
+        → queue_at client (happens set (receiver client window) w) ≡ [] }
+    // So it is of every receiver, over the whole run.
+    ensures all { (limits : Limits) (ts : List Turn) (w : World) → IsUntouched limits w → IsFair limits ts w
+        → (client : List ℕ) (r : Receiver) → receiver_named client (run limits ts w) ≡ Some r
+        → stand_among (copies_in r.ledger) (entered_from limits ts w) ≡ true }
 {}

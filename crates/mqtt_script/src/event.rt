@@ -4,6 +4,7 @@ ghost use Rattle.std.specs.Prelude.{◌≡◌};
 
 use bytes::Bytes;
 use mqtt_base::{Qos, SubscriptionOptions, Text};
+use std::alloc::AllocError;
 
 /// What a message carries (3.3.1.3, 3.3.2.1, 3.3.3).
 #[derive(Debug, PartialEq, Eq, Drop)]
@@ -34,6 +35,44 @@ pub struct Wish {
     pub options: SubscriptionOptions,
     /// The Subscription Identifier, from 1, where it has one (3.8.2.1.2).
     pub identifier: Option<u32>,
+}
+
+impl Clone for Content {
+    ghost is_clone = { λ content copy. copy ≡ content };
+
+    /// Another of the same value; topic and payload are shared.
+    fn clone(&self) -> Result<Content, AllocError> {
+        Ok(Content {
+            retain: self.retain,
+            topic: self.topic.clone()?,
+            payload: self.payload.clone()?,
+        })
+    }
+}
+
+impl Clone for Draft {
+    ghost is_clone = { λ draft copy. copy ≡ draft };
+
+    /// Another of the same value; topic and payload are shared.
+    fn clone(&self) -> Result<Draft, AllocError> {
+        Ok(Draft {
+            qos: self.qos,
+            content: self.content.clone()?,
+        })
+    }
+}
+
+impl Clone for Wish {
+    ghost is_clone = { λ wish copy. copy ≡ wish };
+
+    /// Another of the same value; the filter is shared.
+    fn clone(&self) -> Result<Wish, AllocError> {
+        Ok(Wish {
+            filter: self.filter.clone()?,
+            options: self.options,
+            identifier: self.identifier,
+        })
+    }
 }
 
 /// What the broker is asked for: the events at which a stop can be told.
@@ -155,6 +194,91 @@ pub enum Event {
         /// The client identifier of the receiver.
         client: Text,
     },
+}
+
+impl Clone for Asking {
+    ghost is_clone = { λ asking copy. copy ≡ asking };
+
+    /// Another of the same value; its texts and bytes are shared.
+    fn clone(&self) -> Result<Asking, AllocError> {
+        Ok(match self {
+            Asking::ToBroker { client, old } => Asking::ToBroker {
+                client: client.clone()?,
+                old: *old,
+            },
+            Asking::Break { client } => Asking::Break {
+                client: client.clone()?,
+            },
+            Asking::Pump { client } => Asking::Pump {
+                client: client.clone()?,
+            },
+            Asking::Tick => Asking::Tick,
+            Asking::Stranger { name, bytes } => Asking::Stranger {
+                name: name.clone()?,
+                bytes: bytes.clone()?,
+            },
+        })
+    }
+}
+
+impl Clone for Event {
+    ghost is_clone = { λ event copy. copy ≡ event };
+
+    /// Another of the same value; its texts, payload and bytes are shared.
+    fn clone(&self) -> Result<Event, AllocError> {
+        Ok(match self {
+            Event::Publisher { client } => Event::Publisher {
+                client: client.clone()?,
+            },
+            Event::Receiver { client, window } => Event::Receiver {
+                client: client.clone()?,
+                window: *window,
+            },
+            Event::Connect {
+                client,
+                clean_start,
+            } => Event::Connect {
+                client: client.clone()?,
+                clean_start: *clean_start,
+            },
+            Event::GiveUp { client } => Event::GiveUp {
+                client: client.clone()?,
+            },
+            Event::Publish { client, draft } => Event::Publish {
+                client: client.clone()?,
+                draft: draft.clone()?,
+            },
+            Event::Subscribe { client, wish } => Event::Subscribe {
+                client: client.clone()?,
+                wish: wish.clone()?,
+            },
+            Event::ToBroker { client, old } => Event::ToBroker {
+                client: client.clone()?,
+                old: *old,
+            },
+            Event::ToEnd { client } => Event::ToEnd {
+                client: client.clone()?,
+            },
+            Event::Break { client } => Event::Break {
+                client: client.clone()?,
+            },
+            Event::Pump { client } => Event::Pump {
+                client: client.clone()?,
+            },
+            Event::Clock { wait } => Event::Clock { wait: *wait },
+            Event::Tick => Event::Tick,
+            Event::Restart => Event::Restart,
+            Event::StopBefore(asking) => Event::StopBefore(asking.clone()?),
+            Event::StopAfter(asking) => Event::StopAfter(asking.clone()?),
+            Event::Stranger { name, bytes } => Event::Stranger {
+                name: name.clone()?,
+                bytes: bytes.clone()?,
+            },
+            Event::Drain { client } => Event::Drain {
+                client: client.clone()?,
+            },
+        })
+    }
 }
 
 impl Event {

@@ -1,4 +1,8 @@
--- Ends and their lines in code, as the definitions have them.
-pub mod Lines
-pub mod Publishers
-pub mod Receivers
+-- The world that runs.
+pub mod Events
+pub mod Openings
+pub mod Scenes
+pub mod Stages
+pub mod Stopping
+pub mod Visits
+pub mod Worlds

@@ -1,17 +1,24 @@
-//! The world that runs: conforming ends and the lines between them and the broker (MQTT 5.0, 4.2 to 4.4).
+//! The world that runs: publishers, receivers and strangers round a broker over any store, and the events of a script that
+//! happen in it (MQTT 5.0, 4.1 to 4.4).
 #![tactic(auto)]
 
-mod back;
-mod heard;
-mod line;
-mod publisher;
-mod receiver;
-mod sent;
-mod told;
+mod asks;
+mod joining;
+mod lines;
+mod looks;
+mod opening;
+mod over;
+mod playing;
+mod quiet;
+mod scene;
+mod spelled;
+mod stage;
+mod stopping;
+mod visits;
+mod world;
 
-pub use back::Back;
-pub use line::{Down, Line, Link};
-pub use publisher::PublisherEnd;
-pub use receiver::{Entry, ReceiverEnd};
-pub use sent::Sent;
-pub use told::{RunFault, Told};
+pub use mqtt_broker::{Full, Keep, Limits, MemKeep};
+pub use mqtt_peers::{RunFault, Told};
+pub use mqtt_script::{Asking, Event};
+pub use spelled::each_packet_is_read_as_it_was_sent;
+pub use world::World;

@@ -1,0 +1,4 @@
+-- Many ends, and packets under way from them and to them.
+pub mod Many
+pub mod Fronts
+pub mod Told

@@ -1,0 +1,4 @@
+-- All ends of a world, and what becomes of them there.
+pub mod Ends
+pub mod Lines
+pub mod Telling

@@ -1,0 +1,180 @@
+-- A script that keeps its Clean Starts comes to turns that carry them through; strangers stay alike along it.
+use Rattle.std.proofs.Common.{◌≡◌, ℕ, Bool, true, false, not, ◌&&◌, List, [], ◌∷◌, ◌++◌, map, Option, refl, sym, ap, subst, ◌∙◌}
+use Rattle.std.specs.List.{AllByRecursion}
+use Rattle.mqtt_rules.specs.Laws.{AreWithin}
+use Rattle.mqtt_rules.specs.declared.Limits.{Limits}
+use Rattle.mqtt_laws.specs.Ends.{Publisher, Receiver}
+use Rattle.mqtt_laws.specs.Run.{Turn, are_clean_starts_carried, carries_clean, is_asked, run, setting, turned, waits_clean}
+use Rattle.mqtt_laws.specs.Tellings.{Telling}
+use Rattle.mqtt_laws.specs.World.{Asking, Event, World, ask, break, clock, connect_end, give_up, link_of, old_to_broker, publish, publisher}
+use Rattle.mqtt_laws.specs.World.{pump, receiver, restart, start, stop_after, stop_before, stranger, subscribe, tick, to_broker, to_end}
+use Rattle.mqtt_script.specs.declared.event.Event.{Event as Line}
+use Rattle.mqtt_unrolled_laws.specs.Unrolled.{AreAllAlike, HoldNoPacket, Unrolls, UnrollsAsking, UnrollsStop, come_in}
+use Rattle.mqtt_unrolled_laws.proofs.Alike.{step_alike}
+use Rattle.mqtt_unrolled_laws.proofs.Waiting.{step_waits}
+use Rattle.mqtt_world_laws.specs.Identities.{TellsApart}
+use Rattle.mqtt_every_run_laws.specs.Untouched.{IsUntouched}
+use Rattle.mqtt_every_run_laws.proofs.Untouched.{start_untouched}
+use Rattle.mqtt_world_laws.proofs.OnceRuns.{start_apart}
+use Rattle.mqtt_script_laws.specs.Cleanly.{ScriptDelivers, is_named, keep_clean_starts, keeps_clean, keeps_if, named_after, named_if}
+use Rattle.mqtt_script_laws.specs.Scripted.{AreTurnsOf, IsRunOf, RunsTo, events_of}
+use Rattle.mqtt_script_laws.proofs.Cleanly.{Known, step_known, waits_named}
+use Rattle.mqtt_script_laws.proofs.Scripts.{runs_by_turns, script_delivers}
+
+-- ---- events, one after the other
+
+abbrev carries_over : List (List ℕ) → List Event → Bool
+carries_over names [] = true
+carries_over names (e ∷ es) = keeps_clean names e && carries_over (named_after e names) es
+
+abbrev names_over : List Event → List (List ℕ) → List (List ℕ)
+names_over [] names = names
+names_over (e ∷ es) names = names_over es (named_after e names)
+
+both_true : (a b : Bool) → (a && b) ≡ true → (a ≡ true) × (b ≡ true)
+both_true true b h = (refl, h)
+both_true false b h = absurd cc
+
+and_true : (a b : Bool) → a ≡ true → b ≡ true → (a && b) ≡ true
+and_true true b h k = k
+and_true false b h k = absurd cc
+
+-- who is not named does not wait
+not_waiting : (names : List (List ℕ)) (client : List ℕ) (w : World) → Known names w → not (is_named client names) ≡ true → waits_clean client w ≡ false
+not_waiting names client w known other = by (waits_clean client w) refl
+  where
+    by : (t : Bool) → waits_clean client w ≡ t → t ≡ false
+    by false is = refl
+    by true is =
+        let named = waits_named names client w known is in
+        let clash : false ≡ true = sym (ap not named) ∙ other in
+        absurd cc
+
+event_carries : (e : Event) (names : List (List ℕ)) (w : World) → Known names w → keeps_clean names e ≡ true → carries_clean e w ≡ true
+event_carries (connect_end client true) names w known keeps = refl
+event_carries (connect_end client false) names w known keeps = ap not (not_waiting names client w known keeps)
+event_carries (give_up client) names w known keeps = by (is_asked (link_of client w)) (waits_clean client w) (not_waiting names client w known keeps)
+  where
+    by : (a b : Bool) → b ≡ false → not (a && b) ≡ true
+    by true b is = ap not is
+    by false b is = refl
+event_carries e names w known keeps = refl
+
+turns_carry : (limits : Limits) (ts : List Turn) (names : List (List ℕ)) (w : World) → Known names w → carries_over names (events_of ts) ≡ true
+    → (are_clean_starts_carried limits ts w ≡ true) × Known (names_over (events_of ts) names) (run limits ts w)
+turns_carry limits [] names w known keeps = (refl, known)
+turns_carry limits (t ∷ ts) names w known keeps =
+    let both = both_true (keeps_clean names t.event) (carries_over (named_after t.event names) (events_of ts)) keeps in
+    let rest = turns_carry limits ts (named_after t.event names) (turned limits t w) (step_known (setting limits t) t.event names w known) both.1 in
+    (and_true (carries_clean t.event w) (are_clean_starts_carried limits ts (turned limits t w)) (event_carries t.event names w known both.0) rest.0, rest.1)
+
+carry_joined : (limits : Limits) (xs ys : List Turn) (w : World) → are_clean_starts_carried limits xs w ≡ true → are_clean_starts_carried limits ys (run limits xs w) ≡ true
+    → are_clean_starts_carried limits (xs ++ ys) w ≡ true
+carry_joined limits [] ys w h k = k
+carry_joined limits (t ∷ xs) ys w h k =
+    let both = both_true (carries_clean t.event w) (are_clean_starts_carried limits xs (turned limits t w)) h in
+    and_true (carries_clean t.event w) (are_clean_starts_carried limits (xs ++ ys) (turned limits t w)) both.0 (carry_joined limits xs ys (turned limits t w) both.1 k)
+
+-- ---- what an event comes to
+
+record Comes (names : List (List ℕ)) (e : Event) (es : List Event) : Type 0 where
+  keeps : carries_over names es ≡ true
+  named : names_over es names ≡ named_after e names
+
+alone : (names : List (List ℕ)) (e : Event) (es : List Event) → keeps_clean names e ≡ true → es ≡ e ∷ [] → Comes names e es
+alone names e es keeps is = subst (Comes names e) (sym is) (record { keeps = and_true (keeps_clean names e) true keeps refl; named = refl })
+
+pieces_come : (names : List (List ℕ)) (name bytes : List ℕ) (pieces : List (List ℕ)) → Comes names (ask (stranger name bytes)) (map (come_in name) pieces)
+pieces_come names name bytes [] = record { keeps = refl; named = refl }
+pieces_come names name bytes (piece ∷ pieces) = let rest = pieces_come names name bytes pieces in record { keeps = rest.keeps; named = rest.named }
+
+asking_comes : (names : List (List ℕ)) (a : Asking) (w : World) (es : List Event) → UnrollsAsking a w es → Comes names (ask a) es
+asking_comes names (to_broker client) w es is = alone names (ask (to_broker client)) es refl is
+asking_comes names (old_to_broker client) w es is = alone names (ask (old_to_broker client)) es refl is
+asking_comes names (break client) w es is = alone names (ask (break client)) es refl is
+asking_comes names (pump client) w es is = alone names (ask (pump client)) es refl is
+asking_comes names tick w es is = alone names (ask tick) es refl is
+asking_comes names (stranger name bytes) w es (pieces, joined, cut, is) = subst (Comes names (ask (stranger name bytes))) (sym is) (pieces_come names name bytes pieces)
+
+twice : (names : List (List ℕ)) (a first : Asking) (es : List Event) → es ≡ ask first ∷ restart ∷ [] → Comes names (stop_after a) es
+twice names a first es is = subst (Comes names (stop_after a)) (sym is) (record { keeps = refl; named = refl })
+
+stop_comes : (names : List (List ℕ)) (a : Asking) (w : World) (es : List Event) → UnrollsStop a w es → Comes names (stop_after a) es
+stop_comes names (to_broker client) w es is = twice names (to_broker client) (to_broker client) es is
+stop_comes names (old_to_broker client) w es is = twice names (old_to_broker client) (old_to_broker client) es is
+stop_comes names (break client) w es is = twice names (break client) (break client) es is
+stop_comes names (pump client) w es is = twice names (pump client) (pump client) es is
+stop_comes names tick w es is = twice names tick tick es is
+stop_comes names (stranger name bytes) w es (part, more, joined, found, none, is) = twice names (stranger name bytes) (stranger name part) es is
+
+event_comes : (names : List (List ℕ)) (e : Event) (w : World) (es : List Event) → keeps_clean names e ≡ true → Unrolls e w es → Comes names e es
+event_comes names (publisher client) w es keeps is = alone names (publisher client) es keeps is
+event_comes names (receiver client window) w es keeps is = alone names (receiver client window) es keeps is
+event_comes names (connect_end client clean) w es keeps is = alone names (connect_end client clean) es keeps is
+event_comes names (give_up client) w es keeps is = alone names (give_up client) es keeps is
+event_comes names (publish client d) w es keeps is = alone names (publish client d) es keeps is
+event_comes names (subscribe client x) w es keeps is = alone names (subscribe client x) es keeps is
+event_comes names (to_end client) w es keeps is = alone names (to_end client) es keeps is
+event_comes names (clock wait) w es keeps is = alone names (clock wait) es keeps is
+event_comes names (ask a) w es keeps is = asking_comes names a w es is
+event_comes names restart w es keeps is = alone names restart es keeps is
+event_comes names (stop_before a) w es keeps is = alone names (stop_before a) es keeps is
+event_comes names (stop_after a) w es keeps is = stop_comes names a w es is
+
+-- ---- a script
+
+script_carries : (limits : Limits) (es : List Line) (names : List (List ℕ)) (turns : List Turn) (w : World) → Known names w → keep_clean_starts names es ≡ true
+    → AreTurnsOf limits es turns w → are_clean_starts_carried limits turns w ≡ true
+script_carries limits [] names turns w known keeps are = ap (λ (ts : List Turn). are_clean_starts_carried limits ts w) are
+script_carries limits (e ∷ es) names turns w known keeps (x, first, rest, at, good, unrolls, joined, more) =
+    let kept = subst (λ (o : Option Event). (keeps_if names o && keep_clean_starts (named_if o names) es) ≡ true) at keeps in
+    let both = both_true (keeps_clean names x) (keep_clean_starts (named_after x names) es) kept in
+    let comes = event_comes names x w (events_of first) both.0 unrolls in
+    let front = turns_carry limits first names w known comes.keeps in
+    let behind = subst (λ (ns : List (List ℕ)). Known ns (run limits first w)) comes.named front.1 in
+    ap (λ (ts : List Turn). are_clean_starts_carried limits ts w) joined
+    ∙ carry_joined limits first rest w front.0 (script_carries limits es (named_after x names) rest (run limits first w) behind both.1 more)
+
+nobody_known : (names : List (List ℕ)) (w : World) → w.publishers ≡ [] → w.receivers ≡ [] → Known names w
+nobody_known names w none nobody = record {
+  publishers = subst (AllByRecursion (λ (p : Publisher). p.line.clean ≡ true → is_named p.client names ≡ true)) (sym none) tt;
+  receivers = subst (AllByRecursion (λ (r : Receiver). r.line.clean ≡ true → is_named r.client names ≡ true)) (sym nobody) tt;
+}
+
+pub delivers_once : (limits : Limits) (es : List Line) (tells : List Telling) (w after : World) → AreWithin limits → IsUntouched limits w → TellsApart w.broker.records
+    → keep_clean_starts [] es ≡ true → RunsTo limits es tells w after → ScriptDelivers limits es w after
+delivers_once limits es tells w after within untouched apart keeps runs =
+    let by : IsRunOf limits es w after = runs_by_turns limits es tells w after runs in
+    let known = nobody_known [] w untouched.new.publishers untouched.new.receivers in
+    record {
+      turns = by.turns;
+      are = by.are;
+      is = by.is;
+      delivers = script_delivers limits by.turns w within untouched apart by.unspent (script_carries limits es [] by.turns w known keeps by.are);
+    }
+
+pub start_delivers : (limits : Limits) (es : List Line) (tells : List Telling) (after : World) → AreWithin limits → keep_clean_starts [] es ≡ true
+    → RunsTo limits es tells start after → ScriptDelivers limits es start after
+start_delivers limits es tells after within keeps runs =
+    delivers_once limits es tells start after within (start_untouched limits within) start_apart keeps runs
+
+-- ---- strangers
+
+run_alike : (limits : Limits) (ts : List Turn) (w : World) → AreAllAlike w → AreAllAlike (run limits ts w)
+run_alike limits [] w alike = alike
+run_alike limits (t ∷ ts) w alike = run_alike limits ts (turned limits t w) (step_alike (setting limits t) t.event w alike)
+
+run_waits : (limits : Limits) (ts : List Turn) (w : World) → AreAllAlike w → HoldNoPacket w → HoldNoPacket (run limits ts w)
+run_waits limits [] w alike waits = waits
+run_waits limits (t ∷ ts) w alike waits =
+    run_waits limits ts (turned limits t w) (step_alike (setting limits t) t.event w alike) (step_waits (setting limits t) t.event w alike waits)
+
+pub script_alike : (limits : Limits) (es : List Line) (tells : List Telling) (w after : World) → RunsTo limits es tells w after → AreAllAlike w → AreAllAlike after
+script_alike limits es tells w after runs alike =
+    let by : IsRunOf limits es w after = runs_by_turns limits es tells w after runs in
+    subst AreAllAlike (sym by.is) (run_alike limits by.turns w alike)
+
+pub script_waits : (limits : Limits) (es : List Line) (tells : List Telling) (w after : World) → RunsTo limits es tells w after → AreAllAlike w → HoldNoPacket w → HoldNoPacket after
+script_waits limits es tells w after runs alike waits =
+    let by : IsRunOf limits es w after = runs_by_turns limits es tells w after runs in
+    subst HoldNoPacket (sym by.is) (run_waits limits by.turns w alike waits)

@@ -1,0 +1,7 @@
+-- Runs of scripts, and the turns that they are made of.
+pub mod Scripts
+pub mod Single
+pub mod Pieces
+pub mod Comings
+pub mod Cleanly
+pub mod Carrying

@@ -1,0 +1,43 @@
+-- Scripts in which each Clean Start is carried through, by their events alone (MQTT 5.0, 3.1.2.4, ours).
+use Rattle.std.specs.Prelude.{◌≡◌, ℕ, Bool, true, cond, not, ◌&&◌, ◌||◌, List, [], ◌∷◌, Option, Some, None, bytes_eq}
+use Rattle.std.specs.List.{list_any}
+use Rattle.mqtt_rules.specs.declared.Limits.{Limits}
+use Rattle.mqtt_laws.specs.Run.{Turn, run}
+use Rattle.mqtt_laws.specs.World as world
+use Rattle.mqtt_laws.specs.World.{World}
+use Rattle.mqtt_every_run_laws.specs.Scripts.{DeliversOnce}
+use Rattle.mqtt_script.specs.declared.event.Event.{Event}
+use Rattle.mqtt_script_laws.specs.Scripted.{AreTurnsOf, event_of}
+
+-- an end that has connected with Clean Start 1 gives no line up, and each further CONNECT of it has Clean Start 1; these are the
+-- names of those that have so far
+abbrev pub is_named : List ℕ → List (List ℕ) → Bool
+is_named client names = list_any (λ name. bytes_eq client name) names
+
+abbrev pub keeps_clean : List (List ℕ) → world.Event → Bool
+keeps_clean names (world.connect_end client clean) = clean || not (is_named client names)
+keeps_clean names (world.give_up client) = not (is_named client names)
+keeps_clean names e = true
+
+abbrev pub named_after : world.Event → List (List ℕ) → List (List ℕ)
+named_after (world.connect_end client clean) names = cond clean (client ∷ names) names
+named_after e names = names
+
+abbrev pub keeps_if : List (List ℕ) → Option world.Event → Bool
+keeps_if names None = true
+keeps_if names (Some e) = keeps_clean names e
+
+abbrev pub named_if : Option world.Event → List (List ℕ) → List (List ℕ)
+named_if None names = names
+named_if (Some e) names = named_after e names
+
+abbrev pub keep_clean_starts : List (List ℕ) → List Event → Bool
+keep_clean_starts names [] = true
+keep_clean_starts names (e ∷ es) = keeps_if names (event_of e) && keep_clean_starts (named_if (event_of e) names) es
+
+-- the events come to turns that lead there, and of these turns all is true that is proved of every run
+pub record ScriptDelivers (limits : Limits) (es : List Event) (w after : World) : Type 0 where
+  pub turns : List Turn
+  pub are : AreTurnsOf limits es turns w
+  pub is : after ≡ run limits turns w
+  pub delivers : DeliversOnce limits turns w

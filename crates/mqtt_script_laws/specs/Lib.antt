@@ -1,0 +1,4 @@
+-- What a run of a script is.
+pub mod Scripted
+pub mod Turns
+pub mod Cleanly

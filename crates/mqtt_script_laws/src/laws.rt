@@ -1,0 +1,42 @@
+//! Laws of the runs of scripts (4.1, 4.3, 4.4, 4.6).
+ghost use Rattle.std.specs.Prelude.{◌≡◌, List, [], ◌∷◌, ◌++◌, Some, false, true};
+ghost use Rattle.mqtt_every_run_laws.specs.Scripts.{DeliversOnce};
+ghost use Rattle.mqtt_every_run_laws.specs.Untouched.{IsUntouched};
+ghost use Rattle.mqtt_laws.specs.Run.{Turn, are_clean_starts_carried};
+ghost use Rattle.mqtt_laws.specs.Tellings.{Telling};
+ghost use Rattle.mqtt_laws.specs.World as world;
+ghost use Rattle.mqtt_laws.specs.World.{World};
+ghost use Rattle.mqtt_rules.specs.Laws.{AreWithin};
+ghost use Rattle.mqtt_rules.specs.declared.Limits.{Limits};
+ghost use Rattle.mqtt_script.specs.declared.event.Event.{Event};
+ghost use Rattle.mqtt_script_laws.specs.Scripted.{AreTurnsOf, Happens, IsRunOf, RunsTo, event_of};
+ghost use Rattle.mqtt_world_laws.specs.Identities.{TellsApart};
+ghost use Rattle.mqtt_world_laws.specs.Spending.{run_spends};
+
+/// What a script's events do, one after the other, is what turns of the world do that are of one step of the broker each, and
+/// none of them spends a number (4.1).
+pub fn a_script_runs_by_turns()
+    ensures is { (limits : Limits) (es : List Event) (tells : List Telling) (w after : World)
+        → RunsTo limits es tells w after → IsRunOf limits es w after }
+{}
+
+/// A script's events may come in several runs, each from where the one before it ended: together they are one run; so with
+/// one event more.
+pub fn scripts_follow_one_another()
+    ensures joins { (limits : Limits) (es more : List Event) (tells others : List Telling) (w mid after : World)
+        → RunsTo limits es tells w mid → RunsTo limits more others mid after
+        → RunsTo limits (es ++ more) (tells ++ others) w after }
+    ensures further { (limits : Limits) (es : List Event) (tells : List Telling) (e : Event) (x : world.Event)
+        (t : Telling) (w mid after : World) → RunsTo limits es tells w mid
+        → event_of e ≡ Some x → Happens limits x t mid after → RunsTo limits (es ++ e ∷ []) (tells ++ t ∷ []) w after }
+{}
+
+/// Exactly-once delivery, of scripts: whatever turns a script's events come to, all that is proved of every run of the world
+/// holds of them, where no number is spent and each Clean Start is carried through. Of where the script begins is asked what
+/// every run asks (3.3.4, 4.3, 4.4, 4.6, 4.8, 4.9).
+pub fn whatever_a_script_does()
+    ensures delivers { (limits : Limits) (es : List Event) (turns : List Turn) (w : World)
+        → AreWithin limits → IsUntouched limits w → TellsApart w.broker.records → AreTurnsOf limits es turns w
+        → run_spends limits turns w ≡ false → are_clean_starts_carried limits turns w ≡ true
+        → DeliversOnce limits turns w }
+{}

@@ -1,0 +1,15 @@
+//! What a run of a script is, event by event, and the laws of every such run (MQTT 5.0, 2.1, 4.1 to 4.4).
+#![tactic(auto)]
+
+mod laws;
+mod piece_laws;
+mod script_laws;
+mod turn_laws;
+
+pub use laws::{a_script_runs_by_turns, scripts_follow_one_another, whatever_a_script_does};
+pub use piece_laws::{a_piece_is_one_turn, bytes_happen_piece_by_piece};
+pub use script_laws::{scripts_deliver_exactly_once, strangers_hold_no_packet};
+pub use turn_laws::{
+    a_stop_before_is_a_restart, a_turn_tells_what_its_event_does, an_event_happens_by_turns,
+    no_end_hears_of_a_line,
+};

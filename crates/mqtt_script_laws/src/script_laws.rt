@@ -1,0 +1,37 @@
+//! Laws of whole scripts: exactly-once delivery, and what strangers hold (2.1, 4.1, 4.3, 4.4, 4.6).
+ghost use Rattle.std.specs.Prelude.{◌≡◌, List, [], true};
+ghost use Rattle.mqtt_every_run_laws.specs.Untouched.{IsUntouched};
+ghost use Rattle.mqtt_laws.specs.Tellings.{Telling};
+ghost use Rattle.mqtt_laws.specs.World.{World, start};
+ghost use Rattle.mqtt_records.specs.Records.{nothing};
+ghost use Rattle.mqtt_rules.specs.Laws.{AreWithin};
+ghost use Rattle.mqtt_rules.specs.State.{MemberChoice};
+ghost use Rattle.mqtt_rules.specs.declared.Limits.{Limits};
+ghost use Rattle.mqtt_script.specs.declared.event.Event.{Event};
+ghost use Rattle.mqtt_script_laws.specs.Cleanly.{ScriptDelivers, keep_clean_starts};
+ghost use Rattle.mqtt_script_laws.specs.Scripted.{RunsTo};
+ghost use Rattle.mqtt_unrolled_laws.specs.Unrolled.{AreAllAlike, HoldNoPacket};
+ghost use Rattle.mqtt_world_laws.specs.Fair.{opened_world};
+ghost use Rattle.mqtt_world_laws.specs.Identities.{TellsApart};
+
+/// Exactly-once delivery, of every script that ran, whatever was lost, given up, restarted or stopped in it: each message of a
+/// publisher was accepted once, each publication routed, and its copies entered, each once, and wait or have one end; and each
+/// receiver was handed its copies once and in order. Asked of the script is but that its Clean Starts are carried through, which
+/// is read off its events: an end that has connected with Clean Start 1 gives no line up, and connects so again. From nothing
+/// stored nothing else is asked (3.1.2.4, 3.3.4, 4.3, 4.4, 4.6, 4.8, 4.9).
+pub fn scripts_deliver_exactly_once()
+    ensures delivers { (limits : Limits) (es : List Event) (tells : List Telling) (w after : World) → AreWithin limits
+        → IsUntouched limits w → TellsApart w.broker.records → keep_clean_starts [] es ≡ true
+        → RunsTo limits es tells w after → ScriptDelivers limits es w after }
+    ensures empty { (limits : Limits) (choice : MemberChoice) → opened_world limits choice 0 nothing ≡ start }
+    ensures from_nothing { (limits : Limits) (es : List Event) (tells : List Telling) (after : World) → AreWithin limits
+        → keep_clean_starts [] es ≡ true → RunsTo limits es tells start after → ScriptDelivers limits es start after }
+{}
+
+/// In each script that ran strangers of one name hold the same bytes, and nothing whole is held of them (2.1).
+pub fn strangers_hold_no_packet()
+    ensures alike { (limits : Limits) (es : List Event) (tells : List Telling) (w after : World)
+        → RunsTo limits es tells w after → AreAllAlike w → AreAllAlike after }
+    ensures waits { (limits : Limits) (es : List Event) (tells : List Telling) (w after : World)
+        → RunsTo limits es tells w after → AreAllAlike w → HoldNoPacket w → HoldNoPacket after }
+{}

@@ -1,0 +1,231 @@
+-- What events come to in a world that runs, one after the other, and that all it keeps is a run of the definitions' world.
+use Rattle.std.proofs.Common.{◌≡◌, ◌≢◌, List, [], ◌∷◌, ◌++◌, IfErr, IfOk, OnOk, Option, None, Some, append-nil, append_assoc, refl, sym, ap, subst, ◌∙◌, ◌⊎◌, inl}
+use Rattle.std.specs.Prelude.{ℕ, length, true, Result, Ok, Err}
+use Rattle.mqtt_records.specs.declared.keep.Keep.{Ghosts}
+use Rattle.mqtt_laws.specs.Tellings.{Telling}
+use Rattle.mqtt_laws.specs.World as world
+use Rattle.mqtt_laws.specs.World.{World}
+use Rattle.mqtt_peers.specs.declared.told.RunFault.{RunFault}
+use Rattle.mqtt_peers.specs.declared.told.RunFault.TheVariants as fault
+use Rattle.mqtt_script.specs.declared.event.Event.{Event}
+use Rattle.mqtt_script_laws.specs.Scripted.{IsBadEvent, IsBadHere, RunsTo, event_of}
+use Rattle.mqtt_script_laws.proofs.Carrying.{delivers_once}
+use Rattle.mqtt_script_laws.proofs.Scripts.{runs_join}
+use Rattle.mqtt_broker.specs.TheRules.Laws.{AreWithin}
+use Rattle.mqtt_broker.specs.TheRules.declared.Limits.{Limits}
+use Rattle.mqtt_world.specs.Events.{IsReached}
+use Rattle.mqtt_world.specs.Openings.{AlwaysSound}
+use Rattle.mqtt_world.specs.Stages.{Plays, Staged, broker_of, world_at}
+use Rattle.mqtt_world.specs.Worlds.{Came, CantHappen, Happen, HasCome, HasDelivered, IfSound, Lasting, PlaysIf, Refuses, Runs, Stops, fault_of, over_by, with_stage}
+use Rattle.mqtt_world.specs.declared.over.Over.{Over}
+use Rattle.mqtt_world.specs.declared.over.Over.TheVariants as over
+use Rattle.mqtt_world.proofs.ReadAsSent.{spells_all}
+
+-- ---- results
+
+ok_is : {A E : Type 0} (r : Result A E) (a b : A) → r ≡ Ok a → r ≡ Ok b → a ≡ b
+ok_is r a b is same = cc
+
+ok_no_err : {P : Type 0} {A E : Type 0} (r : Result A E) (a : A) (e : E) → r ≡ Ok a → r ≡ Err e → P
+ok_no_err r a e is bad = absurd (cc)
+
+none_of : {A : Type 0} (xs : List A) → length xs ≡ 0 → xs ≡ []
+none_of [] is = refl
+none_of (x ∷ xs) is = absurd (cc)
+
+module _ {K : Type 0} (g : Ghosts K) where
+  -- ---- on the stage
+
+  pub runs_none : (s : Staged K) → Runs g [] s [] s
+  runs_none s = record { limits = refl; reached = λ sound reached. reached; runs = λ sound reached. (refl, refl) }
+
+  reached_on : (es : List Event) (old : Staged K) (ts : List Telling) (new : Staged K) → Runs g es old ts new → AlwaysSound g
+      → IsReached old.limits (broker_of old) → IsReached new.limits (broker_of new)
+  reached_on es old ts new r sound reached = subst (λ (l : Limits). IsReached l (broker_of new)) (sym r.limits) (r.reached sound reached)
+
+  pub runs_joined : (es more : List Event) (ts us : List Telling) (old mid new : Staged K) → Runs g es old ts mid → Runs g more mid us new
+      → Runs g (es ++ more) old (ts ++ us) new
+  runs_joined es more ts us old mid new a b = record {
+    limits = b.limits ∙ a.limits;
+    reached = λ sound reached.
+        subst (λ (l : Limits). IsReached l (broker_of new)) a.limits (b.reached sound (reached_on es old ts mid a sound reached));
+    runs = λ sound reached.
+        runs_join old.limits es more ts us (world_at old) (world_at mid) (world_at new) (a.runs sound reached)
+        (subst (λ (l : Limits). RunsTo l more us (world_at mid) (world_at new)) a.limits
+        (b.runs sound (reached_on es old ts mid a sound reached)));
+  }
+
+  -- one event that happened
+  played_if : (e : Event) (o : Option world.Event) (old : Staged K) (t : Telling) (new : Staged K) → event_of e ≡ o → PlaysIf g o old (Some t) new
+      → Runs g (e ∷ []) old (t ∷ []) new
+  played_if e None old t new is p = absurd (cc)
+  played_if e (Some x) old t new is p = record {
+    limits = p.limits;
+    reached = p.reached;
+    runs = λ sound reached. (x, world_at new, is, p.done sound (spells_all old.limits) reached, (refl, refl));
+  }
+
+  pub played_one : (e : Event) (old : Staged K) (t : Telling) (new : Staged K) → PlaysIf g (event_of e) old (Some t) new → Runs g (e ∷ []) old (t ∷ []) new
+  played_one e old t new p = played_if e (event_of e) old t new refl p
+
+  -- and one that can't
+  played_none : (o : Option world.Event) (old new : Staged K) → PlaysIf g o old None new → Runs g [] old [] new
+  played_none None old new p = subst (λ (s : Staged K). Runs g [] old [] s) (sym p.1) (runs_none old)
+  played_none (Some x) old new p = record {
+    limits = p.limits;
+    reached = p.reached;
+    runs = λ sound reached. (refl, (p.done sound (spells_all old.limits) reached).1);
+  }
+
+  played_bad : (o : Option world.Event) (old new : Staged K) → PlaysIf g o old None new → IfSound g old (IsBadEvent o (world_at old))
+  played_bad None old new p = λ sound reached. tt
+  played_bad (Some x) old new p = λ sound reached. (p.done sound (spells_all old.limits) reached).0
+
+  -- ---- in the world
+
+  pub happen_none : (s : Staged K) (w : Lasting K) → w.stage ≡ Ok s → Happen g [] [] w w
+  happen_none s w is = record { from = s; to = s; was = is; is = is; runs = runs_none s; kept = sym (append-nil w.events) }
+
+  pub happen_more : (es more : List Event) (ts us : List Telling) (old mid new : Lasting K) → Happen g es ts old mid → Happen g more us mid new
+      → Happen g (es ++ more) (ts ++ us) old new
+  happen_more es more ts us old mid new a b =
+      let same : b.from ≡ a.to = ok_is mid.stage b.from a.to b.was a.is in
+      record {
+        from = a.from;
+        to = b.to;
+        was = a.was;
+        is = b.is;
+        runs = runs_joined es more ts us a.from a.to b.to a.runs (subst (λ (s : Staged K). Runs g more s us b.to) same b.runs);
+        kept = b.kept ∙ (ap (λ (xs : List Event). xs ++ more) a.kept ∙ append_assoc old.events es more);
+      }
+
+  pub happened_one : (e : Event) (s n : Staged K) (t : Telling) (w new : Lasting K) → PlaysIf g (event_of e) s (Some t) n → new.stage ≡ Ok n
+      → new.events ≡ w.events ++ e ∷ [] → Happen g (e ∷ []) (t ∷ []) (with_stage s w) new
+  happened_one e s n t w new p is kept = record { from = s; to = n; was = refl; is = is; runs = played_one e s t n p; kept = kept }
+
+  pub cant_happen : (e : Event) (s n : Staged K) (w : Lasting K) → PlaysIf g (event_of e) s None n → CantHappen g e (with_stage s w) (with_stage n w)
+  cant_happen e s n w p = record {
+    nothing = record {
+      from = s;
+      to = n;
+      was = refl;
+      is = refl;
+      runs = played_none (event_of e) s n p;
+      kept = sym (append-nil w.events);
+    };
+    bad = played_bad (event_of e) s n p;
+  }
+
+  -- a world that is over
+  pub refused_over : (e : Event) (o : Over) (w : Lasting K) → Refuses g e (fault_of o) w (over_by o w)
+  refused_over e over.Memory w = refl
+  refused_over e over.Store w = refl
+
+  -- ---- all that it keeps
+
+  came_on : (start : World) (es more : List Event) (us : List Telling) (s n : Staged K) → AlwaysSound g → Came start es s → Runs g more s us n
+      → Came start (es ++ more) n
+  came_on start es more us s n sound c r = record {
+    within = subst (λ (l : Limits). AreWithin l) (sym r.limits) c.within;
+    reached = reached_on more s us n r sound c.reached;
+    tells = c.tells ++ us;
+    runs = subst (λ (l : Limits). RunsTo l (es ++ more) (c.tells ++ us) start (world_at n)) (sym r.limits)
+        (runs_join s.limits es more c.tells us start (world_at s) (world_at n) c.runs (r.runs sound c.reached));
+  }
+
+  pub come_on : (start : World) (es : List Event) (ts : List Telling) (old new : Lasting K) → AlwaysSound g → Happen g es ts old new → HasCome start old
+      → HasCome start new
+  come_on start es ts old new sound h come = λ s is.
+      let same : h.to ≡ s = ok_is new.stage h.to s h.is is in
+      subst (λ (x : Staged K). Came start new.events x) same
+      (subst (λ (xs : List Event). Came start xs h.to) (sym h.kept)
+      (came_on start old.events es ts h.from h.to sound (come h.from h.was) h.runs))
+
+  come_over : (start : World) (o : Over) (old new : Lasting K) → new ≡ over_by o old → HasCome start new
+  come_over start o old new is = λ s stands. ok_no_err new.stage s o stands (ap (λ (w : Lasting K). w.stage) is)
+
+  pub come_refused : (start : World) (e : Event) (f : RunFault) (old new : Lasting K) → AlwaysSound g → Refuses g e f old new → HasCome start old
+      → HasCome start new
+  come_refused start e fault.Memory old new sound r come = come_over start over.Memory old new r
+  come_refused start e fault.Store old new sound r come = come_over start over.Store old new r
+  come_refused start e (fault.BadEvent place) old new sound r come = come_on start [] [] old new sound r.0.nothing come
+
+  pub come_stopped : (start : World) (es : List Event) (f : RunFault) (old new : Lasting K) → AlwaysSound g → Stops g es f old new → HasCome start old
+      → HasCome start new
+  come_stopped start es f old new sound s come =
+      come_refused start s.event f s.mid new sound s.refused (come_on start s.before s.tells old s.mid sound s.happened come)
+
+-- ---- a result of many events, or of one
+
+  -- one event
+  pub one_comes : (start : World) (e : Event) (r : Result Telling RunFault) (old new : Lasting K) → AlwaysSound g
+      → IfOk r (λ (t : Telling). Happen g (e ∷ []) (t ∷ []) old new) → IfErr r (λ (f : RunFault). Refuses g e f old new)
+      → HasCome start old → HasCome start new
+  one_comes start e (Ok t) old new sound h r come = come_on start (e ∷ []) (t ∷ []) old new sound h come
+  one_comes start e (Err f) old new sound h r come = come_refused start e f old new sound r come
+
+pub delivered : {K : Type 0} (start : World) (w : Lasting K) → HasCome start w → HasDelivered start w
+delivered {K} start w come = λ s is untouched apart keeps.
+    let c = come s is in
+    delivers_once s.limits w.events c.tells start (world_at s) c.within untouched apart keeps c.runs
+
+module _ {K : Type 0} (g : Ghosts K) where
+  -- ---- what a step of the world comes to
+
+  -- what happened is kept
+  pub kept_happens : (e : Event) (s n : Staged K) (told : Telling) (w new : Lasting K) (r : Result Telling RunFault) → PlaysIf g (event_of e) s (Some told) n
+      → IfOk r (λ (t : Telling). t ≡ told) → IfOk r (λ (t : Telling). new ≡ record { stage = Ok n; events = w.events ++ e ∷ [] })
+      → IfOk r (λ (t : Telling). Happen g (e ∷ []) (t ∷ []) (with_stage s w) new)
+  kept_happens e s n told w new (Ok t) p told_is is =
+      subst (λ (x : Telling). Happen g (e ∷ []) (x ∷ []) (with_stage s w) new) (sym told_is)
+      (happened_one g e s n told w new p (ap (λ (x : Lasting K). x.stage) is) (ap (λ (x : Lasting K). x.events) is))
+  kept_happens e s n told w new (Err f) p told_is is = tt
+
+  -- what can't happen is not
+  pub refused_here : (e : Event) (s n : Staged K) (w new : Lasting K) (r : Result Telling RunFault) → PlaysIf g (event_of e) s None n
+      → r ≡ Err (fault.BadEvent (length w.events)) → new ≡ with_stage n w → IfErr r (λ (f : RunFault). Refuses g e f (with_stage s w) new)
+  refused_here e s n w new r p is same =
+      subst (λ (x : Result Telling RunFault). IfErr x (λ (f : RunFault). Refuses g e f (with_stage s w) new)) (sym is)
+      (subst (λ (x : Lasting K). CantHappen g e (with_stage s w) x) (sym same) (cant_happen g e s n w p), refl)
+
+  -- ---- what a run comes to
+
+  -- the first of the events happened, with what they tell, and these are left
+  pub data IsSoFar (es : List Event) (old : Lasting K) (ts : List Telling) (rest : List Event) (new : Lasting K) : Type 0 where
+    so_far : (done : List Event) → es ≡ done ++ rest → Happen g done ts old new → IsSoFar es old ts rest new
+
+  pub so_far_none : (es : List Event) (s : Staged K) (w : Lasting K) (ts : List Telling) → w.stage ≡ Ok s → ts ≡ [] → IsSoFar es w ts es w
+  so_far_none es s w ts is none = so_far [] refl (subst (λ (xs : List Telling). Happen g [] xs w w) (sym none) (happen_none g s w is))
+
+  pub so_far_more : (es : List Event) (old : Lasting K) (ts us : List Telling) (rest after : List Event) (e : Event) (t : Telling) (mid new : Lasting K)
+      → IsSoFar es old ts rest mid → rest ≡ e ∷ after → us ≡ ts ++ t ∷ [] → Happen g (e ∷ []) (t ∷ []) mid new → IsSoFar es old us after new
+  so_far_more es old ts us rest after e t mid new (so_far done are happened) first told next =
+      so_far (done ++ e ∷ [])
+      (are ∙ (ap (λ (xs : List Event). done ++ xs) first ∙ sym (append_assoc done (e ∷ []) after)))
+      (subst (λ (xs : List Telling). Happen g (done ++ e ∷ []) xs old new) (sym told)
+      (happen_more g done (e ∷ []) ts (t ∷ []) old mid new happened next))
+
+  pub so_far_stops : (es : List Event) (old : Lasting K) (ts : List Telling) (rest after : List Event) (e : Event) (f : RunFault) (mid new : Lasting K)
+      → IsSoFar es old ts rest mid → rest ≡ e ∷ after → Refuses g e f mid new → Stops g es f old new
+  so_far_stops es old ts rest after e f mid new (so_far done are happened) first refused = record {
+    before = done;
+    event = e;
+    rest = after;
+    are = are ∙ ap (λ (xs : List Event). done ++ xs) first;
+    tells = ts;
+    mid = mid;
+    happened = happened;
+    refused = refused;
+  }
+
+  pub so_far_all : (es : List Event) (old : Lasting K) (ts : List Telling) (rest : List Event) (new : Lasting K) → IsSoFar es old ts rest new → length rest ≡ 0
+      → Happen g es ts old new
+  so_far_all es old ts rest new (so_far done are happened) none =
+      subst (λ (xs : List Event). Happen g xs ts old new)
+      (sym (are ∙ (ap (λ (xs : List Event). done ++ xs) (none_of rest none) ∙ append-nil done))) happened
+
+  -- all that a world keeps after a run
+  pub run_comes : {U : Type 0} (start : World) (es : List Event) (ts : List Telling) (r : Result U RunFault) (old new : Lasting K) → AlwaysSound g
+      → OnOk r (Happen g es ts old new) → IfErr r (λ (f : RunFault). Stops g es f old new) → HasCome start old → HasCome start new
+  run_comes start es ts (Ok u) old new sound h s come = come_on g start es ts old new sound h come
+  run_comes start es ts (Err f) old new sound h s come = come_stopped g start es f old new sound s come

@@ -1,0 +1,129 @@
+-- An event of a script on the stage, from what the call that it comes to does there.
+use Rattle.std.proofs.Common.{◌≡◌, ◌≢◌, ℕ, Bool, true, false, List, Option, None, Some, IfOk, refl, sym, ap, subst, ◌∙◌}
+use Rattle.std.specs.Prelude.{Result, Ok, Err}
+use Rattle.mqtt_records.specs.declared.keep.Keep.{Ghosts}
+use Rattle.mqtt_laws.specs.Tellings.{Telling}
+use Rattle.mqtt_laws.specs.World as world
+use Rattle.mqtt_peers.specs.declared.told.RunFault.{RunFault}
+use Rattle.mqtt_script.specs.declared.event.Asking.{Asking}
+use Rattle.mqtt_script.specs.declared.event.Asking.TheVariants as asking
+use Rattle.mqtt_script.specs.declared.event.Event.{Event}
+use Rattle.mqtt_script.specs.declared.event.Event.TheVariants.{Publisher, Receiver, Connect, GiveUp, Publish, Subscribe}
+use Rattle.mqtt_script.specs.declared.event.Event.TheVariants.{ToBroker, ToEnd, Break, Pump, Clock, Tick, Restart, StopBefore}
+use Rattle.mqtt_script.specs.declared.event.Event.TheVariants.{StopAfter, Stranger, Drain}
+use Rattle.mqtt_script.specs.declared.event.Draft.{Draft}
+use Rattle.mqtt_script.specs.declared.event.Wish.{Wish}
+use Rattle.mqtt_script_laws.specs.Scripted as scripted
+use Rattle.mqtt_script_laws.specs.Scripted.{asking_of, event_of}
+use Rattle.mqtt_script_laws.specs.Turns.{IsPlain}
+use Rattle.mqtt_clients.specs.Ends.{reading}
+use Rattle.mqtt_broker.specs.TheRules.declared.Limits.{Limits}
+use Rattle.mqtt_world.specs.Events.{Does, IsDone, IsReached, SpellsAll}
+use Rattle.mqtt_world.specs.Scenes.{Played}
+use Rattle.mqtt_world.specs.Stages.{IsStanding, Plays, Staged, broker_of, world_at}
+use Rattle.mqtt_world.specs.Worlds.{DoesIf, IsOfEnds, PlaysIf}
+use Rattle.mqtt_world.proofs.Staged.{plays_in, staged}
+
+-- ---- which events they are
+
+-- any other than those by which ends and the broker alone do something
+pub other_events : (e : Event) → ((c : List ℕ) → e ≢ Publisher c) → ((c : List ℕ) (n : ℕ) → e ≢ Receiver c n) → ((c : List ℕ) (b : Bool) → e ≢ Connect c b)
+    → ((c : List ℕ) → e ≢ GiveUp c) → ((c : List ℕ) (d : Draft) → e ≢ Publish c d) → ((c : List ℕ) (x : Wish) → e ≢ Subscribe c x)
+    → ((c : List ℕ) (b : Bool) → e ≢ ToBroker c b) → ((c : List ℕ) → e ≢ ToEnd c) → ((c : List ℕ) → e ≢ Break c) → ((c : List ℕ) → e ≢ Pump c) → e ≢ Tick
+    → IsOfEnds e → ⊥
+other_events (Publisher c) n1 n2 n3 n4 n5 n6 n7 n8 n9 n10 n11 is = n1 c refl
+other_events (Receiver c n) n1 n2 n3 n4 n5 n6 n7 n8 n9 n10 n11 is = n2 c n refl
+other_events (Connect c b) n1 n2 n3 n4 n5 n6 n7 n8 n9 n10 n11 is = n3 c b refl
+other_events (GiveUp c) n1 n2 n3 n4 n5 n6 n7 n8 n9 n10 n11 is = n4 c refl
+other_events (Publish c d) n1 n2 n3 n4 n5 n6 n7 n8 n9 n10 n11 is = n5 c d refl
+other_events (Subscribe c x) n1 n2 n3 n4 n5 n6 n7 n8 n9 n10 n11 is = n6 c x refl
+other_events (ToBroker c b) n1 n2 n3 n4 n5 n6 n7 n8 n9 n10 n11 is = n7 c b refl
+other_events (ToEnd c) n1 n2 n3 n4 n5 n6 n7 n8 n9 n10 n11 is = n8 c refl
+other_events (Break c) n1 n2 n3 n4 n5 n6 n7 n8 n9 n10 n11 is = n9 c refl
+other_events (Pump c) n1 n2 n3 n4 n5 n6 n7 n8 n9 n10 n11 is = n10 c refl
+other_events (Clock wait) n1 n2 n3 n4 n5 n6 n7 n8 n9 n10 n11 is = is
+other_events Tick n1 n2 n3 n4 n5 n6 n7 n8 n9 n10 n11 is = n11 refl
+other_events Restart n1 n2 n3 n4 n5 n6 n7 n8 n9 n10 n11 is = is
+other_events (StopBefore a) n1 n2 n3 n4 n5 n6 n7 n8 n9 n10 n11 is = is
+other_events (StopAfter a) n1 n2 n3 n4 n5 n6 n7 n8 n9 n10 n11 is = is
+other_events (Stranger name bytes) n1 n2 n3 n4 n5 n6 n7 n8 n9 n10 n11 is = is
+other_events (Drain c) n1 n2 n3 n4 n5 n6 n7 n8 n9 n10 n11 is = is
+
+-- and those that are left are of ends
+pub events_of_ends : (e : Event) → e ≢ Restart → ((a : Asking) → e ≢ StopBefore a) → ((a : Asking) → e ≢ StopAfter a) → ((n : ℕ) → e ≢ Clock n)
+    → ((name bytes : List ℕ) → e ≢ Stranger name bytes) → ((c : List ℕ) → e ≢ Drain c) → IsOfEnds e
+events_of_ends (Publisher c) n1 n2 n3 n4 n5 n6 = tt
+events_of_ends (Receiver c n) n1 n2 n3 n4 n5 n6 = tt
+events_of_ends (Connect c b) n1 n2 n3 n4 n5 n6 = tt
+events_of_ends (GiveUp c) n1 n2 n3 n4 n5 n6 = tt
+events_of_ends (Publish c d) n1 n2 n3 n4 n5 n6 = tt
+events_of_ends (Subscribe c x) n1 n2 n3 n4 n5 n6 = tt
+events_of_ends (ToBroker c b) n1 n2 n3 n4 n5 n6 = tt
+events_of_ends (ToEnd c) n1 n2 n3 n4 n5 n6 = tt
+events_of_ends (Break c) n1 n2 n3 n4 n5 n6 = tt
+events_of_ends (Pump c) n1 n2 n3 n4 n5 n6 = tt
+events_of_ends (Clock wait) n1 n2 n3 n4 n5 n6 = n4 wait refl
+events_of_ends Tick n1 n2 n3 n4 n5 n6 = tt
+events_of_ends Restart n1 n2 n3 n4 n5 n6 = n1 refl
+events_of_ends (StopBefore a) n1 n2 n3 n4 n5 n6 = n2 a refl
+events_of_ends (StopAfter a) n1 n2 n3 n4 n5 n6 = n3 a refl
+events_of_ends (Stranger name bytes) n1 n2 n3 n4 n5 n6 = n5 name bytes refl
+events_of_ends (Drain c) n1 n2 n3 n4 n5 n6 = n6 c refl
+
+pub plain_askings : (a : Asking) → ((name bytes : List ℕ) → a ≢ asking.Stranger name bytes) → IsPlain (asking_of a)
+plain_askings (asking.ToBroker c false) n = tt
+plain_askings (asking.ToBroker c true) n = tt
+plain_askings (asking.Break c) n = tt
+plain_askings (asking.Pump c) n = tt
+plain_askings asking.Tick n = tt
+plain_askings (asking.Stranger name bytes) n = absurd (n name bytes refl)
+
+-- ---- on the scene
+
+reading_same : (old : Bool) (client : List ℕ) → reading old client ≡ scripted.reading old client
+reading_same false client = refl
+reading_same true client = refl
+
+-- a call does it, of this name
+module _ {K : Type 0} (g : Ghosts K) (now : ℕ) (e : Event) (s new : Played K) where
+  at_name : (x : List ℕ → world.Event) (named name : List ℕ) (t : Option Telling) → event_of e ≡ Some (x name) → named ≡ name → Does g now (x named) s t new
+      → DoesIf g now (event_of e) s t new
+  at_name x named name t is same does =
+      subst (λ (o : Option world.Event). DoesIf g now o s t new) (sym is) (subst (λ (n : List ℕ). Does g now (x n) s t new) same does)
+
+  -- whatever the moment
+  pub does_at : (x : List ℕ → world.Event) (named name : List ℕ) (r : Result (Option Telling) RunFault) → event_of e ≡ Some (x name) → named ≡ name
+      → IfOk r (λ (t : Option Telling). (n : ℕ) → Does g n (x named) s t new) → IfOk r (λ (t : Option Telling). DoesIf g now (event_of e) s t new)
+  does_at x named name (Ok t) is same h = at_name x named name t is same (h now)
+  does_at x named name (Err f) is same h = tt
+
+  -- at this moment
+  pub does_now : (x : List ℕ → world.Event) (named name : List ℕ) (r : Result (Option Telling) RunFault) → event_of e ≡ Some (x name) → named ≡ name
+      → IfOk r (λ (t : Option Telling). Does g now (x named) s t new) → IfOk r (λ (t : Option Telling). DoesIf g now (event_of e) s t new)
+  does_now x named name (Ok t) is same h = at_name x named name t is same h
+  does_now x named name (Err f) is same h = tt
+
+pub reads_event : (e : Event) (old : Bool) (client : List ℕ) → e ≡ ToBroker client old → event_of e ≡ Some (world.ask (reading old client))
+reads_event e old client is = ap event_of is ∙ ap (λ (a : world.Asking). Some (world.ask a)) (sym (reading_same old client))
+
+-- ---- on the stage
+
+module _ {K : Type 0} (g : Ghosts K) (S P : Played K) (ss : List world.Stranger) (now : ℕ) (limits : Limits) (s : Staged K) where
+  plays_by : (o : Option world.Event) (t : Option Telling) → staged S ss now limits ≡ s → IsStanding g s → DoesIf g now o S t P
+      → PlaysIf g o s t (staged P ss now limits)
+  plays_by None t view stands h = (h.0, ap (λ (x : Played K). staged x ss now limits) h.1 ∙ view)
+  plays_by (Some e) t view stands h = plays_in g e S P ss now limits s t view stands h
+
+  pub if_plays : (o : Option world.Event) (r : Result (Option Telling) RunFault) → staged S ss now limits ≡ s → IsStanding g s
+      → IfOk r (λ (t : Option Telling). DoesIf g now o S t P) → IfOk r (λ (t : Option Telling). PlaysIf g o s t (staged P ss now limits))
+  if_plays o (Ok t) view stands h = plays_by o t view stands h
+  if_plays o (Err f) view stands h = tt
+
+-- what was told, with the stage that is left
+pub with_told : {K : Type 0} (g : Ghosts K) (o : Option world.Event) (s mid : Staged K) (r : Result (Option Telling) RunFault) (x : Result (Staged K × Option Telling) RunFault)
+    → IfOk x (λ (y : Staged K × Option Telling). (y.0 ≡ mid) × (r ≡ Ok y.1)) → IfOk r (λ (t : Option Telling). PlaysIf g o s t mid)
+    → IfOk x (λ (y : Staged K × Option Telling). PlaysIf g o s y.1 y.0)
+with_told {K} g o s mid r (Ok y) is h =
+    subst (λ (m : Staged K). PlaysIf g o s y.1 m) (sym is.0)
+    (subst (λ (q : Result (Option Telling) RunFault). IfOk q (λ (t : Option Telling). PlaysIf g o s t mid)) is.1 h)
+with_told g o s mid r (Err f) is h = tt

@@ -1,0 +1,80 @@
+-- A broker that is opened again, by itself and behind what was asked (MQTT 5.0, 4.1).
+use Rattle.std.proofs.Common.{◌≡◌, ℕ, false, List, [], ◌∷◌, ◌++◌, map, refl, sym, ap, subst, ◌∙◌}
+use Rattle.std.proofs.lemmas.List.{map-append}
+use Rattle.mqtt_records.specs.declared.keep.Keep.{Ghosts}
+use Rattle.mqtt_laws.specs.Run.{Turn, run}
+use Rattle.mqtt_laws.specs.Tellings.{Telling, silent}
+use Rattle.mqtt_laws.specs.World.{Asking, Event, Stranger, World, ask, break, old_to_broker, pump, restart}
+use Rattle.mqtt_laws.specs.World.{stop_after, stranger, tick, to_broker, unlinked}
+use Rattle.mqtt_unrolled_laws.specs.Unrolled.{Unrolls, turn}
+use Rattle.mqtt_world_laws.specs.Spending.{run_spends}
+use Rattle.mqtt_handed_laws.proofs.DrainRuns.{run_append}
+use Rattle.mqtt_broker.specs.TheRules.State.{Broker}
+use Rattle.mqtt_broker.specs.TheRules.Step.{opened}
+use Rattle.mqtt_broker.specs.TheRules.declared.Limits.{Limits}
+use Rattle.mqtt_clients.specs.Ends.{Ends}
+use Rattle.mqtt_script_laws.specs.Scripted.{Happens}
+use Rattle.mqtt_script_laws.specs.Turns.{IsPlain, IsReopened}
+use Rattle.mqtt_script_laws.proofs.Scripts.{spent_joined}
+use Rattle.mqtt_script_laws.proofs.Single.{turn_unspent}
+use Rattle.mqtt_world.specs.Events.{IsReached, opens_again, world_of}
+use Rattle.mqtt_world.specs.Openings.{AlwaysSound, Reopens}
+use Rattle.mqtt_world.specs.Scenes.{Played}
+
+-- ---- of a world
+
+one_ask : (a : Asking) (w : World) (es : List Event) → IsPlain a → Unrolls (ask a) w es → es ≡ ask a ∷ []
+one_ask (to_broker client) w es p is = is
+one_ask (old_to_broker client) w es p is = is
+one_ask (break client) w es p is = is
+one_ask (pump client) w es p is = is
+one_ask tick w es p is = is
+one_ask (stranger name bytes) w es p is = absurd p
+
+and_a_restart : (a : Asking) (w : World) (es : List Event) → IsPlain a → es ≡ ask a ∷ restart ∷ [] → Unrolls (stop_after a) w es
+and_a_restart (to_broker client) w es p is = is
+and_a_restart (old_to_broker client) w es p is = is
+and_a_restart (break client) w es p is = is
+and_a_restart (pump client) w es p is = is
+and_a_restart tick w es p is = is
+and_a_restart (stranger name bytes) w es p is = absurd p
+
+-- what was asked happened, and then the broker was opened again
+pub stops_behind : (limits : Limits) (a : Asking) (t : Telling) (w mid after : World) → IsPlain a → Happens limits (ask a) t w mid
+    → IsReopened limits mid after → Happens limits (stop_after a) silent w after
+stops_behind limits a t w mid after p does opens =
+    let last : List Turn = turn opens.choice restart ∷ [] in
+    let events = map-append (λ (x : Turn). x.event) does.turns last in
+    let asked = one_ask a w (map (λ (x : Turn). x.event) does.turns) p does.unrolls in
+    record {
+      good = does.good;
+      turns = does.turns ++ last;
+      unrolls = and_a_restart a w (map (λ (x : Turn). x.event) (does.turns ++ last)) p
+          (events ∙ ap (λ (es : List Event). es ++ restart ∷ []) asked);
+      unspent = spent_joined limits does.turns last w does.unspent
+          (subst (λ (v : World). run_spends limits last v ≡ false) does.is (turn_unspent limits opens.choice restart mid refl opens.unspent));
+      is = opens.is ∙ (ap (run limits last) does.is ∙ sym (run_append limits does.turns last w));
+      told = refl;
+    }
+
+-- ---- of a broker with its ends
+
+module _ {K : Type 0} (g : Ghosts K) (now : ℕ) (limits : Limits) (old new : Played K) where
+  pub reached_again : Reopens g limits now old new → AlwaysSound g
+      → IsReached limits old.engine.running.broker → IsReached limits new.engine.running.broker
+  reached_again r sound reached =
+      let o = r.opens sound in
+      subst (IsReached limits) (sym o.broker) (opens_again o.choice now old.engine.running.broker reached o.unspent)
+
+  pub reopened : (ss : List Stranger) → Reopens g limits now old new → AlwaysSound g
+      → IsReopened limits (world_of now ss old) (world_of now (map unlinked ss) new)
+  reopened ss r sound =
+      let o = r.opens sound in
+      let stands : Broker → Ends → World = λ b e.
+      record { broker = b; now = now; publishers = e.publishers; receivers = e.receivers; strangers = map unlinked ss } in
+      record {
+        choice = o.choice;
+        unspent = o.unspent;
+        is = ap (λ (b : Broker). stands b new.ends) o.broker
+            ∙ ap (stands (opened limits o.choice now old.engine.running.broker.records)) r.ends;
+      }

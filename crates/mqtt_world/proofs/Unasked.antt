@@ -1,0 +1,103 @@
+-- What ends do while the broker is asked for nothing, from what their calls make of them.
+use Rattle.std.proofs.Common.{◌≡◌, ℕ, ◌^◌, Bool, true, false, ◌&&◌, ◌||◌, List, [], ◌∷◌, ◌++◌, length, Option, Some, None, option_map, refl, sym, ap, subst, ◌∙◌, inl}
+use Rattle.std.specs.Prelude.{is_some, nat_lt}
+use Rattle.mqtt_records.specs.declared.keep.Keep.{Ghosts}
+use Rattle.mqtt_laws.specs.Ends.{new_publisher, new_receiver}
+use Rattle.mqtt_laws.specs.Tellings.{Telling, silent}
+use Rattle.mqtt_laws.specs.World.{Event, Setting, Stranger, World, happens, is_bad, is_end, is_taken, is_window, publisher, receiver}
+use Rattle.mqtt_broker.specs.Serving.{Serving}
+use Rattle.mqtt_broker.specs.TheRules.State.{Broker, session_named}
+use Rattle.mqtt_clients.specs.Ends.{BecomeAt, Ends, in_world}
+use Rattle.mqtt_script_laws.specs.Turns.{IsQuiet}
+use Rattle.mqtt_world.specs.Scenes.{IsPlayable, Played}
+use Rattle.mqtt_world.specs.Events.{Does, played, world_of}
+use Rattle.mqtt_world.proofs.Eventful.{bad_done, quiet_done}
+
+-- ---- tests
+
+pub or_first : (a x t : Bool) → t ≡ a → t ≡ true → t ≡ (a || x)
+or_first a x t same is = is ∙ sym (ap (λ (b : Bool). b || x) (sym same ∙ is))
+
+pub or_second : (a x t : Bool) → a ≡ false → t ≡ x → t ≡ (a || x)
+or_second a x t none same = same ∙ sym (ap (λ (b : Bool). b || x) none)
+
+pub or_third : (a b x t : Bool) → (a || b) ≡ false → t ≡ x → t ≡ (a || (b || x))
+or_third true b x t none same = absurd (cc)
+or_third false b x t none same = or_second b x t none same
+
+pub or_either : (a b x t : Bool) → t ≡ (a || b) → t ≡ true → t ≡ (a || (b || x))
+or_either true b x t same is = is
+or_either false b x t same is = or_first b x t same is
+
+and_true : (a b : Bool) → b ≡ true → a ≡ (a && b)
+and_true true b is = sym is
+and_true false b is = refl
+
+pub window_is : (window : ℕ) (t : Bool) → t ≡ nat_lt 0 window → nat_lt window (2 ^ 16) ≡ true → t ≡ is_window window
+window_is window t is within = is ∙ and_true (nat_lt 0 window) (nat_lt window (2 ^ 16)) within
+
+some_of_map : {A B : Type 0} (f : A → B) (o : Option A) → is_some (option_map f o) ≡ is_some o
+some_of_map f None = refl
+some_of_map f (Some x) = refl
+
+-- ---- what is seen of the ends is seen in the world
+
+pub seen : {A : Type 0} (f : World → A) {K : Type 0} (s : Played K) (E : Serving K) (O : Ends) (t : A) → played E O ≡ s → ((w : World) → t ≡ f (in_world O w))
+    → (now : ℕ) (ss : List Stranger) → t ≡ f (world_of now ss s)
+seen f s E O t view tells now ss = tells (world_of now ss (played E O)) ∙ ap (λ (x : Played _). f (world_of now ss x)) view
+
+pub taken_by_end : (client : List ℕ) {K : Type 0} (s : Played K) (E : Serving K) (O : Ends) (t : Bool) → played E O ≡ s
+    → ((w : World) → t ≡ is_end client (in_world O w)) → t ≡ true
+    → (now : ℕ) (ss : List Stranger) → t ≡ is_taken client (world_of now ss s)
+taken_by_end client s E O t view ends is now ss =
+    let w = world_of now ss s in
+    or_first (is_end client w) (is_some (session_named client w.broker.records)) t (seen (is_end client) s E O t view ends now ss) is
+
+pub taken_by_session : (client : List ℕ) {K : Type 0} (s : Played K) (E : Serving K) (O : Ends) (t u : Bool) (q : Option ℕ) → played E O ≡ s
+    → ((w : World) → t ≡ is_end client (in_world O w)) → t ≡ false
+    → q ≡ option_map (λ s. length s.queue) (session_named client E.running.broker.records) → u ≡ is_some q
+    → (now : ℕ) (ss : List Stranger) → u ≡ is_taken client (world_of now ss s)
+taken_by_session client s E O t u q view ends is queue some now ss =
+    let w = world_of now ss s in
+    let there = some ∙ (ap (λ (o : Option ℕ). is_some o) queue
+    ∙ (some_of_map (λ s. length s.queue) (session_named client E.running.broker.records)
+    ∙ ap (λ (x : Played _). is_some (session_named client x.engine.running.broker.records)) view)) in
+    or_second (is_end client w) (is_some (session_named client w.broker.records)) u
+    (sym (seen (is_end client) s E O t view ends now ss) ∙ is) there
+
+-- ---- ends that are made
+
+pub publisher_made : (client made : List ℕ) (b : Broker) (O N : Ends) → made ≡ client
+    → N ≡ record O { publishers = O.publishers ++ new_publisher made ∷ [] }
+    → (set : Setting) → BecomeAt b (happens set (publisher client)) O N
+publisher_made client made b O N same is set w at =
+    ap (λ (e : Ends). in_world e w) is
+    ∙ ap (λ (n : List ℕ). in_world (record O { publishers = O.publishers ++ new_publisher n ∷ [] }) w) same
+
+pub receiver_made : (client made : List ℕ) (window since : ℕ) (b : Broker) (O N : Ends) → made ≡ client → since ≡ b.records.births
+    → N ≡ record O { receivers = O.receivers ++ new_receiver made window since ∷ [] }
+    → (set : Setting) → BecomeAt b (happens set (receiver client window)) O N
+receiver_made client made window since b O N same last is set w at =
+    ap (λ (e : Ends). in_world e w) is
+    ∙ (ap (λ (n : List ℕ). in_world (record O { receivers = O.receivers ++ new_receiver n window since ∷ [] }) w) same
+    ∙ ap (λ (n : ℕ). in_world (record O { receivers = O.receivers ++ new_receiver client window n ∷ [] }) w)
+    (last ∙ ap (λ (x : Broker). x.records.births) (sym at)))
+
+-- ---- events
+
+module _ {K : Type 0} (g : Ghosts K) (e : Event) where
+  -- a test says that it is bad
+  pub refused : (s : Played K) (test : Bool) → IsPlayable g s → ((now : ℕ) (ss : List Stranger) → test ≡ is_bad e (world_of now ss s)) → test ≡ true
+      → (now : ℕ) → Does g now e s None s
+  refused s test playable tells is now = bad_done g now e s playable (λ ss. inl (sym (tells now ss) ∙ is))
+
+  -- what becomes of the ends is what happens
+  pub done_at : (s : Played K) (E : Serving K) (O N : Ends) (test : Bool) (t : Telling) → s ≡ played E O → IsQuiet e → t ≡ silent → IsPlayable g s
+      → ((now : ℕ) (ss : List Stranger) → test ≡ is_bad e (world_of now ss s)) → test ≡ false
+      → ((set : Setting) → BecomeAt E.running.broker (happens set e) O N)
+      → (now : ℕ) → Does g now e s (Some t) (played E N)
+  done_at s E O N test t view quiet told playable tells is become now =
+      subst (λ (x : Played K). Does g now e x (Some t) (played E N)) (sym view)
+      (quiet_done g now e E O N t quiet told (subst (IsPlayable g) view playable)
+      (λ ss. ap (λ (x : Played K). is_bad e (world_of now ss x)) (sym view) ∙ (sym (tells now ss) ∙ is))
+      (λ set ss. become set (world_of now ss (played E O)) refl))

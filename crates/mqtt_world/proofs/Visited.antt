@@ -1,0 +1,185 @@
+-- The bytes of a stranger, from their first piece to their last, and stops at them (MQTT 5.0, 2.1, 4.1).
+use Rattle.std.proofs.Common.{◌≡◌, ℕ, Bool, true, false, cond, List, [], ◌∷◌, ◌++◌, take, drop, Option, Some, None, refl, sym, ap, subst, ◌∙◌, ◌⊎◌, inl, inr}
+use Rattle.std.proofs.lemmas.List.{take-append-drop}
+use Rattle.std.specs.Prelude.{is_some}
+use Rattle.mqtt_records.specs.declared.keep.Keep.{Ghosts}
+use Rattle.mqtt_laws.specs.Tellings.{Telling, silent}
+use Rattle.mqtt_laws.specs.World.{Event, Setting, Stranger, World, happens, is_bad, is_bad_asking, step, stop_after, stop_before, stranger}
+use Rattle.mqtt_broker.specs.TheRules.declared.Limits.{Limits}
+use Rattle.mqtt_unrolled_laws.specs.Unrolled.{IsDecided, IsWhole, bytes_come}
+use Rattle.mqtt_script_laws.specs.Scripted.{Happens}
+use Rattle.mqtt_script_laws.specs.Turns.{IsReopened, IsTurn, both_tell, by_choice}
+use Rattle.mqtt_script_laws.proofs.Comings.{stops_before_first, stops_before_there}
+use Rattle.mqtt_script_laws.proofs.Pieces.{last_piece, piece_and_more, stops_after_piece}
+use Rattle.mqtt_strangers.specs.Strangers.{named, newcomer}
+use Rattle.mqtt_strangers.proofs.Steps.{good_first, good_rest}
+use Rattle.mqtt_world.specs.Events.{IsReached, SpellsAll, world_of}
+use Rattle.mqtt_world.specs.Scenes.{Played}
+use Rattle.mqtt_world.specs.Stages.{IsStanding, Plays, Staged, broker_of, world_at}
+use Rattle.mqtt_world.specs.Visits.{StopsAt, TakesPiece, TellsPiece}
+use Rattle.mqtt_world.proofs.Visits.{all_taken, comes_in, decided, none_tells, piece_good, staged, tells_after}
+
+-- so many pieces have come, and the rest comes where they led
+pub record ComesOn {K : Type 0} (g : Ghosts K) (name bytes : List ℕ) (old : Staged K) (told : Telling) (mid : Staged K) (rest : List ℕ) : Type 0 where
+  pub standing : IsStanding g mid
+  pub limits : mid.limits ≡ old.limits
+  pub reached : IsReached old.limits (broker_of old) → IsReached old.limits (broker_of mid)
+  pub good : SpellsAll old.limits → IsReached old.limits (broker_of old) → is_bad (comes_in name rest) (world_at mid) ≡ false
+  pub done : SpellsAll old.limits → IsReached old.limits (broker_of old) → (u : Telling) (after : World)
+      → Happens old.limits (comes_in name rest) u (world_at mid) after
+      → Happens old.limits (comes_in name bytes) (both_tell told u) (world_at old) after
+
+module _ {K : Type 0} (g : Ghosts K) (name : List ℕ) where
+  -- ---- a piece, at equal limits
+
+  turn_at : (rest : List ℕ) (taken : ℕ) (t : Telling) (mid new : Staged K) (limits : Limits) → mid.limits ≡ limits
+      → TakesPiece g name rest mid taken t new → SpellsAll limits → IsReached limits (broker_of mid)
+      → is_bad (comes_in name (take taken rest)) (world_at mid) ≡ false
+      → IsTurn limits (comes_in name (take taken rest)) t (world_at mid) (world_at new)
+  turn_at rest taken t mid new limits is p =
+      subst (λ (l : Limits). SpellsAll l → IsReached l (broker_of mid) → is_bad (comes_in name (take taken rest)) (world_at mid) ≡ false
+          → IsTurn l (comes_in name (take taken rest)) t (world_at mid) (world_at new)) is p.turn
+
+  reached_at : (rest : List ℕ) (taken : ℕ) (t : Telling) (mid new : Staged K) (limits : Limits) → mid.limits ≡ limits
+      → TakesPiece g name rest mid taken t new → IsReached limits (broker_of mid) → IsReached limits (broker_of new)
+  reached_at rest taken t mid new limits is p = subst (λ (l : Limits). IsReached l (broker_of mid) → IsReached l (broker_of new)) is p.reached
+
+  -- ---- before the first
+
+  pub comes_first : (bytes : List ℕ) (old : Staged K) (told : Telling) → IsStanding g old → told ≡ silent
+      → is_bad_asking (stranger name bytes) (world_at old) ≡ false → ComesOn g name bytes old told old bytes
+  comes_first bytes old told standing none good = record {
+    standing = standing;
+    limits = refl;
+    reached = λ reached. reached;
+    good = λ spells reached. good;
+    done = λ spells reached u after does.
+        subst (λ (t : Telling). Happens old.limits (comes_in name bytes) t (world_at old) after)
+        (none_tells u ∙ ap (λ (t : Telling). both_tell t u) (sym none)) does;
+  }
+
+  -- ---- one more, behind which more comes
+
+  module _ (bytes rest : List ℕ) (taken : ℕ) (old mid new : Staged K) (told later : Telling) (c : ComesOn g name bytes old told mid rest) (p : TellsPiece g name rest mid taken told later new) where
+    abbrev piece : List ℕ
+    piece = take taken rest
+
+    abbrev more : List ℕ
+    more = drop taken rest
+
+    joined : is_bad (comes_in name rest) (world_at mid) ≡ false → is_bad (comes_in name (piece ++ more)) (world_at mid) ≡ false
+    joined good = ap (λ (xs : List ℕ). is_bad (comes_in name xs) (world_at mid)) (take-append-drop taken rest) ∙ good
+
+    its_turn : SpellsAll old.limits → IsReached old.limits (broker_of old) → IsTurn old.limits (comes_in name piece) p.t (world_at mid) (world_at new)
+    its_turn spells reached =
+        turn_at rest taken p.t mid new old.limits c.limits p.takes spells (c.reached reached)
+        (piece_good name rest taken (world_at mid) p.takes.next (c.good spells reached))
+
+    rest_good : IsWhole (bytes_come name piece (world_at mid)) → SpellsAll old.limits → IsReached old.limits (broker_of old)
+        → is_bad (comes_in name more) (world_at new) ≡ false
+    rest_good whole spells reached =
+        let turn = its_turn spells reached in
+        let set : Setting = by_choice old.limits turn.choice in
+        let w = world_at mid in
+        let stepped : step set (comes_in name piece) w ≡ world_at new =
+        ap (λ (t : Bool). cond t w (happens set (comes_in name piece) w)) turn.good ∙ sym turn.is in
+        subst (λ (v : World). is_bad (comes_in name more) v ≡ false) stepped
+        (good_rest set name piece more w p.takes.alike whole (joined (c.good spells reached)))
+
+    rest_done : IsWhole (bytes_come name piece (world_at mid)) → SpellsAll old.limits → IsReached old.limits (broker_of old) → (u : Telling) (after : World)
+        → Happens old.limits (comes_in name more) u (world_at new) after → Happens old.limits (comes_in name bytes) (both_tell later u) (world_at old) after
+    rest_done whole spells reached u after does =
+        let w = world_at mid in
+        let both : Happens old.limits (comes_in name (piece ++ more)) (both_tell p.t u) w after =
+        piece_and_more old.limits name piece more p.t u w (world_at new) after p.takes.alike (joined (c.good spells reached)) whole
+        (its_turn spells reached) does in
+        subst (λ (t : Telling). Happens old.limits (comes_in name bytes) t (world_at old) after)
+        (sym (ap (λ (t : Telling). both_tell t u) p.told ∙ tells_after told p.t u))
+        (c.done spells reached (both_tell p.t u) after
+        (subst (λ (xs : List ℕ). Happens old.limits (comes_in name xs) (both_tell p.t u) w after) (take-append-drop taken rest) both))
+
+    its_end : (more ≡ [] → ⊥) → (more ≡ []) ⊎ IsWhole (bytes_come name piece (world_at mid)) → IsWhole (bytes_come name piece (world_at mid))
+    its_end some (inl none) = absurd (some none)
+    its_end some (inr whole) = whole
+
+    pub comes_further : (more ≡ [] → ⊥) → ComesOn g name bytes old later new more
+    comes_further some =
+        let whole = its_end some p.takes.next.ends in
+        record {
+          standing = p.takes.standing;
+          limits = p.takes.limits ∙ c.limits;
+          reached = λ reached. reached_at rest taken p.t mid new old.limits c.limits p.takes (c.reached reached);
+          good = rest_good whole;
+          done = rest_done whole;
+        }
+
+    -- ---- the last
+
+    pub comes_last : more ≡ [] → Plays g (comes_in name bytes) old (Some later) new
+    comes_last none = record {
+      standing = p.takes.standing;
+      limits = p.takes.limits ∙ c.limits;
+      reached = λ sound reached. reached_at rest taken p.t mid new old.limits c.limits p.takes (c.reached reached);
+      done = λ sound spells reached.
+          subst (λ (t : Telling). Happens old.limits (comes_in name bytes) t (world_at old) (world_at new)) (sym p.told)
+          (c.done spells reached p.t (world_at new)
+          (subst (λ (xs : List ℕ). Happens old.limits (comes_in name xs) p.t (world_at mid) (world_at new)) (all_taken rest taken none)
+          (last_piece old.limits name piece p.t (world_at mid) (world_at new) p.takes.next.one (its_turn spells reached))));
+    }
+
+  -- ---- bytes that may not come
+
+  pub refused : (bytes : List ℕ) (s : Staged K) (bad : Bool) → IsStanding g s → bad ≡ is_bad_asking (stranger name bytes) (world_at s) → bad ≡ true
+      → Plays g (comes_in name bytes) s None s
+  refused bytes s bad standing tells is = record {
+    standing = standing;
+    limits = refl;
+    reached = λ sound reached. reached;
+    done = λ sound spells reached. (inl (sym tells ∙ is), refl);
+  }
+
+  -- ---- a stop after the first piece
+
+  pub cut_short : (bytes : List ℕ) (taken : ℕ) (t : Telling) (old new : Staged K) → TakesPiece g name bytes old taken t new
+      → is_bad_asking (stranger name bytes) (world_at old) ≡ false → StopsAt g (stop_after (stranger name bytes)) old new
+  cut_short bytes taken t old new p good = record {
+    standing = p.standing;
+    limits = p.limits;
+    reached = p.reached;
+    done = λ spells reached after opens.
+        let w = world_at old in
+        stops_after_piece old.limits name bytes (take taken bytes) (drop taken bytes) t w (world_at new) after good
+        (take-append-drop taken bytes) (found p.next.ends) p.next.one
+        (p.turn spells reached (piece_good name bytes taken w p.next good)) opens;
+  }
+    where
+      found : (drop taken bytes ≡ []) ⊎ IsWhole (bytes_come name (take taken bytes) (world_at old))
+          → (drop taken bytes ≡ []) ⊎ IsDecided (bytes_come name (take taken bytes) (world_at old))
+      found (inl none) = inl none
+      found (inr whole) = inr (decided (bytes_come name (take taken bytes) (world_at old)) whole)
+
+  -- ---- and before it
+
+  pub named_before : (s : Staged K) → IsStanding g s → is_some (named name s.strangers) ≡ true → (bytes : List ℕ)
+      → is_bad_asking (stranger name bytes) (world_at s) ≡ false → StopsAt g (stop_before (stranger name bytes)) s s
+  named_before s standing there bytes good = record {
+    standing = standing;
+    limits = refl;
+    reached = λ reached. reached;
+    done = λ spells reached after opens. stops_before_there s.limits name bytes (world_at s) after there good opens;
+  }
+
+  pub named_first : (s : Staged K) (P : Played K) (ss : List Stranger) (now : ℕ) (limits : Limits) → staged P ss now limits ≡ s → IsStanding g s
+      → named name ss ≡ None → (bytes : List ℕ) → is_bad_asking (stranger name bytes) (world_at s) ≡ false
+      → StopsAt g (stop_before (stranger name bytes)) s (staged P (ss ++ newcomer name None ∷ []) now limits)
+  named_first s P ss now limits view standing none bytes good =
+      let at : IsStanding g (staged P ss now limits) = subst (IsStanding g) (sym view) standing in
+      let fine : is_bad_asking (stranger name bytes) (world_of now ss P) ≡ false =
+      subst (λ (x : Staged K). is_bad_asking (stranger name bytes) (world_at x) ≡ false) (sym view) good in
+      subst (λ (x : Staged K). StopsAt g (stop_before (stranger name bytes)) x (staged P (ss ++ newcomer name None ∷ []) now limits)) view
+      (record {
+        standing = record { playable = at.playable; limits = at.limits; within = at.within };
+        limits = refl;
+        reached = λ reached. reached;
+        done = λ spells reached after opens. stops_before_first limits name bytes (world_of now ss P) after none fine opens;
+      })

@@ -1,0 +1,347 @@
+-- What the bytes of a stranger make of a world, piece by piece (MQTT 5.0, 2.1, 4.1, 4.13).
+use Rattle.std.proofs.Common.{◌≡◌, ◌+◌, ◌<◌, ℕ, zero, suc, Bool, true, false, cond, List, [], ◌∷◌, ◌++◌, take, drop, Option, Some, None, refl, sym, ap, subst, ◌∙◌, ◌⊎◌, inl, inr, arith, append_assoc, IfOk, OnOk}
+use Rattle.std.specs.Prelude.{Result, Ok, Err, is_some}
+use Rattle.std.specs.List.{AllByRecursion}
+use Rattle.std.proofs.lemmas.List.{append-nil, take-append-drop}
+use Rattle.mqtt_codec.specs.Faults.{answer_to}
+use Rattle.mqtt_packet.specs.Front.{first_of}
+use Rattle.mqtt_records.specs.declared.keep.Keep.{Ghosts}
+use Rattle.mqtt_framing.specs.Framers.{AreBytes}
+use Rattle.mqtt_framing.proofs.Held.{first_taken, nothing_asked}
+use Rattle.mqtt_laws.specs.Tellings.{Telling, silent}
+use Rattle.mqtt_laws.specs.World.{Asking, Event, Setting, Stranger, World, ask, bytes_held, call_on, calls, calls_if, happens, held_after, held_by, is_bad, is_bad_asking, next_line, step, stop_after, stop_before, stranger, stranger_named}
+use Rattle.mqtt_broker.specs.TheRules.Laws.{AreWithin}
+use Rattle.mqtt_broker.specs.TheRules.Piece.{Front, begins_connect, call_by, code_of, first_call}
+use Rattle.mqtt_broker.specs.TheRules.State.{MemberChoice}
+use Rattle.mqtt_broker.specs.TheRules.Step.{BadInput, Call, Input, NewLine}
+use Rattle.mqtt_broker.specs.TheRules.declared.Limits.{Limits}
+use Rattle.mqtt_broker.specs.TheRules.declared.Report.{Report}
+use Rattle.mqtt_clients.specs.Ends.{Ends, in_world as among_ends}
+use Rattle.mqtt_unrolled_laws.specs.Unrolled.{AreAlike, HoldsThese, IsDecided, IsFound, IsWhole, bytes_come}
+use Rattle.mqtt_unrolled_laws.proofs.Answered.{not_both, nothing_first}
+use Rattle.mqtt_unrolled_laws.proofs.Strangers.{find_one_more, holds_one_more, none_holds}
+use Rattle.mqtt_script_laws.specs.Scripted.{Happens}
+use Rattle.mqtt_script_laws.specs.Turns.{IsReopened, IsTurn, both_tell, by_choice, welcomed}
+use Rattle.mqtt_script_laws.proofs.Comings.{piece_first, piece_there, stops_before_first, stops_before_there}
+use Rattle.mqtt_script_laws.proofs.Pieces.{last_piece, piece_and_more, stops_after_piece}
+use Rattle.mqtt_strangers.specs.Fronts.{AsksFor, IsNextPiece, NamesThese, is_end_among}
+use Rattle.mqtt_strangers.specs.Strangers.{Comes, held_of, line_of, named, newcomer}
+use Rattle.mqtt_strangers.proofs.Steps.{first_good, good_first, good_rest}
+use Rattle.mqtt_world.specs.Events.{IsDone, IsReached, SpellsAll, TakesPacket, world_of}
+use Rattle.mqtt_world.specs.Openings.{AlwaysSound}
+use Rattle.mqtt_world.specs.Scenes.{Calls, IsPlayable, Played}
+use Rattle.mqtt_world.specs.Stages.{IsStanding, Plays, Staged, broker_of, world_at}
+use Rattle.mqtt_world.specs.Visits.{Asks, Hears, MayStopAt, StopsAt, TakesPiece, TellsPiece, Welcomes, stop_at}
+use Rattle.mqtt_world.proofs.Eventful.{reached_after, world_called}
+
+any_choice : MemberChoice
+any_choice group clients = clients
+
+abbrev pub staged : {K : Type 0} → Played K → List Stranger → ℕ → Limits → Staged K
+staged s ss now limits = record { played = s; strangers = ss; now = now; limits = limits }
+
+abbrev pub comes_in : List ℕ → List ℕ → Event
+comes_in name bytes = ask (stranger name bytes)
+
+-- ---- what is told, one behind the other
+
+pub tells_none : (t : Telling) → t ≡ both_tell t silent
+tells_none t =
+    let same : t.out + 0 ≡ t.out = omega arith in
+    sym (ap (λ (rs : List Report). record { reports = rs; out = t.out + 0 }) (append-nil t.reports)
+    ∙ ap (λ (n : ℕ). record { reports = t.reports; out = n }) same)
+
+pub none_tells : (t : Telling) → t ≡ both_tell silent t
+none_tells t =
+    let same : 0 + t.out ≡ t.out = omega arith in
+    sym (ap (λ (n : ℕ). record { reports = t.reports; out = n }) same)
+
+pub tells_after : (a b c : Telling) → both_tell (both_tell a b) c ≡ both_tell a (both_tell b c)
+tells_after a b c =
+    let sum : a.out + b.out + c.out ≡ a.out + (b.out + c.out) = omega arith in
+    ap (λ (rs : List Report). record { reports = rs; out = a.out + b.out + c.out }) (append_assoc a.reports b.reports c.reports)
+    ∙ ap (λ (n : ℕ). record { reports = a.reports ++ (b.reports ++ c.reports); out = n }) sum
+
+-- ---- what bytes ask for
+
+none_asked : (line : Option ℕ) → call_on line [] ≡ None
+none_asked None = refl
+none_asked (Some n) = nothing_asked n
+
+none_whole : (line : Option ℕ) (bytes : List ℕ) → first_of bytes ≡ Ok None → call_on line bytes ≡ None
+none_whole None bytes e = refl
+none_whole (Some n) bytes e = ap (call_by n bytes) e
+
+same_asked : (line : Option ℕ) (bytes given : List ℕ) → AsksFor bytes given → call_on line given ≡ call_on line bytes
+same_asked None bytes given a = refl
+same_asked (Some n) bytes given a = a.asks n
+
+-- where nothing is left of some bytes they ask for something
+some_asked : (line : ℕ) (bytes : List ℕ) → AreBytes bytes → held_after bytes ≡ [] → (bytes ≡ [] → ⊥)
+    → (call : Call) × (first_call line bytes ≡ Some call) × TakesPacket call
+some_asked line bytes each left some = by (first_of bytes) refl
+  where
+    by : (f : Front) → first_of bytes ≡ f → (call : Call) × (first_call line bytes ≡ Some call) × TakesPacket call
+    by (Ok None) e = absurd (some (sym (ap (λ (f : Front). held_by f bytes) e) ∙ left))
+    by (Ok (Some x)) e = (Input line x.0, ap (call_by line bytes) e, first_taken bytes x.0 x.1 each e)
+    by (Err fault) e = (BadInput line (begins_connect bytes) (code_of (answer_to fault)), ap (call_by line bytes) e, (fault, refl))
+
+module _ {K : Type 0} (g : Ghosts K) (now : ℕ) where
+  asks_nothing : (s : Played K) → IsPlayable g s → Asks g now None s silent s
+  asks_nothing s playable = record {
+    choice = any_choice;
+    playable = playable;
+    limits = refl;
+    reached = λ reached. reached;
+    unspent = λ ss. refl;
+    told = λ ss. refl;
+    done = λ spells reached ss. refl;
+  }
+
+  asks_call : (call : Call) (old new : Played K) (t : Telling) → TakesPacket call → Calls g now call old t new → Asks g now (Some call) old t new
+  asks_call call old new t takes c = record {
+    choice = c.choice;
+    playable = c.playable;
+    limits = c.limits;
+    reached = reached_after g now call old new t takes c;
+    unspent = λ ss. c.unspent;
+    told = λ ss. c.told_is;
+    done = λ spells reached ss. world_called g now call old new t ss reached takes c spells;
+  }
+
+  -- nothing came, or there is no line
+  pub heard_nothing : (call : Option Call) (s : Played K) (t : Telling) → IsPlayable g s → call ≡ None → Hears g now call s t t s
+  heard_nothing call s t playable none = record {
+    t = silent;
+    asks = subst (λ (o : Option Call). Asks g now o s silent s) (sym none) (asks_nothing s playable);
+    told = tells_none t;
+  }
+
+  pub heard_no_bytes : (line : Option ℕ) (bytes : List ℕ) (s : Played K) (t : Telling) → IsPlayable g s → bytes ≡ [] → Hears g now (call_on line bytes) s t t s
+  heard_no_bytes line bytes s t playable none =
+      heard_nothing (call_on line bytes) s t playable (ap (λ (xs : List ℕ). call_on line xs) none ∙ none_asked line)
+
+  pub heard_call : {X E : Type 0} (r : Result X E) (line : ℕ) (bytes : List ℕ) (old new : Played K) (before after more : Telling)
+      → AreBytes bytes → held_after bytes ≡ [] → (bytes ≡ [] → ⊥)
+      → ((call : Call) → first_call line bytes ≡ Some call → Calls g now call old more new)
+      → OnOk r (after ≡ both_tell before more) → OnOk r (Hears g now (first_call line bytes) old before after new)
+  heard_call (Err e) line bytes old new before after more each left some called told = tt
+  heard_call (Ok x) line bytes old new before after more each left some called told =
+      let a = some_asked line bytes each left some in
+      record {
+        t = more;
+        asks = subst (λ (o : Option Call). Asks g now o old more new) (sym a.1.0) (asks_call a.0 old new more a.1.1 (called a.0 a.1.0));
+        told = told;
+      }
+
+-- ---- whom CONNECTs name
+
+pub any_named : {K : Type 0} (now : ℕ) (name bytes : List ℕ) (names seen : List (List ℕ)) (bad : Bool) (s : Played K) (ss : List Stranger)
+    → NamesThese (held_of name ss ++ bytes) names → seen ≡ names → ((w : World) → bad ≡ is_end_among seen (among_ends s.ends w))
+    → bad ≡ is_bad_asking (stranger name bytes) (world_of now ss s)
+any_named now name bytes names seen bad s ss these same is =
+    let w = world_of now ss s in
+    is w ∙ (ap (λ (xs : List (List ℕ)). is_end_among xs w) same ∙ sym (these w))
+
+-- ---- a stranger is welcomed
+
+pub is_none : {X : Type 0} (o : Option X) → is_some o ≡ false → o ≡ None
+is_none None h = refl
+is_none (Some x) h = let clash : true ≡ false = h in absurd cc
+
+module _ {K : Type 0} (g : Ghosts K) (name : List ℕ) where
+  pub welcome_again : (s : Staged K) → IsStanding g s → is_some (named name s.strangers) ≡ true → AreAlike name (world_at s)
+      → first_of (held_of name s.strangers) ≡ Ok None → Welcomes g name s s
+  welcome_again s standing there alike waits = record {
+    standing = standing;
+    limits = refl;
+    reached = λ reached. reached;
+    there = there;
+    same = refl;
+    waits = waits;
+    were_alike = alike;
+    alike = alike;
+    good = λ spells reached piece good. good;
+    turn = λ spells reached piece t after good turn. turn;
+  }
+
+  module _ (now : ℕ) (P N : Played K) (ss : List Stranger) (line : Option ℕ) where
+    first_welcomed : IsPlayable g P → AreWithin P.engine.running.limits → named name ss ≡ None → AreAlike name (world_of now ss P) → line ≡ next_line P.engine.running.broker
+        → Calls g now NewLine P silent N
+        → Welcomes g name (staged P ss now P.engine.running.limits) (staged N (ss ++ newcomer name line ∷ []) now P.engine.running.limits)
+
+    first_welcomed playable within none alike line_is c = record {
+      standing = record { playable = c.playable; limits = sym c.limits; within = within };
+      limits = refl;
+      reached = reached_after g now NewLine P N silent tt c;
+      there = ap is_some found;
+      same = ap bytes_held found ∙ sym (ap bytes_held none);
+      waits = ap (λ (o : Option Stranger). first_of (bytes_held o)) found ∙ nothing_first;
+      were_alike = alike;
+      alike =
+          subst (λ (held : List ℕ). AllByRecursion (HoldsThese name held) all) (sym (ap bytes_held found))
+          (holds_one_more name [] n ss (none_holds name [] ss none) refl);
+      good = λ spells reached piece good.
+          subst (λ (v : World). is_bad (comes_in name piece) v ≡ false) (sym (at spells reached)) (first_good set name piece w none good);
+      turn = λ spells reached piece t after good turn.
+          piece_first P.engine.running.limits c.choice name piece t w after none good
+          (subst (λ (v : World). IsTurn P.engine.running.limits (comes_in name piece) t v after) (at spells reached) turn);
+    }
+      where
+        n : Stranger
+        n = newcomer name line
+
+        all : List Stranger
+        all = ss ++ n ∷ []
+
+        w : World
+        w = world_of now ss P
+
+        set : Setting
+        set = by_choice P.engine.running.limits c.choice
+
+        found : named name all ≡ Some n
+        found = find_one_more name n ss refl none
+
+        at : SpellsAll P.engine.running.limits → IsReached P.engine.running.limits P.engine.running.broker
+            → world_of now all N ≡ welcomed set name w
+        at spells reached =
+            ap (λ (v : World). record v { strangers = all }) (world_called g now NewLine P N silent ss reached tt c spells)
+            ∙ ap (λ (l : Option ℕ). record (calls set NewLine w) { strangers = ss ++ newcomer name l ∷ [] }) line_is
+
+  pub welcome_first : (now : ℕ) (limits : Limits) (s : Staged K) (P N : Played K) (ss : List Stranger) (line : Option ℕ) → staged P ss now limits ≡ s
+      → IsStanding g s → named name ss ≡ None → AreAlike name (world_of now ss P) → line ≡ next_line P.engine.running.broker
+      → Calls g now NewLine P silent N → Welcomes g name s (staged N (ss ++ newcomer name line ∷ []) now limits)
+  welcome_first now limits s P N ss line view standing none alike line_is c =
+      let at : IsStanding g (staged P ss now limits) = subst (IsStanding g) (sym view) standing in
+      let within : AreWithin P.engine.running.limits = subst AreWithin at.limits at.within in
+      subst (λ (x : Staged K). Welcomes g name x (staged N (ss ++ newcomer name line ∷ []) now limits)) view
+      (subst (λ (l : Limits). Welcomes g name (staged P ss now l) (staged N (ss ++ newcomer name line ∷ []) now l)) (sym at.limits)
+      (first_welcomed now P N ss line at.playable within none alike line_is c))
+
+-- ---- a piece is one turn
+
+-- where nothing whole was held, bytes come till one is
+further_on : (held bytes : List ℕ) (taken : ℕ) → first_of held ≡ Ok None
+    → (drop taken bytes ≡ []) ⊎ IsWhole (held ++ take taken bytes) → (drop taken bytes ≡ []) ⊎ (0 < taken)
+further_on held bytes taken waits (inl none) = inl none
+further_on held bytes zero waits (inr whole) =
+    let same : held ++ take 0 bytes ≡ held = append-nil held in
+    absurd (not_both (first_of held) whole.0 (length (held ++ take 0 bytes)) waits (ap first_of (sym same) ∙ whole.1))
+further_on held bytes (suc n) waits (inr whole) = inr (omega arith)
+
+pub all_taken : (bytes : List ℕ) (taken : ℕ) → drop taken bytes ≡ [] → take taken bytes ≡ bytes
+all_taken bytes taken none =
+    sym (append-nil (take taken bytes)) ∙ (ap (λ (xs : List ℕ). take taken bytes ++ xs) (sym none) ∙ take-append-drop taken bytes)
+
+-- a piece of bytes that may come may come
+pub piece_good : (name bytes : List ℕ) (taken : ℕ) (w : World) → IsNextPiece (bytes_held (stranger_named name w)) (take taken bytes) (drop taken bytes)
+    → is_bad (comes_in name bytes) w ≡ false → is_bad (comes_in name (take taken bytes)) w ≡ false
+piece_good name bytes taken w n good = by n.ends
+  where
+    by : (drop taken bytes ≡ []) ⊎ IsWhole (bytes_come name (take taken bytes) w) → is_bad (comes_in name (take taken bytes)) w ≡ false
+    by (inl none) = ap (λ (xs : List ℕ). is_bad (comes_in name xs) w) (all_taken bytes taken none) ∙ good
+    by (inr whole) =
+        good_first name (take taken bytes) (drop taken bytes) w whole
+        (ap (λ (xs : List ℕ). is_bad (comes_in name xs) w) (take-append-drop taken bytes) ∙ good)
+
+pub decided : (bytes : List ℕ) → IsWhole bytes → IsDecided bytes
+decided bytes whole = subst IsFound (sym whole.1) tt
+
+module _ {K : Type 0} (g : Ghosts K) (name bytes : List ℕ) (now taken : ℕ) (P N : Played K) (ss new : List Stranger) where
+  piece_taken : (line : Option ℕ) (t : Telling) → IsPlayable g P → AreWithin P.engine.running.limits → is_some (named name ss) ≡ true
+      → AreAlike name (world_of now ss P) → first_of (held_of name ss) ≡ Ok None → line ≡ line_of (named name ss)
+      → (given : Option (List ℕ)) → Comes name bytes ss new taken given → Asks g now (call_on line (held_of name ss ++ take taken bytes)) P t N
+      → TakesPiece g name bytes (staged P ss now P.engine.running.limits) taken t (staged N new now P.engine.running.limits)
+  piece_taken line t playable within there alike waits line_is given c a = record {
+    standing = record { playable = a.playable; limits = sym a.limits; within = within };
+    limits = refl;
+    reached = a.reached;
+    within = c.within;
+    next = c.next;
+    further = further_on (held_of name ss) bytes taken waits c.next.ends;
+    alike = alike;
+    turn = λ spells reached good. by spells reached good (named name ss) refl there;
+  }
+    where
+      w : World
+      w = world_of now ss P
+
+      piece : List ℕ
+      piece = take taken bytes
+
+      by : SpellsAll P.engine.running.limits → IsReached P.engine.running.limits P.engine.running.broker → is_bad (comes_in name piece) w ≡ false
+          → (o : Option Stranger) → named name ss ≡ o → is_some o ≡ true → IsTurn P.engine.running.limits (comes_in name piece) t w (world_of now new N)
+      by spells reached good None e h = let clash : false ≡ true = h in absurd cc
+      by spells reached good (Some s) e h =
+          let at : Asks g now (call_on s.number (s.held ++ piece)) P t N =
+          subst (λ (o : Option Stranger). Asks g now (call_on (line_of o) (bytes_held o ++ piece)) P t N) e
+          (subst (λ (l : Option ℕ). Asks g now (call_on l (held_of name ss ++ piece)) P t N) line_is a) in
+          let set : Setting = by_choice P.engine.running.limits at.choice in
+          piece_there P.engine.running.limits at.choice name piece s t w (world_of now new N) e alike c.next.one good (at.unspent ss)
+          (at.done spells reached new ∙ ap (calls_if set (call_on s.number (s.held ++ piece))) (c.becomes w)) (at.told ss)
+
+  module _ (limits : Limits) (s : Staged K) (view : staged P ss now limits ≡ s) (standing : IsStanding g s) (there : is_some (named name s.strangers) ≡ true)
+      (alike : AreAlike name (world_at s)) (waits : first_of (held_of name s.strangers) ≡ Ok None) (line : Option ℕ) (line_is : line ≡ line_of (named name ss)) where
+    piece_at : (t : Telling) (given : Option (List ℕ)) → Comes name bytes ss new taken given
+        → Asks g now (call_on line (held_of name ss ++ take taken bytes)) P t N
+        → TakesPiece g name bytes s taken t (staged N new now limits)
+    piece_at t given c a =
+        let at : IsStanding g (staged P ss now limits) = subst (IsStanding g) (sym view) standing in
+        let its : (x : Staged K) → x ≡ s → is_some (named name x.strangers) ≡ true =
+        λ x e. subst (λ (y : Staged K). is_some (named name y.strangers) ≡ true) (sym e) there in
+        let within : AreWithin P.engine.running.limits = subst AreWithin at.limits at.within in
+        subst (λ (x : Staged K). TakesPiece g name bytes x taken t (staged N new now limits)) view
+        (subst (λ (l : Limits). TakesPiece g name bytes (staged P ss now l) taken t (staged N new now l)) (sym at.limits)
+        (piece_taken line t at.playable within (its (staged P ss now limits) view)
+        (subst (λ (y : Staged K). AreAlike name (world_at y)) (sym view) alike)
+        (subst (λ (y : Staged K). first_of (held_of name y.strangers) ≡ Ok None) (sym view) waits) line_is given c a))
+
+    -- a packet or a fault is given to the broker
+    pub piece_given : (given : List ℕ) (before after : Telling) → Comes name bytes ss new taken (Some given) → Hears g now (call_on line given) P before after N
+        → TellsPiece g name bytes s taken before after (staged N new now limits)
+    piece_given given before after c h = record {
+      t = h.t;
+      takes = piece_at h.t (Some given) c
+          (subst (λ (o : Option Call). Asks g now o P h.t N) (same_asked line (held_of name ss ++ take taken bytes) given c.asks) h.asks);
+      told = h.told;
+    }
+
+  -- nothing is whole
+  pub piece_held : (limits : Limits) (s : Staged K) → staged P ss now limits ≡ s → IsStanding g s → is_some (named name s.strangers) ≡ true
+      → AreAlike name (world_at s) → first_of (held_of name s.strangers) ≡ Ok None → (line : Option ℕ) → line ≡ line_of (named name ss)
+      → (t : Telling) → Comes name bytes ss new taken None → N ≡ P
+      → TellsPiece g name bytes s taken t t (staged N new now limits)
+  piece_held limits s view standing there alike waits line line_is t c same =
+      let at : IsStanding g (staged P ss now limits) = subst (IsStanding g) (sym view) standing in
+      record {
+        t = silent;
+        takes = piece_at limits s view standing there alike waits line line_is silent None c
+            (subst (λ (x : Played K). Asks g now (call_on line (held_of name ss ++ take taken bytes)) P silent x) (sym same)
+            (subst (λ (o : Option Call). Asks g now o P silent P) (sym (none_whole line (held_of name ss ++ take taken bytes) c.asks))
+            (asks_nothing g now P at.playable)));
+        told = tells_none t;
+      }
+
+-- of one who may come first
+module _ {K : Type 0} (g : Ghosts K) (name bytes : List ℕ) (old mid new : Staged K) where
+  welcomed_piece : (taken : ℕ) (t : Telling) → Welcomes g name old mid → TakesPiece g name bytes mid taken t new → TakesPiece g name bytes old taken t new
+  welcomed_piece taken t w p = record {
+    standing = p.standing;
+    limits = p.limits ∙ w.limits;
+    reached = λ reached. subst (λ (l : Limits). IsReached l (broker_of mid) → IsReached l (broker_of new)) w.limits p.reached (w.reached reached);
+    within = p.within;
+    next = subst (λ (held : List ℕ). IsNextPiece held (take taken bytes) (drop taken bytes)) w.same p.next;
+    further = p.further;
+    alike = w.were_alike;
+    turn = λ spells reached good.
+        w.turn spells reached (take taken bytes) t (world_at new) good
+        (subst (λ (l : Limits). SpellsAll l → IsReached l (broker_of mid) → is_bad (comes_in name (take taken bytes)) (world_at mid) ≡ false
+            → IsTurn l (comes_in name (take taken bytes)) t (world_at mid) (world_at new)) w.limits p.turn
+        spells (w.reached reached) (w.good spells reached (take taken bytes) good));
+  }
+
+  pub welcomed_pieces : {E : Type 0} (r : Result ℕ E) (before after : Telling) → Welcomes g name old mid
+      → IfOk r (λ taken. TellsPiece g name bytes mid taken before after new) → IfOk r (λ taken. TellsPiece g name bytes old taken before after new)
+  welcomed_pieces (Err e) before after w h = tt
+  welcomed_pieces (Ok taken) before after w h = record { t = h.t; takes = welcomed_piece taken h.t w h.takes; told = h.told }

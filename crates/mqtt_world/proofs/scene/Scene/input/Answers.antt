@@ -1,0 +1,10 @@
+-- By what a call of the engine is.
+use Rattle.std.proofs.Common.{sym}
+use Rattle.mqtt_broker.specs.TheRules.Step.{Input}
+use Rattle.mqtt_world.proofs.Answered.{answered_in}
+use Rattle.mqtt_world.proofs.scene.Scene.input.Goals as goal
+
+pub returns-in-Ok : goal.returns-in-Ok
+returns-in-Ok g c =
+    answered_in g.K.Keep c.args.now c.moment.result (Input c.args.line c.args.packet.now) c.args.self.now c.tell.new.self c.self.inside.engine c.input.new.self c.self.inside.clients c.in-Ok.outcome c.input.result c.tell.result
+    (sym c.self.view_is) c.requires.playable c.moment.ensures c.in-Ok.is c.input.ensures.called c.tell.ensures.same c.tell.ensures.ends c.tell.ensures.told

@@ -1,0 +1,10 @@
+-- By what a call of the engine is.
+use Rattle.std.proofs.Common.{sym}
+use Rattle.mqtt_broker.specs.TheRules.Step.{Tick}
+use Rattle.mqtt_world.proofs.Answered.{answered_in}
+use Rattle.mqtt_world.proofs.scene.Scene.tick.Goals as goal
+
+pub returns-in-Ok : goal.returns-in-Ok
+returns-in-Ok g c =
+    answered_in g.K.Keep c.args.now c.moment.result (Tick) c.args.self.now c.tell.new.self c.self.inside.engine c.tick.new.self c.self.inside.clients c.in-Ok.outcome c.tick.result c.tell.result
+    (sym c.self.view_is) c.requires c.moment.ensures c.in-Ok.is c.tick.ensures c.tell.ensures.same c.tell.ensures.ends c.tell.ensures.told

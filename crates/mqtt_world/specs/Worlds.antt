@@ -1,0 +1,185 @@
+-- Worlds that run: what a script's events come to there, one after the other, and what holds of all of them (MQTT 5.0, 4.1 to
+-- 4.4).
+use Rattle.std.specs.Prelude.{◌≡◌, ⊤, ℕ, false, true, List, [], ◌∷◌, ◌++◌, length, cond, Option, None, Some, Result, Ok, Err, option_map}
+use Rattle.mqtt_records.specs.declared.keep.Keep.{Ghosts}
+use Rattle.mqtt_records.specs.declared.records.Records.{Records}
+use Rattle.mqtt_lawful.specs.Lawful.{IsLawful}
+use Rattle.mqtt_laws.specs.Tellings.{Telling, done_by, handed_by, messages_of, queue_length}
+use Rattle.mqtt_laws.specs.World as world
+use Rattle.mqtt_laws.specs.World.{World, is_end, publisher_named, receiver_named}
+use Rattle.mqtt_peers.specs.declared.told.RunFault.{RunFault}
+use Rattle.mqtt_peers.specs.declared.told.RunFault.TheVariants as fault
+use Rattle.mqtt_opening.specs.Opening.{IsLoad}
+use Rattle.mqtt_script.specs.declared.event.Event.{Event}
+use Rattle.mqtt_script.specs.declared.event.Event.TheVariants.{Publisher, Receiver, Connect, GiveUp, Publish, Subscribe}
+use Rattle.mqtt_script.specs.declared.event.Event.TheVariants.{ToBroker, ToEnd, Break, Pump, Clock, Tick, Restart, StopBefore}
+use Rattle.mqtt_script.specs.declared.event.Event.TheVariants.{StopAfter, Stranger, Drain}
+use Rattle.mqtt_script_laws.specs.Cleanly.{ScriptDelivers, keep_clean_starts}
+use Rattle.mqtt_script_laws.specs.Scripted.{IsBadHere, RunsTo, event_of}
+use Rattle.mqtt_spelled_laws.specs.Sending.{HaveSentPhases}
+use Rattle.mqtt_every_run_laws.specs.Untouched.{IsUntouched}
+use Rattle.mqtt_world_laws.specs.Fair.{opened_world}
+use Rattle.mqtt_world_laws.specs.Identities.{TellsApart}
+use Rattle.mqtt_broker.specs.TheRules.Laws.{AreWithin}
+use Rattle.mqtt_broker.specs.TheRules.State.{MemberChoice, session_named}
+use Rattle.mqtt_broker.specs.TheRules.Step.{is_opening_spent}
+use Rattle.mqtt_broker.specs.TheRules.declared.Limits.{Limits}
+use Rattle.mqtt_world.specs.declared.over.Over.{Over}
+use Rattle.mqtt_world.specs.declared.over.Over.TheVariants as over
+use Rattle.mqtt_world.specs.Events.{Does, IsReached}
+use Rattle.mqtt_world.specs.Openings.{AlwaysSound}
+use Rattle.mqtt_world.specs.Scenes.{Played}
+use Rattle.mqtt_world.specs.Stages.{Plays, Staged, broker_of, world_at}
+
+-- ---- one event of a script
+
+-- ends and the broker alone take part in it, and the broker stays open
+abbrev pub IsOfEnds : Event → Type 0
+IsOfEnds (Publisher client) = ⊤
+IsOfEnds (Receiver client window) = ⊤
+IsOfEnds (Connect client clean_start) = ⊤
+IsOfEnds (GiveUp client) = ⊤
+IsOfEnds (Publish client draft) = ⊤
+IsOfEnds (Subscribe client wish) = ⊤
+IsOfEnds (ToBroker client old) = ⊤
+IsOfEnds (ToEnd client) = ⊤
+IsOfEnds (Break client) = ⊤
+IsOfEnds (Pump client) = ⊤
+IsOfEnds (Clock wait) = ⊥
+IsOfEnds Tick = ⊤
+IsOfEnds Restart = ⊥
+IsOfEnds (StopBefore a) = ⊥
+IsOfEnds (StopAfter a) = ⊥
+IsOfEnds (Stranger name bytes) = ⊥
+IsOfEnds (Drain client) = ⊥
+
+-- what is no event of the world can't happen, and nothing changes
+abbrev pub DoesIf : {K : Type 0} → Ghosts K → ℕ → Option world.Event → Played K → Option Telling → Played K → Type 0
+DoesIf g now None old t new = (t ≡ None) × (new ≡ old)
+DoesIf g now (Some e) old t new = Does g now e old t new
+
+abbrev pub PlaysIf : {K : Type 0} → Ghosts K → Option world.Event → Staged K → Option Telling → Staged K → Type 0
+PlaysIf g None old t new = (t ≡ None) × (new ≡ old)
+PlaysIf g (Some e) old t new = Plays g e old t new
+
+-- ---- events, one after the other
+
+-- over a store whose device is always sound, from a broker that there is
+abbrev pub IfSound : {K : Type 0} → Ghosts K → Staged K → Type 0 → Type 0
+IfSound g s P = AlwaysSound g → IsReached s.limits (broker_of s) → P
+
+-- they happen in the definitions' world, with what each tells
+pub record Runs {K : Type 0} (g : Ghosts K) (es : List Event) (old : Staged K) (ts : List Telling) (new : Staged K) : Type 0 where
+  pub limits : new.limits ≡ old.limits
+  pub reached : IfSound g old (IsReached old.limits (broker_of new))
+  pub runs : IfSound g old (RunsTo old.limits es ts (world_at old) (world_at new))
+
+-- ---- a world: what stands, or why it is over; and the events that happened in it
+
+pub record Lasting (K : Type 0) : Type 0 where
+  pub stage : Result (Staged K) Over
+  pub events : List Event
+
+abbrev pub with_stage : {K : Type 0} → Staged K → Lasting K → Lasting K
+with_stage s w = record w { stage = Ok s }
+
+abbrev pub over_by : {K : Type 0} → Over → Lasting K → Lasting K
+over_by o w = record w { stage = Err o }
+
+-- what each call of a world that is over answers
+abbrev pub fault_of : Over → RunFault
+fault_of over.Memory = fault.Memory
+fault_of over.Store = fault.Store
+
+-- events happened, with what each tells, and the world keeps them
+pub record Happen {K : Type 0} (g : Ghosts K) (es : List Event) (ts : List Telling) (old new : Lasting K) : Type 0 where
+  pub from : Staged K
+  pub to : Staged K
+  pub was : old.stage ≡ Ok from
+  pub is : new.stage ≡ Ok to
+  pub runs : Runs g es from ts to
+  pub kept : new.events ≡ old.events ++ es
+
+-- an event can't happen there, and nothing changed
+pub record CantHappen {K : Type 0} (g : Ghosts K) (e : Event) (old new : Lasting K) : Type 0 where
+  pub nothing : Happen g [] [] old new
+  pub bad : IfSound g nothing.from (IsBadHere e (world_at nothing.from))
+
+-- why an event did not happen: it can't, and its place is behind those that the world keeps; or the world is over
+abbrev pub Refuses : {K : Type 0} → Ghosts K → Event → RunFault → Lasting K → Lasting K → Type 0
+Refuses g e (fault.BadEvent place) old new = CantHappen g e old new × (place ≡ length old.events)
+Refuses g e fault.Memory old new = new ≡ over_by over.Memory old
+Refuses g e fault.Store old new = new ≡ over_by over.Store old
+
+-- the events before one happened, and that one did not
+pub record Stops {K : Type 0} (g : Ghosts K) (es : List Event) (f : RunFault) (old new : Lasting K) : Type 0 where
+  pub before : List Event
+  pub event : Event
+  pub rest : List Event
+  pub are : es ≡ before ++ event ∷ rest
+  pub tells : List Telling
+  pub mid : Lasting K
+  pub happened : Happen g before tells old mid
+  pub refused : Refuses g event f mid new
+
+-- ---- all that a world keeps
+
+-- events led from one world to what stands, by a run of the definitions' world
+pub record Came {K : Type 0} (start : World) (es : List Event) (s : Staged K) : Type 0 where
+  pub within : AreWithin s.limits
+  pub reached : IsReached s.limits (broker_of s)
+  pub tells : List Telling
+  pub runs : RunsTo s.limits es tells start (world_at s)
+
+-- while it stands, the events that it keeps led there
+abbrev pub HasCome : {K : Type 0} → World → Lasting K → Type 0
+HasCome {K} start w = (s : Staged K) → w.stage ≡ Ok s → Came start w.events s
+
+-- exactly-once delivery, of all of them: where nobody was there at first, what was stored is as a broker leaves it, and their
+-- Clean Starts are carried through (3.1.2.4, 3.3.4, 4.3, 4.4, 4.6, 4.8, 4.9)
+abbrev pub HasDelivered : {K : Type 0} → World → Lasting K → Type 0
+HasDelivered {K} start w = (s : Staged K) → w.stage ≡ Ok s → IsUntouched s.limits start → TellsApart start.broker.records
+    → keep_clean_starts [] w.events ≡ true → ScriptDelivers s.limits w.events start (world_at s)
+
+-- it begins at moment 0 with an opening of lawful records that the store's load answered, without ends or strangers
+pub record Starts {K : Type 0} (g : Ghosts K) (limits : Limits) (keep : K) (w : Lasting K) : Type 0 where
+  pub loaded : K
+  pub records : Records
+  pub load : IsLoad g keep records loaded
+  pub lawful : IsLawful records
+  pub choice : MemberChoice
+  pub unspent : is_opening_spent limits choice 0 records ≡ false
+  pub at : Staged K
+  pub stage : w.stage ≡ Ok at
+  pub limits_are : at.limits ≡ limits
+  pub world : world_at at ≡ opened_world limits choice 0 records
+  pub events : w.events ≡ []
+  -- its runs have all that is proved of every run, if what was in flight has identifiers of two bytes (2.2.1)
+  pub comes : HaveSentPhases records → HasCome (opened_world limits choice 0 records) w
+
+-- ---- what is seen of a world; of one that is over there is nothing to see
+
+abbrev pub seen_at : {K A : Type 0} → (World → Option A) → Result (Staged K) Over → Option A
+seen_at look (Ok s) = look (world_at s)
+seen_at look (Err o) = None
+
+abbrev pub seen : {K A : Type 0} → (World → Option A) → Lasting K → Option A
+seen look w = seen_at look w.stage
+
+abbrev pub sent_in : List ℕ → World → Option ℕ
+sent_in client w = option_map (λ p. messages_of (Some p)) (publisher_named client w)
+
+abbrev pub done_in : List ℕ → World → Option ℕ
+done_in client w = option_map (λ p. done_by (Some p)) (publisher_named client w)
+
+abbrev pub handed_in : List ℕ → World → Option (List ℕ)
+handed_in client w = option_map (λ r. handed_by (Some r)) (receiver_named client w)
+
+abbrev pub queue_in : List ℕ → World → Option ℕ
+queue_in client w = cond (is_end client w) (Some (queue_length (session_named client w.broker.records))) None
+
+abbrev pub publications_in : World → Option ℕ
+publications_in w = Some w.broker.records.publications
+
+abbrev pub sessions_in : World → Option ℕ
+sessions_in w = Some (length w.broker.records.sessions)

@@ -1,0 +1,51 @@
+//! An end joins: it sends CONNECT on a new line (MQTT 5.0, 3.1, 4.2).
+ghost use Rattle.std.specs.Prelude.{◌≡◌, IfOk, option_map};
+ghost use Rattle.mqtt_laws.specs.World.{connect_end, is_away};
+ghost use Rattle.mqtt_peers.specs.Lines.{link_of};
+ghost use Rattle.mqtt_world.specs.Events.{Does};
+ghost use Rattle.mqtt_world.specs.Scenes.{IsPlayable};
+
+use crate::lines::are_full;
+use crate::scene::Scene;
+use mqtt_broker::Keep;
+use mqtt_peers::{Link, RunFault, Told};
+use std::alloc::Global;
+
+/// Whether an end that has come so far with its line has none. Takes no memory.
+fn is_away(link: Option<Link>) -> bool
+    ensures { result ≡ is_away (option_map link_of link) }
+{
+    match link {
+        Some(Link::Away) => true,
+        Some(Link::Asked | Link::Live) | None => false,
+    }
+}
+
+impl<K: Keep> Scene<K> {
+    /// An end that has no line sends CONNECT on a new one (3.1). Where as many lines stand as may, it stays without.
+    pub(crate) fn connect(
+        &mut self,
+        alloc: Global,
+        client: &str,
+        clean: bool,
+        now: u128,
+    ) -> Result<Option<Told>, RunFault>
+        requires { IsPlayable K.Keep self.old }
+        ensures { IfOk result (λ t. Does K.Keep now (connect_end client.now clean) self.old t self.new) }
+    {
+        if !is_away(self.clients.link_of(client)) {
+            return Ok(None);
+        }
+        if are_full(&self.engine, &self.lines) {
+            return Ok(Some(Told::silent(alloc)));
+        }
+        match self.link(now) {
+            Some(line) => {
+                self.clients.join(client, line, clean)?;
+                Ok(Some(Told::silent(alloc)))
+            }
+            // (no number is left to give)
+            None => Err(RunFault::Store),
+        }
+    }
+}

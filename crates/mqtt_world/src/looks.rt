@@ -1,0 +1,108 @@
+//! What is seen of a world: messages of publishers, copies of receivers, and numbers of the broker (MQTT 5.0, 4.1, 4.3).
+
+ghost use Rattle.std.specs.Prelude.{◌≡◌, IfOk, option_map, vec_items};
+ghost use Rattle.mqtt_world.specs.Stages.{world_at};
+ghost use Rattle.mqtt_world.specs.Worlds.{done_in, handed_in, publications_in, queue_in, seen, sent_in, sessions_in};
+
+use crate::stage::Stage;
+use crate::world::World;
+use mqtt_broker::Keep;
+use std::alloc::{AllocError, Global};
+
+impl<K: Keep> Stage<K> {
+    fn sent(&self, client: &str) -> Option<u64>
+        ensures { result ≡ sent_in client.now (world_at self.now) }
+    {
+        self.scene.clients.sent(client)
+    }
+
+    fn done(&self, client: &str) -> Option<u64>
+        ensures { result ≡ done_in client.now (world_at self.now) }
+    {
+        self.scene.clients.done(client)
+    }
+
+    fn handed(&self, alloc: Global, client: &str) -> Result<Option<Vec<u64>>, AllocError>
+        ensures { IfOk result (λ handed. option_map vec_items handed ≡ handed_in client.now (world_at self.now)) }
+    {
+        self.scene.clients.handed(alloc, client)
+    }
+
+    fn queue(&self, client: &str) -> Option<u64>
+        ensures { result ≡ queue_in client.now (world_at self.now) }
+    {
+        if !self.scene.clients.is_end(client) {
+            return None;
+        }
+        match self.scene.engine.queue_len(client) {
+            Some(len) => Some(len as u64),
+            None => Some(0),
+        }
+    }
+}
+
+impl<K: Keep> World<K> {
+    /// How many messages a publisher has: of QoS 1 and 2 that went out, and any that did not yet. None where no publisher
+    /// has the name, or the world is over. Takes no memory.
+    pub fn sent(&self, client: &str) -> Option<u64>
+        ensures { result ≡ seen (sent_in client.now) self.now }
+    {
+        match &self.stage {
+            Ok(stage) => stage.sent(client),
+            Err(_) => None,
+        }
+    }
+
+    /// How many messages of a publisher were completed (4.3.2, 4.3.3). None where no publisher has the name, or the world
+    /// is over. Takes no memory.
+    pub fn done(&self, client: &str) -> Option<u64>
+        ensures { result ≡ seen (done_in client.now) self.now }
+    {
+        match &self.stage {
+            Ok(stage) => stage.done(client),
+            Err(_) => None,
+        }
+    }
+
+    /// The publications of the copies of QoS 2 that a receiver was handed, in order (4.3.3). None where no receiver has the
+    /// name, or the world is over.
+    pub fn handed(&self, alloc: Global, client: &str) -> Result<Option<Vec<u64>>, AllocError>
+        ensures { IfOk result (λ handed. option_map vec_items handed ≡ seen (handed_in client.now) self.now) }
+    {
+        match &self.stage {
+            Ok(stage) => stage.handed(alloc, client),
+            Err(_) => Ok(None),
+        }
+    }
+
+    /// How many copies wait for the session of an end, or are in flight to it (4.6). None where no end has the name, or the
+    /// world is over. Takes no memory.
+    pub fn queue(&self, client: &str) -> Option<u64>
+        ensures { result ≡ seen (queue_in client.now) self.now }
+    {
+        match &self.stage {
+            Ok(stage) => stage.queue(client),
+            Err(_) => None,
+        }
+    }
+
+    /// How many publications the broker accepted. None where the world is over. Takes no memory.
+    pub fn publications(&self) -> Option<u64>
+        ensures { result ≡ seen publications_in self.now }
+    {
+        match &self.stage {
+            Ok(stage) => Some(stage.scene.engine.publications()),
+            Err(_) => None,
+        }
+    }
+
+    /// How many sessions the broker has. None where the world is over. Takes no memory.
+    pub fn sessions(&self) -> Option<u64>
+        ensures { result ≡ seen sessions_in self.now }
+    {
+        match &self.stage {
+            Ok(stage) => Some(stage.scene.engine.sessions_len() as u64),
+            Err(_) => None,
+        }
+    }
+}

@@ -1,0 +1,117 @@
+//! An event of a script happens on the stage (MQTT 5.0, 4.1 to 4.4).
+
+ghost use Rattle.std.specs.Prelude.{◌≡◌, Ok, IfOk};
+ghost use Rattle.mqtt_script_laws.specs.Scripted.{asking_of, event_of};
+ghost use Rattle.mqtt_world.specs.Scenes.{IsPlayable};
+ghost use Rattle.mqtt_world.specs.Stages.{IsStanding, Plays};
+ghost use Rattle.mqtt_world.specs.Stopping.{stop_at};
+ghost use Rattle.mqtt_world.specs.Worlds.{DoesIf, IsOfEnds, PlaysIf};
+
+use crate::scene::Scene;
+use crate::stage::Stage;
+use mqtt_broker::Keep;
+use mqtt_peers::{RunFault, Told};
+use mqtt_script::{Asking, Event};
+use std::alloc::Global;
+
+impl<K: Keep> Scene<K> {
+    /// An event in which ends and the broker alone take part, and the broker stays open.
+    pub(crate) fn play(
+        &mut self,
+        alloc: Global,
+        event: &Event,
+        now: u128,
+    ) -> Result<Option<Told>, RunFault>
+        requires { IsPlayable K.Keep self.old }
+        ensures { IsOfEnds event.now
+            → IfOk result (λ t. DoesIf K.Keep now (event_of event.now) self.old t self.new) }
+    {
+        match event {
+            Event::Publisher { client } => self.make_publisher(alloc, client),
+            Event::Receiver { client, window } => self.make_receiver(alloc, client, *window),
+            Event::Connect {
+                client,
+                clean_start,
+            } => self.connect(alloc, client.as_str(), *clean_start, now),
+            Event::GiveUp { client } => Ok(self.give_up(alloc, client.as_str())),
+            Event::Publish { client, draft } => self.publish(alloc, client.as_str(), draft),
+            Event::Subscribe { client, wish } => self.subscribe(alloc, client.as_str(), wish),
+            Event::ToBroker { client, old } => self.ask_packet(alloc, client.as_str(), *old, now),
+            Event::ToEnd { client } => self.to_end(alloc, client.as_str()),
+            Event::Break { client } => self.ask_break(alloc, client.as_str(), now),
+            Event::Pump { client } => self.ask_pump(alloc, client.as_str(), now),
+            Event::Tick => self.ask_tick(now),
+            _ => Ok(None),
+        }
+    }
+}
+
+impl<K: Keep> Stage<K> {
+    /// The stage, with what was told on it.
+    fn with_told(
+        self,
+        told: Result<Option<Told>, RunFault>,
+    ) -> Result<(Stage<K>, Option<Told>), RunFault>
+        ensures { IfOk result (λ x. (x.0 ≡ self) × (told ≡ Ok x.1)) }
+    {
+        match told {
+            Ok(told) => Ok((self, told)),
+            Err(fault) => {
+                drop(self);
+                Err(fault)
+            }
+        }
+    }
+
+    /// An event in which ends and the broker alone take part, and the broker stays open.
+    fn play(&mut self, event: &Event) -> Result<Option<Told>, RunFault>
+        requires { IsStanding K.Keep self.old }
+        ensures { IsOfEnds event.now
+            → IfOk result (λ t. PlaysIf K.Keep (event_of event.now) self.old t self.new) }
+    {
+        self.scene.play(self.alloc, event, self.now)
+    }
+
+    /// The broker stops before the commit of the first step that is asked for, or after it, and is opened again.
+    fn stop(
+        self,
+        asking: &Asking,
+        after: bool,
+    ) -> Result<(Stage<K>, Option<Told>), RunFault>
+        requires { IsStanding K.Keep self }
+        ensures { IfOk result (λ x. Plays K.Keep (stop_at after (asking_of asking.now)) self x.1 x.0) }
+    {
+        match asking {
+            Asking::Stranger { name, bytes } => self.stop_visit(name, bytes.as_slice(), after),
+            _ => self.stop_plain(asking, after),
+        }
+    }
+
+    /// An event of a script happens, or can't: a drain is none that can.
+    pub(crate) fn happen(
+        mut self,
+        event: &Event,
+    ) -> Result<(Stage<K>, Option<Told>), RunFault>
+        requires { IsStanding K.Keep self }
+        ensures { IfOk result (λ x. PlaysIf K.Keep (event_of event.now) self x.1 x.0) }
+    {
+        match event {
+            Event::Restart => self.restart(),
+            Event::StopBefore(asking) => self.stop(asking, false),
+            Event::StopAfter(asking) => self.stop(asking, true),
+            Event::Clock { wait } => {
+                let told = self.clock(*wait);
+                self.with_told(told)
+            }
+            Event::Stranger { name, bytes } => {
+                let told = self.visit(name, bytes.as_slice());
+                self.with_told(told)
+            }
+            Event::Drain { .. } => Ok((self, None)),
+            _ => {
+                let told = self.play(event);
+                self.with_told(told)
+            }
+        }
+    }
+}
