@@ -17,7 +17,7 @@ use Rattle.mqtt_world.specs.Events.{IsReached, SpellsAll, world_of}
 use Rattle.mqtt_world.specs.Scenes.{Played}
 use Rattle.mqtt_world.specs.Stages.{IsStanding, Plays, Staged, broker_of, world_at}
 use Rattle.mqtt_world.specs.Visits.{StopsAt, TakesPiece, TellsPiece}
-use Rattle.mqtt_world.proofs.Visits.{all_taken, comes_in, decided, none_tells, piece_good, staged, tells_after}
+use Rattle.mqtt_world.proofs.Calling.{all_taken, comes_in, decided, none_tells, piece_good, staged, tells_after}
 
 -- so many pieces have come, and the rest comes where they led
 pub record ComesOn {K : Type 0} (g : Ghosts K) (name bytes : List ℕ) (old : Staged K) (told : Telling) (mid : Staged K) (rest : List ℕ) : Type 0 where

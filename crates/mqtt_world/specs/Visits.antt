@@ -4,7 +4,7 @@ use Rattle.mqtt_records.specs.declared.keep.Keep.{Ghosts}
 use Rattle.mqtt_packet.specs.Front.{first_of}
 use Rattle.mqtt_laws.specs.Run.{read_if, the_deeds}
 use Rattle.mqtt_laws.specs.Tellings.{Telling, silent, telling}
-use Rattle.mqtt_laws.specs.World.{Asking, Event, Stranger, World, ask, calls_if, is_bad, stop_after, stop_before, stranger}
+use Rattle.mqtt_laws.specs.World.{Event, Stranger, World, ask, calls_if, is_bad, stranger}
 use Rattle.mqtt_broker.specs.TheRules.State.{MemberChoice}
 use Rattle.mqtt_broker.specs.TheRules.Step.{Call}
 use Rattle.mqtt_world_laws.specs.Spending.{spending}
@@ -77,13 +77,7 @@ pub record TellsPiece {K : Type 0} (g : Ghosts K) (name bytes : List ℕ) (old :
   pub takes : TakesPiece g name bytes old taken t new
   pub told : after ≡ both_tell before t
 
--- ---- a stop after the commit of what is asked for, or before it
-
-abbrev pub stop_at : Bool → Asking → Event
-stop_at true a = stop_after a
-stop_at false a = stop_before a
-
--- it leads to a world that is to be opened again
+-- ---- a stop after the commit of what is asked for, or before it, leads to a world that is to be opened again
 
 pub record StopsAt {K : Type 0} (g : Ghosts K) (e : Event) (old new : Staged K) : Type 0 where
   pub standing : IsStanding g new

@@ -12,7 +12,8 @@ ghost use Rattle.mqtt_strangers.specs.Strangers.{held_of, named};
 ghost use Rattle.mqtt_unrolled_laws.specs.Unrolled.{AreAlike};
 ghost use Rattle.mqtt_world.specs.Scenes.{IsPlayable};
 ghost use Rattle.mqtt_world.specs.Stages.{IsStanding, Plays, world_at};
-ghost use Rattle.mqtt_world.specs.Visits.{Hears, MayStopAt, StopsAt, TellsPiece, Welcomes, stop_at};
+ghost use Rattle.mqtt_world.specs.Stopping.{stop_at};
+ghost use Rattle.mqtt_world.specs.Visits.{Hears, MayStopAt, StopsAt, TellsPiece, Welcomes};
 
 use crate::scene::Scene;
 use crate::stage::Stage;

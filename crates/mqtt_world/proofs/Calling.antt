@@ -31,7 +31,8 @@ use Rattle.mqtt_world.specs.Events.{IsDone, IsReached, SpellsAll, TakesPacket, w
 use Rattle.mqtt_world.specs.Openings.{AlwaysSound}
 use Rattle.mqtt_world.specs.Scenes.{Calls, IsPlayable, Played}
 use Rattle.mqtt_world.specs.Stages.{IsStanding, Plays, Staged, broker_of, world_at}
-use Rattle.mqtt_world.specs.Visits.{Asks, Hears, MayStopAt, StopsAt, TakesPiece, TellsPiece, Welcomes, stop_at}
+use Rattle.mqtt_world.specs.Stopping.{stop_at}
+use Rattle.mqtt_world.specs.Visits.{Asks, Hears, MayStopAt, StopsAt, TakesPiece, TellsPiece, Welcomes}
 use Rattle.mqtt_world.proofs.Eventful.{reached_after, world_called}
 
 any_choice : MemberChoice
