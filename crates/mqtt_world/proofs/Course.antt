@@ -23,7 +23,7 @@ use Rattle.mqtt_world.proofs.ReadAsSent.{spells_all}
 
 -- ---- results
 
-ok_is : {A E : Type 0} (r : Result A E) (a b : A) → r ≡ Ok a → r ≡ Ok b → a ≡ b
+pub ok_is : {A E : Type 0} (r : Result A E) (a b : A) → r ≡ Ok a → r ≡ Ok b → a ≡ b
 ok_is r a b is same = cc
 
 ok_no_err : {P : Type 0} {A E : Type 0} (r : Result A E) (a : A) (e : E) → r ≡ Ok a → r ≡ Err e → P

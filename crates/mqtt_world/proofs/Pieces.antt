@@ -18,9 +18,10 @@ use Rattle.mqtt_script_laws.specs.Scripted.{asking_of, event_of}
 use Rattle.mqtt_script_laws.specs.Turns.{IsPlain}
 use Rattle.mqtt_clients.specs.Ends.{reading}
 use Rattle.mqtt_broker.specs.TheRules.declared.Limits.{Limits}
-use Rattle.mqtt_world.specs.Events.{Does, IsDone, IsReached, SpellsAll}
+use Rattle.mqtt_world.specs.Events.{Does}
 use Rattle.mqtt_world.specs.Scenes.{Played}
-use Rattle.mqtt_world.specs.Stages.{IsStanding, Plays, Staged, broker_of, world_at}
+use Rattle.mqtt_world.specs.Stages.{IsStanding, Plays, Staged}
+use Rattle.mqtt_world.specs.Stopping.{stop_at}
 use Rattle.mqtt_world.specs.Worlds.{DoesIf, IsOfEnds, PlaysIf}
 use Rattle.mqtt_world.proofs.Staged.{plays_in, staged}
 
@@ -127,3 +128,24 @@ with_told {K} g o s mid r (Ok y) is h =
     subst (λ (m : Staged K). PlaysIf g o s y.1 m) (sym is.0)
     (subst (λ (q : Result (Option Telling) RunFault). IfOk q (λ (t : Option Telling). PlaysIf g o s t mid)) is.1 h)
 with_told g o s mid r (Err f) is h = tt
+
+-- and of an event that is one of the world's
+module _ {K : Type 0} (g : Ghosts K) (e : Event) (x : world.Event) (s : Staged K) where
+  pub plays_of : (r : Result (Staged K × Option Telling) RunFault) → event_of e ≡ Some x
+      → IfOk r (λ (y : Staged K × Option Telling). Plays g x s y.1 y.0) → IfOk r (λ (y : Staged K × Option Telling). PlaysIf g (event_of e) s y.1 y.0)
+  plays_of r is h = subst (λ (o : Option world.Event). IfOk r (λ (y : Staged K × Option Telling). PlaysIf g o s y.1 y.0)) (sym is) h
+
+  pub told_of : (mid : Staged K) (r : Result (Option Telling) RunFault) (y : Result (Staged K × Option Telling) RunFault) → event_of e ≡ Some x
+      → IfOk y (λ (z : Staged K × Option Telling). (z.0 ≡ mid) × (r ≡ Ok z.1)) → IfOk r (λ (t : Option Telling). Plays g x s t mid)
+      → IfOk y (λ (z : Staged K × Option Telling). PlaysIf g (event_of e) s z.1 z.0)
+  told_of mid r y is told h = plays_of y is (with_told g (Some x) s mid r y told h)
+
+-- a drain is none
+pub drained : {K : Type 0} (g : Ghosts K) (e : Event) (s : Staged K) → event_of e ≡ None → PlaysIf g (event_of e) s None s
+drained g e s is = subst (λ (o : Option world.Event). PlaysIf g o s None s) (sym is) (refl, refl)
+
+-- a stop at what is asked of the broker, as it is called
+pub stops_of : {K : Type 0} (g : Ghosts K) (after : Bool) (a : Asking) (x : world.Asking) (s : Staged K) (r : Result (Staged K × Option Telling) RunFault)
+    → asking_of a ≡ x → IfOk r (λ (y : Staged K × Option Telling). Plays g (stop_at after x) s y.1 y.0)
+    → IfOk r (λ (y : Staged K × Option Telling). Plays g (stop_at after (asking_of a)) s y.1 y.0)
+stops_of {K} g after a x s r is h = subst (λ (b : world.Asking). IfOk r (λ (y : Staged K × Option Telling). Plays g (stop_at after b) s y.1 y.0)) (sym is) h

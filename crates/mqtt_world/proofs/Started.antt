@@ -1,0 +1,71 @@
+-- A world that begins, from what the opening of its broker is (MQTT 5.0, 4.1).
+use Rattle.std.proofs.Common.{◌≡◌, List, [], refl, sym, ap, subst, ◌∙◌}
+use Rattle.std.specs.Prelude.{Ok}
+use Rattle.mqtt_lawful.specs.Lawful.{IsLawful}
+use Rattle.mqtt_records.specs.declared.keep.Keep.{Ghosts}
+use Rattle.mqtt_records.specs.declared.records.Records.{Records}
+use Rattle.mqtt_laws.specs.World.{Stranger, World}
+use Rattle.mqtt_script.specs.declared.event.Event.{Event}
+use Rattle.mqtt_spelled_laws.specs.Sending.{HaveSentPhases}
+use Rattle.mqtt_world_laws.specs.Fair.{opened_world}
+use Rattle.mqtt_broker.specs.TheRules.Laws.{AreWithin}
+use Rattle.mqtt_broker.specs.TheRules.State.{Broker}
+use Rattle.mqtt_broker.specs.TheRules.Step.{opened}
+use Rattle.mqtt_broker.specs.TheRules.declared.Limits.{Limits}
+use Rattle.mqtt_clients.specs.Ends.{Ends}
+use Rattle.mqtt_world.specs.Events.{IsReached, opens, world_of}
+use Rattle.mqtt_world.specs.Openings.{Begins, Opens, no_ends}
+use Rattle.mqtt_world.specs.Scenes.{Played}
+use Rattle.mqtt_world.specs.Stages.{IsStanding, Staged}
+use Rattle.mqtt_world.specs.Worlds.{Came, HasCome, Lasting, Starts}
+use Rattle.mqtt_world.proofs.Course.{ok_is}
+use Rattle.mqtt_world.proofs.Staged.{staged}
+
+module _ {K : Type 0} (g : Ghosts K) (limits : Limits) (r : Records) (s : Played K) where
+  world_began : (o : Opens g limits 0 r s) → s.ends ≡ no_ends → world_of 0 [] s ≡ opened_world limits o.choice 0 r
+  world_began o none =
+      let at : Broker → Ends → World = λ b e. record { broker = b; now = 0; publishers = e.publishers; receivers = e.receivers; strangers = [] } in
+      ap (λ (b : Broker). at b s.ends) o.broker ∙ ap (at (opened limits o.choice 0 r)) none
+
+  came_first : (events : List Event) (o : Opens g limits 0 r s) → s.ends ≡ no_ends → events ≡ [] → AreWithin limits → IsLawful r → HaveSentPhases r
+      → Came (opened_world limits o.choice 0 r) events (staged s [] 0 limits)
+  came_first events o none nothing within lawful phases =
+      subst (λ (es : List Event). Came (opened_world limits o.choice 0 r) es (staged s [] 0 limits)) (sym nothing) (record {
+        within = within;
+        reached = subst (IsReached limits) (sym o.broker) (opens o.choice 0 r lawful phases o.unspent);
+        tells = [];
+        runs = (refl, world_began o none);
+      })
+
+module _ {K : Type 0} (g : Ghosts K) (limits : Limits) (keep : K) (s : Played K) where
+  -- it can go on
+  pub begun_stands : AreWithin limits → (b : Begins g limits 0 keep s) → IsStanding g (staged s [] 0 limits)
+  begun_stands within b = record { playable = b.opens.playable; limits = sym b.opens.limits_are; within = within }
+
+  starts : (events : List Event) → AreWithin limits → Begins g limits 0 keep s → events ≡ []
+      → Starts g limits keep (record { stage = Ok (staged s [] 0 limits); events = events })
+  starts events within b nothing = record {
+    loaded = b.loaded;
+    records = b.records;
+    load = b.load;
+    lawful = b.lawful;
+    choice = b.opens.choice;
+    unspent = b.opens.unspent;
+    at = staged s [] 0 limits;
+    stage = refl;
+    limits_are = refl;
+    world = world_began g limits b.records s b.opens b.ends;
+    events = nothing;
+    comes = λ phases t is.
+        subst (Came (opened_world limits b.opens.choice 0 b.records) events) (ok_is (Ok (staged s [] 0 limits)) (staged s [] 0 limits) t refl is)
+        (came_first g limits b.records s events b.opens b.ends nothing within b.lawful phases);
+  }
+
+  pub begun_stands_in : (ss : List Stranger) → ss ≡ [] → AreWithin limits → Begins g limits 0 keep s → IsStanding g (staged s ss 0 limits)
+  begun_stands_in ss nobody within b = subst (λ (xs : List Stranger). IsStanding g (staged s xs 0 limits)) (sym nobody) (begun_stands within b)
+
+  pub starts_in : (ss : List Stranger) (events : List Event) → ss ≡ [] → events ≡ [] → AreWithin limits → Begins g limits 0 keep s
+      → Starts g limits keep (record { stage = Ok (staged s ss 0 limits); events = events })
+  starts_in ss events nobody nothing within b =
+      subst (λ (xs : List Stranger). Starts g limits keep (record { stage = Ok (staged s xs 0 limits); events = events })) (sym nobody)
+      (starts events within b nothing)

@@ -1,0 +1,42 @@
+-- By what the call does that the event comes to.
+use Rattle.std.proofs.Common.{ap, sym, Some, ◌∙◌}
+use Rattle.mqtt_laws.specs.World.{Event, ask, clock, restart, stop_after, stop_before, stranger}
+use Rattle.mqtt_script_laws.specs.Scripted.{asking_of, event_of}
+use Rattle.mqtt_world.proofs.Pieces.{drained, events_of_ends, plays_of, told_of, with_told}
+use Rattle.mqtt_world.proofs.stage.Stage.happen.Goals as goal
+
+pub returns-in-Restart : goal.returns-in-Restart
+returns-in-Restart g c = plays_of g.K.Keep c.args.event.now restart c.args.self c.restart.result (ap event_of c.in-Restart.is) c.restart.ensures.played
+
+pub returns-in-StopBefore : goal.returns-in-StopBefore
+returns-in-StopBefore g c =
+    plays_of g.K.Keep c.args.event.now (stop_before (asking_of c.in-StopBefore.asking.now)) c.args.self c.stop.result (ap event_of c.in-StopBefore.is)
+    c.stop.ensures
+
+pub returns-in-StopAfter : goal.returns-in-StopAfter
+returns-in-StopAfter g c =
+    plays_of g.K.Keep c.args.event.now (stop_after (asking_of c.in-StopAfter.asking.now)) c.args.self c.stop-in-StopAfter.result
+    (ap event_of c.in-StopAfter.is) c.stop-in-StopAfter.ensures
+
+pub returns-in-Clock : goal.returns-in-Clock
+returns-in-Clock g c =
+    told_of g.K.Keep c.args.event.now (clock c.in-Clock.wait.now) c.args.self c.clock-told.new.self c.clock-told.result c.with_told.result
+    (ap event_of c.in-Clock.is) c.with_told.ensures c.clock-told.ensures
+
+pub returns-in-Stranger : goal.returns-in-Stranger
+returns-in-Stranger g c =
+    let name = c.in-Stranger.name.now in
+    told_of g.K.Keep c.args.event.now (ask (stranger name c.as_slice.result.now)) c.args.self c.visit-told.new.self c.visit-told.result
+    c.with_told-in-Stranger.result
+    (ap event_of c.in-Stranger.is ∙ ap (λ bytes. Some (ask (stranger name bytes))) (sym c.as_slice.ensures.value))
+    c.with_told-in-Stranger.ensures c.visit-told.ensures
+
+pub returns-in-Drain : goal.returns-in-Drain
+returns-in-Drain g c = drained g.K.Keep c.args.event.now c.args.self (ap event_of c.in-Drain.is)
+
+pub returns-in_default : goal.returns-in_default
+returns-in_default g c =
+    let d = c.in_default in
+    with_told g.K.Keep (event_of c.args.event.now) c.args.self c.play-told.new.self c.play-told.result c.with_told-in_default.result
+    c.with_told-in_default.ensures
+    (c.play-told.ensures (events_of_ends c.args.event.now d.not-Restart d.not-StopBefore d.not-StopAfter d.not-Clock d.not-Stranger d.not-Drain))
