@@ -10,25 +10,25 @@ returns-in-Restart g c = plays_of g.K.Keep c.args.event.now restart c.args.self 
 
 pub returns-in-StopBefore : goal.returns-in-StopBefore
 returns-in-StopBefore g c =
-    plays_of g.K.Keep c.args.event.now (stop_before (asking_of c.in-StopBefore.asking.now)) c.args.self c.stop.result (ap event_of c.in-StopBefore.is)
+    plays_of g.K.Keep c.args.event.now (stop_before (asking_of c.in-StopBefore.asking)) c.args.self c.stop.result (ap event_of c.in-StopBefore.is)
     c.stop.ensures
 
 pub returns-in-StopAfter : goal.returns-in-StopAfter
 returns-in-StopAfter g c =
-    plays_of g.K.Keep c.args.event.now (stop_after (asking_of c.in-StopAfter.asking.now)) c.args.self c.stop-in-StopAfter.result
+    plays_of g.K.Keep c.args.event.now (stop_after (asking_of c.in-StopAfter.asking)) c.args.self c.stop-in-StopAfter.result
     (ap event_of c.in-StopAfter.is) c.stop-in-StopAfter.ensures
 
 pub returns-in-Clock : goal.returns-in-Clock
 returns-in-Clock g c =
-    told_of g.K.Keep c.args.event.now (clock c.in-Clock.wait.now) c.args.self c.clock-told.new.self c.clock-told.result c.with_told.result
+    told_of g.K.Keep c.args.event.now (clock c.in-Clock.wait) c.args.self c.clock-told.new.self c.clock-told.result c.with_told.result
     (ap event_of c.in-Clock.is) c.with_told.ensures c.clock-told.ensures
 
 pub returns-in-Stranger : goal.returns-in-Stranger
 returns-in-Stranger g c =
-    let name = c.in-Stranger.name.now in
+    let name = c.in-Stranger.name in
     told_of g.K.Keep c.args.event.now (ask (stranger name c.as_slice.result.now)) c.args.self c.visit-told.new.self c.visit-told.result
     c.with_told-in-Stranger.result
-    (ap event_of c.in-Stranger.is ∙ ap (λ bytes. Some (ask (stranger name bytes))) (sym c.as_slice.ensures.value))
+    (ap event_of c.in-Stranger.is ∙ ap (λ bytes. Some (ask (stranger name bytes))) (sym c.as_slice.ensures))
     c.with_told-in-Stranger.ensures c.visit-told.ensures
 
 pub returns-in-Drain : goal.returns-in-Drain

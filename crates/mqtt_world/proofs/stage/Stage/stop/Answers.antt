@@ -7,8 +7,8 @@ use Rattle.mqtt_world.proofs.stage.Stage.stop.Goals as goal
 
 pub returns-in-Stranger : goal.returns-in-Stranger
 returns-in-Stranger g c =
-    stops_of g.K.Keep c.args.after c.args.asking.now (stranger c.in-Stranger.name.now c.as_slice.result.now) c.args.self c.stop_visit.result
-    (ap asking_of c.in-Stranger.is ∙ ap (stranger c.in-Stranger.name.now) (sym c.as_slice.ensures.value)) c.stop_visit.ensures
+    stops_of g.K.Keep c.args.after c.args.asking.now (stranger c.in-Stranger.name c.as_slice.result.now) c.args.self c.stop_visit.result
+    (ap asking_of c.in-Stranger.is ∙ ap (stranger c.in-Stranger.name) (sym c.as_slice.ensures)) c.stop_visit.ensures
 
 pub stop_plain-requires-clause-plain : goal.stop_plain-requires-clause-plain
 stop_plain-requires-clause-plain g c = plain_askings c.args.asking.now c.in_default.not-Stranger
