@@ -12,6 +12,7 @@ use Rattle.mqtt_script.specs.declared.event.Event.{Event as Line}
 use Rattle.mqtt_unrolled_laws.specs.Unrolled.{AreAllAlike, HoldNoPacket, Unrolls, UnrollsAsking, UnrollsStop, come_in}
 use Rattle.mqtt_unrolled_laws.proofs.Alike.{step_alike}
 use Rattle.mqtt_unrolled_laws.proofs.Waiting.{step_waits}
+use Rattle.mqtt_world_laws.specs.Fair.{IsFair}
 use Rattle.mqtt_world_laws.specs.Identities.{TellsApart}
 use Rattle.mqtt_every_run_laws.specs.Untouched.{IsUntouched}
 use Rattle.mqtt_every_run_laws.proofs.Untouched.{start_untouched}
@@ -140,6 +141,14 @@ nobody_known names w none nobody = record {
   publishers = subst (AllByRecursion (λ (p : Publisher). p.line.clean ≡ true → is_named p.client names ≡ true)) (sym none) tt;
   receivers = subst (AllByRecursion (λ (r : Receiver). r.line.clean ≡ true → is_named r.client names ≡ true)) (sym nobody) tt;
 }
+
+-- its turns are as is asked of every run
+pub script_fair : (limits : Limits) (es : List Line) (tells : List Telling) (w after : World) → AreWithin limits → IsUntouched limits w → keep_clean_starts [] es ≡ true → RunsTo limits es tells w after
+    → (ts : List Turn) × IsFair limits ts w × (after ≡ run limits ts w)
+script_fair limits es tells w after within untouched keeps runs =
+    let by : IsRunOf limits es w after = runs_by_turns limits es tells w after runs in
+    let known = nobody_known [] w untouched.new.publishers untouched.new.receivers in
+    (by.turns, record { within = within; unspent = by.unspent; carried = script_carries limits es [] by.turns w known keeps by.are }, by.is)
 
 pub delivers_once : (limits : Limits) (es : List Line) (tells : List Telling) (w after : World) → AreWithin limits → IsUntouched limits w → TellsApart w.broker.records
     → keep_clean_starts [] es ≡ true → RunsTo limits es tells w after → ScriptDelivers limits es w after

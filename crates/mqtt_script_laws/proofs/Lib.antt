@@ -5,3 +5,6 @@ pub mod Pieces
 pub mod Comings
 pub mod Cleanly
 pub mod Carrying
+pub mod Chosen
+pub mod Repeated
+pub mod Drained

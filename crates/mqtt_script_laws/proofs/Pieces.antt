@@ -32,7 +32,7 @@ last_piece limits name piece t w after one does =
 length_joined : {X : Type 0} (xs ys : List X) → length (xs ++ ys) ≡ length xs + length ys
 length_joined xs ys = length-append xs ys
 
-told_joined : (xs ys : List Deed) → telling (xs ++ ys) ≡ both_tell (telling xs) (telling ys)
+pub told_joined : (xs ys : List Deed) → telling (xs ++ ys) ≡ both_tell (telling xs) (telling ys)
 told_joined xs ys =
     ap (λ (rs : List _). record { reports = rs; out = length (filter_map output (xs ++ ys)) }) (filter_map-append report xs ys)
     ∙ ap (λ (n : ℕ). record { reports = filter_map report xs ++ filter_map report ys; out = n })
