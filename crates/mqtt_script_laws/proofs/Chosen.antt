@@ -125,10 +125,13 @@ not_next n = elim (cases_Bool (nat_eq n (suc n))) [
 -- whatever line its session is connected on, some line is another
 some_taken : (o : Option BrokerLine) (birth : ℕ) (b : Broker) → line_of birth b ≡ o → (n : ℕ) × IsTaken o birth n
 some_taken None birth b is = (0, record { connected = λ l e. absurd cc; another = λ l e. absurd cc })
-some_taken (Some x) birth b is = (suc x.number, record {
-  connected = λ l e. its_session l.session birth (found_passes (λ (y : BrokerLine). is_of y.session birth) l b.lines (is ∙ e));
-  another = λ l e. let same : x ≡ l = cc in ap (λ (y : BrokerLine). nat_eq y.number (suc x.number)) (sym same) ∙ not_next x.number;
-})
+some_taken (Some x) birth b is = (
+  suc x.number,
+  record {
+    connected = λ l e. its_session l.session birth (found_passes (λ (y : BrokerLine). is_of y.session birth) l b.lines (is ∙ e));
+    another = λ l e. let same : x ≡ l = cc in ap (λ (y : BrokerLine). nat_eq y.number (suc x.number)) (sym same) ∙ not_next x.number;
+  },
+)
 
 abbrev cleared_by : Bool → Session → List Deed
 cleared_by true s = end_session s
