@@ -1,21 +1,19 @@
 -- No choice of members is asked for by what a receiver sends: it publishes nothing, and its session has no Will (MQTT 5.0,
 -- 3.1.2.5, 4.3, 4.4).
-use Rattle.std.proofs.Common.{◌≡◌, ℕ, suc, Bool, true, false, not, ◌&&◌, ◌||◌, List, [], ◌∷◌, ◌++◌, map, length, Option, Some, None, nat_eq, nat_lt, nat_le, refl, sym, ap, subst, ◌∙◌, arith, inl, inr}
+use Rattle.std.proofs.Common.{◌≡◌, ℕ, suc, Bool, true, false, ◌&&◌, ◌||◌, List, [], ◌∷◌, ◌++◌, map, length, Option, Some, None, nat_eq, nat_lt, nat_le, refl, sym, ap, subst, ◌∙◌, arith, inl, inr}
 use Rattle.std.specs.Prelude.{Ok, Err, filter, flat_map}
 use Rattle.std.proofs.lemmas.Bool.{cases_Bool, eqb-true}
 use Rattle.mqtt_base.specs.Codes.{protocol_error}
 use Rattle.mqtt_base.specs.declared.session.CopyId.{CopyId}
 use Rattle.mqtt_base.specs.declared.limits.TheConstants.{SUBSCRIPTION_LIMIT}
-use Rattle.mqtt_codec.specs.Heads.{qos_number}
 use Rattle.mqtt_codec.specs.Subscriptions.{Subscription as Asked}
-use Rattle.mqtt_codec.specs.declared.packet.Packet.{Packet}
 use Rattle.mqtt_connect.specs.declared.connect.Connect.{Connect as Greeting}
 use Rattle.mqtt_flow.specs.Outbound.{Answer}
 use Rattle.mqtt_flow.specs.Outbound as rules
 use Rattle.mqtt_flow.specs.Receiver.{connect, puback, pubcomp, pubrec}
 use Rattle.mqtt_inbound.specs.Identifiers.{is_among}
 use Rattle.mqtt_laws.specs.Ends.{Back, Receiver, answers, asks_for, wire_back}
-use Rattle.mqtt_laws.specs.Hops.{IsKept, IsTaken, Own}
+use Rattle.mqtt_laws.specs.Hops.{IsKept, IsTaken}
 use Rattle.mqtt_laws.specs.Seats.{IsHis, IsNamed}
 use Rattle.mqtt_laws.proofs.CleanConnects.{clear_is}
 use Rattle.mqtt_laws.proofs.Connects.{left_by, named_taken, prepare_front, taken_client, taken_from, taken_will}

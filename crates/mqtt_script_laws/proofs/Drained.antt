@@ -1,5 +1,5 @@
 -- A drain of a script, round by round, is that by any one choice; so its rounds are few, and it ends (MQTT 5.0, 4.3, 4.4, 4.6).
-use Rattle.std.proofs.Common.{◌≡◌, ◌≤◌, ◌+◌, ◌⊎◌, ℕ, zero, suc, Bool, true, false, not, ◌||◌, List, [], ◌∷◌, ◌++◌, length, Option, Some, None, refl, sym, ap, subst, ◌∙◌, arith}
+use Rattle.std.proofs.Common.{◌≡◌, ◌≤◌, ◌+◌, ℕ, zero, suc, Bool, true, false, not, ◌||◌, List, [], ◌∷◌, ◌++◌, length, Option, Some, None, refl, sym, ap, subst, ◌∙◌, arith}
 use Rattle.std.specs.Prelude.{⊤, is_some}
 use Rattle.mqtt_laws.specs.Ends.{Receiver}
 use Rattle.mqtt_laws.specs.Run.{Turn, deeds_over, run}
@@ -11,7 +11,7 @@ use Rattle.mqtt_rules.specs.declared.Limits.{Limits}
 use Rattle.mqtt_script.specs.declared.event.Event.{Event}
 use Rattle.mqtt_world_laws.specs.Copies.{entered_from}
 use Rattle.mqtt_world_laws.specs.Spending.{run_spends}
-use Rattle.mqtt_handed_laws.specs.Drains.{after_round, copies_left, count_by_end, downs_by, drain_by, drain_turns, drained, enough_rounds, is_none_left, is_over, line_stands, round_turns, rounds_taken, times, turn_of, ups_by}
+use Rattle.mqtt_handed_laws.specs.Drains.{after_round, copies_left, count_by_end, downs_by, drain_by, drain_turns, enough_rounds, is_none_left, is_over, line_stands, round_turns, rounds_taken, times, turn_of, ups_by}
 use Rattle.mqtt_every_run_laws.specs.Taking.{any_size}
 use Rattle.mqtt_every_run_laws.specs.Untouched.{IsUntouched}
 use Rattle.mqtt_every_run_laws.proofs.Drains.{ends_over, ends_within, round_carried}
@@ -20,11 +20,10 @@ use Rattle.mqtt_every_run_laws.proofs.QueueGrowth.{queue_grows}
 use Rattle.mqtt_every_run_laws.proofs.Runs.{IsKept}
 use Rattle.mqtt_script_laws.specs.Cleanly.{keep_clean_starts}
 use Rattle.mqtt_script_laws.specs.Drains.{DrainHappens, DrainsBy, IsRound, MakesRounds}
-use Rattle.mqtt_script_laws.specs.Scripted.{IsRunOf, RunsTo}
+use Rattle.mqtt_script_laws.specs.Scripted.{RunsTo}
 use Rattle.mqtt_script_laws.specs.Turns.{both_tell}
 use Rattle.mqtt_script_laws.proofs.Carrying.{script_fair}
 use Rattle.mqtt_script_laws.proofs.Repeated.{Comes, IsReady, answers_same, come_joined, pump_same, reads_same, ready_after, repeats_by, tell_nothing_first, tell_nothing_more, tell_together, turn_by}
-use Rattle.mqtt_script_laws.proofs.Scripts.{runs_by_turns}
 
 -- ---- a round by one choice
 

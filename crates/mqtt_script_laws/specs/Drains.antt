@@ -1,8 +1,8 @@
 -- What a drain of a receiver comes to, turn by turn, each by a choice of members of its own (MQTT 5.0, 4.3, 4.4, 4.6).
-use Rattle.std.specs.Prelude.{◌≡◌, ℕ, zero, suc, Bool, true, false, List}
+use Rattle.std.specs.Prelude.{◌≡◌, ℕ, zero, suc, true, false, List}
 use Rattle.mqtt_rules.specs.State.{MemberChoice}
 use Rattle.mqtt_rules.specs.declared.Limits.{Limits}
-use Rattle.mqtt_laws.specs.Run.{deeds_over, run}
+use Rattle.mqtt_laws.specs.Run.{deeds_over}
 use Rattle.mqtt_laws.specs.Tellings.{Telling, silent, telling}
 use Rattle.mqtt_laws.specs.World.{Event, World, ask, pump, receiver_named, to_broker, to_end}
 use Rattle.mqtt_handed_laws.specs.Drains.{downs_by, drain_turns, drained, is_bad_drain, is_over, rounds_taken, ups_by}
