@@ -1,6 +1,8 @@
 -- Runs of scripts, and the turns that they are made of.
-pub mod Scripts
+pub mod Costs
 pub mod Single
+pub mod DrainTurns
+pub mod Scripts
 pub mod Pieces
 pub mod Comings
 pub mod Cleanly

@@ -16,9 +16,9 @@ use Rattle.mqtt_unrolled_laws.proofs.Answered.{Holds, enough, next_holds, next_w
 use Rattle.mqtt_unrolled_laws.proofs.Answered.{none_longer, nothing_asked, still}
 use Rattle.mqtt_unrolled_laws.proofs.Stopped.{comes_holds}
 use Rattle.mqtt_world_laws.specs.Spending.{run_spends}
-use Rattle.mqtt_script_laws.specs.Scripted.{Happens, events_of}
-use Rattle.mqtt_script_laws.specs.Turns.{IsReopened, IsTurn, both_tell, by_choice}
-use Rattle.mqtt_script_laws.proofs.Scripts.{spent_joined}
+use Rattle.mqtt_script_laws.specs.Scripted.{Happens}
+use Rattle.mqtt_script_laws.specs.Turns.{IsReopened, IsTurn, both_tell, by_choice, events_of}
+use Rattle.mqtt_script_laws.proofs.Costs.{spent_joined}
 use Rattle.mqtt_script_laws.proofs.Single.{stops, turn_happens, turn_is, turn_unspent}
 
 -- ---- one piece

@@ -21,7 +21,7 @@ use Rattle.mqtt_script_laws.specs.Drains.{Repeats}
 use Rattle.mqtt_script_laws.specs.Turns.{IsTurn, both_tell, by_choice}
 use Rattle.mqtt_script_laws.proofs.Chosen.{deeds_same}
 use Rattle.mqtt_script_laws.proofs.Pieces.{told_joined}
-use Rattle.mqtt_script_laws.proofs.Scripts.{spent_joined}
+use Rattle.mqtt_script_laws.proofs.Costs.{spent_joined}
 use Rattle.mqtt_script_laws.proofs.Single.{turn_deeds, turn_is, turn_unspent}
 
 -- ---- turns behind turns

@@ -1,13 +1,13 @@
 -- What a drain of a receiver comes to, turn by turn, each by a choice of members of its own (MQTT 5.0, 4.3, 4.4, 4.6).
-use Rattle.std.specs.Prelude.{◌≡◌, ℕ, zero, suc, true, false, List}
+use Rattle.std.specs.Prelude.{◌≡◌, ℕ, zero, suc, Bool, true, false, List, [], ◌∷◌, ◌++◌}
 use Rattle.mqtt_rules.specs.State.{MemberChoice}
 use Rattle.mqtt_rules.specs.declared.Limits.{Limits}
-use Rattle.mqtt_laws.specs.Run.{deeds_over}
+use Rattle.mqtt_laws.specs.Run.{Turn, deeds_over, run}
 use Rattle.mqtt_laws.specs.Tellings.{Telling, silent, telling}
 use Rattle.mqtt_laws.specs.World.{Event, World, ask, pump, receiver_named, to_broker, to_end}
-use Rattle.mqtt_handed_laws.specs.Drains.{downs_by, drain_turns, drained, is_bad_drain, is_over, rounds_taken, ups_by}
+use Rattle.mqtt_handed_laws.specs.Drains.{downs_by, drain_turns, drained, is_bad_drain, is_over, rounds_taken, times, ups_by}
 use Rattle.mqtt_world_laws.specs.Spending.{run_spends}
-use Rattle.mqtt_script_laws.specs.Turns.{IsTurn, both_tell}
+use Rattle.mqtt_script_laws.specs.Turns.{IsTurn, both_tell, events_of}
 
 -- ---- rounds
 
@@ -43,6 +43,31 @@ pub record DrainHappens (limits : Limits) (client : List ℕ) (t : Telling) (w a
   pub rounds : ℕ
   pub made : MakesRounds limits client rounds t w after
   pub over : is_over client after ≡ true
+
+-- ---- the turns of a drain
+
+-- those of a round
+pub record AreTurnsOfRound (limits : Limits) (client : List ℕ) (turns : List Turn) (w : World) : Type 0 where
+  pub sends : List Turn
+  pub reads : List Turn
+  pub answers : List Turn
+  pub sends_are : events_of sends ≡ ask (pump client) ∷ []
+  pub reads_are : events_of reads ≡ times (downs_by (receiver_named client (run limits sends w))) (to_end client)
+  pub answers_are : events_of answers
+      ≡ times (ups_by (receiver_named client (run limits reads (run limits sends w)))) (ask (to_broker client))
+  pub are : turns ≡ sends ++ reads ++ answers
+
+-- those of so many rounds, each where the drain is not over yet; after them it is
+abbrev pub AreTurnsOfRounds : Limits → List ℕ → ℕ → List Turn → World → Type 0
+AreTurnsOfRounds limits client zero turns w = (is_over client w ≡ true) × (turns ≡ [])
+AreTurnsOfRounds limits client (suc more) turns w =
+    (is_over client w ≡ false) × (first : List Turn) × (rest : List Turn) × AreTurnsOfRound limits client first w
+    × AreTurnsOfRounds limits client more rest (run limits first w) × (turns ≡ first ++ rest)
+
+pub record AreTurnsOfDrain (limits : Limits) (client : List ℕ) (turns : List Turn) (w : World) : Type 0 where
+  pub good : is_bad_drain client w ≡ false
+  pub rounds : ℕ
+  pub are : AreTurnsOfRounds limits client rounds turns w
 
 -- ---- by one choice
 
