@@ -150,7 +150,7 @@ round_named limits client turns w x =
     let sends : AllByRecursion NamesNobody (events_of x.sends) = subst (AllByRecursion NamesNobody) (sym x.sends_are) ((λ names. (refl, refl)), tt) in
     let reads : AllByRecursion NamesNobody (events_of x.reads) = subst (AllByRecursion NamesNobody) (sym x.reads_are) (so_many _ (to_end client) (λ names. (refl, refl))) in
     let answers : AllByRecursion NamesNobody (events_of x.answers) = subst (AllByRecursion NamesNobody) (sym x.answers_are) (so_many _ (ask (to_broker client)) (λ names. (refl, refl))) in
-    subst (λ (ts : List Turn). AllByRecursion NamesNobody (events_of ts)) (sym x.are) (both_named x.sends (x.reads ++ x.answers) sends (both_named x.reads x.answers reads answers))
+    subst (λ (ts : List Turn). AllByRecursion NamesNobody (events_of ts)) (sym x.are) (both_named (x.sends ++ x.reads) x.answers (both_named x.sends x.reads sends reads) answers)
 
 rounds_named : (limits : Limits) (client : List ℕ) (rounds : ℕ) (turns : List Turn) (w : World) → AreTurnsOfRounds limits client rounds turns w → AllByRecursion NamesNobody (events_of turns)
 rounds_named limits client zero turns w h = subst (λ (ts : List Turn). AllByRecursion NamesNobody (events_of ts)) (sym h.1) tt

@@ -40,8 +40,7 @@ round_by_turns limits client t w after x =
     let one : Leads limits sends w x.sent = own_turn limits (ask (pump client)) x.first w x.sent x.sends in
     let two = repeats_by_turns limits (downs_by (receiver_named client x.sent)) (to_end client) x.second x.sent x.read x.reads in
     let three = repeats_by_turns limits (ups_by (receiver_named client x.read)) (ask (to_broker client)) x.third x.read after x.answers in
-    let read_is : x.read ≡ run limits two.0 (run limits sends w) = two.2.is ∙ ap (run limits two.0) one.is in
-    (
+    let read_is : x.read ≡ run limits two.0 (run limits sends w) = two.2.is ∙ ap (run limits two.0) one.is in (
       sends ++ (two.0 ++ three.0),
       record {
         sends = sends;
