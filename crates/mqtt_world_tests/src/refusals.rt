@@ -1,6 +1,6 @@
 //! Events that can't happen, each at its place.
 
-use crate::stage::{fault_of, new_world};
+use crate::stage::{new_world, run};
 use mqtt_peers::RunFault;
 use std::alloc::Global;
 use std::hash::RandomState;
@@ -45,25 +45,28 @@ fn scripts() -> &'static [(&'static str, usize)] {
     ]
 }
 
-/// Where a script does not all happen, and whether the world goes on behind it.
+/// Why a script does not all happen, and what comes of another behind it.
 fn refusal(
     alloc: Global,
     hasher: RandomState,
     script: &str,
-) -> Result<(Option<RunFault>, Option<RunFault>), Fail> {
+) -> Result<(Result<(), RunFault>, Result<(), RunFault>), RunFault> {
     let mut world = new_world(alloc, hasher)?;
-    let fault = fault_of(alloc, &mut world, script);
-    let after = fault_of(alloc, &mut world, "clock 1;tick;restart");
+    let first = run(alloc, &mut world, script);
+    let second = run(alloc, &mut world, "clock 1;tick;restart");
     drop(world);
-    Ok((fault?, after?))
+    Ok((first, second))
 }
 
 #[test]
 fn what_cannot_happen_is_refused_at_its_place(rt: HostRuntime) -> Result<(), Fail> {
     for (script, place) in scripts() {
-        let (fault, after) = refusal(rt.alloc(), RandomState::new(&rt)?, script)?;
-        assert!(rt; fault == Some(RunFault::BadEvent { place: *place }), "{script}: {fault:?}");
-        assert!(rt; after.is_none(), "{script}: {after:?} behind it");
+        let (first, second) = refusal(rt.alloc(), RandomState::new(&rt)?, script)?;
+        assert!(rt;
+            first == Err(RunFault::BadEvent { place: *place }),
+            "{script}: {first:?}"
+        );
+        assert!(rt; second.is_ok(), "{script}, and behind it: {second:?}");
     }
     Ok(())
 }

@@ -1,6 +1,8 @@
 //! Scripts whose texts were worked out by hand.
 
-use crate::stage::{Sight, new_world, sight_of, text_of};
+use crate::stage::{Sight, new_world, push_run, sight_of};
+use mqtt_peers::RunFault;
+use mqtt_world::{MemKeep, World};
 use std::alloc::Global;
 use std::hash::RandomState;
 use std::test::Fail;
@@ -27,33 +29,42 @@ const OLD_LATE: &str = "tobroker p1;tobroker p1 old;toend p1;tobroker p1;toend p
 const OLD_LATE_TEXT: &str =
     "1 tobroker out=2\n2 tobroker\n3 toend\n4 tobroker released=1 out=1\n5 toend\n";
 
-/// What is seen of a world behind two scripts, if they tell this.
+/// Whether a script tells this.
+fn tells(
+    alloc: Global,
+    world: &mut World<MemKeep>,
+    script: &str,
+    text: &str,
+) -> Result<bool, RunFault> {
+    let mut told = String::new(alloc);
+    let ran = push_run(alloc, &mut told, world, script);
+    let is_right = told.as_str() == text;
+    drop(told);
+    ran?;
+    Ok(is_right)
+}
+
+/// Whether two scripts tell this, one behind the other, and what is seen of the world then.
 fn sight_behind(
     alloc: Global,
     hasher: RandomState,
-    scripts: &[(&str, &str)],
-) -> Result<(bool, Sight), Fail> {
+    first: (&str, &str),
+    second: (&str, &str),
+) -> Result<(bool, Sight), RunFault> {
     let mut world = new_world(alloc, hasher)?;
-    let mut is_right = true;
-    for (script, text) in scripts {
-        match text_of(alloc, &mut world, script) {
-            Ok(told) => {
-                is_right = is_right && told.as_str() == *text;
-                drop(told);
-            }
-            Err(_) => is_right = false,
-        }
-    }
+    let is_first = tells(alloc, &mut world, first.0, first.1);
+    let is_second = tells(alloc, &mut world, second.0, second.1);
     let sight = sight_of(alloc, &world);
     drop(world);
-    Ok((is_right, sight?))
+    Ok((is_first? && is_second?, sight?))
 }
 
 #[test]
 fn a_late_release_completes_its_message_once(rt: HostRuntime) -> Result<(), Fail> {
     for (script, text) in [(OLD_FIRST, OLD_FIRST_TEXT), (OLD_LATE, OLD_LATE_TEXT)] {
-        let scripts = [(GIVEN_UP, GIVEN_UP_TEXT), (script, text)];
-        let (is_right, sight) = sight_behind(rt.alloc(), RandomState::new(&rt)?, &scripts)?;
+        let hasher = RandomState::new(&rt)?;
+        let (is_right, sight) =
+            sight_behind(rt.alloc(), hasher, (GIVEN_UP, GIVEN_UP_TEXT), (script, text))?;
         assert!(rt; is_right, "{script}");
         assert!(rt;
             sight == Sight {
@@ -86,8 +97,13 @@ const STOPPED_TEXT: &str =
 
 #[test]
 fn a_copy_is_handed_over_once_though_the_broker_stops(rt: HostRuntime) -> Result<(), Fail> {
-    let scripts = [(ACCEPTED, ACCEPTED_TEXT), (STOPPED, STOPPED_TEXT)];
-    let (is_right, sight) = sight_behind(rt.alloc(), RandomState::new(&rt)?, &scripts)?;
+    let hasher = RandomState::new(&rt)?;
+    let (is_right, sight) = sight_behind(
+        rt.alloc(),
+        hasher,
+        (ACCEPTED, ACCEPTED_TEXT),
+        (STOPPED, STOPPED_TEXT),
+    )?;
     assert!(rt; is_right, "what it tells");
     assert!(rt;
         sight == Sight {

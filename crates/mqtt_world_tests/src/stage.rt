@@ -6,7 +6,6 @@ use mqtt_told::push_told;
 use mqtt_world::{Full, Limits, MemKeep, World};
 use std::alloc::{AllocError, Global};
 use std::hash::RandomState;
-use std::test::Fail;
 
 const LIMITS: Limits = Limits {
     full: Full::Refuse,
@@ -16,49 +15,38 @@ const LIMITS: Limits = Limits {
 };
 
 /// A world whose store holds nothing.
-pub(crate) fn new_world(alloc: Global, hasher: RandomState) -> Result<World<MemKeep>, Fail> {
-    match World::new(alloc, MemKeep::new(alloc)?, LIMITS, hasher) {
-        Ok(world) => Ok(world),
-        Err(_) => Err(Fail::from("the world can't be made")),
-    }
+pub(crate) fn new_world(alloc: Global, hasher: RandomState) -> Result<World<MemKeep>, RunFault> {
+    World::new(alloc, MemKeep::new(alloc)?, LIMITS, hasher)
 }
 
-/// The events of a script.
-pub(crate) fn events_of(alloc: Global, script: &str) -> Result<Vec<Event>, Fail> {
+/// The events of a script, with `;` between them.
+fn events_of(alloc: Global, script: &str) -> Result<Vec<Event>, AllocError> {
     let mut events = Vec::new(alloc);
     for line in script.split(';') {
         match event_of(alloc, line.as_bytes()) {
             Ok(event) => events.push(event)?,
-            Err(_) => return Err(Fail::from("a line is no event")),
+            // (a line that is no event ends the test too)
+            Err(_) => return Err(AllocError),
         }
     }
     Ok(events)
 }
 
-/// Runs the events of a script.
+/// Why the events of a script do not all happen.
 pub(crate) fn run(
     alloc: Global,
     world: &mut World<MemKeep>,
     script: &str,
-) -> Result<Result<Vec<Told>, RunFault>, Fail> {
+) -> Result<(), RunFault> {
     let events = events_of(alloc, script)?;
-    let tells = world.run(&events);
+    let answer = world.run(&events);
     drop(events);
-    Ok(tells)
-}
-
-/// Why the events of a script do not all happen; None where they do.
-pub(crate) fn fault_of(
-    alloc: Global,
-    world: &mut World<MemKeep>,
-    script: &str,
-) -> Result<Option<RunFault>, Fail> {
-    match run(alloc, world, script)? {
+    match answer {
         Ok(tells) => {
             drop(tells);
-            Ok(None)
+            Ok(())
         }
-        Err(fault) => Ok(Some(fault)),
+        Err(fault) => Err(fault),
     }
 }
 
@@ -78,34 +66,31 @@ fn push_tells(text: &mut String, events: &[Event], tells: &[Told]) -> Result<(),
     Ok(())
 }
 
-/// What the events of a script tell, a line for each.
-pub(crate) fn text_of(
+/// Adds what the events of a script tell, a line for each.
+pub(crate) fn push_run(
     alloc: Global,
+    text: &mut String,
     world: &mut World<MemKeep>,
     script: &str,
-) -> Result<String, Fail> {
+) -> Result<(), RunFault> {
     let events = events_of(alloc, script)?;
-    let mut text = String::new(alloc);
     let pushed = match world.run(&events) {
         Ok(tells) => {
-            let pushed = push_tells(&mut text, &events, &tells);
+            let pushed = push_tells(text, &events, &tells);
             drop(tells);
             pushed
         }
-        Err(_) => text.push_str("an event didn't happen"),
+        Err(fault) => {
+            drop(events);
+            return Err(fault);
+        }
     };
     drop(events);
-    match pushed {
-        Ok(()) => Ok(text),
-        Err(_) => {
-            drop(text);
-            Err(Fail::from("want of memory"))
-        }
-    }
+    Ok(pushed?)
 }
 
 /// What is seen of the publisher p1, the receiver r1 and the broker.
-#[derive(Debug, PartialEq, Eq)]
+#[derive(Clone, Copy, Debug, PartialEq, Eq)]
 pub(crate) struct Sight {
     /// The messages of p1, and those of them that were completed.
     pub(crate) messages: (Option<u64>, Option<u64>),

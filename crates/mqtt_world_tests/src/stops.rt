@@ -1,6 +1,7 @@
 //! Wherever the broker stops, a message is handed over once (MQTT 5.0, 4.1, 4.3.3, 4.4).
 
-use crate::stage::{Sight, fault_of, new_world, sight_of};
+use crate::stage::{Sight, new_world, run, sight_of};
+use mqtt_peers::RunFault;
 use mqtt_world::{MemKeep, World};
 use std::alloc::Global;
 use std::hash::RandomState;
@@ -11,32 +12,26 @@ const SETTING: &str = "receiver r1 10;publisher p1;connect r1 0;tobroker r1;toen
     tobroker r1;toend r1;connect p1 0;tobroker p1;toend p1;publish p1 2 0 a/b 6869";
 
 /// The message is sent, and its copy handed over.
-const MESSAGE: &[&str] = &[
-    "tobroker p1",
-    "toend p1",
-    "tobroker p1",
-    "toend p1",
-    "pump r1",
-    "toend r1",
-    "tobroker r1",
-    "toend r1",
-    "tobroker r1",
-    "pump p1",
-    "tick",
-    "break r1",
-    "break p1",
-];
+fn message() -> &'static [&'static str] {
+    &[
+        "tobroker p1",
+        "toend p1",
+        "tobroker p1",
+        "toend p1",
+        "pump r1",
+        "toend r1",
+        "tobroker r1",
+        "toend r1",
+        "tobroker r1",
+        "pump p1",
+        "tick",
+        "break r1",
+        "break p1",
+    ]
+}
 
 /// Both connect again, and all that is under way is read.
 const ROUND: &str = "tobroker p1;toend p1;tobroker r1;toend r1;pump r1;toend r1";
-
-/// Runs all of a script.
-fn run_all(alloc: Global, world: &mut World<MemKeep>, script: &str) -> Result<(), Fail> {
-    match fault_of(alloc, world, script)? {
-        Some(_) => Err(Fail::from("an event doesn't happen")),
-        None => Ok(()),
-    }
-}
 
 /// Runs the events before this place, and stops before the commit of the one there, or after it.
 fn stop(
@@ -44,25 +39,23 @@ fn stop(
     world: &mut World<MemKeep>,
     word: &str,
     place: usize,
-) -> Result<(), Fail> {
-    run_all(alloc, world, SETTING)?;
-    for event in MESSAGE.iter().take(place) {
-        run_all(alloc, world, event)?;
+) -> Result<(), RunFault> {
+    run(alloc, world, SETTING)?;
+    for event in message().iter().take(place) {
+        run(alloc, world, event)?;
     }
-    let Some(last) = MESSAGE.get(place) else {
-        return Err(Fail::from("there is no event"));
-    };
+    let last = message().get(place).copied().unwrap_or("tick");
     let line = format!(in alloc; "{word} {last}")?;
-    let stopped = run_all(alloc, world, line.as_str());
+    let stopped = run(alloc, world, line.as_str());
     drop(line);
     stopped
 }
 
 /// All that is under way is read, once both have connected again.
-fn settle(alloc: Global, world: &mut World<MemKeep>) -> Result<(), Fail> {
-    run_all(alloc, world, "connect r1 0;connect p1 0")?;
+fn settle(alloc: Global, world: &mut World<MemKeep>) -> Result<(), RunFault> {
+    run(alloc, world, "connect r1 0;connect p1 0")?;
     for _ in 0..8 {
-        run_all(alloc, world, ROUND)?;
+        run(alloc, world, ROUND)?;
     }
     Ok(())
 }
@@ -73,7 +66,7 @@ fn sight_behind(
     hasher: RandomState,
     word: &str,
     place: usize,
-) -> Result<Sight, Fail> {
+) -> Result<Sight, RunFault> {
     let mut world = new_world(alloc, hasher)?;
     let stopped = stop(alloc, &mut world, word, place);
     let settled = settle(alloc, &mut world);
@@ -86,7 +79,7 @@ fn sight_behind(
 
 #[test]
 fn wherever_the_broker_stops_a_message_is_handed_over_once(rt: HostRuntime) -> Result<(), Fail> {
-    for (place, event) in MESSAGE.iter().enumerate() {
+    for (place, event) in message().iter().enumerate() {
         if event.starts_with("toend") {
             continue;
         }
