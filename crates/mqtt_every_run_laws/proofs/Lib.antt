@@ -47,3 +47,5 @@ pub mod Coming
 pub mod Telling
 pub mod WholeOrder
 pub mod Newcomers
+pub mod Plain
+pub mod EndsTaken

@@ -66,7 +66,7 @@ use Rattle.mqtt_rules.proofs.Copies.{each_append, each_flat, each_map, each_more
 
 -- ---- of one deed
 
-abbrev IsOtherEnd : Ending → Type 0
+abbrev pub IsOtherEnd : Ending → Type 0
 IsOtherEnd Taken = ⊥
 IsOtherEnd ending = ⊤
 
@@ -721,7 +721,7 @@ abbrev pub SendsNone : Call → Type 0
 SendsNone (Pump n) = ⊥
 SendsNone call = ⊤
 
-untaken_of : (env : Env) (call : Call) (b : Broker) → TakesNone call → AllByRecursion IsUntaken (deeds_of env call b)
+pub untaken_of : (env : Env) (call : Call) (b : Broker) → TakesNone call → AllByRecursion IsUntaken (deeds_of env call b)
 untaken_of env (Pump n) b h = untaken_pump env n b
 untaken_of env (Input n packet) b h = all_untaken (deeds_of env (Input n packet) b) (plain_call env (Input n packet) h b)
 untaken_of env call b h = all_untaken (deeds_of env call b) (plain_call env call tt b)
