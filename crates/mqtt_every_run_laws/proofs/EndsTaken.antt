@@ -57,7 +57,7 @@ abbrev ends_in : List Deed → List End
 ends_in ds = filter_map ended_in ds
 
 module _ (P : End → Type 0) where
-  ends_append : (xs ys : List Deed) → AllByRecursion P (ends_in xs) → AllByRecursion P (ends_in ys) → AllByRecursion P (ends_in (xs ++ ys))
+  pub ends_append : (xs ys : List Deed) → AllByRecursion P (ends_in xs) → AllByRecursion P (ends_in ys) → AllByRecursion P (ends_in (xs ++ ys))
   ends_append xs ys p q = subst (AllByRecursion P) (sym (filter_map-append ended_in xs ys)) (each_append P (ends_in xs) (ends_in ys) p q)
 
   ends_entry : (o : Option CopyRow) (f : CopyRow → List Deed) → ((e : CopyRow) → AllByRecursion P (ends_in (f e))) → AllByRecursion P (ends_in (of_entry o f))

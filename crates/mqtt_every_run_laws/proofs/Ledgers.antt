@@ -93,7 +93,9 @@ grows_packet t copy x r = grows_same r _ refl refl refl
 
 grows_reading : (t : Bool) (ds : List Down) (r : Receiver) → Grows r (receiver_reads t ds r)
 grows_reading t [] r = grows_same r r refl refl refl
-grows_reading t (d ∷ rest) r = grows_packet t d.copy d.packet (record r { line = record r.line { down = rest } })
+grows_reading t (d ∷ rest) r =
+    let q = record r { line = record r.line { down = rest } } in
+    grows_then r q (hears t d.copy d.packet q) (grows_same r q refl refl refl) (grows_packet t d.copy d.packet q)
 
 -- ---- the receiver of a name in a later world
 

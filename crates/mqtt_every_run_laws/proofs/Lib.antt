@@ -49,3 +49,5 @@ pub mod WholeOrder
 pub mod Newcomers
 pub mod Plain
 pub mod EndsTaken
+pub mod HandedEnds
+pub mod WayBodies

@@ -20,14 +20,12 @@ use Rattle.mqtt_codec.specs.declared.publish.Delivery.{Delivery}
 use Rattle.mqtt_codec.specs.declared.publish.Delivery.TheVariants as delivery
 use Rattle.mqtt_codec.specs.declared.publish.Publish.{Publish as Publication}
 use Rattle.mqtt_connect.specs.declared.connect.Connect.{Connect as Greeting}
-use Rattle.mqtt_flow.specs.Outbound.{Answer, dropped, due_from, expired, first_time, gives_way, in_room, is_large, is_late, is_refusal, is_waiting, once_more, pace, pump, pump_from, pump_step, resumed_with, step_by, step_on, then_on, too_large, verdict, verdict_by, way_made}
+use Rattle.mqtt_flow.specs.Outbound.{Answer, Verdict, pass, end, outgrow, send, resend, dropped, due_from, expired, first_time, gives_way, in_room, is_large, is_late, is_refusal, is_waiting, once_more, pace, pump, pump_from, pump_step, resumed_with, step_by, step_on, then_on, too_large, verdict, verdict_by, way_made}
 use Rattle.mqtt_flow.specs.Outbound as rules
 use Rattle.mqtt_flow.specs.declared.entry.Entry.{Entry as FlowEntry}
 use Rattle.mqtt_flow.specs.declared.entry.Turn.{Turn}
 use Rattle.mqtt_flow.specs.declared.entry.Turn.TheVariants as turns
 use Rattle.mqtt_flow.specs.declared.entry.Way.{Way}
-use Rattle.mqtt_flow.specs.declared.pump.Step.{Step}
-use Rattle.mqtt_flow.specs.declared.pump.Step.TheVariants as steps
 use Rattle.mqtt_flow.specs.Pacing.{Pacing}
 use Rattle.mqtt_inbound.specs.Identifiers.{is_among}
 use Rattle.mqtt_inbound.specs.Inbound.{answer_to_release}
@@ -632,47 +630,46 @@ silent_input env n packet b = by (line_at n b)
 
 -- ---- a turn of sending ends no copy as taken
 
-abbrev StepsOtherwise : Step → Type 0
-StepsOtherwise (steps.Take t) = EndsOtherwise t
-StepsOtherwise s = ⊤
+abbrev IsOtherVerdict : Verdict → Type 0
+IsOtherVerdict (end ending) = IsOtherEnd ending
+IsOtherVerdict v = ⊤
 
-in_room_ends : (room : ℕ) (t : Turn) → EndsOtherwise t → StepsOtherwise (in_room room t)
-in_room_ends zero t h = tt
-in_room_ends (suc room) t h = h
+first_verdict : (late large : Bool) → IsOtherVerdict (first_time late large)
+first_verdict true large = tt
+first_verdict false true = tt
+first_verdict false false = tt
 
-first_ends : (late large : Bool) (place : ℕ) (p : Pacing) → StepsOtherwise (step_on (first_time late large) place p)
-first_ends true large place p = tt
-first_ends false true place p = tt
-first_ends false false place p = in_room_ends p.room _ tt
+later_verdict : (here large : Bool) (q : Qos) (i : ℕ) → IsOtherVerdict (once_more here large q i)
+later_verdict true large q i = tt
+later_verdict false true qos.AtMostOnce i = tt
+later_verdict false true qos.AtLeastOnce i = tt
+later_verdict false true qos.ExactlyOnce i = tt
+later_verdict false false q i = tt
 
-later_ends : (here large : Bool) (q : Qos) (i place : ℕ) (p : Pacing) → StepsOtherwise (step_on (once_more here large q i) place p)
-later_ends true large q i place p = tt
-later_ends false true qos.AtMostOnce i place p = tt
-later_ends false true qos.AtLeastOnce i place p = tt
-later_ends false true qos.ExactlyOnce i place p = tt
-later_ends false false q i place p = in_room_ends p.room _ tt
-
-verdict_ends : (way : Way) (e : FlowEntry) (phase : Phase) (p : Pacing) → StepsOtherwise (step_on (verdict_by way e.copy e.here phase) e.place p)
-verdict_ends way e Waiting p = first_ends (is_late way.now e.copy) (is_large way e.copy) e.place p
-verdict_ends way e (Sent i) p = later_ends e.here (is_large way e.copy) e.copy.qos i e.place p
-verdict_ends way e (Released i order) p = tt
-verdict_ends way e (Oversize i order) p = tt
-
-step_ends : (way : Way) (e : FlowEntry) (p : Pacing) → StepsOtherwise (pump_step way p e)
-step_ends way e p = by p.left
-  where
-    by : (k : ℕ) → StepsOtherwise (step_by k (verdict way e) e.place p)
-    by zero = tt
-    by (suc k) = verdict_ends way e e.phase p
+its_verdict : (way : Way) (e : FlowEntry) (phase : Phase) → IsOtherVerdict (verdict_by way e.copy e.here phase)
+its_verdict way e Waiting = first_verdict (is_late way.now e.copy) (is_large way e.copy)
+its_verdict way e (Sent i) = later_verdict e.here (is_large way e.copy) e.copy.qos i
+its_verdict way e (Released i order) = tt
+its_verdict way e (Oversize i order) = tt
 
 pump_ends : (way : Way) (es : List FlowEntry) (p : Pacing) → AllByRecursion EndsOtherwise (pump_from way es p)
 pump_ends way [] p = tt
-pump_ends way (e ∷ es) p = by (pump_step way p e) (step_ends way e p)
+pump_ends way (e ∷ es) p = by p.left (verdict way e) (its_verdict way e e.phase)
   where
-    by : (s : Step) → StepsOtherwise s → AllByRecursion EndsOtherwise (then_on s e.phase p (pump_from way es))
-    by steps.Stop h = tt
-    by steps.GoOn h = pump_ends way es p
-    by (steps.Take t) h = (h, pump_ends way es (rules.paced t e.phase p))
+    room : (k : ℕ) (t : Turn) → EndsOtherwise t → AllByRecursion EndsOtherwise (then_on (in_room k t) e.phase p (pump_from way es))
+    room zero t h = tt
+    room (suc k) t h = (h, pump_ends way es (rules.paced t e.phase p))
+
+    on : (v : Verdict) → IsOtherVerdict v → AllByRecursion EndsOtherwise (then_on (step_on v e.place p) e.phase p (pump_from way es))
+    on pass h = pump_ends way es p
+    on (end ending) h = (h, pump_ends way es (rules.paced (turns.Leave e.place ending) e.phase p))
+    on (outgrow i) h = (tt, pump_ends way es (rules.paced (turns.Outgrow e.place i p.order) e.phase p))
+    on send h = room p.room _ tt
+    on (resend i) h = room p.room _ tt
+
+    by : (left : ℕ) (v : Verdict) → IsOtherVerdict v → AllByRecursion EndsOtherwise (then_on (step_by left v e.place p) e.phase p (pump_from way es))
+    by zero v h = tt
+    by (suc k) v h = on v h
 
 untaken_entry : (o : Option CopyRow) (f : CopyRow → List Deed) → ((e : CopyRow) → AllByRecursion IsUntaken (f e)) → AllByRecursion IsUntaken (of_entry o f)
 untaken_entry None f h = tt
