@@ -1,11 +1,12 @@
 -- A copy of a receiver ends as taken by the receiver's own answer alone, and so only where it was handed over: in each event (MQTT 5.0,
 -- 4.3.2, 4.3.3, 4.4).
-use Rattle.std.proofs.Common.{◌≡◌, ℕ, zero, suc, Bool, true, false, cond, List, [], ◌∷◌, ◌++◌, find, map, Option, Some, None, bytes_eq, nat_eq, refl, sym, ap, subst, ◌∙◌, inl, inr}
+use Rattle.std.proofs.Common.{◌≡◌, ◌⊎◌, ℕ, zero, suc, Bool, true, false, cond, List, [], ◌∷◌, ◌++◌, find, map, Option, Some, None, bytes_eq, nat_eq, refl, sym, ap, subst, ◌∙◌, inl, inr}
 use Rattle.std.specs.Prelude.{⊤, Err, Ok, filter_map, is_some}
 use Rattle.std.specs.List.{AllByRecursion}
 use Rattle.std.proofs.lemmas.Bool.{cases_Bool, eqb-true}
 use Rattle.std.proofs.lemmas.List.Elements.{filter_map-append}
 use Rattle.std.proofs.lemmas.Slice.Eq.{bytes_eq-Decides}
+use Rattle.mqtt_base.specs.Codes.{protocol_error}
 use Rattle.mqtt_base.specs.declared.session.CopyId.{CopyId}
 use Rattle.mqtt_base.specs.declared.session.Ending.{Ending}
 use Rattle.mqtt_base.specs.declared.session.Ending.TheVariants.{Dropped, Expired, Refused, SessionEnded, Taken, TooLarge}
@@ -111,7 +112,7 @@ module _ (c : List ℕ) where
   answer_others : (a : rules.Answer) (env : Env) (l : Line) (s : Session) (b : Broker) → (s.client ≡ c → ⊥) → AreNone (on_answer a env l s b)
   answer_others (Ok None) env l s b other = tt
   answer_others (Ok (Some t)) env l s b other = turn_others b.now l.number s t other
-  answer_others (Err fault) env l s b other = none_untaken (on_answer (Err fault) env l s b) (untaken_drop env _ l b)
+  answer_others (Err fault) env l s b other = none_untaken (on_answer (Err fault) env l s b) (untaken_drop env protocol_error l b)
 
   -- no session of the client is connected on the line of this number
   abbrev IsOthersLine : ℕ → Broker → Type 0

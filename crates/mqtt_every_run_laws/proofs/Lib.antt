@@ -51,3 +51,4 @@ pub mod Plain
 pub mod EndsTaken
 pub mod HandedEnds
 pub mod WayBodies
+pub mod Contents

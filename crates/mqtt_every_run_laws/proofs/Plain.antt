@@ -27,7 +27,7 @@ use Rattle.mqtt_flow.specs.declared.entry.Turn.{Turn}
 use Rattle.mqtt_flow.specs.declared.entry.Turn.TheVariants as turns
 use Rattle.mqtt_flow.specs.declared.entry.Way.{Way}
 use Rattle.mqtt_flow.specs.Pacing.{Pacing}
-use Rattle.mqtt_inbound.specs.Identifiers.{is_among}
+use Rattle.mqtt_inbound.specs.Identifiers.{free_identifier, is_among}
 use Rattle.mqtt_inbound.specs.Inbound.{answer_to_release}
 use Rattle.mqtt_inbound.specs.declared.inflow.Published.{Published}
 use Rattle.mqtt_inbound.specs.declared.inflow.Published.TheVariants.{Again, New, Over}
@@ -49,7 +49,7 @@ use Rattle.mqtt_topic.specs.Filters.{is_filter}
 use Rattle.mqtt_topic.specs.Names.{is_empty}
 use Rattle.mqtt_rules.specs.Closing.{close, close_connected, close_session, drop_line, end_session, has_due_end, has_due_will, publish_or_refuse, publish_will, settle, will_deeds, will_message}
 use Rattle.mqtt_rules.specs.Connect.{begin_named, clear, connect_by, joins, largest_of, of_client, prepare, refusal, refusal_size, refused, resume, take_over}
-use Rattle.mqtt_rules.specs.Deeds.{Whose, whose, Message, Origin, FromClient, FromWill, Close, DropWill, Leave, Hear, Deed, Accept, At, Enter, Forget, RefuseWill, Link, On, Send, Gone, Finish, Act, after, after_all, always, of_session, offer, only_if, series, with_line, with_session}
+use Rattle.mqtt_rules.specs.Deeds.{Whose, whose, Message, Origin, FromClient, FromWill, Close, Count, DropWill, Leave, Subscribe, Hear, Deed, Accept, At, Enter, Forget, RefuseWill, Link, On, Send, Gone, Finish, Act, after, after_all, always, of_session, offer, only_if, series, with_line, with_session}
 use Rattle.mqtt_rules.specs.Inbound.{Meaning, Means, Wrong, answer, code_accepted, code_again, leave_by, meaning, message_of, new_expiry, on_answer, opens, publish_by, publish_meant, publish_new, pump_deeds, pump_turns, release_by, sets_alias, standing}
 use Rattle.mqtt_rules.specs.Outbound.{all_turn_deeds, enter_deeds, leave_deeds, of_entry, queue_limits, since, turn_deeds}
 use Rattle.mqtt_rules.specs.Packets.{connack, disconnect, number_at, publish_of, suback, unsuback}
@@ -274,9 +274,9 @@ abbrev IsLate : CopyTo → Type 0
 IsLate d = is_queued d ≡ false
 
 -- what is done for one filter, or for all, and what goes out behind the SUBACK
-record IsPlainAnswer (ds : List Deed) (late : List CopyTo) : Type 0 where
+record IsPlainAnswer (ds : List Deed) (all : List CopyTo) : Type 0 where
   plain : ArePlain ds
-  late : AllByRecursion IsLate late
+  late : AllByRecursion IsLate all
 
 abbrev PlainOption : Option Act → Type 0
 PlainOption None = ⊤
@@ -406,7 +406,7 @@ module _ (env : Env) where
   ]
 
   granting : (number : ℕ) (s : Session) (w : sub.Wish) (ds : List CopyTo) (b : Broker) → ArePlain (sub.granted_filter env number s w ds b).deeds
-  granting number s w ds b = plain_series (always _ ∷ map (deliver env) (filter is_queued ds)) ((λ a. (tt, (tt, tt))), all_delivering (filter is_queued ds)) b
+  granting number s w ds b = plain_series (always (Count number ∷ At (whose s) (Subscribe (sub.subscription number s w)) ∷ []) ∷ map (deliver env) (filter is_queued ds)) ((λ a. (tt, (tt, tt))), all_delivering (filter is_queued ds)) b
 
   answered : (valid room : Bool) (number : ℕ) (s : Session) (w : sub.Wish) (ds : List CopyTo) (b : Broker) → let g = sub.answer_by valid room env number s w ds b in IsPlainAnswer g.deeds g.late
   answered false room number s w ds b = record { plain = tt; late = tt }
@@ -654,22 +654,22 @@ its_verdict way e (Oversize i order) = tt
 
 pump_ends : (way : Way) (es : List FlowEntry) (p : Pacing) → AllByRecursion EndsOtherwise (pump_from way es p)
 pump_ends way [] p = tt
-pump_ends way (e ∷ es) p = by p.left (verdict way e) (its_verdict way e e.phase)
+pump_ends way (e ∷ es) p = by p.left (verdict way e) (its_verdict way e e.phase) (λ k. pump_ends way es k)
   where
-    room : (k : ℕ) (t : Turn) → EndsOtherwise t → AllByRecursion EndsOtherwise (then_on (in_room k t) e.phase p (pump_from way es))
-    room zero t h = tt
-    room (suc k) t h = (h, pump_ends way es (rules.paced t e.phase p))
+    room : (k : ℕ) (t : Turn) → EndsOtherwise t → AllByRecursion EndsOtherwise (pump_from way es (rules.paced t e.phase p)) → AllByRecursion EndsOtherwise (then_on (in_room k t) e.phase p (pump_from way es))
+    room zero t h rest = tt
+    room (suc k) t h rest = (h, rest)
 
-    on : (v : Verdict) → IsOtherVerdict v → AllByRecursion EndsOtherwise (then_on (step_on v e.place p) e.phase p (pump_from way es))
-    on pass h = pump_ends way es p
-    on (end ending) h = (h, pump_ends way es (rules.paced (turns.Leave e.place ending) e.phase p))
-    on (outgrow i) h = (tt, pump_ends way es (rules.paced (turns.Outgrow e.place i p.order) e.phase p))
-    on send h = room p.room _ tt
-    on (resend i) h = room p.room _ tt
+    on : (v : Verdict) → IsOtherVerdict v → ((k : Pacing) → AllByRecursion EndsOtherwise (pump_from way es k)) → AllByRecursion EndsOtherwise (then_on (step_on v e.place p) e.phase p (pump_from way es))
+    on pass h rest = rest p
+    on (end ending) h rest = (h, rest (rules.paced (turns.Leave e.place ending) e.phase p))
+    on (outgrow i) h rest = (tt, rest (rules.paced (turns.Outgrow e.place i p.order) e.phase p))
+    on send h rest = let t = turns.Send e.place (free_identifier p.used) in room p.room t tt (rest (rules.paced t e.phase p))
+    on (resend i) h rest = let t = turns.Resend e.place i in room p.room t tt (rest (rules.paced t e.phase p))
 
-    by : (left : ℕ) (v : Verdict) → IsOtherVerdict v → AllByRecursion EndsOtherwise (then_on (step_by left v e.place p) e.phase p (pump_from way es))
-    by zero v h = tt
-    by (suc k) v h = on v h
+    by : (left : ℕ) (v : Verdict) → IsOtherVerdict v → ((k : Pacing) → AllByRecursion EndsOtherwise (pump_from way es k)) → AllByRecursion EndsOtherwise (then_on (step_by left v e.place p) e.phase p (pump_from way es))
+    by zero v h rest = tt
+    by (suc k) v h rest = on v h rest
 
 untaken_entry : (o : Option CopyRow) (f : CopyRow → List Deed) → ((e : CopyRow) → AllByRecursion IsUntaken (f e)) → AllByRecursion IsUntaken (of_entry o f)
 untaken_entry None f h = tt

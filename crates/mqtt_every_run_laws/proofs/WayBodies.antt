@@ -92,14 +92,12 @@ renewed_body (past ending e m) = refl
 
 say_from : (dup : Bool) (i place k : ℕ) (ls all : List Lot) → ((j : ℕ) → slice_get all (j + k) ≡ slice_get ls j) → AllSay all (sends dup i place k ls)
 say_from dup i place k [] all h = tt
-say_from dup i place k (standing e m ∷ ls) all h = by (nat_eq e.place place)
+say_from dup i place k (standing e m ∷ ls) all h =
+    by (nat_eq e.place place) (say_from dup i place (suc k) ls all (λ j. let up : j + suc k ≡ suc j + k = omega arith in ap (slice_get all) up ∙ h (suc j)))
   where
-    rest : AllSay all (sends dup i place (suc k) ls)
-    rest = say_from dup i place (suc k) ls all (λ j. let up : j + suc k ≡ suc j + k = omega arith in ap (slice_get all) up ∙ h (suc j))
-
-    by : (t : Bool) → AllSay all (sent_at t (publish i k dup (body e m)) (sends dup i place (suc k) ls))
-    by true = (ap (option_map carried_by) (h 0), tt)
-    by false = rest
+    by : (t : Bool) → AllSay all (sends dup i place (suc k) ls) → AllSay all (sent_at t (publish i k dup (body e m)) (sends dup i place (suc k) ls))
+    by true rest = (ap (option_map carried_by) (h 0), tt)
+    by false rest = rest
 say_from dup i place k (past ending e m ∷ ls) all h = say_from dup i place (suc k) ls all (λ j. let up : j + suc k ≡ suc j + k = omega arith in ap (slice_get all) up ∙ h (suc j))
 
 behind_none : (all : List Lot) (j : ℕ) → slice_get all (j + 0) ≡ slice_get all j

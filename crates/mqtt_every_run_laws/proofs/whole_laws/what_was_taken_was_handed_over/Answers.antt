@@ -3,4 +3,4 @@ use Rattle.mqtt_every_run_laws.proofs.HandedEnds.{run_takes}
 use Rattle.mqtt_every_run_laws.proofs.whole_laws.what_was_taken_was_handed_over.Goals as goal
 
 pub returns : goal.returns
-returns c = λ limits xs ys w u fair client q r e f. run_takes limits xs ys w u fair client q e r f
+returns c = record { taken = λ limits xs ys w u fair client q r e f. run_takes limits xs ys w u fair client q e r f }
