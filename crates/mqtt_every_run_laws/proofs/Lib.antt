@@ -52,3 +52,6 @@ pub mod EndsTaken
 pub mod HandedEnds
 pub mod WayBodies
 pub mod Contents
+pub mod WayTags
+pub mod Holdings
+pub mod ContentRuns
