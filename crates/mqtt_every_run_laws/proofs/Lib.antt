@@ -55,3 +55,5 @@ pub mod Contents
 pub mod WayTags
 pub mod Holdings
 pub mod ContentRuns
+pub mod Clients
+pub mod Births

@@ -51,7 +51,7 @@ use Rattle.mqtt_rules.specs.Closing.{close, close_connected, close_session, drop
 use Rattle.mqtt_rules.specs.Connect.{begin_named, clear, connect_by, joins, largest_of, of_client, prepare, refusal, refusal_size, refused, resume, take_over}
 use Rattle.mqtt_rules.specs.Deeds.{Whose, whose, Message, Origin, FromClient, FromWill, Close, Count, DropWill, Leave, Subscribe, Hear, Deed, Accept, At, Enter, Forget, RefuseWill, Link, On, Send, Gone, Finish, Act, after, after_all, always, of_session, offer, only_if, series, with_line, with_session}
 use Rattle.mqtt_rules.specs.Inbound.{Meaning, Means, Wrong, answer, code_accepted, code_again, leave_by, meaning, message_of, new_expiry, on_answer, opens, publish_by, publish_meant, publish_new, pump_deeds, pump_turns, release_by, sets_alias, standing}
-use Rattle.mqtt_rules.specs.Outbound.{all_turn_deeds, enter_deeds, leave_deeds, of_entry, queue_limits, since, turn_deeds}
+use Rattle.mqtt_rules.specs.Outbound.{all_turn_deeds, enter_deeds, leave_deeds, of_entry, queue_limits, since, turn_deeds, way_of}
 use Rattle.mqtt_rules.specs.Packets.{connack, disconnect, number_at, publish_of, suback, unsuback}
 use Rattle.mqtt_rules.specs.Routing.{CopyTo, accepted_copies, deliver, deliver_by, forgets, is_queued, is_queued_at, is_wanted, next_publication, publish, retain_by, retained_of}
 use Rattle.mqtt_rules.specs.State.{Broker, Env, Line, MemberChoice, is_connected, line_at, line_of, queue_on, session_at, session_named}
@@ -692,7 +692,7 @@ untaken_pump : (env : Env) (n : ℕ) (b : Broker) → AllByRecursion IsUntaken (
 untaken_pump env n b = by (line_at n b)
   where
     sent : (l : Line) (s : Session) → AllByRecursion IsUntaken (pump_deeds l b.now s)
-    sent l s = untaken_turns b.now l.number s (pump_turns l b.now s) (pump_ends _ (queue_on l.went s) _)
+    sent l s = untaken_turns b.now l.number s (pump_turns l b.now s) (pump_ends (way_of l b.now) (queue_on l.went s) (pace (way_of l b.now) (queue_on l.went s)))
 
     to_session : (l : Line) (o : Option Session) → AllByRecursion IsUntaken (with_session o (λ s. always (pump_deeds l b.now s)) b)
     to_session l None = tt
