@@ -57,3 +57,4 @@ pub mod Holdings
 pub mod ContentRuns
 pub mod Clients
 pub mod Births
+pub mod WholeRuns

@@ -31,7 +31,7 @@ pub use standing_laws::{
     what_is_asked_for_others_leaves_a_receiver_standing,
 };
 pub use taking_laws::its_line_takes_what_its_connect_says;
-pub use whole_laws::{what_is_read_carries_its_publication, what_was_taken_was_handed_over};
+pub use whole_laws::every_receiver_was_handed_its_copies_once;
 pub use wish_laws::{
     a_subscribe_leaves_a_receiver_standing, retained_messages_stay_of_different_publications,
 };
