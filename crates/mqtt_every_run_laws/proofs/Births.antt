@@ -15,7 +15,7 @@ use Rattle.mqtt_records.specs.declared.records.Records.{Records}
 use Rattle.mqtt_records.specs.declared.session.Columns.{Columns}
 use Rattle.mqtt_records.specs.declared.session.Session.{Session}
 use Rattle.mqtt_routes.specs.Retained.{kept_for}
-use Rattle.mqtt_rows.specs.Order.{IsBelow, change_row, has_row}
+use Rattle.mqtt_rows.specs.Order.{IsBelow, change_row, has_row, put_row}
 use Rattle.mqtt_topic.specs.Filters.{begins_share}
 use Rattle.mqtt_laws.specs.Run.{entered_in}
 use Rattle.mqtt_rules.proofs.Acts.{brought_to}
@@ -73,7 +73,7 @@ module _ (n : ℕ) where
   put_upto : (row : Columns) (ss : List Session) → row.birth ≤ n → AreUpTo ss → AreUpTo (put_session row ss)
   put_upto row ss le h = by (has_row birth_of row.birth ss)
     where
-      by : (t : Bool) → AreUpTo (cond t (change_row birth_of row.birth (with_columns row) ss) _)
+      by : (t : Bool) → AreUpTo (cond t (change_row birth_of row.birth (with_columns row) ss) (put_row birth_of SESSION_LIMIT (fresh row) ss))
       by true = all_changed birth_of IsUpTo row.birth (with_columns row) ss (λ y q. q) h
       by false = all_put birth_of IsUpTo SESSION_LIMIT (fresh row) ss le h
 

@@ -250,7 +250,7 @@ abbrev numbered : Acceptance → Numbered
 numbered a = record { number = a.number; message = a.message }
 
 abbrev AreBy : List Acceptance → List Deed → Type 0
-AreBy as ds = AllByRecursion (λ (a : Acceptance). IsAmong (numbered a) (accepted ds)) as
+AreBy given ds = AllByRecursion (λ (a : Acceptance). IsAmong (numbered a) (accepted ds)) given
 
 more_behind : (x : Numbered) (xs ys : List Numbered) → IsAmong x ys → IsAmong x (xs ++ ys)
 more_behind x [] ys h = h
@@ -260,12 +260,12 @@ more_before : (x : Numbered) (xs ys : List Numbered) → IsAmong x xs → IsAmon
 more_before x [] ys h = absurd h
 more_before x (y ∷ xs) ys h = elim h [ inl it ↦ inl it | inr more ↦ inr (more_before x xs ys more) ]
 
-by_joined : (as bs : List Acceptance) (ds es : List Deed) → AreBy as ds → AreBy bs es → AreBy (as ++ bs) (ds ++ es)
-by_joined as bs ds es p q =
+by_joined : (given more : List Acceptance) (ds es : List Deed) → AreBy given ds → AreBy more es → AreBy (given ++ more) (ds ++ es)
+by_joined given more ds es p q =
     let all : accepted (ds ++ es) ≡ accepted ds ++ accepted es = filter_map-append accepted_in ds es in
-    each_append (λ (a : Acceptance). IsAmong (numbered a) (accepted (ds ++ es))) as bs
-    (each_more (λ (a : Acceptance). IsAmong (numbered a) (accepted ds)) (λ (a : Acceptance). IsAmong (numbered a) (accepted (ds ++ es))) (λ a h. subst (IsAmong (numbered a)) (sym all) (more_before (numbered a) (accepted ds) (accepted es) h)) as p)
-    (each_more (λ (a : Acceptance). IsAmong (numbered a) (accepted es)) (λ (a : Acceptance). IsAmong (numbered a) (accepted (ds ++ es))) (λ a h. subst (IsAmong (numbered a)) (sym all) (more_behind (numbered a) (accepted ds) (accepted es) h)) bs q)
+    each_append (λ (a : Acceptance). IsAmong (numbered a) (accepted (ds ++ es))) given more
+    (each_more (λ (a : Acceptance). IsAmong (numbered a) (accepted ds)) (λ (a : Acceptance). IsAmong (numbered a) (accepted (ds ++ es))) (λ a h. subst (IsAmong (numbered a)) (sym all) (more_before (numbered a) (accepted ds) (accepted es) h)) given p)
+    (each_more (λ (a : Acceptance). IsAmong (numbered a) (accepted es)) (λ (a : Acceptance). IsAmong (numbered a) (accepted (ds ++ es))) (λ a h. subst (IsAmong (numbered a)) (sym all) (more_behind (numbered a) (accepted ds) (accepted es) h)) more q)
 
 by_deeds : (env : Env) (ds : List Deed) (b : Broker) → AreBy (acceptances_of env ds b) ds
 by_deeds env [] b = tt

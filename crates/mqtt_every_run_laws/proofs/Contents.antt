@@ -26,7 +26,7 @@ use Rattle.mqtt_routes.specs.Acceptance.{Routed, copies_in}
 use Rattle.mqtt_routes.specs.Intended.{Copy}
 use Rattle.mqtt_routes.specs.Retained.{kept_for}
 use Rattle.mqtt_routes.specs.declared.retained.Kept.{Kept}
-use Rattle.mqtt_rows.specs.Order.{change_row, has_row, row_at}
+use Rattle.mqtt_rows.specs.Order.{change_row, has_row, put_row, row_at}
 use Rattle.mqtt_topic.specs.Filters.{begins_share}
 use Rattle.mqtt_topic.specs.Names.{is_empty}
 use Rattle.mqtt_rules.proofs.Acts.{brought_to}
@@ -154,7 +154,7 @@ module _ (base : ℕ) (xs : List Numbered) where
   put_said : (row : Columns) (ss : List Session) → AreSaid ss → AreSaid (put_session row ss)
   put_said row ss h = by (has_row birth_of row.birth ss)
     where
-      by : (t : Bool) → AreSaid (cond t (change_row birth_of row.birth (with_columns row) ss) _)
+      by : (t : Bool) → AreSaid (cond t (change_row birth_of row.birth (with_columns row) ss) (put_row birth_of SESSION_LIMIT (fresh row) ss))
       by true = all_changed birth_of Q row.birth (with_columns row) ss (λ y x. x) h
       by false = all_put birth_of Q SESSION_LIMIT (fresh row) ss tt h
 
@@ -311,7 +311,7 @@ module _ (base : ℕ) where
       (brought_said base all (not (begins_share w.filter) && sub.wants_retained w.options.retain_handling (sub.has_filter w.filter s)) b.now number s w b.records.retained more.retained) in
       deeds_said base all (first ++ last) b (tt, (tt, deliveries_said base all env queued (after_all first b) copies)) more
 
-  anything : Broker → Type 0
+  abbrev anything : Broker → Type 0
   anything b = ⊤
 
   begin_brings : (all : List Numbered) (t : Bool) (l : Line) (c : Greeting) (r : Records) → BringSaid base all (begin_named t l c r)

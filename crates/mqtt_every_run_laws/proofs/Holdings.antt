@@ -26,15 +26,15 @@ use Rattle.mqtt_rules.specs.Step.{BadInput, Call, Input, Lost, NewLine, Tick, de
 use Rattle.mqtt_world_laws.proofs.Ends.{find_first, find_last, find_no_more, find_receiver, only_receiver}
 use Rattle.mqtt_every_run_laws.proofs.Around.{on_back}
 use Rattle.mqtt_every_run_laws.proofs.Like.{moves_reading}
-use Rattle.mqtt_every_run_laws.proofs.Plain.{IsNoCopy, IsSilent, SendsNone, silent_deeds}
-use Rattle.mqtt_every_run_laws.proofs.WayTags.{way_entries, way_entry}
+use Rattle.mqtt_every_run_laws.proofs.Plain.{IsNoCopy, IsSilent, IsUntold, SendsNone, silent_deeds}
+use Rattle.mqtt_every_run_laws.proofs.WayTags.{delivery_entry, way_entries, way_entry}
 
 -- ---- a call that sends no copy puts none on a line
 
 no_entry : (copy : Option CopyId) (x : Packet) → IsNoCopy x → way_entry (record { packet = x; copy = copy }) ≡ None
 no_entry copy (packet.Publish p) h = by p.delivery h
   where
-    by : (d : Delivery) → IsNoCopy (packet.Publish (record p { delivery = d })) → way_entry (record { packet = packet.Publish (record p { delivery = d }); copy = copy }) ≡ None
+    by : (d : Delivery) → IsUntold d → delivery_entry copy p d ≡ None
     by delivery.AtMostOnce h = refl
     by (delivery.AtLeastOnce dup i) h = absurd h
     by (delivery.ExactlyOnce dup i) h = absurd h
@@ -91,7 +91,7 @@ module _ (P : Entry → Type 0) where
   read_rest : (copy : Option CopyId) (x : Packet) (rest : List Down) → AllByRecursion P (way_entries (record { packet = x; copy = copy } ∷ rest)) → AllByRecursion P (way_entries rest)
   read_rest copy (packet.Publish p) rest h = by p.delivery h
     where
-      by : (d : Delivery) → AllByRecursion P (way_entries (record { packet = packet.Publish (record p { delivery = d }); copy = copy } ∷ rest)) → AllByRecursion P (way_entries rest)
+      by : (d : Delivery) → AllByRecursion P (cons_option (delivery_entry copy p d) (way_entries rest)) → AllByRecursion P (way_entries rest)
       by delivery.AtMostOnce h = h
       by (delivery.AtLeastOnce dup i) h = h.1
       by (delivery.ExactlyOnce dup i) h = h.1
@@ -102,7 +102,7 @@ module _ (P : Entry → Type 0) where
   or_more false es e q h = each_append P es (e ∷ []) h (q, tt)
 
   reads_delivery : (t : Bool) (copy : Option CopyId) (p : Publication) (d : Delivery) (rest : List Down) (r : Receiver) → HasRead r
-      → AllByRecursion P (way_entries (record { packet = packet.Publish (record p { delivery = d }); copy = copy } ∷ rest))
+      → AllByRecursion P (cons_option (delivery_entry copy p d) (way_entries rest))
       → Holds (reads_publish t copy p d (record r { line = record r.line { down = rest } }))
   reads_delivery t copy p delivery.AtMostOnce rest r h way = record { read = record { ledger = h.ledger; once = h.once }; way = way }
   reads_delivery t copy p (delivery.AtLeastOnce dup i) rest r h way = record { read = record { ledger = h.ledger; once = each_append P r.once (entry_of false copy p ∷ []) h.once (way.0, tt) }; way = way.1 }

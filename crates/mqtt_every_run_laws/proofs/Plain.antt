@@ -68,7 +68,7 @@ abbrev pub IsOtherEnd : Ending → Type 0
 IsOtherEnd Taken = ⊥
 IsOtherEnd ending = ⊤
 
-abbrev IsUntold : Delivery → Type 0
+abbrev pub IsUntold : Delivery → Type 0
 IsUntold delivery.AtMostOnce = ⊤
 IsUntold (delivery.AtLeastOnce dup id) = ⊥
 IsUntold (delivery.ExactlyOnce dup id) = ⊥

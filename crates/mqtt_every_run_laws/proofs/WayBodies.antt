@@ -1,5 +1,5 @@
 -- Each PUBLISH under way to a receiver carries what its copy does, in every run of the receiver's hop (MQTT 5.0, 3.3, 4.3).
-use Rattle.std.proofs.Common.{◌≡◌, ℕ, zero, suc, ◌+◌, Bool, true, false, List, [], ◌∷◌, ◌++◌, map, Option, Some, None, nat_eq, slice_get, refl, sym, ap, subst, ◌∙◌, arith}
+use Rattle.std.proofs.Common.{◌≡◌, ℕ, zero, suc, ◌+◌, Bool, true, false, cond, List, [], ◌∷◌, ◌++◌, map, Option, Some, None, nat_eq, slice_get, refl, sym, ap, subst, ◌∙◌, arith}
 use Rattle.std.specs.Prelude.{⊤, Err, Ok, if◌then◌else◌, option_map}
 use Rattle.std.specs.List.{AllByRecursion}
 use Rattle.std.proofs.lemmas.Option.{slice_get-map}
@@ -19,7 +19,7 @@ use Rattle.mqtt_inbound.specs.Line.{Link, asked, away, live, sent_on}
 use Rattle.mqtt_rules.proofs.Copies.{each_append, each_more}
 
 -- what a copy carries
-abbrev carried_at : List Lot → ℕ → Option Body
+abbrev pub carried_at : List Lot → ℕ → Option Body
 carried_at lots n = option_map carried_by (slice_get lots n)
 
 abbrev pub SaysOf : List Lot → Output → Type 0
@@ -96,7 +96,7 @@ say_from dup i place k (standing e m ∷ ls) all h =
     by (nat_eq e.place place) (say_from dup i place (suc k) ls all (λ j. let up : j + suc k ≡ suc j + k = omega arith in ap (slice_get all) up ∙ h (suc j)))
   where
     by : (t : Bool) → AllSay all (sends dup i place (suc k) ls) → AllSay all (sent_at t (publish i k dup (body e m)) (sends dup i place (suc k) ls))
-    by true rest = (ap (option_map carried_by) (h 0), tt)
+    by true rest = let same : k ≡ 0 + k = omega arith in (ap (carried_at all) same ∙ ap (option_map carried_by) (h 0), tt)
     by false rest = rest
 say_from dup i place k (past ending e m ∷ ls) all h = say_from dup i place (suc k) ls all (λ j. let up : j + suc k ≡ suc j + k = omega arith in ap (slice_get all) up ∙ h (suc j))
 

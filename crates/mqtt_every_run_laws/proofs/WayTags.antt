@@ -18,7 +18,7 @@ use Rattle.mqtt_records.specs.Session.{birth_of}
 use Rattle.mqtt_records.specs.declared.session.Session.{Session}
 use Rattle.mqtt_laws.specs.Ends.{Entry, Receiver, entry_of}
 use Rattle.mqtt_laws.specs.Hops.{IsIts, IsOurs}
-use Rattle.mqtt_laws.specs.Lines.{Down, copy_in, down_on, is_one_of, sent_to}
+use Rattle.mqtt_laws.specs.Lines.{Down, copy_by, copy_in, down_on, is_one_of, sent_to}
 use Rattle.mqtt_laws.proofs.Lists.{all_find}
 use Rattle.mqtt_laws.proofs.Names.{named_is}
 use Rattle.mqtt_rules.proofs.Copies.{each_more}
@@ -29,7 +29,7 @@ use Rattle.mqtt_rules.specs.State.{Broker, Line, entry_on, line_at, queue_on, se
 use Rattle.mqtt_rules.specs.Step.{copy_in as copy_there, copy_of, copy_of_session, copy_on}
 use Rattle.mqtt_handed_laws.specs.Handing.{IsOf, IsRun}
 use Rattle.mqtt_handed_laws.specs.Own.{IsFreeLine}
-use Rattle.mqtt_handed_laws.specs.Seen.{Numbering, heard, heard_in}
+use Rattle.mqtt_handed_laws.specs.Seen.{Numbering, heard, heard_in, publish_heard}
 use Rattle.mqtt_handed_laws.specs.Served.{IsOwnLine}
 use Rattle.mqtt_handed_laws.specs.Tags.{IsTagged, IsTaggedBy, IsTaggedWith, id_of}
 use Rattle.mqtt_every_run_laws.specs.HandedOver.{CarriesCopy, CarryQueued}
@@ -40,12 +40,12 @@ use Rattle.mqtt_every_run_laws.proofs.WayBodies.{AllSay, SaysOf, run_says}
 
 -- ---- a PUBLISH of QoS 1 or 2 under way, as the receiver has read it then
 
-abbrev delivery_entry : Option CopyId → Publication → Delivery → Option Entry
+abbrev pub delivery_entry : Option CopyId → Publication → Delivery → Option Entry
 delivery_entry copy p delivery.AtMostOnce = None
 delivery_entry copy p (delivery.AtLeastOnce dup i) = Some (entry_of false copy p)
 delivery_entry copy p (delivery.ExactlyOnce dup i) = Some (entry_of true copy p)
 
-abbrev packet_entry : Option CopyId → Packet → Option Entry
+abbrev pub packet_entry : Option CopyId → Packet → Option Entry
 packet_entry copy (packets.Publish p) = delivery_entry copy p p.delivery
 packet_entry copy packet = None
 
@@ -66,7 +66,7 @@ module _ (number : Numbering) (lots : List Lot) where
   IsOfIf None = ⊤
   IsOfIf (Some e) = IsOf number lots e
 
-  delivery_of : (copy : Option CopyId) (p : Publication) (d : Delivery) → IsTaggedBy number (map id_of lots) copy d → SaidIf (heard number copy (packets.Publish (record p { delivery = d }))) → IsOfIf (delivery_entry copy p d)
+  delivery_of : (copy : Option CopyId) (p : Publication) (d : Delivery) → IsTaggedBy number (map id_of lots) copy d → SaidIf (publish_heard number copy p d) → IsOfIf (delivery_entry copy p d)
   delivery_of copy p delivery.AtMostOnce t h = tt
   delivery_of None p (delivery.AtLeastOnce dup i) t h = absurd t
   delivery_of None p (delivery.ExactlyOnce dup i) t h = absurd t
@@ -144,7 +144,7 @@ abbrev TagsIf : ℕ → Broker → Option Entry → Type 0
 TagsIf n b None = ⊤
 TagsIf n b (Some e) = TagStands n b e
 
-delivery_tags : (n : ℕ) (b : Broker) (p : Publication) (d : Delivery) → TagsIf n b (delivery_entry (copy_in n b (packets.Publish (record p { delivery = d }))) p d)
+delivery_tags : (n : ℕ) (b : Broker) (p : Publication) (d : Delivery) → TagsIf n b (delivery_entry (copy_by n b d) p d)
 delivery_tags n b p delivery.AtMostOnce = tt
 delivery_tags n b p (delivery.AtLeastOnce dup i) = λ c is. tagged n i c b is
 delivery_tags n b p (delivery.ExactlyOnce dup i) = λ c is. tagged n i c b is
