@@ -56,6 +56,16 @@ silent_sent : (o : Option ℕ) (b : Broker) (ds : List Deed) → AllByRecursion 
 silent_sent None b ds h = refl
 silent_sent (Some n) b ds h = silent_way n b ds h
 
+-- ---- no turn of sending
+
+abbrev pub IsNoPump : Asking → Type 0
+IsNoPump (pump d) = ⊥
+IsNoPump a = ⊤
+
+abbrev pub IsNoTurn : Event → Type 0
+IsNoTurn (ask a) = IsNoPump a
+IsNoTurn x = ⊤
+
 -- ---- of one receiver
 
 module _ (P : Entry → Type 0) where
@@ -259,11 +269,6 @@ module _ (P : Entry → Type 0) where
         let u = next_held name w in
         rest_hold set more name (calls_if set call u) (if_hold set call u (λ x is. stranger_sends name w x is) h)
 
-    -- no turn of sending
-    abbrev pub IsNoPump : Asking → Type 0
-    IsNoPump (pump d) = ⊥
-    IsNoPump a = ⊤
-
     asks_hold : (set : Setting) (a : Asking) (w : World) → IsNoPump a → In w → In (asks set a w)
     asks_hold set (to_broker d) w none h = if_hold set (call_of set (to_broker d) w) (before set (to_broker d) w) (λ x is. input_sends (view_of d w).number (view_of d w).up x is) (before_hold set (to_broker d) w h)
     asks_hold set (old_to_broker d) w none h = if_hold set (call_of set (old_to_broker d) w) (before set (old_to_broker d) w) (λ x is. input_sends (view_of d w).old_number (view_of d w).old x is) (before_hold set (old_to_broker d) w h)
@@ -308,10 +313,6 @@ module _ (P : Entry → Type 0) where
           | inl its ↦ subst EachHolds (sym (find_last test new w.receivers its e)) (record { read = record { ledger = tt; once = tt }; way = tt })
           | inr other ↦ subst EachHolds (sym (find_no_more test new w.receivers other ∙ e)) tt
         ]
-
-    abbrev pub IsNoTurn : Event → Type 0
-    IsNoTurn (ask a) = IsNoPump a
-    IsNoTurn x = ⊤
 
     pub happens_hold : (set : Setting) (x : Event) (w : World) → IsNoTurn x → In w → In (happens set x w)
     happens_hold set (publisher d) w none h = h
