@@ -1,8 +1,8 @@
 -- Over a run: what a receiver has read of the copies of a publication carries what that does, whatever becomes of the copies (MQTT 5.0,
 -- 3.3.2, 3.3.3, 4.3).
 use Rattle.std.proofs.Common.{◌≡◌, ◌⊎◌, ℕ, zero, suc, ◌<◌, ◌≤◌, Bool, true, false, cond, List, [], ◌∷◌, ◌++◌, map, Option, Some, None, refl, sym, ap, subst, ◌∙◌, append-nil, append_assoc, arith, inl, inr}
-use Rattle.std.specs.Prelude.{⊤, All, bytes_eq, filter_map, find, option_map}
-use Rattle.std.specs.List.{AllByRecursion, cons_option}
+use Rattle.std.specs.Prelude.{All, bytes_eq, filter_map, find, option_map}
+use Rattle.std.specs.List.{AllByRecursion}
 use Rattle.std.proofs.lemmas.List.Elements.{All-from_recursion, filter_map-append}
 use Rattle.mqtt_base.specs.declared.session.CopyId.{CopyId}
 use Rattle.mqtt_codec.specs.declared.packet.Packet.{Packet}
@@ -14,8 +14,8 @@ use Rattle.mqtt_records.specs.declared.session.Session.{Session}
 use Rattle.mqtt_laws.specs.Ends.{Entry, Receiver}
 use Rattle.mqtt_laws.specs.Laws.{CarriesOf, CarriesOn}
 use Rattle.mqtt_laws.specs.Lines.{sent_to}
-use Rattle.mqtt_laws.specs.Run.{Acceptance, Turn, acceptances_called, acceptances_of, acceptances_opened, acceptances_over, are_clean_starts_carried, carries_clean, deeds_at, deeds_over, read_asked, read_at, read_first, read_if, read_in, read_opening, read_over, read_rest, run, setting, the_acceptances, the_deeds, turned}
-use Rattle.mqtt_laws.specs.World.{Asking, Event, Setting, World, answers_rest, ask, asks, before, break, call_of, call_of_stranger, calls, calls_if, clock, comes, connect_end, first_step, give_up, happens, held_count, is_bad, next_held, old_to_broker, publish, publisher, pump, pump_on, receiver, receiver_named, receiver_told, restart, stop_after, stop_before, stranger, stranger_named, subscribe, tick, to_broker, to_end, view_of}
+use Rattle.mqtt_laws.specs.Run.{Acceptance, Turn, acceptances_of, acceptances_over, are_clean_starts_carried, carries_clean, deeds_at, deeds_over, read_asked, read_at, read_first, read_if, read_in, read_opening, read_rest, run, setting, the_acceptances, the_deeds, turned}
+use Rattle.mqtt_laws.specs.World.{Asking, Event, Setting, World, ask, before, break, call_of, call_of_stranger, calls, calls_if, clock, comes, connect_end, first_step, give_up, happens, held_count, is_bad, next_held, old_to_broker, publish, publisher, pump, pump_on, receiver, receiver_named, receiver_told, restart, stop_after, stop_before, stranger, stranger_named, subscribe, tick, to_broker, to_end, view_of}
 use Rattle.mqtt_rules.proofs.Copies.{each_append, each_more}
 use Rattle.mqtt_rules.proofs.FitLaw.{all_among}
 use Rattle.mqtt_rules.proofs.Leads.{row_among}
@@ -23,7 +23,7 @@ use Rattle.mqtt_rules.specs.Deeds.{Accept, Deed, after}
 use Rattle.mqtt_rules.specs.Laws.{IsAmong}
 use Rattle.mqtt_rules.specs.Numbers.{CountsOn, HasAcceptedNumbers, HasCopiesUpTo, publication_given}
 use Rattle.mqtt_rules.specs.State.{Broker, Env, session_named}
-use Rattle.mqtt_rules.specs.Step.{Call, NewLine, deeds, stepped, told}
+use Rattle.mqtt_rules.specs.Step.{Call, deeds, stepped, told}
 use Rattle.mqtt_rules.specs.declared.Limits.{Limits}
 use Rattle.mqtt_world_laws.specs.Copies.{AreCountedOn}
 use Rattle.mqtt_world_laws.specs.Fair.{IsFair}
@@ -36,9 +36,9 @@ use Rattle.mqtt_every_run_laws.specs.HandedOver.{CarriesCopy, CarryQueued}
 use Rattle.mqtt_every_run_laws.specs.Standing.{IsPlaced, IsSeen, Stands}
 use Rattle.mqtt_every_run_laws.specs.Taking.{any_size}
 use Rattle.mqtt_every_run_laws.specs.Untouched.{IsUntouched}
-use Rattle.mqtt_every_run_laws.proofs.Contents.{AllSaid, IsSaid, KeptSaid, Keeps, Numbered, QueueSaid, RowSaid, SaidAbove, accepted, accepted_in, keeping, said_more}
+use Rattle.mqtt_every_run_laws.proofs.Contents.{AllSaid, KeptSaid, Keeps, Numbered, QueueSaid, RowSaid, SaidAbove, accepted, accepted_in, keeping, said_more}
 use Rattle.mqtt_every_run_laws.proofs.EveryRun.{untouched_kept}
-use Rattle.mqtt_every_run_laws.proofs.Holdings.{EachHolds, HasRead, Holds, IsNoPump, IsNoTurn, happens_hold}
+use Rattle.mqtt_every_run_laws.proofs.Holdings.{EachHolds, Holds, IsNoTurn, happens_hold}
 use Rattle.mqtt_every_run_laws.proofs.Outside.{named_called}
 use Rattle.mqtt_every_run_laws.proofs.Runs.{IsKept, turn_kept}
 use Rattle.mqtt_every_run_laws.proofs.Standings.{runs_so}

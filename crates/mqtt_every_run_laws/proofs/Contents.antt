@@ -1,7 +1,7 @@
 -- What queued copies and retained messages carry is what their publications do, from what deeds accept and let enter (MQTT 5.0, 3.3.1.3,
 -- 3.3.2, 3.3.3, 3.3.4).
-use Rattle.std.proofs.Common.{◌≡◌, ℕ, ◌<◌, ◌⊎◌, Bool, true, false, cond, not, ◌&&◌, List, [], ◌∷◌, ◌++◌, filter, map, Option, Some, None, nat_eq, nat_lt, refl, sym, ap, subst, ◌∙◌, append-nil, append_assoc, inl, inr}
-use Rattle.std.specs.Prelude.{⊤, filter_map, flat_map, length, option_map}
+use Rattle.std.proofs.Common.{◌≡◌, ℕ, ◌<◌, Bool, true, false, cond, not, ◌&&◌, List, [], ◌∷◌, ◌++◌, filter, map, Option, Some, None, nat_eq, refl, sym, ap, subst, ◌∙◌, append-nil, append_assoc, inl, inr}
+use Rattle.std.specs.Prelude.{⊤, filter_map, flat_map, option_map}
 use Rattle.std.specs.List.{AllByRecursion}
 use Rattle.std.proofs.lemmas.List.Elements.{filter_map-append}
 use Rattle.mqtt_base.specs.declared.limits.TheConstants.{QUEUE_LIMIT, RETAINED_LIMIT, SESSION_LIMIT}
@@ -13,7 +13,6 @@ use Rattle.mqtt_codec.specs.declared.publish.Delivery.TheVariants as delivery
 use Rattle.mqtt_connect.specs.declared.connect.Connect.{Connect as Greeting}
 use Rattle.mqtt_flow.specs.Outbound.{way_made}
 use Rattle.mqtt_message.specs.Queue.{CopyRow}
-use Rattle.mqtt_message.specs.declared.message.MessageCopy.{MessageCopy}
 use Rattle.mqtt_message.specs.declared.message.RetainedMessage.{RetainedMessage}
 use Rattle.mqtt_message.specs.declared.message.Will.{Will}
 use Rattle.mqtt_records.specs.Records.{changed_all, kept_place, put_session}
@@ -26,7 +25,7 @@ use Rattle.mqtt_routes.specs.Acceptance.{Routed, copies_in}
 use Rattle.mqtt_routes.specs.Intended.{Copy}
 use Rattle.mqtt_routes.specs.Retained.{kept_for}
 use Rattle.mqtt_routes.specs.declared.retained.Kept.{Kept}
-use Rattle.mqtt_rows.specs.Order.{change_row, has_row, put_row, row_at}
+use Rattle.mqtt_rows.specs.Order.{change_row, has_row, put_row}
 use Rattle.mqtt_topic.specs.Filters.{begins_share}
 use Rattle.mqtt_topic.specs.Names.{is_empty}
 use Rattle.mqtt_rules.proofs.Acts.{brought_to}
@@ -41,7 +40,7 @@ use Rattle.mqtt_rules.specs.Outbound.{enter_deeds, leave_deeds, queue_limits, si
 use Rattle.mqtt_rules.specs.Packets.{publish_of}
 use Rattle.mqtt_rules.specs.Routing.{CopyTo, accepted_copies, accepted_if, copies_to, copy_to, deliver, deliver_by, finds_place, forgets, is_queued, next_publication, publish, retain_by, retained_of, routing_of, served_copies_to}
 use Rattle.mqtt_rules.specs.State.{Broker, Env, Line, line_of, queue_on, session_at}
-use Rattle.mqtt_rules.specs.Step.{Call, at_moment, deeds, deeds_of, env_of, opened, opening, stepped, unopened, with_moment}
+use Rattle.mqtt_rules.specs.Step.{at_moment, deeds, env_of, opening, unopened, with_moment}
 use Rattle.mqtt_rules.specs.Subscribe as sub
 use Rattle.mqtt_rules.specs.declared.Limits.{Limits}
 use Rattle.mqtt_world_laws.proofs.EachAct.{Says, call_says, opening_says, whatever}

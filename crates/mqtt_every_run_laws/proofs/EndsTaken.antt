@@ -13,7 +13,7 @@ use Rattle.mqtt_base.specs.declared.session.Ending.TheVariants.{Dropped, Expired
 use Rattle.mqtt_codec.specs.declared.packet.Packet.{Packet}
 use Rattle.mqtt_codec.specs.declared.packet.Packet.TheVariants as packets
 use Rattle.mqtt_flow.specs.Outbound as rules
-use Rattle.mqtt_flow.specs.Receiver.{Answer, HasNoConnect, connect, puback, pubcomp, pubrec}
+use Rattle.mqtt_flow.specs.Receiver.{connect, puback, pubcomp, pubrec}
 use Rattle.mqtt_flow.specs.declared.entry.Turn.{Turn}
 use Rattle.mqtt_flow.specs.declared.entry.Turn.TheVariants as turns
 use Rattle.mqtt_message.specs.Queue.{CopyRow}
@@ -25,19 +25,18 @@ use Rattle.mqtt_laws.specs.Ends.{Back, Publisher, Receiver, answers, asks_for, w
 use Rattle.mqtt_handed_laws.specs.Served.{IsOwnLine}
 use Rattle.mqtt_laws.specs.Hops.{IsOurs}
 use Rattle.mqtt_laws.specs.Lines.{is_one_of}
-use Rattle.mqtt_laws.specs.Run.{End, Turn as Happening, deeds_at, ended_in, read_asked, read_at, read_first, read_if, read_in, read_opening, read_rest, setting, the_deeds}
+use Rattle.mqtt_laws.specs.Run.{End, ended_in, read_asked, read_at, read_first, read_if, read_in, read_opening, read_rest, the_deeds}
 use Rattle.mqtt_laws.specs.Seats.{IsHis}
-use Rattle.mqtt_laws.specs.World.{Asking, Event, Setting, View, World, answers_rest, ask, asks, before, break, bytes_held, bytes_name, call_of, call_of_stranger, calls_if, clock, comes, connect_end, first_step, front_names, give_up, happens, held_after, held_count, input_on, is_bad, is_bad_asking, lost_on, next_held, old_to_broker, publish, publisher, pump, pump_on, receiver, receiver_named, restart, stop_after, stop_before, stranger, stranger_named, subscribe, tick, to_broker, to_end, view_by, view_of}
+use Rattle.mqtt_laws.specs.World.{Asking, Event, Setting, View, World, ask, before, break, bytes_held, bytes_name, call_of, call_of_stranger, calls_if, clock, comes, connect_end, first_step, front_names, give_up, held_after, held_count, input_on, is_bad, is_bad_asking, lost_on, next_held, old_to_broker, publish, publisher, pump, pump_on, receiver, receiver_named, restart, stop_after, stop_before, stranger, stranger_named, subscribe, tick, to_broker, to_end, view_by, view_of}
 use Rattle.mqtt_laws.proofs.Lists.{all_find}
 use Rattle.mqtt_rules.proofs.Copies.{each_append, each_more}
 use Rattle.mqtt_rules.proofs.FlightRows.{all_at, found_key}
 use Rattle.mqtt_rules.proofs.Leads.{row_among}
-use Rattle.mqtt_rules.specs.Closing.{drop_line}
-use Rattle.mqtt_rules.specs.Deeds.{At, Deed, Hear, Leave, On, after, always, series, whose, with_line, with_session}
+use Rattle.mqtt_rules.specs.Deeds.{At, Deed, Hear, Leave, On, after, always, series, with_line, with_session}
 use Rattle.mqtt_rules.specs.Inbound.{on_answer}
 use Rattle.mqtt_rules.specs.Laws.{IsAmong}
 use Rattle.mqtt_rules.specs.Outbound.{of_entry, turn_deeds}
-use Rattle.mqtt_rules.specs.State.{Broker, Env, Line, MemberChoice, line_at, queue_on, session_at, session_named}
+use Rattle.mqtt_rules.specs.State.{Broker, Env, Line, MemberChoice, line_at, session_at, session_named}
 use Rattle.mqtt_rules.specs.Step.{BadInput, Call, Input, Lost, NewLine, Pump, Tick, at_moment, deeds, deeds_of, env_of, first_packet, next_packet, on_packet, opening, unopened}
 use Rattle.mqtt_rules.specs.declared.Limits.{Limits}
 use Rattle.mqtt_world_laws.specs.Spending.{spending}
@@ -49,7 +48,7 @@ use Rattle.mqtt_every_run_laws.proofs.Acknowledging.{WasGot}
 use Rattle.mqtt_every_run_laws.proofs.Around.{whose_name}
 use Rattle.mqtt_every_run_laws.proofs.Asking.{foreign, input_outside}
 use Rattle.mqtt_every_run_laws.proofs.Outside.{IsOutside, if_stands, if_there, unlisted}
-use Rattle.mqtt_every_run_laws.proofs.Plain.{IsNoAnswer, IsOtherEnd, IsUntaken, TakesNone, untaken_deeds, untaken_drop, untaken_first, untaken_of, untaken_opening}
+use Rattle.mqtt_every_run_laws.proofs.Plain.{IsNoAnswer, IsOtherEnd, IsUntaken, untaken_deeds, untaken_drop, untaken_first, untaken_of, untaken_opening}
 use Rattle.mqtt_every_run_laws.proofs.Strangers.{first_outside, comes_stands, comes_there, either_false, good_then, held_next, held_stands, next_outside, same_cost}
 
 -- ---- lists of ends

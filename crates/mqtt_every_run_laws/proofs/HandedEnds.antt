@@ -1,5 +1,5 @@
 -- In a run: each copy of a receiver that ended as taken since it has come was handed over by the end (MQTT 5.0, 4.3.2, 4.3.3).
-use Rattle.std.proofs.Common.{◌≡◌, ℕ, ◌+◌, ◌≤◌, true, false, List, [], ◌∷◌, ◌++◌, Option, Some, None, refl, sym, ap, subst, ◌∙◌, arith}
+use Rattle.std.proofs.Common.{◌≡◌, ℕ, ◌+◌, ◌≤◌, true, false, List, [], ◌∷◌, ◌++◌, Some, sym, ap, ◌∙◌, arith}
 use Rattle.std.specs.Prelude.{All, filter_map}
 use Rattle.std.specs.List.{AllByRecursion}
 use Rattle.std.proofs.lemmas.List.Elements.{All-from_recursion, filter_map-append}
@@ -11,7 +11,6 @@ use Rattle.mqtt_laws.specs.Laws.{WasTaken, copies_in, count_of, handed_count}
 use Rattle.mqtt_laws.specs.Run.{End, Turn, are_clean_starts_carried, carries_clean, deeds_at, deeds_over, ended_in, read_at, run, setting, turned}
 use Rattle.mqtt_laws.specs.World.{World, receiver_named}
 use Rattle.mqtt_rules.proofs.Copies.{each_more}
-use Rattle.mqtt_rules.specs.Deeds.{Deed}
 use Rattle.mqtt_rules.specs.declared.Limits.{Limits}
 use Rattle.mqtt_world_laws.specs.Fair.{IsFair}
 use Rattle.mqtt_world_laws.specs.Spending.{run_spends, spending}

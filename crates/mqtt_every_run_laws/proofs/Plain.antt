@@ -1,19 +1,16 @@
 -- Calls by which no copy ends as taken and no PUBLISH of QoS 1 or 2 goes out: all but a receiver's answers and a turn of sending; the
 -- first end copies as taken, and the second send them (MQTT 5.0, 4.3, 4.4, 4.6).
-use Rattle.std.proofs.Common.{◌≡◌, ℕ, zero, suc, Bool, true, false, cond, not, ◌&&◌, ◌||◌, List, [], ◌∷◌, ◌++◌, filter, length, map, Option, Some, None, refl, sym, ap, subst, ◌∙◌, append-nil, inl, inr}
-use Rattle.std.specs.Prelude.{⊤, Err, Ok, find, flat_map, nat_le, nat_lt, option_map}
+use Rattle.std.proofs.Common.{◌≡◌, ℕ, zero, suc, Bool, true, false, cond, not, ◌&&◌, List, [], ◌∷◌, ◌++◌, filter, length, map, Option, Some, None, refl, inl, inr}
+use Rattle.std.specs.Prelude.{⊤, Err, Ok, find, flat_map, nat_lt, option_map}
 use Rattle.std.specs.List.{AllByRecursion}
 use Rattle.std.proofs.lemmas.Bool.{cases_Bool}
 use Rattle.mqtt_base.specs.Codes.{identifier_in_use, keep_alive_timeout, protocol_error, quota_exceeded, receive_maximum_exceeded, session_taken_over}
-use Rattle.mqtt_base.specs.declared.limits.TheConstants.{SUBSCRIPTION_LIMIT}
 use Rattle.mqtt_base.specs.declared.session.Ending.{Ending}
-use Rattle.mqtt_base.specs.declared.session.Ending.TheVariants.{Dropped, Expired, Refused, SessionEnded, Taken, TooLarge}
+use Rattle.mqtt_base.specs.declared.session.Ending.TheVariants.{SessionEnded, Taken}
 use Rattle.mqtt_base.specs.declared.session.Phase.{Phase}
 use Rattle.mqtt_base.specs.declared.session.Phase.TheVariants.{Oversize, Released, Sent, Waiting}
 use Rattle.mqtt_base.specs.declared.session.Qos.{Qos}
 use Rattle.mqtt_base.specs.declared.session.Qos.TheVariants as qos
-use Rattle.mqtt_base.specs.declared.session.SubscriptionOptions.{SubscriptionOptions}
-use Rattle.mqtt_codec.specs.Options.{options_of}
 use Rattle.mqtt_codec.specs.declared.packet.Packet.{Packet}
 use Rattle.mqtt_codec.specs.declared.packet.Packet.TheVariants as packets
 use Rattle.mqtt_codec.specs.declared.publish.Delivery.{Delivery}
@@ -49,18 +46,17 @@ use Rattle.mqtt_topic.specs.Filters.{is_filter}
 use Rattle.mqtt_topic.specs.Names.{is_empty}
 use Rattle.mqtt_rules.specs.Closing.{close, close_connected, close_session, drop_line, end_session, has_due_end, has_due_will, publish_or_refuse, publish_will, settle, will_deeds, will_message}
 use Rattle.mqtt_rules.specs.Connect.{begin_named, clear, connect_by, joins, largest_of, of_client, prepare, refusal, refusal_size, refused, resume, take_over}
-use Rattle.mqtt_rules.specs.Deeds.{Whose, whose, Message, Origin, FromClient, FromWill, Close, Count, DropWill, Leave, Subscribe, Hear, Deed, Accept, At, Enter, Forget, RefuseWill, Link, On, Send, Gone, Finish, Act, after, after_all, always, of_session, offer, only_if, series, with_line, with_session}
+use Rattle.mqtt_rules.specs.Deeds.{Whose, whose, Message, Origin, FromClient, FromWill, Close, Count, DropWill, Leave, Subscribe, Hear, Deed, Accept, At, Enter, Forget, Link, On, Send, Gone, Finish, Act, after, after_all, always, of_session, offer, only_if, series, with_line, with_session}
 use Rattle.mqtt_rules.specs.Inbound.{Meaning, Means, Wrong, answer, code_accepted, code_again, leave_by, meaning, message_of, new_expiry, on_answer, opens, publish_by, publish_meant, publish_new, pump_deeds, pump_turns, release_by, sets_alias, standing}
 use Rattle.mqtt_rules.specs.Outbound.{all_turn_deeds, enter_deeds, leave_deeds, of_entry, queue_limits, since, turn_deeds, way_of}
 use Rattle.mqtt_rules.specs.Packets.{connack, disconnect, number_at, publish_of, suback, unsuback}
 use Rattle.mqtt_rules.specs.Routing.{CopyTo, accepted_copies, deliver, deliver_by, forgets, is_queued, is_queued_at, is_wanted, next_publication, publish, retain_by, retained_of}
 use Rattle.mqtt_rules.specs.State.{Broker, Env, Line, MemberChoice, is_connected, line_at, line_of, queue_on, session_at, session_named}
-use Rattle.mqtt_rules.specs.Step.{Call, NewLine, Input, BadInput, Lost, Pump, Tick, at_moment, can_link, close_if, deeds, deeds_of, env_of, first_packet, late_code, next_packet, on_fault, on_packet, on_pump, opening, unopened}
+use Rattle.mqtt_rules.specs.Step.{Call, NewLine, Input, BadInput, Lost, Pump, Tick, at_moment, can_link, close_if, deeds, deeds_of, env_of, first_packet, late_code, next_packet, on_fault, on_packet, on_pump, opening}
 use Rattle.mqtt_rules.specs.Subscribe as sub
 use Rattle.mqtt_rules.specs.Tick.{due, first_due, has_lapsed, is_silent, is_stale, lapse_deeds, lapses, on_tick, silence}
 use Rattle.mqtt_rules.specs.declared.Limits.{Limits}
-use Rattle.mqtt_rules.proofs.Acts.{brought_to}
-use Rattle.mqtt_rules.proofs.Copies.{each_append, each_flat, each_map, each_more}
+use Rattle.mqtt_rules.proofs.Copies.{each_append, each_flat, each_more}
 
 -- ---- of one deed
 

@@ -1,14 +1,13 @@
 -- Each PUBLISH under way to a receiver carries what its copy does, in every run of the receiver's hop (MQTT 5.0, 3.3, 4.3).
-use Rattle.std.proofs.Common.{◌≡◌, ℕ, zero, suc, ◌+◌, Bool, true, false, cond, List, [], ◌∷◌, ◌++◌, map, Option, Some, None, nat_eq, slice_get, refl, sym, ap, subst, ◌∙◌, arith}
-use Rattle.std.specs.Prelude.{⊤, Err, Ok, if◌then◌else◌, option_map}
+use Rattle.std.proofs.Common.{◌≡◌, ℕ, zero, suc, ◌+◌, Bool, true, false, cond, List, [], ◌∷◌, ◌++◌, map, Option, Some, None, nat_eq, slice_get, refl, ap, ◌∙◌, arith}
+use Rattle.std.specs.Prelude.{⊤, Err, Ok, option_map}
 use Rattle.std.specs.List.{AllByRecursion}
 use Rattle.std.proofs.lemmas.Option.{slice_get-map}
-use Rattle.mqtt_base.specs.declared.session.Ending.{Ending}
 use Rattle.mqtt_flow.specs.Outbound.{expired, has_room, pump, resumed_with, way_made}
 use Rattle.mqtt_flow.specs.Outbound as rules
 use Rattle.mqtt_flow.specs.OutboundCourse.{carried_by}
-use Rattle.mqtt_flow.specs.OutboundWorld.{Event, Lot, TopicAndPayload, World, all_packets, body, close, close_old, connects, connects_old, cut, ended_by, enter, enters, expire, give_up, break_line, is_granted, lot_after, lots_after, make_line, made_new, old_comes, old_to_broker, packets, past, pump as pumps, queue_of, renewed, replied, replied_old, restart, resumed, run, sends, sent_at, settles, settles_old, standing, start, step, take_turn, take_turns, to_broker, to_end, told, up_comes}
-use Rattle.mqtt_flow.specs.Queue.{at_place, marked}
+use Rattle.mqtt_flow.specs.OutboundWorld.{Event, Lot, TopicAndPayload, World, all_packets, body, close, close_old, connects, connects_old, cut, ended_by, enter, enters, expire, give_up, break_line, is_granted, lot_after, lots_after, make_line, old_comes, old_to_broker, packets, past, pump as pumps, queue_of, renewed, replied, replied_old, restart, run, sends, sent_at, standing, step, take_turn, take_turns, to_broker, to_end, told, up_comes}
+use Rattle.mqtt_flow.specs.Queue.{at_place}
 use Rattle.mqtt_flow.specs.Receiver.{Answer, Body, Output, connack, connect, disconnect, down_comes, gives_up, joins, no_connack, puback, pubcomp, publish, pubrec, pubrel, read_connack, read_publish}
 use Rattle.mqtt_flow.specs.declared.entry.Entry.{Entry}
 use Rattle.mqtt_flow.specs.declared.entry.QueueLimits.{QueueLimits}

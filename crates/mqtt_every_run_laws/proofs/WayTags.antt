@@ -1,7 +1,7 @@
 -- What is under way to a receiver, and is of a copy that stands in its queue, carries that copy's topic and payload; and what a step
 -- puts out is of such copies (MQTT 5.0, 3.3.2, 3.3.3, 4.3).
-use Rattle.std.proofs.Common.{◌≡◌, ℕ, Bool, true, false, cond, List, [], ◌∷◌, ◌++◌, map, Option, Some, None, nat_eq, slice_get, refl, sym, ap, subst, ◌∙◌, inl, inr}
-use Rattle.std.specs.Prelude.{⊤, filter_map, find, option_map}
+use Rattle.std.proofs.Common.{◌≡◌, ℕ, Bool, true, false, cond, List, [], ◌∷◌, map, Option, Some, None, nat_eq, refl, sym, ap, subst, ◌∙◌, inl, inr}
+use Rattle.std.specs.Prelude.{⊤, filter_map, option_map}
 use Rattle.std.specs.List.{AllByRecursion, cons_option}
 use Rattle.std.proofs.lemmas.Bool.{cases_Bool, eqb-true}
 use Rattle.mqtt_base.specs.declared.session.CopyId.{CopyId}
@@ -18,21 +18,20 @@ use Rattle.mqtt_records.specs.Session.{birth_of}
 use Rattle.mqtt_records.specs.declared.session.Session.{Session}
 use Rattle.mqtt_laws.specs.Ends.{Entry, Receiver, entry_of}
 use Rattle.mqtt_laws.specs.Hops.{IsIts, IsOurs}
-use Rattle.mqtt_laws.specs.Lines.{Down, copy_by, copy_in, down_on, is_one_of, sent_to}
+use Rattle.mqtt_laws.specs.Lines.{Down, copy_by, copy_in, is_one_of, sent_to}
 use Rattle.mqtt_laws.proofs.Lists.{all_find}
 use Rattle.mqtt_laws.proofs.Names.{named_is}
 use Rattle.mqtt_rules.proofs.Copies.{each_more}
 use Rattle.mqtt_rules.proofs.FlightRows.{all_at, found_key}
-use Rattle.mqtt_rules.proofs.Leads.{row_among}
 use Rattle.mqtt_rules.specs.Laws.{IsAmong}
-use Rattle.mqtt_rules.specs.State.{Broker, Line, entry_on, line_at, queue_on, session_at, session_named}
+use Rattle.mqtt_rules.specs.State.{Broker, Line, entry_on, line_at, session_at, session_named}
 use Rattle.mqtt_rules.specs.Step.{copy_in as copy_there, copy_of, copy_of_session, copy_on}
 use Rattle.mqtt_handed_laws.specs.Handing.{IsOf, IsRun}
 use Rattle.mqtt_handed_laws.specs.Own.{IsFreeLine}
 use Rattle.mqtt_handed_laws.specs.Seen.{Numbering, heard, heard_in, publish_heard}
 use Rattle.mqtt_handed_laws.specs.Served.{IsOwnLine}
 use Rattle.mqtt_handed_laws.specs.Tags.{IsTagged, IsTaggedBy, IsTaggedWith, id_of}
-use Rattle.mqtt_every_run_laws.specs.HandedOver.{CarriesCopy, CarryQueued}
+use Rattle.mqtt_every_run_laws.specs.HandedOver.{CarryQueued}
 use Rattle.mqtt_every_run_laws.specs.Standing.{GoesAlong, IsPlaced}
 use Rattle.mqtt_every_run_laws.proofs.Outside.{lines_of}
 use Rattle.mqtt_every_run_laws.proofs.QueueContents.{carry_queued}
