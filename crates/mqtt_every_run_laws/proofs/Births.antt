@@ -1,12 +1,11 @@
 -- Each copy that enters a queue is of a session that stands, so that its birth was given by then (MQTT 5.0, 3.3.4, 4.1).
-use Rattle.std.proofs.Common.{◌≡◌, ℕ, suc, ◌+◌, ◌<◌, ◌≤◌, Bool, true, false, cond, not, ◌&&◌, List, [], ◌∷◌, ◌++◌, filter, map, Option, Some, None, nat_eq, refl, sym, ap, subst, ◌∙◌, arith, inl, inr}
+use Rattle.std.proofs.Common.{◌≡◌, ℕ, suc, ◌≤◌, Bool, true, false, cond, not, ◌&&◌, List, [], ◌∷◌, ◌++◌, filter, map, Option, Some, None, nat_eq, refl, sym, ap, subst, ◌∙◌, arith, inl, inr}
 use Rattle.std.specs.Prelude.{⊤, filter_map, is_some}
-use Rattle.std.specs.List.{AllByRecursion, cons_option}
+use Rattle.std.specs.List.{AllByRecursion}
 use Rattle.std.proofs.lemmas.Bool.{cases_Bool}
 use Rattle.std.proofs.lemmas.List.Elements.{filter_map-append}
 use Rattle.mqtt_base.specs.declared.limits.TheConstants.{SESSION_LIMIT}
 use Rattle.mqtt_base.specs.declared.session.CopyId.{CopyId}
-use Rattle.mqtt_base.specs.declared.session.Phase.{Phase}
 use Rattle.mqtt_message.specs.declared.message.RetainedMessage.{RetainedMessage}
 use Rattle.mqtt_message.specs.declared.message.Will.{Will}
 use Rattle.mqtt_records.specs.Records.{changed_all, put_session}
@@ -27,10 +26,10 @@ use Rattle.mqtt_rules.specs.Deeds.{Accept, At, Begin, Close, Count, Deed, DropWi
 use Rattle.mqtt_rules.specs.Numbers.{CountsOn, birth_given}
 use Rattle.mqtt_rules.specs.Routing.{CopyTo, accepted_copies, is_queued, next_publication, publish}
 use Rattle.mqtt_rules.specs.State.{Broker, Env, session_at}
-use Rattle.mqtt_rules.specs.Step.{Call, at_moment, deeds, env_of, opening, unopened}
+use Rattle.mqtt_rules.specs.Step.{at_moment, deeds, env_of, opening, unopened}
 use Rattle.mqtt_rules.specs.Subscribe as sub
 use Rattle.mqtt_rules.specs.declared.Limits.{Limits}
-use Rattle.mqtt_world_laws.specs.Entries.{id_of, queued_ids}
+use Rattle.mqtt_world_laws.specs.Entries.{queued_ids}
 use Rattle.mqtt_world_laws.proofs.EachAct.{Says, call_says, opening_says, says_still, whatever}
 use Rattle.mqtt_world_laws.proofs.Entering.{AllStand, AreStill, accepted_stand, entered_none, grant_enters, publish_enters}
 use Rattle.mqtt_world_laws.proofs.Here.{Has}

@@ -1,12 +1,11 @@
 -- In every run the receivers have different names: each is the one that is found by its name (MQTT 5.0, 3.1.3.1).
-use Rattle.std.proofs.Common.{◌≡◌, ℕ, zero, suc, Bool, true, false, cond, ◌||◌, List, [], ◌∷◌, ◌++◌, find, map, not, Option, Some, None, bytes_eq, refl, sym, ap, subst, ◌∙◌, inl, inr}
+use Rattle.std.proofs.Common.{◌≡◌, ℕ, zero, suc, Bool, true, false, cond, ◌||◌, List, [], ◌∷◌, ◌++◌, find, map, not, Option, Some, None, bytes_eq, refl, ap, ◌∙◌}
 use Rattle.std.specs.Prelude.{is_some, option_map}
 use Rattle.std.specs.List.{AllByRecursion}
-use Rattle.std.proofs.lemmas.Bool.{cases_Bool}
 use Rattle.std.proofs.lemmas.Slice.Eq.{bytes_eq-Decides}
 use Rattle.mqtt_flow.specs.Receiver.{connect}
-use Rattle.mqtt_laws.specs.Ends.{Back, Receiver, answers, new_receiver, receiver_reads}
-use Rattle.mqtt_laws.specs.Lines.{Line, gives_up, joined, left, stands}
+use Rattle.mqtt_laws.specs.Ends.{Receiver, answers, new_receiver, receiver_reads}
+use Rattle.mqtt_laws.specs.Lines.{gives_up, joined, left, stands}
 use Rattle.mqtt_laws.specs.Run.{Turn, run, setting, turned}
 use Rattle.mqtt_laws.specs.World.{Asking, Event, Setting, World, answers_rest, ask, asks, asks_wish, before, break, call_of, call_of_stranger, calls, calls_if, clock, comes, connect_end, first_step, give_up, happens, held_count, is_bad, is_bad_name, is_end, is_taken, is_window, linked_at, links, next_held, next_line, old_to_broker, publish, publisher, publisher_named, pump, receiver, receiver_named, receiver_restarted, receiver_told, restart, restarts, stop_after, stop_before, stranger, stranger_named, subscribe, tick, to_broker, to_end}
 use Rattle.mqtt_rules.specs.State.{session_named}

@@ -1,19 +1,18 @@
 -- In a run from nothing stored each receiver was handed its copies once, whole (MQTT 5.0, 4.3.2, 4.3.3, 4.6).
-use Rattle.std.proofs.Common.{◌≡◌, ℕ, ◌+◌, ◌<◌, ◌≤◌, Bool, true, false, ◌||◌, List, [], ◌∷◌, ◌++◌, map, Option, Some, None, refl, sym, ap, subst, ◌∙◌, append_assoc, arith, inl, inr}
+use Rattle.std.proofs.Common.{◌≡◌, ◌+◌, ◌≤◌, Bool, true, false, ◌||◌, List, [], ◌∷◌, ◌++◌, map, Some, refl, sym, ap, subst, ◌∙◌, append_assoc, arith, inl, inr}
 use Rattle.std.specs.Prelude.{All, filter_map}
 use Rattle.std.specs.List.{AllByRecursion}
 use Rattle.std.proofs.lemmas.Bool.{cases_Bool}
 use Rattle.std.proofs.lemmas.List.Elements.{All-from_recursion, filter_map-append, recursion_from_All}
 use Rattle.mqtt_base.specs.declared.session.CopyId.{CopyId}
-use Rattle.mqtt_base.specs.declared.session.Ending.TheVariants.{Taken}
 use Rattle.mqtt_laws.specs.Ends.{Receiver}
-use Rattle.mqtt_laws.specs.Laws.{AllHandedOnce, HandedOnce, IsTaken, WasTaken, count_of, is_copy, standing}
+use Rattle.mqtt_laws.specs.Laws.{AllHandedOnce, HandedOnce, IsTaken, count_of, is_copy, standing}
 use Rattle.mqtt_laws.specs.Run.{End, Turn, after, deeds_at, deeds_over, ended_in, ended_over, run, setting, turned}
 use Rattle.mqtt_laws.specs.World.{World, receiver_named, start}
 use Rattle.mqtt_rules.proofs.Copies.{each_append, each_more}
 use Rattle.mqtt_rules.specs.Deeds.{Deed}
 use Rattle.mqtt_rules.specs.declared.Limits.{Limits}
-use Rattle.mqtt_world_laws.specs.Copies.{ended_from, entered_from}
+use Rattle.mqtt_world_laws.specs.Copies.{entered_from}
 use Rattle.mqtt_world_laws.specs.Fair.{IsFair}
 use Rattle.mqtt_world_laws.proofs.CopyRuns.{run_balances, run_numbers}
 use Rattle.mqtt_world_laws.proofs.Counting.{count_append}
