@@ -1,10 +1,9 @@
 -- What a call of the engine answered is what the call is in the world, at whatever moment (MQTT 5.0, 4.1).
-use Rattle.std.proofs.Common.{◌≡◌, ℕ, min, max, length, Bool, true, false, cond, not, List, [], ◌∷◌, filter, IfOk, OnOk, refl, sym, ap, subst, ◌∙◌, arith}
+use Rattle.std.proofs.Common.{◌≡◌, ℕ, min, max, length, Bool, true, false, cond, not, List, [], ◌∷◌, filter, IfOk, OnOk, sym, ap, subst, ◌∙◌, arith}
 use Rattle.std.specs.Prelude.{Result, Ok, Err}
-use Rattle.std.specs.List.{AllByRecursion}
 use Rattle.mqtt_base.specs.declared.limits.TheConstants.{LAST_NUMBER}
 use Rattle.mqtt_records.specs.declared.keep.Keep.{Ghosts}
-use Rattle.mqtt_laws.specs.Tellings.{Telling, telling}
+use Rattle.mqtt_laws.specs.Tellings.{Telling}
 use Rattle.mqtt_opening.specs.Calling.{Tells}
 use Rattle.mqtt_broker.specs.Outcome.{Outcome}
 use Rattle.mqtt_broker.specs.TheRules.State.{Broker, MemberChoice}
@@ -12,7 +11,7 @@ use Rattle.mqtt_broker.specs.TheRules.Step.{Call, at_moment, deeds, deeds_of, do
 use Rattle.mqtt_broker.specs.TheRules.Step.{Outcome as Answer}
 use Rattle.mqtt_broker.specs.TheRules.declared.Limits.{Limits}
 use Rattle.mqtt_broker.specs.TheTables.declared.call.EngineError.{EngineError}
-use Rattle.mqtt_broker.specs.Serving.{Serving, Served, has_closed, without_closed}
+use Rattle.mqtt_broker.specs.Serving.{Serving, Served, has_closed}
 use Rattle.mqtt_framing.specs.Framers.{HeldLine}
 use Rattle.mqtt_peers.specs.declared.told.RunFault.{RunFault}
 use Rattle.mqtt_clients.specs.Ends.{Ends}

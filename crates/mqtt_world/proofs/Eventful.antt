@@ -1,20 +1,20 @@
 -- What an event of ends makes of a broker and its ends, from what its calls make of them.
-use Rattle.std.proofs.Common.{◌≡◌, ℕ, Bool, true, false, not, List, Option, Some, None, option_map, refl, sym, ap, subst, ◌∙◌, ◌⊎◌, inl, inr, true≢false}
+use Rattle.std.proofs.Common.{◌≡◌, ℕ, Bool, true, false, not, List, Some, None, refl, sym, ap, subst, ◌∙◌, inr, true≢false}
 use Rattle.mqtt_codec.specs.declared.packet.Packet.{Packet}
 use Rattle.mqtt_records.specs.declared.keep.Keep.{Ghosts}
 use Rattle.mqtt_laws.specs.Tellings.{Telling, silent, telling}
-use Rattle.mqtt_laws.specs.World.{Asking, Event, Setting, Stranger, World, ask, before, break, call_of, calls, happens, is_bad, is_bad_asking, is_end, pump, tick}
+use Rattle.mqtt_laws.specs.World.{Asking, Event, Setting, Stranger, World, ask, before, call_of, calls, happens, is_bad, is_bad_asking, is_end}
 use Rattle.mqtt_broker.specs.Serving.{Serving}
 use Rattle.mqtt_broker.specs.TheRules.Contents.{IsTaken}
 use Rattle.mqtt_broker.specs.TheRules.State.{Broker, MemberChoice}
 use Rattle.mqtt_broker.specs.TheRules.Step.{Call, Input, deeds, is_step_spent, stepped, told}
 use Rattle.mqtt_broker.specs.TheRules.declared.Limits.{Limits}
-use Rattle.mqtt_clients.specs.Ends.{Ends, in_world, reading}
+use Rattle.mqtt_clients.specs.Ends.{Ends, reading}
 use Rattle.mqtt_script_laws.specs.Scripted.{Happens, IsBadEvent, front_of, packet_of, IsRefused}
 use Rattle.mqtt_script_laws.specs.Turns.{IsPlain, IsQuiet, by_choice}
 use Rattle.mqtt_script_laws.proofs.Single.{asks_call, asks_nothing, left_by, plain_happens, quiet}
 use Rattle.mqtt_world.specs.Scenes.{Calls, IsPlayable, Played}
-use Rattle.mqtt_world.specs.Events.{Does, IsReached, SpellsAll, TakesPacket, opens_again, played, steps, world_of}
+use Rattle.mqtt_world.specs.Events.{Does, IsReached, SpellsAll, TakesPacket, played, steps, world_of}
 
 pub any_choice : MemberChoice
 any_choice group clients = clients

@@ -1,26 +1,25 @@
 -- Bytes that are given to the broker on a line that holds nothing, and begin with a packet or a fault of which nothing is left,
 -- are one call (MQTT 5.0, 2.1, 4.13).
-use Rattle.std.proofs.Common.{◌≡◌, ℕ, ◌-◌, ◌≤◌, min, length, Bool, true, false, cond, not, List, [], ◌∷◌, ◌++◌, drop, filter, filter_map, take, map, Option, Some, None, nat_eq, IfOk, OnOk, refl, sym, ap, subst, ◌∙◌, arith, inl, inr}
-use Rattle.std.specs.Prelude.{Result, Ok, Err, is_some}
+use Rattle.std.proofs.Common.{◌≡◌, ℕ, ◌-◌, ◌≤◌, min, length, Bool, true, false, cond, not, List, [], ◌∷◌, ◌++◌, drop, filter, filter_map, take, Option, Some, None, nat_eq, IfOk, OnOk, refl, sym, ap, subst, ◌∙◌, arith}
+use Rattle.std.specs.Prelude.{Result, Ok, Err}
 use Rattle.std.specs.List.{AllByRecursion}
 use Rattle.std.proofs.Math.Seq.{take-length}
-use Rattle.std.proofs.lemmas.Bool.{cases_Bool, eqb-true}
+use Rattle.std.proofs.lemmas.Bool.{eqb-true}
 use Rattle.std.proofs.lemmas.Cmp.{nat_eq_equiv}
 use Rattle.mqtt_base.specs.declared.limits.TheConstants.{LAST_NUMBER, PACKET_LIMIT}
 use Rattle.mqtt_codec.specs.declared.packet.Packet.{Packet}
 use Rattle.mqtt_codec.specs.Faults.{answer_to}
 use Rattle.mqtt_codec.specs.Packets.{HasSpelling}
 use Rattle.mqtt_packet.specs.Front.{first_of, size_at}
-use Rattle.mqtt_packet.specs.Stream.{Framing, after}
-use Rattle.mqtt_rows.specs.Order.{change_row}
+use Rattle.mqtt_packet.specs.Stream.{Framing}
 use Rattle.mqtt_records.specs.declared.keep.Keep.{Ghosts}
-use Rattle.mqtt_laws.specs.Tellings.{Telling, telling}
+use Rattle.mqtt_laws.specs.Tellings.{Telling}
 use Rattle.mqtt_laws.specs.World.{held_after, held_by}
 use Rattle.mqtt_opening.specs.Calling.{Tells}
 use Rattle.mqtt_opening.proofs.TheRules.Acts.{found_number}
 use Rattle.mqtt_broker.specs.Outcome.{Outcome}
 use Rattle.mqtt_broker.specs.Piece.{IsPieceAnswered, PieceCalled}
-use Rattle.mqtt_broker.specs.TheRules.Piece.{Front, PieceStep, Pieced, begins_connect, bytes_taken, code_of, call_by, call_on, fed, first_call, held_on, is_spent_if, pieced, stepped_if, told_if, without_by, without_first}
+use Rattle.mqtt_broker.specs.TheRules.Piece.{Front, PieceStep, Pieced, begins_connect, bytes_taken, code_of, call_by, call_on, fed, first_call, held_on, is_spent_if, stepped_if, told_if, without_by, without_first}
 use Rattle.mqtt_broker.specs.TheRules.State.{Broker, Env, Line, MemberChoice, line_at}
 use Rattle.mqtt_broker.specs.TheRules.Step.{BadInput, Call, Input, at_moment, deeds, env_of, is_step_spent, nothing_told, on_fault, outcome_of, stepped, told}
 use Rattle.mqtt_broker.specs.TheRules.Step.{Outcome as Answer}
@@ -33,7 +32,7 @@ use Rattle.mqtt_rows.specs.Order.{row_at}
 use Rattle.mqtt_peers.specs.declared.told.RunFault.{RunFault}
 use Rattle.mqtt_clients.specs.Ends.{Ends}
 use Rattle.mqtt_clients.specs.Telling.{AreSpelled, ends_told}
-use Rattle.mqtt_world.specs.Scenes.{Calls, HoldNone, HoldsNone, IsPlayable, Played}
+use Rattle.mqtt_world.specs.Scenes.{Calls, HoldNone, IsPlayable, Played}
 use Rattle.mqtt_world.proofs.Answered.{deeds_capped, kept_none, none_held, spent_capped, stepped_capped}
 
 -- ---- what a line holds

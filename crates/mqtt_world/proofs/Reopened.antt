@@ -13,7 +13,7 @@ use Rattle.mqtt_broker.specs.TheRules.State.{Broker, MemberChoice, capped}
 use Rattle.mqtt_broker.specs.TheRules.Step.{done, env_of, is_opening_spent, is_spent, opened, opening, rows_written, unopened}
 use Rattle.mqtt_broker.specs.TheRules.declared.Limits.{Limits}
 use Rattle.mqtt_clients.specs.Ends.{Ends}
-use Rattle.mqtt_world.specs.Openings.{AlwaysSound, Begins, Opens, Reopens, ends_restarted, no_ends}
+use Rattle.mqtt_world.specs.Openings.{Begins, Opens, Reopens, ends_restarted, no_ends}
 use Rattle.mqtt_world.specs.Scenes.{HoldNone, IsPlayable, Played}
 use Rattle.mqtt_world.proofs.Answered.{min_twice}
 
