@@ -21,7 +21,6 @@ fn scripts() -> &'static [(&'static str, usize)] {
         ("publisher p1;giveup p1", 1),
         ("publisher p1;break p1", 1),
         ("receiver r1 1;publish r1 0 0 a -", 1),
-        ("publisher p1;publish p1 0 0 a/+ -", 1),
         ("publisher p1;subscribe p1 0 0 0 0 0 a", 1),
         ("receiver r1 1;subscribe r1 0 0 0 0 0 a", 1),
         ("receiver r1 1;connect r1 0;subscribe r1 0 0 0 0 0 a", 2),

@@ -63,15 +63,20 @@ fn sight_behind(
 fn a_late_release_completes_its_message_once(rt: HostRuntime) -> Result<(), Fail> {
     for (script, text) in [(OLD_FIRST, OLD_FIRST_TEXT), (OLD_LATE, OLD_LATE_TEXT)] {
         let hasher = RandomState::new(&rt)?;
-        let (is_right, sight) =
-            sight_behind(rt.alloc(), hasher, (GIVEN_UP, GIVEN_UP_TEXT), (script, text))?;
+        let (is_right, sight) = sight_behind(
+            rt.alloc(),
+            hasher,
+            (GIVEN_UP, GIVEN_UP_TEXT),
+            (script, text),
+        )?;
         assert!(rt; is_right, "{script}");
         assert!(rt;
-            sight == Sight {
-                messages: (Some(1), Some(1)),
-                copies: (None, None, None),
-                broker: (Some(1), Some(1)),
-            },
+            sight
+                == Sight {
+                    messages: (Some(1), Some(1)),
+                    copies: (None, None, None),
+                    broker: (Some(1), Some(1)),
+                },
             "{sight:?}"
         );
     }
@@ -79,7 +84,8 @@ fn a_late_release_completes_its_message_once(rt: HostRuntime) -> Result<(), Fail
 }
 
 /// A receiver that subscribed, and a publisher whose message of QoS 2 was accepted for it.
-const ACCEPTED: &str = "receiver r1 10;publisher p1;connect r1 0;tobroker r1;toend r1;subscribe r1 2 0 0 0 0 a/b;\
+const ACCEPTED: &str =
+    "receiver r1 10;publisher p1;connect r1 0;tobroker r1;toend r1;subscribe r1 2 0 0 0 0 a/b;\
     tobroker r1;toend r1;connect p1 0;tobroker p1;toend p1;publish p1 2 0 a/b 6869;tobroker p1";
 
 /// What it tells.
@@ -88,7 +94,8 @@ const ACCEPTED_TEXT: &str =
     9 connect\n10 tobroker out=1\n11 toend\n12 publish\n13 tobroker accepted=1 entered=1>r1 out=1\n";
 
 /// The broker stops when its copy was to go out, and the receiver comes again (4.4).
-const STOPPED: &str = "stopafter pump r1;connect r1 0;tobroker r1;toend r1;pump r1;toend r1;tobroker r1;toend r1;tobroker r1";
+const STOPPED: &str =
+    "stopafter pump r1;connect r1 0;tobroker r1;toend r1;pump r1;toend r1;tobroker r1;toend r1;tobroker r1";
 
 /// What that tells.
 const STOPPED_TEXT: &str =
@@ -106,11 +113,45 @@ fn a_copy_is_handed_over_once_though_the_broker_stops(rt: HostRuntime) -> Result
     )?;
     assert!(rt; is_right, "what it tells");
     assert!(rt;
-        sight == Sight {
-            messages: (Some(1), Some(0)),
-            copies: (Some(1), Some(1), Some(0)),
-            broker: (Some(1), Some(2)),
-        },
+        sight
+            == Sight {
+                messages: (Some(1), Some(0)),
+                copies: (Some(1), Some(1), Some(0)),
+                broker: (Some(1), Some(2)),
+            },
+        "{sight:?}"
+    );
+    Ok(())
+}
+
+/// A stranger sends CONNECT and PUBLISH in pieces, and a PINGREQ behind whose answer the broker stops; a stranger's first bytes
+/// are lost.
+const STRANGERS: &str =
+    "stranger s 100e00044d515454050200000000017332090003;stranger s 612f6200010068;\
+    stopafter stranger s c000;stranger s c000;stopbefore stranger t 100e00044d5154540502000000000174;stranger t c000";
+
+/// What that tells: each packet is answered, and no line is left behind a stop (4.1).
+const STRANGERS_TEXT: &str =
+    "1 stranger out=1\n2 stranger accepted=2 entered=2>r1 out=1\n3 stopafter\n4 stranger\n\
+    5 stopbefore\n6 stranger\n";
+
+#[test]
+fn strangers_are_answered_packet_by_packet(rt: HostRuntime) -> Result<(), Fail> {
+    let hasher = RandomState::new(&rt)?;
+    let (is_right, sight) = sight_behind(
+        rt.alloc(),
+        hasher,
+        (ACCEPTED, ACCEPTED_TEXT),
+        (STRANGERS, STRANGERS_TEXT),
+    )?;
+    assert!(rt; is_right, "what it tells");
+    assert!(rt;
+        sight
+            == Sight {
+                messages: (Some(1), Some(0)),
+                copies: (Some(0), None, Some(2)),
+                broker: (Some(2), Some(2)),
+            },
         "{sight:?}"
     );
     Ok(())

@@ -33,11 +33,7 @@ fn events_of(alloc: Global, script: &str) -> Result<Vec<Event>, AllocError> {
 }
 
 /// Why the events of a script do not all happen.
-pub(crate) fn run(
-    alloc: Global,
-    world: &mut World<MemKeep>,
-    script: &str,
-) -> Result<(), RunFault> {
+pub(crate) fn run(alloc: Global, world: &mut World<MemKeep>, script: &str) -> Result<(), RunFault> {
     let events = events_of(alloc, script)?;
     let answer = world.run(&events);
     drop(events);

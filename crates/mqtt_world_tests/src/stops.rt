@@ -8,7 +8,8 @@ use std::hash::RandomState;
 use std::test::Fail;
 
 /// A receiver that subscribed, and a publisher that is to send a message of QoS 2.
-const SETTING: &str = "receiver r1 10;publisher p1;connect r1 0;tobroker r1;toend r1;subscribe r1 2 0 0 0 0 a/b;\
+const SETTING: &str =
+    "receiver r1 10;publisher p1;connect r1 0;tobroker r1;toend r1;subscribe r1 2 0 0 0 0 a/b;\
     tobroker r1;toend r1;connect p1 0;tobroker p1;toend p1;publish p1 2 0 a/b 6869";
 
 /// The message is sent, and its copy handed over.
@@ -86,11 +87,12 @@ fn wherever_the_broker_stops_a_message_is_handed_over_once(rt: HostRuntime) -> R
         for word in ["stopbefore", "stopafter"] {
             let sight = sight_behind(rt.alloc(), RandomState::new(&rt)?, word, place)?;
             assert!(rt;
-                sight == Sight {
-                    messages: (Some(1), Some(1)),
-                    copies: (Some(1), Some(1), Some(0)),
-                    broker: (Some(1), Some(2)),
-                },
+                sight
+                    == Sight {
+                        messages: (Some(1), Some(1)),
+                        copies: (Some(1), Some(1), Some(0)),
+                        broker: (Some(1), Some(2)),
+                    },
                 "{word} {event}: {sight:?}"
             );
         }
