@@ -1,5 +1,5 @@
 -- What the bytes of a stranger make of a world, piece by piece (MQTT 5.0, 2.1, 4.1, 4.13).
-use Rattle.std.proofs.Common.{◌≡◌, ◌+◌, ◌<◌, ℕ, zero, suc, Bool, true, false, cond, List, [], ◌∷◌, ◌++◌, take, drop, Option, Some, None, refl, sym, ap, subst, ◌∙◌, ◌⊎◌, inl, inr, arith, append_assoc, IfOk, OnOk}
+use Rattle.std.proofs.Common.{◌≡◌, ◌+◌, ◌<◌, ℕ, zero, suc, Bool, true, false, cond, List, [], ◌∷◌, ◌++◌, length, take, drop, Option, Some, None, refl, sym, ap, subst, ◌∙◌, ◌⊎◌, inl, inr, arith, append_assoc, IfOk, OnOk}
 use Rattle.std.specs.Prelude.{Result, Ok, Err, is_some}
 use Rattle.std.specs.List.{AllByRecursion}
 use Rattle.std.proofs.lemmas.List.{append-nil, take-append-drop}
@@ -131,7 +131,7 @@ module _ {K : Type 0} (g : Ghosts K) (now : ℕ) where
       let a = some_asked line bytes each left some in
       record {
         t = more;
-        asks = subst (λ (o : Option Call). Asks g now o old more new) (sym a.1.0) (asks_call a.0 old new more a.1.1 (called a.0 a.1.0));
+        asks = subst (λ (o : Option Call). Asks g now o old more new) (sym a.1) (asks_call a.0 old new more a.2 (called a.0 a.1));
         told = told;
       }
 
