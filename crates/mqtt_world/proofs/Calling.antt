@@ -28,8 +28,7 @@ use Rattle.mqtt_script_laws.proofs.Pieces.{last_piece, piece_and_more, stops_aft
 use Rattle.mqtt_strangers.specs.Fronts.{AsksFor, IsNextPiece, NamesThese, is_end_among}
 use Rattle.mqtt_strangers.specs.Strangers.{Comes, held_of, in_world as among_strangers, line_of, named, newcomer}
 use Rattle.mqtt_strangers.proofs.Steps.{first_good, good_first, good_rest}
-use Rattle.mqtt_broker.specs.Serving.{Serving}
-use Rattle.mqtt_world.specs.Events.{IsDone, IsReached, SpellsAll, TakesPacket, played, world_of}
+use Rattle.mqtt_world.specs.Events.{IsDone, IsReached, SpellsAll, TakesPacket, world_of}
 use Rattle.mqtt_world.specs.Openings.{AlwaysSound}
 use Rattle.mqtt_world.specs.Scenes.{Calls, IsPlayable, Played}
 use Rattle.mqtt_world.specs.Stages.{IsStanding, Plays, Staged, broker_of, world_at}
@@ -148,21 +147,14 @@ some_of bytes empty is some none = true≢false (sym (ap (λ (xs : List ℕ). eq
 
 -- ---- whom CONNECTs name
 
-any_named : {K : Type 0} (now : ℕ) (name bytes : List ℕ) (names seen : List (List ℕ)) (bad : Bool) (s : Played K) (ss : List Stranger)
-    → NamesThese (held_of name ss ++ bytes) names → seen ≡ names → ((w : World) → bad ≡ is_end_among seen (among_ends s.ends w))
-    → bad ≡ is_bad_asking (stranger name bytes) (world_of now ss s)
-any_named now name bytes names seen bad s ss these same is =
-    let w = world_of now ss s in
-    is w ∙ (ap (λ (xs : List (List ℕ)). is_end_among xs w) same ∙ sym (these w))
-
 -- of a stage that is taken apart
-pub any_named_in : {K : Type 0} (E : Serving K) (O : Ends) (P : Played K) (ss : List Stranger) (now : ℕ) (limits : Limits) (s : Staged K) (name bytes : List ℕ) (names seen : List (List ℕ)) (bad : Bool)
-    → played E O ≡ P → staged P ss now limits ≡ s → NamesThese (held_of name ss ++ bytes) names → seen ≡ names
-    → ((w : World) → bad ≡ is_end_among seen (among_ends O w)) → bad ≡ is_bad_asking (stranger name bytes) (world_at s)
-any_named_in E O P ss now limits s name bytes names seen bad inner outer these same is =
-    subst (λ (x : Staged _). bad ≡ is_bad_asking (stranger name bytes) (world_at x)) outer
-    (subst (λ (p : Played _). bad ≡ is_bad_asking (stranger name bytes) (world_of now ss p)) inner
-    (any_named now name bytes names seen bad (played E O) ss these same is))
+pub any_named : {K : Type 0} (P : Played K) (ss : List Stranger) (now : ℕ) (limits : Limits) (s : Staged K) (name bytes : List ℕ) (names seen : List (List ℕ)) (bad : Bool)
+    → staged P ss now limits ≡ s → NamesThese (held_of name ss ++ bytes) names → seen ≡ names
+    → ((w : World) → bad ≡ is_end_among seen (among_ends P.ends w)) → bad ≡ is_bad_asking (stranger name bytes) (world_at s)
+any_named P ss now limits s name bytes names seen bad view these same is =
+    let w = world_of now ss P in
+    subst (λ (x : Staged _). bad ≡ is_bad_asking (stranger name bytes) (world_at x)) view
+    (is w ∙ (ap (λ (xs : List (List ℕ)). is_end_among xs w) same ∙ sym (these w)))
 
 -- ---- who is there
 
