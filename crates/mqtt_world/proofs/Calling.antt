@@ -1,5 +1,5 @@
 -- What the bytes of a stranger make of a world, piece by piece (MQTT 5.0, 2.1, 4.1, 4.13).
-use Rattle.std.proofs.Common.{◌≡◌, ◌+◌, ◌<◌, ℕ, zero, suc, Bool, true, false, cond, eqb, List, [], ◌∷◌, ◌++◌, length, take, drop, Option, Some, None, refl, sym, ap, subst, ◌∙◌, ◌⊎◌, inl, inr, true≢false, arith, append_assoc, IfOk, OnOk}
+use Rattle.std.proofs.Common.{◌≡◌, ◌+◌, ◌<◌, ℕ, zero, suc, Bool, true, false, eqb, List, [], ◌∷◌, ◌++◌, length, take, drop, Option, Some, None, refl, sym, ap, subst, ◌∙◌, ◌⊎◌, inl, inr, true≢false, arith, append_assoc, IfOk, OnOk}
 use Rattle.std.specs.Prelude.{Result, Ok, Err, is_some}
 use Rattle.std.specs.List.{AllByRecursion}
 use Rattle.std.proofs.lemmas.Bool.{eqb-true}
@@ -10,30 +10,26 @@ use Rattle.mqtt_records.specs.declared.keep.Keep.{Ghosts}
 use Rattle.mqtt_framing.specs.Framers.{AreBytes}
 use Rattle.mqtt_framing.proofs.Held.{first_taken, nothing_asked}
 use Rattle.mqtt_laws.specs.Tellings.{Telling, silent}
-use Rattle.mqtt_laws.specs.World.{Asking, Event, Setting, Stranger, World, ask, bytes_held, call_on, calls, calls_if, happens, held_after, held_by, is_bad, is_bad_asking, next_line, step, stop_after, stop_before, stranger, stranger_named}
+use Rattle.mqtt_laws.specs.World.{Event, Setting, Stranger, World, ask, bytes_held, call_on, calls, calls_if, held_after, held_by, is_bad, is_bad_asking, next_line, stranger, stranger_named}
 use Rattle.mqtt_broker.specs.TheRules.Laws.{AreWithin}
 use Rattle.mqtt_broker.specs.TheRules.Piece.{Front, begins_connect, call_by, code_of, first_call}
 use Rattle.mqtt_broker.specs.TheRules.State.{MemberChoice}
 use Rattle.mqtt_broker.specs.TheRules.Step.{BadInput, Call, Input, NewLine}
 use Rattle.mqtt_broker.specs.TheRules.declared.Limits.{Limits}
 use Rattle.mqtt_broker.specs.TheRules.declared.Report.{Report}
-use Rattle.mqtt_clients.specs.Ends.{Ends, in_world as among_ends}
+use Rattle.mqtt_clients.specs.Ends.{in_world as among_ends}
 use Rattle.mqtt_unrolled_laws.specs.Unrolled.{AreAlike, AreAllAlike, HoldNoPacket, HoldsThese, IsDecided, IsFound, IsWhole, bytes_come}
 use Rattle.mqtt_unrolled_laws.proofs.Answered.{not_both, nothing_first}
 use Rattle.mqtt_unrolled_laws.proofs.Strangers.{find_one_more, holds_one_more, none_holds}
-use Rattle.mqtt_script_laws.specs.Scripted.{Happens}
-use Rattle.mqtt_script_laws.specs.Turns.{IsReopened, IsTurn, both_tell, by_choice, welcomed}
-use Rattle.mqtt_script_laws.proofs.Comings.{piece_first, piece_there, stops_before_first, stops_before_there}
-use Rattle.mqtt_script_laws.proofs.Pieces.{last_piece, piece_and_more, stops_after_piece}
+use Rattle.mqtt_script_laws.specs.Turns.{IsTurn, both_tell, by_choice, welcomed}
+use Rattle.mqtt_script_laws.proofs.Comings.{piece_first, piece_there}
 use Rattle.mqtt_strangers.specs.Fronts.{AsksFor, IsNextPiece, NamesThese, is_end_among}
 use Rattle.mqtt_strangers.specs.Strangers.{Comes, held_of, in_world as among_strangers, line_of, named, newcomer}
-use Rattle.mqtt_strangers.proofs.Steps.{first_good, good_first, good_rest}
-use Rattle.mqtt_world.specs.Events.{IsDone, IsReached, SpellsAll, TakesPacket, world_of}
-use Rattle.mqtt_world.specs.Openings.{AlwaysSound}
+use Rattle.mqtt_strangers.proofs.Steps.{first_good, good_first}
+use Rattle.mqtt_world.specs.Events.{IsReached, SpellsAll, TakesPacket, world_of}
 use Rattle.mqtt_world.specs.Scenes.{Calls, IsPlayable, Played}
-use Rattle.mqtt_world.specs.Stages.{IsStanding, Plays, Staged, broker_of, world_at}
-use Rattle.mqtt_world.specs.Stopping.{stop_at}
-use Rattle.mqtt_world.specs.Visits.{Asks, Hears, MayStopAt, StopsAt, TakesPiece, TellsPiece, Welcomes}
+use Rattle.mqtt_world.specs.Stages.{IsStanding, Staged, broker_of, world_at}
+use Rattle.mqtt_world.specs.Visits.{Asks, Hears, TakesPiece, TellsPiece, Welcomes}
 use Rattle.mqtt_world.proofs.Eventful.{reached_after, world_called}
 
 any_choice : MemberChoice

@@ -12,7 +12,7 @@ use Rattle.mqtt_script_laws.specs.Turns.{IsReopened, IsTurn, both_tell, by_choic
 use Rattle.mqtt_script_laws.proofs.Comings.{stops_before_first, stops_before_there}
 use Rattle.mqtt_script_laws.proofs.Pieces.{last_piece, piece_and_more, stops_after_piece}
 use Rattle.mqtt_strangers.specs.Strangers.{named, newcomer}
-use Rattle.mqtt_strangers.proofs.Steps.{good_first, good_rest}
+use Rattle.mqtt_strangers.proofs.Steps.{good_rest}
 use Rattle.mqtt_world.specs.Events.{IsReached, SpellsAll, world_of}
 use Rattle.mqtt_world.specs.Scenes.{Played}
 use Rattle.mqtt_world.specs.Stages.{IsStanding, Plays, Restages, Staged, broker_of, world_at}

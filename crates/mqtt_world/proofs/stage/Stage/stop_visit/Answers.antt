@@ -3,7 +3,7 @@ use Rattle.std.proofs.Common.{Bool, subst}
 use Rattle.mqtt_laws.specs.World.{stranger}
 use Rattle.mqtt_world.specs.Stopping.{stop_at}
 use Rattle.mqtt_world.specs.Visits.{MayStopAt}
-use Rattle.mqtt_world.proofs.Visited.{all_stop, stop_refused}
+use Rattle.mqtt_world.proofs.Visited.{all_stop}
 use Rattle.mqtt_world.proofs.stage.Stage.stop_visit.Goals as goal
 
 pub returns-in-Ok-true : goal.returns-in-Ok-true

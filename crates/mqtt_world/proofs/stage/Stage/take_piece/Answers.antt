@@ -1,5 +1,5 @@
 -- By what is whole of what came.
-use Rattle.std.proofs.Common.{◌≡◌, ℕ, List, Option, None, Some, option_map, refl, rules, subst, sym, ◌∙◌}
+use Rattle.std.proofs.Common.{◌≡◌, None, Some, option_map, refl, rules, subst}
 use Rattle.mqtt_strangers.specs.Strangers.{Comes}
 use Rattle.mqtt_world.specs.Events.{world_of}
 use Rattle.mqtt_world.proofs.Calling.{piece_given, piece_held}
