@@ -1,7 +1,8 @@
 -- What the bytes of a stranger make of a world, piece by piece (MQTT 5.0, 2.1, 4.1, 4.13).
-use Rattle.std.proofs.Common.{◌≡◌, ◌+◌, ◌<◌, ℕ, zero, suc, Bool, true, false, cond, List, [], ◌∷◌, ◌++◌, take, drop, Option, Some, None, refl, sym, ap, subst, ◌∙◌, ◌⊎◌, inl, inr, arith, append_assoc, IfOk, OnOk}
+use Rattle.std.proofs.Common.{◌≡◌, ◌+◌, ◌<◌, ℕ, zero, suc, Bool, true, false, eqb, List, [], ◌∷◌, ◌++◌, length, take, drop, Option, Some, None, refl, sym, ap, subst, ◌∙◌, ◌⊎◌, inl, inr, true≢false, arith, append_assoc, IfOk, OnOk}
 use Rattle.std.specs.Prelude.{Result, Ok, Err, is_some}
 use Rattle.std.specs.List.{AllByRecursion}
+use Rattle.std.proofs.lemmas.Bool.{eqb-true}
 use Rattle.std.proofs.lemmas.List.{append-nil, take-append-drop}
 use Rattle.mqtt_codec.specs.Faults.{answer_to}
 use Rattle.mqtt_packet.specs.Front.{first_of}
@@ -9,30 +10,26 @@ use Rattle.mqtt_records.specs.declared.keep.Keep.{Ghosts}
 use Rattle.mqtt_framing.specs.Framers.{AreBytes}
 use Rattle.mqtt_framing.proofs.Held.{first_taken, nothing_asked}
 use Rattle.mqtt_laws.specs.Tellings.{Telling, silent}
-use Rattle.mqtt_laws.specs.World.{Asking, Event, Setting, Stranger, World, ask, bytes_held, call_on, calls, calls_if, happens, held_after, held_by, is_bad, is_bad_asking, next_line, step, stop_after, stop_before, stranger, stranger_named}
+use Rattle.mqtt_laws.specs.World.{Event, Setting, Stranger, World, ask, bytes_held, call_on, calls, calls_if, held_after, held_by, is_bad, is_bad_asking, next_line, stranger, stranger_named}
 use Rattle.mqtt_broker.specs.TheRules.Laws.{AreWithin}
 use Rattle.mqtt_broker.specs.TheRules.Piece.{Front, begins_connect, call_by, code_of, first_call}
 use Rattle.mqtt_broker.specs.TheRules.State.{MemberChoice}
 use Rattle.mqtt_broker.specs.TheRules.Step.{BadInput, Call, Input, NewLine}
 use Rattle.mqtt_broker.specs.TheRules.declared.Limits.{Limits}
 use Rattle.mqtt_broker.specs.TheRules.declared.Report.{Report}
-use Rattle.mqtt_clients.specs.Ends.{Ends, in_world as among_ends}
-use Rattle.mqtt_unrolled_laws.specs.Unrolled.{AreAlike, HoldsThese, IsDecided, IsFound, IsWhole, bytes_come}
+use Rattle.mqtt_clients.specs.Ends.{in_world as among_ends}
+use Rattle.mqtt_unrolled_laws.specs.Unrolled.{AreAlike, AreAllAlike, HoldNoPacket, HoldsThese, IsDecided, IsFound, IsWhole, bytes_come}
 use Rattle.mqtt_unrolled_laws.proofs.Answered.{not_both, nothing_first}
 use Rattle.mqtt_unrolled_laws.proofs.Strangers.{find_one_more, holds_one_more, none_holds}
-use Rattle.mqtt_script_laws.specs.Scripted.{Happens}
-use Rattle.mqtt_script_laws.specs.Turns.{IsReopened, IsTurn, both_tell, by_choice, welcomed}
-use Rattle.mqtt_script_laws.proofs.Comings.{piece_first, piece_there, stops_before_first, stops_before_there}
-use Rattle.mqtt_script_laws.proofs.Pieces.{last_piece, piece_and_more, stops_after_piece}
+use Rattle.mqtt_script_laws.specs.Turns.{IsTurn, both_tell, by_choice, welcomed}
+use Rattle.mqtt_script_laws.proofs.Comings.{piece_first, piece_there}
 use Rattle.mqtt_strangers.specs.Fronts.{AsksFor, IsNextPiece, NamesThese, is_end_among}
-use Rattle.mqtt_strangers.specs.Strangers.{Comes, held_of, line_of, named, newcomer}
-use Rattle.mqtt_strangers.proofs.Steps.{first_good, good_first, good_rest}
-use Rattle.mqtt_world.specs.Events.{IsDone, IsReached, SpellsAll, TakesPacket, world_of}
-use Rattle.mqtt_world.specs.Openings.{AlwaysSound}
+use Rattle.mqtt_strangers.specs.Strangers.{Comes, held_of, in_world as among_strangers, line_of, named, newcomer}
+use Rattle.mqtt_strangers.proofs.Steps.{first_good, good_first}
+use Rattle.mqtt_world.specs.Events.{IsReached, SpellsAll, TakesPacket, world_of}
 use Rattle.mqtt_world.specs.Scenes.{Calls, IsPlayable, Played}
-use Rattle.mqtt_world.specs.Stages.{IsStanding, Plays, Staged, broker_of, world_at}
-use Rattle.mqtt_world.specs.Stopping.{stop_at}
-use Rattle.mqtt_world.specs.Visits.{Asks, Hears, MayStopAt, StopsAt, TakesPiece, TellsPiece, Welcomes}
+use Rattle.mqtt_world.specs.Stages.{IsStanding, Staged, broker_of, world_at}
+use Rattle.mqtt_world.specs.Visits.{Asks, Hears, TakesPiece, TellsPiece, Welcomes}
 use Rattle.mqtt_world.proofs.Eventful.{reached_after, world_called}
 
 any_choice : MemberChoice
@@ -131,24 +128,54 @@ module _ {K : Type 0} (g : Ghosts K) (now : ℕ) where
       let a = some_asked line bytes each left some in
       record {
         t = more;
-        asks = subst (λ (o : Option Call). Asks g now o old more new) (sym a.1.0) (asks_call a.0 old new more a.1.1 (called a.0 a.1.0));
+        asks = subst (λ (o : Option Call). Asks g now o old more new) (sym a.1) (asks_call a.0 old new more a.2 (called a.0 a.1));
         told = told;
       }
 
+-- ---- bytes, of which there are some or none
+
+pub none_of : (bytes : List ℕ) (empty : Bool) → empty ≡ eqb (length bytes) 0 → empty ≡ true → bytes ≡ []
+none_of [] empty is none = refl
+none_of (x ∷ xs) empty is none = let clash : suc (length xs) ≡ 0 = eqb-true (suc (length xs)) 0 (sym is ∙ none) in absurd (omega arith)
+
+pub some_of : (bytes : List ℕ) (empty : Bool) → empty ≡ eqb (length bytes) 0 → empty ≡ false → bytes ≡ [] → ⊥
+some_of bytes empty is some none = true≢false (sym (ap (λ (xs : List ℕ). eqb (length xs) 0) none) ∙ (sym is ∙ some))
+
 -- ---- whom CONNECTs name
 
-pub any_named : {K : Type 0} (now : ℕ) (name bytes : List ℕ) (names seen : List (List ℕ)) (bad : Bool) (s : Played K) (ss : List Stranger)
-    → NamesThese (held_of name ss ++ bytes) names → seen ≡ names → ((w : World) → bad ≡ is_end_among seen (among_ends s.ends w))
-    → bad ≡ is_bad_asking (stranger name bytes) (world_of now ss s)
-any_named now name bytes names seen bad s ss these same is =
-    let w = world_of now ss s in
-    is w ∙ (ap (λ (xs : List (List ℕ)). is_end_among xs w) same ∙ sym (these w))
+-- of a stage that is taken apart
+pub any_named : {K : Type 0} (P : Played K) (ss : List Stranger) (now : ℕ) (limits : Limits) (s : Staged K) (name bytes : List ℕ) (names seen : List (List ℕ)) (bad : Bool)
+    → staged P ss now limits ≡ s → NamesThese (held_of name ss ++ bytes) names → seen ≡ names
+    → ((w : World) → bad ≡ is_end_among seen (among_ends P.ends w)) → bad ≡ is_bad_asking (stranger name bytes) (world_at s)
+any_named P ss now limits s name bytes names seen bad view these same is =
+    let w = world_of now ss P in
+    subst (λ (x : Staged _). bad ≡ is_bad_asking (stranger name bytes) (world_at x)) view
+    (is w ∙ (ap (λ (xs : List (List ℕ)). is_end_among xs w) same ∙ sym (these w)))
 
--- ---- a stranger is welcomed
+-- ---- who is there
 
 pub is_none : {X : Type 0} (o : Option X) → is_some o ≡ false → o ≡ None
 is_none None h = refl
 is_none (Some x) h = let clash : true ≡ false = h in absurd cc
+
+-- what is seen of the strangers of a stage that is taken apart
+module _ {K : Type 0} (P : Played K) (ss : List Stranger) (now : ℕ) (limits : Limits) (s : Staged K) (view : staged P ss now limits ≡ s) (name text : List ℕ) (same : text ≡ name) where
+  seen_in : (has : Bool) → ((w : World) → has ≡ is_some (stranger_named text (among_strangers ss w))) → is_some (named name ss) ≡ has
+  seen_in has found = ap (λ (n : List ℕ). is_some (named n ss)) (sym same) ∙ sym (found (world_of now ss P))
+
+  pub there_in : (has : Bool) → ((w : World) → has ≡ is_some (stranger_named text (among_strangers ss w))) → has ≡ true → is_some (named name s.strangers) ≡ true
+  there_in has found is = subst (λ (x : Staged K). is_some (named name x.strangers) ≡ true) view (seen_in has found ∙ is)
+
+  pub none_in : (has : Bool) → ((w : World) → has ≡ is_some (stranger_named text (among_strangers ss w))) → has ≡ false → named name ss ≡ None
+  none_in has found is = is_none (named name ss) (seen_in has found ∙ is)
+
+  pub alike_in : ((w : World) → AreAllAlike (among_strangers ss w)) → AreAlike name (world_at s)
+  alike_in all = subst (λ (x : Staged K). AreAlike name (world_at x)) view (all (world_of now ss P) name)
+
+  pub waits_in : ((w : World) → HoldNoPacket (among_strangers ss w)) → first_of (held_of name s.strangers) ≡ Ok None
+  waits_in none = subst (λ (x : Staged K). first_of (held_of name x.strangers) ≡ Ok None) view (none (world_of now ss P) name)
+
+-- ---- a stranger is welcomed
 
 module _ {K : Type 0} (g : Ghosts K) (name : List ℕ) where
   pub welcome_again : (s : Staged K) → IsStanding g s → is_some (named name s.strangers) ≡ true → AreAlike name (world_at s)
@@ -209,15 +236,17 @@ module _ {K : Type 0} (g : Ghosts K) (name : List ℕ) where
             ap (λ (v : World). record v { strangers = all }) (world_called g now NewLine P N silent ss reached tt c spells)
             ∙ ap (λ (l : Option ℕ). record (calls set NewLine w) { strangers = ss ++ newcomer name l ∷ [] }) line_is
 
-  pub welcome_first : (now : ℕ) (limits : Limits) (s : Staged K) (P N : Played K) (ss : List Stranger) (line : Option ℕ) → staged P ss now limits ≡ s
+  pub welcome_first : (now : ℕ) (limits : Limits) (s : Staged K) (P N : Played K) (ss all : List Stranger) (copy : List ℕ) (line : Option ℕ) → staged P ss now limits ≡ s
       → IsStanding g s → named name ss ≡ None → AreAlike name (world_of now ss P) → line ≡ next_line P.engine.running.broker
-      → Calls g now NewLine P silent N → Welcomes g name s (staged N (ss ++ newcomer name line ∷ []) now limits)
-  welcome_first now limits s P N ss line view standing none alike line_is c =
+      → Calls g now NewLine P silent N → copy ≡ name → all ≡ ss ++ newcomer copy line ∷ [] → Welcomes g name s (staged N all now limits)
+  welcome_first now limits s P N ss all copy line view standing none alike line_is c same is =
       let at : IsStanding g (staged P ss now limits) = subst (IsStanding g) (sym view) standing in
       let within : AreWithin P.engine.running.limits = subst AreWithin at.limits at.within in
-      subst (λ (x : Staged K). Welcomes g name x (staged N (ss ++ newcomer name line ∷ []) now limits)) view
+      let is_all : all ≡ ss ++ newcomer name line ∷ [] = is ∙ ap (λ (n : List ℕ). ss ++ newcomer n line ∷ []) same in
+      subst (λ (x : Staged K). Welcomes g name x (staged N all now limits)) view
+      (subst (λ (xs : List Stranger). Welcomes g name (staged P ss now limits) (staged N xs now limits)) (sym is_all)
       (subst (λ (l : Limits). Welcomes g name (staged P ss now l) (staged N (ss ++ newcomer name line ∷ []) now l)) (sym at.limits)
-      (first_welcomed now P N ss line at.playable within none alike line_is c))
+      (first_welcomed now P N ss line at.playable within none alike line_is c)))
 
 -- ---- a piece is one turn
 

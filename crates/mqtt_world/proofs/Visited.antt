@@ -1,7 +1,7 @@
 -- The bytes of a stranger, from their first piece to their last, and stops at them (MQTT 5.0, 2.1, 4.1).
 use Rattle.std.proofs.Common.{◌≡◌, ℕ, Bool, true, false, cond, List, [], ◌∷◌, ◌++◌, take, drop, Option, Some, None, refl, sym, ap, subst, ◌∙◌, ◌⊎◌, inl, inr}
 use Rattle.std.proofs.lemmas.List.{take-append-drop}
-use Rattle.std.specs.Prelude.{is_some}
+use Rattle.std.specs.Prelude.{IfOk, Result, is_some}
 use Rattle.mqtt_records.specs.declared.keep.Keep.{Ghosts}
 use Rattle.mqtt_laws.specs.Tellings.{Telling, silent}
 use Rattle.mqtt_laws.specs.World.{Event, Setting, Stranger, World, happens, is_bad, is_bad_asking, step, stop_after, stop_before, stranger}
@@ -12,12 +12,13 @@ use Rattle.mqtt_script_laws.specs.Turns.{IsReopened, IsTurn, both_tell, by_choic
 use Rattle.mqtt_script_laws.proofs.Comings.{stops_before_first, stops_before_there}
 use Rattle.mqtt_script_laws.proofs.Pieces.{last_piece, piece_and_more, stops_after_piece}
 use Rattle.mqtt_strangers.specs.Strangers.{named, newcomer}
-use Rattle.mqtt_strangers.proofs.Steps.{good_first, good_rest}
+use Rattle.mqtt_strangers.proofs.Steps.{good_rest}
 use Rattle.mqtt_world.specs.Events.{IsReached, SpellsAll, world_of}
 use Rattle.mqtt_world.specs.Scenes.{Played}
-use Rattle.mqtt_world.specs.Stages.{IsStanding, Plays, Staged, broker_of, world_at}
-use Rattle.mqtt_world.specs.Visits.{StopsAt, TakesPiece, TellsPiece}
+use Rattle.mqtt_world.specs.Stages.{IsStanding, Plays, Restages, Staged, broker_of, world_at}
+use Rattle.mqtt_world.specs.Visits.{MayStopAt, StopsAt, TakesPiece, TellsPiece}
 use Rattle.mqtt_world.proofs.Calling.{all_taken, comes_in, decided, none_tells, piece_good, staged, tells_after}
+use Rattle.mqtt_world.proofs.Staged.{ok_as, reached_at as reached_again, reopened_at, standing_again}
 
 -- so many pieces have come, and the rest comes where they led
 pub record ComesOn {K : Type 0} (g : Ghosts K) (name bytes : List ℕ) (old : Staged K) (told : Telling) (mid : Staged K) (rest : List ℕ) : Type 0 where
@@ -169,17 +170,52 @@ module _ {K : Type 0} (g : Ghosts K) (name : List ℕ) where
     done = λ spells reached after opens. stops_before_there s.limits name bytes (world_at s) after there good opens;
   }
 
-  pub named_first : (s : Staged K) (P : Played K) (ss : List Stranger) (now : ℕ) (limits : Limits) → staged P ss now limits ≡ s → IsStanding g s
-      → named name ss ≡ None → (bytes : List ℕ) → is_bad_asking (stranger name bytes) (world_at s) ≡ false
-      → StopsAt g (stop_before (stranger name bytes)) s (staged P (ss ++ newcomer name None ∷ []) now limits)
-  named_first s P ss now limits view standing none bytes good =
+  pub named_first : (s : Staged K) (P : Played K) (ss all : List Stranger) (copy : List ℕ) (now : ℕ) (limits : Limits) → staged P ss now limits ≡ s → IsStanding g s
+      → named name ss ≡ None → copy ≡ name → all ≡ ss ++ newcomer copy None ∷ [] → (bytes : List ℕ) → is_bad_asking (stranger name bytes) (world_at s) ≡ false
+      → StopsAt g (stop_before (stranger name bytes)) s (staged P all now limits)
+  named_first s P ss all copy now limits view standing none same is bytes good =
       let at : IsStanding g (staged P ss now limits) = subst (IsStanding g) (sym view) standing in
       let fine : is_bad_asking (stranger name bytes) (world_of now ss P) ≡ false =
       subst (λ (x : Staged K). is_bad_asking (stranger name bytes) (world_at x) ≡ false) (sym view) good in
-      subst (λ (x : Staged K). StopsAt g (stop_before (stranger name bytes)) x (staged P (ss ++ newcomer name None ∷ []) now limits)) view
+      let is_all : all ≡ ss ++ newcomer name None ∷ [] = is ∙ ap (λ (n : List ℕ). ss ++ newcomer n None ∷ []) same in
+      subst (λ (x : Staged K). StopsAt g (stop_before (stranger name bytes)) x (staged P all now limits)) view
+      (subst (λ (xs : List Stranger). StopsAt g (stop_before (stranger name bytes)) (staged P ss now limits) (staged P xs now limits)) (sym is_all)
       (record {
         standing = record { playable = at.playable; limits = at.limits; within = at.within };
         limits = refl;
         reached = λ reached. reached;
         done = λ spells reached after opens. stops_before_first limits name bytes (world_of now ss P) after none fine opens;
+      }))
+
+-- ---- behind a stop the broker is opened again
+
+module _ {K : Type 0} (g : Ghosts K) (e : Event) where
+  stop_plays : (old mid new : Staged K) (t : Option Telling) → StopsAt g e old mid → Restages g mid t new → Plays g e old t new
+  stop_plays old mid new t s r =
+      subst (λ (x : Option Telling). Plays g e old x new) (sym r.told) (record {
+        standing = standing_again g mid new t s.standing r;
+        limits = r.limits ∙ s.limits;
+        reached = λ sound reached.
+            subst (λ (l : Limits). IsReached l (broker_of new)) s.limits
+            (reached_again g mid new t r sound (subst (λ (l : Limits). IsReached l (broker_of mid)) (sym s.limits) (s.reached reached)));
+        done = λ sound spells reached.
+            s.done spells reached (world_at new)
+            (subst (λ (l : Limits). IsReopened l (world_at mid) (world_at new)) s.limits (reopened_at g mid new t r sound));
+      })
+
+  pub all_stop : {E : Type 0} (old mid : Staged K) (r : Result (Staged K × Option Telling) E) → StopsAt g e old mid
+      → IfOk r (λ x. Restages g mid x.1 x.0) → IfOk r (λ x. Plays g e old x.1 x.0)
+  all_stop old mid r s h =
+      ok_as (λ (x : Staged K × Option Telling). Restages g mid x.1 x.0) (λ (x : Staged K × Option Telling). Plays g e old x.1 x.0) r
+      (λ x again. stop_plays old mid x.0 x.1 s again) h
+
+  -- or it can't happen
+  pub stop_refused : (old new : Staged K) → IsStanding g old → MayStopAt g e old false new → Plays g e old None new
+  stop_refused old new standing bad =
+      subst (λ (x : Staged K). Plays g e old None x) (sym bad.1)
+      (record {
+        standing = standing;
+        limits = refl;
+        reached = λ sound reached. reached;
+        done = λ sound spells reached. (inl bad.0, refl);
       })

@@ -82,7 +82,7 @@ impl<K: Keep> Scene<K> {
 impl<K: Keep> Stage<K> {
     /// Whether a CONNECT among the stranger's packets names an end, when these bytes have come (3.1.3.1).
     fn is_bad_visit(&self, name: &str, bytes: &[u8]) -> Result<bool, AllocError>
-        ensures { IfOk result (λ bad. bad ≡ is_bad_asking (stranger name.now bytes.now) (world_at self.now)) }
+        ensures { IfOk result (λ bad. bad ≡ is_bad_asking (stranger name.now bytes.now) (world_at self.entry.now)) }
     {
         let names = self.strangers.names_in(name, bytes)?;
         let bad = is_end_among(&self.scene.clients, &names);
@@ -119,10 +119,8 @@ impl<K: Keep> Stage<K> {
             Some(given) => {
                 let heard = self.scene.hear(line, &given, self.now, told);
                 drop(given);
-                match heard {
-                    Ok(()) => Ok(taken),
-                    Err(fault) => Err(fault),
-                }
+                heard?;
+                Ok(taken)
             }
             None => Ok(taken),
         }
@@ -147,10 +145,11 @@ impl<K: Keep> Stage<K> {
         let mut rest = bytes;
         'pieces: loop {
             let taken = self.piece(name, rest, told)?;
-            rest = &rest[taken..];
-            if rest.is_empty() {
+            let (_, more) = rest.split_at(taken);
+            if more.is_empty() {
                 return Ok(());
             }
+            rest = more;
         }
     }
 
