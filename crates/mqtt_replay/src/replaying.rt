@@ -3,7 +3,7 @@
 ghost use Rattle.std.specs.Prelude.{◌≡◌, ◌≢◌, ◌<◌, ℕ, List, [], ◌++◌, length, IfOk, IfErr, IfSome};
 ghost use Rattle.mqtt_replay.specs.Replaying.{IsPlain, PieceShows, Replays, ReplaysFront, Shows, ShowsFront, lines_of};
 
-use crate::fault::{Played, ReplayFault};
+use mqtt_replay_fault::{Played, ReplayFault};
 use crate::playing::{play_last, play_line};
 use crate::runs::Runs;
 use crate::script::Script;
