@@ -1,9 +1,13 @@
 //! The replay of a script over a store, and from nothing stored (ours).
 
-ghost use Rattle.std.specs.Prelude.{◌≡◌, ◌≢◌, IfErr, IfOk, IfSome};
+ghost use Rattle.std.specs.Prelude.{◌≢◌, ◌⊎◌, IfErr, IfOk, IfSome};
+ghost use Rattle.std.specs.Io.KnownBytes.{Keeps};
 ghost use Rattle.mqtt_broker.specs.TheRules.Laws.{AreWithin};
+ghost use Rattle.mqtt_every_run_laws.specs.Untouched.{IsUntouched};
+ghost use Rattle.mqtt_laws.specs.World.{start};
+ghost use Rattle.mqtt_world_laws.specs.Identities.{TellsApart};
 ghost use Rattle.mqtt_replay.specs.Replaying.{lines_of};
-ghost use Rattle.mqtt_replaying.specs.Texts.{Begins, ReplayText, Replays, ReplaysFront, Shows, ShowsFront};
+ghost use Rattle.mqtt_replaying.specs.Texts.{FrontOver, FrontText, ReplayText, ReplaysOver, Wrote};
 
 use crate::playing::Playing;
 use mqtt_base::{QUEUE_LIMIT, RETAINED_LIMIT, SESSION_LIMIT};
@@ -42,6 +46,12 @@ pub fn replay_over<K: Keep, R: Read, W: Write>(
     reader: &mut R,
     writer: &mut W,
 ) -> Result<Played, ReplayFault>
+    requires within { AreWithin limits }
+    ensures ok { IfOk result (λ played. IfSome (R.remaining reader.old) (λ input.
+        ReplaysOver K.Keep limits keep (lines_of input) (W.contents writer.old) (W.contents writer.new) played)) }
+    ensures err { IfErr result (λ fault. fault ≢ ReplayFault.Write
+        → IfSome (R.remaining reader.old) (λ input. Keeps (W.contents writer.old) (W.contents writer.new)
+        ⊎ FrontOver K.Keep limits keep (lines_of input) (W.contents writer.old) (W.contents writer.new))) }
 {
     match World::new(alloc, keep, limits, hasher) {
         Ok(world) => mqtt_replay::replay(alloc, Playing::new(world), reader, writer),
@@ -56,6 +66,15 @@ pub fn replay<R: Read, W: Write>(
     reader: &mut R,
     writer: &mut W,
 ) -> Result<Played, ReplayFault>
+    ensures ok { IfOk result (λ played. IfSome (R.remaining reader.old) (λ input.
+        Wrote (λ text. ReplayText LIMITS start (lines_of input) text played)
+        (W.contents writer.old) (W.contents writer.new))) }
+    ensures err { IfErr result (λ fault. fault ≢ ReplayFault.Write
+        → IfSome (R.remaining reader.old) (λ input. Wrote (λ text. FrontText LIMITS start (lines_of input) text)
+        (W.contents writer.old) (W.contents writer.new))) }
+
+    // Nobody is there at first, so exactly-once delivery holds of whatever is replayed.
+    ensures untouched { IsUntouched LIMITS start × TellsApart start.broker.records }
 {
     replay_over(alloc, MemKeep::new(alloc)?, LIMITS, hasher, reader, writer)
 }

@@ -1,0 +1,2 @@
+-- Lemmas on the text of a script.
+pub mod Texted
