@@ -1,5 +1,6 @@
 //! Scripts are replayed from nothing stored, in memory and over a store in SQL, and what they write is compared.
 
+use mqtt_records::faulty::{Failure, FaultyKeep};
 use mqtt_replaying::{Full, Limits, Played, ReplayFault, replay, replay_over};
 use mqtt_store::SqlKeep;
 use sqlite::Connection;
@@ -43,6 +44,20 @@ pub(crate) fn in_sql(
             Err(ReplayFault::Store)
         }
     }
+}
+
+/// The same over a store whose device fails once, after so many steps.
+pub(crate) fn over_faulty(
+    alloc: Global,
+    hasher: RandomState,
+    until: u64,
+    failure: Failure,
+    script: &str,
+    written: &mut Vec<u8>,
+) -> Result<Played, ReplayFault> {
+    let keep = FaultyKeep::new(alloc, until, failure)?;
+    let mut reader = script.as_bytes();
+    replay_over(alloc, keep, LIMITS, hasher, &mut reader, written)
 }
 
 /// Whether a script over the store in memory ends so, with this text.
