@@ -49,7 +49,9 @@ pub fn ending(outcome: &Outcome) -> (u8, &str)
     ensures text { result.1.now ≡ error_text outcome.now }
 {
     match outcome {
-        Outcome::Done(Status::Whole) | Outcome::Replayed(Played::Whole) | Outcome::Served => (DONE, ""),
+        Outcome::Done(Status::Whole) | Outcome::Replayed(Played::Whole) | Outcome::Served => (
+            DONE, "",
+        ),
         Outcome::Done(Status::Faulty) | Outcome::Replayed(Played::Bad) => (FAULTY, ""),
         Outcome::Line(LineFault::Usage(text)) => (USAGE, text.as_str()),
         Outcome::Line(LineFault::Memory)

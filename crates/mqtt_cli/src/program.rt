@@ -51,13 +51,7 @@ pub fn perform<
     W: Write,
     F: Fn(SocketAddrV4, &str, u32) -> Result<(), ServeFault>,
     G: Fn(&str) -> Result<Played, ReplayFault>,
->(
-    rt: &HostRuntime,
-    words: &[S],
-    writer: &mut W,
-    serve: &F,
-    replay: &G,
-) -> Outcome
+>(rt: &HostRuntime, words: &[S], writer: &mut W, serve: &F, replay: &G) -> Outcome
     requires serves { F.IsAlwaysCallable serve.now }
     requires replays { G.IsAlwaysCallable replay.now }
     ensures answers { Answers (λ listen db turns ended. (text : _) × (text.now ≡ db) × F.post serve.now listen text turns ended)
@@ -97,11 +91,7 @@ pub fn perform<
 pub fn run<
     F: Fn(SocketAddrV4, &str, u32) -> Result<(), ServeFault>,
     G: Fn(&str) -> Result<Played, ReplayFault>,
->(
-    rt: &HostRuntime,
-    serve: &F,
-    replay: &G,
-) -> Outcome
+>(rt: &HostRuntime, serve: &F, replay: &G) -> Outcome
     requires serves { F.IsAlwaysCallable serve.now }
     requires replays { G.IsAlwaysCallable replay.now }
     ensures { AnswersWords (λ listen db turns ended. (text : _) × (text.now ≡ db) × F.post serve.now listen text turns ended)
