@@ -5,6 +5,8 @@
 #[cfg(test)]
 mod bad;
 #[cfg(test)]
+mod examples;
+#[cfg(test)]
 mod long;
 #[cfg(test)]
 mod playing;
