@@ -1,10 +1,16 @@
 -- What lines come to that play in a world that runs, and the text of it.
-use Rattle.std.proofs.Common.{◌≡◌, ◌⊎◌, inl, inr, ℕ, ◌+◌, List, [], ◌∷◌, ◌++◌, length, Option, append-nil, append_assoc, refl, sym, ap, ap₂, subst, ◌∙◌, arith}
+use Rattle.std.proofs.Common.{◌≡◌, ◌⊎◌, inl, inr, ℕ, ◌+◌, List, [], ◌∷◌, ◌++◌, length, Option, None, Some, IfSome, append-nil, append_assoc, refl, sym, ap, ap₂, subst, ◌∙◌, arith}
 use Rattle.std.specs.Prelude.{false, true, suc, Result, Ok, unwrap_or, option_to_list}
 use Rattle.std.specs.List.{flat_map}
+use Rattle.std.specs.Io.KnownBytes.{Keeps}
+use Rattle.std.proofs.KnownBytes.{Appends-kept, Appends-nil}
 use Rattle.mqtt_records.specs.declared.keep.Keep.{Ghosts}
 use Rattle.mqtt_laws.specs.Tellings.{Telling}
 use Rattle.mqtt_laws.specs.World.{World}
+use Rattle.mqtt_laws.specs.World.{start as start_world}
+use Rattle.mqtt_records.specs.Records.{nothing}
+use Rattle.mqtt_records.specs.declared.records.Records.{Records}
+use Rattle.mqtt_opening.specs.Opening.{IsLoad}
 use Rattle.mqtt_broker.specs.TheRules.Laws.{AreWithin}
 use Rattle.mqtt_broker.specs.TheRules.declared.Limits.{Limits}
 use Rattle.mqtt_script.specs.declared.event.Event.{Event}
@@ -19,7 +25,7 @@ use Rattle.mqtt_replay_fault.specs.declared.fault.Played.TheVariants.{Whole, Bad
 use Rattle.mqtt_replay.specs.declared.ends.End.{End}
 use Rattle.mqtt_replay.specs.declared.ends.End.TheVariants.{Publisher, Receiver}
 use Rattle.mqtt_replay.specs.Playing.{Happened, Standing, end_line, last_lines, made_by, start}
-use Rattle.mqtt_replay.specs.Replaying.{IsBadLine, LinePlays, LinesPlay, Shows, ShowsFront}
+use Rattle.mqtt_replay.specs.Replaying.{IsBadLine, LinePlays, LinesPlay, Replays, ReplaysFront, Shows, ShowsFront, lines_of}
 use Rattle.mqtt_world.specs.Events.{IsReached}
 use Rattle.mqtt_world.specs.Openings.{AlwaysSound}
 use Rattle.mqtt_world.specs.Stages.{Staged, broker_of, world_at}
@@ -27,10 +33,13 @@ use Rattle.mqtt_world.specs.Worlds.{Happen, HasCome, Lasting, Starts, done_in, h
 use Rattle.mqtt_world.specs.declared.over.Over.{Over}
 use Rattle.mqtt_world.proofs.Course.{come_on, happen_more, happen_none}
 use Rattle.mqtt_replaying.specs.Plays.{play_of}
-use Rattle.mqtt_replaying.specs.Texts.{AreEventsOf, FrontOver, FrontText, IsBadLineIn, ReplayText, ReplaysOver, RunsLines, Wrote, end_line_in, ends_made, last_lines_in, lines_told}
+use Rattle.mqtt_replaying.specs.Texts.{AreEventsOf, FrontOver, FrontText, IsBadLineIn, OpensOver, ReplayText, ReplaysOver, RunsLines, Wrote, end_line_in, ends_made, last_lines_in, lines_told}
 
 ok_is : {A E : Type 0} (r : Result A E) (a b : A) → r ≡ Ok a → r ≡ Ok b → a ≡ b
 ok_is r a b is same = cc
+
+from_none : (a n : ℕ) → a ≡ 0 + n → a ≡ n
+from_none a n is = omega (arith, is)
 
 -- ---- lines that play in a world that stands
 
@@ -51,7 +60,7 @@ module _ {K : Type 0} (g : Ghosts K) where
     tells = [];
     are = refl;
     told = refl;
-    number = refl;
+    number = omega arith;
     ends = sym (append-nil s.ends);
     happen = happen_none g from s.world is;
   }
@@ -200,7 +209,7 @@ module _ {K : Type 0} (g : Ghosts K) where
             are,
             runs_lines good front end c,
             bad_here bad end c.events c.tells c.happen isbad,
-            ap (λ (n : ℕ). front ++ bad_text (n + 1)) c.number,
+            ap (λ (n : ℕ). front ++ bad_text (n + 1)) (from_none end.number (length c.events) c.number),
           ),
           wrote,
         )
@@ -237,3 +246,59 @@ module _ {K : Type 0} (g : Ghosts K) where
     unspent = starts.unspent;
     holds = λ sound phases. front_of limits keep w starts sound phases lines before after shows;
   }
+
+  -- ---- of a reader that tells what is left
+
+  pub replays_seen : (limits : Limits) (keep : K) (w : Lasting K) (input : Option (List ℕ)) (before after : Option (List ℕ)) (played : Played)
+      → Starts g limits keep w → IfSome input (λ bytes. Replays (play_of g) w bytes before after played)
+      → IfSome input (λ bytes. ReplaysOver g limits keep (lines_of bytes) before after played)
+  replays_seen limits keep w None before after played starts shows = tt
+  replays_seen limits keep w (Some bytes) before after played starts shows = replays_over limits keep w (lines_of bytes) before after played starts shows
+
+  pub front_seen : (limits : Limits) (keep : K) (w : Lasting K) (input : Option (List ℕ)) (before after : Option (List ℕ))
+      → Starts g limits keep w → IfSome input (λ bytes. ReplaysFront (play_of g) w bytes before after)
+      → IfSome input (λ bytes. Keeps before after ⊎ FrontOver g limits keep (lines_of bytes) before after)
+  front_seen limits keep w None before after starts shows = tt
+  front_seen limits keep w (Some bytes) before after starts shows = inr (front_over limits keep w (lines_of bytes) before after starts shows)
+
+-- nothing was written, and nothing ran
+nothing_runs : (limits : Limits) (w : World) → AreWithin limits → RunsLines limits [] w [] [] w
+nothing_runs limits w within = record {
+  are = refl;
+  tells = [];
+  runs = (refl, refl);
+  told = refl;
+  delivers = λ untouched apart keeps. delivers_once limits [] [] w w within untouched apart keeps (refl, refl);
+}
+
+pub front_none : (limits : Limits) (lines : List (List ℕ)) (before after : Option (List ℕ)) → AreWithin limits → Keeps before after
+    → Wrote (λ text. FrontText limits start_world lines text) before after
+front_none limits lines before after within kept =
+    ([], ([], lines, [], start_world, refl, nothing_runs limits start_world within), Appends-kept before before after [] (Appends-nil before) kept)
+
+-- ---- over a store that has nothing, and whose device is always sound
+
+module _ {K : Type 0} (g : Ghosts K) (sound : AlwaysSound g) (limits : Limits) (within : AreWithin limits) (keep : K) (empty : g.holds keep nothing) where
+  records_none : (r : Records) (loaded : K) → IsLoad g keep r loaded → r ≡ nothing
+  records_none r loaded load = load.exact nothing empty (sound loaded)
+
+  from_nothing : (Holds : World → Type 0) → OpensOver g limits keep Holds → Holds start_world
+  from_nothing Holds opens =
+      let none : opens.records ≡ nothing = records_none opens.records opens.loaded opens.load in
+      subst (λ (r : Records). Holds (opened_world limits opens.choice 0 r)) none
+      (opens.holds sound (subst (λ (r : Records). HaveSentPhases r) (sym none) tt))
+
+  pub written : (input : Option (List ℕ)) (before after : Option (List ℕ)) (played : Played)
+      → IfSome input (λ bytes. ReplaysOver g limits keep (lines_of bytes) before after played)
+      → IfSome input (λ bytes. Wrote (λ text. ReplayText limits start_world (lines_of bytes) text played) before after)
+  written None before after played shows = tt
+  written (Some bytes) before after played shows =
+      from_nothing (λ w. Wrote (λ text. ReplayText limits w (lines_of bytes) text played) before after) shows
+
+  pub written_front : (input : Option (List ℕ)) (before after : Option (List ℕ))
+      → IfSome input (λ bytes. Keeps before after ⊎ FrontOver g limits keep (lines_of bytes) before after)
+      → IfSome input (λ bytes. Wrote (λ text. FrontText limits start_world (lines_of bytes) text) before after)
+  written_front None before after shows = tt
+  written_front (Some bytes) before after (inl kept) = front_none limits (lines_of bytes) before after within kept
+  written_front (Some bytes) before after (inr shows) =
+      from_nothing (λ w. Wrote (λ text. FrontText limits w (lines_of bytes) text) before after) shows
