@@ -1,2 +1,3 @@
--- Lemmas on the text of a script.
+-- Lemmas on worlds that run, and the text of a script there.
+pub mod Refused
 pub mod Texted

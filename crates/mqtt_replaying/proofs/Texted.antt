@@ -3,7 +3,7 @@ use Rattle.std.proofs.Common.{◌≡◌, ◌⊎◌, inl, inr, ℕ, ◌+◌, List
 use Rattle.std.specs.Prelude.{false, true, suc, Result, Ok, unwrap_or, option_to_list}
 use Rattle.std.specs.List.{flat_map}
 use Rattle.std.specs.Io.KnownBytes.{Keeps}
-use Rattle.std.proofs.KnownBytes.{Appends-kept, Appends-nil}
+use Rattle.std.proofs.KnownBytes.{Appends-kept, Appends-nil, Keeps-refl}
 use Rattle.mqtt_records.specs.declared.keep.Keep.{Ghosts}
 use Rattle.mqtt_laws.specs.Tellings.{Telling}
 use Rattle.mqtt_laws.specs.World.{World}
@@ -302,3 +302,15 @@ module _ {K : Type 0} (g : Ghosts K) (sound : AlwaysSound g) (limits : Limits) (
   written_front (Some bytes) before after (inl kept) = front_none limits (lines_of bytes) before after within kept
   written_front (Some bytes) before after (inr shows) =
       from_nothing (λ w. Wrote (λ text. FrontText limits w (lines_of bytes) text) before after) shows
+
+-- nothing was written, whatever a reader would give
+
+pub kept_seen : {K : Type 0} (g : Ghosts K) (limits : Limits) (keep : K) (input before : Option (List ℕ))
+    → IfSome input (λ bytes. Keeps before before ⊎ FrontOver g limits keep (lines_of bytes) before before)
+kept_seen g limits keep None before = tt
+kept_seen g limits keep (Some bytes) before = inl (Keeps-refl before)
+
+pub front_kept : (limits : Limits) (input before : Option (List ℕ)) → AreWithin limits
+    → IfSome input (λ bytes. Wrote (λ text. FrontText limits start_world (lines_of bytes) text) before before)
+front_kept limits None before within = tt
+front_kept limits (Some bytes) before within = front_none limits (lines_of bytes) before before within (Keeps-refl before)
