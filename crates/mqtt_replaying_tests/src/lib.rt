@@ -7,6 +7,8 @@ mod bad;
 #[cfg(test)]
 mod examples;
 #[cfg(test)]
+mod files;
+#[cfg(test)]
 mod long;
 #[cfg(test)]
 mod playing;
