@@ -140,11 +140,7 @@ fn subscribe<K: Keep>(
 }
 
 /// The publisher sends its message.
-fn publish<K: Keep>(
-    alloc: Global,
-    ends: &mut Clients,
-    engine: &mut Engine<K>,
-) -> Result<(), Fail> {
+fn publish<K: Keep>(alloc: Global, ends: &mut Clients, engine: &mut Engine<K>) -> Result<(), Fail> {
     let draft = draft(alloc)?;
     let sent = ends.publish("p", &draft, engine);
     drop(draft);
@@ -190,6 +186,9 @@ fn a_message_is_handed_over_and_completed(rt: HostRuntime) -> Result<(), Fail> {
     drop(ends);
     played?;
     assert!(rt; was_handed?, "the first publication, once");
-    assert!(rt; counts == (Some(1), Some(1)), "one message, and it is completed");
+    assert!(rt;
+        counts == (Some(1), Some(1)),
+        "one message, and it is completed"
+    );
     Ok(())
 }

@@ -170,7 +170,6 @@ module _ {K : Type 0} (g : Ghosts K) (name : List ℕ) where
     first_welcomed : IsPlayable g P → AreWithin P.engine.running.limits → named name ss ≡ None → AreAlike name (world_of now ss P) → line ≡ next_line P.engine.running.broker
         → Calls g now NewLine P silent N
         → Welcomes g name (staged P ss now P.engine.running.limits) (staged N (ss ++ newcomer name line ∷ []) now P.engine.running.limits)
-
     first_welcomed playable within none alike line_is c = record {
       standing = record { playable = c.playable; limits = sym c.limits; within = within };
       limits = refl;
@@ -338,7 +337,7 @@ module _ {K : Type 0} (g : Ghosts K) (name bytes : List ℕ) (old mid new : Stag
     turn = λ spells reached good.
         w.turn spells reached (take taken bytes) t (world_at new) good
         (subst (λ (l : Limits). SpellsAll l → IsReached l (broker_of mid) → is_bad (comes_in name (take taken bytes)) (world_at mid) ≡ false
-            → IsTurn l (comes_in name (take taken bytes)) t (world_at mid) (world_at new)) w.limits p.turn
+        → IsTurn l (comes_in name (take taken bytes)) t (world_at mid) (world_at new)) w.limits p.turn
         spells (w.reached reached) (w.good spells reached (take taken bytes) good));
   }
 

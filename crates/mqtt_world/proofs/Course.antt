@@ -155,7 +155,7 @@ module _ {K : Type 0} (g : Ghosts K) where
   come_stopped start es f old new sound s come =
       come_refused start s.event f s.mid new sound s.refused (come_on start s.before s.tells old s.mid sound s.happened come)
 
--- ---- a result of many events, or of one
+  -- ---- a result of many events, or of one
 
   -- one event
   pub one_comes : (start : World) (e : Event) (r : Result Telling RunFault) (old new : Lasting K) → AlwaysSound g

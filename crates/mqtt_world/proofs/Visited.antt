@@ -38,7 +38,7 @@ module _ {K : Type 0} (g : Ghosts K) (name : List ℕ) where
       → IsTurn limits (comes_in name (take taken rest)) t (world_at mid) (world_at new)
   turn_at rest taken t mid new limits is p =
       subst (λ (l : Limits). SpellsAll l → IsReached l (broker_of mid) → is_bad (comes_in name (take taken rest)) (world_at mid) ≡ false
-          → IsTurn l (comes_in name (take taken rest)) t (world_at mid) (world_at new)) is p.turn
+      → IsTurn l (comes_in name (take taken rest)) t (world_at mid) (world_at new)) is p.turn
 
   reached_at : (rest : List ℕ) (taken : ℕ) (t : Telling) (mid new : Staged K) (limits : Limits) → mid.limits ≡ limits
       → TakesPiece g name rest mid taken t new → IsReached limits (broker_of mid) → IsReached limits (broker_of new)

@@ -73,11 +73,7 @@ impl<K: Keep> Stage<K> {
     }
 
     /// The broker stops before the commit of the first step that is asked for, or after it, and is opened again.
-    fn stop(
-        self,
-        asking: &Asking,
-        after: bool,
-    ) -> Result<(Stage<K>, Option<Told>), RunFault>
+    fn stop(self, asking: &Asking, after: bool) -> Result<(Stage<K>, Option<Told>), RunFault>
         requires { IsStanding K.Keep self }
         ensures { IfOk result (λ x. Plays K.Keep (stop_at after (asking_of asking.now)) self x.1 x.0) }
     {
@@ -88,10 +84,7 @@ impl<K: Keep> Stage<K> {
     }
 
     /// An event of a script happens, or can't: a drain is none that can.
-    pub(crate) fn happen(
-        mut self,
-        event: &Event,
-    ) -> Result<(Stage<K>, Option<Told>), RunFault>
+    pub(crate) fn happen(mut self, event: &Event) -> Result<(Stage<K>, Option<Told>), RunFault>
         requires { IsStanding K.Keep self }
         ensures { IfOk result (λ x. PlaysIf K.Keep (event_of event.now) self x.1 x.0) }
     {

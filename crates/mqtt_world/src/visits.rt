@@ -106,12 +106,7 @@ impl<K: Keep> Stage<K> {
 
     /// The next piece of what a stranger sends comes: what is whole of it, a packet or a fault, is given to the broker on
     /// its line. Answers how many bytes the piece has.
-    fn take_piece(
-        &mut self,
-        name: &str,
-        bytes: &[u8],
-        told: &mut Told,
-    ) -> Result<usize, RunFault>
+    fn take_piece(&mut self, name: &str, bytes: &[u8], told: &mut Told) -> Result<usize, RunFault>
         requires standing { IsStanding K.Keep self.old }
         requires there { is_some (named name.now self.old.strangers) ≡ true }
         requires alike { AreAlike name.now (world_at self.old) }
@@ -134,12 +129,7 @@ impl<K: Keep> Stage<K> {
     }
 
     /// The same of one that may come first.
-    fn piece(
-        &mut self,
-        name: &Text,
-        bytes: &[u8],
-        told: &mut Told,
-    ) -> Result<usize, RunFault>
+    fn piece(&mut self, name: &Text, bytes: &[u8], told: &mut Told) -> Result<usize, RunFault>
         requires { IsStanding K.Keep self.old }
         ensures { IfOk result (λ taken. TellsPiece K.Keep name.now bytes.now self.old taken told.old told.new self.new) }
     {

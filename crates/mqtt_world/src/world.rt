@@ -128,7 +128,12 @@ impl<K: Keep> World<K> {
     }
 
     /// What came of an event leaves this stage.
-    fn settle(&mut self, stage: Stage<K>, event: Event, told: Option<Told>) -> Result<Told, RunFault>
+    fn settle(
+        &mut self,
+        stage: Stage<K>,
+        event: Event,
+        told: Option<Told>,
+    ) -> Result<Told, RunFault>
         requires standing { IsStanding K.Keep stage }
         ensures happened { (s : Staged K) → PlaysIf K.Keep (event_of event) s told stage
             → IfOk result (λ t. Happen K.Keep (event ∷ []) (t ∷ []) (with_stage s self.old) self.new) }
