@@ -76,5 +76,6 @@ pub fn replay<R: Read, W: Write>(
     // Nobody is there at first, so exactly-once delivery holds of whatever is replayed.
     ensures untouched { IsUntouched LIMITS start × TellsApart start.broker.records }
 {
-    replay_over(alloc, MemKeep::new(alloc)?, LIMITS, hasher, reader, writer)
+    let keep = MemKeep::new(alloc)?;
+    replay_over(alloc, keep, LIMITS, hasher, reader, writer)
 }
