@@ -1,7 +1,8 @@
-//! The program `mqtt5`: an MQTT 5.0 broker, and a viewer of its packets.
+//! The program `mqtt5`: an MQTT 5.0 broker, a viewer of its packets, and scripts of what may become of them.
 #![tactic(auto)]
 
 use mqtt_cli::{ending, run};
+use mqtt_replaying::replay_at;
 use mqtt_serve::serve;
 use std::io;
 use std::net::SocketAddr;
@@ -13,6 +14,7 @@ fn main(rt: HostRuntime) -> ExitCode {
         &|listen, db, turns| {
             serve(&rt, SocketAddr::V4(listen), db, turns, &mut io::writer(&rt))
         },
+        &|file| replay_at(&rt, file, &mut io::writer(&rt)),
     );
     let (status, text) = ending(&outcome);
     let _ = eprint!(rt; "{text}");

@@ -9,10 +9,10 @@ use Rattle.clap.specs.declared.error.kind.ErrorKind.TheVariants.{OutOfMemory}
 use Rattle.clap.specs.declared.parser.matches.ArgMatches.{ArgMatches}
 use Rattle.clap.specs.declared.parser.matches.ArgMatches.TheViews.{out-ArgMatches}
 use Rattle.clap.specs.declared.parser.matches.Found.{Found}
-use Rattle.mqtt_cli.specs.Line.{AskFor, AskToServe, AsksNoServer, AsksToServe, command_of, file_in, is_vectors, program_app, rows_in, serve_rows_in, value_in}
+use Rattle.mqtt_cli.specs.Line.{AskFor, AskToReplay, AskToServe, AsksNoServer, AsksToServe, command_of, file_in, is_vectors, program_app, replay_rows_in, rows_in, serve_rows_in, value_in}
 use Rattle.mqtt_cli.specs.Values.{IsAddress, IsCount}
 use Rattle.mqtt_cli.specs.declared.line.Action.{Action}
-use Rattle.mqtt_cli.specs.declared.line.Action.TheVariants.{View, Vectors, Serve}
+use Rattle.mqtt_cli.specs.declared.line.Action.TheVariants.{View, Replay, Vectors, Serve}
 
 -- a pair that may be there, by its parts
 both_parts : {X : Type 0} (f : X → Text × List Row) (o : Option X) (name : Text) (rows : List Row)
@@ -85,6 +85,34 @@ pub serve_rows_in-other : (m : ArgMatches) (name : Text) (found : Found) → Som
 serve_rows_in-other m name found named with_rows is_other =
     ap serve_rows_in (met_command m name found named with_rows) ∙ no_rows_of_serve name (rows_of found) is_other
 
+replay_rows_of : (name : Text) (rows : List Row) → true ≡ bytes_eq name (codes "replay") → replay_rows_in (Some (name, rows)) ≡ Some rows
+replay_rows_of name rows is_replay = go (bytes_eq name (codes "replay")) is_replay
+  where
+    go : (b : Bool) → true ≡ b → (if b then Some rows else None) ≡ Some rows
+    go true e = refl
+    go false e = cc
+
+-- the matches of `replay`, where that is the subcommand that was met
+pub replay_rows_in-met : (m : ArgMatches) (name : Text) (found : Found) → Some name ≡ subcommand_name_of m
+    → Some (rows_of found) ≡ option_map (λ p. p.1) (subcommand_rows_of m) → true ≡ bytes_eq name (codes "replay")
+    → replay_rows_in (subcommand_rows_of m) ≡ Some (rows_of found)
+replay_rows_in-met m name found named with_rows is_replay =
+    ap replay_rows_in (met_command m name found named with_rows) ∙ replay_rows_of name (rows_of found) is_replay
+
+no_rows_of_replay : (name : Text) (rows : List Row) → false ≡ bytes_eq name (codes "replay") → replay_rows_in (Some (name, rows)) ≡ None
+no_rows_of_replay name rows is_other = go (bytes_eq name (codes "replay")) is_other
+  where
+    go : (b : Bool) → false ≡ b → (if b then Some rows else None) ≡ None
+    go true e = cc
+    go false e = refl
+
+-- none, where that is another
+pub replay_rows_in-other : (m : ArgMatches) (name : Text) (found : Found) → Some name ≡ subcommand_name_of m
+    → Some (rows_of found) ≡ option_map (λ p. p.1) (subcommand_rows_of m) → false ≡ bytes_eq name (codes "replay")
+    → replay_rows_in (subcommand_rows_of m) ≡ None
+replay_rows_in-other m name found named with_rows is_other =
+    ap replay_rows_in (met_command m name found named with_rows) ∙ no_rows_of_replay name (rows_of found) is_other
+
 -- matches that aren't there ask for no server
 pub no_server : AsksNoServer None
 no_server listen db turns asks = cc asks.db_is
@@ -118,13 +146,25 @@ asks_no_server rows (Some action) is none = cc
 
 -- what lawful matches of `serve` ask for, the command does
 pub asks_to_serve : (command : Option (Text × List Row)) (rows : List Row) (asked : Option Action)
-    → serve_rows_in command ≡ Some rows → file_in (rows_in command) ≡ None → is_vectors command ≡ false
-    → AskToServe rows asked → AskFor command asked
-asks_to_serve command rows None is file other asks = (file, other, subst AsksNoServer (sym is) asks)
-asks_to_serve command rows (Some (Serve listen db turns)) is file other asks =
+    → serve_rows_in command ≡ Some rows → file_in (rows_in command) ≡ None → file_in (replay_rows_in command) ≡ None
+    → is_vectors command ≡ false → AskToServe rows asked → AskFor command asked
+asks_to_serve command rows None is file script other asks = (file, script, other, subst AsksNoServer (sym is) asks)
+asks_to_serve command rows (Some (Serve listen db turns)) is file script other asks =
     subst (λ (r : Option (List Row)). AsksToServe r listen db.now turns) (sym is) asks
-asks_to_serve command rows (Some Vectors) is file other asks = absurd asks
-asks_to_serve command rows (Some (View path payload)) is file other asks = absurd asks
+asks_to_serve command rows (Some Vectors) is file script other asks = absurd asks
+asks_to_serve command rows (Some (View path payload)) is file script other asks = absurd asks
+asks_to_serve command rows (Some (Replay path)) is file script other asks = absurd asks
+
+-- and those of `replay`
+pub asks_to_replay : (command : Option (Text × List Row)) (rows : List Row) (asked : Option Action)
+    → replay_rows_in command ≡ Some rows → file_in (rows_in command) ≡ None → serve_rows_in command ≡ None
+    → is_vectors command ≡ false → AskToReplay rows asked → AskFor command asked
+asks_to_replay command rows None is file no_rows other asks =
+    (file, ap file_in is ∙ asks, other, subst AsksNoServer (sym no_rows) no_server)
+asks_to_replay command rows (Some (Replay path)) is file no_rows other asks = ap file_in is ∙ asks
+asks_to_replay command rows (Some Vectors) is file no_rows other asks = absurd asks
+asks_to_replay command rows (Some (View path payload)) is file no_rows other asks = absurd asks
+asks_to_replay command rows (Some (Serve listen db turns)) is file no_rows other asks = absurd asks
 
 -- whether it is `vectors`
 pub is_vectors-met : (m : ArgMatches) (name : Text) (found : Found) (b : Bool) → Some name ≡ subcommand_name_of m
@@ -148,7 +188,7 @@ pub refused_ask : (app : App) (words : List Text) (e : Error) → app ≡ progra
 refused_ask app words e is fails other =
     let has : HasKind (fault_of program_app words) e =
     subst (λ (a : App). HasKind (fault_of a words) e) is (fails (ap is_simple_and_free is)) in
-    rw (go (fault_of program_app words) has) (refl, refl, no_server)
+    rw (go (fault_of program_app words) has) (refl, refl, refl, no_server)
   where
     go : (ks : Kinds) → HasKind ks e → is_empty ks ≡ false
     go [] h = elim h [ inl out ↦ absurd (other out) | inr wrong ↦ absurd wrong ]
@@ -156,6 +196,7 @@ refused_ask app words e is fails other =
 
 -- a command without FILE that is neither `vectors` nor `serve` asks for nothing
 pub asks_nothing : (command : Option (Text × List Row)) (asked : Option Action) → asked ≡ None
-    → file_in (rows_in command) ≡ None → is_vectors command ≡ false → serve_rows_in command ≡ None → AskFor command asked
-asks_nothing command None is file other no_rows = (file, other, subst AsksNoServer (sym no_rows) no_server)
-asks_nothing command (Some action) is file other no_rows = cc
+    → file_in (rows_in command) ≡ None → file_in (replay_rows_in command) ≡ None → is_vectors command ≡ false
+    → serve_rows_in command ≡ None → AskFor command asked
+asks_nothing command None is file script other no_rows = (file, script, other, subst AsksNoServer (sym no_rows) no_server)
+asks_nothing command (Some action) is file script other no_rows = cc

@@ -2,7 +2,7 @@
 use Rattle.std.proofs.Common.{◌≡◌, true, List, [], ◌∷◌, None, Some, codes, refl}
 use Rattle.clap.proofs.OnLiterals.{clap_on_literals}
 use Rattle.clap.specs.Words.{Text}
-use Rattle.mqtt_cli.specs.Line.{command_of, file_in, is_vectors, payload_in, rows_in, serve_rows_in, value_in}
+use Rattle.mqtt_cli.specs.Line.{command_of, file_in, is_vectors, payload_in, replay_rows_in, rows_in, serve_rows_in, value_in}
 use Rattle.mqtt_cli.specs.declared.outcome.TheConstants.{DONE, FAULTY, USAGE, FAILED}
 
 -- ---- numbers
@@ -55,6 +55,14 @@ two_files = refl
 call_for_help : command_of (line_of (codes "--help" ∷ [])) ≡ None
 unfolding clap_on_literals
 call_for_help = refl
+
+script : file_in (replay_rows_in (command_of (line_of (codes "replay" ∷ codes "a" ∷ [])))) ≡ Some (codes "a")
+unfolding clap_on_literals
+script = refl
+
+script_with_flag : command_of (line_of (codes "replay" ∷ codes "--payload" ∷ codes "a" ∷ [])) ≡ None
+unfolding clap_on_literals
+script_with_flag = refl
 
 vectors : is_vectors (command_of (line_of (codes "vectors" ∷ []))) ≡ true
 unfolding clap_on_literals

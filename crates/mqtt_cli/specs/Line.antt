@@ -5,7 +5,7 @@ use Rattle.clap.specs.declared.builder.ArgAction.TheVariants.{SetTrue}
 use Rattle.clap.specs.Walk.{is_empty}
 use Rattle.clap.specs.Words.{App, Row, Rule, Text, fault_of, first_of, new_app, new_rule, one_of, subcommand_of, with_rule, with_subcommand}
 use Rattle.mqtt_cli.specs.declared.line.Action.{Action}
-use Rattle.mqtt_cli.specs.declared.line.Action.TheVariants.{View, Vectors, Serve}
+use Rattle.mqtt_cli.specs.declared.line.Action.TheVariants.{View, Replay, Vectors, Serve}
 use Rattle.mqtt_cli.specs.Values.{IsAddress, IsCount}
 use Rattle.std.specs.declared.net.socket_addr.SocketAddrV4.{SocketAddrV4}
 
@@ -21,6 +21,10 @@ file_rule = record (new_rule (codes "file")) { value_names = 1; required = true 
 -- `view [--payload] FILE`
 abbrev pub view_app : App
 view_app = with_rule (with_rule (new_app (codes "view")) payload_rule) file_rule
+
+-- `replay FILE`
+abbrev pub replay_app : App
+replay_app = with_rule (new_app (codes "replay")) file_rule
 
 -- `vectors`
 abbrev pub vectors_app : App
@@ -41,7 +45,8 @@ abbrev pub program_app : App
 program_app =
     let alone = new_app (codes "mqtt5") in
     let required = record alone { top = record alone.top { subcommand_required = true } } in
-    with_subcommand (with_subcommand (with_subcommand required view_app.top) vectors_app.top) serve_app.top
+    with_subcommand (with_subcommand (with_subcommand (with_subcommand required view_app.top) replay_app.top) vectors_app.top)
+    serve_app.top
 
 -- the command and its matches, where the words are a lawful command line
 abbrev pub command_of : List Text → Option (Text × List Row)
@@ -57,6 +62,11 @@ is_vectors (Some command) = bytes_eq command.0 (codes "vectors")
 abbrev pub rows_in : Option (Text × List Row) → Option (List Row)
 rows_in None = None
 rows_in (Some command) = if bytes_eq command.0 (codes "view") then Some command.1 else None
+
+-- the matches of `replay`, where that is the command
+abbrev pub replay_rows_in : Option (Text × List Row) → Option (List Row)
+replay_rows_in None = None
+replay_rows_in (Some command) = if bytes_eq command.0 (codes "replay") then Some command.1 else None
 
 -- the matches of `serve`, where that is the command
 abbrev pub serve_rows_in : Option (Text × List Row) → Option (List Row)
@@ -101,12 +111,23 @@ AskToServe rows None = AsksNoServer (Some rows)
 AskToServe rows (Some (Serve listen db turns)) = AsksToServe (Some rows) listen db.now turns
 AskToServe rows (Some Vectors) = ⊥
 AskToServe rows (Some (View file payload)) = ⊥
+AskToServe rows (Some (Replay file)) = ⊥
+
+-- these matches of `replay` ask for this, or for nothing
+abbrev pub AskToReplay : List Row → Option Action → Type 0
+AskToReplay rows None = file_in (Some rows) ≡ None
+AskToReplay rows (Some (Replay file)) = file_in (Some rows) ≡ Some file.now
+AskToReplay rows (Some Vectors) = ⊥
+AskToReplay rows (Some (View file payload)) = ⊥
+AskToReplay rows (Some (Serve listen db turns)) = ⊥
 
 -- this command asks for this, or for nothing
 abbrev pub AskFor : Option (Text × List Row) → Option Action → Type 0
 AskFor command None =
-    (file_in (rows_in command) ≡ None) × (is_vectors command ≡ false) × AsksNoServer (serve_rows_in command)
+    (file_in (rows_in command) ≡ None) × (file_in (replay_rows_in command) ≡ None) × (is_vectors command ≡ false)
+    × AsksNoServer (serve_rows_in command)
 AskFor command (Some Vectors) = is_vectors command ≡ true
 AskFor command (Some (View file payload)) =
     (file_in (rows_in command) ≡ Some file.now) × IsFlag (payload_in (rows_in command)) payload
+AskFor command (Some (Replay file)) = file_in (replay_rows_in command) ≡ Some file.now
 AskFor command (Some (Serve listen db turns)) = AsksToServe (serve_rows_in command) listen db.now turns

@@ -5,7 +5,9 @@ use Rattle.std.specs.String.{string_bytes}
 use Rattle.mqtt_cli.specs.declared.outcome.TheConstants.{DONE, FAULTY, USAGE, FAILED}
 use Rattle.mqtt_cli.specs.declared.line.LineFault.TheVariants as line
 use Rattle.mqtt_cli.specs.declared.outcome.Outcome.{Outcome}
-use Rattle.mqtt_cli.specs.declared.outcome.Outcome.TheVariants.{Done, Line, NoFile, View, Vectors, Served, Serve}
+use Rattle.mqtt_cli.specs.declared.outcome.Outcome.TheVariants.{Done, Line, NoFile, View, Vectors, Replayed, Replay, Served, Serve}
+use Rattle.mqtt_replay_fault.specs.declared.fault.Played.TheVariants as played
+use Rattle.mqtt_replay_fault.specs.declared.fault.ReplayFault.TheVariants as replay
 use Rattle.mqtt_serve_fault.specs.declared.fault.ServeFault.TheVariants as serve
 use Rattle.mqtt_viewing.specs.declared.vectors_checker.VectorsFault.TheVariants as vectors
 use Rattle.mqtt_viewing.specs.declared.viewer.Status.TheVariants.{Whole, Faulty}
@@ -22,6 +24,9 @@ exit_status (View Write) = FAILED
 exit_status (View Memory) = FAILED
 exit_status (Vectors vectors.Write) = FAILED
 exit_status (Vectors vectors.Memory) = FAILED
+exit_status (Replayed played.Whole) = DONE
+exit_status (Replayed played.Bad) = FAULTY
+exit_status (Replay fault) = FAILED
 exit_status Served = DONE
 exit_status (Serve fault) = FAILED
 
@@ -39,6 +44,11 @@ error_text (View Write) = failure_line (codes "file")
 error_text (View Memory) = failure_line (codes "memory")
 error_text (Vectors vectors.Write) = failure_line (codes "file")
 error_text (Vectors vectors.Memory) = failure_line (codes "memory")
+error_text (Replayed how) = []
+error_text (Replay replay.Read) = failure_line (codes "file")
+error_text (Replay replay.Write) = failure_line (codes "file")
+error_text (Replay replay.Memory) = failure_line (codes "memory")
+error_text (Replay replay.Store) = failure_line (codes "store")
 error_text Served = []
 error_text (Serve serve.Write) = failure_line (codes "file")
 error_text (Serve serve.Memory) = failure_line (codes "memory")

@@ -3,10 +3,12 @@ use Rattle.std.specs.Prelude.{◌≡◌, ◌≢◌, ◌⊎◌, ⊤, ℕ, true, L
 use Rattle.std.specs.Io.KnownBytes.{Keeps}
 use Rattle.std.specs.declared.net.socket_addr.SocketAddrV4.{SocketAddrV4}
 use Rattle.clap.specs.Words.{Row, Text}
-use Rattle.mqtt_cli.specs.Line.{AskFor, AsksToServe, command_of, file_in, is_vectors, rows_in, serve_rows_in}
+use Rattle.mqtt_cli.specs.Line.{AskFor, AsksToServe, command_of, file_in, is_vectors, replay_rows_in, rows_in, serve_rows_in}
 use Rattle.mqtt_cli.specs.declared.line.LineFault.TheVariants as line
 use Rattle.mqtt_cli.specs.declared.outcome.Outcome.{Outcome}
-use Rattle.mqtt_cli.specs.declared.outcome.Outcome.TheVariants.{Done, Line, NoFile, View, Vectors, Served, Serve}
+use Rattle.mqtt_cli.specs.declared.outcome.Outcome.TheVariants.{Done, Line, NoFile, View, Vectors, Replayed, Replay, Served, Serve}
+use Rattle.mqtt_replay_fault.specs.declared.fault.Played.{Played}
+use Rattle.mqtt_replay_fault.specs.declared.fault.ReplayFault.{ReplayFault}
 use Rattle.mqtt_serve_fault.specs.declared.fault.ServeFault.{ServeFault}
 use Rattle.mqtt_viewing.specs.Vectors.{Reports}
 use Rattle.mqtt_viewing.specs.declared.vectors_checker.VectorsFault.TheVariants as vectors
@@ -18,6 +20,16 @@ Asked = Option (Text × List Row)
 -- what serving at an address, over the database at a path, for so many turns may come to
 abbrev pub Serving : Type 1
 Serving = SocketAddrV4 → Text → ℕ → Result ⊤ ServeFault → Type 0
+
+-- what the replay of the script at a path may come to
+abbrev pub Replaying : Type 1
+Replaying = Text → Result Played ReplayFault → Type 0
+
+-- the command asks to replay a script, and that came to this
+pub record HasReplayed (replays : Replaying) (command : Asked) (ended : Result Played ReplayFault) : Type 0 where
+  pub file : Text
+  pub asks : file_in (replay_rows_in command) ≡ Some file
+  pub came : replays file ended
 
 -- the command asks to serve, and that came to this
 pub record HasServed (serves : Serving) (command : Asked) (ended : Result ⊤ ServeFault) : Type 0 where
@@ -45,30 +57,36 @@ IsOfView (Done status) = ⊤
 IsOfView NoFile = ⊥
 IsOfView (View fault) = ⊤
 IsOfView (Vectors fault) = ⊥
+IsOfView (Replayed played) = ⊥
+IsOfView (Replay fault) = ⊥
 IsOfView Served = ⊥
 IsOfView (Serve fault) = ⊥
 
 -- the outcome is what the command asks for: a wrong command line asks for nothing
-abbrev pub Answers : Serving → Asked → Outcome → Type 0
-Answers serves command (Line fault) = fault ≢ line.Memory → AskFor command None
-Answers serves command (Done status) = (is_vectors command ≡ true) ⊎ AsksToView command
-Answers serves command NoFile = AsksForFile command
-Answers serves command (View fault) = AsksToView command
-Answers serves command (Vectors fault) = is_vectors command ≡ true
-Answers serves command Served = HasServed serves command (Ok tt)
-Answers serves command (Serve fault) = HasServed serves command (Err fault)
+abbrev pub Answers : Serving → Replaying → Asked → Outcome → Type 0
+Answers serves replays command (Line fault) = fault ≢ line.Memory → AskFor command None
+Answers serves replays command (Done status) = (is_vectors command ≡ true) ⊎ AsksToView command
+Answers serves replays command NoFile = AsksForFile command
+Answers serves replays command (View fault) = AsksToView command
+Answers serves replays command (Vectors fault) = is_vectors command ≡ true
+Answers serves replays command (Replayed played) = HasReplayed replays command (Ok played)
+Answers serves replays command (Replay fault) = HasReplayed replays command (Err fault)
+Answers serves replays command Served = HasServed serves command (Ok tt)
+Answers serves replays command (Serve fault) = HasServed serves command (Err fault)
 
--- what is written: the report on the vectors, the view of the file, else nothing; what serves writes by itself
+-- what is written: the report on the vectors, the view of the file, else nothing; what serves and what replays write by themselves
 abbrev pub Writes : Asked → Option (List ℕ) → Option (List ℕ) → Outcome → Type 0
 Writes command old new (Line fault) = Keeps old new
 Writes command old new (Done status) = is_vectors command ≡ true → Reports old new status
 Writes command old new NoFile = Keeps old new
 Writes command old new (View fault) = ⊤
 Writes command old new (Vectors fault) = fault ≢ vectors.Write → Keeps old new
+Writes command old new (Replayed played) = Keeps old new
+Writes command old new (Replay fault) = Keeps old new
 Writes command old new Served = Keeps old new
 Writes command old new (Serve fault) = Keeps old new
 
 -- the outcome is that of some command line, or the process's words cannot be had
-abbrev pub AnswersWords : Serving → Outcome → Type 0
-AnswersWords serves (Line fault) = ⊤
-AnswersWords serves outcome = (words : List Text) × Answers serves (command_of words) outcome
+abbrev pub AnswersWords : Serving → Replaying → Outcome → Type 0
+AnswersWords serves replays (Line fault) = ⊤
+AnswersWords serves replays outcome = (words : List Text) × Answers serves replays (command_of words) outcome

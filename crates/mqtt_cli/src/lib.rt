@@ -8,6 +8,7 @@ mod values;
 mod words;
 
 pub use line::{Action, LineFault};
+pub use mqtt_replay_fault::{Played, ReplayFault};
 pub use mqtt_serve_fault::ServeFault;
 pub use mqtt_viewing::{Status, VectorsFault, ViewFault, one_view, one_word, vectors, view};
 pub use outcome::{DONE, FAILED, FAULTY, Outcome, USAGE, ending};

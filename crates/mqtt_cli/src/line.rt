@@ -16,6 +16,11 @@ pub enum Action<'a> {
         /// Whether a PUBLISH shows the first bytes of its payload.
         payload: bool,
     },
+    /// `replay FILE`
+    Replay {
+        /// The path of the script; `-` is standard input.
+        file: &'a str,
+    },
     /// `vectors`
     Vectors,
     /// `serve --listen ADDR --db FILE --turns N`

@@ -4,13 +4,14 @@ ghost use Rattle.std.specs.Prelude.{◌≡◌};
 ghost use Rattle.mqtt_cli.specs.Outcome.{exit_status, error_text};
 
 use crate::line::LineFault;
+use mqtt_replay_fault::{Played, ReplayFault};
 use mqtt_serve_fault::ServeFault;
 use mqtt_viewing::{Status, VectorsFault, ViewFault};
 
 /// The exit status of a command that is done.
 pub const DONE: u8 = 0;
 
-/// The exit status where the input has a fault, or ends inside a packet.
+/// The exit status where the input has a fault, or ends inside a packet, or a script has a line that is bad.
 pub const FAULTY: u8 = 1;
 
 /// The exit status of a wrong command line.
@@ -32,6 +33,10 @@ pub enum Outcome {
     View(ViewFault),
     /// The report on the vectors stopped early.
     Vectors(VectorsFault),
+    /// The script was replayed to its end, or to a line that is bad.
+    Replayed(Played),
+    /// The replay stopped early.
+    Replay(ReplayFault),
     /// The server ended after its turns.
     Served,
     /// The server ended early.
@@ -44,19 +49,26 @@ pub fn ending(outcome: &Outcome) -> (u8, &str)
     ensures text { result.1.now ≡ error_text outcome.now }
 {
     match outcome {
-        Outcome::Done(Status::Whole) | Outcome::Served => (DONE, ""),
-        Outcome::Done(Status::Faulty) => (FAULTY, ""),
+        Outcome::Done(Status::Whole) | Outcome::Replayed(Played::Whole) | Outcome::Served => (
+            DONE, "",
+        ),
+        Outcome::Done(Status::Faulty) | Outcome::Replayed(Played::Bad) => (FAULTY, ""),
         Outcome::Line(LineFault::Usage(text)) => (USAGE, text.as_str()),
         Outcome::Line(LineFault::Memory)
         | Outcome::View(ViewFault::Memory)
         | Outcome::Vectors(VectorsFault::Memory)
+        | Outcome::Replay(ReplayFault::Memory)
         | Outcome::Serve(ServeFault::Memory) => { (FAILED, "mqtt5: memory\n") }
         Outcome::NoFile
         | Outcome::View(ViewFault::Read)
         | Outcome::View(ViewFault::Write)
         | Outcome::Vectors(VectorsFault::Write)
+        | Outcome::Replay(ReplayFault::Read)
+        | Outcome::Replay(ReplayFault::Write)
         | Outcome::Serve(ServeFault::Write) => { (FAILED, "mqtt5: file\n") }
-        Outcome::Serve(ServeFault::Store) => (FAILED, "mqtt5: store\n"),
+        Outcome::Replay(ReplayFault::Store) | Outcome::Serve(ServeFault::Store) => {
+            (FAILED, "mqtt5: store\n")
+        }
         Outcome::Serve(ServeFault::Socket) => (FAILED, "mqtt5: socket\n"),
     }
 }

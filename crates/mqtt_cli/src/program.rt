@@ -7,6 +7,7 @@ ghost use Rattle.mqtt_cli.specs.Running.{Answers, AnswersWords, IsOfView, Writes
 use crate::line::{Action, LineFault};
 use crate::outcome::Outcome;
 use crate::words::action;
+use mqtt_replay_fault::{Played, ReplayFault};
 use mqtt_serve_fault::ServeFault;
 use mqtt_viewing::{ViewFault, vectors, view};
 use std::alloc::{AllocError, Global};
@@ -43,16 +44,18 @@ fn view_of<I: Read + Drop, W: Write>(
 
 /// Does what these words ask for, the first of which names the program. The command line is looked at first, then
 /// the file or the database, then the socket. What files, sockets and standard input hold no contract can say; `view`
-/// and `vectors` say what is written. What serves at an address, over the database at a path, for so many turns, is
-/// handed in: so nothing of the command line stands on the server.
-pub fn perform<S: AsStr, W: Write, F: Fn(SocketAddrV4, &str, u32) -> Result<(), ServeFault>>(
-    rt: &HostRuntime,
-    words: &[S],
-    writer: &mut W,
-    serve: &F,
-) -> Outcome
-    requires { F.IsAlwaysCallable serve.now }
+/// and `vectors` say what is written. What serves at an address, over the database at a path, for so many turns, and what
+/// replays the script at a path, are handed in: so nothing of the command line stands on the server or the world.
+pub fn perform<
+    S: AsStr,
+    W: Write,
+    F: Fn(SocketAddrV4, &str, u32) -> Result<(), ServeFault>,
+    G: Fn(&str) -> Result<Played, ReplayFault>,
+>(rt: &HostRuntime, words: &[S], writer: &mut W, serve: &F, replay: &G) -> Outcome
+    requires serves { F.IsAlwaysCallable serve.now }
+    requires replays { G.IsAlwaysCallable replay.now }
     ensures answers { Answers (λ listen db turns ended. (text : _) × (text.now ≡ db) × F.post serve.now listen text turns ended)
+        (λ file ended. (text : _) × (text.now ≡ file) × G.post replay.now text ended)
         (command_of (map S.text words.now)) result }
     ensures writes { Writes (command_of (map S.text words.now))
         (W.contents writer.old) (W.contents writer.new) result }
@@ -66,6 +69,10 @@ pub fn perform<S: AsStr, W: Write, F: Fn(SocketAddrV4, &str, u32) -> Result<(), 
         Ok(Action::Serve { listen, db, turns }) => match serve(listen, db, turns) {
             Ok(()) => Outcome::Served,
             Err(fault) => Outcome::Serve(fault),
+        },
+        Ok(Action::Replay { file }) => match replay(file) {
+            Ok(played) => Outcome::Replayed(played),
+            Err(fault) => Outcome::Replay(fault),
         },
         Ok(Action::View { file: "-", payload }) => {
             view_of(rt.alloc(), rt.reader(), writer, payload)
@@ -81,12 +88,14 @@ pub fn perform<S: AsStr, W: Write, F: Fn(SocketAddrV4, &str, u32) -> Result<(), 
 }
 
 /// Does what the process's arguments ask for, and writes it to standard output.
-pub fn run<F: Fn(SocketAddrV4, &str, u32) -> Result<(), ServeFault>>(
-    rt: &HostRuntime,
-    serve: &F,
-) -> Outcome
-    requires { F.IsAlwaysCallable serve.now }
-    ensures { AnswersWords (λ listen db turns ended. (text : _) × (text.now ≡ db) × F.post serve.now listen text turns ended) result }
+pub fn run<
+    F: Fn(SocketAddrV4, &str, u32) -> Result<(), ServeFault>,
+    G: Fn(&str) -> Result<Played, ReplayFault>,
+>(rt: &HostRuntime, serve: &F, replay: &G) -> Outcome
+    requires serves { F.IsAlwaysCallable serve.now }
+    requires replays { G.IsAlwaysCallable replay.now }
+    ensures { AnswersWords (λ listen db turns ended. (text : _) × (text.now ≡ db) × F.post serve.now listen text turns ended)
+        (λ file ended. (text : _) × (text.now ≡ file) × G.post replay.now text ended) result }
 {
     let words = match env::args(rt) {
         Ok(words) => words.collect::<Vec<String>>(rt.alloc()),
@@ -95,5 +104,5 @@ pub fn run<F: Fn(SocketAddrV4, &str, u32) -> Result<(), ServeFault>>(
     let Ok(words) = words else {
         return Outcome::Line(LineFault::Memory);
     };
-    perform(rt, words.as_slice(), &mut io::writer(rt), serve)
+    perform(rt, words.as_slice(), &mut io::writer(rt), serve, replay)
 }

@@ -3,7 +3,7 @@
 ghost use Rattle.std.specs.Prelude.{◌≡◌, ◌≢◌, None, Some, IfErr, IfOk, false, map};
 ghost use Rattle.clap.specs.Words.{app_of, found_of, kind_of, rows_of, rule_of, subcommand_rows_of};
 ghost use Rattle.clap.specs.declared.builder.command.Command.TheViews.{out-Command as fields_of};
-ghost use Rattle.mqtt_cli.specs.Line.{AskFor, AskToServe, command_of, file_rule, option_rule, payload_rule, program_app, serve_app, vectors_app, view_app};
+ghost use Rattle.mqtt_cli.specs.Line.{AskFor, AskToReplay, AskToServe, command_of, file_rule, option_rule, payload_rule, program_app, replay_app, serve_app, vectors_app, view_app};
 
 use crate::line::{Action, LineFault};
 use crate::values::{address_read, count_read};
@@ -62,6 +62,9 @@ fn action_in<'a>(matches: &ArgMatches<'a>) -> Option<Action<'a>>
     if name == "serve" {
         return serve_in(view);
     }
+    if name == "replay" {
+        return replay_in(view);
+    }
     if name != "view" {
         return None;
     }
@@ -82,16 +85,26 @@ fn serve_in<'a>(matches: &ArgMatches<'a>) -> Option<Action<'a>>
     Some(Action::Serve { listen, db, turns })
 }
 
+/// What the matches of `replay` ask for.
+fn replay_in<'a>(matches: &ArgMatches<'a>) -> Option<Action<'a>>
+    ensures { AskToReplay (rows_of (found_of matches.now)) result }
+{
+    let file = matches.get_str("file")?;
+    Some(Action::Replay { file })
+}
+
 /// The program with its commands.
 fn program<'a>(alloc: Global) -> Result<Command<'a>, AllocError>
     ensures { IfOk result (λ command. app_of command ≡ program_app) }
 {
     let view = view_command(alloc)?;
+    let replay = replay_command(alloc)?;
     let serve = serve_command(alloc)?;
     Command::new(alloc, "mqtt5")
-        .about("An MQTT 5.0 broker, and a viewer of its packets")
+        .about("An MQTT 5.0 broker, a viewer of its packets, and scripts that crash it")
         .subcommand_required(true)
         .subcommand(view)?
+        .subcommand(replay)?
         .subcommand(vectors_command(alloc))?
         .subcommand(serve)
 }
@@ -104,7 +117,17 @@ fn view_command<'a>(alloc: Global) -> Result<Command<'a>, AllocError>
     Command::new(alloc, "view")
         .about("Writes a line for each packet of FILE")
         .arg(payload_arg(alloc))?
-        .arg(file_arg(alloc))
+        .arg(file_arg(alloc, "The bytes to view; - is standard input"))
+}
+
+/// `replay FILE`
+fn replay_command<'a>(alloc: Global) -> Result<Command<'a>, AllocError>
+    ensures app { IfOk result (λ command. app_of command ≡ replay_app) }
+    ensures local { IfOk result (λ command. (fields_of command).has_globals ≡ false) }
+{
+    Command::new(alloc, "replay")
+        .about("Runs the events of FILE in a world of clients, lost lines and stops")
+        .arg(file_arg(alloc, "The script; - is standard input"))
 }
 
 /// `--payload`
@@ -119,13 +142,13 @@ fn payload_arg<'a>(alloc: Global) -> Arg<'a>
 }
 
 /// FILE
-fn file_arg<'a>(alloc: Global) -> Arg<'a>
+fn file_arg<'a>(alloc: Global, help: &'a str) -> Arg<'a>
     ensures rule { rule_of result ≡ file_rule }
     ensures local { result.global ≡ false }
 {
     Arg::new(alloc, "file")
         .value_name("FILE")
-        .help("The bytes to view; - is standard input")
+        .help(help)
         .required(true)
 }
 

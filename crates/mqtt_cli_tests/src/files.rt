@@ -1,6 +1,6 @@
 //! A file that a command line names (ours).
 
-use mqtt_cli::{Outcome, ServeFault, Status, perform};
+use mqtt_cli::{Outcome, Played, ReplayFault, ServeFault, Status, perform};
 use std::fs;
 use std::net::SocketAddrV4;
 use std::process::Abort;
@@ -17,10 +17,15 @@ fn not_served(_: SocketAddrV4, _: &str, _: u32) -> Result<(), ServeFault> {
     Err(ServeFault::Socket)
 }
 
+/// Stands for what replays, and is not called for a view.
+fn not_replayed(_: &str) -> Result<Played, ReplayFault> {
+    Err(ReplayFault::Store)
+}
+
 /// Whether a command line shows these lines, and ends as after whole packets.
 fn shows(rt: &HostRuntime, words: &[&str], lines: &str) -> bool {
     let mut written: Vec<u8> = Vec::new(rt.alloc());
-    let outcome = perform(rt, words, &mut written, &not_served);
+    let outcome = perform(rt, words, &mut written, &not_served, &not_replayed);
     let is_whole = matches!(outcome, Outcome::Done(Status::Whole));
     drop(outcome);
     let is_shown = written.as_slice() == lines.as_bytes();
@@ -31,7 +36,7 @@ fn shows(rt: &HostRuntime, words: &[&str], lines: &str) -> bool {
 /// Whether a command line finds no file, and writes nothing.
 fn finds_nothing(rt: &HostRuntime, words: &[&str]) -> bool {
     let mut written: Vec<u8> = Vec::new(rt.alloc());
-    let outcome = perform(rt, words, &mut written, &not_served);
+    let outcome = perform(rt, words, &mut written, &not_served, &not_replayed);
     let is_missed = matches!(outcome, Outcome::NoFile);
     drop(outcome);
     let is_silent = written.is_empty();

@@ -1,8 +1,8 @@
 //! Command lines, and how the program ends (ours).
 
 use mqtt_cli::{
-    Action, LineFault, Outcome, ServeFault, Status, VectorsFault, ViewFault, action, ending,
-    perform,
+    Action, LineFault, Outcome, Played, ReplayFault, ServeFault, Status, VectorsFault, ViewFault,
+    action, ending, perform,
 };
 use std::alloc::Global;
 use std::net::{Ipv4Addr, SocketAddrV4};
@@ -99,6 +99,7 @@ fn what_serves_is_called_as_asked(rt: HostRuntime) {
                 Err(ServeFault::Socket)
             }
         },
+        &|_| Err(ReplayFault::Store),
     );
     let is_served = matches!(outcome, Outcome::Served);
     let is_silent = written.is_empty();
@@ -106,6 +107,33 @@ fn what_serves_is_called_as_asked(rt: HostRuntime) {
     drop(written);
     assert!(rt; is_served);
     assert!(rt; is_silent);
+}
+
+#[test]
+fn what_replays_is_called_as_asked(rt: HostRuntime) -> Result<(), Fail> {
+    let wanted = Action::Replay { file: "a.script" };
+    assert_asks(&rt, rt.alloc(), &["mqtt5", "replay", "a.script"], wanted)?;
+    let mut written: Vec<u8> = Vec::new(rt.alloc());
+    let outcome = perform(
+        &rt,
+        &["mqtt5", "replay", "-"],
+        &mut written,
+        &|_, _, _| Err(ServeFault::Socket),
+        &|file: &str| {
+            if file == "-" {
+                Ok(Played::Bad)
+            } else {
+                Err(ReplayFault::Read)
+            }
+        },
+    );
+    let is_replayed = matches!(outcome, Outcome::Replayed(Played::Bad));
+    let is_silent = written.is_empty();
+    drop(outcome);
+    drop(written);
+    assert!(rt; is_replayed);
+    assert!(rt; is_silent);
+    Ok(())
 }
 
 #[test]
@@ -142,6 +170,8 @@ fn other_words() -> &'static [(&'static [&'static str], &'static str)] {
         (&[], "no word"),
         (&["mqtt5"], "no command"),
         (&["mqtt5", "view"], "no FILE"),
+        (&["mqtt5", "replay"], "no FILE to replay"),
+        (&["mqtt5", "replay", "a", "b"], "two FILEs to replay"),
         (&["mqtt5", "view", "--payload"], "an option for FILE"),
         (&["mqtt5", "view", "a", "b"], "two FILEs"),
         (
@@ -207,6 +237,8 @@ fn each_outcome_has_its_status_and_text(rt: HostRuntime) -> Result<(), Fail> {
     assert!(rt; ends_with(Outcome::Done(Status::Whole), 0, ""));
     assert!(rt; ends_with(Outcome::Done(Status::Faulty), 1, ""));
     assert!(rt; ends_with(Outcome::NoFile, 3, "mqtt5: file\n"));
+    assert!(rt; ends_with(Outcome::Replayed(Played::Whole), 0, ""));
+    assert!(rt; ends_with(Outcome::Replayed(Played::Bad), 1, ""));
     assert!(rt; ends_with(Outcome::Served, 0, ""));
     for (outcome, text) in [
         (Outcome::Line(LineFault::Memory), "mqtt5: memory\n"),
@@ -215,6 +247,10 @@ fn each_outcome_has_its_status_and_text(rt: HostRuntime) -> Result<(), Fail> {
         (Outcome::View(ViewFault::Memory), "mqtt5: memory\n"),
         (Outcome::Vectors(VectorsFault::Write), "mqtt5: file\n"),
         (Outcome::Vectors(VectorsFault::Memory), "mqtt5: memory\n"),
+        (Outcome::Replay(ReplayFault::Read), "mqtt5: file\n"),
+        (Outcome::Replay(ReplayFault::Write), "mqtt5: file\n"),
+        (Outcome::Replay(ReplayFault::Memory), "mqtt5: memory\n"),
+        (Outcome::Replay(ReplayFault::Store), "mqtt5: store\n"),
         (Outcome::Serve(ServeFault::Write), "mqtt5: file\n"),
         (Outcome::Serve(ServeFault::Memory), "mqtt5: memory\n"),
         (Outcome::Serve(ServeFault::Store), "mqtt5: store\n"),
@@ -232,6 +268,10 @@ fn faults_have_their_numbers(rt: HostRuntime) {
     assert!(rt; ViewFault::Memory as u8 == 3);
     assert!(rt; VectorsFault::Write as u8 == 2);
     assert!(rt; VectorsFault::Memory as u8 == 3);
+    assert!(rt; ReplayFault::Read as u8 == 1);
+    assert!(rt; ReplayFault::Write as u8 == 2);
+    assert!(rt; ReplayFault::Memory as u8 == 3);
+    assert!(rt; ReplayFault::Store as u8 == 4);
     assert!(rt; ServeFault::Write as u8 == 2);
     assert!(rt; ServeFault::Memory as u8 == 3);
     assert!(rt; ServeFault::Store as u8 == 4);

@@ -7,8 +7,8 @@ use Rattle.mqtt_script.specs.declared.event.Event.TheVariants.{Publisher, Receiv
 use Rattle.mqtt_script.specs.Lines.{first_word}
 use Rattle.mqtt_script.specs.Telling.{publisher_text, receiver_text, broker_text, bad_text}
 use Rattle.mqtt_told.specs.Told.{told_text}
-use Rattle.mqtt_replay.specs.declared.fault.Played.{Played}
-use Rattle.mqtt_replay.specs.declared.fault.Played.TheVariants.{Whole, Bad}
+use Rattle.mqtt_replay_fault.specs.declared.fault.Played.{Played}
+use Rattle.mqtt_replay_fault.specs.declared.fault.Played.TheVariants.{Whole, Bad}
 use Rattle.mqtt_replay.specs.declared.ends.End.{End}
 use Rattle.mqtt_replay.specs.declared.ends.End.TheVariants as end
 

@@ -3,12 +3,11 @@
 #![tactic(auto)]
 
 mod ends;
-mod fault;
 mod playing;
 mod replaying;
 mod runs;
 mod script;
 
-pub use fault::{Played, ReplayFault};
+pub use mqtt_replay_fault::{Played, ReplayFault};
 pub use replaying::replay;
 pub use runs::Runs;

@@ -6,9 +6,9 @@ ghost use Rattle.mqtt_script.specs.Telling.{bad_text};
 ghost use Rattle.mqtt_replay.specs.Playing.{last_lines};
 ghost use Rattle.mqtt_replay.specs.Replaying.{EventShows, LineShows, Shows, ShowsFront};
 
-use crate::fault::{Played, ReplayFault};
 use crate::runs::Runs;
 use crate::script::Script;
+use mqtt_replay_fault::{Played, ReplayFault};
 use mqtt_script::{Event, ScriptFault, event_of, is_passed_over};
 use std::alloc::Global;
 use std::io::Write;

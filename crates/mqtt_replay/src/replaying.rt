@@ -3,10 +3,10 @@
 ghost use Rattle.std.specs.Prelude.{◌≡◌, ◌≢◌, ◌<◌, ℕ, List, [], ◌++◌, length, IfOk, IfErr, IfSome};
 ghost use Rattle.mqtt_replay.specs.Replaying.{IsPlain, PieceShows, Replays, ReplaysFront, Shows, ShowsFront, lines_of};
 
-use crate::fault::{Played, ReplayFault};
 use crate::playing::{play_last, play_line};
 use crate::runs::Runs;
 use crate::script::Script;
+use mqtt_replay_fault::{Played, ReplayFault};
 use std::alloc::Global;
 use std::io::{ErrorKind, Read, Write};
 

@@ -8,9 +8,9 @@ ghost use Rattle.mqtt_told.specs.Told.{told_text};
 ghost use Rattle.mqtt_replay.specs.Playing.{AddsLine, last_lines, made_by, start};
 
 use crate::ends::{End, push_ends, push_made};
-use crate::fault::{Played, ReplayFault};
 use crate::runs::Runs;
 use mqtt_peers::{RunFault, Told};
+use mqtt_replay_fault::{Played, ReplayFault};
 use mqtt_script::{Event, push_bad, push_broker};
 use mqtt_told::push_told;
 use std::alloc::{AllocError, Global};

@@ -1,7 +1,7 @@
 use Rattle.std.proofs.Common.{None, ap, codes, refl, rules, sym, ◌∙◌}
 use Rattle.clap.specs.Words.{found_of, subcommand_rows_of}
 use Rattle.clap.proofs.WalkLemmas.{first_value-rows, one_text-rows}
-use Rattle.mqtt_cli.proofs.Commands.{asks_nothing, asks_to_serve, is_vectors-met, rows_in-other, rows_in-serve, rows_in-view, serve_rows_in-other}
+use Rattle.mqtt_cli.proofs.Commands.{asks_nothing, asks_to_replay, asks_to_serve, is_vectors-met, replay_rows_in-met, replay_rows_in-other, rows_in-other, rows_in-serve, rows_in-view, serve_rows_in-other}
 use Rattle.mqtt_cli.specs.Line.{file_in}
 use Rattle.mqtt_cli.proofs.words.action_in.Goals as goal
 
@@ -12,6 +12,7 @@ returns-in_err-file c =
     let rows_are = rows_in-view c.args.matches.now _ found met.name met.rows c.if-ne.ensures in
     asks_nothing (subcommand_rows_of c.args.matches.now) c.from_residual-in_err-file.result c.from_residual-in_err-file.ensures
     (rw rows_are (sym (c.in_err-file.ensures ∙ first_value-rows found (codes "file"))))
+    (ap file_in (replay_rows_in-other c.args.matches.now _ found met.name met.rows c.if-eq-3.ensures))
     (is_vectors-met c.args.matches.now _ found _ met.name met.rows c.if-eq.ensures)
     (serve_rows_in-other c.args.matches.now _ found met.name met.rows c.if-eq-2.ensures)
 
@@ -21,6 +22,7 @@ returns-then-ne c =
     let found = found_of c.in_ok-name.view.now in
     asks_nothing (subcommand_rows_of c.args.matches.now) None refl
     (ap file_in (rows_in-other c.args.matches.now _ found met.name met.rows c.if-ne.ensures))
+    (ap file_in (replay_rows_in-other c.args.matches.now _ found met.name met.rows c.if-eq-3.ensures))
     (is_vectors-met c.args.matches.now _ found _ met.name met.rows c.if-eq.ensures)
     (serve_rows_in-other c.args.matches.now _ found met.name met.rows c.if-eq-2.ensures)
 
@@ -45,5 +47,14 @@ returns-then-eq-2 c =
     let met = c.in_ok-name.ensures in
     let found = found_of c.in_ok-name.view.now in
     asks_to_serve (subcommand_rows_of c.args.matches.now) _ c.serve_in.result
-    (rows_in-serve c.args.matches.now _ found met.name met.rows c.if-eq-2.ensures) (search rules)
+    (rows_in-serve c.args.matches.now _ found met.name met.rows c.if-eq-2.ensures) (search rules) (search rules)
     (is_vectors-met c.args.matches.now _ found _ met.name met.rows c.if-eq.ensures) c.serve_in.ensures
+
+pub returns-then-eq-3 : goal.returns-then-eq-3
+returns-then-eq-3 c =
+    let met = c.in_ok-name.ensures in
+    let found = found_of c.in_ok-name.view.now in
+    asks_to_replay (subcommand_rows_of c.args.matches.now) _ c.replay_in.result
+    (replay_rows_in-met c.args.matches.now _ found met.name met.rows c.if-eq-3.ensures) (search rules)
+    (serve_rows_in-other c.args.matches.now _ found met.name met.rows c.if-eq-2.ensures)
+    (is_vectors-met c.args.matches.now _ found _ met.name met.rows c.if-eq.ensures) c.replay_in.ensures

@@ -10,9 +10,11 @@ returns c =
     let required_is = ap app_of_fields c.subcommand_required.ensures
     ∙ ap (λ (a : App). let b : App = record a { top = record a.top { subcommand_required = true } } in b) program_is in
     let view = c.in_ok-view.ensures in
+    let replay = c.in_ok-replay.ensures in
     let vectors = c.vectors_command.ensures in
     let with_view = c.in_ok-subcommand.ensures.shape view.local ∙ ap₂ with_subcommand required_is (ap (λ (a : App). a.top) view.app) in
+    let with_replay = c.in_ok-subcommand-2.ensures.shape replay.local ∙ ap₂ with_subcommand with_view (ap (λ (a : App). a.top) replay.app) in
     let serve = c.in_ok-serve.ensures in
-    let with_vectors = c.in_ok-subcommand-2.ensures.shape vectors.local ∙ ap₂ with_subcommand with_view (ap (λ (a : App). a.top) vectors.app) in
-    IfOk-weaker c.subcommand-3.result _ _
-    (λ r adds. adds.shape serve.local ∙ ap₂ with_subcommand with_vectors (ap (λ (a : App). a.top) serve.app)) c.subcommand-3.ensures
+    let with_vectors = c.in_ok-subcommand-3.ensures.shape vectors.local ∙ ap₂ with_subcommand with_replay (ap (λ (a : App). a.top) vectors.app) in
+    IfOk-weaker c.subcommand-4.result _ _
+    (λ r adds. adds.shape serve.local ∙ ap₂ with_subcommand with_vectors (ap (λ (a : App). a.top) serve.app)) c.subcommand-4.ensures

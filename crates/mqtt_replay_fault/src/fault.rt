@@ -17,7 +17,7 @@ pub enum Played {
 /// Why a replay stopped early.
 #[derive(Clone, Copy, Debug, PartialEq, Eq, Error)]
 pub enum ReplayFault {
-    /// 1: a read failed. Whole lines were written, a beginning of the text.
+    /// 1: a read failed, or the script's file did not open. Whole lines were written, a beginning of the text.
     #[error("a read failed")]
     Read = 1,
     /// 2: a write failed. Nothing is said of what was written.
@@ -32,7 +32,7 @@ pub enum ReplayFault {
 }
 
 impl From<AllocError> for ReplayFault {
-    ghost use Rattle.mqtt_replay.specs.declared.fault.ReplayFault.TheVariants.{Memory};
+    ghost use Rattle.mqtt_replay_fault.specs.declared.fault.ReplayFault.TheVariants.{Memory};
 
     ghost from_gives = { λ _ fault. fault ≡ Memory };
 
@@ -42,7 +42,7 @@ impl From<AllocError> for ReplayFault {
 }
 
 impl<T: Drop> From<AllocFailed<T>> for ReplayFault {
-    ghost use Rattle.mqtt_replay.specs.declared.fault.ReplayFault.TheVariants.{Memory};
+    ghost use Rattle.mqtt_replay_fault.specs.declared.fault.ReplayFault.TheVariants.{Memory};
 
     ghost from_gives = { λ _ fault. fault ≡ Memory };
 

@@ -1,0 +1,3 @@
+-- Lemmas on worlds that run, and the text of a script there.
+pub mod Refused
+pub mod Texted

@@ -1,0 +1,3 @@
+-- What a script comes to in a world that runs, and the text of it.
+pub mod Plays
+pub mod Texts

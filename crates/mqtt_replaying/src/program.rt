@@ -1,0 +1,36 @@
+//! The replay of the script in a file, for the program (ours).
+
+use crate::replaying::replay;
+use mqtt_replay_fault::{Played, ReplayFault};
+use std::fs;
+use std::hash::RandomState;
+use std::io::{ErrorKind, Read, Write};
+
+/// Replays the script that a reader gives.
+fn replay_of<R: Read + Drop, W: Write>(
+    rt: &HostRuntime,
+    mut reader: R,
+    writer: &mut W,
+) -> Result<Played, ReplayFault> {
+    match RandomState::new(rt) {
+        Ok(hasher) => replay(rt.alloc(), hasher, &mut reader, writer),
+        Err(_) => Err(ReplayFault::Memory),
+    }
+}
+
+/// Replays the script in the file at a path, `-` for standard input, from nothing stored. A file that does not open is `Read`
+/// (1). What a file holds no contract can say; `replay` says what is written.
+pub fn replay_at<W: Write>(
+    rt: &HostRuntime,
+    file: &str,
+    writer: &mut W,
+) -> Result<Played, ReplayFault> {
+    if file == "-" {
+        return replay_of(rt, rt.reader(), writer);
+    }
+    match fs::open(rt, file) {
+        Ok(file) => replay_of(rt, file, writer),
+        Err(error) if error.kind() == ErrorKind::OutOfMemory => Err(ReplayFault::Memory),
+        Err(_) => Err(ReplayFault::Read),
+    }
+}

@@ -1,0 +1,75 @@
+//! The scripts of examples/ without their notes, and what stands beside them: an answer that is lost, a broker that is killed
+//! between commit and answer, a CONNECT that comes late (MQTT 5.0, 3.1.4, 4.1, 4.3.3, 4.4).
+
+use crate::playing::is_so;
+use mqtt_replaying::Played;
+use std::hash::RandomState;
+use std::test::Fail;
+
+/// A PUBREC is lost with its line.
+const LOST_PUBREC: &str =
+    "receiver r1 10\npublisher p1\nconnect r1 0\ntobroker r1\ntoend r1\nsubscribe r1 2 0 0 0 0 a/b\n\
+    tobroker r1\ntoend r1\nconnect p1 0\ntobroker p1\ntoend p1\npublish p1 2 0 a/b 6869\ntobroker p1\n\
+    break p1\nconnect p1 0\ntobroker p1\ntoend p1\ntobroker p1\ntoend p1\ntobroker p1\ntoend p1\n\
+    pump r1\ntoend r1\ntobroker r1\ntoend r1\ntobroker r1\n";
+
+const LOST_PUBREC_TEXT: &str =
+    "1 receiver\n2 publisher\n3 connect\n4 tobroker out=1\n5 toend\n6 subscribe\n7 tobroker out=1\n\
+    8 toend\n9 connect\n10 tobroker out=1\n11 toend\n12 publish\n\
+    13 tobroker accepted=1 entered=1>r1 out=1\n14 break\n15 connect\n16 tobroker out=1\n17 toend\n\
+    18 tobroker out=1\n19 toend\n20 tobroker released=1 out=1\n21 toend\n22 pump out=1\n23 toend\n\
+    24 tobroker out=1\n25 toend\n26 tobroker ended=1>r1:Taken\nr1 handed=1 queue=0\np1 sent=1 done=1\n\
+    broker publications=1 sessions=2\n";
+
+/// The broker is killed once it has stored a message, and once it has stored that its copy was sent.
+const KILLED_BROKER: &str =
+    "receiver r1 10\npublisher p1\nconnect r1 0\ntobroker r1\ntoend r1\nsubscribe r1 2 0 0 0 0 a/b\n\
+    tobroker r1\ntoend r1\nconnect p1 0\ntobroker p1\ntoend p1\npublish p1 2 0 a/b 6869\n\
+    stopafter tobroker p1\nconnect r1 0\ntobroker r1\ntoend r1\nconnect p1 0\ntobroker p1\ntoend p1\n\
+    tobroker p1\ntoend p1\ntobroker p1\ntoend p1\nstopafter pump r1\nconnect r1 0\ntobroker r1\n\
+    toend r1\npump r1\ntoend r1\ntobroker r1\ntoend r1\ntobroker r1\n";
+
+const KILLED_BROKER_TEXT: &str =
+    "1 receiver\n2 publisher\n3 connect\n4 tobroker out=1\n5 toend\n6 subscribe\n7 tobroker out=1\n\
+    8 toend\n9 connect\n10 tobroker out=1\n11 toend\n12 publish\n13 stopafter\n14 connect\n\
+    15 tobroker out=1\n16 toend\n17 connect\n18 tobroker out=1\n19 toend\n20 tobroker out=1\n21 toend\n\
+    22 tobroker released=1 out=1\n23 toend\n24 stopafter\n25 connect\n26 tobroker out=1\n27 toend\n\
+    28 pump out=1\n29 toend\n30 tobroker out=1\n31 toend\n32 tobroker ended=1>r1:Taken\n\
+    r1 handed=1 queue=0\np1 sent=1 done=1\nbroker publications=1 sessions=2\n";
+
+/// A CONNECT on a line that was given up takes the session over.
+const LATE_CONNECT: &str =
+    "receiver r1 10\npublisher p1\nconnect r1 0\ntobroker r1\ntoend r1\nsubscribe r1 2 0 0 0 0 a/b\n\
+    tobroker r1\ntoend r1\nconnect p1 0\ngiveup p1\nconnect p1 0\ntobroker p1\ntoend p1\n\
+    publish p1 2 0 a/b 6869\ntobroker p1\ntobroker p1 old\ntoend p1\ntobroker p1\ntoend p1\n\
+    connect p1 0\ntobroker p1\ntoend p1\ntobroker p1\ntoend p1\npump r1\ntoend r1\ntobroker r1\n\
+    toend r1\ntobroker r1\n";
+
+const LATE_CONNECT_TEXT: &str =
+    "1 receiver\n2 publisher\n3 connect\n4 tobroker out=1\n5 toend\n6 subscribe\n7 tobroker out=1\n\
+    8 toend\n9 connect\n10 giveup\n11 connect\n12 tobroker out=1\n13 toend\n14 publish\n\
+    15 tobroker accepted=1 entered=1>r1 out=1\n16 tobroker out=2\n17 toend\n18 tobroker\n19 toend\n\
+    20 connect\n21 tobroker out=2\n22 toend\n23 tobroker released=1 out=1\n24 toend\n25 pump out=1\n\
+    26 toend\n27 tobroker out=1\n28 toend\n29 tobroker ended=1>r1:Taken\nr1 handed=1 queue=0\n\
+    p1 sent=1 done=1\nbroker publications=1 sessions=2\n";
+
+/// The scripts, and their texts.
+fn scripts() -> &'static [(&'static str, &'static str)] {
+    &[
+        (LOST_PUBREC, LOST_PUBREC_TEXT),
+        (KILLED_BROKER, KILLED_BROKER_TEXT),
+        (LATE_CONNECT, LATE_CONNECT_TEXT),
+    ]
+}
+
+#[test]
+fn the_scripts_of_the_examples(rt: HostRuntime) -> Result<(), Fail> {
+    let hasher = RandomState::new(&rt)?;
+    for (script, text) in scripts() {
+        assert!(rt;
+            is_so(rt.alloc(), hasher, script, Played::Whole, text) == Ok(true),
+            "{script}"
+        );
+    }
+    Ok(())
+}

@@ -1,0 +1,71 @@
+//! Scripts whose texts are worked out by hand: a message whose broker stops between commit and answer, and a PUBREL on a line
+//! that was given up, read before the CONNECT of the new one and after it (MQTT 5.0, 4.3.3, 4.4).
+
+use crate::playing::{is_so, is_so_in_sql};
+use mqtt_replaying::Played;
+use std::hash::RandomState;
+use std::test::Fail;
+
+/// A message of QoS 2 for a receiver; the broker stops once it has sent it, and nothing goes out.
+const STOPPED: &str = "receiver r1 10\npublisher p1\nconnect r1 0\ntobroker r1\ntoend r1\n\
+    subscribe r1 2 0 0 0 0 a/b\ntobroker r1\ntoend r1\nconnect p1 0\ntobroker p1\ntoend p1\n\
+    publish p1 2 0 a/b 6869\ntobroker p1\nstopafter pump r1\nconnect r1 0\ntobroker r1\ntoend r1\npump r1\ntoend r1\n\
+    tobroker r1\ntoend r1\ntobroker r1\n";
+
+const STOPPED_TEXT: &str =
+    "1 receiver\n2 publisher\n3 connect\n4 tobroker out=1\n5 toend\n6 subscribe\n\
+    7 tobroker out=1\n8 toend\n9 connect\n10 tobroker out=1\n11 toend\n12 publish\n\
+    13 tobroker accepted=1 entered=1>r1 out=1\n14 stopafter\n15 connect\n16 tobroker out=1\n17 toend\n\
+    18 pump out=1\n19 toend\n20 tobroker out=1\n21 toend\n22 tobroker ended=1>r1:Taken\nr1 handed=1 queue=0\n\
+    p1 sent=1 done=0\nbroker publications=1 sessions=2\n";
+
+/// A publisher sent PUBREL, gives its line up and connects on a new one; the old line is read first.
+const OLD_FIRST: &str =
+    "publisher p1\nconnect p1 0\ntobroker p1\ntoend p1\npublish p1 2 0 a/b 6869\ntobroker p1\n\
+    toend p1\ngiveup p1\nconnect p1 0\ntobroker p1 old\ntobroker p1\ntoend p1\ntobroker p1\ntoend p1\n";
+
+const OLD_FIRST_TEXT: &str = "1 publisher\n2 connect\n3 tobroker out=1\n4 toend\n5 publish\n\
+    6 tobroker accepted=1 out=1\n7 toend\n8 giveup\n9 connect\n10 tobroker released=1 out=1\n11 tobroker out=2\n\
+    12 toend\n13 tobroker out=1\n14 toend\np1 sent=1 done=1\nbroker publications=1 sessions=1\n";
+
+/// The same, where the CONNECT is read first: the broker closes the old line, and drops the rest of it.
+const NEW_FIRST: &str =
+    "publisher p1\nconnect p1 0\ntobroker p1\ntoend p1\npublish p1 2 0 a/b 6869\ntobroker p1\n\
+    toend p1\ngiveup p1\nconnect p1 0\ntobroker p1\ntobroker p1 old\ntoend p1\ntobroker p1\ntoend p1\n";
+
+const NEW_FIRST_TEXT: &str = "1 publisher\n2 connect\n3 tobroker out=1\n4 toend\n5 publish\n\
+    6 tobroker accepted=1 out=1\n7 toend\n8 giveup\n9 connect\n10 tobroker out=2\n11 tobroker\n\
+    12 toend\n13 tobroker released=1 out=1\n14 toend\np1 sent=1 done=1\nbroker publications=1 sessions=1\n";
+
+/// The scripts, and their texts.
+fn rows() -> &'static [(&'static str, &'static str)] {
+    &[
+        (STOPPED, STOPPED_TEXT),
+        (OLD_FIRST, OLD_FIRST_TEXT),
+        (NEW_FIRST, NEW_FIRST_TEXT),
+    ]
+}
+
+#[test]
+fn rows_over_the_store_in_memory(rt: HostRuntime) -> Result<(), Fail> {
+    let hasher = RandomState::new(&rt)?;
+    for (script, text) in rows() {
+        assert!(rt;
+            is_so(rt.alloc(), hasher, script, Played::Whole, text) == Ok(true),
+            "{script}"
+        );
+    }
+    Ok(())
+}
+
+#[test]
+fn rows_over_a_store_in_sql(rt: HostRuntime) -> Result<(), Fail> {
+    let hasher = RandomState::new(&rt)?;
+    for (script, text) in rows() {
+        assert!(rt;
+            is_so_in_sql(rt.alloc(), hasher, script, Played::Whole, text) == Ok(true),
+            "{script}"
+        );
+    }
+    Ok(())
+}
