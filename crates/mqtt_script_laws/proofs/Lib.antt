@@ -10,3 +10,4 @@ pub mod Carrying
 pub mod Chosen
 pub mod Repeated
 pub mod Drained
+pub mod OneTurn

@@ -4,14 +4,14 @@ ghost use Rattle.mqtt_every_run_laws.specs.Untouched.{IsUntouched};
 ghost use Rattle.mqtt_handed_laws.specs.Drains.{copies_left, enough_rounds, is_over, round_turns};
 ghost use Rattle.mqtt_laws.specs.Tellings.{Telling};
 ghost use Rattle.mqtt_laws.specs.World as world;
-ghost use Rattle.mqtt_laws.specs.World.{World};
+ghost use Rattle.mqtt_laws.specs.World.{World, ask, pump, to_broker, to_end};
 ghost use Rattle.mqtt_rules.specs.Laws.{AreWithin};
 ghost use Rattle.mqtt_rules.specs.State.{MemberChoice};
 ghost use Rattle.mqtt_rules.specs.declared.Limits.{Limits};
 ghost use Rattle.mqtt_script.specs.declared.event.Event.{Event};
 ghost use Rattle.mqtt_script_laws.specs.Cleanly.{keep_clean_starts};
 ghost use Rattle.mqtt_script_laws.specs.Drains.{DrainHappens, DrainsBy, IsRound, MakesRounds, Repeats};
-ghost use Rattle.mqtt_script_laws.specs.Scripted.{RunsTo};
+ghost use Rattle.mqtt_script_laws.specs.Scripted.{Happens, RunsTo};
 ghost use Rattle.mqtt_script_laws.specs.Turns.{IsTurn, both_tell};
 ghost use Rattle.mqtt_world_laws.specs.Copies.{entered_from};
 
@@ -53,4 +53,15 @@ pub fn rounds_follow_one_another()
     ensures a_round_more { (limits : Limits) (client : List ℕ) (rounds : ℕ) (t u : Telling) (w mid after : World)
         → MakesRounds limits client rounds t w mid → is_over client mid ≡ false → IsRound limits client u mid after
         → MakesRounds limits client (suc rounds) (both_tell t u) w after }
+{}
+
+/// What the broker sends for a client, a packet that an end reads, and one that the broker reads from it happen as one turn
+/// each: so a drain is made of what happens (4.4, 4.6).
+pub fn what_a_drain_is_made_of_is_turns()
+    ensures sends { (limits : Limits) (client : List ℕ) (t : Telling) (w after : World)
+        → Happens limits (ask (pump client)) t w after → IsTurn limits (ask (pump client)) t w after }
+    ensures reads { (limits : Limits) (client : List ℕ) (t : Telling) (w after : World)
+        → Happens limits (to_end client) t w after → IsTurn limits (to_end client) t w after }
+    ensures answers { (limits : Limits) (client : List ℕ) (t : Telling) (w after : World)
+        → Happens limits (ask (to_broker client)) t w after → IsTurn limits (ask (to_broker client)) t w after }
 {}
