@@ -11,3 +11,4 @@ pub mod Chosen
 pub mod Repeated
 pub mod Drained
 pub mod OneTurn
+pub mod Drainable

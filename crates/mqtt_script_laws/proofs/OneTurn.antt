@@ -1,5 +1,6 @@
 -- What a drain is made of happens as one turn each: the broker sends, an end reads, the broker reads (MQTT 5.0, 4.6).
 use Rattle.std.proofs.Common.{◌≡◌, ℕ, Bool, true, false, cond, ◌||◌, List, [], ◌∷◌, refl, sym, ap, ◌∙◌}
+use Rattle.mqtt_rules.specs.State.{MemberChoice}
 use Rattle.mqtt_rules.specs.declared.Limits.{Limits}
 use Rattle.mqtt_laws.specs.Run.{Turn, deeds_over, read_in, run}
 use Rattle.mqtt_laws.specs.Tellings.{Telling, telling}
@@ -14,6 +15,11 @@ nothing_more : (b : Bool) → (b || false) ≡ false → b ≡ false
 nothing_more true h = h
 nothing_more false h = refl
 
+pub turn_costs : (limits : Limits) (choice : MemberChoice) (e : Event) (w : World) → is_bad e w ≡ false → run_spends limits (turn choice e ∷ []) w ≡ false → read_in spending (by_choice limits choice) e w ≡ false
+turn_costs limits choice e w good unspent =
+    let spends = read_in spending (by_choice limits choice) e w in
+    nothing_more spends (sym (ap (λ (b : Bool). cond b false spends || false) good) ∙ unspent)
+
 -- what comes to that event alone is one turn of it
 one_turn : (limits : Limits) (e : Event) (t : Telling) (w after : World) (turns : List Turn) → events_of turns ≡ e ∷ [] → is_heard e ≡ true → is_bad e w ≡ false → run_spends limits turns w ≡ false
     → after ≡ run limits turns w → t ≡ tells_in limits e turns w → IsTurn limits e t w after
@@ -22,14 +28,10 @@ one_turn limits e t w after (x ∷ y ∷ more) are heard good unspent is told = 
 one_turn limits e t w after (x ∷ []) are heard good unspent is told =
     let same : x.event ≡ e = cc in
     let its : x ∷ [] ≡ turn x.choice e ∷ [] = ap (λ (f : Event). turn x.choice f ∷ []) same in
-    let spends = read_in spending (by_choice limits x.choice) e w in
     record {
       choice = x.choice;
       good = good;
-      unspent =
-          nothing_more spends
-          (sym (ap (λ (b : Bool). cond b false spends || false) good)
-          ∙ (sym (ap (λ (ts : List Turn). run_spends limits ts w) its) ∙ unspent));
+      unspent = turn_costs limits x.choice e w good (sym (ap (λ (ts : List Turn). run_spends limits ts w) its) ∙ unspent);
       is = is ∙ (ap (λ (ts : List Turn). run limits ts w) its ∙ turn_is limits x.choice e w good);
       told =
           told
