@@ -1,15 +1,14 @@
 -- A drain by one choice that spends no number is one turn by turn, and is over after enough rounds: so it can happen (MQTT 5.0,
 -- 4.3, 4.4, 4.6).
-use Rattle.std.proofs.Common.{◌≡◌, ◌≤◌, ◌+◌, ℕ, zero, suc, Bool, true, false, cond, not, ◌||◌, List, [], ◌∷◌, ◌++◌, length, refl, sym, ap, subst, ◌∙◌, arith, inl, inr}
+use Rattle.std.proofs.Common.{◌≡◌, ◌≤◌, ◌+◌, ℕ, zero, suc, Bool, true, false, not, ◌||◌, List, [], ◌∷◌, ◌++◌, length, refl, sym, ap, subst, arith}
 use Rattle.std.specs.Prelude.{is_some}
-use Rattle.std.proofs.lemmas.Bool.{cases_Bool}
 use Rattle.mqtt_laws.specs.Run.{Turn, read_in, run, the_deeds}
 use Rattle.mqtt_laws.specs.Tellings.{Telling, silent, telling}
-use Rattle.mqtt_laws.specs.World.{Event, World, ask, happens, is_bad, is_end, publisher_named, pump, receiver_named, to_broker, to_end}
+use Rattle.mqtt_laws.specs.World.{Event, World, ask, is_bad, is_end, publisher_named, pump, receiver_named, to_broker, to_end}
 use Rattle.mqtt_rules.specs.State.{MemberChoice}
 use Rattle.mqtt_rules.specs.declared.Limits.{Limits}
 use Rattle.mqtt_world_laws.specs.Copies.{entered_from}
-use Rattle.mqtt_world_laws.specs.Spending.{run_spends, spending}
+use Rattle.mqtt_world_laws.specs.Spending.{run_spends}
 use Rattle.mqtt_handed_laws.specs.Drains.{after_round, all_to_broker, all_to_end, copies_left, count_by_end, downs_by, drain_by, drain_turns, drained, enough_rounds, is_bad_drain, is_over, round_turns, rounds_taken, times, turn_of, ups_by}
 use Rattle.mqtt_handed_laws.proofs.DrainRuns.{run_append}
 use Rattle.mqtt_every_run_laws.specs.Taking.{any_size}
@@ -79,8 +78,9 @@ module _ (client : List ℕ) (limits : Limits) (choice : MemberChoice) where
       let there_sent = stays sends w there in
       let two = repeats_back (to_end client) is_an_end (downs_by (receiver_named client sent)) sent there_sent later.0 in
       let three = repeats_back (ask (to_broker client)) is_an_end (ups_by (receiver_named client read)) read (stays reads sent there_sent) later.1 in
-      let end : run limits answers read ≡ after_round limits choice client w = sym (run_append limits reads answers sent) in (
-        both_tell (told_by (ask (pump client)) w) (both_tell two.0 three.0),
+      let end : run limits answers read ≡ after_round limits choice client w = sym (run_append limits reads answers sent) in
+      let told = both_tell (told_by (ask (pump client)) w) (both_tell two.0 three.0) in (
+        told,
         record {
           first = told_by (ask (pump client)) w;
           second = two.0;
