@@ -29,7 +29,7 @@ use Rattle.mqtt_script_laws.proofs.Repeated.{Comes, IsReady, answers_same, come_
 
 module _ (client : List ℕ) (limits : Limits) (choice : MemberChoice) where
   -- where it is not over its receiver is there
-  has_receiver : (w : World) → is_over client w ≡ false → is_some (receiver_named client w) ≡ true
+  pub has_receiver : (w : World) → is_over client w ≡ false → is_some (receiver_named client w) ≡ true
   has_receiver w on = by (receiver_named client w) refl
     where
       by : (o : Option Receiver) → receiver_named client w ≡ o → is_some o ≡ true
@@ -113,7 +113,7 @@ module _ (client : List ℕ) (limits : Limits) (choice : MemberChoice) where
   first_unspent rounds t w after kept (on, first, rest, mid, made, others, told) =
       (round_by first w mid (record { kept = kept; there = has_receiver w on }) made).unspent
 
-  grown : (w : World) → IsKept [] client limits w → run_spends limits (round_turns limits choice client w) w ≡ false
+  pub grown : (w : World) → IsKept [] client limits w → run_spends limits (round_turns limits choice client w) w ≡ false
       → copies_left client (after_round limits choice client w) ≤ copies_left client w + length (entered_from limits (round_turns limits choice client w) w)
   grown w kept unspent =
       let around = kept.stands.standing.around in
@@ -152,7 +152,7 @@ a_round_more limits client (suc rounds) t u w mid after (at, first, rest, v, mad
 
 module _ (limits : Limits) (es : List Event) (tells : List Telling) (choice : MemberChoice) (client : List ℕ) (w v : World) (within : AreWithin limits) (untouched : IsUntouched limits w) (keeps : keep_clean_starts [] es ≡ true)
     (runs : RunsTo limits es tells w v) where
-  kept_there : IsKept [] client limits v
+  pub kept_there : IsKept [] client limits v
   kept_there = let f = script_fair limits es tells w v within untouched keeps runs in subst (IsKept [] client limits) (sym f.2) (fair_run_kept limits f.0 w untouched f.1 client)
 
   pub so_far : (rounds : ℕ) (t : Telling) (after : World) → MakesRounds limits client rounds t v after → DrainsBy limits choice client rounds rounds t v after

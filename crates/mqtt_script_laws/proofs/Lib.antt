@@ -10,3 +10,5 @@ pub mod Carrying
 pub mod Chosen
 pub mod Repeated
 pub mod Drained
+pub mod OneTurn
+pub mod Drainable

@@ -56,7 +56,7 @@ pub record IsReady (client : List ℕ) (limits : Limits) (w : World) : Type 0 wh
   pub kept : IsKept [] client limits w
   pub there : is_some (receiver_named client w) ≡ true
 
-some_there : (client : List ℕ) (limits : Limits) (ts : List Turn) (w : World) → is_some (receiver_named client w) ≡ true → is_some (receiver_named client (run limits ts w)) ≡ true
+pub some_there : (client : List ℕ) (limits : Limits) (ts : List Turn) (w : World) → is_some (receiver_named client w) ≡ true → is_some (receiver_named client (run limits ts w)) ≡ true
 some_there client limits ts w there = by (receiver_named client w) refl there
   where
     by : (o : Option Receiver) → receiver_named client w ≡ o → is_some o ≡ true → is_some (receiver_named client (run limits ts w)) ≡ true

@@ -1,19 +1,20 @@
 //! Laws of drains in scripts, turn by turn: of their rounds, and of the choices of members in them (4.3, 4.4, 4.6).
 ghost use Rattle.std.specs.Prelude.{◌≡◌, ◌≤◌, ◌+◌, ℕ, List, [], false, length, suc, true};
 ghost use Rattle.mqtt_every_run_laws.specs.Untouched.{IsUntouched};
-ghost use Rattle.mqtt_handed_laws.specs.Drains.{copies_left, enough_rounds, is_over, round_turns};
+ghost use Rattle.mqtt_handed_laws.specs.Drains.{copies_left, drain_turns, drained, enough_rounds, is_bad_drain, is_over, round_turns};
 ghost use Rattle.mqtt_laws.specs.Tellings.{Telling};
 ghost use Rattle.mqtt_laws.specs.World as world;
-ghost use Rattle.mqtt_laws.specs.World.{World};
+ghost use Rattle.mqtt_laws.specs.World.{World, ask, pump, to_broker, to_end};
 ghost use Rattle.mqtt_rules.specs.Laws.{AreWithin};
 ghost use Rattle.mqtt_rules.specs.State.{MemberChoice};
 ghost use Rattle.mqtt_rules.specs.declared.Limits.{Limits};
 ghost use Rattle.mqtt_script.specs.declared.event.Event.{Event};
 ghost use Rattle.mqtt_script_laws.specs.Cleanly.{keep_clean_starts};
 ghost use Rattle.mqtt_script_laws.specs.Drains.{DrainHappens, DrainsBy, IsRound, MakesRounds, Repeats};
-ghost use Rattle.mqtt_script_laws.specs.Scripted.{RunsTo};
+ghost use Rattle.mqtt_script_laws.specs.Scripted.{Happens, RunsTo};
 ghost use Rattle.mqtt_script_laws.specs.Turns.{IsTurn, both_tell};
 ghost use Rattle.mqtt_world_laws.specs.Copies.{entered_from};
+ghost use Rattle.mqtt_world_laws.specs.Spending.{run_spends};
 
 /// What a receiver sends publishes nothing, and its session has no Will: so in a drain no choice of members is asked for. From
 /// wherever a script has come to, its rounds are those by any one choice, and with them what is told; so is the whole drain, of
@@ -45,6 +46,16 @@ pub fn drains_of_a_script_end()
         → is_over client after ≡ true }
 {}
 
+/// From wherever a script has come to, a receiver whose line stands can be drained: enough rounds of a drain by some choice, if
+/// they spend no number, are rounds turn by turn, and after them the drain is over (4.3, 4.4, 4.6, 4.9).
+pub fn a_drain_can_happen()
+    ensures { (limits : Limits) (es : List Event) (tells : List Telling) (choice : MemberChoice) (client : List ℕ) (most : ℕ)
+        (w v : World) → AreWithin limits → IsUntouched limits w → keep_clean_starts [] es ≡ true → RunsTo limits es tells w v
+        → is_bad_drain client v ≡ false → run_spends limits (drain_turns limits choice client most v) v ≡ false
+        → enough_rounds (copies_left client v + length (entered_from limits (round_turns limits choice client v) v)) ≤ most
+        → (t : Telling) × DrainHappens limits client t v (drained limits choice client most v) }
+{}
+
 /// Rounds follow one another, and so do the turns of one event: one more after so many is one more than so many, and tells
 /// behind what they do (4.6).
 pub fn rounds_follow_one_another()
@@ -53,4 +64,15 @@ pub fn rounds_follow_one_another()
     ensures a_round_more { (limits : Limits) (client : List ℕ) (rounds : ℕ) (t u : Telling) (w mid after : World)
         → MakesRounds limits client rounds t w mid → is_over client mid ≡ false → IsRound limits client u mid after
         → MakesRounds limits client (suc rounds) (both_tell t u) w after }
+{}
+
+/// What the broker sends for a client, a packet that an end reads, and one that the broker reads from it happen as one turn
+/// each: so a drain is made of what happens (4.4, 4.6).
+pub fn what_a_drain_is_made_of_is_turns()
+    ensures sends { (limits : Limits) (client : List ℕ) (t : Telling) (w after : World)
+        → Happens limits (ask (pump client)) t w after → IsTurn limits (ask (pump client)) t w after }
+    ensures reads { (limits : Limits) (client : List ℕ) (t : Telling) (w after : World)
+        → Happens limits (to_end client) t w after → IsTurn limits (to_end client) t w after }
+    ensures answers { (limits : Limits) (client : List ℕ) (t : Telling) (w after : World)
+        → Happens limits (ask (to_broker client)) t w after → IsTurn limits (ask (to_broker client)) t w after }
 {}
