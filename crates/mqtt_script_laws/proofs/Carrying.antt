@@ -1,5 +1,5 @@
 -- A script that keeps its Clean Starts comes to turns that carry them through; strangers stay alike along it.
-use Rattle.std.proofs.Common.{◌≡◌, ℕ, Bool, true, false, not, ◌&&◌, List, [], ◌∷◌, ◌++◌, map, Option, refl, sym, ap, subst, ◌∙◌}
+use Rattle.std.proofs.Common.{◌≡◌, ℕ, zero, suc, Bool, true, false, not, ◌&&◌, List, [], ◌∷◌, ◌++◌, map, Option, None, refl, sym, ap, subst, ◌∙◌}
 use Rattle.std.specs.List.{AllByRecursion}
 use Rattle.mqtt_rules.specs.Laws.{AreWithin}
 use Rattle.mqtt_rules.specs.declared.Limits.{Limits}
@@ -12,12 +12,16 @@ use Rattle.mqtt_script.specs.declared.event.Event.{Event as Line}
 use Rattle.mqtt_unrolled_laws.specs.Unrolled.{AreAllAlike, HoldNoPacket, Unrolls, UnrollsAsking, UnrollsStop, come_in}
 use Rattle.mqtt_unrolled_laws.proofs.Alike.{step_alike}
 use Rattle.mqtt_unrolled_laws.proofs.Waiting.{step_waits}
+use Rattle.mqtt_world_laws.specs.Fair.{IsFair}
 use Rattle.mqtt_world_laws.specs.Identities.{TellsApart}
+use Rattle.mqtt_handed_laws.specs.Drains.{times}
 use Rattle.mqtt_every_run_laws.specs.Untouched.{IsUntouched}
 use Rattle.mqtt_every_run_laws.proofs.Untouched.{start_untouched}
 use Rattle.mqtt_world_laws.proofs.OnceRuns.{start_apart}
 use Rattle.mqtt_script_laws.specs.Cleanly.{ScriptDelivers, is_named, keep_clean_starts, keeps_clean, keeps_if, named_after, named_if}
-use Rattle.mqtt_script_laws.specs.Scripted.{AreTurnsOf, IsRunOf, RunsTo, events_of}
+use Rattle.mqtt_script_laws.specs.Drains.{AreTurnsOfDrain, AreTurnsOfRound, AreTurnsOfRounds}
+use Rattle.mqtt_script_laws.specs.Scripted.{AreTurnsFor, AreTurnsOf, IsRunOf, RunsTo, event_of, of_drain, of_event}
+use Rattle.mqtt_script_laws.specs.Turns.{events_of}
 use Rattle.mqtt_script_laws.proofs.Cleanly.{Known, step_known, waits_named}
 use Rattle.mqtt_script_laws.proofs.Scripts.{runs_by_turns, script_delivers}
 
@@ -121,25 +125,90 @@ event_comes names restart w es keeps is = alone names restart es keeps is
 event_comes names (stop_before a) w es keeps is = alone names (stop_before a) es keeps is
 event_comes names (stop_after a) w es keeps is = stop_comes names a w es is
 
+-- ---- a drain: none connects or gives up
+
+abbrev NamesNobody : Event → Type 0
+NamesNobody e = (names : List (List ℕ)) → (keeps_clean names e ≡ true) × (named_after e names ≡ names)
+
+nobody_named : (es : List Event) → AllByRecursion NamesNobody es → (names : List (List ℕ)) → (carries_over names es ≡ true) × (names_over es names ≡ names)
+nobody_named [] h names = (refl, refl)
+nobody_named (e ∷ es) h names =
+    let one = h.0 names in
+    let rest = nobody_named es h.1 (named_after e names) in
+    (and_true (keeps_clean names e) (carries_over (named_after e names) es) one.0 rest.0, rest.1 ∙ one.1)
+
+so_many : (n : ℕ) (e : Event) → NamesNobody e → AllByRecursion NamesNobody (times n e)
+so_many zero e h = tt
+so_many (suc n) e h = (h, so_many n e h)
+
+both_named : (xs ys : List Turn) → AllByRecursion NamesNobody (events_of xs) → AllByRecursion NamesNobody (events_of ys) → AllByRecursion NamesNobody (events_of (xs ++ ys))
+both_named [] ys h k = k
+both_named (t ∷ xs) ys h k = (h.0, both_named xs ys h.1 k)
+
+round_named : (limits : Limits) (client : List ℕ) (turns : List Turn) (w : World) → AreTurnsOfRound limits client turns w → AllByRecursion NamesNobody (events_of turns)
+round_named limits client turns w x =
+    let sends : AllByRecursion NamesNobody (events_of x.sends) = subst (AllByRecursion NamesNobody) (sym x.sends_are) ((λ names. (refl, refl)), tt) in
+    let reads : AllByRecursion NamesNobody (events_of x.reads) = subst (AllByRecursion NamesNobody) (sym x.reads_are) (so_many _ (to_end client) (λ names. (refl, refl))) in
+    let answers : AllByRecursion NamesNobody (events_of x.answers) = subst (AllByRecursion NamesNobody) (sym x.answers_are) (so_many _ (ask (to_broker client)) (λ names. (refl, refl))) in
+    subst (λ (ts : List Turn). AllByRecursion NamesNobody (events_of ts)) (sym x.are) (both_named (x.sends ++ x.reads) x.answers (both_named x.sends x.reads sends reads) answers)
+
+rounds_named : (limits : Limits) (client : List ℕ) (rounds : ℕ) (turns : List Turn) (w : World) → AreTurnsOfRounds limits client rounds turns w → AllByRecursion NamesNobody (events_of turns)
+rounds_named limits client zero turns w h = subst (λ (ts : List Turn). AllByRecursion NamesNobody (events_of ts)) (sym h.1) tt
+rounds_named limits client (suc rounds) turns w (on, first, rest, front, others, are) =
+    subst (λ (ts : List Turn). AllByRecursion NamesNobody (events_of ts)) (sym are)
+    (both_named first rest (round_named limits client first w front) (rounds_named limits client rounds rest (run limits first w) others))
+
+-- ---- the turns of an event
+
+record Carries (limits : Limits) (e : Line) (es : List Line) (names : List (List ℕ)) (first : List Turn) (w : World) : Type 0 where
+  carried : are_clean_starts_carried limits first w ≡ true
+  known : Known (named_if (event_of e) names) (run limits first w)
+  keeps : keep_clean_starts (named_if (event_of e) names) es ≡ true
+
+first_carries : (limits : Limits) (e : Line) (es : List Line) (names : List (List ℕ)) (first : List Turn) (w : World) → Known names w → keep_clean_starts names (e ∷ es) ≡ true → AreTurnsFor limits e first w → Carries limits e es names first w
+first_carries limits e es names first w known keeps (of_event x at good unrolls) =
+    let kept = subst (λ (o : Option Event). (keeps_if names o && keep_clean_starts (named_if o names) es) ≡ true) at keeps in
+    let both = both_true (keeps_clean names x) (keep_clean_starts (named_after x names) es) kept in
+    let comes = event_comes names x w (events_of first) both.0 unrolls in
+    let front = turns_carry limits first names w known comes.keeps in
+    record {
+      carried = front.0;
+      known = subst (λ (o : Option Event). Known (named_if o names) (run limits first w)) (sym at) (subst (λ (ns : List (List ℕ)). Known ns (run limits first w)) comes.named front.1);
+      keeps = subst (λ (o : Option Event). keep_clean_starts (named_if o names) es ≡ true) (sym at) both.1;
+    }
+first_carries limits e es names first w known keeps (of_drain client at drain) =
+    let none : event_of e ≡ None = ap event_of at in
+    let still = nobody_named (events_of first) (rounds_named limits client drain.rounds first w drain.are) names in
+    let front = turns_carry limits first names w known still.0 in
+    record {
+      carried = front.0;
+      known = subst (λ (o : Option Event). Known (named_if o names) (run limits first w)) (sym none) (subst (λ (ns : List (List ℕ)). Known ns (run limits first w)) still.1 front.1);
+      keeps = subst (λ (o : Option Event). keep_clean_starts (named_if o names) es ≡ true) (sym none) (subst (λ (o : Option Event). (keeps_if names o && keep_clean_starts (named_if o names) es) ≡ true) none keeps);
+    }
+
 -- ---- a script
 
 script_carries : (limits : Limits) (es : List Line) (names : List (List ℕ)) (turns : List Turn) (w : World) → Known names w → keep_clean_starts names es ≡ true
     → AreTurnsOf limits es turns w → are_clean_starts_carried limits turns w ≡ true
 script_carries limits [] names turns w known keeps are = ap (λ (ts : List Turn). are_clean_starts_carried limits ts w) are
-script_carries limits (e ∷ es) names turns w known keeps (x, first, rest, at, good, unrolls, joined, more) =
-    let kept = subst (λ (o : Option Event). (keeps_if names o && keep_clean_starts (named_if o names) es) ≡ true) at keeps in
-    let both = both_true (keeps_clean names x) (keep_clean_starts (named_after x names) es) kept in
-    let comes = event_comes names x w (events_of first) both.0 unrolls in
-    let front = turns_carry limits first names w known comes.keeps in
-    let behind = subst (λ (ns : List (List ℕ)). Known ns (run limits first w)) comes.named front.1 in
+script_carries limits (e ∷ es) names turns w known keeps (first, rest, are, joined, more) =
+    let front = first_carries limits e es names first w known keeps are in
     ap (λ (ts : List Turn). are_clean_starts_carried limits ts w) joined
-    ∙ carry_joined limits first rest w front.0 (script_carries limits es (named_after x names) rest (run limits first w) behind both.1 more)
+    ∙ carry_joined limits first rest w front.carried (script_carries limits es (named_if (event_of e) names) rest (run limits first w) front.known front.keeps more)
 
 nobody_known : (names : List (List ℕ)) (w : World) → w.publishers ≡ [] → w.receivers ≡ [] → Known names w
 nobody_known names w none nobody = record {
   publishers = subst (AllByRecursion (λ (p : Publisher). p.line.clean ≡ true → is_named p.client names ≡ true)) (sym none) tt;
   receivers = subst (AllByRecursion (λ (r : Receiver). r.line.clean ≡ true → is_named r.client names ≡ true)) (sym nobody) tt;
 }
+
+-- its turns are as is asked of every run
+pub script_fair : (limits : Limits) (es : List Line) (tells : List Telling) (w after : World) → AreWithin limits → IsUntouched limits w → keep_clean_starts [] es ≡ true → RunsTo limits es tells w after
+    → (ts : List Turn) × IsFair limits ts w × (after ≡ run limits ts w)
+script_fair limits es tells w after within untouched keeps runs =
+    let by : IsRunOf limits es w after = runs_by_turns limits es tells w after runs in
+    let known = nobody_known [] w untouched.new.publishers untouched.new.receivers in
+    (by.turns, record { within = within; unspent = by.unspent; carried = script_carries limits es [] by.turns w known keeps by.are }, by.is)
 
 pub delivers_once : (limits : Limits) (es : List Line) (tells : List Telling) (w after : World) → AreWithin limits → IsUntouched limits w → TellsApart w.broker.records
     → keep_clean_starts [] es ≡ true → RunsTo limits es tells w after → ScriptDelivers limits es w after

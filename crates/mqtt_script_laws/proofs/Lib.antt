@@ -1,7 +1,12 @@
 -- Runs of scripts, and the turns that they are made of.
-pub mod Scripts
+pub mod Costs
 pub mod Single
+pub mod DrainTurns
+pub mod Scripts
 pub mod Pieces
 pub mod Comings
 pub mod Cleanly
 pub mod Carrying
+pub mod Chosen
+pub mod Repeated
+pub mod Drained

@@ -16,9 +16,9 @@ use Rattle.mqtt_unrolled_laws.proofs.Answered.{Holds, enough, next_holds, next_w
 use Rattle.mqtt_unrolled_laws.proofs.Answered.{none_longer, nothing_asked, still}
 use Rattle.mqtt_unrolled_laws.proofs.Stopped.{comes_holds}
 use Rattle.mqtt_world_laws.specs.Spending.{run_spends}
-use Rattle.mqtt_script_laws.specs.Scripted.{Happens, events_of}
-use Rattle.mqtt_script_laws.specs.Turns.{IsReopened, IsTurn, both_tell, by_choice}
-use Rattle.mqtt_script_laws.proofs.Scripts.{spent_joined}
+use Rattle.mqtt_script_laws.specs.Scripted.{Happens}
+use Rattle.mqtt_script_laws.specs.Turns.{IsReopened, IsTurn, both_tell, by_choice, events_of}
+use Rattle.mqtt_script_laws.proofs.Costs.{spent_joined}
 use Rattle.mqtt_script_laws.proofs.Single.{stops, turn_happens, turn_is, turn_unspent}
 
 -- ---- one piece
@@ -32,7 +32,7 @@ last_piece limits name piece t w after one does =
 length_joined : {X : Type 0} (xs ys : List X) → length (xs ++ ys) ≡ length xs + length ys
 length_joined xs ys = length-append xs ys
 
-told_joined : (xs ys : List Deed) → telling (xs ++ ys) ≡ both_tell (telling xs) (telling ys)
+pub told_joined : (xs ys : List Deed) → telling (xs ++ ys) ≡ both_tell (telling xs) (telling ys)
 told_joined xs ys =
     ap (λ (rs : List _). record { reports = rs; out = length (filter_map output (xs ++ ys)) }) (filter_map-append report xs ys)
     ∙ ap (λ (n : ℕ). record { reports = filter_map report xs ++ filter_map report ys; out = n })

@@ -17,7 +17,7 @@ use Rattle.mqtt_world_laws.specs.Spending.{run_spends, spending}
 use Rattle.mqtt_handed_laws.proofs.DrainRuns.{run_append}
 use Rattle.mqtt_script_laws.specs.Scripted.{Happens, is_heard, tells_if, tells_in}
 use Rattle.mqtt_script_laws.specs.Turns.{IsPlain, IsQuiet, IsReopened, IsTurn, by_choice}
-use Rattle.mqtt_script_laws.proofs.Scripts.{spent_joined}
+use Rattle.mqtt_script_laws.proofs.Costs.{spent_joined}
 
 -- ---- one turn
 

@@ -2,3 +2,4 @@
 pub mod Scripted
 pub mod Turns
 pub mod Cleanly
+pub mod Drains

@@ -1,6 +1,6 @@
 -- What a run of a script is: each event comes to turns of the world, of one step of the broker each (MQTT 5.0, 2.1, 4.1 to
 -- 4.4).
-use Rattle.std.specs.Prelude.{◌≡◌, ◌⊎◌, ℕ, Bool, true, false, List, [], ◌∷◌, ◌++◌, map, Option, Some, None}
+use Rattle.std.specs.Prelude.{◌≡◌, ◌⊎◌, ℕ, Bool, true, false, List, [], ◌∷◌, ◌++◌, Option, Some, None}
 use Rattle.mqtt_codec.specs.declared.packet.Packet.{Packet}
 use Rattle.mqtt_rules.specs.Contents.{IsTaken}
 use Rattle.mqtt_rules.specs.declared.Limits.{Limits}
@@ -19,6 +19,8 @@ use Rattle.mqtt_script.specs.declared.event.Event.TheVariants.{ToBroker, ToEnd, 
 use Rattle.mqtt_script.specs.declared.event.Event.TheVariants.{Restart, StopBefore, StopAfter, Stranger, Drain}
 use Rattle.mqtt_unrolled_laws.specs.Unrolled.{Unrolls}
 use Rattle.mqtt_world_laws.specs.Spending.{run_spends}
+use Rattle.mqtt_script_laws.specs.Drains.{AreTurnsOfDrain, DrainHappens}
+use Rattle.mqtt_script_laws.specs.Turns.{events_of}
 
 -- ---- the events of the world that a script's mean
 
@@ -79,9 +81,6 @@ tells_if false t = silent
 abbrev pub tells_in : Limits → world.Event → List Turn → World → Telling
 tells_in limits e turns w = tells_if (is_heard e) (telling (deeds_over limits turns w))
 
-abbrev pub events_of : List Turn → List world.Event
-events_of turns = map (λ (t : Turn). t.event) turns
-
 -- an event that is not bad comes to turns of one step each, of which none spends a number
 pub record Happens (limits : Limits) (e : world.Event) (t : Telling) (w after : World) : Type 0 where
   pub good : is_bad e w ≡ false
@@ -91,12 +90,17 @@ pub record Happens (limits : Limits) (e : world.Event) (t : Telling) (w after : 
   pub is : after ≡ run limits turns w
   pub told : t ≡ tells_in limits e turns w
 
+-- an event of a script: it happens as the world's that it means, or it is a drain
+pub data Passes (limits : Limits) (e : Event) (t : Telling) (w after : World) : Type 0 where
+  as_event : (x : world.Event) → event_of e ≡ Some x → Happens limits x t w after → Passes limits e t w after
+  as_drain : (client : List ℕ) → e ≡ Drain client → DrainHappens limits client t w after → Passes limits e t w after
+
 -- a script's events happen, one after the other, with what each tells
 abbrev pub RunsTo : Limits → List Event → List Telling → World → World → Type 0
 RunsTo limits [] tells w after = (tells ≡ []) × (after ≡ w)
 RunsTo limits (e ∷ es) [] w after = ⊥
 RunsTo limits (e ∷ es) (t ∷ ts) w after =
-    (x : world.Event) × (mid : World) × (event_of e ≡ Some x) × Happens limits x t w mid × RunsTo limits es ts mid after
+    (mid : World) × Passes limits e t w mid × RunsTo limits es ts mid after
 
 -- ---- an event that can't happen
 
@@ -139,12 +143,18 @@ IsBadHere e w = IsBadEvent (event_of e) w
 
 -- ---- turns to which events come
 
+-- the turns of one event: those of the world's that it means, or of a drain
+pub data AreTurnsFor (limits : Limits) (e : Event) (turns : List Turn) (w : World) : Type 0 where
+  of_event : (x : world.Event) → event_of e ≡ Some x → is_bad x w ≡ false → Unrolls x w (events_of turns)
+      → AreTurnsFor limits e turns w
+  of_drain : (client : List ℕ) → e ≡ Drain client → AreTurnsOfDrain limits client turns w → AreTurnsFor limits e turns w
+
 -- the turns of each event, one event after the other, from where those before it have come to
 abbrev pub AreTurnsOf : Limits → List Event → List Turn → World → Type 0
 AreTurnsOf limits [] turns w = turns ≡ []
 AreTurnsOf limits (e ∷ es) turns w =
-    (x : world.Event) × (first : List Turn) × (rest : List Turn) × (event_of e ≡ Some x) × (is_bad x w ≡ false)
-    × Unrolls x w (events_of first) × (turns ≡ first ++ rest) × AreTurnsOf limits es rest (run limits first w)
+    (first : List Turn) × (rest : List Turn) × AreTurnsFor limits e first w × (turns ≡ first ++ rest)
+    × AreTurnsOf limits es rest (run limits first w)
 
 -- some turns to which the events come lead from the one world to the other, and spend no number
 pub record IsRunOf (limits : Limits) (es : List Event) (w after : World) : Type 0 where

@@ -1,9 +1,9 @@
 -- An event that is one step of the broker, or none, as one turn of the world (MQTT 5.0, 2.1, 4.1).
-use Rattle.std.specs.Prelude.{◌≡◌, ℕ, ◌+◌, ⊤, false, List, [], ◌∷◌, ◌++◌, Option}
+use Rattle.std.specs.Prelude.{◌≡◌, ℕ, ◌+◌, ⊤, false, List, [], ◌∷◌, ◌++◌, map, Option}
 use Rattle.mqtt_rules.specs.State.{MemberChoice}
 use Rattle.mqtt_rules.specs.Step.{NewLine, is_opening_spent}
 use Rattle.mqtt_rules.specs.declared.Limits.{Limits}
-use Rattle.mqtt_laws.specs.Run.{read_in, the_deeds}
+use Rattle.mqtt_laws.specs.Run.{Turn, read_in, the_deeds}
 use Rattle.mqtt_laws.specs.Tellings.{Telling, telling}
 use Rattle.mqtt_laws.specs.World.{Asking, Event, Setting, Stranger, World, ask, break, calls, clock, connect_end, give_up, happens, is_bad, next_line, old_to_broker}
 use Rattle.mqtt_laws.specs.World.{publish, publisher, pump, receiver, restart, restarts, stop_after, stop_before, stranger, subscribe}
@@ -26,6 +26,9 @@ pub record IsReopened (limits : Limits) (w after : World) : Type 0 where
   pub choice : MemberChoice
   pub unspent : is_opening_spent limits choice w.now w.broker.records ≡ false
   pub is : after ≡ restarts (by_choice limits choice) w
+
+abbrev pub events_of : List Turn → List Event
+events_of turns = map (λ (t : Turn). t.event) turns
 
 -- what one tells, and then the other
 abbrev pub both_tell : Telling → Telling → Telling

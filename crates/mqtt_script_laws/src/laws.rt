@@ -1,5 +1,5 @@
 //! Laws of the runs of scripts (4.1, 4.3, 4.4, 4.6).
-ghost use Rattle.std.specs.Prelude.{◌≡◌, List, [], ◌∷◌, ◌++◌, Some, false, true};
+ghost use Rattle.std.specs.Prelude.{◌≡◌, ℕ, List, [], ◌∷◌, ◌++◌, Some, false, true};
 ghost use Rattle.mqtt_every_run_laws.specs.Scripts.{DeliversOnce};
 ghost use Rattle.mqtt_every_run_laws.specs.Untouched.{IsUntouched};
 ghost use Rattle.mqtt_laws.specs.Run.{Turn, are_clean_starts_carried};
@@ -9,6 +9,8 @@ ghost use Rattle.mqtt_laws.specs.World.{World};
 ghost use Rattle.mqtt_rules.specs.Laws.{AreWithin};
 ghost use Rattle.mqtt_rules.specs.declared.Limits.{Limits};
 ghost use Rattle.mqtt_script.specs.declared.event.Event.{Event};
+ghost use Rattle.mqtt_script.specs.declared.event.Event.TheVariants.{Drain};
+ghost use Rattle.mqtt_script_laws.specs.Drains.{DrainHappens};
 ghost use Rattle.mqtt_script_laws.specs.Scripted.{AreTurnsOf, Happens, IsRunOf, RunsTo, event_of};
 ghost use Rattle.mqtt_world_laws.specs.Identities.{TellsApart};
 ghost use Rattle.mqtt_world_laws.specs.Spending.{run_spends};
@@ -21,7 +23,7 @@ pub fn a_script_runs_by_turns()
 {}
 
 /// A script's events may come in several runs, each from where the one before it ended: together they are one run; so with
-/// one event more.
+/// one event more, and with a drain more.
 pub fn scripts_follow_one_another()
     ensures joins { (limits : Limits) (es more : List Event) (tells others : List Telling) (w mid after : World)
         → RunsTo limits es tells w mid → RunsTo limits more others mid after
@@ -29,6 +31,9 @@ pub fn scripts_follow_one_another()
     ensures further { (limits : Limits) (es : List Event) (tells : List Telling) (e : Event) (x : world.Event)
         (t : Telling) (w mid after : World) → RunsTo limits es tells w mid
         → event_of e ≡ Some x → Happens limits x t mid after → RunsTo limits (es ++ e ∷ []) (tells ++ t ∷ []) w after }
+    ensures drained { (limits : Limits) (es : List Event) (tells : List Telling) (client : List ℕ) (t : Telling)
+        (w mid after : World) → RunsTo limits es tells w mid → DrainHappens limits client t mid after
+        → RunsTo limits (es ++ Drain client ∷ []) (tells ++ t ∷ []) w after }
 {}
 
 /// Exactly-once delivery, of scripts: whatever turns a script's events come to, all that is proved of every run of the world

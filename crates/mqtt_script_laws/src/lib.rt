@@ -1,11 +1,13 @@
 //! What a run of a script is, event by event, and the laws of every such run (MQTT 5.0, 2.1, 4.1 to 4.4).
 #![tactic(auto)]
 
+mod drain_laws;
 mod laws;
 mod piece_laws;
 mod script_laws;
 mod turn_laws;
 
+pub use drain_laws::{a_drain_is_by_one_choice, drains_of_a_script_end, rounds_follow_one_another};
 pub use laws::{a_script_runs_by_turns, scripts_follow_one_another, whatever_a_script_does};
 pub use piece_laws::{a_piece_is_one_turn, bytes_happen_piece_by_piece};
 pub use script_laws::{scripts_deliver_exactly_once, strangers_hold_no_packet};

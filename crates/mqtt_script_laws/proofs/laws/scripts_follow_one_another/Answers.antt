@@ -1,5 +1,5 @@
 -- By induction over the events.
-use Rattle.mqtt_script_laws.proofs.Scripts.{runs_further, runs_join}
+use Rattle.mqtt_script_laws.proofs.Scripts.{runs_drained, runs_further, runs_join}
 use Rattle.mqtt_script_laws.proofs.laws.scripts_follow_one_another.Goals as goal
 
 pub returns-clause-joins : goal.returns-clause-joins
@@ -7,3 +7,6 @@ returns-clause-joins c = runs_join
 
 pub returns-clause-further : goal.returns-clause-further
 returns-clause-further c = runs_further
+
+pub returns-clause-drained : goal.returns-clause-drained
+returns-clause-drained c = runs_drained
