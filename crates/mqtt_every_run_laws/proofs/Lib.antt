@@ -47,3 +47,14 @@ pub mod Coming
 pub mod Telling
 pub mod WholeOrder
 pub mod Newcomers
+pub mod Plain
+pub mod EndsTaken
+pub mod HandedEnds
+pub mod WayBodies
+pub mod Contents
+pub mod WayTags
+pub mod Holdings
+pub mod ContentRuns
+pub mod Clients
+pub mod Births
+pub mod WholeRuns

@@ -91,13 +91,14 @@ module _ (c : List ℕ) where
 
   -- ---- or it comes
 
-  -- it has read nothing, nothing is under way to it, and no copies of its name stand
+  -- it has read nothing, nothing is under way to it, no copies of its name stand, and it is told that it comes now
   pub record IsNewcomer (u : World) : Type 0 where
     pub its : Receiver
     pub named : receiver_named c u ≡ Some its
     pub ledger : its.ledger ≡ []
     pub down : its.line.down ≡ []
     pub queue : queue_at c u ≡ []
+    pub since : its.since ≡ u.broker.records.births
 
   event_comes : (set : Setting) (e : Event) (w : World) → is_bad e w ≡ false → receiver_named c w ≡ None → (receiver_named c (happens set e w) ≡ None) ⊎ IsNewcomer (happens set e w)
   event_comes set (publisher d) w good none = inl none
@@ -111,6 +112,7 @@ module _ (c : List ℕ) where
           ledger = refl;
           down = refl;
           queue = subst (λ (x : List ℕ). queue_at x (happens set (receiver d window) w) ≡ []) is (none_at_first d window set w good);
+          since = refl;
         })
     | inr other ↦ inl (find_no_more (λ (r : Receiver). bytes_eq r.client c) (new_receiver d window w.broker.records.births) w.receivers other ∙ none)
   ]
@@ -136,13 +138,13 @@ module _ (c : List ℕ) where
 
     -- ---- the run, before and after it comes
 
-    record Parts (ts : List Turn) (w : World) : Type 0 where
-      first : List Turn
-      later : List Turn
-      are : first ++ later ≡ ts
-      new : IsNewcomer (run limits first w)
+    pub record Parts (ts : List Turn) (w : World) : Type 0 where
+      pub first : List Turn
+      pub later : List Turn
+      pub are : first ++ later ≡ ts
+      pub new : IsNewcomer (run limits first w)
 
-    parts : (ts : List Turn) (w : World) (r : Receiver) → receiver_named c w ≡ None → receiver_named c (run limits ts w) ≡ Some r → Parts ts w
+    pub parts : (ts : List Turn) (w : World) (r : Receiver) → receiver_named c w ≡ None → receiver_named c (run limits ts w) ≡ Some r → Parts ts w
     parts [] w r none e = let clash : None ≡ Some r = sym none ∙ e in absurd cc
     parts (t ∷ ts) w r none e = elim (turn_comes t w none) [
       | inl still ↦ let x = parts ts (turned limits t w) r still e in record { first = t ∷ x.first; later = x.later; are = ap (λ (zs : List Turn). t ∷ zs) x.are; new = x.new }

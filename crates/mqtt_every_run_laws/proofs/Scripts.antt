@@ -19,6 +19,9 @@ use Rattle.mqtt_every_run_laws.specs.Untouched.{IsUntouched}
 use Rattle.mqtt_every_run_laws.proofs.Drains.{ends_over, ends_within}
 use Rattle.mqtt_every_run_laws.proofs.EveryRun.{carried_append, over_or_drained, run_carries, run_for_good, run_hands, run_in_order, spent_append, untouched_kept}
 use Rattle.mqtt_every_run_laws.proofs.Runs.{IsKept, run_kept}
+use Rattle.mqtt_every_run_laws.proofs.ContentRuns.{run_reads}
+use Rattle.mqtt_every_run_laws.proofs.HandedEnds.{run_takes}
+use Rattle.mqtt_every_run_laws.proofs.Newcomers.{run_hands_all}
 use Rattle.mqtt_every_run_laws.proofs.Untouched.{start_untouched}
 
 pub run_delivers : (limits : Limits) (ts : List Turn) (w : World) → IsUntouched limits w → TellsApart w.broker.records → IsFair limits ts w → DeliversOnce limits ts w
@@ -38,6 +41,9 @@ run_delivers limits ts w u apart fair = record {
   carries = run_carries limits ts w u fair;
   for_good = λ xs ys is c q r e f. run_for_good limits xs ys w u (subst (λ (zs : List Turn). IsFair limits zs w) (sym is) fair) c q r e (ap (λ (zs : List Turn). receiver_named c (run limits zs w)) is ∙ f);
   in_order = λ xs ys is c q r e f. run_in_order limits xs ys w u (subst (λ (zs : List Turn). IsFair limits zs w) (sym is) fair) c q r e (ap (λ (zs : List Turn). receiver_named c (run limits zs w)) is ∙ f);
+  taken = λ xs ys is c q r e f. run_takes limits xs ys w u (subst (λ (zs : List Turn). IsFair limits zs w) (sym is) fair) c q e r (ap (λ (zs : List Turn). receiver_named c (run limits zs w)) is ∙ f);
+  as_entered = run_hands_all limits ts w u fair;
+  carries_each = λ numbers c r e. run_reads limits ts w u numbers (run_numbers limits ts w u.new fair) fair c r e;
 }
 
 -- ---- a drain

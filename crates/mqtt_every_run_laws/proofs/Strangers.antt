@@ -229,12 +229,17 @@ unfolding first_of fronts.size_at
 first_good [] w good = refl
 first_good (x ∷ xs) w good = (either_false (front_names (first_of (x ∷ xs)) w) (bytes_name (length xs) (held_after (x ∷ xs)) w) good).0
 
+-- the first of its packets is a step of others; v is the world in which its bytes have come
+pub first_outside : (first : List CopyId) (c : List ℕ) (largest : ℕ) (set : Setting) (name bytes : List ℕ) (w : World) (h : Stands first c largest set.limits (comes set name bytes w)) → is_bad_asking (stranger name bytes) w ≡ false
+    → is_some (receiver_named c (comes set name bytes w)) ≡ true → (x : Call) → call_of_stranger (stranger_named name (comes set name bytes w)) ≡ Some x → IsOutside c h.ns x
+first_outside first c largest set name bytes w h good =
+    let all = bytes_held (stranger_named name w) ++ bytes in
+    next_outside first c largest set.limits name w (comes set name bytes w) h (comes_there c set name bytes w)
+    (ap (λ (xs : List ℕ). front_names (first_of xs) w) (comes_held set name bytes w) ∙ first_good all w good)
+
 pub stranger_first : (first : List CopyId) (c name bytes : List ℕ) (largest : ℕ) (set : Setting) (w : World) → Stands first c largest set.limits w → is_bad_asking (stranger name bytes) w ≡ false → read_first spending set (stranger name bytes) w ≡ false
     → Stands first c largest set.limits (first_step set (stranger name bytes) w)
 stranger_first first c name bytes largest set w h good unspent =
     let v = comes set name bytes w in
-    let all = bytes_held (stranger_named name w) ++ bytes in
     let v_stands = comes_stands first c largest set name bytes w h in
-    if_stands first c largest set (call_of_stranger (stranger_named name v)) v v_stands unspent
-    (next_outside first c largest set.limits name w v v_stands (comes_there c set name bytes w)
-    (ap (λ (xs : List ℕ). front_names (first_of xs) w) (comes_held set name bytes w) ∙ first_good all w good))
+    if_stands first c largest set (call_of_stranger (stranger_named name v)) v v_stands unspent (first_outside first c largest set name bytes w v_stands good)

@@ -8,3 +8,4 @@ pub mod Scripts
 pub mod Acknowledging
 pub mod DrainCauses
 pub mod Coming
+pub mod HandedOnce

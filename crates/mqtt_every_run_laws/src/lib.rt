@@ -9,6 +9,7 @@ mod run_laws;
 mod script_laws;
 mod standing_laws;
 mod taking_laws;
+mod whole_laws;
 mod wish_laws;
 
 pub use broker_laws::{a_line_without_session_has_sent_nothing, identifiers_in_flight_stay_unique};
@@ -30,6 +31,7 @@ pub use standing_laws::{
     what_is_asked_for_others_leaves_a_receiver_standing,
 };
 pub use taking_laws::its_line_takes_what_its_connect_says;
+pub use whole_laws::every_receiver_was_handed_its_copies_once;
 pub use wish_laws::{
     a_subscribe_leaves_a_receiver_standing, retained_messages_stay_of_different_publications,
 };

@@ -19,7 +19,7 @@ use Rattle.mqtt_every_run_laws.specs.Untouched.{IsUntouched}
 use Rattle.mqtt_every_run_laws.proofs.Untouched.{start_untouched}
 use Rattle.mqtt_world_laws.proofs.OnceRuns.{start_apart}
 use Rattle.mqtt_script_laws.specs.Cleanly.{ScriptDelivers, is_named, keep_clean_starts, keeps_clean, keeps_if, named_after, named_if}
-use Rattle.mqtt_script_laws.specs.Drains.{AreTurnsOfDrain, AreTurnsOfRound, AreTurnsOfRounds}
+use Rattle.mqtt_script_laws.specs.Drains.{AreTurnsOfRound, AreTurnsOfRounds}
 use Rattle.mqtt_script_laws.specs.Scripted.{AreTurnsFor, AreTurnsOf, IsRunOf, RunsTo, event_of, of_drain, of_event}
 use Rattle.mqtt_script_laws.specs.Turns.{events_of}
 use Rattle.mqtt_script_laws.proofs.Cleanly.{Known, step_known, waits_named}

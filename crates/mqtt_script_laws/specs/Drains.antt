@@ -1,5 +1,5 @@
 -- What a drain of a receiver comes to, turn by turn, each by a choice of members of its own (MQTT 5.0, 4.3, 4.4, 4.6).
-use Rattle.std.specs.Prelude.{◌≡◌, ℕ, zero, suc, Bool, true, false, List, [], ◌∷◌, ◌++◌}
+use Rattle.std.specs.Prelude.{◌≡◌, ℕ, zero, suc, true, false, List, [], ◌∷◌, ◌++◌}
 use Rattle.mqtt_rules.specs.State.{MemberChoice}
 use Rattle.mqtt_rules.specs.declared.Limits.{Limits}
 use Rattle.mqtt_laws.specs.Run.{Turn, deeds_over, run}

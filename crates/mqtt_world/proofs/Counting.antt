@@ -1,5 +1,5 @@
 -- Lines that are counted by their numbers, in their order: no more are counted than stand (MQTT 5.0, 4.2).
-use Rattle.std.proofs.Common.{◌≡◌, ℕ, suc, ◌+◌, ◌<◌, ◌≤◌, Bool, ◌&&◌, true, false, cond, List, [], ◌∷◌, filter, find, length, nat_eq, nat_lt, is_some, refl, sym, ap, subst, ◌∙◌, arith, true≢false, le_of_lt, lt_of_lt_of_le, lt_trans, le_trans, Option, Some, None}
+use Rattle.std.proofs.Common.{◌≡◌, ℕ, suc, ◌+◌, ◌<◌, ◌≤◌, Bool, ◌&&◌, true, false, cond, List, [], ◌∷◌, filter, find, length, nat_eq, nat_lt, is_some, refl, sym, ap, arith, true≢false, lt_trans, Some, None}
 use Rattle.std.proofs.lemmas.Bool.{eqb-true, le-ltb, lt-ltb, ltb-true}
 use Rattle.mqtt_base.specs.declared.limits.TheConstants.{LAST_NUMBER, LINE_LIMIT}
 use Rattle.mqtt_laws.specs.World.{next_line}

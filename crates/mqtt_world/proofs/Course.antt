@@ -8,7 +8,7 @@ use Rattle.mqtt_laws.specs.World.{World}
 use Rattle.mqtt_peers.specs.declared.told.RunFault.{RunFault}
 use Rattle.mqtt_peers.specs.declared.told.RunFault.TheVariants as fault
 use Rattle.mqtt_script.specs.declared.event.Event.{Event}
-use Rattle.mqtt_script_laws.specs.Scripted.{IsBadEvent, IsBadHere, RunsTo, event_of}
+use Rattle.mqtt_script_laws.specs.Scripted.{IsBadEvent, IsBadHere, RunsTo, as_event, event_of}
 use Rattle.mqtt_script_laws.proofs.Carrying.{delivers_once}
 use Rattle.mqtt_script_laws.proofs.Scripts.{runs_join}
 use Rattle.mqtt_broker.specs.TheRules.Laws.{AreWithin}
@@ -62,7 +62,7 @@ module _ {K : Type 0} (g : Ghosts K) where
   played_if e (Some x) old t new is p = record {
     limits = p.limits;
     reached = p.reached;
-    runs = λ sound reached. (x, world_at new, is, p.done sound (spells_all old.limits) reached, (refl, refl));
+    runs = λ sound reached. (world_at new, as_event x is (p.done sound (spells_all old.limits) reached), (refl, refl));
   }
 
   pub played_one : (e : Event) (old : Staged K) (t : Telling) (new : Staged K) → PlaysIf g (event_of e) old (Some t) new → Runs g (e ∷ []) old (t ∷ []) new

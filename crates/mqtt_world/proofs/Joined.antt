@@ -2,7 +2,7 @@
 use Rattle.std.proofs.Common.{◌≡◌, ℕ, Bool, false, List, Option, Some, None, refl, sym, ap, subst, ◌∙◌}
 use Rattle.mqtt_records.specs.declared.keep.Keep.{Ghosts}
 use Rattle.mqtt_laws.specs.Tellings.{Telling, silent}
-use Rattle.mqtt_laws.specs.World.{Stranger, World, connect_end, is_bad, links, next_line}
+use Rattle.mqtt_laws.specs.World.{Stranger, connect_end, is_bad, links, next_line}
 use Rattle.mqtt_broker.specs.Serving.{Serving}
 use Rattle.mqtt_broker.specs.TheRules.Step.{NewLine}
 use Rattle.mqtt_clients.specs.Ends.{Become, Ends, joins}

@@ -60,11 +60,11 @@ module _ {K : Type 0} (old : Bool) (client : List ℕ) (E : Serving K) (O : Ends
 
 pub readable : (is : Bool) (a : Asking) (w : World) → is ≡ true → MatchBool is (¬ IsRefused (front_of a w)) (IsRefused (front_of a w))
     → ¬ IsRefused (front_of a w)
-readable is a w yes tells = subst (λ (t : Bool). IsReadable t a w) yes tells
+readable is a w holds tells = subst (λ (t : Bool). IsReadable t a w) holds tells
 
 pub unreadable : (is : Bool) (a : Asking) (w : World) → is ≡ false → MatchBool is (¬ IsRefused (front_of a w)) (IsRefused (front_of a w))
     → IsRefused (front_of a w)
-unreadable is a w no tells = subst (λ (t : Bool). IsReadable t a w) no tells
+unreadable is a w fails tells = subst (λ (t : Bool). IsReadable t a w) fails tells
 
 -- ---- what is taken off
 

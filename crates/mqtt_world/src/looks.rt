@@ -11,25 +11,25 @@ use std::alloc::{AllocError, Global};
 
 impl<K: Keep> Stage<K> {
     fn sent(&self, client: &str) -> Option<u64>
-        ensures { result ≡ sent_in client.now (world_at self.now) }
+        ensures { result ≡ sent_in client.now (world_at self.entry.now) }
     {
         self.scene.clients.sent(client)
     }
 
     fn done(&self, client: &str) -> Option<u64>
-        ensures { result ≡ done_in client.now (world_at self.now) }
+        ensures { result ≡ done_in client.now (world_at self.entry.now) }
     {
         self.scene.clients.done(client)
     }
 
     fn handed(&self, alloc: Global, client: &str) -> Result<Option<Vec<u64>>, AllocError>
-        ensures { IfOk result (λ handed. option_map vec_items handed ≡ handed_in client.now (world_at self.now)) }
+        ensures { IfOk result (λ handed. option_map vec_items handed ≡ handed_in client.now (world_at self.entry.now)) }
     {
         self.scene.clients.handed(alloc, client)
     }
 
     fn queue(&self, client: &str) -> Option<u64>
-        ensures { result ≡ queue_in client.now (world_at self.now) }
+        ensures { result ≡ queue_in client.now (world_at self.entry.now) }
     {
         if !self.scene.clients.is_end(client) {
             return None;

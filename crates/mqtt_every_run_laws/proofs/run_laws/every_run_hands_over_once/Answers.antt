@@ -18,7 +18,7 @@ pub returns-clause-carries : goal.returns-clause-carries
 returns-clause-carries c = run_carries
 
 pub returns-clause-grows : goal.returns-clause-grows
-returns-clause-grows c = λ limits ys v client q r e f. run_keeps_ledger limits ys v client q r e f
+returns-clause-grows c = λ limits ys v client q r e f. (run_keeps_ledger limits ys v client q r e f).ledger
 
 pub returns-clause-handed : goal.returns-clause-handed
 returns-clause-handed c = run_hands

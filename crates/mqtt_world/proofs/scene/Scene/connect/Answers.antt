@@ -23,8 +23,8 @@ returns-then-are_full g c =
 pub returns-in_ok-join-in-Some : goal.returns-in_ok-join-in-Some
 returns-in_ok-join-in-Some g c =
     let s = c.self.inside in
-    let f = c.self-in-Some.inside in
+    let f = c.self-2.inside in
     joined g.K.Keep c.args.now c.args.client.now c.args.clean s.engine s.clients c.args.self.now c.silent-in-Some.result
-    f.engine f.clients c.join.new.self c.link.new.self c.in-Some.line c.silent-in-Some.ensures c.self.view_is c.self-in-Some.view_is
+    f.engine f.clients c.join.new.self c.link.new.self c.in-Some.line c.silent-in-Some.ensures c.self.view_is c.self-2.view_is
     (λ ss. ap not (sym (c.is_away.ensures ∙ ap is_away (c.link_of.ensures (world_of c.args.now ss (played s.engine s.clients)))) ∙ c.if-not-is_away.false))
     (sym c.in-Some.is ∙ c.link.ensures.line) c.link.ensures.calls c.in_ok-join-in-Some.ensures

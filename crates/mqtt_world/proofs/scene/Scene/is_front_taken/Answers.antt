@@ -4,14 +4,14 @@ use Rattle.mqtt_clients.specs.Ends.{input_of}
 use Rattle.mqtt_world.proofs.TakenOff.{none_in_front, some_in_front}
 use Rattle.mqtt_world.proofs.scene.Scene.is_front_taken.Goals as goal
 
-pub returns-in_ok-front-in-Some : goal.returns-in_ok-front-in-Some
-returns-in_ok-front-in-Some g c =
+pub returns-in-Some : goal.returns-in-Some
+returns-in-Some g c =
     let s = c.self.inside in
     some_in_front c.args.old c.args.client.now s.engine s.clients c.args.self.now c.self.view_is c.in-Some._line c.in-Some.packet
-    c.is_input.result (λ set w. ap (option_map input_of) (sym c.in-Some.is) ∙ c.in_ok-front.ensures set w) c.is_input.ensures.taken
+    c.is_input-is.result (λ set w. ap (option_map input_of) (sym c.in-Some.is) ∙ c.in_ok-_line.ensures set w) c.is_input-is.ensures.taken
 
-pub returns-in_ok-front-in-None : goal.returns-in_ok-front-in-None
-returns-in_ok-front-in-None g c =
+pub returns-in-None : goal.returns-in-None
+returns-in-None g c =
     let s = c.self.inside in
     none_in_front c.args.old c.args.client.now s.engine s.clients c.args.self.now c.self.view_is
-    (λ set w. ap (option_map input_of) (sym c.in-None.is) ∙ c.in_ok-front.ensures set w)
+    (λ set w. ap (option_map input_of) (sym c.in-None.is) ∙ c.in_ok-_line.ensures set w)

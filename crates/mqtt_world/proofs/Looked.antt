@@ -1,0 +1,45 @@
+-- What is seen of a world that stands, from what is seen of its broker and its ends (MQTT 5.0, 4.1 to 4.4).
+use Rattle.std.proofs.Common.{◌≡◌, ℕ, Bool, true, false, cond, length, List, Option, Some, None, option_map, refl, sym, ap, subst, ◌∙◌}
+use Rattle.std.specs.Prelude.{Err, IfOk, Ok, Result}
+use Rattle.mqtt_records.specs.declared.session.Session.{Session}
+use Rattle.mqtt_laws.specs.Tellings.{queue_length}
+use Rattle.mqtt_laws.specs.World.{Stranger, World, is_end}
+use Rattle.mqtt_broker.specs.Serving.{Serving}
+use Rattle.mqtt_broker.specs.TheRules.State.{session_named}
+use Rattle.mqtt_broker.specs.TheRules.declared.Limits.{Limits}
+use Rattle.mqtt_clients.specs.Ends.{Ends}
+use Rattle.mqtt_world.specs.Events.{played, world_of}
+use Rattle.mqtt_world.specs.Scenes.{Played}
+use Rattle.mqtt_world.specs.Stages.{Staged, world_at}
+use Rattle.mqtt_world.specs.Worlds.{queue_in}
+
+-- a stage that is taken apart, and its scene too
+pub seen_from : {K : Type 0} (P : World → Type 0) (E : Serving K) (O : Ends) (S : Played K) (ss : List Stranger) (now : ℕ) (limits : Limits) (s : Staged K)
+    → played E O ≡ S → record { played = S; strangers = ss; now = now; limits = limits } ≡ s → P (world_of now ss (played E O)) → P (world_at s)
+seen_from {K} P E O S ss now limits s scene stage h =
+    subst (λ (x : Staged K). P (world_at x)) stage (subst (λ (x : Played K). P (world_of now ss x)) scene h)
+
+-- what is answered holds in each world, so in this one
+pub ok_at : {A E : Type 0} (P : A → World → Type 0) (r : Result A E) (w : World) → IfOk r (λ x. (v : World) → P x v) → IfOk r (λ x. P x w)
+ok_at P (Ok x) w h = h w
+ok_at P (Err e) w h = tt
+
+-- ---- the queue of an end
+
+abbrev its : List ℕ → World → Bool → Option ℕ
+its client w is = cond is (Some (queue_length (session_named client w.broker.records))) None
+
+pub no_queue : (is : Bool) (client : List ℕ) (w : World) → is ≡ is_end client w → is ≡ false → None ≡ queue_in client w
+no_queue is client w same none = ap (its client w) (sym none ∙ same)
+
+pub its_queue : (is : Bool) (client : List ℕ) (w : World) (n : ℕ) → is ≡ is_end client w → is ≡ true
+    → n ≡ queue_length (session_named client w.broker.records) → Some n ≡ queue_in client w
+its_queue is client w n same there len = ap Some len ∙ ap (its client w) (sym there ∙ same)
+
+pub length_some : (n : ℕ) (o : Option Session) → Some n ≡ option_map (λ s. length s.queue) o → n ≡ queue_length o
+length_some n None h = cc
+length_some n (Some s) h = cc
+
+pub length_none : (o : Option Session) → None ≡ option_map (λ s. length s.queue) o → 0 ≡ queue_length o
+length_none None h = refl
+length_none (Some s) h = cc

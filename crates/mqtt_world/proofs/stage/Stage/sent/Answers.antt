@@ -1,0 +1,15 @@
+use Rattle.std.proofs.Common.{◌≡◌, ap}
+use Rattle.mqtt_laws.specs.World.{World}
+use Rattle.mqtt_world.specs.declared.stage.Stage.TheInside.{Inside}
+use Rattle.mqtt_world.specs.Events.{played, world_of}
+use Rattle.mqtt_world.specs.Worlds.{sent_in}
+use Rattle.mqtt_world.proofs.Looked.{seen_from}
+use Rattle.mqtt_world.proofs.stage.Stage.sent.Goals as goal
+
+pub returns : goal.returns
+returns g c =
+    let s = c.self.inside in
+    let x = c.self-inside.inside.0.0 in
+    let scene = ap (λ (i : Inside _). i.scene) c.self-inside.view_is in
+    seen_from (λ (w : World). c.sent.result ≡ sent_in c.args.client.now w) x.engine x.clients s.scene s.strangers s.now s.limits c.args.self.now
+    scene c.self.view_is (c.sent.ensures (world_of s.now s.strangers (played x.engine x.clients)))
