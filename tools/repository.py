@@ -118,6 +118,21 @@ def free_memory():
     return min(found)
 
 
+class Limits:
+    """What a run may take: it begins nothing after a moment (in seconds since 1970), nor once it has taken so many minutes of processors."""
+
+    def __init__(self, minutes="", until=""):
+        self.seconds, self.until = 60 * float(minutes or "inf"), float(until or "inf")
+        self.spent, self.turn = 0.0, threading.Lock()
+
+    def may_begin(self):
+        return time.time() < self.until and self.spent < self.seconds
+
+    def spend(self, seconds):
+        with self.turn:
+            self.spent += seconds
+
+
 def at_run():
     """Returns how many other processes want a processor now: the most of three looks in a second."""
     most = 0
