@@ -1,7 +1,6 @@
 """The crates of this repository, the words of a check by the kit's rattle, and what runs side by side."""
 import os
 import re
-import shutil
 import sys
 import threading
 import time
@@ -70,11 +69,12 @@ def crates_of(root):
 
 
 def kit():
-    """Returns the kit's folder, by its command rt."""
-    rt = shutil.which("rt")
-    if not rt:
-        sys.exit("the Rattle kit's command rt is not on PATH")
-    return os.path.dirname(os.path.dirname(os.path.realpath(rt)))
+    """Returns the kit's folder, by its command rt; tools/rt stands for that one, and is passed over."""
+    for it in os.environ.get("PATH", "").split(os.pathsep):
+        rt = os.path.realpath(f"{it or '.'}/rt")
+        if os.access(rt, os.X_OK) and os.path.isfile(f"{os.path.dirname(rt)}/rtlib.py"):
+            return os.path.dirname(os.path.dirname(rt))
+    sys.exit("the Rattle kit's command rt is not on PATH")
 
 
 def check_words(crate):
@@ -125,8 +125,9 @@ class Limits:
         self.seconds, self.until = 60 * float(minutes or "inf"), float(until or "inf")
         self.spent, self.turn = 0.0, threading.Lock()
 
-    def may_begin(self):
-        return time.time() < self.until and self.spent < self.seconds
+    def may_begin(self, seconds=0):
+        """Returns whether something may begin that takes so many seconds."""
+        return time.time() + seconds < self.until and self.spent < self.seconds
 
     def spend(self, seconds):
         with self.turn:

@@ -60,11 +60,13 @@ def staged(root, to):
 
 
 def take_back(root, *copies):
-    """Takes the records that a run has written in copies of the repository, of crates whose folders are there still."""
+    """Takes the records that a run has written or removed in copies of the repository, of crates whose folders are there still."""
     for copy in copies:
         for name in sorted(os.listdir(f"{copy}/crates")):
-            for it in RECORDS:
+            for it in RECORDS if os.path.isdir(f"{root}/crates/{name}/src") else ():
                 made, to = f"{copy}/crates/{name}/{it}", f"{root}/crates/{name}/{it}"
-                if os.path.isfile(made) and os.path.isdir(f"{root}/crates/{name}/src"):
+                if os.path.isfile(made):
                     os.makedirs(os.path.dirname(to), exist_ok=True)
                     shutil.copyfile(made, to)
+                elif os.path.isfile(to):
+                    os.remove(to)
