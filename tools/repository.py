@@ -1,4 +1,6 @@
 """The crates of this repository, the words of a check by the kit's rattle, and what runs side by side."""
+import importlib.machinery
+import importlib.util
 import os
 import re
 import sys
@@ -75,6 +77,16 @@ def kit():
         if os.access(rt, os.X_OK) and os.path.isfile(f"{os.path.dirname(rt)}/rtlib.py"):
             return os.path.dirname(os.path.dirname(rt))
     sys.exit("the Rattle kit's command rt is not on PATH")
+
+
+def quick_rt():
+    """Returns the kit's rt as a module, which sums up a crate's files once, as in tools/rt."""
+    loader = importlib.machinery.SourceFileLoader("quick_rt", f"{ROOT}/tools/rt")
+    made = importlib.util.module_from_spec(importlib.util.spec_from_loader("quick_rt", loader))
+    loader.exec_module(made)
+    rt = made.load()
+    made.quick(rt.rtlib)
+    return rt
 
 
 def check_words(crate):
