@@ -27,7 +27,7 @@ sums = {}
 
 
 def read(file):
-    with open(file, encoding="utf-8", errors="surrogateescape") as it:
+    with open(file, encoding="utf-8", errors="surrogateescape", newline="") as it:
         return it.read()
 
 
@@ -77,10 +77,14 @@ def sum_of_wrong(crate):
     return sum_over(crate, ("trials.py", "edits.py", "records.py"), own)
 
 
+def texts_for_proof(crate):
+    """Returns the files of a crate of tests, or of a bench, that its proof and its run rest on."""
+    return texts_of(crate.folder, ("src", "specs", "proofs", "data", "stdin", "stdout", "args", "status"))
+
+
 def sum_of_proof(crate, handles):
     """Returns the sum under which the proof of a crate of tests, or of a bench, is recorded, or None where a library below it is not built."""
-    own = texts_of(crate.folder, ("src", "specs", "proofs", "data", "stdin", "stdout", "args", "status"))
-    return sum_over(crate, ("rt", "as_rt_ci", "records.py"), [handles, own])
+    return sum_over(crate, ("rt", "as_rt_ci", "records.py"), [handles, texts_for_proof(crate)])
 
 
 class Record:
