@@ -121,8 +121,11 @@ def turn():
     """Returns the number of the commit, which nobody chooses: WRONG_TURN, or of git, or None."""
     number = os.environ.get("WRONG_TURN", "")
     if not number:
-        ran = subprocess.run(["git", "-C", ROOT, "rev-parse", "HEAD"], stdin=subprocess.DEVNULL, capture_output=True, text=True)
-        number = ran.stdout.strip()[:8] if not ran.returncode else ""
+        try:
+            ran = subprocess.run(["git", "-C", ROOT, "rev-parse", "HEAD"], stdin=subprocess.DEVNULL, capture_output=True, text=True)
+            number = ran.stdout.strip()[:8] if not ran.returncode else ""
+        except OSError:
+            pass
     return int(number, 16) if re.fullmatch(r"[0-9a-f]{1,12}", number) else None
 
 
