@@ -44,6 +44,32 @@ fn view_of<I: Read + Drop, W: Write>(
     }
 }
 
+/// Serves as it was handed in; a function of its own, which asks for this one call.
+fn served<F: Fn(SocketAddrV4, &str, u32, Limits) -> Result<(), ServeFault>>(
+    serve: &F,
+    listen: SocketAddrV4,
+    db: &str,
+    turns: u32,
+    limits: Limits,
+) -> Result<(), ServeFault>
+    requires callable { F.pre serve.now listen db turns limits }
+    ensures { F.post serve.now listen db.entry turns limits result }
+{
+    serve(listen, db, turns, limits)
+}
+
+/// Replays as it was handed in; a function of its own, which asks for this one call.
+fn replayed<G: Fn(&str, Limits) -> Result<Played, ReplayFault>>(
+    replay: &G,
+    file: &str,
+    limits: Limits,
+) -> Result<Played, ReplayFault>
+    requires callable { G.pre replay.now file limits }
+    ensures { G.post replay.now file.entry limits result }
+{
+    replay(file, limits)
+}
+
 /// Does what these words ask for, the first of which names the program. The command line is looked at first, then
 /// the file or the database, then the socket. What files, sockets and standard input hold no contract can say; `view`
 /// and `vectors` say what is written. What serves at an address, over the database at a path, for so many turns, and what
@@ -74,11 +100,11 @@ pub fn perform<
             db,
             turns,
             limits,
-        }) => match serve(listen, db, turns, limits) {
+        }) => match served(serve, listen, db, turns, limits) {
             Ok(()) => Outcome::Served,
             Err(fault) => Outcome::Serve(fault),
         },
-        Ok(Action::Replay { file, limits }) => match replay(file, limits) {
+        Ok(Action::Replay { file, limits }) => match replayed(replay, file, limits) {
             Ok(played) => Outcome::Replayed(played),
             Err(fault) => Outcome::Replay(fault),
         },
