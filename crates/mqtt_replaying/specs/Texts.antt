@@ -56,13 +56,13 @@ lines_told number (e ∷ es) (t ∷ ts) =
 abbrev pub ends_made : List Event → List End
 ends_made es = flat_map (λ (e : Event). option_to_list (made_by e)) es
 
-abbrev pub end_line_in : World → End → List ℕ
-end_line_in w (Publisher client) = publisher_text client (unwrap_or (sent_in client w) 0) (unwrap_or (done_in client w) 0)
-end_line_in w (Receiver client) = receiver_text client (unwrap_or (handed_in client w) []) (unwrap_or (queue_in client w) 0)
+abbrev pub end_line_in : List Event → World → End → List ℕ
+end_line_in es w (Publisher client) = publisher_text client (unwrap_or (sent_in client es w) 0) (unwrap_or (done_in client w) 0)
+end_line_in es w (Receiver client) = receiver_text client (unwrap_or (handed_in client w) []) (unwrap_or (queue_in client w) 0)
 
 abbrev pub last_lines_in : List Event → World → List ℕ
 last_lines_in es w =
-    flat_map (end_line_in w) (ends_made es) ++ broker_text w.broker.records.publications (length w.broker.records.sessions)
+    flat_map (end_line_in es w) (ends_made es) ++ broker_text w.broker.records.publications (length w.broker.records.sessions)
 
 -- ---- lines of a script run from one world to another, and are told so; and exactly-once delivery holds of it, where nobody was
 -- there at first and their Clean Starts are carried through (3.1.2.4, 3.3.4, 4.3, 4.4, 4.6, 4.8, 4.9)

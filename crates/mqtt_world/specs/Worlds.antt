@@ -1,10 +1,11 @@
 -- Worlds that run: what a script's events come to there, one after the other, and what holds of all of them (MQTT 5.0, 4.1 to
 -- 4.4).
-use Rattle.std.specs.Prelude.{◌≡◌, ⊤, ℕ, false, true, List, [], ◌∷◌, ◌++◌, length, cond, Option, None, Some, Result, Ok, Err, option_map}
+use Rattle.std.specs.Prelude.{◌≡◌, ⊤, ℕ, Bool, false, true, List, [], ◌∷◌, ◌++◌, length, count_by, cond, bytes_eq, Option, None, Some}
+use Rattle.std.specs.Prelude.{Result, Ok, Err, option_map}
 use Rattle.mqtt_records.specs.declared.keep.Keep.{Ghosts}
 use Rattle.mqtt_records.specs.declared.records.Records.{Records}
 use Rattle.mqtt_lawful.specs.Lawful.{IsLawful}
-use Rattle.mqtt_laws.specs.Tellings.{Telling, done_by, handed_by, messages_of, queue_length}
+use Rattle.mqtt_laws.specs.Tellings.{Telling, done_by, handed_by, queue_length}
 use Rattle.mqtt_laws.specs.World as world
 use Rattle.mqtt_laws.specs.World.{World, is_end, publisher_named, receiver_named}
 use Rattle.mqtt_peers.specs.declared.told.RunFault.{RunFault}
@@ -166,8 +167,14 @@ seen_at look (Err o) = None
 abbrev pub seen : {K A : Type 0} → (World → Option A) → Lasting K → Option A
 seen look w = seen_at look w.stage
 
-abbrev pub sent_in : List ℕ → World → Option ℕ
-sent_in client w = option_map (λ p. messages_of (Some p)) (publisher_named client w)
+-- a publisher of this name is given a message, of any QoS
+abbrev pub is_publish_of : List ℕ → Event → Bool
+is_publish_of client (Publish name draft) = bytes_eq name client
+is_publish_of client e = false
+
+-- how many messages a publisher was given in these events, whether they went out or not
+abbrev pub sent_in : List ℕ → List Event → World → Option ℕ
+sent_in client es w = option_map (λ p. count_by (is_publish_of client) es) (publisher_named client w)
 
 abbrev pub done_in : List ℕ → World → Option ℕ
 done_in client w = option_map (λ p. done_by (Some p)) (publisher_named client w)
