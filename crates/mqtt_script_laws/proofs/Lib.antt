@@ -13,3 +13,4 @@ pub mod Drained
 pub mod OneTurn
 pub mod Drainable
 pub mod Anew
+pub mod AnewExamples
