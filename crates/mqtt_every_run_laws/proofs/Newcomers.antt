@@ -102,8 +102,8 @@ module _ (c : List ℕ) where
     pub since : its.since ≡ u.broker.records.births
 
   event_comes : (set : Setting) (e : Event) (w : World) → is_bad e w ≡ false → begins_clean e w ≡ true → receiver_named c w ≡ None → (receiver_named c (happens set e w) ≡ None) ⊎ IsNewcomer (happens set e w)
-  event_comes set (publisher d) w good clean none = inl none
-  event_comes set (receiver d window) w good clean none = elim (cases_Bool (bytes_eq d c)) [
+  event_comes set (publisher d) w good begins none = inl none
+  event_comes set (receiver d window) w good begins none = elim (cases_Bool (bytes_eq d c)) [
     | inl its ↦
         let new = new_receiver d window w.broker.records.births in
         let is : d ≡ c = (bytes_eq-Decides d c).0 its in
@@ -112,22 +112,22 @@ module _ (c : List ℕ) where
           named = find_last (λ (r : Receiver). bytes_eq r.client c) new w.receivers its none;
           ledger = refl;
           down = refl;
-          queue = subst (λ (x : List ℕ). queue_at x (happens set (receiver d window) w) ≡ []) is (none_at_first d window set w good clean);
+          queue = subst (λ (x : List ℕ). queue_at x (happens set (receiver d window) w) ≡ []) is (none_at_first d window set w good begins);
           since = refl;
         })
     | inr other ↦ inl (find_no_more (λ (r : Receiver). bytes_eq r.client c) (new_receiver d window w.broker.records.births) w.receivers other ∙ none)
   ]
-  event_comes set (connect_end d clean) w good clean none = inl (links_stay set (next_line w.broker) d clean w none)
-  event_comes set (give_up d) w good clean none = inl (line_stays d (λ l. gives_up l.link l) w (happens set (give_up d) w) refl none)
-  event_comes set (publish d x) w good clean none = inl none
-  event_comes set (subscribe d x) w good clean none = inl (one_stays d (λ r. asks_wish (stands r.line.number w.broker) x r) w (happens set (subscribe d x) w) (λ r. refl) refl none)
-  event_comes set (to_end d) w good clean none =
+  event_comes set (connect_end d clean) w good begins none = inl (links_stay set (next_line w.broker) d clean w none)
+  event_comes set (give_up d) w good begins none = inl (line_stays d (λ l. gives_up l.link l) w (happens set (give_up d) w) refl none)
+  event_comes set (publish d x) w good begins none = inl none
+  event_comes set (subscribe d x) w good begins none = inl (one_stays d (λ r. asks_wish (stands r.line.number w.broker) x r) w (happens set (subscribe d x) w) (λ r. refl) refl none)
+  event_comes set (to_end d) w good begins none =
       inl (one_stays d (λ r. receiver_reads (stands r.line.number w.broker) r.line.down r) w (happens set (to_end d) w) (λ r. (moves_reading (stands r.line.number w.broker) r.line.down r).client) refl none)
-  event_comes set (clock wait) w good clean none = inl none
-  event_comes set (ask a) w good clean none = inl (asks_stay set a w none)
-  event_comes set restart w good clean none = inl (restarts_stay set w none)
-  event_comes set (stop_before a) w good clean none = inl (restarts_stay set (before set a w) (before_stays set a w none))
-  event_comes set (stop_after a) w good clean none = inl (restarts_stay set (first_step set a w) (first_stays set a w none))
+  event_comes set (clock wait) w good begins none = inl none
+  event_comes set (ask a) w good begins none = inl (asks_stay set a w none)
+  event_comes set restart w good begins none = inl (restarts_stay set w none)
+  event_comes set (stop_before a) w good begins none = inl (restarts_stay set (before set a w) (before_stays set a w none))
+  event_comes set (stop_after a) w good begins none = inl (restarts_stay set (first_step set a w) (first_stays set a w none))
 
   module _ (limits : Limits) where
     turn_comes : (t : Turn) (w : World) → begins_clean t.event w ≡ true → receiver_named c w ≡ None → (receiver_named c (turned limits t w) ≡ None) ⊎ IsNewcomer (turned limits t w)

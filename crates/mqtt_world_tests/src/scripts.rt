@@ -184,3 +184,28 @@ fn a_message_of_qos_0_counts_when_it_has_gone_out(rt: HostRuntime) -> Result<(),
     );
     Ok(())
 }
+
+/// A stranger's CONNECT has the client identifier p1, and its session stays.
+const TAKEN: &str = "stranger s 101400044d515454050000000511ffffffff00027031";
+
+#[test]
+fn an_end_is_made_where_a_session_has_its_name(rt: HostRuntime) -> Result<(), Fail> {
+    let hasher = RandomState::new(&rt)?;
+    let (is_right, sight) = sight_behind(
+        rt.alloc(),
+        hasher,
+        (TAKEN, "1 stranger out=1\n"),
+        ("publisher p1", "1 publisher\n"),
+    )?;
+    assert!(rt; is_right, "what it tells");
+    assert!(rt;
+        sight
+            == Sight {
+                messages: (Some(0), Some(0)),
+                copies: (None, None, None),
+                broker: (Some(0), Some(1)),
+            },
+        "{sight:?}"
+    );
+    Ok(())
+}
