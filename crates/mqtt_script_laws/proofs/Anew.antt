@@ -1,5 +1,5 @@
 -- Ends that are made before all else are made where no session of their names stands, if none is stored (MQTT 5.0, 3.1.2.4).
-use Rattle.std.proofs.Common.{◌≡◌, ⊤, Bool, true, false, cond, not, ◌&&◌, List, [], ◌∷◌, Option, Some, None, refl, sym, ap, subst, ◌∙◌, inl, inr}
+use Rattle.std.proofs.Common.{◌≡◌, Bool, true, false, cond, not, ◌&&◌, List, [], ◌∷◌, Option, Some, None, refl, sym, ap, subst, ◌∙◌, inl, inr}
 use Rattle.std.specs.List.{AllByRecursion}
 use Rattle.std.proofs.lemmas.Bool.{cases_Bool}
 use Rattle.mqtt_rules.proofs.Copies.{each_more}
