@@ -1,6 +1,5 @@
 -- Ends that are made before all else are made where no session of their names stands, if none is stored (MQTT 5.0, 3.1.2.4).
-use Rattle.std.proofs.Common.{◌≡◌, Bool, true, false, cond, not, ◌&&◌, List, [], ◌∷◌, Option, Some, None, refl, sym, ap, subst, ◌∙◌, inl, inr}
-use Rattle.std.specs.List.{AllByRecursion}
+use Rattle.std.proofs.Common.{◌≡◌, Bool, true, false, cond, not, ◌&&◌, List, [], ◌∷◌, Option, Some, None, refl, sym, ap, ◌∙◌, inl, inr}
 use Rattle.std.proofs.lemmas.Bool.{cases_Bool}
 use Rattle.mqtt_rules.proofs.Copies.{each_more}
 use Rattle.mqtt_rules.specs.State.{Broker, session_named}
@@ -102,12 +101,14 @@ pub made_first : (limits : Limits) (es : List Line) (w : World) → makes_ends_f
 made_first limits [] w h none = tt
 made_first limits (e ∷ es) w h none = elim (cases_Bool (makes_end (event_of e))) [
   | inl makes ↦
-      let rest : makes_ends_first es ≡ true = sym (ap (λ (b : Bool). cond b (makes_ends_first es) (makes_no_end es)) makes) ∙ h in
-      (none.0, λ turns are.
-      let v = run limits turns w in
-      let same = made_stays limits e turns w makes are in
-      made_first limits es v rest
-      (each_more (λ (l : Line). IsMadeAnewIf (event_of l) w) (λ (l : Line). IsMadeAnewIf (event_of l) v) (λ l k. by_broker (event_of l) w v same k) es none.1))
+      let rest : makes_ends_first es ≡ true = sym (ap (λ (b : Bool). cond b (makes_ends_first es) (makes_no_end es)) makes) ∙ h in (
+        none.0,
+        λ turns are.
+            let v = run limits turns w in
+            let same = made_stays limits e turns w makes are in
+            made_first limits es v rest
+            (each_more (λ (l : Line). IsMadeAnewIf (event_of l) w) (λ (l : Line). IsMadeAnewIf (event_of l) v) (λ l k. by_broker (event_of l) w v same k) es none.1),
+      )
   | inr other ↦
       let rest : makes_no_end es ≡ true = sym (ap (λ (b : Bool). cond b (makes_ends_first es) (makes_no_end es)) other) ∙ h in
       (no_end (event_of e) w other, λ turns are. none_made limits es (run limits turns w) rest)
