@@ -5,5 +5,5 @@ use Rattle.mqtt_world.proofs.stage.Stage.clock.Goals as goal
 pub returns : goal.returns
 returns g c =
     let s = c.self.inside in
-    clock_plays_in g.K.Keep c.args.wait s.scene s.strangers s.now c.later.result s.limits c.args.self.now c.silent.result
-    c.self.view_is c.requires c.later.ensures c.silent.ensures
+    clock_plays_in g.K.Keep c.args.wait s.scene s.strangers s.now c.later-self-inside.result s.limits c.args.self.now c.silent.result
+    c.self.view_is c.requires c.later-self-inside.ensures c.silent.ensures

@@ -28,9 +28,9 @@ pub returns-in-Stranger : goal.returns-in-Stranger
 returns-in-Stranger g c =
     let name = c.in-Stranger.name in
     told_of g.K.Keep c.args.event.now (ask (stranger name c.as_slice.result.now)) c.args.self c.visit-told.new.self c.visit-told.result
-    c.with_told-in-Stranger.result
+    c.with_told.result
     (ap event_of c.in-Stranger.is ∙ ap (λ bytes. Some (ask (stranger name bytes))) (sym c.as_slice.ensures))
-    c.with_told-in-Stranger.ensures c.visit-told.ensures
+    c.with_told.ensures c.visit-told.ensures
 
 pub returns-in-Drain : goal.returns-in-Drain
 returns-in-Drain g c = drained g.K.Keep c.args.event.now c.args.self (ap event_of c.in-Drain.is)
