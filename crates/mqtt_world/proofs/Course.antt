@@ -1,6 +1,6 @@
 -- What events come to in a world that runs, one after the other, and that all it keeps is a run of the definitions' world.
-use Rattle.std.proofs.Common.{◌≡◌, ◌≢◌, List, [], ◌∷◌, ◌++◌, IfErr, IfOk, OnOk, Option, None, Some, append-nil, append_assoc, refl, sym, ap, subst, ◌∙◌, ◌⊎◌, inl}
-use Rattle.std.specs.Prelude.{ℕ, length, true, Result, Ok, Err}
+use Rattle.std.proofs.Common.{◌≡◌, List, [], ◌∷◌, ◌++◌, IfErr, IfOk, OnOk, Option, None, Some, append-nil, append_assoc, refl, sym, ap, subst, ◌∙◌}
+use Rattle.std.specs.Prelude.{length, Result, Ok, Err}
 use Rattle.mqtt_records.specs.declared.keep.Keep.{Ghosts}
 use Rattle.mqtt_laws.specs.Tellings.{Telling}
 use Rattle.mqtt_laws.specs.World as world
@@ -8,14 +8,14 @@ use Rattle.mqtt_laws.specs.World.{World}
 use Rattle.mqtt_peers.specs.declared.told.RunFault.{RunFault}
 use Rattle.mqtt_peers.specs.declared.told.RunFault.TheVariants as fault
 use Rattle.mqtt_script.specs.declared.event.Event.{Event}
-use Rattle.mqtt_script_laws.specs.Scripted.{IsBadEvent, IsBadHere, RunsTo, as_event, event_of}
+use Rattle.mqtt_script_laws.specs.Scripted.{IsBadEvent, RunsTo, as_event, event_of}
 use Rattle.mqtt_script_laws.proofs.Carrying.{delivers_once}
 use Rattle.mqtt_script_laws.proofs.Scripts.{runs_join}
 use Rattle.mqtt_broker.specs.TheRules.Laws.{AreWithin}
 use Rattle.mqtt_broker.specs.TheRules.declared.Limits.{Limits}
 use Rattle.mqtt_world.specs.Events.{IsReached}
 use Rattle.mqtt_world.specs.Openings.{AlwaysSound}
-use Rattle.mqtt_world.specs.Stages.{Plays, Staged, broker_of, world_at}
+use Rattle.mqtt_world.specs.Stages.{Staged, broker_of, world_at}
 use Rattle.mqtt_world.specs.Worlds.{Came, CantHappen, Happen, HasCome, HasDelivered, IfSound, Lasting, PlaysIf, Refuses, Runs, Stops, fault_of, over_by, with_stage}
 use Rattle.mqtt_world.specs.declared.over.Over.{Over}
 use Rattle.mqtt_world.specs.declared.over.Over.TheVariants as over

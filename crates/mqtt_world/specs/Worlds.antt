@@ -16,7 +16,7 @@ use Rattle.mqtt_script.specs.declared.event.Event.TheVariants.{Publisher, Receiv
 use Rattle.mqtt_script.specs.declared.event.Event.TheVariants.{ToBroker, ToEnd, Break, Pump, Clock, Tick, Restart, StopBefore}
 use Rattle.mqtt_script.specs.declared.event.Event.TheVariants.{StopAfter, Stranger, Drain}
 use Rattle.mqtt_script_laws.specs.Cleanly.{BeginClean, ScriptDelivers}
-use Rattle.mqtt_script_laws.specs.Scripted.{IsBadHere, RunsTo, event_of}
+use Rattle.mqtt_script_laws.specs.Scripted.{IsBadHere, RunsTo}
 use Rattle.mqtt_spelled_laws.specs.Sending.{HaveSentPhases}
 use Rattle.mqtt_every_run_laws.specs.Untouched.{IsUntouched}
 use Rattle.mqtt_world_laws.specs.Fair.{opened_world}
