@@ -7,4 +7,5 @@ mod serving;
 mod store;
 
 pub use mqtt_serve_fault::ServeFault;
+pub use mqtt_serving::{Full, Limits};
 pub use serving::{serve, serve_over};

@@ -2,13 +2,14 @@
 ghost use Rattle.std.specs.Prelude.{◌≡◌, ◌≢◌, [], OnOk, IfOk, IfErr};
 ghost use Rattle.std.specs.Io.KnownBytes.{Appends, Keeps};
 ghost use Rattle.mqtt_serving.specs.Turns.{Begins, Runs, TurnsFrom, TurnsOn, server};
+ghost use Rattle.mqtt_rules.specs.Laws.{AreWithin};
 ghost use Rattle.mqtt_serve.specs.Announcing.{Announces, done, listening};
 
 use crate::clock::moment;
 use crate::poll_link::PollLink;
 use crate::store::{close_database, open_database, open_engine, stopped_by, store_over};
 use mqtt_serve_fault::ServeFault;
-use mqtt_serving::{Engine, Keep, Links, serve_turn};
+use mqtt_serving::{Engine, Keep, Limits, Links, serve_turn};
 use sqlite::{Alter, Connection};
 use std::io;
 use std::io::{ErrorKind, Write};
@@ -123,8 +124,8 @@ fn serve_engine<K: Keep, W: Write>(
     run_turns(rt, &mut links, engine, turns, begin)
 }
 
-/// Serves at an address, over any store, for so many turns, and gives the store back (4.1, 4.2): the broker begins with
-/// what the store holds, then it listens, and writes `listening` and the address. `Write` (2), `Memory` (3), `Store` (4)
+/// Serves at an address, over any store, with these limits, for so many turns, and gives the store back (4.1, 4.2): the
+/// broker begins with what the store holds, then it listens, and writes `listening` and the address. `Write` (2), `Memory` (3), `Store` (4)
 /// and `Socket` (5), where nothing was written.
 pub fn serve_over<K: Keep, W: Write>(
     rt: &HostRuntime,
@@ -132,15 +133,18 @@ pub fn serve_over<K: Keep, W: Write>(
     keep: K,
     turns: u32,
     writer: &mut W,
+    limits: Limits,
 ) -> Result<K, ServeFault>
+    requires within { AreWithin limits }
     ensures ok { OnOk result (Announces (W.contents writer.old) (W.contents writer.new) []) }
-    ensures ran { IfOk result (λ given. Runs K.Keep turns keep given) }
-    ensures order { IfErr result (λ fault. fault ≡ ServeFault.Socket → (moment : _) × (start : _) × Begins K.Keep moment keep start) }
+    ensures ran { IfOk result (λ given. Runs K.Keep limits turns keep given) }
+    ensures order { IfErr result (λ fault. fault ≡ ServeFault.Socket
+        → (moment : _) × (start : _) × Begins K.Keep limits moment keep start) }
     ensures socket { IfErr result (λ fault. fault ≡ ServeFault.Socket
         → Keeps (W.contents writer.old) (W.contents writer.new)) }
 {
     let begin = moment(rt, 0);
-    let mut engine = open_engine(rt, keep, begin)?;
+    let mut engine = open_engine(rt, keep, begin, limits)?;
     let ran = serve_engine(rt, listen, &mut engine, turns, begin, writer);
     let keep = engine.close();
     match ran {
@@ -156,18 +160,20 @@ fn serve_database<S: Alter + Drop, W: Write>(
     conn: Connection<S>,
     turns: u32,
     writer: &mut W,
+    limits: Limits,
 ) -> Result<Connection<S>, ServeFault>
+    requires within { AreWithin limits }
     ensures ok { OnOk result (Announces (W.contents writer.old) (W.contents writer.new) []) }
     ensures socket { IfErr result (λ fault. fault ≡ ServeFault.Socket
         → Keeps (W.contents writer.old) (W.contents writer.new)) }
 {
     let keep = store_over(rt.alloc(), conn)?;
-    let keep = serve_over(rt, listen, keep, turns, writer)?;
+    let keep = serve_over(rt, listen, keep, turns, writer, limits)?;
     Ok(keep.into_inner())
 }
 
-/// Serves MQTT 5.0 at an address, over the database at a path, for so many turns (4.1, 4.2): it writes `listening` and the
-/// address, with the port that was bound, and at the end `done`. The database is opened first, then the socket. `Write` (2),
+/// Serves MQTT 5.0 at an address, over the database at a path, with these limits, for so many turns (4.1, 4.2): it writes
+/// `listening` and the address, with the port that was bound, and at the end `done`. The database is opened first, then the socket. `Write` (2),
 /// `Memory` (3), `Store` (4) and `Socket` (5); where the socket failed nothing was written.
 pub fn serve<W: Write>(
     rt: &HostRuntime,
@@ -175,13 +181,15 @@ pub fn serve<W: Write>(
     db: &str,
     turns: u32,
     writer: &mut W,
+    limits: Limits,
 ) -> Result<(), ServeFault>
+    requires within { AreWithin limits }
     ensures ok { OnOk result (Announces (W.contents writer.old) (W.contents writer.new) done) }
     ensures socket { IfErr result (λ fault. fault ≡ ServeFault.Socket
         → Keeps (W.contents writer.old) (W.contents writer.new)) }
 {
     let conn = open_database(rt, db)?;
-    let conn = serve_database(rt, listen, conn, turns, writer)?;
+    let conn = serve_database(rt, listen, conn, turns, writer, limits)?;
     close_database(conn)?;
     write_done(writer)
 }

@@ -6,7 +6,6 @@ use Rattle.mqtt_broker.specs.TheTables.declared.call.EngineError.{EngineError}
 use Rattle.mqtt_broker.specs.TheTables.declared.call.EngineError.TheVariants.{Memory, Stopped, Spent}
 use Rattle.mqtt_broker.specs.Outcome.{Outcome}
 use Rattle.mqtt_broker.specs.TheRules.declared.Limits.{Limits}
-use Rattle.mqtt_broker.specs.TheRules.Laws.{AreWithin}
 use Rattle.mqtt_broker.specs.TheRules.Step.{BrokerOpening, BrokerStep, NewLine, Lost, Pump, Tick, nothing_told}
 use Rattle.mqtt_broker.specs.TheTables.Doing.{next_line}
 use Rattle.mqtt_broker.specs.Piece.{PieceCalled}
@@ -211,23 +210,22 @@ pub data TurnsOn {K : Type 0} (g : Ghosts K) (begin : ℕ) : ℕ → ℕ → Ser
 abbrev pub TurnsFrom : {K : Type 0} → Ghosts K → ℕ → ℕ → Serving K → Serving K → Type 0
 TurnsFrom g begin turns old new = (last : ℕ) × (wires : List Wire) × TurnsOn g begin last turns (server old []) (server new wires)
 
--- ---- a store is served: the broker begins at a moment with the opening of what the store held, with limits within those
--- of the tables, has so many turns from then on, and gives the store back (4.1)
+-- ---- a store is served: the broker begins at a moment with the opening of what the store held, runs with these limits,
+-- has so many turns from then on, and gives the store back (4.1)
 
-pub record Begins {K : Type 0} (g : Ghosts K) (moment : ℕ) (keep : K) (start : Serving K) : Type 0 where
-  pub limits : Limits
+pub record Begins {K : Type 0} (g : Ghosts K) (limits : Limits) (moment : ℕ) (keep : K) (start : Serving K) : Type 0 where
   pub records : Records
-  pub within : AreWithin limits
   -- of a device that lied nothing is said
   pub exact : (held : Records) → g.holds keep held → g.is_sound start.running.keep → records ≡ held
   pub opening : BrokerOpening limits records moment start.running.broker
   pub holds : g.holds start.running.keep start.running.broker.records
+  pub limits_are : start.running.limits ≡ limits
   pub silent : start.held ≡ []
 
-pub record Runs {K : Type 0} (g : Ghosts K) (turns : ℕ) (old new : K) : Type 0 where
+pub record Runs {K : Type 0} (g : Ghosts K) (limits : Limits) (turns : ℕ) (old new : K) : Type 0 where
   pub moment : ℕ
   pub start : Serving K
   pub stop : Serving K
-  pub begins : Begins g moment old start
+  pub begins : Begins g limits moment old start
   pub ran : TurnsFrom g moment turns start stop
   pub closed : new ≡ stop.running.keep
