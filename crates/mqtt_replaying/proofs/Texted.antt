@@ -272,7 +272,7 @@ nothing_runs limits w within = record {
   tells = [];
   runs = (refl, refl);
   told = refl;
-  delivers = λ untouched apart clean. delivers_once limits [] [] w w within untouched apart keeps (refl, refl);
+  delivers = λ untouched apart clean. delivers_once limits [] [] w w within untouched apart clean (refl, refl);
 }
 
 pub front_none : (limits : Limits) (lines : List (List ℕ)) (before after : Option (List ℕ)) → AreWithin limits → Keeps before after
