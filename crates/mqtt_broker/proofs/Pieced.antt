@@ -201,6 +201,11 @@ module _ {K : Type 0} (g : Ghosts K) (now line : ℕ) (piece : List ℕ) (old ne
     crash_if None (Err e) h left may = found left (subst (λ (r : Running K). g.leaves r.keep left) h.memory.1 may)
     crash_if (Some c) r h left may = h.crash running left may
 
+    sound_if : (call : Option Call) (r : Result Outcome EngineError) → CalledIf g now call old r new → g.is_sound new.keep → g.is_sound old.keep
+    sound_if None (Ok told) h s = subst (λ (r : Running K). g.is_sound r.keep) h.told.1 s
+    sound_if None (Err e) h s = subst (λ (r : Running K). g.is_sound r.keep) h.memory.1 s
+    sound_if (Some c) r h s = h.sound s
+
     not_running : {X : Type 0} → old.stopped ≡ true → X
     not_running s = let clash : true ≡ false = sym s ∙ running in absurd cc
 
@@ -225,6 +230,7 @@ module _ {K : Type 0} (g : Ghosts K) (now line : ℕ) (piece : List ℕ) (old ne
           cause = λ e. absurd (not_refused out Stopped e);
           still = λ s. not_running s;
           crash = λ run left may. subst (λ (o : Option Call). IsLeftByAny old.limits old.broker now o left) (sym same) (crash_if call (Ok told) h left may);
+          sound = sound_if call (Ok told) h;
         }
 
     same_if : (call : Option Call) (error : EngineError) → CalledIf g now call old (Err error) new → new.broker ≡ old.broker
@@ -271,6 +277,7 @@ module _ {K : Type 0} (g : Ghosts K) (now line : ℕ) (piece : List ℕ) (old ne
       cause = λ e run. (stopped_if call error h e).1;
       still = λ s. not_running s;
       crash = λ run left may. subst (λ (o : Option Call). IsLeftByAny old.limits old.broker now o left) (sym same) (crash_if call (Err error) h left may);
+      sound = sound_if call (Err error) h;
     }
 
     pub lines_err : (call : Option Call) (error : EngineError) (rest : List HeldLine) → CalledIf g now call old (Err error) new → rest ≡ held → IsOfLines rest new.broker
@@ -298,6 +305,7 @@ module _ {K : Type 0} (g : Ghosts K) (now : ℕ) (old : Running K) (running : ol
     cause = λ e. absurd cc;
     still = λ s. let clash : true ≡ false = sym s ∙ running in absurd cc;
     crash = λ run left may. inl (found left may);
+    sound = λ s. s;
   }
 
 -- ---- a piece on a line that is linked, from what its calls ensure
@@ -409,4 +417,5 @@ module _ {K : Type 0} (g : Ghosts K) (now line : ℕ) (piece : List ℕ) (old : 
     cause = λ e. absurd (not_refused out Stopped e);
     still = λ s. let clash : true ≡ false = sym s ∙ running in absurd cc;
     crash = λ run left may. no_left unasked unasked_is left (found left may);
+    sound = λ s. s;
   })

@@ -52,6 +52,7 @@ module _ {K : Type 0} (g : Ghosts K) (now : ℕ) (old : Running K) (running : ol
     cause = λ e. absurd (not_refused out Stopped e);
     still = λ s. let clash : true ≡ false = sym s ∙ running in absurd cc;
     crash = λ run left may. inl (found left may);
+    sound = λ s. s;
   }
 
   pub passed_served : (line : ℕ) (call : Call) (held : List HeldLine) (new : Running K) (out : Outcome) → line_at line old.broker ≡ None → IsOn line call → Tells nothing_told out → new ≡ rested

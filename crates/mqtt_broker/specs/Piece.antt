@@ -59,3 +59,5 @@ pub record PieceCalled {K : Type 0} (g : Ghosts K) (now line : ℕ) (piece : Lis
   -- a crash leaves what was stored before the call or after it
   pub crash : old.running.stopped ≡ false → (left : Records) → g.leaves new.running.keep left
       → IsLeftByAny old.running.limits old.running.broker now (call_by line piece old) left
+  -- a device that is sound after the call was sound before it
+  pub sound : g.is_sound new.running.keep → g.is_sound old.running.keep

@@ -57,6 +57,8 @@ pub record Called {K : Type 0} (g : Ghosts K) (now : ℕ) (call : Call) (old : R
   pub still : old.stopped ≡ true → IsErrOf result Stopped × (new ≡ old)
   -- a crash leaves what was stored before the call or after it
   pub crash : old.stopped ≡ false → (left : Records) → g.leaves new.keep left → IsLeftBy old.limits old.broker now call left
+  -- a device that is sound after the call was sound before it
+  pub sound : g.is_sound new.keep → g.is_sound old.keep
 
 -- ---- what is asked on a line
 

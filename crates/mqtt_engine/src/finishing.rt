@@ -72,6 +72,7 @@ fn tell<K: Keep>(
     ensures cause { IsErrOf result EngineError.Stopped → K.counted keep.new ≢ K.counted keep.old }
     ensures crash { (left : Records) → K.leaves keep.new left
         → (left ≡ step.old.start.records) ⊎ (left ≡ step.old.broker.records) }
+    ensures device { K.is_sound keep.new → K.is_sound keep.old }
     ensures serves { is_stale.new ≡ false → Serves index.new.sessions (subscribers step.new.broker.records) }
     ensures quiet { AreQuietBefore quiet.old step.old.start.records
         → AreQuietBefore quiet.new step.new.broker.records }
@@ -122,6 +123,7 @@ fn store<K: Keep>(
     ensures crash { (now : ℕ) (call : Call) → DidCall now call again step.old
         → (left : Records) → K.leaves keep.new left
         → IsLeftBy step.old.limits step.old.start now call left }
+    ensures device { K.is_sound keep.new → K.is_sound keep.old }
     ensures serves { is_stale.new ≡ false → Serves index.new.sessions (subscribers step.new.broker.records) }
     ensures quiet { AreQuietBefore quiet.old step.old.start.records
         → AreQuietBefore quiet.new step.new.broker.records }
@@ -181,6 +183,9 @@ pub fn finish<K: Keep>(
     ensures crash { (now : ℕ) (call : Call) → IsCalled now call again done step.old
         → (left : Records) → K.leaves keep.new left
         → IsLeftBy step.old.limits step.old.start now call left }
+
+    // A device that is sound after the call was sound before it.
+    ensures device { K.is_sound keep.new → K.is_sound keep.old }
 
     // The index is that of the subscriptions that stand, or is to be made anew.
     ensures serves { is_stale.new ≡ false → Serves index.new.sessions (subscribers step.new.broker.records) }

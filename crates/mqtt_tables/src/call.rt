@@ -188,6 +188,9 @@ pub fn commit<K: Keep>(keep: &mut K, step: &mut Step) -> Result<Outcome, EngineE
     // A crash leaves what was stored before the step or after it.
     ensures crash { (left : Records) → K.leaves keep.new left
         → (left ≡ step.old.start.records) ⊎ (left ≡ step.old.broker.records) }
+
+    // A device that is sound after the call was sound before it.
+    ensures sound { K.is_sound keep.new → K.is_sound keep.old }
 {
     match commit_kept(keep, step) {
         Ok(told) => Ok(told),

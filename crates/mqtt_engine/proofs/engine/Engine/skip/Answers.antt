@@ -22,6 +22,7 @@ returns g c = λ call on.
       cause = search rules;
       still = search rules;
       crash = search rules;
+      sound = search rules;
     }
 
 pub invariant_of-self : goal.invariant_of-self
