@@ -2,5 +2,5 @@
 use Rattle.std.proofs.Common.{◌≡◌, refl}
 use Rattle.mqtt_link.specs.declared.waiting.TheConstants.{WAITING_LIMIT}
 
-waiting : WAITING_LIMIT ≡ 1048576
-waiting = refl
+waiting_limit : WAITING_LIMIT ≡ 1048576
+waiting_limit = refl

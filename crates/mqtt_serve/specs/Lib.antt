@@ -1,2 +1,3 @@
 pub mod Announcing
 pub mod Clock
+pub use Rattle.mqtt_serving.specs.TheRules

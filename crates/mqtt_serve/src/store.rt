@@ -1,10 +1,10 @@
 //! The store of the server: a database in a file (MQTT 5.0, 4.1).
 ghost use Rattle.std.specs.Prelude.{◌≡◌, ◌≢◌, IfErr, IfOk};
+ghost use Rattle.mqtt_serving.specs.TheRules.Laws.{AreWithin};
 ghost use Rattle.mqtt_serving.specs.Turns.{Begins};
 
-use mqtt_base::{QUEUE_LIMIT, RETAINED_LIMIT, SESSION_LIMIT};
 use mqtt_serve_fault::ServeFault;
-use mqtt_serving::{Engine, EngineError, Full, Keep, KeepError, Limits};
+use mqtt_serving::{Engine, EngineError, Keep, KeepError, Limits};
 use mqtt_store::SqlKeep;
 use sqlite::{Alter, Connection, Error, ErrorCode, File, FileStore};
 use std::alloc::Global;
@@ -12,14 +12,6 @@ use std::hash::RandomState;
 
 /// A database in a file.
 pub(crate) type Database = Connection<FileStore<File>>;
-
-/// The limits of the server: those of its tables; a full queue refuses.
-const LIMITS: Limits = Limits {
-    full: Full::Refuse,
-    queue: QUEUE_LIMIT as u32,
-    sessions: SESSION_LIMIT as u32,
-    retained: RETAINED_LIMIT as u32,
-};
 
 /// What a failure of the database is to the server.
 fn fault_of(error: &Error) -> ServeFault
@@ -63,19 +55,31 @@ pub(crate) fn store_over<S: Alter + Drop>(
     }
 }
 
-/// Opens the broker over what a store holds, at a moment in milliseconds.
+/// The moment of the newest step that a database has, in milliseconds; 0 where it has none that can be read.
+pub(crate) fn stored_moment<S: Alter + Drop>(conn: &mut Connection<S>) -> u64 {
+    let row = match conn.query_row("SELECT value FROM meta WHERE name = 'moment'", &[]) {
+        Ok(row) => row,
+        Err(_) => return 0,
+    };
+    let moment: i64 = row.get(0).unwrap_or(0);
+    u64::try_from(moment).unwrap_or(0)
+}
+
+/// Opens the broker over what a store holds, at a moment in milliseconds, with these limits.
 pub(crate) fn open_engine<K: Keep>(
     rt: &HostRuntime,
     keep: K,
     moment: u64,
+    limits: Limits,
 ) -> Result<Engine<K>, ServeFault>
-    ensures begun { IfOk result (λ engine. Begins K.Keep moment keep engine) }
+    requires { AreWithin limits }
+    ensures begun { IfOk result (λ engine. Begins K.Keep limits moment keep engine) }
     ensures fault { IfErr result (λ fault. fault ≢ ServeFault.Socket) }
 {
     let Ok(hasher) = RandomState::new(rt) else {
         return Err(ServeFault::Memory);
     };
-    match Engine::open(rt.alloc(), keep, moment, LIMITS, hasher) {
+    match Engine::open(rt.alloc(), keep, moment, limits, hasher) {
         Ok(engine) => Ok(engine),
         Err((keep, error)) => {
             drop(keep);
