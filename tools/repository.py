@@ -1,7 +1,8 @@
 """The crates of this repository, the words of a check by the kit's rattle, and what runs side by side."""
+import importlib.machinery
+import importlib.util
 import os
 import re
-import shutil
 import sys
 import threading
 import time
@@ -70,11 +71,22 @@ def crates_of(root):
 
 
 def kit():
-    """Returns the kit's folder, by its command rt."""
-    rt = shutil.which("rt")
-    if not rt:
-        sys.exit("the Rattle kit's command rt is not on PATH")
-    return os.path.dirname(os.path.dirname(os.path.realpath(rt)))
+    """Returns the kit's folder, by its command rt; tools/rt stands for that one, and is passed over."""
+    for it in os.environ.get("PATH", "").split(os.pathsep):
+        rt = os.path.realpath(f"{it or '.'}/rt")
+        if os.access(rt, os.X_OK) and os.path.isfile(f"{os.path.dirname(rt)}/rtlib.py"):
+            return os.path.dirname(os.path.dirname(rt))
+    sys.exit("the Rattle kit's command rt is not on PATH")
+
+
+def quick_rt():
+    """Returns the kit's rt as a module, which sums up a crate's files once, as in tools/rt."""
+    loader = importlib.machinery.SourceFileLoader("quick_rt", f"{ROOT}/tools/rt")
+    made = importlib.util.module_from_spec(importlib.util.spec_from_loader("quick_rt", loader))
+    loader.exec_module(made)
+    rt = made.load()
+    made.quick(rt.rtlib)
+    return rt
 
 
 def check_words(crate):
@@ -116,6 +128,22 @@ def free_memory():
     if limit:
         found.append(limit - (number_in("/sys/fs/cgroup/memory.current", r"(\d+)") or 0))
     return min(found)
+
+
+class Limits:
+    """What a run may take: it begins nothing after a moment (in seconds since 1970), nor once it has taken so many minutes of processors."""
+
+    def __init__(self, minutes="", until=""):
+        self.seconds, self.until = 60 * float(minutes or "inf"), float(until or "inf")
+        self.spent, self.turn = 0.0, threading.Lock()
+
+    def may_begin(self, seconds=0):
+        """Returns whether something may begin that takes so many seconds."""
+        return time.time() + seconds < self.until and self.spent < self.seconds
+
+    def spend(self, seconds):
+        with self.turn:
+            self.spent += seconds
 
 
 def at_run():

@@ -11,10 +11,17 @@ use std::process::ExitCode;
 fn main(rt: HostRuntime) -> ExitCode {
     let outcome = run(
         &rt,
-        &|listen, db, turns| {
-            serve(&rt, SocketAddr::V4(listen), db, turns, &mut io::writer(&rt))
+        &|listen, db, turns, limits| {
+            serve(
+                &rt,
+                SocketAddr::V4(listen),
+                db,
+                turns,
+                &mut io::writer(&rt),
+                limits,
+            )
         },
-        &|file| replay_at(&rt, file, &mut io::writer(&rt)),
+        &|file, limits| replay_at(&rt, file, &mut io::writer(&rt), limits),
     );
     let (status, text) = ending(&outcome);
     let _ = eprint!(rt; "{text}");

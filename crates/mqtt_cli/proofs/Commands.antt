@@ -1,5 +1,5 @@
 -- The subcommand of a command line, and what it asks for.
-use Rattle.std.proofs.Common.{◌≡◌, ◌∙◌, ℕ, Bool, true, false, not, if◌then◌else◌, ap, sym, refl, List, [], ◌∷◌, Option, None, Some, codes, unwrap_or, option_map, subst, inl, inr, rules}
+use Rattle.std.proofs.Common.{◌≡◌, ◌∙◌, ◌≤◌, ℕ, Bool, true, false, not, if◌then◌else◌, ap, sym, refl, List, [], ◌∷◌, Option, None, Some, codes, unwrap_or, option_map, subst, inl, inr, arith, rules}
 use Rattle.std.specs.Str.{bytes_eq}
 use Rattle.std.specs.declared.net.socket_addr.SocketAddrV4.{SocketAddrV4}
 use Rattle.clap.specs.Walk.{is_empty}
@@ -9,10 +9,13 @@ use Rattle.clap.specs.declared.error.kind.ErrorKind.TheVariants.{OutOfMemory}
 use Rattle.clap.specs.declared.parser.matches.ArgMatches.{ArgMatches}
 use Rattle.clap.specs.declared.parser.matches.ArgMatches.TheViews.{out-ArgMatches}
 use Rattle.clap.specs.declared.parser.matches.Found.{Found}
-use Rattle.mqtt_cli.specs.Line.{AskFor, AskToReplay, AskToServe, AsksNoServer, AsksToServe, command_of, file_in, is_vectors, program_app, replay_rows_in, rows_in, serve_rows_in, value_in}
-use Rattle.mqtt_cli.specs.Values.{IsAddress, IsCount}
+use Rattle.mqtt_cli.specs.Limits.{AsksForLimits, IsSizeGiven}
+use Rattle.mqtt_cli.specs.Line.{AskFor, AskToReplay, AskToServe, AsksNoReplay, AsksNoServer, AsksToReplay, AsksToServe, command_of, file_in, is_vectors, program_app, replay_rows_in, rows_in, serve_rows_in}
+use Rattle.mqtt_cli.specs.Values.{IsAddress, IsCount, value_in}
 use Rattle.mqtt_cli.specs.declared.line.Action.{Action}
 use Rattle.mqtt_cli.specs.declared.line.Action.TheVariants.{View, Replay, Vectors, Serve}
+use Rattle.mqtt_rules.specs.Laws.{AreWithin}
+use Rattle.mqtt_rules.specs.declared.Limits.{Limits}
 
 -- a pair that may be there, by its parts
 both_parts : {X : Type 0} (f : X → Text × List Row) (o : Option X) (name : Text) (rows : List Row)
@@ -115,29 +118,49 @@ replay_rows_in-other m name found named with_rows is_other =
 
 -- matches that aren't there ask for no server
 pub no_server : AsksNoServer None
-no_server listen db turns asks = cc asks.db_is
+no_server listen db turns limits asks = cc asks.db_is
 
 -- without an address, or with one that isn't of its form, no server is asked for
 pub no_server-listen : (rows : Option (List Row)) → value_in (codes "listen") rows ≡ None → AsksNoServer rows
-no_server-listen rows none listen db turns asks = cc (sym none ∙ asks.listen_is)
+no_server-listen rows none listen db turns limits asks = cc (sym none ∙ asks.listen_is)
 
 pub no_server-address : (rows : Option (List Row)) (text : Text) → value_in (codes "listen") rows ≡ Some text
     → ((address : SocketAddrV4) → ¬ (IsAddress text address)) → AsksNoServer rows
-no_server-address rows text is none listen db turns asks =
+no_server-address rows text is none listen db turns limits asks =
     none listen (subst (λ (t : Text). IsAddress t listen) (ap (λ o. unwrap_or o text) (sym asks.listen_is ∙ is)) asks.address)
 
 -- without a database
 pub no_server-db : (rows : Option (List Row)) → value_in (codes "db") rows ≡ None → AsksNoServer rows
-no_server-db rows none listen db turns asks = cc (sym none ∙ asks.db_is)
+no_server-db rows none listen db turns limits asks = cc (sym none ∙ asks.db_is)
 
 -- without a number of turns, or with one that isn't of its form
 pub no_server-turns : (rows : Option (List Row)) → value_in (codes "turns") rows ≡ None → AsksNoServer rows
-no_server-turns rows none listen db turns asks = cc (sym none ∙ asks.turns_is)
+no_server-turns rows none listen db turns limits asks = cc (sym none ∙ asks.turns_is)
 
 pub no_server-count : (rows : Option (List Row)) (text : Text) → value_in (codes "turns") rows ≡ Some text
     → ((count : ℕ) → ¬ (IsCount text count)) → AsksNoServer rows
-no_server-count rows text is none listen db turns asks =
+no_server-count rows text is none listen db turns limits asks =
     none turns (subst (λ (t : Text). IsCount t turns) (ap (λ o. unwrap_or o text) (sym asks.turns_is ∙ is)) asks.count)
+
+-- or with limits that there are none
+pub no_server-limits : (rows : Option (List Row)) → ((limits : Limits) → ¬ (AsksForLimits rows limits)) → AsksNoServer rows
+no_server-limits rows none listen db turns limits asks = none limits asks.limits_are
+
+-- matches that aren't there ask for no replay
+pub no_replay : AsksNoReplay None
+no_replay file limits asks = cc asks.file_is
+
+-- without FILE, or with limits that there are none, no replay is asked for
+pub no_replay-file : (rows : Option (List Row)) → file_in rows ≡ None → AsksNoReplay rows
+no_replay-file rows none file limits asks = cc (sym none ∙ asks.file_is)
+
+pub no_replay-limits : (rows : Option (List Row)) → ((limits : Limits) → ¬ (AsksForLimits rows limits)) → AsksNoReplay rows
+no_replay-limits rows none file limits asks = none limits asks.limits_are
+
+-- so nothing is answered
+pub asks_no_replay : (rows : List Row) (asked : Option Action) → asked ≡ None → AsksNoReplay (Some rows) → AskToReplay rows asked
+asks_no_replay rows None is none = none
+asks_no_replay rows (Some action) is none = cc
 
 -- so nothing is answered
 pub asks_no_server : (rows : List Row) (asked : Option Action) → asked ≡ None → AsksNoServer (Some rows) → AskToServe rows asked
@@ -146,25 +169,27 @@ asks_no_server rows (Some action) is none = cc
 
 -- what lawful matches of `serve` ask for, the command does
 pub asks_to_serve : (command : Option (Text × List Row)) (rows : List Row) (asked : Option Action)
-    → serve_rows_in command ≡ Some rows → file_in (rows_in command) ≡ None → file_in (replay_rows_in command) ≡ None
+    → serve_rows_in command ≡ Some rows → file_in (rows_in command) ≡ None → replay_rows_in command ≡ None
     → is_vectors command ≡ false → AskToServe rows asked → AskFor command asked
-asks_to_serve command rows None is file script other asks = (file, script, other, subst AsksNoServer (sym is) asks)
-asks_to_serve command rows (Some (Serve listen db turns)) is file script other asks =
-    subst (λ (r : Option (List Row)). AsksToServe r listen db.now turns) (sym is) asks
+asks_to_serve command rows None is file script other asks =
+    (file, subst AsksNoReplay (sym script) no_replay, other, subst AsksNoServer (sym is) asks)
+asks_to_serve command rows (Some (Serve listen db turns limits)) is file script other asks =
+    subst (λ (r : Option (List Row)). AsksToServe r listen db.now turns limits) (sym is) asks
 asks_to_serve command rows (Some Vectors) is file script other asks = absurd asks
 asks_to_serve command rows (Some (View path payload)) is file script other asks = absurd asks
-asks_to_serve command rows (Some (Replay path)) is file script other asks = absurd asks
+asks_to_serve command rows (Some (Replay path limits)) is file script other asks = absurd asks
 
 -- and those of `replay`
 pub asks_to_replay : (command : Option (Text × List Row)) (rows : List Row) (asked : Option Action)
     → replay_rows_in command ≡ Some rows → file_in (rows_in command) ≡ None → serve_rows_in command ≡ None
     → is_vectors command ≡ false → AskToReplay rows asked → AskFor command asked
 asks_to_replay command rows None is file no_rows other asks =
-    (file, ap file_in is ∙ asks, other, subst AsksNoServer (sym no_rows) no_server)
-asks_to_replay command rows (Some (Replay path)) is file no_rows other asks = ap file_in is ∙ asks
+    (file, subst AsksNoReplay (sym is) asks, other, subst AsksNoServer (sym no_rows) no_server)
+asks_to_replay command rows (Some (Replay path limits)) is file no_rows other asks =
+    subst (λ (r : Option (List Row)). AsksToReplay r path.now limits) (sym is) asks
 asks_to_replay command rows (Some Vectors) is file no_rows other asks = absurd asks
 asks_to_replay command rows (Some (View path payload)) is file no_rows other asks = absurd asks
-asks_to_replay command rows (Some (Serve listen db turns)) is file no_rows other asks = absurd asks
+asks_to_replay command rows (Some (Serve listen db turns limits)) is file no_rows other asks = absurd asks
 
 -- whether it is `vectors`
 pub is_vectors-met : (m : ArgMatches) (name : Text) (found : Found) (b : Bool) → Some name ≡ subcommand_name_of m
@@ -188,7 +213,7 @@ pub refused_ask : (app : App) (words : List Text) (e : Error) → app ≡ progra
 refused_ask app words e is fails other =
     let has : HasKind (fault_of program_app words) e =
     subst (λ (a : App). HasKind (fault_of a words) e) is (fails (ap is_simple_and_free is)) in
-    rw (go (fault_of program_app words) has) (refl, refl, refl, no_server)
+    rw (go (fault_of program_app words) has) (refl, no_replay, refl, no_server)
   where
     go : (ks : Kinds) → HasKind ks e → is_empty ks ≡ false
     go [] h = elim h [ inl out ↦ absurd (other out) | inr wrong ↦ absurd wrong ]
@@ -196,7 +221,21 @@ refused_ask app words e is fails other =
 
 -- a command without FILE that is neither `vectors` nor `serve` asks for nothing
 pub asks_nothing : (command : Option (Text × List Row)) (asked : Option Action) → asked ≡ None
-    → file_in (rows_in command) ≡ None → file_in (replay_rows_in command) ≡ None → is_vectors command ≡ false
+    → file_in (rows_in command) ≡ None → replay_rows_in command ≡ None → is_vectors command ≡ false
     → serve_rows_in command ≡ None → AskFor command asked
-asks_nothing command None is file script other no_rows = (file, script, other, subst AsksNoServer (sym no_rows) no_server)
+asks_nothing command None is file script other no_rows =
+    (file, subst AsksNoReplay (sym script) no_replay, other, subst AsksNoServer (sym no_rows) no_server)
 asks_nothing command (Some action) is file script other no_rows = cc
+
+-- a table that is asked for is within its limit
+size_within : (most : ℕ) (value : Option Text) (size : ℕ) → IsSizeGiven most value size → size ≤ most
+size_within most None size is = omega arith
+size_within most (Some text) size is = is.within
+
+-- and so are the limits that are asked for
+pub limits_within : (rows : Option (List Row)) (limits : Limits) → AsksForLimits rows limits → AreWithin limits
+limits_within rows limits asks = record {
+  queue = size_within _ _ limits.queue asks.queue;
+  sessions = size_within _ _ limits.sessions asks.sessions;
+  retained = size_within _ _ limits.retained asks.retained;
+}

@@ -2,7 +2,8 @@
 use Rattle.std.proofs.Common.{◌≡◌, true, List, [], ◌∷◌, None, Some, codes, refl}
 use Rattle.clap.proofs.OnLiterals.{clap_on_literals}
 use Rattle.clap.specs.Words.{Text}
-use Rattle.mqtt_cli.specs.Line.{command_of, file_in, is_vectors, payload_in, replay_rows_in, rows_in, serve_rows_in, value_in}
+use Rattle.mqtt_cli.specs.Line.{command_of, file_in, is_vectors, payload_in, replay_rows_in, rows_in, serve_rows_in}
+use Rattle.mqtt_cli.specs.Values.{value_in}
 use Rattle.mqtt_cli.specs.declared.outcome.TheConstants.{DONE, FAULTY, USAGE, FAILED}
 
 -- ---- numbers

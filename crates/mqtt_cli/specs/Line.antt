@@ -6,7 +6,9 @@ use Rattle.clap.specs.Walk.{is_empty}
 use Rattle.clap.specs.Words.{App, Row, Rule, Text, fault_of, first_of, new_app, new_rule, one_of, subcommand_of, with_rule, with_subcommand}
 use Rattle.mqtt_cli.specs.declared.line.Action.{Action}
 use Rattle.mqtt_cli.specs.declared.line.Action.TheVariants.{View, Replay, Vectors, Serve}
-use Rattle.mqtt_cli.specs.Values.{IsAddress, IsCount}
+use Rattle.mqtt_cli.specs.Limits.{AsksForLimits, with_limits}
+use Rattle.mqtt_cli.specs.Values.{IsAddress, IsCount, value_in}
+use Rattle.mqtt_rules.specs.declared.Limits.{Limits}
 use Rattle.std.specs.declared.net.socket_addr.SocketAddrV4.{SocketAddrV4}
 
 -- `--payload`, a flag
@@ -22,9 +24,9 @@ file_rule = record (new_rule (codes "file")) { value_names = 1; required = true 
 abbrev pub view_app : App
 view_app = with_rule (with_rule (new_app (codes "view")) payload_rule) file_rule
 
--- `replay FILE`
+-- `replay FILE`, with the options for limits
 abbrev pub replay_app : App
-replay_app = with_rule (new_app (codes "replay")) file_rule
+replay_app = with_limits (with_rule (new_app (codes "replay")) file_rule)
 
 -- `vectors`
 abbrev pub vectors_app : App
@@ -34,11 +36,12 @@ vectors_app = new_app (codes "vectors")
 abbrev pub option_rule : Text → Rule
 option_rule name = record (new_rule name) { long = Some name; value_names = 1; required = true }
 
--- `serve --listen ADDR --db FILE --turns N`
+-- `serve --listen ADDR --db FILE --turns N`, with the options for limits
 abbrev pub serve_app : App
 serve_app =
-    with_rule (with_rule (with_rule (new_app (codes "serve")) (option_rule (codes "listen"))) (option_rule (codes "db")))
-    (option_rule (codes "turns"))
+    with_limits
+    (with_rule (with_rule (with_rule (new_app (codes "serve")) (option_rule (codes "listen"))) (option_rule (codes "db")))
+    (option_rule (codes "turns")))
 
 -- the program, which has to be given a command
 abbrev pub program_app : App
@@ -87,12 +90,8 @@ pub record IsFlag (value : Option Text) (flag : Bool) : Type 0 where
   pub is_true : value ≡ Some (codes "true") → flag ≡ true
   pub is_false : value ≡ Some (codes "false") → flag ≡ false
 
--- the value of an option
-abbrev pub value_in : Text → Option (List Row) → Option Text
-value_in name rows = option_and_then (first_of name) rows
-
--- `serve` is asked for at this address, over this database, for so many turns
-pub record AsksToServe (rows : Option (List Row)) (listen : SocketAddrV4) (db : Text) (turns : ℕ) : Type 0 where
+-- `serve` is asked for at this address, over this database, for so many turns, with these limits
+pub record AsksToServe (rows : Option (List Row)) (listen : SocketAddrV4) (db : Text) (turns : ℕ) (limits : Limits) : Type 0 where
   pub listen_text : Text
   pub turns_text : Text
   pub listen_is : value_in (codes "listen") rows ≡ Some listen_text
@@ -100,34 +99,44 @@ pub record AsksToServe (rows : Option (List Row)) (listen : SocketAddrV4) (db : 
   pub db_is : value_in (codes "db") rows ≡ Some db
   pub turns_is : value_in (codes "turns") rows ≡ Some turns_text
   pub count : IsCount turns_text turns
+  pub limits_are : AsksForLimits rows limits
 
 -- nothing that `serve` may be given is asked for
 abbrev pub AsksNoServer : Option (List Row) → Type 0
-AsksNoServer rows = (listen : SocketAddrV4) (db : Text) (turns : ℕ) → ¬ (AsksToServe rows listen db turns)
+AsksNoServer rows = (listen : SocketAddrV4) (db : Text) (turns : ℕ) (limits : Limits) → ¬ (AsksToServe rows listen db turns limits)
+
+-- `replay` is asked for, of this file, with these limits
+pub record AsksToReplay (rows : Option (List Row)) (file : Text) (limits : Limits) : Type 0 where
+  pub file_is : file_in rows ≡ Some file
+  pub limits_are : AsksForLimits rows limits
+
+-- nothing that `replay` may be given is asked for
+abbrev pub AsksNoReplay : Option (List Row) → Type 0
+AsksNoReplay rows = (file : Text) (limits : Limits) → ¬ (AsksToReplay rows file limits)
 
 -- these matches of `serve` ask for this, or for nothing
 abbrev pub AskToServe : List Row → Option Action → Type 0
 AskToServe rows None = AsksNoServer (Some rows)
-AskToServe rows (Some (Serve listen db turns)) = AsksToServe (Some rows) listen db.now turns
+AskToServe rows (Some (Serve listen db turns limits)) = AsksToServe (Some rows) listen db.now turns limits
 AskToServe rows (Some Vectors) = ⊥
 AskToServe rows (Some (View file payload)) = ⊥
-AskToServe rows (Some (Replay file)) = ⊥
+AskToServe rows (Some (Replay file limits)) = ⊥
 
 -- these matches of `replay` ask for this, or for nothing
 abbrev pub AskToReplay : List Row → Option Action → Type 0
-AskToReplay rows None = file_in (Some rows) ≡ None
-AskToReplay rows (Some (Replay file)) = file_in (Some rows) ≡ Some file.now
+AskToReplay rows None = AsksNoReplay (Some rows)
+AskToReplay rows (Some (Replay file limits)) = AsksToReplay (Some rows) file.now limits
 AskToReplay rows (Some Vectors) = ⊥
 AskToReplay rows (Some (View file payload)) = ⊥
-AskToReplay rows (Some (Serve listen db turns)) = ⊥
+AskToReplay rows (Some (Serve listen db turns limits)) = ⊥
 
 -- this command asks for this, or for nothing
 abbrev pub AskFor : Option (Text × List Row) → Option Action → Type 0
 AskFor command None =
-    (file_in (rows_in command) ≡ None) × (file_in (replay_rows_in command) ≡ None) × (is_vectors command ≡ false)
+    (file_in (rows_in command) ≡ None) × AsksNoReplay (replay_rows_in command) × (is_vectors command ≡ false)
     × AsksNoServer (serve_rows_in command)
 AskFor command (Some Vectors) = is_vectors command ≡ true
 AskFor command (Some (View file payload)) =
     (file_in (rows_in command) ≡ Some file.now) × IsFlag (payload_in (rows_in command)) payload
-AskFor command (Some (Replay file)) = file_in (replay_rows_in command) ≡ Some file.now
-AskFor command (Some (Serve listen db turns)) = AsksToServe (serve_rows_in command) listen db.now turns
+AskFor command (Some (Replay file limits)) = AsksToReplay (replay_rows_in command) file.now limits
+AskFor command (Some (Serve listen db turns limits)) = AsksToServe (serve_rows_in command) listen db.now turns limits

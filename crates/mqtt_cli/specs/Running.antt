@@ -3,12 +3,13 @@ use Rattle.std.specs.Prelude.{◌≡◌, ◌≢◌, ◌⊎◌, ⊤, ℕ, true, L
 use Rattle.std.specs.Io.KnownBytes.{Keeps}
 use Rattle.std.specs.declared.net.socket_addr.SocketAddrV4.{SocketAddrV4}
 use Rattle.clap.specs.Words.{Row, Text}
-use Rattle.mqtt_cli.specs.Line.{AskFor, AsksToServe, command_of, file_in, is_vectors, replay_rows_in, rows_in, serve_rows_in}
+use Rattle.mqtt_cli.specs.Line.{AskFor, AsksToReplay, AsksToServe, command_of, file_in, is_vectors, replay_rows_in, rows_in, serve_rows_in}
 use Rattle.mqtt_cli.specs.declared.line.LineFault.TheVariants as line
 use Rattle.mqtt_cli.specs.declared.outcome.Outcome.{Outcome}
 use Rattle.mqtt_cli.specs.declared.outcome.Outcome.TheVariants.{Done, Line, NoFile, View, Vectors, Replayed, Replay, Served, Serve}
 use Rattle.mqtt_replay_fault.specs.declared.fault.Played.{Played}
 use Rattle.mqtt_replay_fault.specs.declared.fault.ReplayFault.{ReplayFault}
+use Rattle.mqtt_rules.specs.declared.Limits.{Limits}
 use Rattle.mqtt_serve_fault.specs.declared.fault.ServeFault.{ServeFault}
 use Rattle.mqtt_viewing.specs.Vectors.{Reports}
 use Rattle.mqtt_viewing.specs.declared.vectors_checker.VectorsFault.TheVariants as vectors
@@ -17,27 +18,29 @@ use Rattle.mqtt_viewing.specs.declared.vectors_checker.VectorsFault.TheVariants 
 abbrev pub Asked : Type 0
 Asked = Option (Text × List Row)
 
--- what serving at an address, over the database at a path, for so many turns may come to
+-- what serving at an address, over the database at a path, for so many turns, with limits, may come to
 abbrev pub Serving : Type 1
-Serving = SocketAddrV4 → Text → ℕ → Result ⊤ ServeFault → Type 0
+Serving = SocketAddrV4 → Text → ℕ → Limits → Result ⊤ ServeFault → Type 0
 
--- what the replay of the script at a path may come to
+-- what the replay of the script at a path, with limits, may come to
 abbrev pub Replaying : Type 1
-Replaying = Text → Result Played ReplayFault → Type 0
+Replaying = Text → Limits → Result Played ReplayFault → Type 0
 
 -- the command asks to replay a script, and that came to this
 pub record HasReplayed (replays : Replaying) (command : Asked) (ended : Result Played ReplayFault) : Type 0 where
   pub file : Text
-  pub asks : file_in (replay_rows_in command) ≡ Some file
-  pub came : replays file ended
+  pub limits : Limits
+  pub asks : AsksToReplay (replay_rows_in command) file limits
+  pub came : replays file limits ended
 
 -- the command asks to serve, and that came to this
 pub record HasServed (serves : Serving) (command : Asked) (ended : Result ⊤ ServeFault) : Type 0 where
   pub listen : SocketAddrV4
   pub db : Text
   pub turns : ℕ
-  pub asks : AsksToServe (serve_rows_in command) listen db turns
-  pub came : serves listen db turns ended
+  pub limits : Limits
+  pub asks : AsksToServe (serve_rows_in command) listen db turns limits
+  pub came : serves listen db turns limits ended
 
 -- the command asks for the view of a file
 pub record AsksToView (command : Asked) : Type 0 where

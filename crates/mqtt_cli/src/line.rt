@@ -2,6 +2,7 @@
 
 ghost use Rattle.std.specs.Prelude.{◌≡◌};
 
+use mqtt_rules::Limits;
 use std::alloc::AllocError;
 use std::net::SocketAddrV4;
 use thiserror::Error;
@@ -16,14 +17,16 @@ pub enum Action<'a> {
         /// Whether a PUBLISH shows the first bytes of its payload.
         payload: bool,
     },
-    /// `replay FILE`
+    /// `replay [--full refuse|drop] [--queue N] [--sessions N] [--retained N] FILE`
     Replay {
         /// The path of the script; `-` is standard input.
         file: &'a str,
+        /// The limits of the broker's tables.
+        limits: Limits,
     },
     /// `vectors`
     Vectors,
-    /// `serve --listen ADDR --db FILE --turns N`
+    /// `serve --listen ADDR --db FILE --turns N [--full refuse|drop] [--queue N] [--sessions N] [--retained N]`
     Serve {
         /// Where to listen.
         listen: SocketAddrV4,
@@ -31,6 +34,8 @@ pub enum Action<'a> {
         db: &'a str,
         /// How many turns, at least 1.
         turns: u32,
+        /// The limits of the broker's tables.
+        limits: Limits,
     },
 }
 

@@ -3,11 +3,13 @@
 ghost use Rattle.std.specs.Prelude.{◌≡◌, map};
 ghost use Rattle.mqtt_cli.specs.Line.{command_of};
 ghost use Rattle.mqtt_cli.specs.Running.{Answers, AnswersWords, IsOfView, Writes};
+ghost use Rattle.mqtt_rules.specs.Laws.{AreWithin};
 
 use crate::line::{Action, LineFault};
 use crate::outcome::Outcome;
 use crate::words::action;
 use mqtt_replay_fault::{Played, ReplayFault};
+use mqtt_rules::Limits;
 use mqtt_serve_fault::ServeFault;
 use mqtt_viewing::{ViewFault, vectors, view};
 use std::alloc::{AllocError, Global};
@@ -42,20 +44,47 @@ fn view_of<I: Read + Drop, W: Write>(
     }
 }
 
+/// Serves as it was handed in; a function of its own, which asks for this one call.
+fn served<F: Fn(SocketAddrV4, &str, u32, Limits) -> Result<(), ServeFault>>(
+    serve: &F,
+    listen: SocketAddrV4,
+    db: &str,
+    turns: u32,
+    limits: Limits,
+) -> Result<(), ServeFault>
+    requires callable { F.pre serve.now listen db turns limits }
+    ensures { F.post serve.now listen db.entry turns limits result }
+{
+    serve(listen, db, turns, limits)
+}
+
+/// Replays as it was handed in; a function of its own, which asks for this one call.
+fn replayed<G: Fn(&str, Limits) -> Result<Played, ReplayFault>>(
+    replay: &G,
+    file: &str,
+    limits: Limits,
+) -> Result<Played, ReplayFault>
+    requires callable { G.pre replay.now file limits }
+    ensures { G.post replay.now file.entry limits result }
+{
+    replay(file, limits)
+}
+
 /// Does what these words ask for, the first of which names the program. The command line is looked at first, then
 /// the file or the database, then the socket. What files, sockets and standard input hold no contract can say; `view`
 /// and `vectors` say what is written. What serves at an address, over the database at a path, for so many turns, and what
-/// replays the script at a path, are handed in: so nothing of the command line stands on the server or the world.
+/// replays the script at a path, each with limits within those of the tables, are handed in: so nothing of the command line
+/// stands on the server or the world.
 pub fn perform<
     S: AsStr,
     W: Write,
-    F: Fn(SocketAddrV4, &str, u32) -> Result<(), ServeFault>,
-    G: Fn(&str) -> Result<Played, ReplayFault>,
+    F: Fn(SocketAddrV4, &str, u32, Limits) -> Result<(), ServeFault>,
+    G: Fn(&str, Limits) -> Result<Played, ReplayFault>,
 >(rt: &HostRuntime, words: &[S], writer: &mut W, serve: &F, replay: &G) -> Outcome
-    requires serves { F.IsAlwaysCallable serve.now }
-    requires replays { G.IsAlwaysCallable replay.now }
-    ensures answers { Answers (λ listen db turns ended. (text : _) × (text.now ≡ db) × F.post serve.now listen text turns ended)
-        (λ file ended. (text : _) × (text.now ≡ file) × G.post replay.now text ended)
+    requires serves { (listen : _) (db : _) (turns : _) (limits : _) → AreWithin limits → F.pre serve.now listen db turns limits }
+    requires replays { (file : _) (limits : _) → AreWithin limits → G.pre replay.now file limits }
+    ensures answers { Answers (λ listen db turns limits ended. (text : _) × (text.now ≡ db) × F.post serve.now listen text turns limits ended)
+        (λ file limits ended. (text : _) × (text.now ≡ file) × G.post replay.now text limits ended)
         (command_of (map S.text words.now)) result }
     ensures writes { Writes (command_of (map S.text words.now))
         (W.contents writer.old) (W.contents writer.new) result }
@@ -66,11 +95,16 @@ pub fn perform<
             Ok(status) => Outcome::Done(status),
             Err(fault) => Outcome::Vectors(fault),
         },
-        Ok(Action::Serve { listen, db, turns }) => match serve(listen, db, turns) {
+        Ok(Action::Serve {
+            listen,
+            db,
+            turns,
+            limits,
+        }) => match served(serve, listen, db, turns, limits) {
             Ok(()) => Outcome::Served,
             Err(fault) => Outcome::Serve(fault),
         },
-        Ok(Action::Replay { file }) => match replay(file) {
+        Ok(Action::Replay { file, limits }) => match replayed(replay, file, limits) {
             Ok(played) => Outcome::Replayed(played),
             Err(fault) => Outcome::Replay(fault),
         },
@@ -89,13 +123,13 @@ pub fn perform<
 
 /// Does what the process's arguments ask for, and writes it to standard output.
 pub fn run<
-    F: Fn(SocketAddrV4, &str, u32) -> Result<(), ServeFault>,
-    G: Fn(&str) -> Result<Played, ReplayFault>,
+    F: Fn(SocketAddrV4, &str, u32, Limits) -> Result<(), ServeFault>,
+    G: Fn(&str, Limits) -> Result<Played, ReplayFault>,
 >(rt: &HostRuntime, serve: &F, replay: &G) -> Outcome
-    requires serves { F.IsAlwaysCallable serve.now }
-    requires replays { G.IsAlwaysCallable replay.now }
-    ensures { AnswersWords (λ listen db turns ended. (text : _) × (text.now ≡ db) × F.post serve.now listen text turns ended)
-        (λ file ended. (text : _) × (text.now ≡ file) × G.post replay.now text ended) result }
+    requires serves { (listen : _) (db : _) (turns : _) (limits : _) → AreWithin limits → F.pre serve.now listen db turns limits }
+    requires replays { (file : _) (limits : _) → AreWithin limits → G.pre replay.now file limits }
+    ensures { AnswersWords (λ listen db turns limits ended. (text : _) × (text.now ≡ db) × F.post serve.now listen text turns limits ended)
+        (λ file limits ended. (text : _) × (text.now ≡ file) × G.post replay.now text limits ended) result }
 {
     let words = match env::args(rt) {
         Ok(words) => words.collect::<Vec<String>>(rt.alloc()),

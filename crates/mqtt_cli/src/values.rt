@@ -3,8 +3,10 @@
 ghost use Rattle.std.specs.Prelude.{◌≡◌, ◌==◌, ℕ, IfNone, IfSome};
 ghost use Rattle.std.specs.List.{after_first};
 ghost use Rattle.std.specs.declared.net.socket_addr.SocketAddrV4.{SocketAddrV4};
-ghost use Rattle.mqtt_cli.specs.Values.{IsAddress, IsCount, is_padded};
+ghost use Rattle.mqtt_cli.specs.Values.{IsAddress, IsCount, IsFull, IsSize, is_padded};
+ghost use Rattle.mqtt_flow.specs.declared.entry.Full.{Full};
 
+use mqtt_flow::Full;
 use std::net::SocketAddrV4;
 
 /// Whether more digits stand behind a zero.
@@ -47,4 +49,29 @@ pub(crate) fn count_read(text: &str) -> Option<u32>
         Ok(0) | Err(_) => None,
         Ok(count) => Some(count),
     }
+}
+
+/// The size of a table that a text is, from 1 to the most that the table may have.
+pub(crate) fn size_read(text: &str, most: u32) -> Option<u32>
+    ensures read { IfSome result (λ size. IsSize most text.now size) }
+    ensures only { IfNone result ((size : ℕ) → ¬ (IsSize most text.now size)) }
+{
+    match count_read(text) {
+        Some(size) if size <= most => Some(size),
+        _ => None,
+    }
+}
+
+/// What becomes of a copy for which a queue has no room, by its word.
+pub(crate) fn full_read(text: &str) -> Option<Full>
+    ensures read { IfSome result (λ full. IsFull text.now full) }
+    ensures only { IfNone result ((full : Full) → ¬ (IsFull text.now full)) }
+{
+    if text == "refuse" {
+        return Some(Full::Refuse);
+    }
+    if text == "drop" {
+        return Some(Full::Drop);
+    }
+    None
 }

@@ -5,6 +5,7 @@ ghost use Rattle.clap.specs.Words.{app_of, found_of, kind_of, rows_of, rule_of, 
 ghost use Rattle.clap.specs.declared.builder.command.Command.TheViews.{out-Command as fields_of};
 ghost use Rattle.mqtt_cli.specs.Line.{AskFor, AskToReplay, AskToServe, command_of, file_rule, option_rule, payload_rule, program_app, replay_app, serve_app, vectors_app, view_app};
 
+use crate::limits::{form_of_wrong, limited, limits_in};
 use crate::line::{Action, LineFault};
 use crate::values::{address_read, count_read};
 use clap::error::ErrorKind;
@@ -34,18 +35,20 @@ fn asked<'a>(alloc: Global, matches: ArgMatches<'a>) -> Result<Action<'a>, LineF
         → AskFor (subcommand_rows_of matches.entry) None) }
 {
     let asked = action_in(&matches);
+    let form = match matches.subcommand() {
+        Some((_, values)) => form_of_wrong(values),
+        None => "",
+    };
     drop(matches);
     match asked {
         Some(action) => Ok(action),
-        None => Err(bad_value(alloc)),
+        None => Err(bad_value(alloc, form)),
     }
 }
 
-/// The fault of a command line whose values aren't of their form.
-fn bad_value(alloc: Global) -> LineFault {
-    let text =
-        "mqtt5: ADDR is as 127.0.0.1:1883, without leading zeros; N is from 1 to 4294967295\n";
-    match String::from_str(alloc, text) {
+/// The fault of a command line with a value that isn't of this form.
+fn bad_value(alloc: Global, form: &str) -> LineFault {
+    match String::from_str(alloc, form) {
         Ok(text) => LineFault::Usage(text),
         Err(_) => LineFault::Memory,
     }
@@ -82,15 +85,22 @@ fn serve_in<'a>(matches: &ArgMatches<'a>) -> Option<Action<'a>>
     let turns = matches.get_str("turns")?;
     let listen = address_read(listen)?;
     let turns = count_read(turns)?;
-    Some(Action::Serve { listen, db, turns })
+    let limits = limits_in(matches)?;
+    Some(Action::Serve {
+        listen,
+        db,
+        turns,
+        limits,
+    })
 }
 
-/// What the matches of `replay` ask for.
+/// What the matches of `replay` ask for: nothing, where a value isn't of its form.
 fn replay_in<'a>(matches: &ArgMatches<'a>) -> Option<Action<'a>>
     ensures { AskToReplay (rows_of (found_of matches.now)) result }
 {
     let file = matches.get_str("file")?;
-    Some(Action::Replay { file })
+    let limits = limits_in(matches)?;
+    Some(Action::Replay { file, limits })
 }
 
 /// The program with its commands.
@@ -120,14 +130,15 @@ fn view_command<'a>(alloc: Global) -> Result<Command<'a>, AllocError>
         .arg(file_arg(alloc, "The bytes to view; - is standard input"))
 }
 
-/// `replay FILE`
+/// `replay FILE`, with the options for limits.
 fn replay_command<'a>(alloc: Global) -> Result<Command<'a>, AllocError>
     ensures app { IfOk result (λ command. app_of command ≡ replay_app) }
     ensures local { IfOk result (λ command. (fields_of command).has_globals ≡ false) }
 {
-    Command::new(alloc, "replay")
+    let command = Command::new(alloc, "replay")
         .about("Runs the events of FILE in a world of clients, lost lines and stops")
-        .arg(file_arg(alloc, "The script; - is standard input"))
+        .arg(file_arg(alloc, "The script; - is standard input"))?;
+    limited(alloc, command)
 }
 
 /// `--payload`
@@ -160,12 +171,12 @@ fn vectors_command<'a>(alloc: Global) -> Command<'a>
     Command::new(alloc, "vectors").about("Checks frames whose meaning is known")
 }
 
-/// `serve --listen ADDR --db FILE --turns N`
+/// `serve --listen ADDR --db FILE --turns N`, with the options for limits.
 fn serve_command<'a>(alloc: Global) -> Result<Command<'a>, AllocError>
     ensures app { IfOk result (λ command. app_of command ≡ serve_app) }
     ensures local { IfOk result (λ command. (fields_of command).has_globals ≡ false) }
 {
-    Command::new(alloc, "serve")
+    let command = Command::new(alloc, "serve")
         .about("Serves MQTT 5.0 clients over a database on disk")
         .arg(option_arg(
             alloc,
@@ -184,7 +195,8 @@ fn serve_command<'a>(alloc: Global) -> Result<Command<'a>, AllocError>
             "turns",
             "N",
             "How many turns to run, from 1 to 4294967295",
-        ))
+        ))?;
+    limited(alloc, command)
 }
 
 /// `--NAME VALUE`, which has to be there.

@@ -1,6 +1,6 @@
 //! A file that a command line names (ours).
 
-use mqtt_cli::{Outcome, Played, ReplayFault, ServeFault, Status, perform};
+use mqtt_cli::{Limits, Outcome, Played, ReplayFault, ServeFault, Status, perform};
 use std::fs;
 use std::net::SocketAddrV4;
 use std::process::Abort;
@@ -13,12 +13,12 @@ const FILE: &str = "a.mqtt";
 const BYTES: &[u8] = b"\xc0\x00\x30\x07\x00\x03a/b\x00!";
 
 /// Stands for what serves, and is not called for a view.
-fn not_served(_: SocketAddrV4, _: &str, _: u32) -> Result<(), ServeFault> {
+fn not_served(_: SocketAddrV4, _: &str, _: u32, _: Limits) -> Result<(), ServeFault> {
     Err(ServeFault::Socket)
 }
 
 /// Stands for what replays, and is not called for a view.
-fn not_replayed(_: &str) -> Result<Played, ReplayFault> {
+fn not_replayed(_: &str, _: Limits) -> Result<Played, ReplayFault> {
     Err(ReplayFault::Store)
 }
 

@@ -1,8 +1,8 @@
 //! Command lines, and how the program ends (ours).
 
 use mqtt_cli::{
-    Action, LineFault, Outcome, Played, ReplayFault, ServeFault, Status, VectorsFault, ViewFault,
-    action, ending, perform,
+    Action, Full, Limits, LineFault, Outcome, Played, ReplayFault, ServeFault, Status,
+    VectorsFault, ViewFault, action, ending, perform,
 };
 use std::alloc::Global;
 use std::net::{Ipv4Addr, SocketAddrV4};
@@ -59,6 +59,7 @@ fn a_server_is_asked_for(rt: HostRuntime) -> Result<(), Fail> {
             listen: SocketAddrV4::new(Ipv4Addr::from(ip), port),
             db: "a.db",
             turns: count,
+            limits: GREATEST,
         };
         let words = [
             "mqtt5", "serve", "--listen", listen, "--db", "a.db", "--turns", turns,
@@ -67,6 +68,14 @@ fn a_server_is_asked_for(rt: HostRuntime) -> Result<(), Fail> {
     }
     Ok(())
 }
+
+/// The limits where no option is given.
+const GREATEST: Limits = Limits {
+    full: Full::Refuse,
+    queue: 1_000,
+    sessions: 1_000,
+    retained: 1_000,
+};
 
 /// Addresses and numbers of turns, and what they are.
 const SERVED: [(&str, &str, ([u8; 4], u16), u32); 3] = [
@@ -92,14 +101,14 @@ fn what_serves_is_called_as_asked(rt: HostRuntime) {
         &rt,
         &words,
         &mut written,
-        &|_, db: &str, turns| {
-            if db == "a.db" && turns == 3 {
+        &|_, db: &str, turns, limits| {
+            if db == "a.db" && turns == 3 && limits == GREATEST {
                 Ok(())
             } else {
                 Err(ServeFault::Socket)
             }
         },
-        &|_| Err(ReplayFault::Store),
+        &|_, _| Err(ReplayFault::Store),
     );
     let is_served = matches!(outcome, Outcome::Served);
     let is_silent = written.is_empty();
@@ -111,16 +120,19 @@ fn what_serves_is_called_as_asked(rt: HostRuntime) {
 
 #[test]
 fn what_replays_is_called_as_asked(rt: HostRuntime) -> Result<(), Fail> {
-    let wanted = Action::Replay { file: "a.script" };
+    let wanted = Action::Replay {
+        file: "a.script",
+        limits: GREATEST,
+    };
     assert_asks(&rt, rt.alloc(), &["mqtt5", "replay", "a.script"], wanted)?;
     let mut written: Vec<u8> = Vec::new(rt.alloc());
     let outcome = perform(
         &rt,
-        &["mqtt5", "replay", "-"],
+        &["mqtt5", "replay", "-", "--queue", "7"],
         &mut written,
-        &|_, _, _| Err(ServeFault::Socket),
-        &|file: &str| {
-            if file == "-" {
+        &|_, _, _, _| Err(ServeFault::Socket),
+        &|file: &str, limits: Limits| {
+            if file == "-" && limits.queue == 7 {
                 Ok(Played::Bad)
             } else {
                 Err(ReplayFault::Read)

@@ -2,7 +2,7 @@
 
 ghost use Rattle.std.specs.Prelude.{◌≡◌, is_some, length, option_map, vec_items, IfOk, Some};
 ghost use Rattle.mqtt_laws.specs.Lines.{stands};
-ghost use Rattle.mqtt_laws.specs.Tellings.{done_by, handed_by, messages_of};
+ghost use Rattle.mqtt_laws.specs.Tellings.{done_by, handed_by};
 ghost use Rattle.mqtt_laws.specs.World.{Setting, World, call_of, is_end, link_of, may_ask, publisher_named};
 ghost use Rattle.mqtt_laws.specs.World.{receiver_named, view_of};
 ghost use Rattle.mqtt_peers.specs.Lines as peers;
@@ -111,18 +111,6 @@ impl Clients {
     {
         match receivers::named(&self.receivers, client) {
             Some(receiver) => Some(receiver.line.up_len()),
-            None => None,
-        }
-    }
-
-    /// How many messages a publisher has: of QoS 1 and 2 that went out, and any that did not yet. None where no
-    /// publisher has the name. Takes no memory.
-    pub fn sent(&self, client: &str) -> Option<u64>
-        ensures { (w : World) → result ≡ option_map (λ p. messages_of (Some p))
-            (publisher_named client.now (in_world self.now w)) }
-    {
-        match publishers::named(&self.publishers, client) {
-            Some(publisher) => Some(publisher.sent()),
             None => None,
         }
     }

@@ -7,8 +7,7 @@ use Rattle.mqtt_flow.specs.Receiver.{connect}
 use Rattle.mqtt_laws.specs.Ends.{Receiver, answers, new_receiver, receiver_reads}
 use Rattle.mqtt_laws.specs.Lines.{gives_up, joined, left, stands}
 use Rattle.mqtt_laws.specs.Run.{Turn, run, setting, turned}
-use Rattle.mqtt_laws.specs.World.{Asking, Event, Setting, World, answers_rest, ask, asks, asks_wish, before, break, call_of, call_of_stranger, calls, calls_if, clock, comes, connect_end, first_step, give_up, happens, held_count, is_bad, is_bad_name, is_end, is_taken, is_window, linked_at, links, next_held, next_line, old_to_broker, publish, publisher, publisher_named, pump, receiver, receiver_named, receiver_restarted, receiver_told, restart, restarts, stop_after, stop_before, stranger, stranger_named, subscribe, tick, to_broker, to_end}
-use Rattle.mqtt_rules.specs.State.{session_named}
+use Rattle.mqtt_laws.specs.World.{Asking, Event, Setting, World, answers_rest, ask, asks, asks_wish, before, break, call_of, call_of_stranger, calls, calls_if, clock, comes, connect_end, first_step, give_up, happens, held_count, is_bad, is_bad_name, is_end, is_window, linked_at, links, next_held, next_line, old_to_broker, publish, publisher, publisher_named, pump, receiver, receiver_named, receiver_restarted, receiver_told, restart, restarts, stop_after, stop_before, stranger, stranger_named, subscribe, tick, to_broker, to_end}
 use Rattle.mqtt_rules.specs.Step.{Call, NewLine, stepped, told}
 use Rattle.mqtt_rules.specs.declared.Limits.{Limits}
 use Rattle.mqtt_world_laws.proofs.Ends.{all_appended, all_mapped, find_first, find_last, find_receiver, only_receiver}
@@ -105,9 +104,8 @@ none_named (Some r) h = absurd cc
 -- one whose name nobody has
 comes_new : (d : List ℕ) (window : ℕ) (w : World) → is_bad (receiver d window) w ≡ false → receiver_named d w ≡ None
 comes_new d window w good =
-    let named = (either (is_bad_name d) (is_taken d w || not (is_window window)) good).1 in
-    let free = (either (is_taken d w) (not (is_window window)) named).0 in
-    let nobody = (either (is_end d w) (is_some (session_named d w.broker.records)) free).0 in
+    let named = (either (is_bad_name d) (is_end d w || not (is_window window)) good).1 in
+    let nobody = (either (is_end d w) (not (is_window window)) named).0 in
     none_named (receiver_named d w) (either (is_some (publisher_named d w)) (is_some (receiver_named d w)) nobody).1
 
 happens_found : (set : Setting) (x : Event) (w : World) → is_bad x w ≡ false → AreFound w.receivers → AreFound (happens set x w).receivers

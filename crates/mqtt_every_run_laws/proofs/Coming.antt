@@ -1,7 +1,7 @@
 -- Over the events of a run: the copies that come to stand in a receiver's queue come in the order in which they enter, and those
 -- that it is handed stand in its ledger in that order (MQTT 5.0, 4.6).
-use Rattle.std.proofs.Common.{◌≡◌, ℕ, ◌≤◌, Bool, true, false, cond, not, ◌||◌, List, [], ◌∷◌, ◌++◌, filter, map, nat_lt, Option, Some, None, refl, sym, ap, subst, ◌∙◌, append_assoc, arith, inl, inr}
-use Rattle.std.specs.Prelude.{filter_map, is_some}
+use Rattle.std.proofs.Common.{◌≡◌, ℕ, ◌≤◌, Bool, true, false, cond, not, List, [], ◌∷◌, ◌++◌, filter, map, nat_lt, Option, Some, None, refl, sym, ap, subst, ◌∙◌, append_assoc, arith, inl, inr}
+use Rattle.std.specs.Prelude.{filter_map, is_none}
 use Rattle.std.specs.List.{AllByRecursion}
 use Rattle.std.proofs.lemmas.Bool.{cases_Bool, ltb-true}
 use Rattle.std.proofs.lemmas.List.Elements.{filter_map-append}
@@ -11,8 +11,8 @@ use Rattle.mqtt_base.specs.declared.session.CopyId.{CopyId}
 use Rattle.mqtt_flow.specs.OutboundWorld.{Lot, past, standing}
 use Rattle.mqtt_laws.specs.Ends.{Receiver}
 use Rattle.mqtt_laws.specs.Laws.{copies_in, count_of, stand_among}
-use Rattle.mqtt_laws.specs.Run.{Turn, are_clean_starts_carried, carries_clean, deeds_at, deeds_over, entered_in, read_at, run, setting, turned}
-use Rattle.mqtt_laws.specs.World.{Setting, World, happens, is_bad, is_bad_name, is_end, is_taken, is_window, receiver, receiver_named}
+use Rattle.mqtt_laws.specs.Run.{Turn, are_beginnings_clean, begins_clean, deeds_at, deeds_over, entered_in, read_at, run, setting, turned}
+use Rattle.mqtt_laws.specs.World.{Setting, World, happens, is_bad, receiver, receiver_named}
 use Rattle.mqtt_records.specs.Records.{subscribe_in}
 use Rattle.mqtt_records.specs.declared.session.Session.{Session}
 use Rattle.mqtt_rules.proofs.Copies.{each_more, kinds}
@@ -166,11 +166,11 @@ module _ (c : List ℕ) (limits : Limits) where
 
   -- ---- an event, and some
 
-  pub turn_on : (t : Turn) (v : World) (base come : List CopyId) (h : HaveCome base come v) → IsFit c v → read_at spending (setting limits t) t.event v ≡ false → carries_clean t.event v ≡ true → IsKept h.stands.ids c limits (turned limits t v)
+  pub turn_on : (t : Turn) (v : World) (base come : List CopyId) (h : HaveCome base come v) → IsFit c v → read_at spending (setting limits t) t.event v ≡ false → begins_clean t.event v ≡ true → IsKept h.stands.ids c limits (turned limits t v)
   turn_on t v base come h fit unspent carried =
       turn_kept h.stands.ids c limits t v (record { stands = record { ids = h.stands.ids; grown = begin_same h.stands.ids; ns = h.stands.ns; standing = h.stands.standing }; fit = fit }) carried unspent
 
-  pub turn_comes : (t : Turn) (v : World) (base come : List CopyId) (h : HaveCome base come v) (q p : Receiver) → receiver_named c v ≡ Some q → receiver_named c (turned limits t v) ≡ Some p → IsFit c v → read_at spending (setting limits t) t.event v ≡ false → carries_clean t.event v ≡ true
+  pub turn_comes : (t : Turn) (v : World) (base come : List CopyId) (h : HaveCome base come v) (q p : Receiver) → receiver_named c v ≡ Some q → receiver_named c (turned limits t v) ≡ Some p → IsFit c v → read_at spending (setting limits t) t.event v ≡ false → begins_clean t.event v ≡ true
       → HaveCome (base ++ filter_map entered_in (deeds_at (setting limits t) t.event v)) (come_with come (queue_at c (turned limits t v))) (turned limits t v)
   turn_comes t v base come h q p e f fit unspent carried =
       let around = h.stands.standing.around in
@@ -178,13 +178,13 @@ module _ (c : List ℕ) (limits : Limits) where
       (turn_goes (Enters c) limits (enters_walk c limits) t v around.within around.steady unspent).said
       (λ x. (turn_goes (Counts x) limits (counts x limits) t v around.within around.steady unspent).said) (turn_on t v base come h fit unspent carried).stands p f
 
-  all_come_on : (ts : List Turn) (v : World) (base come : List CopyId) → HaveCome base come v → IsFit c v → (q : Receiver) → receiver_named c v ≡ Some q → run_spends limits ts v ≡ false → are_clean_starts_carried limits ts v ≡ true
+  all_come_on : (ts : List Turn) (v : World) (base come : List CopyId) → HaveCome base come v → IsFit c v → (q : Receiver) → receiver_named c v ≡ Some q → run_spends limits ts v ≡ false → are_beginnings_clean limits ts v ≡ true
       → HaveCome (base ++ entered_from limits ts v) (come_from c limits ts v come) (run limits ts v)
   all_come_on [] v base come h fit q e unspent carried = record { stands = h.stands; kept = h.kept; entered = stand_more come base [] h.entered; in_order = h.in_order; now = h.now }
   all_come_on (t ∷ ts) v base come h fit q e unspent carried =
       let u = turned limits t v in
       let costs = either (read_at spending (setting limits t) t.event v) (run_spends limits ts u) unspent in
-      let clean = both_true (carries_clean t.event v) (are_clean_starts_carried limits ts u) carried in
+      let clean = both_true (begins_clean t.event v) (are_beginnings_clean limits ts u) carried in
       let stays = run_remains c limits (t ∷ []) v q e in
       let first = turn_comes t v base come h q stays.0 e stays.1 fit costs.0 clean.0 in
       let later = (turn_on t v base come h fit costs.0 clean.0).fit in
@@ -206,8 +206,8 @@ module _ (limits : Limits) (xs ys : List Turn) (w : World) (untouched : IsUntouc
   have_come : HaveCome c limits (queue_at c v ++ entered_from limits ys v) (come_over c limits ys v) (run limits ys v)
   have_come =
       let costs = spent_append limits xs ys w fair.unspent in
-      let clean = carried_append limits xs ys w fair.carried in
-      let k = fair_run_kept limits xs w untouched (record { within = fair.within; unspent = costs.0; carried = clean.0 }) c in
+      let clean = carried_append limits xs ys w fair.clean in
+      let k = fair_run_kept limits xs w untouched (record { within = fair.within; unspent = costs.0; clean = clean.0 }) c in
       let now = queue_at c v in
       all_come_on c limits ys v now now (begins_so c limits v k q e) k.fit q e costs.1 clean.1
 
@@ -233,12 +233,9 @@ module _ (limits : Limits) (xs ys : List Turn) (w : World) (untouched : IsUntouc
 
 -- ---- when a receiver comes, no copies of its name stand
 
-pub none_at_first : (c : List ℕ) (window : ℕ) (set : Setting) (w : World) → is_bad (receiver c window) w ≡ false → queue_at c (happens set (receiver c window) w) ≡ []
-none_at_first c window set w good =
-    let named = either (is_bad_name c) (is_taken c w || not (is_window window)) good in
-    let taken = (either (is_taken c w) (not (is_window window)) named.1).0 in
-    by (session_named c w.broker.records) (either (is_end c w) (is_some (session_named c w.broker.records)) taken).1
+pub none_at_first : (c : List ℕ) (window : ℕ) (set : Setting) (w : World) → is_bad (receiver c window) w ≡ false → begins_clean (receiver c window) w ≡ true → queue_at c (happens set (receiver c window) w) ≡ []
+none_at_first c window set w good clean = by (session_named c w.broker.records) clean
   where
-    by : (o : Option Session) → is_some o ≡ false → queued_by o ≡ []
+    by : (o : Option Session) → is_none o ≡ true → queued_by o ≡ []
     by None e = refl
     by (Some s) e = absurd cc

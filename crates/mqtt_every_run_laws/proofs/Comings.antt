@@ -1,6 +1,6 @@
 -- Ends come, give a line up, publish, ask for subscriptions and read, in the eyes of one receiver.
 use Rattle.std.proofs.Common.{◌≡◌, ℕ, Bool, true, false, cond, not, ◌||◌, ◌&&◌, List, [], ◌∷◌, length, Option, Some, None, nat_eq, nat_lt, bytes_eq, refl, sym, ap, subst, ◌∙◌, inl, inr}
-use Rattle.std.specs.Prelude.{is_some, option_map}
+use Rattle.std.specs.Prelude.{is_none, is_some, option_map}
 use Rattle.std.specs.List.{starts_with}
 use Rattle.std.proofs.lemmas.Bool.{cases_Bool}
 use Rattle.std.proofs.lemmas.Slice.Eq.{bytes_eq-Decides}
@@ -11,10 +11,10 @@ use Rattle.mqtt_inbound.specs.Line.{Link, asked, away, live}
 use Rattle.mqtt_laws.specs.Ends.{Back, Draft, Publisher, Receiver, Sent, Wish, new_publisher, new_receiver, published, publisher_reads, receiver_reads}
 use Rattle.mqtt_laws.specs.Hops.{MayGiveUp}
 use Rattle.mqtt_laws.specs.Lines.{Line, gives_up, stands}
-use Rattle.mqtt_laws.specs.Run.{carries_clean, is_asked, is_clean}
+use Rattle.mqtt_laws.specs.Run.{begins_clean, is_asked, is_clean}
 use Rattle.mqtt_laws.specs.Seats.{IsNamed, Present, Seat, absent, closed, joined, over, waiting}
 use Rattle.mqtt_laws.specs.Seen.{is_linked}
-use Rattle.mqtt_laws.specs.World.{Setting, World, asks_wish, clock, give_up, happens, is_bad, is_bad_name, is_open_line, is_taken, is_window, is_wish, link_by, may_ask, may_ask_on, publish, publisher, publisher_named, receiver, receiver_named, subscribe, to_end, with_receiver}
+use Rattle.mqtt_laws.specs.World.{Setting, World, asks_wish, clock, give_up, happens, is_bad, is_bad_name, is_end, is_open_line, is_window, is_wish, link_by, may_ask, may_ask_on, publish, publisher, publisher_named, receiver, receiver_named, subscribe, to_end, with_receiver}
 use Rattle.mqtt_laws.proofs.Seats.{idle_linked}
 use Rattle.mqtt_records.specs.Session.{auto}
 use Rattle.mqtt_rows.specs.Distinct.{AllDiffer}
@@ -36,6 +36,10 @@ not_some : {X : Type 0} (o : Option X) → is_some o ≡ false → o ≡ None
 not_some None e = refl
 not_some (Some x) e = absurd cc
 
+pub is_nothing : {X : Type 0} (o : Option X) → is_none o ≡ true → o ≡ None
+is_nothing None e = refl
+is_nothing (Some x) e = absurd cc
+
 -- ---- the run that it sees, by the places of its copies
 
 pub run_of : (o : Option ℕ) (largest : ℕ) (ids : List CopyId) (ns : List ℕ) (r : Receiver) (b : Broker) → GoesAlong o largest ids ns r b → AllDiffer ids → (copies : List Lot) × IsRun (place_of ids) largest copies r b
@@ -47,9 +51,8 @@ run_of (Some birth) largest ids ns r b k differ = let x = k.runs (place_of ids) 
 pub publisher_comes : (c d : List ℕ) (largest : ℕ) (set : Setting) (ids : List CopyId) (ns : List ℕ) (w : World) → StandsWith c largest set.limits ids ns w → is_bad (publisher d) w ≡ false
     → StandsWith c largest set.limits ids ns (happens set (publisher d) w)
 publisher_comes c d largest set ids ns w h good =
-    let name = either (is_bad_name d) (is_taken d w) good in
-    let free = either (is_some (publisher_named d w) || is_some (receiver_named d w)) (is_some (session_named d w.broker.records)) name.1 in
-    let ends = either (is_some (publisher_named d w)) (is_some (receiver_named d w)) free.0 in
+    let name = either (is_bad_name d) (is_end d w) good in
+    let ends = either (is_some (publisher_named d w)) (is_some (receiver_named d w)) name.1 in
     record {
       around = record {
         within = h.around.within;
@@ -91,9 +94,9 @@ new_placed c largest window since b named none = record {
   told = record { come = tt; differ = tt };
 }
 
-pub receiver_comes : (c d : List ℕ) (largest window : ℕ) (set : Setting) (ids : List CopyId) (ns : List ℕ) (w : World) → StandsWith c largest set.limits ids ns w → is_bad (receiver d window) w ≡ false
+pub receiver_comes : (c d : List ℕ) (largest window : ℕ) (set : Setting) (ids : List CopyId) (ns : List ℕ) (w : World) → StandsWith c largest set.limits ids ns w → is_bad (receiver d window) w ≡ false → begins_clean (receiver d window) w ≡ true
     → StandsWith c largest set.limits ids ns (happens set (receiver d window) w)
-receiver_comes c d largest window set ids ns w h good = record {
+receiver_comes c d largest window set ids ns w h good clean = record {
   around = record {
     within = h.around.within;
     steady = h.around.steady;
@@ -116,21 +119,18 @@ receiver_comes c d largest window set ids ns w h good = record {
     new : Receiver
     new = new_receiver d window w.broker.records.births
 
-    name : (is_bad_name d ≡ false) × ((is_taken d w || not (is_window window)) ≡ false)
-    name = either (is_bad_name d) (is_taken d w || not (is_window window)) good
-
-    free : ((is_some (publisher_named d w) || is_some (receiver_named d w)) ≡ false) × (is_some (session_named d w.broker.records) ≡ false)
-    free = either (is_some (publisher_named d w) || is_some (receiver_named d w)) (is_some (session_named d w.broker.records)) (either (is_taken d w) (not (is_window window)) name.1).0
+    name : (is_bad_name d ≡ false) × ((is_end d w || not (is_window window)) ≡ false)
+    name = either (is_bad_name d) (is_end d w || not (is_window window)) good
 
     ends : (is_some (publisher_named d w) ≡ false) × (is_some (receiver_named d w) ≡ false)
-    ends = either (is_some (publisher_named d w)) (is_some (receiver_named d w)) free.0
+    ends = either (is_some (publisher_named d w)) (is_some (receiver_named d w)) (either (is_end d w) (not (is_window window)) name.1).0
 
     own : d ≡ c → IsSeen largest ids ns w.broker (receiver_named c (happens set (receiver d window) w))
     own is =
         let nobody : receiver_named c w ≡ None = not_some (receiver_named c w) (ap (λ (x : List ℕ). is_some (receiver_named x w)) (sym is) ∙ ends.1) in
         let found : receiver_named c (happens set (receiver d window) w) ≡ Some new = find_last (λ (r : Receiver). bytes_eq r.client c) new w.receivers ((bytes_eq-Decides d c).1 is) nobody in
         let none = subst (IsSeen largest ids ns w.broker) nobody h.seen in
-        let placed = new_placed d largest window w.broker.records.births w.broker name.0 (not_some (session_named d w.broker.records) free.1) in
+        let placed = new_placed d largest window w.broker.records.births w.broker name.0 (is_nothing (session_named d w.broker.records) clean) in
         subst (IsSeen largest ids ns w.broker) (sym found)
         (subst (λ (xs : List CopyId). IsPlaced largest xs ns new w.broker) (sym none.0) (subst (λ (ms : List ℕ). IsPlaced largest [] ms new w.broker) (sym none.1) placed))
 
@@ -172,12 +172,12 @@ given_apart away r h n e f = h n e f
 given_apart asked r h n e f = absurd cc
 given_apart live r h n e f = absurd cc
 
-pub given_up_stands : (c d : List ℕ) (largest : ℕ) (set : Setting) (ids : List CopyId) (ns : List ℕ) (w : World) → StandsWith c largest set.limits ids ns w → carries_clean (give_up d) w ≡ true
+pub given_up_stands : (c d : List ℕ) (largest : ℕ) (set : Setting) (ids : List CopyId) (ns : List ℕ) (w : World) → StandsWith c largest set.limits ids ns w → begins_clean (give_up d) w ≡ true
     → StandsWith c largest set.limits ids ns (happens set (give_up d) w)
 given_up_stands c d largest set ids ns w h carried = elim (whose_name c d w) [
   | inr not_its ↦ end_others c d largest set.limits ids ns w (on_line gives) (on_back gives_back) (λ p. refl) (λ r. refl) (λ p. gives_others ns w.broker.given p.line.link p.line) (λ r. gives_others ns w.broker.given r.line.link r.line) not_its h
   | inl own ↦ subst (λ (x : List ℕ). StandsWith c largest set.limits ids ns (happens set (give_up x) w)) (sym own.2)
-      (own_gives own.0 own.1 (subst (λ (x : List ℕ). carries_clean (give_up x) w ≡ true) own.2 carried))
+      (own_gives own.0 own.1 (subst (λ (x : List ℕ). begins_clean (give_up x) w ≡ true) own.2 carried))
 ]
   where
     gives : Line Sent → Line Sent
@@ -186,11 +186,11 @@ given_up_stands c d largest set ids ns w h carried = elim (whose_name c d w) [
     gives_back : Line Back → Line Back
     gives_back l = gives_up l.link l
 
-    own_gives : (r : Receiver) → receiver_named c w ≡ Some r → carries_clean (give_up c) w ≡ true → StandsWith c largest set.limits ids ns (happens set (give_up c) w)
+    own_gives : (r : Receiver) → receiver_named c w ≡ Some r → begins_clean (give_up c) w ≡ true → StandsWith c largest set.limits ids ns (happens set (give_up c) w)
     own_gives r e carries =
         let placed = subst (IsSeen largest ids ns w.broker) e h.seen in
         let none = h.around.alone (ap is_some e) in
-        let asks_ : carries_clean (give_up c) w ≡ not (is_asked (Some r.line.link) && r.line.clean) =
+        let asks_ : begins_clean (give_up c) w ≡ not (is_asked (Some r.line.link) && r.line.clean) =
         ap (λ (o : Option Publisher). not (is_asked (link_by o (receiver_named c w)) && is_clean o (receiver_named c w))) none
         ∙ ap (λ (o : Option Receiver). not (is_asked (link_by None o) && is_clean None o)) e in
         let may = may_give r.line.link r.line.clean (sym asks_ ∙ carries) in

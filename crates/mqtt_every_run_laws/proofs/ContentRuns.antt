@@ -14,7 +14,7 @@ use Rattle.mqtt_records.specs.declared.session.Session.{Session}
 use Rattle.mqtt_laws.specs.Ends.{Entry, Receiver}
 use Rattle.mqtt_laws.specs.Laws.{CarriesOf, CarriesOn}
 use Rattle.mqtt_laws.specs.Lines.{sent_to}
-use Rattle.mqtt_laws.specs.Run.{Acceptance, Turn, acceptances_of, acceptances_over, are_clean_starts_carried, carries_clean, deeds_at, deeds_over, read_asked, read_at, read_first, read_if, read_in, read_opening, read_rest, run, setting, the_acceptances, the_deeds, turned}
+use Rattle.mqtt_laws.specs.Run.{Acceptance, Turn, acceptances_of, acceptances_over, are_beginnings_clean, begins_clean, deeds_at, deeds_over, read_asked, read_at, read_first, read_if, read_in, read_opening, read_rest, run, setting, the_acceptances, the_deeds, turned}
 use Rattle.mqtt_laws.specs.World.{Asking, Event, Setting, World, ask, before, break, call_of, call_of_stranger, calls, calls_if, clock, comes, connect_end, first_step, give_up, happens, held_count, is_bad, next_held, old_to_broker, publish, publisher, pump, pump_on, receiver, receiver_named, receiver_told, restart, stop_after, stop_before, stranger, stranger_named, subscribe, tick, to_broker, to_end, view_of}
 use Rattle.mqtt_rules.proofs.Copies.{each_append, each_more}
 use Rattle.mqtt_rules.proofs.FitLaw.{all_among}
@@ -186,13 +186,13 @@ module _ (c : List ℕ) (base : ℕ) where
       by true s said = h
       by false s said = on t.event s said
 
-  run_holds : (limits : Limits) (ts : List Turn) (v : World) (xs : List Numbered) → IsKept [] c limits v → run_spends limits ts v ≡ false → are_clean_starts_carried limits ts v ≡ true → AllSaid base xs v.broker.records → EachHolds (Said xs) (receiver_named c v)
+  run_holds : (limits : Limits) (ts : List Turn) (v : World) (xs : List Numbered) → IsKept [] c limits v → run_spends limits ts v ≡ false → are_beginnings_clean limits ts v ≡ true → AllSaid base xs v.broker.records → EachHolds (Said xs) (receiver_named c v)
       → EachHolds (Said (xs ++ accepted (deeds_over limits ts v))) (receiver_named c (run limits ts v))
   run_holds limits [] v xs k unspent carried said h = subst (λ (all : List Numbered). EachHolds (Said all) (receiver_named c v)) (sym (append-nil xs)) h
   run_holds limits (t ∷ ts) v xs k unspent carried said h =
       let u = turned limits t v in
       let costs = either (read_at spending (setting limits t) t.event v) (run_spends limits ts u) unspent in
-      let clean = both_true (carries_clean t.event v) (are_clean_starts_carried limits ts u) carried in
+      let clean = both_true (begins_clean t.event v) (are_beginnings_clean limits ts u) carried in
       let a = k.stands.standing.around in
       let ds = deeds_at (setting limits t) t.event v in
       let es = deeds_over limits ts u in
@@ -350,7 +350,7 @@ run_reads limits ts w u numbers counted fair c r e =
     let base = w.broker.records.publications in
     let ds = deeds_over limits ts w in
     let nobody : EachHolds (EntrySaid base []) (receiver_named c w) = subst (EachHolds (EntrySaid base [])) (sym (ap (find (λ (x : Receiver). bytes_eq x.client c)) u.new.receivers)) tt in
-    let all = run_holds c base limits ts w [] (untouched_kept c limits w fair.within u) fair.unspent fair.carried (first_said w.broker.records numbers) nobody in
+    let all = run_holds c base limits ts w [] (untouched_kept c limits w fair.within u) fair.unspent fair.clean (first_said w.broker.records numbers) nobody in
     let held : Holds (EntrySaid base (accepted ds)) r = subst (EachHolds (EntrySaid base (accepted ds))) e all in
     All-from_recursion (CarriesEach r) (acceptances_over limits ts w)
     (each_more (λ (a : Acceptance). IsAmong (numbered a) (accepted ds)) (CarriesEach r) (λ a by_one. (

@@ -23,7 +23,7 @@ module _ (limits : Limits) (ts : List Turn) (choice : MemberChoice) (c : List �
 
   bounded : copies_left c (after_round limits choice c v) ≤ copies_left c v + brought
   bounded =
-      let around = (run_kept [] c limits ts w (untouched_kept c limits w fair.within u) fair.unspent fair.carried).stands.standing.around in
+      let around = (run_kept [] c limits ts w (untouched_kept c limits w fair.within u) fair.unspent fair.clean).stands.standing.around in
       queue_grows c limits (round_turns limits choice c v) v around.within around.steady unspent
 
   pub few_rounds : (most : ℕ) → rounds_taken limits choice c most (run limits ts w) ≤ enough_rounds (copies_left c (run limits ts w) + length (entered_from limits (round_turns limits choice c (run limits ts w)) (run limits ts w)))

@@ -7,7 +7,7 @@ use Rattle.mqtt_base.specs.declared.session.CopyId.{CopyId}
 use Rattle.mqtt_inbound.specs.Publisher.{CONNECT}
 use Rattle.mqtt_laws.specs.Ends.{Back, Receiver, shake}
 use Rattle.mqtt_laws.specs.Lines.{stands, unless_closed}
-use Rattle.mqtt_laws.specs.Run.{Turn, are_clean_starts_carried, carries_clean, run, turned}
+use Rattle.mqtt_laws.specs.Run.{Turn, are_beginnings_clean, begins_clean, run, turned}
 use Rattle.mqtt_laws.specs.Seats.{Present, absent, closed, connected_at, joined, waiting}
 use Rattle.mqtt_laws.specs.World.{Event, Setting, World, ask, asks, call_of, calls_if, is_end, publisher_named, pump, receiver_named, receiver_told, taken_up, to_broker, to_end}
 use Rattle.mqtt_laws.proofs.OwnSeats.{line_of_on, not_among}
@@ -125,17 +125,17 @@ module _ (c : List ℕ) (limits : Limits) (choice : MemberChoice) where
       subst (HasUp c 0) (sym (run_append limits reads (all_to_broker choice c read_) sent)) all
 
   -- no event of it gives a line up
-  carried_times : (n : ℕ) (e : Event) (w : World) → ((v : World) → carries_clean e v ≡ true) → are_clean_starts_carried limits (times n (turn_of choice e)) w ≡ true
+  carried_times : (n : ℕ) (e : Event) (w : World) → ((v : World) → begins_clean e v ≡ true) → are_beginnings_clean limits (times n (turn_of choice e)) w ≡ true
   carried_times zero e w h = refl
   carried_times (suc n) e w h = rw (h w) (carried_times n e (turned limits (turn_of choice e) w) h)
 
-  carried_append : (xs ys : List Turn) (w : World) → are_clean_starts_carried limits xs w ≡ true → are_clean_starts_carried limits ys (run limits xs w) ≡ true → are_clean_starts_carried limits (xs ++ ys) w ≡ true
+  carried_append : (xs ys : List Turn) (w : World) → are_beginnings_clean limits xs w ≡ true → are_beginnings_clean limits ys (run limits xs w) ≡ true → are_beginnings_clean limits (xs ++ ys) w ≡ true
   carried_append [] ys w h k = k
   carried_append (t ∷ xs) ys w h k =
-      let both = both_true (carries_clean t.event w) (are_clean_starts_carried limits xs (turned limits t w)) h in
+      let both = both_true (begins_clean t.event w) (are_beginnings_clean limits xs (turned limits t w)) h in
       rw both.0 (carried_append xs ys (turned limits t w) both.1 k)
 
-  pub round_carried : (w : World) → are_clean_starts_carried limits (round_turns limits choice c w) w ≡ true
+  pub round_carried : (w : World) → are_beginnings_clean limits (round_turns limits choice c w) w ≡ true
   round_carried w =
       let sent = turned limits (turn_of choice (ask (pump c))) w in
       let reads = all_to_end choice c sent in

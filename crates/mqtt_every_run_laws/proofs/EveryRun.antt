@@ -7,7 +7,7 @@ use Rattle.mqtt_base.specs.declared.session.CopyId.{CopyId}
 use Rattle.mqtt_flow.specs.Receiver.{puback}
 use Rattle.mqtt_laws.specs.Ends.{Back, answers, Receiver}
 use Rattle.mqtt_laws.specs.Laws.{copies_in, handed_count, released_in, stand_among}
-use Rattle.mqtt_laws.specs.Run.{Turn, are_clean_starts_carried, carries_clean, read_at, run, setting, turned}
+use Rattle.mqtt_laws.specs.Run.{Turn, are_beginnings_clean, begins_clean, read_at, run, setting, turned}
 use Rattle.mqtt_laws.specs.World.{World, old_to_broker, receiver_named, to_broker}
 use Rattle.mqtt_rules.proofs.FlightRows.{all_more}
 use Rattle.mqtt_rules.specs.Laws.{AreWithin}
@@ -47,7 +47,7 @@ untouched_kept c limits w within u = record {
 }
 
 pub fair_run_kept : (limits : Limits) (ts : List Turn) (w : World) → IsUntouched limits w → IsFair limits ts w → (c : List ℕ) → IsKept [] c limits (run limits ts w)
-fair_run_kept limits ts w u fair c = run_kept [] c limits ts w (untouched_kept c limits w fair.within u) fair.unspent fair.carried
+fair_run_kept limits ts w u fair c = run_kept [] c limits ts w (untouched_kept c limits w fair.within u) fair.unspent fair.clean
 
 -- what it has stored may be opened again
 pub run_opens_again : (limits : Limits) (ts : List Turn) (choice : MemberChoice) (now : ℕ) (w : World) → IsUntouched limits w → IsFair limits ts w → is_opening_spent limits choice now (run limits ts w).broker.records ≡ false
@@ -85,11 +85,11 @@ spent_append limits (t ∷ xs) ys w h =
     let rest = spent_append limits xs ys v costs.1 in
     (rw (costs.0, rest.0) refl, rest.1)
 
-pub carried_append : (limits : Limits) (xs ys : List Turn) (w : World) → are_clean_starts_carried limits (xs ++ ys) w ≡ true → (are_clean_starts_carried limits xs w ≡ true) × (are_clean_starts_carried limits ys (run limits xs w) ≡ true)
+pub carried_append : (limits : Limits) (xs ys : List Turn) (w : World) → are_beginnings_clean limits (xs ++ ys) w ≡ true → (are_beginnings_clean limits xs w ≡ true) × (are_beginnings_clean limits ys (run limits xs w) ≡ true)
 carried_append limits [] ys w h = (refl, h)
 carried_append limits (t ∷ xs) ys w h =
     let v = turned limits t w in
-    let both = both_true (carries_clean t.event w) (are_clean_starts_carried limits (xs ++ ys) v) h in
+    let both = both_true (begins_clean t.event w) (are_beginnings_clean limits (xs ++ ys) v) h in
     let rest = carried_append limits xs ys v both.1 in
     (rw (both.0, rest.0) refl, rest.1)
 
@@ -99,10 +99,10 @@ pub run_in_order : (limits : Limits) (xs ys : List Turn) (w : World) → IsUntou
     → AreHandedInOrder (queued_by (session_named q.client (run limits xs w).broker.records)) r
 run_in_order limits xs ys w u fair c q r e f =
     let costs = spent_append limits xs ys w fair.unspent in
-    let clean = carried_append limits xs ys w fair.carried in
+    let clean = carried_append limits xs ys w fair.clean in
     let v = run limits xs w in
     let last = run limits ys v in
-    let k = fair_run_kept limits xs w u (record { within = fair.within; unspent = costs.0; carried = clean.0 }) c in
+    let k = fair_run_kept limits xs w u (record { within = fair.within; unspent = costs.0; clean = clean.0 }) c in
     let s = k.stands in
     let then_ = run_kept s.ids c limits ys v (record { stands = record { ids = s.ids; grown = begin_same s.ids; ns = s.ns; standing = s.standing }; fit = k.fit }) costs.1 clean.1 in
     let t = then_.stands in
@@ -120,11 +120,11 @@ pub run_for_good : (limits : Limits) (xs ys : List Turn) (w : World) → IsUntou
     → All (λ (copy : CopyId). handed_count copy r ≡ 1) (released_in (session_named q.client (run limits xs w).broker.records))
 run_for_good limits xs ys w u fair c q r e f =
     let costs = spent_append limits xs ys w fair.unspent in
-    let clean = carried_append limits xs ys w fair.carried in
+    let clean = carried_append limits xs ys w fair.clean in
     let v = run limits xs w in
     let found : receiver_named c (run limits ys v) ≡ Some r = sym (ap (receiver_named c) (run_append limits xs ys w)) ∙ f in
     let copies = released_in (session_named q.client v.broker.records) in
-    let then_ = run_hands_released limits xs w u (record { within = fair.within; unspent = costs.0; carried = clean.0 }) c q e in
+    let then_ = run_hands_released limits xs w u (record { within = fair.within; unspent = costs.0; clean = clean.0 }) c q e in
     let once = run_hands_once limits (xs ++ ys) w u fair c r f in
     All-from_recursion (λ (copy : CopyId). handed_count copy r ≡ 1) copies
     (all_more (λ (copy : CopyId). handed_count copy q ≡ 1) (λ (copy : CopyId). handed_count copy r ≡ 1) copies (λ copy one. handed_for_good c limits ys v q r copy e found one (once copy))

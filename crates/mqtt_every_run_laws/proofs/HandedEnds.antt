@@ -8,7 +8,7 @@ use Rattle.mqtt_base.specs.declared.session.Qos.{Qos}
 use Rattle.mqtt_base.specs.declared.session.Qos.TheVariants.{AtLeastOnce, AtMostOnce, ExactlyOnce}
 use Rattle.mqtt_laws.specs.Ends.{Entry, Receiver}
 use Rattle.mqtt_laws.specs.Laws.{WasTaken, copies_in, count_of, handed_count}
-use Rattle.mqtt_laws.specs.Run.{End, Turn, are_clean_starts_carried, carries_clean, deeds_at, deeds_over, ended_in, read_at, run, setting, turned}
+use Rattle.mqtt_laws.specs.Run.{End, Turn, are_beginnings_clean, begins_clean, deeds_at, deeds_over, ended_in, read_at, run, setting, turned}
 use Rattle.mqtt_laws.specs.World.{World, receiver_named}
 use Rattle.mqtt_rules.proofs.Copies.{each_more}
 use Rattle.mqtt_rules.specs.declared.Limits.{Limits}
@@ -42,13 +42,13 @@ got_later c p r xs g most h = each_more (IsGot c p) (IsGot c r) (λ x got its ta
 
 -- ---- over the events
 
-run_got : (c : List ℕ) (limits : Limits) (ys : List Turn) (v : World) (q r : Receiver) → IsKept [] c limits v → receiver_named c v ≡ Some q → receiver_named c (run limits ys v) ≡ Some r → run_spends limits ys v ≡ false → are_clean_starts_carried limits ys v ≡ true
+run_got : (c : List ℕ) (limits : Limits) (ys : List Turn) (v : World) (q r : Receiver) → IsKept [] c limits v → receiver_named c v ≡ Some q → receiver_named c (run limits ys v) ≡ Some r → run_spends limits ys v ≡ false → are_beginnings_clean limits ys v ≡ true
     → ((copy : CopyId) → handed_count copy r ≤ 1) → AreGot c r (deeds_over limits ys v)
 run_got c limits [] v q r k e f unspent carried most = tt
 run_got c limits (t ∷ ts) v q r k e f unspent carried most =
     let u = turned limits t v in
     let costs = either (read_at spending (setting limits t) t.event v) (run_spends limits ts u) unspent in
-    let clean = both_true (carries_clean t.event v) (are_clean_starts_carried limits ts u) carried in
+    let clean = both_true (begins_clean t.event v) (are_beginnings_clean limits ts u) carried in
     let first = event_got c (setting limits t) q [] v k.stands e t.event costs.0 in
     let stays = run_remains c limits (t ∷ []) v q e in
     let rest = run_got c limits ts u stays.0 r (turn_kept [] c limits t v k clean.0 costs.0) stays.1 f costs.1 clean.1 most in
@@ -59,9 +59,9 @@ pub run_takes : (limits : Limits) (xs ys : List Turn) (w : World) → IsUntouche
     → All (WasHanded c r) (filter_map ended_in (deeds_over limits ys (run limits xs w)))
 run_takes limits xs ys w u fair c q e r f =
     let costs = spent_append limits xs ys w fair.unspent in
-    let clean = carried_append limits xs ys w fair.carried in
+    let clean = carried_append limits xs ys w fair.clean in
     let v = run limits xs w in
     let found : receiver_named c (run limits ys v) ≡ Some r = sym (ap (receiver_named c) (run_append limits xs ys w)) ∙ f in
-    let k = fair_run_kept limits xs w u (record { within = fair.within; unspent = costs.0; carried = clean.0 }) c in
+    let k = fair_run_kept limits xs w u (record { within = fair.within; unspent = costs.0; clean = clean.0 }) c in
     All-from_recursion (WasHanded c r) (filter_map ended_in (deeds_over limits ys v))
     (run_got c limits ys v q r k e found costs.1 clean.1 (run_hands_once limits (xs ++ ys) w u fair c r f))

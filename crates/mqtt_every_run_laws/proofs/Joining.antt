@@ -8,7 +8,7 @@ use Rattle.mqtt_inbound.specs.Line.{Link, asked, away, live}
 use Rattle.mqtt_inbound.specs.Publisher.{CONNECT}
 use Rattle.mqtt_laws.specs.Ends.{Back, Publisher, Receiver, Sent, answers, shake}
 use Rattle.mqtt_laws.specs.Lines.{Line, is_one_of, joined}
-use Rattle.mqtt_laws.specs.Run.{carries_clean, is_clean}
+use Rattle.mqtt_laws.specs.Run.{begins_clean, is_clean}
 use Rattle.mqtt_laws.specs.World.{Setting, World, calls, connect_end, happens, is_away, is_bad, link_by, links, publisher_told, receiver_named, receiver_told}
 use Rattle.mqtt_rules.proofs.NumberSteps.{step_fell}
 use Rattle.mqtt_rules.specs.State.{Broker}
@@ -157,7 +157,7 @@ so_clean true was h is = refl
 so_clean false true h is = absurd cc
 so_clean false false h is = absurd cc
 
-pub joined_stands : (first : List CopyId) (c d : List ℕ) (clean : Bool) (largest : ℕ) (set : Setting) (w : World) → Stands first c largest set.limits w → is_bad (connect_end d clean) w ≡ false → carries_clean (connect_end d clean) w ≡ true
+pub joined_stands : (first : List CopyId) (c d : List ℕ) (clean : Bool) (largest : ℕ) (set : Setting) (w : World) → Stands first c largest set.limits w → is_bad (connect_end d clean) w ≡ false → begins_clean (connect_end d clean) w ≡ true
     → Stands first c largest set.limits (happens set (connect_end d clean) w)
 joined_stands first c d clean largest set w stay good carried = by (can_link w.broker) refl
   where
@@ -172,7 +172,7 @@ joined_stands first c d clean largest set w stay good carried = by (can_link w.b
           let free : not (is_away (Some r.line.link)) ≡ false =
           sym (ap (λ (x : Option Publisher). not (is_away (link_by x o))) none ∙ ap (λ (x : Option Receiver). not (is_away (link_by None x))) own.1) ∙ subst (λ (x : List ℕ). is_bad (connect_end x clean) w ≡ false) own.2 good in
           let kept : (clean || not r.line.clean) ≡ true =
-          sym (ap (λ (x : Option Publisher). clean || not (is_clean x o)) none ∙ ap (λ (x : Option Receiver). clean || not (is_clean None x)) own.1) ∙ subst (λ (x : List ℕ). carries_clean (connect_end x clean) w ≡ true) own.2 carried in
+          sym (ap (λ (x : Option Publisher). clean || not (is_clean x o)) none ∙ ap (λ (x : Option Receiver). clean || not (is_clean None x)) own.1) ∙ subst (λ (x : List ℕ). begins_clean (connect_end x clean) w ≡ true) own.2 carried in
           subst (λ (x : List ℕ). Stands first c largest set.limits (links set (Some (suc w.broker.given)) x clean w)) (sym own.2)
           (its_joins first c d clean largest set w can stay.ids stay.ns r stay.grown stay.standing own.1 (so_away r.line.link free) (so_clean clean r.line.clean kept))
     ]

@@ -10,13 +10,14 @@ use Rattle.mqtt_flow.specs.Receiver.{connect}
 use Rattle.mqtt_laws.specs.Ends.{Back, Receiver, answers, new_receiver, receiver_reads}
 use Rattle.mqtt_laws.specs.Laws.{copies_in, stand_among}
 use Rattle.mqtt_laws.specs.Lines.{Line, gives_up, joined, left, stands}
-use Rattle.mqtt_laws.specs.Run.{Turn, deeds_at, deeds_over, entered_in, run, setting, turned}
+use Rattle.mqtt_laws.specs.Run.{Turn, are_beginnings_clean, begins_clean, deeds_at, deeds_over, entered_in, run, setting, turned}
 use Rattle.mqtt_laws.specs.World.{Asking, Event, Setting, World, answers_rest, ask, asks, asks_wish, before, break, call_of, call_of_stranger, calls, calls_if, clock, comes, connect_end, first_step, give_up, happens, held_count, is_bad, linked_at, links, next_held, next_line, old_to_broker, publish, publisher, pump, receiver, receiver_named, receiver_restarted, receiver_told, restart, restarts, stop_after, stop_before, stranger, stranger_named, subscribe, taken_old, taken_up, tick, to_broker, to_end}
 use Rattle.mqtt_rules.specs.Step.{Call, NewLine, stepped, told}
 use Rattle.mqtt_rules.specs.declared.Limits.{Limits}
 use Rattle.mqtt_world_laws.specs.Copies.{entered_from}
 use Rattle.mqtt_world_laws.specs.Fair.{IsFair}
 use Rattle.mqtt_world_laws.proofs.Ends.{find_last, find_no_more, find_receiver, only_receiver}
+use Rattle.mqtt_world_laws.proofs.Runs.{both_true}
 use Rattle.mqtt_every_run_laws.specs.Coming.{queue_at}
 use Rattle.mqtt_every_run_laws.specs.Untouched.{IsUntouched}
 use Rattle.mqtt_every_run_laws.proofs.Among.{stand_behind}
@@ -100,9 +101,9 @@ module _ (c : List ℕ) where
     pub queue : queue_at c u ≡ []
     pub since : its.since ≡ u.broker.records.births
 
-  event_comes : (set : Setting) (e : Event) (w : World) → is_bad e w ≡ false → receiver_named c w ≡ None → (receiver_named c (happens set e w) ≡ None) ⊎ IsNewcomer (happens set e w)
-  event_comes set (publisher d) w good none = inl none
-  event_comes set (receiver d window) w good none = elim (cases_Bool (bytes_eq d c)) [
+  event_comes : (set : Setting) (e : Event) (w : World) → is_bad e w ≡ false → begins_clean e w ≡ true → receiver_named c w ≡ None → (receiver_named c (happens set e w) ≡ None) ⊎ IsNewcomer (happens set e w)
+  event_comes set (publisher d) w good begins none = inl none
+  event_comes set (receiver d window) w good begins none = elim (cases_Bool (bytes_eq d c)) [
     | inl its ↦
         let new = new_receiver d window w.broker.records.births in
         let is : d ≡ c = (bytes_eq-Decides d c).0 its in
@@ -111,30 +112,30 @@ module _ (c : List ℕ) where
           named = find_last (λ (r : Receiver). bytes_eq r.client c) new w.receivers its none;
           ledger = refl;
           down = refl;
-          queue = subst (λ (x : List ℕ). queue_at x (happens set (receiver d window) w) ≡ []) is (none_at_first d window set w good);
+          queue = subst (λ (x : List ℕ). queue_at x (happens set (receiver d window) w) ≡ []) is (none_at_first d window set w good begins);
           since = refl;
         })
     | inr other ↦ inl (find_no_more (λ (r : Receiver). bytes_eq r.client c) (new_receiver d window w.broker.records.births) w.receivers other ∙ none)
   ]
-  event_comes set (connect_end d clean) w good none = inl (links_stay set (next_line w.broker) d clean w none)
-  event_comes set (give_up d) w good none = inl (line_stays d (λ l. gives_up l.link l) w (happens set (give_up d) w) refl none)
-  event_comes set (publish d x) w good none = inl none
-  event_comes set (subscribe d x) w good none = inl (one_stays d (λ r. asks_wish (stands r.line.number w.broker) x r) w (happens set (subscribe d x) w) (λ r. refl) refl none)
-  event_comes set (to_end d) w good none =
+  event_comes set (connect_end d clean) w good begins none = inl (links_stay set (next_line w.broker) d clean w none)
+  event_comes set (give_up d) w good begins none = inl (line_stays d (λ l. gives_up l.link l) w (happens set (give_up d) w) refl none)
+  event_comes set (publish d x) w good begins none = inl none
+  event_comes set (subscribe d x) w good begins none = inl (one_stays d (λ r. asks_wish (stands r.line.number w.broker) x r) w (happens set (subscribe d x) w) (λ r. refl) refl none)
+  event_comes set (to_end d) w good begins none =
       inl (one_stays d (λ r. receiver_reads (stands r.line.number w.broker) r.line.down r) w (happens set (to_end d) w) (λ r. (moves_reading (stands r.line.number w.broker) r.line.down r).client) refl none)
-  event_comes set (clock wait) w good none = inl none
-  event_comes set (ask a) w good none = inl (asks_stay set a w none)
-  event_comes set restart w good none = inl (restarts_stay set w none)
-  event_comes set (stop_before a) w good none = inl (restarts_stay set (before set a w) (before_stays set a w none))
-  event_comes set (stop_after a) w good none = inl (restarts_stay set (first_step set a w) (first_stays set a w none))
+  event_comes set (clock wait) w good begins none = inl none
+  event_comes set (ask a) w good begins none = inl (asks_stay set a w none)
+  event_comes set restart w good begins none = inl (restarts_stay set w none)
+  event_comes set (stop_before a) w good begins none = inl (restarts_stay set (before set a w) (before_stays set a w none))
+  event_comes set (stop_after a) w good begins none = inl (restarts_stay set (first_step set a w) (first_stays set a w none))
 
   module _ (limits : Limits) where
-    turn_comes : (t : Turn) (w : World) → receiver_named c w ≡ None → (receiver_named c (turned limits t w) ≡ None) ⊎ IsNewcomer (turned limits t w)
-    turn_comes t w none = by (is_bad t.event w) refl
+    turn_comes : (t : Turn) (w : World) → begins_clean t.event w ≡ true → receiver_named c w ≡ None → (receiver_named c (turned limits t w) ≡ None) ⊎ IsNewcomer (turned limits t w)
+    turn_comes t w clean none = by (is_bad t.event w) refl
       where
         by : (bad : Bool) → is_bad t.event w ≡ bad → (receiver_named c (cond bad w (happens (setting limits t) t.event w)) ≡ None) ⊎ IsNewcomer (cond bad w (happens (setting limits t) t.event w))
         by true is = inl none
-        by false is = event_comes (setting limits t) t.event w is none
+        by false is = event_comes (setting limits t) t.event w is clean none
 
     -- ---- the run, before and after it comes
 
@@ -144,10 +145,10 @@ module _ (c : List ℕ) where
       pub are : first ++ later ≡ ts
       pub new : IsNewcomer (run limits first w)
 
-    pub parts : (ts : List Turn) (w : World) (r : Receiver) → receiver_named c w ≡ None → receiver_named c (run limits ts w) ≡ Some r → Parts ts w
-    parts [] w r none e = let clash : None ≡ Some r = sym none ∙ e in absurd cc
-    parts (t ∷ ts) w r none e = elim (turn_comes t w none) [
-      | inl still ↦ let x = parts ts (turned limits t w) r still e in record { first = t ∷ x.first; later = x.later; are = ap (λ (zs : List Turn). t ∷ zs) x.are; new = x.new }
+    pub parts : (ts : List Turn) (w : World) (r : Receiver) → are_beginnings_clean limits ts w ≡ true → receiver_named c w ≡ None → receiver_named c (run limits ts w) ≡ Some r → Parts ts w
+    parts [] w r clean none e = let clash : None ≡ Some r = sym none ∙ e in absurd cc
+    parts (t ∷ ts) w r clean none e = elim (turn_comes t w (both_true (begins_clean t.event w) (are_beginnings_clean limits ts (turned limits t w)) clean).0 none) [
+      | inl still ↦ let x = parts ts (turned limits t w) r (both_true (begins_clean t.event w) (are_beginnings_clean limits ts (turned limits t w)) clean).1 still e in record { first = t ∷ x.first; later = x.later; are = ap (λ (zs : List Turn). t ∷ zs) x.are; new = x.new }
       | inr new ↦ record { first = t ∷ []; later = ts; are = refl; new = new }
     ]
 
@@ -165,7 +166,7 @@ entered_parts limits (t ∷ xs) ys w =
 pub run_hands_all : (limits : Limits) (ts : List Turn) (w : World) → IsUntouched limits w → IsFair limits ts w → (c : List ℕ) (r : Receiver) → receiver_named c (run limits ts w) ≡ Some r → stand_among (copies_in r.ledger) (entered_from limits ts w) ≡ true
 run_hands_all limits ts w u fair c r e =
     let nobody : receiver_named c w ≡ None = ap (find (λ (x : Receiver). bytes_eq x.client c)) u.new.receivers in
-    let x = parts c limits ts w r nobody e in
+    let x = parts c limits ts w r fair.clean nobody e in
     let n = x.new in
     let whole = run_hands_whole limits x.first x.later w u (subst (λ (zs : List Turn). IsFair limits zs w) (sym x.are) fair) c n.its r n.named (subst (λ (zs : List Turn). receiver_named c (run limits zs w) ≡ Some r) (sym x.are) e) n.ledger n.down in
     let later = entered_from limits x.later (run limits x.first w) in

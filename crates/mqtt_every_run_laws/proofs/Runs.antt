@@ -1,7 +1,7 @@
 -- Every run of the world, in the eyes of one receiver: an event at a time it stands as before (MQTT 5.0, 4.3, 4.4).
 use Rattle.std.proofs.Common.{◌≡◌, ℕ, Bool, true, false, cond, List, [], ◌∷◌, refl}
 use Rattle.mqtt_base.specs.declared.session.CopyId.{CopyId}
-use Rattle.mqtt_laws.specs.Run.{Turn, are_clean_starts_carried, carries_clean, read_at, read_first, read_in, read_opening, run, setting, turned}
+use Rattle.mqtt_laws.specs.Run.{Turn, are_beginnings_clean, begins_clean, read_at, read_first, read_in, read_opening, run, setting, turned}
 use Rattle.mqtt_laws.specs.World.{Event, Setting, World, ask, clock, connect_end, first_step, give_up, happens, is_bad, publish, publisher, receiver, restart, stop_after, stop_before, subscribe, to_end}
 use Rattle.mqtt_rules.specs.declared.Limits.{Limits}
 use Rattle.mqtt_world_laws.specs.Spending.{run_spends, spending}
@@ -25,9 +25,9 @@ as_before : (first : List CopyId) (c : List ℕ) (largest : ℕ) (limits : Limit
 as_before first c largest limits ids ns w g h = record { ids = ids; grown = g; ns = ns; standing = h }
 
 module _ (first : List CopyId) (c : List ℕ) where
-  pub happens_stands : (e : Event) (set : Setting) (w : World) → Stands first c any_size set.limits w → IsFit c w → is_bad e w ≡ false → carries_clean e w ≡ true → read_in spending set e w ≡ false → Stands first c any_size set.limits (happens set e w)
+  pub happens_stands : (e : Event) (set : Setting) (w : World) → Stands first c any_size set.limits w → IsFit c w → is_bad e w ≡ false → begins_clean e w ≡ true → read_in spending set e w ≡ false → Stands first c any_size set.limits (happens set e w)
   happens_stands (publisher d) set w s fit good carried unspent = as_before first c any_size set.limits s.ids s.ns _ s.grown (publisher_comes c d any_size set s.ids s.ns w s.standing good)
-  happens_stands (receiver d window) set w s fit good carried unspent = as_before first c any_size set.limits s.ids s.ns _ s.grown (receiver_comes c d any_size window set s.ids s.ns w s.standing good)
+  happens_stands (receiver d window) set w s fit good carried unspent = as_before first c any_size set.limits s.ids s.ns _ s.grown (receiver_comes c d any_size window set s.ids s.ns w s.standing good carried)
   happens_stands (connect_end d clean) set w s fit good carried unspent = joined_stands first c d clean any_size set w s good carried
   happens_stands (give_up d) set w s fit good carried unspent = as_before first c any_size set.limits s.ids s.ns _ s.grown (given_up_stands c d any_size set s.ids s.ns w s.standing carried)
   happens_stands (publish d x) set w s fit good carried unspent = as_before first c any_size set.limits s.ids s.ns _ s.grown (published_stands c d x any_size set s.ids s.ns w s.standing)
@@ -58,7 +58,7 @@ pub record IsKept (first : List CopyId) (c : List ℕ) (limits : Limits) (w : Wo
   pub stands : Stands first c any_size limits w
   pub fit : IsFit c w
 
-pub turn_kept : (first : List CopyId) (c : List ℕ) (limits : Limits) (t : Turn) (w : World) → IsKept first c limits w → carries_clean t.event w ≡ true → read_at spending (setting limits t) t.event w ≡ false → IsKept first c limits (turned limits t w)
+pub turn_kept : (first : List CopyId) (c : List ℕ) (limits : Limits) (t : Turn) (w : World) → IsKept first c limits w → begins_clean t.event w ≡ true → read_at spending (setting limits t) t.event w ≡ false → IsKept first c limits (turned limits t w)
 turn_kept first c limits t w k carried unspent = record { stands = by (is_bad t.event w) refl unspent; fit = fit_after first c limits t w k.stands k.fit unspent }
   where
     set : Setting
@@ -68,9 +68,9 @@ turn_kept first c limits t w k carried unspent = record { stands = by (is_bad t.
     by true is u = k.stands
     by false is u = happens_stands first c t.event set w k.stands k.fit is carried u
 
-pub run_kept : (first : List CopyId) (c : List ℕ) (limits : Limits) (ts : List Turn) (w : World) → IsKept first c limits w → run_spends limits ts w ≡ false → are_clean_starts_carried limits ts w ≡ true → IsKept first c limits (run limits ts w)
+pub run_kept : (first : List CopyId) (c : List ℕ) (limits : Limits) (ts : List Turn) (w : World) → IsKept first c limits w → run_spends limits ts w ≡ false → are_beginnings_clean limits ts w ≡ true → IsKept first c limits (run limits ts w)
 run_kept first c limits [] w k unspent carried = k
 run_kept first c limits (t ∷ ts) w k unspent carried =
     let costs = either (read_at spending (setting limits t) t.event w) (run_spends limits ts (turned limits t w)) unspent in
-    let clean = both_true (carries_clean t.event w) (are_clean_starts_carried limits ts (turned limits t w)) carried in
+    let clean = both_true (begins_clean t.event w) (are_beginnings_clean limits ts (turned limits t w)) carried in
     run_kept first c limits ts (turned limits t w) (turn_kept first c limits t w k clean.0 costs.0) costs.1 clean.1

@@ -1,6 +1,6 @@
 -- All that holds of every run; and each drain of a script ends, from wherever the script has come to (MQTT 5.0, 4.3, 4.4, 4.6).
 use Rattle.std.proofs.Common.{◌≡◌, ℕ, zero, suc, ◌+◌, ◌*◌, ◌≤◌, Bool, true, false, cond, ◌||◌, List, [], ◌∷◌, ◌++◌, refl, sym, ap, subst, ◌∙◌, arith}
-use Rattle.mqtt_laws.specs.Run.{Turn, are_clean_starts_carried, run}
+use Rattle.mqtt_laws.specs.Run.{Turn, are_beginnings_clean, run}
 use Rattle.mqtt_laws.specs.World.{World, receiver_named, start}
 use Rattle.mqtt_rules.specs.State.{MemberChoice}
 use Rattle.mqtt_rules.specs.declared.Limits.{Limits}
@@ -93,7 +93,7 @@ doing_ends : (limits : Limits) (d : Doing) (w : World) → ((c : List ℕ) → I
 doing_ends limits (happens t) w k u = tt
 doing_ends limits (drains choice c most) w k u = drain_ends limits choice c most w (k c) u
 
-all_end : (limits : Limits) (ds : List Doing) (w : World) → ((c : List ℕ) → IsKept [] c limits w) → run_spends limits (all_turns limits ds w) w ≡ false → are_clean_starts_carried limits (all_turns limits ds w) w ≡ true → AllDrainsEnd limits ds w
+all_end : (limits : Limits) (ds : List Doing) (w : World) → ((c : List ℕ) → IsKept [] c limits w) → run_spends limits (all_turns limits ds w) w ≡ false → are_beginnings_clean limits (all_turns limits ds w) w ≡ true → AllDrainsEnd limits ds w
 all_end limits [] w k unspent carried = tt
 all_end limits (d ∷ ds) w k unspent carried =
     let turns = turns_of limits d w in
@@ -103,7 +103,7 @@ all_end limits (d ∷ ds) w k unspent carried =
     (doing_ends limits d w k costs.0, all_end limits ds v (λ c. run_kept [] c limits turns w (k c) costs.0 clean.0) costs.1 clean.1)
 
 pub script_drains : (limits : Limits) (ds : List Doing) (w : World) → IsUntouched limits w → IsFair limits (all_turns limits ds w) w → AllDrainsEnd limits ds w
-script_drains limits ds w u fair = all_end limits ds w (λ c. untouched_kept c limits w fair.within u) fair.unspent fair.carried
+script_drains limits ds w u fair = all_end limits ds w (λ c. untouched_kept c limits w fair.within u) fair.unspent fair.clean
 
 -- ---- from nothing
 

@@ -25,7 +25,7 @@ use Rattle.mqtt_rules.specs.declared.Limits.{Limits}
 use Rattle.mqtt_laws.specs.Ends.{Back, Publisher, Receiver, answers, asks_for, hears, new_receiver, reads_publish, receiver_connack, receiver_reads, wire_back}
 use Rattle.mqtt_laws.specs.Lines.{Down, gives_up, is_one_of, joined, left}
 use Rattle.mqtt_laws.specs.Run.{Turn, setting, turned}
-use Rattle.mqtt_laws.specs.World.{Asking, Event, Setting, Stranger, View, World, answers_rest, ask, asks, asks_wish, before, break, call_of, call_of_stranger, call_on, calls, calls_if, clock, comes, connect_end, first_step, give_up, happens, held_after, held_count, input_on, is_bad, is_bad_name, is_open_line, is_taken, is_window, linked_at, links, lost_on, next_held, old_to_broker, publish, publisher, pump, pump_on, receiver, receiver_named, receiver_restarted, receiver_told, restart, restarts, stop_after, stop_before, stranger, stranger_named, subscribe, taken_old, taken_up, tick, to_broker, to_end, view_by, view_of, with_receiver}
+use Rattle.mqtt_laws.specs.World.{Asking, Event, Setting, Stranger, View, World, answers_rest, ask, asks, asks_wish, before, break, call_of, call_of_stranger, call_on, calls, calls_if, clock, comes, connect_end, first_step, give_up, happens, held_after, held_count, input_on, is_bad, is_bad_name, is_end, is_open_line, is_window, linked_at, links, lost_on, next_held, old_to_broker, publish, publisher, pump, pump_on, receiver, receiver_named, receiver_restarted, receiver_told, restart, restarts, stop_after, stop_before, stranger, stranger_named, subscribe, taken_old, taken_up, tick, to_broker, to_end, view_by, view_of, with_receiver}
 use Rattle.mqtt_laws.proofs.Joins.{new_is}
 use Rattle.mqtt_laws.proofs.Lists.{all_find}
 use Rattle.mqtt_world_laws.specs.Fair.{IsNew}
@@ -345,7 +345,7 @@ receiver_takes c d window set w h good = by (receiver_named c w) refl h
     new = new_receiver d window w.broker.records.births
 
     right : is_window window ≡ true
-    right = so_true (is_window window) (either (is_taken d w) (not (is_window window)) (either (is_bad_name d) (is_taken d w || not (is_window window)) good).1).1
+    right = so_true (is_window window) (either (is_end d w) (not (is_window window)) (either (is_bad_name d) (is_end d w || not (is_window window)) good).1).1
 
     test : Receiver → Bool
     test r = bytes_eq r.client c

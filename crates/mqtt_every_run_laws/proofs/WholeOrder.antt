@@ -10,7 +10,7 @@ use Rattle.mqtt_laws.specs.Ends.{Back, Entry, Receiver, answers, new_receiver, r
 use Rattle.mqtt_flow.specs.Receiver.{connect}
 use Rattle.mqtt_laws.specs.Laws.{copies_in, stand_among}
 use Rattle.mqtt_laws.specs.Lines.{Down, Line, gives_up, joined, left, sent_to, stands}
-use Rattle.mqtt_laws.specs.Run.{Turn, are_clean_starts_carried, carries_clean, deeds_at, deeds_over, entered_in, read_asked, read_at, read_if, read_rest, run, setting, the_deeds, turned}
+use Rattle.mqtt_laws.specs.Run.{Turn, are_beginnings_clean, begins_clean, deeds_at, deeds_over, entered_in, read_asked, read_at, read_if, read_rest, run, setting, the_deeds, turned}
 use Rattle.mqtt_laws.specs.World.{Asking, Event, Setting, World, answers_rest, ask, asks, asks_wish, before, break, bytes_held, bytes_name, call_of, call_of_stranger, calls, calls_if, clock, comes, connect_end, first_step, front_names, give_up, happens, held_after, held_count, is_bad, is_bad_asking, linked_at, links, next_held, next_line, old_to_broker, publish, publisher, pump, receiver, receiver_named, receiver_restarted, receiver_told, restart, restarts, step, stop_after, stop_before, stranger, stranger_named, subscribe, taken_old, taken_up, tick, to_broker, to_end}
 use Rattle.mqtt_packet.specs.Front.{first_of}
 use Rattle.mqtt_every_run_laws.proofs.Like.{moves_reading}
@@ -326,7 +326,7 @@ module _ (c : List ℕ) (limits : Limits) where
 
   -- ---- an event
 
-  single_told : (t : Turn) (v : World) (base come : List CopyId) (h : HaveTold base come v) → IsFit c v → (q : Receiver) → receiver_named c v ≡ Some q → read_at spending (setting limits t) t.event v ≡ false → carries_clean t.event v ≡ true → IsSingle t.event
+  single_told : (t : Turn) (v : World) (base come : List CopyId) (h : HaveTold base come v) → IsFit c v → (q : Receiver) → receiver_named c v ≡ Some q → read_at spending (setting limits t) t.event v ≡ false → begins_clean t.event v ≡ true → IsSingle t.event
       → Further (base ++ filter_map entered_in (deeds_at (setting limits t) t.event v)) (turned limits t v)
   single_told t v base come h fit q e unspent carried one =
       let u = turned limits t v in
@@ -346,7 +346,7 @@ module _ (c : List ℕ) (limits : Limits) where
       if_good true K tells k = k
       if_good false K tells k = happens_told K c (setting limits t) t.event v q e tells one k
 
-  turn_told : (t : Turn) (v : World) (base come : List CopyId) (h : HaveTold base come v) → IsFit c v → (q : Receiver) → receiver_named c v ≡ Some q → read_at spending (setting limits t) t.event v ≡ false → carries_clean t.event v ≡ true
+  turn_told : (t : Turn) (v : World) (base come : List CopyId) (h : HaveTold base come v) → IsFit c v → (q : Receiver) → receiver_named c v ≡ Some q → read_at spending (setting limits t) t.event v ≡ false → begins_clean t.event v ≡ true
       → Further (base ++ filter_map entered_in (deeds_at (setting limits t) t.event v)) (turned limits t v)
   turn_told t v base come h fit q e unspent carried = by t.event refl unspent
     where
@@ -380,13 +380,13 @@ module _ (c : List ℕ) (limits : Limits) where
       by (stop_before a) is = single (stop_before a) is tt
       by (stop_after a) is = single (stop_after a) is tt
 
-  all_told : (ts : List Turn) (v : World) (base : List CopyId) → (x : Further base v) → IsFit c v → (q : Receiver) → receiver_named c v ≡ Some q → run_spends limits ts v ≡ false → are_clean_starts_carried limits ts v ≡ true
+  all_told : (ts : List Turn) (v : World) (base : List CopyId) → (x : Further base v) → IsFit c v → (q : Receiver) → receiver_named c v ≡ Some q → run_spends limits ts v ≡ false → are_beginnings_clean limits ts v ≡ true
       → Further (base ++ entered_from limits ts v) (run limits ts v)
   all_told [] v base x fit q e unspent carried = subst (λ (ids : List CopyId). Further ids v) (sym (append-nil base)) x
   all_told (t ∷ ts) v base x fit q e unspent carried =
       let u = turned limits t v in
       let costs = either (read_at spending (setting limits t) t.event v) (run_spends limits ts u) unspent in
-      let clean = both_true (carries_clean t.event v) (are_clean_starts_carried limits ts u) carried in
+      let clean = both_true (begins_clean t.event v) (are_beginnings_clean limits ts u) carried in
       let stays = run_remains c limits (t ∷ []) v q e in
       let first = turn_told t v base x.come x.have fit q e costs.0 clean.0 in
       let later = (turn_on c limits t v base x.come x.have.come_so fit costs.0 clean.0).fit in
@@ -423,8 +423,8 @@ module _ (limits : Limits) (xs ys : List Turn) (w : World) (untouched : IsUntouc
       let v = run limits xs w in
       let last = run limits ys v in
       let costs = spent_append limits xs ys w fair.unspent in
-      let clean = carried_append limits xs ys w fair.carried in
-      let k = fair_run_kept limits xs w untouched (record { within = fair.within; unspent = costs.0; carried = clean.0 }) c in
+      let clean = carried_append limits xs ys w fair.clean in
+      let k = fair_run_kept limits xs w untouched (record { within = fair.within; unspent = costs.0; clean = clean.0 }) c in
       let now = queue_at c v in
       let begun : Further c limits now v = record {
         come = now;

@@ -89,7 +89,7 @@ module _ (limits : Limits) (ts : List Turn) (fair : IsFair limits ts start) (r :
   u = start_untouched limits fair.within
 
   split : Parts r.client limits ts start
-  split = parts r.client limits ts start r refl found
+  split = parts r.client limits ts start r fair.clean refl found
 
   abbrev v : World
   v = run limits split.first start
@@ -98,7 +98,7 @@ module _ (limits : Limits) (ts : List Turn) (fair : IsFair limits ts start) (r :
   fair_parts = subst (λ (zs : List Turn). IsFair limits zs start) (sym split.are) fair
 
   fair_first : IsFair limits split.first start
-  fair_first = record { within = fair.within; unspent = (spent_append limits split.first split.later start fair_parts.unspent).0; carried = (carried_append limits split.first split.later start fair_parts.carried).0 }
+  fair_first = record { within = fair.within; unspent = (spent_append limits split.first split.later start fair_parts.unspent).0; clean = (carried_append limits split.first split.later start fair_parts.clean).0 }
 
   new : IsNewcomer r.client v
   new = split.new

@@ -10,7 +10,7 @@ ghost use Rattle.mqtt_flow.specs.Receiver.{puback};
 ghost use Rattle.mqtt_handed_laws.specs.Drains.{after_round, copies_left, drained, enough_rounds, is_over, round_turns, rounds_taken};
 ghost use Rattle.mqtt_laws.specs.Ends.{Back, Entry, Receiver, answers};
 ghost use Rattle.mqtt_laws.specs.Laws.{copies_in, handed_count, released_in, stand_among};
-ghost use Rattle.mqtt_laws.specs.Run.{Turn, run};
+ghost use Rattle.mqtt_laws.specs.Run.{Turn, begins_clean, run};
 ghost use Rattle.mqtt_laws.specs.World.{Setting, World, happens, is_bad, old_to_broker, receiver, receiver_named, start, to_broker};
 ghost use Rattle.mqtt_records.specs.declared.records.Records.{Records};
 ghost use Rattle.mqtt_rules.specs.Flight.{HasDistinctIdentifiers};
@@ -104,7 +104,7 @@ pub fn what_is_acknowledged_was_read()
 /// Over any events of a run, from any moment at which a receiver has come: of all the copies that stood in its queue at that
 /// moment or after any of the events, those that it was handed by their end stand in its ledger in the order in which they came to
 /// the queue, also where two of them never stood there together; and so they entered, in that order, behind those that stood
-/// there at that moment; none does when the receiver comes. So the whole ledger of each receiver is in the order in which the
+/// there at that moment; none does when the receiver comes, if no session of its name stands. So the whole ledger of each receiver is in the order in which the
 /// copies entered over the run (4.3.3, 4.6).
 pub fn copies_are_handed_over_as_they_entered()
     ensures as_come { (limits : Limits) (xs ys : List Turn) (w : World) → IsUntouched limits w
@@ -127,7 +127,7 @@ pub fn copies_are_handed_over_as_they_entered()
         → q.ledger ≡ [] → q.line.down ≡ []
         → stand_among (copies_in r.ledger) (queue_at client (run limits xs w) ++ entered_from limits ys (run limits xs w)) ≡ true }
     ensures first { (client : List ℕ) (window : ℕ) (set : Setting) (w : World) → is_bad (receiver client window) w ≡ false
-        → queue_at client (happens set (receiver client window) w) ≡ [] }
+        → begins_clean (receiver client window) w ≡ true → queue_at client (happens set (receiver client window) w) ≡ [] }
     // So it is of every receiver, over the whole run.
     ensures all { (limits : Limits) (ts : List Turn) (w : World) → IsUntouched limits w → IsFair limits ts w
         → (client : List ℕ) (r : Receiver) → receiver_named client (run limits ts w) ≡ Some r

@@ -4,7 +4,7 @@ ghost use Rattle.mqtt_base.specs.declared.session.CopyId.{CopyId};
 ghost use Rattle.mqtt_every_run_laws.specs.Standing.{IsForOthers, Stands, StandsWith};
 ghost use Rattle.mqtt_flow.specs.Receiver.{Answer, HasNoConnect};
 ghost use Rattle.mqtt_laws.specs.Ends.{Back, Draft, Receiver, Wish, answers};
-ghost use Rattle.mqtt_laws.specs.Run.{carries_clean, read_asked, read_first, read_opening};
+ghost use Rattle.mqtt_laws.specs.Run.{begins_clean, read_asked, read_first, read_opening};
 ghost use Rattle.mqtt_laws.specs.World.{Asking, Setting, World, asks, before, break, clock, connect_end, first_step, give_up, happens, is_bad, is_bad_asking, old_to_broker, publish, publisher, pump, receiver, receiver_named, restart, stop_after, stop_before, stranger, subscribe, tick, to_broker, to_end};
 ghost use Rattle.mqtt_rules.specs.Flight.{HasDistinctIdentifiers};
 ghost use Rattle.mqtt_rules.specs.State.{Line, line_at};
@@ -18,9 +18,10 @@ pub fn what_ends_do_leaves_a_receiver_standing()
         → StandsWith client largest set.limits ids ns (happens set (publisher name) w) }
     ensures receives { (client name : List ℕ) (largest window : ℕ) (set : Setting) (ids : List CopyId) (ns : List ℕ)
         → (w : World) → StandsWith client largest set.limits ids ns w → is_bad (receiver name window) w ≡ false
+        → begins_clean (receiver name window) w ≡ true
         → StandsWith client largest set.limits ids ns (happens set (receiver name window) w) }
     ensures gives_up { (client name : List ℕ) (largest : ℕ) (set : Setting) (ids : List CopyId) (ns : List ℕ) (w : World)
-        → StandsWith client largest set.limits ids ns w → carries_clean (give_up name) w ≡ true
+        → StandsWith client largest set.limits ids ns w → begins_clean (give_up name) w ≡ true
         → StandsWith client largest set.limits ids ns (happens set (give_up name) w) }
     ensures publishes { (client name : List ℕ) (d : Draft) (largest : ℕ) (set : Setting) (ids : List CopyId) (ns : List ℕ)
         → (w : World) → StandsWith client largest set.limits ids ns w
@@ -70,7 +71,7 @@ pub fn a_lost_line_leaves_a_receiver_standing()
 pub fn a_new_line_leaves_a_receiver_standing()
     ensures joins { (first : List CopyId) (client name : List ℕ) (clean : Bool) (largest : ℕ) (set : Setting) (w : World)
         → Stands first client largest set.limits w → is_bad (connect_end name clean) w ≡ false
-        → carries_clean (connect_end name clean) w ≡ true
+        → begins_clean (connect_end name clean) w ≡ true
         → Stands first client largest set.limits (happens set (connect_end name clean) w) }
 {}
 

@@ -1,17 +1,17 @@
 -- What the worked runs of the world share: a publisher, a receiver and their first events; what each event tells, and
 -- what a run comes to.
-use Rattle.std.proofs.Common.{ℕ, false, Bool, List, [], ◌∷◌, ◌++◌, length, map, None}
+use Rattle.std.proofs.Common.{ℕ, ◌+◌, false, Bool, List, [], ◌∷◌, ◌++◌, length, map, Option, Some, None}
 use Rattle.std.specs.Prelude.{codes}
 use Rattle.mqtt_base.specs.declared.session.CopyId.{CopyId}
 use Rattle.mqtt_base.specs.declared.session.Cause.TheVariants.{Direct}
 use Rattle.mqtt_base.specs.declared.session.Qos.TheVariants.{ExactlyOnce}
 use Rattle.mqtt_rules.specs.State.{session_named}
 use Rattle.mqtt_rules.proofs.Play.{usual, first, topic, hi, options}
-use Rattle.mqtt_laws.specs.Ends.{Draft, Wish}
+use Rattle.mqtt_laws.specs.Ends.{Draft, Publisher, Wish}
 use Rattle.mqtt_laws.specs.World.{World, start, publisher_named, receiver_named}
 use Rattle.mqtt_laws.specs.World.{Event, publisher, receiver, connect_end, publish, subscribe, to_end, ask, to_broker, pump}
 use Rattle.mqtt_laws.specs.Run.{Turn, setting, turned, after}
-use Rattle.mqtt_laws.specs.Tellings.{Telling, tells, handed_by, queue_length, messages_of, done_by}
+use Rattle.mqtt_laws.specs.Tellings.{Telling, tells, handed_by, queue_length, done_by}
 
 abbrev pub turn : Event → Turn
 turn e = record { event = e; choice = first }
@@ -86,6 +86,11 @@ pub record Sum : Type 0 where
   pub done : ℕ
   pub publications : ℕ
   pub sessions : ℕ
+
+-- messages of QoS 1 and 2 that went out, and any that did not yet
+abbrev messages_of : Option Publisher → ℕ
+messages_of None = 0
+messages_of (Some p) = length p.fates + length p.unsent
 
 abbrev pub sum_of : World → Sum
 sum_of w = record {

@@ -1,18 +1,18 @@
 -- Runs of the world, and what is counted over them: messages accepted, copies entered, ended and handed over.
-use Rattle.std.specs.Prelude.{◌≡◌, ℕ, zero, suc, Bool, true, false, not, ◌&&◌, ◌||◌, cond, List, [], ◌∷◌, ◌++◌, map}
-use Rattle.std.specs.Prelude.{filter_map, nat_eq, bytes_eq, Option, Some, None, count_by}
+use Rattle.std.specs.Prelude.{ℕ, zero, suc, Bool, true, false, not, ◌&&◌, ◌||◌, cond, List, [], ◌∷◌, ◌++◌, map}
+use Rattle.std.specs.Prelude.{filter_map, nat_eq, bytes_eq, Option, Some, None, is_none, count_by}
 use Rattle.std.specs.List.{cons_option}
 use Rattle.mqtt_base.specs.declared.session.CopyId.{CopyId}
 use Rattle.mqtt_base.specs.declared.session.Ending.{Ending}
 use Rattle.mqtt_base.specs.declared.session.Qos.{Qos}
 use Rattle.mqtt_rules.specs.declared.Limits.{Limits}
-use Rattle.mqtt_rules.specs.State.{Broker, Env, MemberChoice}
+use Rattle.mqtt_rules.specs.State.{Broker, Env, MemberChoice, session_named}
 use Rattle.mqtt_rules.specs.Deeds.{Message, FromClient, Enter, Leave, Deed, Accept, At, after as after_deed}
 use Rattle.mqtt_rules.specs.Step.{Call, NewLine, env_of, at_moment, deeds, opening, opening_deeds, unopened}
 use Rattle.mqtt_inbound.specs.Line.{Link, away, asked, live}
 use Rattle.mqtt_laws.specs.Ends.{Sent, message_in, Publisher, Receiver}
-use Rattle.mqtt_laws.specs.World.{Setting, World, start, Event, ask, stop_before, stop_after, restart, connect_end}
-use Rattle.mqtt_laws.specs.World.{give_up, link_of, receiver_named, Asking, to_broker, old_to_broker, break, pump}
+use Rattle.mqtt_laws.specs.World.{Setting, World, start, Event, publisher, receiver, ask, stop_before, stop_after, restart}
+use Rattle.mqtt_laws.specs.World.{connect_end, give_up, link_of, receiver_named, Asking, to_broker, old_to_broker, break, pump}
 use Rattle.mqtt_laws.specs.World.{tick, stranger, publisher_named, stranger_named, calls_if, comes, call_of}
 use Rattle.mqtt_laws.specs.World.{call_of_stranger, next_held, held_count, before, first_step, is_bad, step}
 
@@ -243,8 +243,9 @@ entered_over limits ts = filter_map entered_in (deeds_over limits ts start)
 abbrev pub ended_over : Limits → List Turn → List End
 ended_over limits ts = filter_map ended_in (deeds_over limits ts start)
 
--- ---- runs in which a Clean Start is carried through: until the CONNACK to a CONNECT with Clean Start 1 was read, its
--- line is not given up, and each further CONNECT has Clean Start 1 too (3.1.2.4, ours)
+-- ---- runs in which ends begin clean: an end is made where no session of its name stands; and a Clean Start is carried
+-- through: until the CONNACK to a CONNECT with Clean Start 1 was read, its line is not given up, and each further CONNECT
+-- has Clean Start 1 too (3.1.2.4, ours)
 
 abbrev pub is_clean : Option Publisher → Option Receiver → Bool
 is_clean (Some p) r = p.line.clean
@@ -261,15 +262,14 @@ is_asked (Some away) = false
 is_asked (Some asked) = true
 is_asked (Some live) = false
 
-abbrev pub carries_clean : Event → World → Bool
-carries_clean (connect_end client clean) w = clean || not (waits_clean client w)
-carries_clean (give_up client) w = not (is_asked (link_of client w) && waits_clean client w)
-carries_clean e w = true
+abbrev pub begins_clean : Event → World → Bool
+begins_clean (publisher client) w = is_none (session_named client w.broker.records)
+begins_clean (receiver client window) w = is_none (session_named client w.broker.records)
+begins_clean (connect_end client clean) w = clean || not (waits_clean client w)
+begins_clean (give_up client) w = not (is_asked (link_of client w) && waits_clean client w)
+begins_clean e w = true
 
-abbrev pub are_clean_starts_carried : Limits → List Turn → World → Bool
-are_clean_starts_carried limits [] w = true
-are_clean_starts_carried limits (t ∷ ts) w =
-    carries_clean t.event w && are_clean_starts_carried limits ts (turned limits t w)
-
-abbrev pub CleanStartsCarried : Limits → List Turn → Type 0
-CleanStartsCarried limits ts = are_clean_starts_carried limits ts start ≡ true
+abbrev pub are_beginnings_clean : Limits → List Turn → World → Bool
+are_beginnings_clean limits [] w = true
+are_beginnings_clean limits (t ∷ ts) w =
+    begins_clean t.event w && are_beginnings_clean limits ts (turned limits t w)

@@ -1,6 +1,6 @@
 -- What an event of a run tells, and what is seen of the world after it: messages, copies handed over, queues (MQTT 5.0,
 -- 4.3).
-use Rattle.std.specs.Prelude.{ℕ, ◌+◌, Bool, true, false, List, [], length, map, filter_map, count_by, Option, Some, None}
+use Rattle.std.specs.Prelude.{ℕ, Bool, true, false, List, [], length, map, filter_map, count_by, Option, Some, None}
 use Rattle.mqtt_base.specs.declared.session.CopyId.{CopyId}
 use Rattle.mqtt_inbound.specs.Publisher.{Fate, Finish, sent_1, ended_1, sent, released, ended, completed, refused}
 use Rattle.mqtt_inbound.specs.Publisher.{forgotten}
@@ -67,12 +67,7 @@ abbrev pub queue_length : Option Session → ℕ
 queue_length None = 0
 queue_length (Some s) = length s.queue
 
--- how many messages a publisher has: of QoS 1 and 2 that went out, and any that did not yet
-abbrev pub messages_of : Option Publisher → ℕ
-messages_of None = 0
-messages_of (Some p) = length p.fates + length p.unsent
-
--- and those whose handshake is completed
+-- how many messages of a publisher have a handshake that is completed
 abbrev pub done_by : Option Publisher → ℕ
 done_by None = 0
 done_by (Some p) = count_by is_done p.fates

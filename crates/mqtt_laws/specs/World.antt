@@ -1,6 +1,6 @@
 -- The world: a broker, any number of conforming ends and strangers, and the lines between them; what can happen (MQTT
 -- 5.0, 4.2 to 4.4).
-use Rattle.std.specs.Prelude.{ℕ, zero, suc, ◌+◌, ◌^◌, Bool, true, false, cond, not, ◌&&◌, ◌||◌, List, [], ◌∷◌, ◌++◌}
+use Rattle.std.specs.Prelude.{ℕ, zero, suc, ◌^◌, Bool, true, false, cond, not, ◌&&◌, ◌||◌, List, [], ◌∷◌, ◌++◌}
 use Rattle.std.specs.Prelude.{length, drop, find, map, nat_eq, nat_lt, nat_le, bytes_eq, Option, Some, None, is_some}
 use Rattle.std.specs.Prelude.{is_none, option_map, Ok, Err}
 use Rattle.std.specs.List.{starts_with}
@@ -19,7 +19,7 @@ use Rattle.mqtt_inbound.specs.Publisher.{CONNECT}
 use Rattle.mqtt_flow.specs.Receiver.{connect}
 use Rattle.mqtt_records.specs.Records.{nothing}
 use Rattle.mqtt_rules.specs.declared.Limits.{Limits}
-use Rattle.mqtt_rules.specs.State.{Broker, MemberChoice, session_named}
+use Rattle.mqtt_rules.specs.State.{Broker, MemberChoice, later}
 use Rattle.mqtt_rules.specs.Piece.{Front, first_call}
 use Rattle.mqtt_rules.specs.Step.{Call, NewLine, Input, Lost, Pump, Tick, can_link, stepped, Outcome, told, unopened}
 use Rattle.mqtt_rules.specs.Step.{opened}
@@ -302,7 +302,7 @@ happens set (give_up client) w = with_line client (λ l. gives_up l.link l) (λ 
 happens set (publish client d) w = with_publisher client (λ p. published (is_open_line p.line w) d p) w
 happens set (subscribe client x) w = with_receiver client (λ r. asks_wish (is_open_line r.line w) x r) w
 happens set (to_end client) w = end_reads client w
-happens set (clock wait) w = record w { now = w.now + wait }
+happens set (clock wait) w = record w { now = later w.now wait }
 happens set (ask a) w = asks set a w
 happens set restart w = restarts set w
 happens set (stop_before a) w = restarts set (before set a w)
@@ -313,10 +313,6 @@ happens set (stop_after a) w = restarts set (first_step set a w)
 -- a name that is not one's own, or that the broker would not take
 abbrev pub is_bad_name : List ℕ → Bool
 is_bad_name client = nat_eq (length client) 0 || (nat_lt CLIENT_LIMIT (length client) || starts_with nat_eq client auto)
-
--- an end is made where no session of its name stands
-abbrev pub is_taken : List ℕ → World → Bool
-is_taken client w = is_end client w || is_some (session_named client w.broker.records)
 
 abbrev pub link_by : Option Publisher → Option Receiver → Option Link
 link_by (Some p) r = Some p.line.link
@@ -399,8 +395,8 @@ is_bad_asking (stranger name bytes) w =
     let all = bytes_held (stranger_named name w) ++ bytes in bytes_name (length all) all w
 
 abbrev pub is_bad : Event → World → Bool
-is_bad (publisher client) w = is_bad_name client || is_taken client w
-is_bad (receiver client window) w = is_bad_name client || (is_taken client w || not (is_window window))
+is_bad (publisher client) w = is_bad_name client || is_end client w
+is_bad (receiver client window) w = is_bad_name client || (is_end client w || not (is_window window))
 is_bad (connect_end client clean) w = not (is_away (link_of client w))
 is_bad (give_up client) w = not (has_line (link_of client w))
 is_bad (publish client d) w = is_none (publisher_named client w) || not (is_input (message_packet d))

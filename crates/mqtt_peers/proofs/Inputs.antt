@@ -1,5 +1,5 @@
 -- Which packets of ends the broker takes, in code and in the definitions (MQTT 5.0, 2.1.4, 3.3, 3.8).
-use Rattle.std.proofs.Common.{◌≡◌, ◌≤◌, ◌<◌, ◌^◌, refl, sym, ◌∙◌, ℕ, Bool, true, false, ◌&&◌, length, length-append, arith}
+use Rattle.std.proofs.Common.{◌≡◌, refl, sym, ◌∙◌, Bool, true, false, length, length-append, arith}
 use Rattle.std.specs.Prelude.{nat_le, IsTrue, ◌↔◌}
 use Rattle.std.proofs.lemmas.Bool.{le-leb, leb-true}
 use Rattle.mqtt_base.specs.Values.{FitsText, varint}

@@ -7,7 +7,7 @@ ghost use Rattle.mqtt_inbound.specs.Line.{asked};
 ghost use Rattle.mqtt_inbound.specs.Publisher.{in_flight, pubrel_for, resent_from};
 ghost use Rattle.mqtt_laws.specs.Ends.{goes, new_publisher, numbered, published, publisher_reads, reads};
 ghost use Rattle.mqtt_laws.specs.Ends.{reads_connack, send_all, send_unsent, shake, wire};
-ghost use Rattle.mqtt_laws.specs.Tellings.{done_by, messages_of};
+ghost use Rattle.mqtt_laws.specs.Tellings.{done_by};
 ghost use Rattle.mqtt_peers.specs.Publishers.{content_of, draft_of, front_out, may_go, told_of};
 
 use crate::heard::{ToPublisher, heard};
@@ -84,13 +84,6 @@ impl PublisherEnd {
                 .to_packet(self.alloc, &self.client, &self.contents)
                 .map(Some),
         }
-    }
-
-    /// How many messages it has: of QoS 1 and 2 that went out, and any that did not yet. Takes no memory.
-    pub fn sent(&self) -> u64
-        ensures { result ≡ messages_of (Some self.now) }
-    {
-        self.handshakes.len() as u64 + self.unsent.len() as u64
     }
 
     /// How many of its messages are done: the handshake is completed (4.3.2, 4.3.3). Takes no memory.

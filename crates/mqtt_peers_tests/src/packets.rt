@@ -71,7 +71,7 @@ fn publishes(rt: &impl Abort, alloc: Global, end: &mut PublisherEnd) -> Result<(
     end.line.give_up();
     assert_front(rt, alloc, end.front(false), &[])?;
     assert_front(rt, alloc, end.front(true), PUBLISH)?;
-    assert_eq!(rt; (end.sent(), end.done()), (1, 0), "messages");
+    assert_eq!(rt; end.done(), 0, "messages");
     Ok(())
 }
 

@@ -66,3 +66,76 @@ fn the_text_of_a_script(rt: HostRuntime) -> Result<(), Fail> {
     assert!(rt; is_same && again == Ok(Played::Whole));
     Ok(())
 }
+
+/// How many events stand on the whole lines of a script's beginning.
+fn events_in(front: &[u8]) -> usize {
+    let mut events = 0usize;
+    let mut first = None;
+    for byte in front {
+        if *byte != b'\n' {
+            first = first.or(Some(*byte));
+        } else {
+            if first.is_some_and(|byte| byte != b'#') {
+                events = events.saturating_add(1);
+            }
+            first = None;
+        }
+    }
+    events
+}
+
+/// Whether this is the first so many lines of the text, and no more.
+fn is_front(written: &[u8], lines: usize) -> bool {
+    let count = written.iter().filter(|byte| **byte == b'\n').count();
+    let ends = written.is_empty() || written.ends_with(b"\n");
+    ends && count == lines && TEXT.as_bytes().starts_with(written)
+}
+
+/// What the script comes to where a read fails, and whether these many lines were written.
+fn read_to(alloc: Global, fails_at: usize, lines: usize) -> (Result<Played, ReplayFault>, bool) {
+    let Ok(toy) = toy_of(alloc, 1_000, RunFault::Store) else {
+        return (Err(ReplayFault::Memory), false);
+    };
+    let mut reader = Drip::new(SCRIPT.as_bytes(), fails_at);
+    let mut writer = Brittle::new(alloc, usize::MAX);
+    let played = replay(alloc, toy, &mut reader, &mut writer);
+    drop(reader);
+    let is_so = is_front(writer.written.as_slice(), lines);
+    drop(writer);
+    (played, is_so)
+}
+
+#[test]
+fn a_read_that_fails_leaves_the_lines_of_what_came(rt: HostRuntime) {
+    for fails_at in 0..SCRIPT.len() + 1 {
+        let lines = events_in(&SCRIPT.as_bytes()[..fails_at]);
+        let (played, is_so) = read_to(rt.alloc(), fails_at, lines);
+        assert!(rt; played == Err(ReplayFault::Read), "read {fails_at}");
+        assert!(rt; is_so, "read {fails_at}");
+    }
+}
+
+/// What the script comes to where a write fails, and whether these many lines were written.
+fn written_to(alloc: Global, fails_at: usize, lines: usize) -> (Result<Played, ReplayFault>, bool) {
+    let Ok(toy) = toy_of(alloc, 1_000, RunFault::Store) else {
+        return (Err(ReplayFault::Memory), false);
+    };
+    let mut reader = SCRIPT.as_bytes();
+    let mut writer = Brittle::new(alloc, fails_at);
+    let played = replay(alloc, toy, &mut reader, &mut writer);
+    let is_so = is_front(writer.written.as_slice(), lines);
+    drop(writer);
+    (played, is_so)
+}
+
+#[test]
+fn a_write_that_fails_is_told(rt: HostRuntime) {
+    for fails_at in 0..23 {
+        let (played, is_so) = written_to(rt.alloc(), fails_at, fails_at);
+        assert!(rt; played == Err(ReplayFault::Write), "write {fails_at}");
+        assert!(rt; is_so, "write {fails_at}");
+    }
+    let (played, is_so) = written_to(rt.alloc(), 23, 25);
+    assert!(rt; played == Ok(Played::Whole));
+    assert!(rt; is_so);
+}

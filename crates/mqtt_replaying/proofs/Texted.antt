@@ -116,14 +116,14 @@ module _ {K : Type 0} (g : Ghosts K) where
 
   -- ---- what is seen of a world that stands
 
-  end_seen : (w : Lasting K) (s : Staged K) → w.stage ≡ Ok s → (x : End) → end_line (play_of g) w x ≡ end_line_in (world_at s) x
+  end_seen : (w : Lasting K) (s : Staged K) → w.stage ≡ Ok s → (x : End) → end_line (play_of g) w x ≡ end_line_in w.events (world_at s) x
   end_seen w s is (Publisher client) =
-      ap (λ (r : Result (Staged K) Over). publisher_text client (unwrap_or (seen_at (sent_in client) r) 0) (unwrap_or (seen_at (done_in client) r) 0)) is
+      ap (λ (r : Result (Staged K) Over). publisher_text client (unwrap_or (seen_at (sent_in client w.events) r) 0) (unwrap_or (seen_at (done_in client) r) 0)) is
   end_seen w s is (Receiver client) =
       ap (λ (r : Result (Staged K) Over). receiver_text client (unwrap_or (seen_at (handed_in client) r) []) (unwrap_or (seen_at (queue_in client) r) 0)) is
 
   ends_seen : (w : Lasting K) (s : Staged K) → w.stage ≡ Ok s → (xs : List End)
-      → flat_map (end_line (play_of g) w) xs ≡ flat_map (end_line_in (world_at s)) xs
+      → flat_map (end_line (play_of g) w) xs ≡ flat_map (end_line_in w.events (world_at s)) xs
   ends_seen w s is [] = refl
   ends_seen w s is (x ∷ xs) = ap₂ (λ (a b : List ℕ). a ++ b) (end_seen w s is x) (ends_seen w s is xs)
 
@@ -132,11 +132,11 @@ module _ {K : Type 0} (g : Ghosts K) where
   broker_seen w s is =
       ap (λ (r : Result (Staged K) Over). broker_text (unwrap_or (seen_at publications_in r) 0) (unwrap_or (seen_at sessions_in r) 0)) is
 
-  last_seen : (end : Standing (Lasting K)) (s : Staged K) (events : List Event) → end.world.stage ≡ Ok s → end.ends ≡ ends_made events
+  last_seen : (end : Standing (Lasting K)) (s : Staged K) (events : List Event) → end.world.stage ≡ Ok s → end.world.events ≡ events → end.ends ≡ ends_made events
       → last_lines (play_of g) end ≡ last_lines_in events (world_at s)
-  last_seen end s events is made =
+  last_seen end s events is kept made =
       ap₂ (λ (a b : List ℕ). a ++ b)
-      (ends_seen end.world s is end.ends ∙ ap (λ (xs : List End). flat_map (end_line_in (world_at s)) xs) made)
+      (ends_seen end.world s is end.ends ∙ ap₂ (λ (es : List Event) (xs : List End). flat_map (end_line_in es (world_at s)) xs) kept made)
       (broker_seen end.world s is)
 
   -- ---- from where a world begins over a store
@@ -167,9 +167,9 @@ module _ {K : Type 0} (g : Ghosts K) where
           tells = c.tells;
           runs = runs;
           told = c.told;
-          delivers = λ untouched apart keeps.
+          delivers = λ untouched apart clean.
               delivers_once limits c.events c.tells begun (world_at c.happen.to)
-              (subst (λ (l : Limits). AreWithin l) starts.limits_are came.within) untouched apart keeps runs;
+              (subst (λ (l : Limits). AreWithin l) starts.limits_are came.within) untouched apart clean runs;
         }
 
     -- a bad line is one in the definitions' world
@@ -192,7 +192,7 @@ module _ {K : Type 0} (g : Ghosts K) where
             c.events,
             world_at c.happen.to,
             runs_lines lines front end c,
-            ap (λ (l : List ℕ). front ++ l) (last_seen end c.happen.to c.events c.happen.is c.ends),
+            ap (λ (l : List ℕ). front ++ l) (last_seen end c.happen.to c.events c.happen.is (c.happen.kept ∙ ap (λ (es : List Event). es ++ c.events) starts.events) c.ends),
           ),
           wrote,
         )
@@ -268,7 +268,7 @@ nothing_runs limits w within = record {
   tells = [];
   runs = (refl, refl);
   told = refl;
-  delivers = λ untouched apart keeps. delivers_once limits [] [] w w within untouched apart keeps (refl, refl);
+  delivers = λ untouched apart clean. delivers_once limits [] [] w w within untouched apart keeps (refl, refl);
 }
 
 pub front_none : (limits : Limits) (lines : List (List ℕ)) (before after : Option (List ℕ)) → AreWithin limits → Keeps before after

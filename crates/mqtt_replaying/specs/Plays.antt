@@ -11,7 +11,7 @@ abbrev pub play_of : {K : Type 0} → Ghosts K → Play (Lasting K)
 play_of {K} g = record {
   happens = λ w e t after. Happen g (e ∷ []) (t ∷ []) w after;
   is_bad = λ w e. (after : Lasting K) × CantHappen g e w after;
-  sent = λ w client. unwrap_or (seen (sent_in client) w) 0;
+  sent = λ w client. unwrap_or (seen (sent_in client w.events) w) 0;
   done = λ w client. unwrap_or (seen (done_in client) w) 0;
   handed = λ w client. unwrap_or (seen (handed_in client) w) [];
   queue = λ w client. unwrap_or (seen (queue_in client) w) 0;

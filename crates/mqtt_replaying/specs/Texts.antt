@@ -15,7 +15,7 @@ use Rattle.mqtt_broker.specs.TheRules.declared.Limits.{Limits}
 use Rattle.mqtt_script.specs.declared.event.Event.{Event}
 use Rattle.mqtt_script.specs.Lines.{IsLineOf, IsNoLine, first_word, is_passed_over}
 use Rattle.mqtt_script.specs.Telling.{bad_text, broker_text, publisher_text, receiver_text}
-use Rattle.mqtt_script_laws.specs.Cleanly.{ScriptDelivers, keep_clean_starts}
+use Rattle.mqtt_script_laws.specs.Cleanly.{BeginClean, ScriptDelivers}
 use Rattle.mqtt_script_laws.specs.Scripted.{IsBadHere, RunsTo}
 use Rattle.mqtt_every_run_laws.specs.Untouched.{IsUntouched}
 use Rattle.mqtt_world_laws.specs.Fair.{opened_world}
@@ -56,23 +56,23 @@ lines_told number (e ∷ es) (t ∷ ts) =
 abbrev pub ends_made : List Event → List End
 ends_made es = flat_map (λ (e : Event). option_to_list (made_by e)) es
 
-abbrev pub end_line_in : World → End → List ℕ
-end_line_in w (Publisher client) = publisher_text client (unwrap_or (sent_in client w) 0) (unwrap_or (done_in client w) 0)
-end_line_in w (Receiver client) = receiver_text client (unwrap_or (handed_in client w) []) (unwrap_or (queue_in client w) 0)
+abbrev pub end_line_in : List Event → World → End → List ℕ
+end_line_in es w (Publisher client) = publisher_text client (unwrap_or (sent_in client es w) 0) (unwrap_or (done_in client w) 0)
+end_line_in es w (Receiver client) = receiver_text client (unwrap_or (handed_in client w) []) (unwrap_or (queue_in client w) 0)
 
 abbrev pub last_lines_in : List Event → World → List ℕ
 last_lines_in es w =
-    flat_map (end_line_in w) (ends_made es) ++ broker_text w.broker.records.publications (length w.broker.records.sessions)
+    flat_map (end_line_in es w) (ends_made es) ++ broker_text w.broker.records.publications (length w.broker.records.sessions)
 
 -- ---- lines of a script run from one world to another, and are told so; and exactly-once delivery holds of it, where nobody was
--- there at first and their Clean Starts are carried through (3.1.2.4, 3.3.4, 4.3, 4.4, 4.6, 4.8, 4.9)
+-- there at first and their ends begin clean (3.1.2.4, 3.3.4, 4.3, 4.4, 4.6, 4.8, 4.9)
 
 pub record RunsLines (limits : Limits) (lines : List (List ℕ)) (w : World) (text : List ℕ) (events : List Event) (after : World) : Type 0 where
   pub are : AreEventsOf lines events
   pub tells : List Telling
   pub runs : RunsTo limits events tells w after
   pub told : text ≡ lines_told 0 events tells
-  pub delivers : IsUntouched limits w → TellsApart w.broker.records → keep_clean_starts [] events ≡ true
+  pub delivers : IsUntouched limits w → TellsApart w.broker.records → BeginClean limits events w
       → ScriptDelivers limits events w after
 
 -- ---- the text of a script from a world on: all its lines run, and what they came to stands behind; or those before a bad line do,

@@ -1,7 +1,10 @@
 //! The replay of the script in a file, for the program (ours).
 
+ghost use Rattle.mqtt_broker.specs.TheRules.Laws.{AreWithin};
+
 use crate::replaying::replay;
 use mqtt_replay_fault::{Played, ReplayFault};
+use mqtt_world::Limits;
 use std::fs;
 use std::hash::RandomState;
 use std::io::{ErrorKind, Read, Write};
@@ -11,25 +14,31 @@ fn replay_of<R: Read + Drop, W: Write>(
     rt: &HostRuntime,
     mut reader: R,
     writer: &mut W,
-) -> Result<Played, ReplayFault> {
+    limits: Limits,
+) -> Result<Played, ReplayFault>
+    requires within { AreWithin limits }
+{
     match RandomState::new(rt) {
-        Ok(hasher) => replay(rt.alloc(), hasher, &mut reader, writer),
+        Ok(hasher) => replay(rt.alloc(), hasher, &mut reader, writer, limits),
         Err(_) => Err(ReplayFault::Memory),
     }
 }
 
-/// Replays the script in the file at a path, `-` for standard input, from nothing stored. A file that does not open is `Read`
-/// (1). What a file holds no contract can say; `replay` says what is written.
+/// Replays the script in the file at a path, `-` for standard input, from nothing stored, with these limits. A file that does not
+/// open is `Read` (1). What a file holds no contract can say; `replay` says what is written.
 pub fn replay_at<W: Write>(
     rt: &HostRuntime,
     file: &str,
     writer: &mut W,
-) -> Result<Played, ReplayFault> {
+    limits: Limits,
+) -> Result<Played, ReplayFault>
+    requires within { AreWithin limits }
+{
     if file == "-" {
-        return replay_of(rt, rt.reader(), writer);
+        return replay_of(rt, rt.reader(), writer, limits);
     }
     match fs::open(rt, file) {
-        Ok(file) => replay_of(rt, file, writer),
+        Ok(file) => replay_of(rt, file, writer, limits),
         Err(error) if error.kind() == ErrorKind::OutOfMemory => Err(ReplayFault::Memory),
         Err(_) => Err(ReplayFault::Read),
     }

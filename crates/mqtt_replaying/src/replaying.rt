@@ -10,21 +10,12 @@ ghost use Rattle.mqtt_replay.specs.Replaying.{lines_of};
 ghost use Rattle.mqtt_replaying.specs.Texts.{FrontOver, FrontText, ReplayText, ReplaysOver, Wrote};
 
 use crate::playing::Playing;
-use mqtt_base::{QUEUE_LIMIT, RETAINED_LIMIT, SESSION_LIMIT};
 use mqtt_peers::RunFault;
 use mqtt_replay_fault::{Played, ReplayFault};
-use mqtt_world::{Full, Keep, Limits, MemKeep, World};
+use mqtt_world::{Keep, Limits, MemKeep, World};
 use std::alloc::Global;
 use std::hash::RandomState;
 use std::io::{Read, Write};
-
-/// The limits of a broker that is replayed: those of its tables; a full queue refuses.
-const LIMITS: Limits = Limits {
-    full: Full::Refuse,
-    queue: QUEUE_LIMIT as u32,
-    sessions: SESSION_LIMIT as u32,
-    retained: RETAINED_LIMIT as u32,
-};
 
 /// Why a world that does not begin ends the replay. Takes no memory.
 fn fault_of(fault: RunFault) -> ReplayFault {
@@ -38,13 +29,14 @@ fn fault_of(fault: RunFault) -> ReplayFault {
 /// (4.1). What is written is the text of a run of the script's events: a line for each, and one for each end and one for the
 /// broker behind the last. A line that is no event, or an event that can't happen where it comes, ends it (`Bad`). `Read` (1),
 /// `Write` (2), `Memory` (3) and `Store` (4) end it early. Of the script at most a line is held; the world keeps its events.
+/// The broker runs with these limits.
 pub fn replay_over<K: Keep, R: Read, W: Write>(
     alloc: Global,
     keep: K,
-    limits: Limits,
     hasher: RandomState,
     reader: &mut R,
     writer: &mut W,
+    limits: Limits,
 ) -> Result<Played, ReplayFault>
     requires within { AreWithin limits }
     ensures ok { IfOk result (λ played. IfSome (R.remaining reader.old) (λ input.
@@ -59,23 +51,25 @@ pub fn replay_over<K: Keep, R: Read, W: Write>(
     }
 }
 
-/// The same from nothing stored, in memory, with the limits of the broker's tables.
+/// The same from nothing stored, in memory.
 pub fn replay<R: Read, W: Write>(
     alloc: Global,
     hasher: RandomState,
     reader: &mut R,
     writer: &mut W,
+    limits: Limits,
 ) -> Result<Played, ReplayFault>
+    requires within { AreWithin limits }
     ensures ok { IfOk result (λ played. IfSome (R.remaining reader.old) (λ input.
-        Wrote (λ text. ReplayText LIMITS start (lines_of input) text played)
+        Wrote (λ text. ReplayText limits start (lines_of input) text played)
         (W.contents writer.old) (W.contents writer.new))) }
     ensures err { IfErr result (λ fault. fault ≢ ReplayFault.Write
-        → IfSome (R.remaining reader.old) (λ input. Wrote (λ text. FrontText LIMITS start (lines_of input) text)
+        → IfSome (R.remaining reader.old) (λ input. Wrote (λ text. FrontText limits start (lines_of input) text)
         (W.contents writer.old) (W.contents writer.new))) }
 
     // Nobody is there at first, so exactly-once delivery holds of whatever is replayed.
-    ensures untouched { IsUntouched LIMITS start × TellsApart start.broker.records }
+    ensures untouched { IsUntouched limits start × TellsApart start.broker.records }
 {
     let keep = MemKeep::new(alloc)?;
-    replay_over(alloc, keep, LIMITS, hasher, reader, writer)
+    replay_over(alloc, keep, hasher, reader, writer, limits)
 }

@@ -1,8 +1,9 @@
 //! The scripts of examples/ without their notes, and what stands beside them: an answer that is lost, a broker that is killed
-//! between commit and answer, a CONNECT that comes late (MQTT 5.0, 3.1.4, 4.1, 4.3.3, 4.4).
+//! between commit and answer, a CONNECT that comes late, a full queue that drops (MQTT 5.0, 3.1.4, 4.1, 4.3.3, 4.4, 4.6).
 
+use crate::limits::is_so_in_queues_of_two;
 use crate::playing::is_so;
-use mqtt_replaying::Played;
+use mqtt_replaying::{Full, Played};
 use std::hash::RandomState;
 use std::test::Fail;
 
@@ -53,6 +54,27 @@ const LATE_CONNECT_TEXT: &str =
     26 toend\n27 tobroker out=1\n28 toend\n29 tobroker ended=1>r1:Taken\nr1 handed=1 queue=0\n\
     p1 sent=1 done=1\nbroker publications=1 sessions=2\n";
 
+/// Of three copies a queue of two drops the oldest.
+const FULL_QUEUE: &str =
+    "receiver r1 10\npublisher p1\nconnect r1 0\ntobroker r1\ntoend r1\n\
+    subscribe r1 2 0 0 0 0 home/temperature\ntobroker r1\ntoend r1\nbreak r1\nconnect p1 0\n\
+    tobroker p1\ntoend p1\npublish p1 2 0 home/temperature 31392e35\ntobroker p1\ntoend p1\n\
+    tobroker p1\ntoend p1\npublish p1 2 0 home/temperature 31392e37\ntobroker p1\ntoend p1\n\
+    tobroker p1\ntoend p1\npublish p1 2 0 home/temperature 31392e39\ntobroker p1\ntoend p1\n\
+    tobroker p1\ntoend p1\nconnect r1 0\ntobroker r1\ntoend r1\npump r1\ntoend r1\ntoend r1\n\
+    tobroker r1\ntobroker r1\ntoend r1\ntoend r1\ntobroker r1\ntobroker r1\n";
+
+const FULL_QUEUE_TEXT: &str =
+    "1 receiver\n2 publisher\n3 connect\n4 tobroker out=1\n5 toend\n6 subscribe\n7 tobroker out=1\n\
+    8 toend\n9 break\n10 connect\n11 tobroker out=1\n12 toend\n13 publish\n\
+    14 tobroker accepted=1 entered=1>r1 out=1\n15 toend\n16 tobroker released=1 out=1\n17 toend\n\
+    18 publish\n19 tobroker accepted=2 entered=2>r1 out=1\n20 toend\n21 tobroker released=2 out=1\n\
+    22 toend\n23 publish\n24 tobroker accepted=3 ended=1>r1:Dropped entered=3>r1 out=1\n25 toend\n\
+    26 tobroker released=3 out=1\n27 toend\n28 connect\n29 tobroker out=1\n30 toend\n31 pump out=2\n\
+    32 toend\n33 toend\n34 tobroker out=1\n35 tobroker out=1\n36 toend\n37 toend\n\
+    38 tobroker ended=2>r1:Taken\n39 tobroker ended=3>r1:Taken\nr1 handed=2,3 queue=0\n\
+    p1 sent=3 done=3\nbroker publications=3 sessions=2\n";
+
 /// The scripts, and their texts.
 fn scripts() -> &'static [(&'static str, &'static str)] {
     &[
@@ -71,5 +93,15 @@ fn the_scripts_of_the_examples(rt: HostRuntime) -> Result<(), Fail> {
             "{script}"
         );
     }
+    Ok(())
+}
+
+#[test]
+fn the_script_of_a_full_queue(rt: HostRuntime) -> Result<(), Fail> {
+    let hasher = RandomState::new(&rt)?;
+    assert!(rt;
+        is_so_in_queues_of_two(rt.alloc(), hasher, Full::Drop, FULL_QUEUE, FULL_QUEUE_TEXT)
+            == Ok(true)
+    );
     Ok(())
 }

@@ -1,5 +1,6 @@
 //! A script in a file (ours).
 
+use crate::playing::LIMITS;
 use mqtt_replaying::{Played, ReplayFault, replay_at};
 use std::fs;
 use std::test::Fail;
@@ -10,7 +11,7 @@ const FILE: &str = "a.script";
 /// Whether the script in the file ends so, with this text.
 fn is_told(rt: &HostRuntime, due: Result<Played, ReplayFault>, text: &str) -> bool {
     let mut written = Vec::new(rt.alloc());
-    let played = replay_at(rt, FILE, &mut written);
+    let played = replay_at(rt, FILE, &mut written, LIMITS);
     let is_text = written.as_slice() == text.as_bytes();
     drop(written);
     is_text && played == due

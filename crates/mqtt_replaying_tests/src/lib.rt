@@ -9,6 +9,8 @@ mod examples;
 #[cfg(test)]
 mod files;
 #[cfg(test)]
+mod limits;
+#[cfg(test)]
 mod long;
 #[cfg(test)]
 mod playing;

@@ -1,8 +1,9 @@
 //! Scripts whose texts are worked out by hand: a message whose broker stops between commit and answer, and a PUBREL on a line
 //! that was given up, read before the CONNECT of the new one and after it (MQTT 5.0, 4.3.3, 4.4).
 
-use crate::playing::{is_so, is_so_in_sql};
-use mqtt_replaying::Played;
+use crate::playing::{in_memory, is_so, is_so_in_sql};
+use mqtt_replaying::{Played, ReplayFault};
+use std::alloc::Global;
 use std::hash::RandomState;
 use std::test::Fail;
 
@@ -66,6 +67,41 @@ fn rows_over_a_store_in_sql(rt: HostRuntime) -> Result<(), Fail> {
             is_so_in_sql(rt.alloc(), hasher, script, Played::Whole, text) == Ok(true),
             "{script}"
         );
+    }
+    Ok(())
+}
+
+/// Room for what a script writes, so that no growth of it is a failed write.
+const ROOM: usize = 4_096;
+
+/// How a script ends, whether whole lines of this text were written, and whether all of it was.
+fn fronted(
+    alloc: Global,
+    hasher: RandomState,
+    script: &str,
+    text: &str,
+) -> Result<(Result<Played, ReplayFault>, bool, bool), Fail> {
+    let mut written = Vec::with_capacity(alloc, ROOM)?;
+    let played = in_memory(alloc, hasher, script, &mut written);
+    let are_lines = written.is_empty() || written.ends_with(b"\n");
+    let is_front = are_lines && text.as_bytes().starts_with(written.as_slice());
+    let is_text = is_front && written.len() == text.len();
+    drop(written);
+    Ok((played, is_front, is_text))
+}
+
+/// With a growth of memory refused, as `tools/refused_growths` does, a run writes whole lines of the known text and tells want
+/// of memory, or is the known one.
+#[test]
+fn a_row_for_which_memory_is_wanting_is_a_front_of_it(rt: HostRuntime) -> Result<(), Fail> {
+    let hasher = RandomState::new(&rt)?;
+    for (script, text) in rows() {
+        let (played, is_front, is_text) = fronted(rt.alloc(), hasher, script, text)?;
+        assert!(rt; is_front, "{script}");
+        if played == Err(ReplayFault::Memory) {
+            return Err(Fail::from("want of memory"));
+        }
+        assert!(rt; is_text && played == Ok(Played::Whole), "{script}");
     }
     Ok(())
 }

@@ -1,10 +1,11 @@
--- A script that keeps its Clean Starts comes to turns that carry them through; strangers stay alike along it.
+-- A script whose ends begin clean comes to turns in which they do; strangers stay alike along it.
 use Rattle.std.proofs.Common.{◌≡◌, ℕ, zero, suc, Bool, true, false, not, ◌&&◌, List, [], ◌∷◌, ◌++◌, map, Option, None, refl, sym, ap, subst, ◌∙◌}
+use Rattle.std.specs.Prelude.{⊤, is_none}
 use Rattle.std.specs.List.{AllByRecursion}
 use Rattle.mqtt_rules.specs.Laws.{AreWithin}
 use Rattle.mqtt_rules.specs.declared.Limits.{Limits}
 use Rattle.mqtt_laws.specs.Ends.{Publisher, Receiver}
-use Rattle.mqtt_laws.specs.Run.{Turn, are_clean_starts_carried, carries_clean, is_asked, run, setting, turned, waits_clean}
+use Rattle.mqtt_laws.specs.Run.{Turn, are_beginnings_clean, begins_clean, is_asked, run, setting, turned, waits_clean}
 use Rattle.mqtt_laws.specs.Tellings.{Telling}
 use Rattle.mqtt_laws.specs.World.{Asking, Event, World, ask, break, clock, connect_end, give_up, link_of, old_to_broker, publish, publisher}
 use Rattle.mqtt_laws.specs.World.{pump, receiver, restart, start, stop_after, stop_before, stranger, subscribe, tick, to_broker, to_end}
@@ -18,7 +19,7 @@ use Rattle.mqtt_handed_laws.specs.Drains.{times}
 use Rattle.mqtt_every_run_laws.specs.Untouched.{IsUntouched}
 use Rattle.mqtt_every_run_laws.proofs.Untouched.{start_untouched}
 use Rattle.mqtt_world_laws.proofs.OnceRuns.{start_apart}
-use Rattle.mqtt_script_laws.specs.Cleanly.{ScriptDelivers, is_named, keep_clean_starts, keeps_clean, keeps_if, named_after, named_if}
+use Rattle.mqtt_script_laws.specs.Cleanly.{AreMadeAnew, BeginClean, IsMadeAnew, IsMadeAnewIf, ScriptDelivers, is_named, keep_clean_starts, keeps_clean, keeps_if, named_after, named_if}
 use Rattle.mqtt_script_laws.specs.Drains.{AreTurnsOfRound, AreTurnsOfRounds}
 use Rattle.mqtt_script_laws.specs.Scripted.{AreTurnsFor, AreTurnsOf, IsRunOf, RunsTo, event_of, of_drain, of_event}
 use Rattle.mqtt_script_laws.specs.Turns.{events_of}
@@ -54,43 +55,64 @@ not_waiting names client w known other = by (waits_clean client w) refl
         let clash : false ≡ true = sym (ap not named) ∙ other in
         absurd cc
 
-event_carries : (e : Event) (names : List (List ℕ)) (w : World) → Known names w → keeps_clean names e ≡ true → carries_clean e w ≡ true
-event_carries (connect_end client true) names w known keeps = refl
-event_carries (connect_end client false) names w known keeps = ap not (not_waiting names client w known keeps)
-event_carries (give_up client) names w known keeps = by (is_asked (link_of client w)) (waits_clean client w) (not_waiting names client w known keeps)
+event_carries : (e : Event) (names : List (List ℕ)) (w : World) → Known names w → keeps_clean names e ≡ true → IsMadeAnew e w → begins_clean e w ≡ true
+event_carries (publisher client) names w known keeps made = ap is_none made
+event_carries (receiver client window) names w known keeps made = ap is_none made
+event_carries (connect_end client true) names w known keeps made = refl
+event_carries (connect_end client false) names w known keeps made = ap not (not_waiting names client w known keeps)
+event_carries (give_up client) names w known keeps made = by (is_asked (link_of client w)) (waits_clean client w) (not_waiting names client w known keeps)
   where
     by : (a b : Bool) → b ≡ false → not (a && b) ≡ true
     by true b is = ap not is
     by false b is = refl
-event_carries e names w known keeps = refl
+event_carries e names w known keeps made = refl
 
-turns_carry : (limits : Limits) (ts : List Turn) (names : List (List ℕ)) (w : World) → Known names w → carries_over names (events_of ts) ≡ true
-    → (are_clean_starts_carried limits ts w ≡ true) × Known (names_over (events_of ts) names) (run limits ts w)
-turns_carry limits [] names w known keeps = (refl, known)
-turns_carry limits (t ∷ ts) names w known keeps =
+-- the first of the events makes an end where no session of its name stands, if it makes one; the others make none
+abbrev MakesNobody : Event → Type 0
+MakesNobody e = (w : World) → IsMadeAnew e w
+
+abbrev MakesFirst : List Event → World → Type 0
+MakesFirst [] w = ⊤
+MakesFirst (e ∷ es) w = IsMadeAnew e w × AllByRecursion MakesNobody es
+
+nobody_first : (es : List Event) (w : World) → AllByRecursion MakesNobody es → MakesFirst es w
+nobody_first [] w h = tt
+nobody_first (e ∷ es) w h = (h.0 w, h.1)
+
+turns_carry : (limits : Limits) (ts : List Turn) (names : List (List ℕ)) (w : World) → Known names w → carries_over names (events_of ts) ≡ true → MakesFirst (events_of ts) w
+    → (are_beginnings_clean limits ts w ≡ true) × Known (names_over (events_of ts) names) (run limits ts w)
+turns_carry limits [] names w known keeps made = (refl, known)
+turns_carry limits (t ∷ ts) names w known keeps made =
     let both = both_true (keeps_clean names t.event) (carries_over (named_after t.event names) (events_of ts)) keeps in
-    let rest = turns_carry limits ts (named_after t.event names) (turned limits t w) (step_known (setting limits t) t.event names w known) both.1 in
-    (and_true (carries_clean t.event w) (are_clean_starts_carried limits ts (turned limits t w)) (event_carries t.event names w known both.0) rest.0, rest.1)
+    let rest = turns_carry limits ts (named_after t.event names) (turned limits t w) (step_known (setting limits t) t.event names w known) both.1 (nobody_first (events_of ts) (turned limits t w) made.1) in
+    (and_true (begins_clean t.event w) (are_beginnings_clean limits ts (turned limits t w)) (event_carries t.event names w known both.0 made.0) rest.0, rest.1)
 
-carry_joined : (limits : Limits) (xs ys : List Turn) (w : World) → are_clean_starts_carried limits xs w ≡ true → are_clean_starts_carried limits ys (run limits xs w) ≡ true
-    → are_clean_starts_carried limits (xs ++ ys) w ≡ true
+carry_joined : (limits : Limits) (xs ys : List Turn) (w : World) → are_beginnings_clean limits xs w ≡ true → are_beginnings_clean limits ys (run limits xs w) ≡ true
+    → are_beginnings_clean limits (xs ++ ys) w ≡ true
 carry_joined limits [] ys w h k = k
 carry_joined limits (t ∷ xs) ys w h k =
-    let both = both_true (carries_clean t.event w) (are_clean_starts_carried limits xs (turned limits t w)) h in
-    and_true (carries_clean t.event w) (are_clean_starts_carried limits (xs ++ ys) (turned limits t w)) both.0 (carry_joined limits xs ys (turned limits t w) both.1 k)
+    let both = both_true (begins_clean t.event w) (are_beginnings_clean limits xs (turned limits t w)) h in
+    and_true (begins_clean t.event w) (are_beginnings_clean limits (xs ++ ys) (turned limits t w)) both.0 (carry_joined limits xs ys (turned limits t w) both.1 k)
 
 -- ---- what an event comes to
 
 record Comes (names : List (List ℕ)) (e : Event) (es : List Event) : Type 0 where
   keeps : carries_over names es ≡ true
   named : names_over es names ≡ named_after e names
+  makes : (w : World) → IsMadeAnew e w → MakesFirst es w
 
 alone : (names : List (List ℕ)) (e : Event) (es : List Event) → keeps_clean names e ≡ true → es ≡ e ∷ [] → Comes names e es
-alone names e es keeps is = subst (Comes names e) (sym is) (record { keeps = and_true (keeps_clean names e) true keeps refl; named = refl })
+alone names e es keeps is = subst (Comes names e) (sym is) (record { keeps = and_true (keeps_clean names e) true keeps refl; named = refl; makes = λ w made. (made, tt) })
+
+pieces_make : (name : List ℕ) (pieces : List (List ℕ)) → AllByRecursion MakesNobody (map (come_in name) pieces)
+pieces_make name [] = tt
+pieces_make name (piece ∷ pieces) = ((λ w. tt), pieces_make name pieces)
 
 pieces_come : (names : List (List ℕ)) (name bytes : List ℕ) (pieces : List (List ℕ)) → Comes names (ask (stranger name bytes)) (map (come_in name) pieces)
-pieces_come names name bytes [] = record { keeps = refl; named = refl }
-pieces_come names name bytes (piece ∷ pieces) = let rest = pieces_come names name bytes pieces in record { keeps = rest.keeps; named = rest.named }
+pieces_come names name bytes [] = record { keeps = refl; named = refl; makes = λ w made. tt }
+pieces_come names name bytes (piece ∷ pieces) =
+    let rest = pieces_come names name bytes pieces in
+    record { keeps = rest.keeps; named = rest.named; makes = λ w made. (tt, pieces_make name pieces) }
 
 asking_comes : (names : List (List ℕ)) (a : Asking) (w : World) (es : List Event) → UnrollsAsking a w es → Comes names (ask a) es
 asking_comes names (to_broker client) w es is = alone names (ask (to_broker client)) es refl is
@@ -101,7 +123,7 @@ asking_comes names tick w es is = alone names (ask tick) es refl is
 asking_comes names (stranger name bytes) w es (pieces, joined, cut, is) = subst (Comes names (ask (stranger name bytes))) (sym is) (pieces_come names name bytes pieces)
 
 twice : (names : List (List ℕ)) (a first : Asking) (es : List Event) → es ≡ ask first ∷ restart ∷ [] → Comes names (stop_after a) es
-twice names a first es is = subst (Comes names (stop_after a)) (sym is) (record { keeps = refl; named = refl })
+twice names a first es is = subst (Comes names (stop_after a)) (sym is) (record { keeps = refl; named = refl; makes = λ w made. (tt, ((λ v. tt), tt)) })
 
 stop_comes : (names : List (List ℕ)) (a : Asking) (w : World) (es : List Event) → UnrollsStop a w es → Comes names (stop_after a) es
 stop_comes names (to_broker client) w es is = twice names (to_broker client) (to_broker client) es is
@@ -125,15 +147,19 @@ event_comes names restart w es keeps is = alone names restart es keeps is
 event_comes names (stop_before a) w es keeps is = alone names (stop_before a) es keeps is
 event_comes names (stop_after a) w es keeps is = stop_comes names a w es is
 
--- ---- a drain: none connects or gives up
+-- ---- a drain: none connects or gives up, and none is made
 
 abbrev NamesNobody : Event → Type 0
-NamesNobody e = (names : List (List ℕ)) → (keeps_clean names e ≡ true) × (named_after e names ≡ names)
+NamesNobody e = ((names : List (List ℕ)) → (keeps_clean names e ≡ true) × (named_after e names ≡ names)) × MakesNobody e
+
+nobody_made : (es : List Event) → AllByRecursion NamesNobody es → AllByRecursion MakesNobody es
+nobody_made [] h = tt
+nobody_made (e ∷ es) h = (h.0.1, nobody_made es h.1)
 
 nobody_named : (es : List Event) → AllByRecursion NamesNobody es → (names : List (List ℕ)) → (carries_over names es ≡ true) × (names_over es names ≡ names)
 nobody_named [] h names = (refl, refl)
 nobody_named (e ∷ es) h names =
-    let one = h.0 names in
+    let one = h.0.0 names in
     let rest = nobody_named es h.1 (named_after e names) in
     (and_true (keeps_clean names e) (carries_over (named_after e names) es) one.0 rest.0, rest.1 ∙ one.1)
 
@@ -147,9 +173,9 @@ both_named (t ∷ xs) ys h k = (h.0, both_named xs ys h.1 k)
 
 round_named : (limits : Limits) (client : List ℕ) (turns : List Turn) (w : World) → AreTurnsOfRound limits client turns w → AllByRecursion NamesNobody (events_of turns)
 round_named limits client turns w x =
-    let sends : AllByRecursion NamesNobody (events_of x.sends) = subst (AllByRecursion NamesNobody) (sym x.sends_are) ((λ names. (refl, refl)), tt) in
-    let reads : AllByRecursion NamesNobody (events_of x.reads) = subst (AllByRecursion NamesNobody) (sym x.reads_are) (so_many _ (to_end client) (λ names. (refl, refl))) in
-    let answers : AllByRecursion NamesNobody (events_of x.answers) = subst (AllByRecursion NamesNobody) (sym x.answers_are) (so_many _ (ask (to_broker client)) (λ names. (refl, refl))) in
+    let sends : AllByRecursion NamesNobody (events_of x.sends) = subst (AllByRecursion NamesNobody) (sym x.sends_are) (((λ names. (refl, refl)), λ w. tt), tt) in
+    let reads : AllByRecursion NamesNobody (events_of x.reads) = subst (AllByRecursion NamesNobody) (sym x.reads_are) (so_many _ (to_end client) ((λ names. (refl, refl)), λ w. tt)) in
+    let answers : AllByRecursion NamesNobody (events_of x.answers) = subst (AllByRecursion NamesNobody) (sym x.answers_are) (so_many _ (ask (to_broker client)) ((λ names. (refl, refl)), λ w. tt)) in
     subst (λ (ts : List Turn). AllByRecursion NamesNobody (events_of ts)) (sym x.are) (both_named (x.sends ++ x.reads) x.answers (both_named x.sends x.reads sends reads) answers)
 
 rounds_named : (limits : Limits) (client : List ℕ) (rounds : ℕ) (turns : List Turn) (w : World) → AreTurnsOfRounds limits client rounds turns w → AllByRecursion NamesNobody (events_of turns)
@@ -161,25 +187,26 @@ rounds_named limits client (suc rounds) turns w (on, first, rest, front, others,
 -- ---- the turns of an event
 
 record Carries (limits : Limits) (e : Line) (es : List Line) (names : List (List ℕ)) (first : List Turn) (w : World) : Type 0 where
-  carried : are_clean_starts_carried limits first w ≡ true
+  carried : are_beginnings_clean limits first w ≡ true
   known : Known (named_if (event_of e) names) (run limits first w)
   keeps : keep_clean_starts (named_if (event_of e) names) es ≡ true
 
-first_carries : (limits : Limits) (e : Line) (es : List Line) (names : List (List ℕ)) (first : List Turn) (w : World) → Known names w → keep_clean_starts names (e ∷ es) ≡ true → AreTurnsFor limits e first w → Carries limits e es names first w
-first_carries limits e es names first w known keeps (of_event x at good unrolls) =
+first_carries : (limits : Limits) (e : Line) (es : List Line) (names : List (List ℕ)) (first : List Turn) (w : World) → Known names w → keep_clean_starts names (e ∷ es) ≡ true → IsMadeAnewIf (event_of e) w → AreTurnsFor limits e first w → Carries limits e es names first w
+first_carries limits e es names first w known keeps made (of_event x at good unrolls) =
     let kept = subst (λ (o : Option Event). (keeps_if names o && keep_clean_starts (named_if o names) es) ≡ true) at keeps in
     let both = both_true (keeps_clean names x) (keep_clean_starts (named_after x names) es) kept in
     let comes = event_comes names x w (events_of first) both.0 unrolls in
-    let front = turns_carry limits first names w known comes.keeps in
+    let front = turns_carry limits first names w known comes.keeps (comes.makes w (subst (λ (o : Option Event). IsMadeAnewIf o w) at made)) in
     record {
       carried = front.0;
       known = subst (λ (o : Option Event). Known (named_if o names) (run limits first w)) (sym at) (subst (λ (ns : List (List ℕ)). Known ns (run limits first w)) comes.named front.1);
       keeps = subst (λ (o : Option Event). keep_clean_starts (named_if o names) es ≡ true) (sym at) both.1;
     }
-first_carries limits e es names first w known keeps (of_drain client at drain) =
+first_carries limits e es names first w known keeps made (of_drain client at drain) =
     let none : event_of e ≡ None = ap event_of at in
-    let still = nobody_named (events_of first) (rounds_named limits client drain.rounds first w drain.are) names in
-    let front = turns_carry limits first names w known still.0 in
+    let nobody = rounds_named limits client drain.rounds first w drain.are in
+    let still = nobody_named (events_of first) nobody names in
+    let front = turns_carry limits first names w known still.0 (nobody_first (events_of first) w (nobody_made (events_of first) nobody)) in
     record {
       carried = front.0;
       known = subst (λ (o : Option Event). Known (named_if o names) (run limits first w)) (sym none) (subst (λ (ns : List (List ℕ)). Known ns (run limits first w)) still.1 front.1);
@@ -188,13 +215,13 @@ first_carries limits e es names first w known keeps (of_drain client at drain) =
 
 -- ---- a script
 
-script_carries : (limits : Limits) (es : List Line) (names : List (List ℕ)) (turns : List Turn) (w : World) → Known names w → keep_clean_starts names es ≡ true
-    → AreTurnsOf limits es turns w → are_clean_starts_carried limits turns w ≡ true
-script_carries limits [] names turns w known keeps are = ap (λ (ts : List Turn). are_clean_starts_carried limits ts w) are
-script_carries limits (e ∷ es) names turns w known keeps (first, rest, are, joined, more) =
-    let front = first_carries limits e es names first w known keeps are in
-    ap (λ (ts : List Turn). are_clean_starts_carried limits ts w) joined
-    ∙ carry_joined limits first rest w front.carried (script_carries limits es (named_if (event_of e) names) rest (run limits first w) front.known front.keeps more)
+script_carries : (limits : Limits) (es : List Line) (names : List (List ℕ)) (turns : List Turn) (w : World) → Known names w → keep_clean_starts names es ≡ true → AreMadeAnew limits es w
+    → AreTurnsOf limits es turns w → are_beginnings_clean limits turns w ≡ true
+script_carries limits [] names turns w known keeps made are = ap (λ (ts : List Turn). are_beginnings_clean limits ts w) are
+script_carries limits (e ∷ es) names turns w known keeps made (first, rest, are, joined, more) =
+    let front = first_carries limits e es names first w known keeps made.0 are in
+    ap (λ (ts : List Turn). are_beginnings_clean limits ts w) joined
+    ∙ carry_joined limits first rest w front.carried (script_carries limits es (named_if (event_of e) names) rest (run limits first w) front.known front.keeps (made.1 first are) more)
 
 nobody_known : (names : List (List ℕ)) (w : World) → w.publishers ≡ [] → w.receivers ≡ [] → Known names w
 nobody_known names w none nobody = record {
@@ -203,29 +230,29 @@ nobody_known names w none nobody = record {
 }
 
 -- its turns are as is asked of every run
-pub script_fair : (limits : Limits) (es : List Line) (tells : List Telling) (w after : World) → AreWithin limits → IsUntouched limits w → keep_clean_starts [] es ≡ true → RunsTo limits es tells w after
+pub script_fair : (limits : Limits) (es : List Line) (tells : List Telling) (w after : World) → AreWithin limits → IsUntouched limits w → BeginClean limits es w → RunsTo limits es tells w after
     → (ts : List Turn) × IsFair limits ts w × (after ≡ run limits ts w)
-script_fair limits es tells w after within untouched keeps runs =
+script_fair limits es tells w after within untouched clean runs =
     let by : IsRunOf limits es w after = runs_by_turns limits es tells w after runs in
     let known = nobody_known [] w untouched.new.publishers untouched.new.receivers in
-    (by.turns, record { within = within; unspent = by.unspent; carried = script_carries limits es [] by.turns w known keeps by.are }, by.is)
+    (by.turns, record { within = within; unspent = by.unspent; clean = script_carries limits es [] by.turns w known clean.starts clean.made by.are }, by.is)
 
 pub delivers_once : (limits : Limits) (es : List Line) (tells : List Telling) (w after : World) → AreWithin limits → IsUntouched limits w → TellsApart w.broker.records
-    → keep_clean_starts [] es ≡ true → RunsTo limits es tells w after → ScriptDelivers limits es w after
-delivers_once limits es tells w after within untouched apart keeps runs =
+    → BeginClean limits es w → RunsTo limits es tells w after → ScriptDelivers limits es w after
+delivers_once limits es tells w after within untouched apart clean runs =
     let by : IsRunOf limits es w after = runs_by_turns limits es tells w after runs in
     let known = nobody_known [] w untouched.new.publishers untouched.new.receivers in
     record {
       turns = by.turns;
       are = by.are;
       is = by.is;
-      delivers = script_delivers limits by.turns w within untouched apart by.unspent (script_carries limits es [] by.turns w known keeps by.are);
+      delivers = script_delivers limits by.turns w within untouched apart by.unspent (script_carries limits es [] by.turns w known clean.starts clean.made by.are);
     }
 
-pub start_delivers : (limits : Limits) (es : List Line) (tells : List Telling) (after : World) → AreWithin limits → keep_clean_starts [] es ≡ true
+pub start_delivers : (limits : Limits) (es : List Line) (tells : List Telling) (after : World) → AreWithin limits → BeginClean limits es start
     → RunsTo limits es tells start after → ScriptDelivers limits es start after
-start_delivers limits es tells after within keeps runs =
-    delivers_once limits es tells start after within (start_untouched limits within) start_apart keeps runs
+start_delivers limits es tells after within clean runs =
+    delivers_once limits es tells start after within (start_untouched limits within) start_apart clean runs
 
 -- ---- strangers
 

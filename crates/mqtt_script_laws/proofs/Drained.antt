@@ -18,7 +18,7 @@ use Rattle.mqtt_every_run_laws.proofs.Drains.{ends_over, ends_within, round_carr
 use Rattle.mqtt_every_run_laws.proofs.EveryRun.{fair_run_kept, over_or_drained}
 use Rattle.mqtt_every_run_laws.proofs.QueueGrowth.{queue_grows}
 use Rattle.mqtt_every_run_laws.proofs.Runs.{IsKept}
-use Rattle.mqtt_script_laws.specs.Cleanly.{keep_clean_starts}
+use Rattle.mqtt_script_laws.specs.Cleanly.{BeginClean}
 use Rattle.mqtt_script_laws.specs.Drains.{DrainHappens, DrainsBy, IsRound, MakesRounds}
 use Rattle.mqtt_script_laws.specs.Scripted.{RunsTo}
 use Rattle.mqtt_script_laws.specs.Turns.{both_tell}
@@ -150,10 +150,10 @@ a_round_more limits client (suc rounds) t u w mid after (at, first, rest, v, mad
 
 -- ---- from wherever a script has come to
 
-module _ (limits : Limits) (es : List Event) (tells : List Telling) (choice : MemberChoice) (client : List ℕ) (w v : World) (within : AreWithin limits) (untouched : IsUntouched limits w) (keeps : keep_clean_starts [] es ≡ true)
+module _ (limits : Limits) (es : List Event) (tells : List Telling) (choice : MemberChoice) (client : List ℕ) (w v : World) (within : AreWithin limits) (untouched : IsUntouched limits w) (clean : BeginClean limits es w)
     (runs : RunsTo limits es tells w v) where
   pub kept_there : IsKept [] client limits v
-  kept_there = let f = script_fair limits es tells w v within untouched keeps runs in subst (IsKept [] client limits) (sym f.2) (fair_run_kept limits f.0 w untouched f.1 client)
+  kept_there = let f = script_fair limits es tells w v within untouched clean runs in subst (IsKept [] client limits) (sym f.2) (fair_run_kept limits f.0 w untouched f.1 client)
 
   pub so_far : (rounds : ℕ) (t : Telling) (after : World) → MakesRounds limits client rounds t v after → DrainsBy limits choice client rounds rounds t v after
   so_far rounds t after made = rounds_by client limits choice rounds rounds t v after kept_there (as_many client limits choice rounds after) made

@@ -12,3 +12,5 @@ pub mod Repeated
 pub mod Drained
 pub mod OneTurn
 pub mod Drainable
+pub mod Anew
+pub mod AnewExamples

@@ -3,7 +3,7 @@ use Rattle.std.proofs.Common.{◌≡◌, ℕ, zero, suc, ◌+◌, Bool, true, fa
 use Rattle.std.specs.Prelude.{is_some}
 use Rattle.std.proofs.lemmas.List.{append-nil, append_assoc}
 use Rattle.mqtt_laws.specs.Ends.{Back, Publisher, Receiver, wire_back}
-use Rattle.mqtt_laws.specs.Run.{Turn, are_clean_starts_carried, carries_clean, deeds_over, read_if, read_in, run, turned, read_at, setting, the_deeds}
+use Rattle.mqtt_laws.specs.Run.{Turn, are_beginnings_clean, begins_clean, deeds_over, read_if, read_in, run, turned, read_at, setting, the_deeds}
 use Rattle.mqtt_laws.specs.Tellings.{Telling, silent, telling}
 use Rattle.mqtt_laws.specs.World.{Event, View, World, ask, calls_if, happens, input_on, pump, pump_on, publisher_told, receiver_named, receiver_told, taken_up, to_broker, to_end, view_by, view_of, with_line}
 use Rattle.mqtt_rules.specs.Deeds.{Deed}
@@ -63,7 +63,7 @@ some_there client limits ts w there = by (receiver_named client w) refl there
     by None e h = absurd cc
     by (Some r) e h = ap is_some (run_remains client limits ts w r e).1
 
-pub ready_after : (client : List ℕ) (limits : Limits) (ts : List Turn) (t : Telling) (w after : World) → IsReady client limits w → Comes limits ts t w after → are_clean_starts_carried limits ts w ≡ true → IsReady client limits after
+pub ready_after : (client : List ℕ) (limits : Limits) (ts : List Turn) (t : Telling) (w after : World) → IsReady client limits w → Comes limits ts t w after → are_beginnings_clean limits ts w ≡ true → IsReady client limits after
 ready_after client limits ts t w after h x carried = record {
   kept = subst (IsKept [] client limits) (sym x.is) (run_kept [] client limits ts w h.kept x.unspent carried);
   there = ap (λ (v : World). is_some (receiver_named client v)) x.is ∙ some_there client limits ts w h.there;
@@ -155,7 +155,7 @@ turn_by limits d e t w after does same = record {
 
 -- ---- some turns
 
-pub repeats_by : (client : List ℕ) (limits : Limits) (d : MemberChoice) (e : Event) → ((w : World) → carries_clean e w ≡ true) → ((c : MemberChoice) (w : World) → IsReady client limits w → IsSame limits c d e w)
+pub repeats_by : (client : List ℕ) (limits : Limits) (d : MemberChoice) (e : Event) → ((w : World) → begins_clean e w ≡ true) → ((c : MemberChoice) (w : World) → IsReady client limits w → IsSame limits c d e w)
     → (n : ℕ) (t : Telling) (w after : World) → IsReady client limits w → Repeats limits n e t w after → Comes limits (times n (turn_of d e)) t w after × IsReady client limits after
 repeats_by client limits d e carries same zero t w after h k = (record { is = k.1; unspent = refl; told = k.0 }, subst (IsReady client limits) (sym k.1) h)
 repeats_by client limits d e carries same (suc more) t w after h (first, rest, mid, does, others, told) =

@@ -1,6 +1,6 @@
 -- A script's events, one after the other: the turns that they come to, and runs behind runs.
 use Rattle.std.proofs.Common.{◌≡◌, ℕ, true, false, List, [], ◌∷◌, ◌++◌, Some, refl, sym, subst, ◌∙◌}
-use Rattle.mqtt_laws.specs.Run.{Turn, are_clean_starts_carried, run}
+use Rattle.mqtt_laws.specs.Run.{Turn, are_beginnings_clean, run}
 use Rattle.mqtt_laws.specs.Tellings.{Telling}
 use Rattle.mqtt_laws.specs.World as world
 use Rattle.mqtt_laws.specs.World.{World}
@@ -54,5 +54,5 @@ pub runs_drained : (limits : Limits) (es : List Event) (tells : List Telling) (c
     → DrainHappens limits client t mid after → RunsTo limits (es ++ Drain client ∷ []) (tells ++ t ∷ []) w after
 runs_drained limits es tells client t w mid after runs does = runs_join limits es (Drain client ∷ []) tells (t ∷ []) w mid after runs (after, as_drain client refl does, (refl, refl))
 
-pub script_delivers : (limits : Limits) (turns : List Turn) (w : World) → AreWithin limits → IsUntouched limits w → TellsApart w.broker.records → run_spends limits turns w ≡ false → are_clean_starts_carried limits turns w ≡ true → DeliversOnce limits turns w
-script_delivers limits turns w within untouched apart unspent carried = run_delivers limits turns w untouched apart (record { within = within; unspent = unspent; carried = carried })
+pub script_delivers : (limits : Limits) (turns : List Turn) (w : World) → AreWithin limits → IsUntouched limits w → TellsApart w.broker.records → run_spends limits turns w ≡ false → are_beginnings_clean limits turns w ≡ true → DeliversOnce limits turns w
+script_delivers limits turns w within untouched apart unspent carried = run_delivers limits turns w untouched apart (record { within = within; unspent = unspent; clean = carried })

@@ -1,5 +1,5 @@
 //! Laws of drains in scripts, turn by turn: of their rounds, and of the choices of members in them (4.3, 4.4, 4.6).
-ghost use Rattle.std.specs.Prelude.{◌≡◌, ◌≤◌, ◌+◌, ℕ, List, [], false, length, suc, true};
+ghost use Rattle.std.specs.Prelude.{◌≡◌, ◌≤◌, ◌+◌, ℕ, List, false, length, suc, true};
 ghost use Rattle.mqtt_every_run_laws.specs.Untouched.{IsUntouched};
 ghost use Rattle.mqtt_handed_laws.specs.Drains.{copies_left, drain_turns, drained, enough_rounds, is_bad_drain, is_over, round_turns};
 ghost use Rattle.mqtt_laws.specs.Tellings.{Telling};
@@ -9,7 +9,7 @@ ghost use Rattle.mqtt_rules.specs.Laws.{AreWithin};
 ghost use Rattle.mqtt_rules.specs.State.{MemberChoice};
 ghost use Rattle.mqtt_rules.specs.declared.Limits.{Limits};
 ghost use Rattle.mqtt_script.specs.declared.event.Event.{Event};
-ghost use Rattle.mqtt_script_laws.specs.Cleanly.{keep_clean_starts};
+ghost use Rattle.mqtt_script_laws.specs.Cleanly.{BeginClean};
 ghost use Rattle.mqtt_script_laws.specs.Drains.{DrainHappens, DrainsBy, IsRound, MakesRounds, Repeats};
 ghost use Rattle.mqtt_script_laws.specs.Scripted.{Happens, RunsTo};
 ghost use Rattle.mqtt_script_laws.specs.Turns.{IsTurn, both_tell};
@@ -22,11 +22,11 @@ ghost use Rattle.mqtt_world_laws.specs.Spending.{run_spends};
 pub fn a_drain_is_by_one_choice()
     ensures so_far { (limits : Limits) (es : List Event) (tells : List Telling) (choice : MemberChoice) (client : List ℕ)
         (rounds : ℕ) (t : Telling) (w v after : World) → AreWithin limits → IsUntouched limits w
-        → keep_clean_starts [] es ≡ true → RunsTo limits es tells w v → MakesRounds limits client rounds t v after
+        → BeginClean limits es w → RunsTo limits es tells w v → MakesRounds limits client rounds t v after
         → DrainsBy limits choice client rounds rounds t v after }
     ensures whole { (limits : Limits) (es : List Event) (tells : List Telling) (choice : MemberChoice) (client : List ℕ)
         (most : ℕ) (t : Telling) (w v after : World) → AreWithin limits → IsUntouched limits w
-        → keep_clean_starts [] es ≡ true → RunsTo limits es tells w v → (h : DrainHappens limits client t v after)
+        → BeginClean limits es w → RunsTo limits es tells w v → (h : DrainHappens limits client t v after)
         → h.rounds ≤ most → DrainsBy limits choice client most h.rounds t v after }
 {}
 
@@ -36,12 +36,12 @@ pub fn a_drain_is_by_one_choice()
 pub fn drains_of_a_script_end()
     ensures is_within { (limits : Limits) (es : List Event) (tells : List Telling) (choice : MemberChoice) (client : List ℕ)
         (rounds : ℕ) (t : Telling) (w v after : World) → AreWithin limits → IsUntouched limits w
-        → keep_clean_starts [] es ≡ true → RunsTo limits es tells w v → MakesRounds limits client rounds t v after
+        → BeginClean limits es w → RunsTo limits es tells w v → MakesRounds limits client rounds t v after
         → rounds ≤ enough_rounds (copies_left client v
         + length (entered_from limits (round_turns limits choice client v) v)) }
     ensures is_over { (limits : Limits) (es : List Event) (tells : List Telling) (choice : MemberChoice) (client : List ℕ)
         (rounds : ℕ) (t : Telling) (w v after : World) → AreWithin limits → IsUntouched limits w
-        → keep_clean_starts [] es ≡ true → RunsTo limits es tells w v → MakesRounds limits client rounds t v after
+        → BeginClean limits es w → RunsTo limits es tells w v → MakesRounds limits client rounds t v after
         → enough_rounds (copies_left client v + length (entered_from limits (round_turns limits choice client v) v)) ≤ rounds
         → is_over client after ≡ true }
 {}
@@ -50,7 +50,7 @@ pub fn drains_of_a_script_end()
 /// they spend no number, are rounds turn by turn, and after them the drain is over (4.3, 4.4, 4.6, 4.9).
 pub fn a_drain_can_happen()
     ensures { (limits : Limits) (es : List Event) (tells : List Telling) (choice : MemberChoice) (client : List ℕ) (most : ℕ)
-        (w v : World) → AreWithin limits → IsUntouched limits w → keep_clean_starts [] es ≡ true → RunsTo limits es tells w v
+        (w v : World) → AreWithin limits → IsUntouched limits w → BeginClean limits es w → RunsTo limits es tells w v
         → is_bad_drain client v ≡ false → run_spends limits (drain_turns limits choice client most v) v ≡ false
         → enough_rounds (copies_left client v + length (entered_from limits (round_turns limits choice client v) v)) ≤ most
         → (t : Telling) × DrainHappens limits client t v (drained limits choice client most v) }

@@ -2,7 +2,7 @@
 ghost use Rattle.std.specs.Prelude.{◌≡◌, ℕ, List, [], ◌∷◌, ◌++◌, Some, false, true};
 ghost use Rattle.mqtt_every_run_laws.specs.Scripts.{DeliversOnce};
 ghost use Rattle.mqtt_every_run_laws.specs.Untouched.{IsUntouched};
-ghost use Rattle.mqtt_laws.specs.Run.{Turn, are_clean_starts_carried};
+ghost use Rattle.mqtt_laws.specs.Run.{Turn, are_beginnings_clean};
 ghost use Rattle.mqtt_laws.specs.Tellings.{Telling};
 ghost use Rattle.mqtt_laws.specs.World as world;
 ghost use Rattle.mqtt_laws.specs.World.{World};
@@ -37,11 +37,11 @@ pub fn scripts_follow_one_another()
 {}
 
 /// Exactly-once delivery, of scripts: whatever turns a script's events come to, all that is proved of every run of the world
-/// holds of them, where no number is spent and each Clean Start is carried through. Of where the script begins is asked what
+/// holds of them, where no number is spent and ends begin clean. Of where the script begins is asked what
 /// every run asks (3.3.4, 4.3, 4.4, 4.6, 4.8, 4.9).
 pub fn whatever_a_script_does()
     ensures delivers { (limits : Limits) (es : List Event) (turns : List Turn) (w : World)
         → AreWithin limits → IsUntouched limits w → TellsApart w.broker.records → AreTurnsOf limits es turns w
-        → run_spends limits turns w ≡ false → are_clean_starts_carried limits turns w ≡ true
+        → run_spends limits turns w ≡ false → are_beginnings_clean limits turns w ≡ true
         → DeliversOnce limits turns w }
 {}

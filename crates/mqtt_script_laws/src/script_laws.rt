@@ -8,7 +8,7 @@ ghost use Rattle.mqtt_rules.specs.Laws.{AreWithin};
 ghost use Rattle.mqtt_rules.specs.State.{MemberChoice};
 ghost use Rattle.mqtt_rules.specs.declared.Limits.{Limits};
 ghost use Rattle.mqtt_script.specs.declared.event.Event.{Event};
-ghost use Rattle.mqtt_script_laws.specs.Cleanly.{ScriptDelivers, keep_clean_starts};
+ghost use Rattle.mqtt_script_laws.specs.Cleanly.{AreMadeAnew, BeginClean, HaveNoSession, ScriptDelivers, makes_ends_first};
 ghost use Rattle.mqtt_script_laws.specs.Scripted.{RunsTo};
 ghost use Rattle.mqtt_unrolled_laws.specs.Unrolled.{AreAllAlike, HoldNoPacket};
 ghost use Rattle.mqtt_world_laws.specs.Fair.{opened_world};
@@ -16,16 +16,25 @@ ghost use Rattle.mqtt_world_laws.specs.Identities.{TellsApart};
 
 /// Exactly-once delivery, of every script that ran, whatever was lost, given up, restarted or stopped in it: each message of a
 /// publisher was accepted once, each publication routed, and its copies entered, each once, and wait or have one end; and each
-/// receiver was handed its copies once and in order. Asked of the script is but that its Clean Starts are carried through, which
-/// is read off its events: an end that has connected with Clean Start 1 gives no line up, and connects so again. From nothing
-/// stored nothing else is asked (3.1.2.4, 3.3.4, 4.3, 4.4, 4.6, 4.8, 4.9).
+/// receiver was handed its copies once and in order. Asked of the script is but that its ends begin clean: its Clean Starts are
+/// carried through, which is read off its events, since an end that has connected with Clean Start 1 gives no line up, and
+/// connects so again; and no session of an end's name stands when it is made. From nothing stored nothing else is asked (3.1.2.4,
+/// 3.3.4, 4.3, 4.4, 4.6, 4.8, 4.9).
 pub fn scripts_deliver_exactly_once()
     ensures delivers { (limits : Limits) (es : List Event) (tells : List Telling) (w after : World) → AreWithin limits
-        → IsUntouched limits w → TellsApart w.broker.records → keep_clean_starts [] es ≡ true
+        → IsUntouched limits w → TellsApart w.broker.records → BeginClean limits es w
         → RunsTo limits es tells w after → ScriptDelivers limits es w after }
     ensures empty { (limits : Limits) (choice : MemberChoice) → opened_world limits choice 0 nothing ≡ start }
     ensures from_nothing { (limits : Limits) (es : List Event) (tells : List Telling) (after : World) → AreWithin limits
-        → keep_clean_starts [] es ≡ true → RunsTo limits es tells start after → ScriptDelivers limits es start after }
+        → BeginClean limits es start → RunsTo limits es tells start after → ScriptDelivers limits es start after }
+{}
+
+/// A script that makes its ends before all else makes each where no session of its name stands, if none is stored; so it is where
+/// nothing is (3.1.2.4).
+pub fn ends_that_come_first_are_made_anew()
+    ensures stored { (limits : Limits) (es : List Event) (w : World) → makes_ends_first es ≡ true → HaveNoSession es w
+        → AreMadeAnew limits es w }
+    ensures from_nothing { (limits : Limits) (es : List Event) → makes_ends_first es ≡ true → AreMadeAnew limits es start }
 {}
 
 /// In each script that ran strangers of one name hold the same bytes, and nothing whole is held of them (2.1).

@@ -1,7 +1,7 @@
 //! The server: turns over sockets and a database (MQTT 5.0, 4.2).
 ghost use Rattle.std.specs.Prelude.{◌≡◌, ◌≢◌, [], OnOk, IfOk, IfErr};
 ghost use Rattle.std.specs.Io.KnownBytes.{Appends, Keeps};
-ghost use Rattle.mqtt_serving.specs.TheRules.Laws.{AreWithin};
+ghost use Rattle.mqtt_rules.specs.Laws.{AreWithin};
 ghost use Rattle.mqtt_serving.specs.Turns.{Begins, Runs, RunsAlone};
 ghost use Rattle.mqtt_serve.specs.Announcing.{Announces, done, listening};
 

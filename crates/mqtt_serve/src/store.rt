@@ -1,6 +1,6 @@
 //! The store of the server: a database in a file (MQTT 5.0, 4.1).
 ghost use Rattle.std.specs.Prelude.{◌≡◌, ◌≢◌, IfErr, IfOk};
-ghost use Rattle.mqtt_serving.specs.TheRules.Laws.{AreWithin};
+ghost use Rattle.mqtt_rules.specs.Laws.{AreWithin};
 ghost use Rattle.mqtt_serving.specs.Turns.{Begins};
 
 use mqtt_serve_fault::ServeFault;

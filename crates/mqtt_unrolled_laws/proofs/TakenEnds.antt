@@ -15,7 +15,7 @@ use Rattle.mqtt_rules.specs.declared.Limits.{Limits}
 use Rattle.mqtt_laws.specs.Ends.{Back, Publisher, Receiver, Sent, answers, new_publisher, new_receiver, publisher_reads, published, receiver_reads, shake}
 use Rattle.mqtt_laws.specs.Lines.{Line, gives_up, joined, left, told_by}
 use Rattle.mqtt_laws.specs.Run.{Turn, run, setting, turned}
-use Rattle.mqtt_laws.specs.World.{Asking, Event, Setting, World, answers_rest, ask, asks, asks_wish, before, break, call_of, call_of_stranger, calls, calls_if, clock, comes, connect_end, end_reads, first_step, give_up, happens, held_count, is_bad, is_bad_name, is_input, is_open_line, is_taken, is_window, is_wish, linked_at, links, message_packet, next_held, next_line, old_to_broker, publish, publisher, publisher_named, publisher_restarted, publisher_told, pump, receiver, receiver_named, receiver_restarted, receiver_told, restart, restarts, stop_after, stop_before, stranger, stranger_named, subscribe, taken_old, taken_up, tick, to_broker, to_end, with_line, may_ask}
+use Rattle.mqtt_laws.specs.World.{Asking, Event, Setting, World, answers_rest, ask, asks, asks_wish, before, break, call_of, call_of_stranger, calls, calls_if, clock, comes, connect_end, end_reads, first_step, give_up, happens, held_count, is_bad, is_bad_name, is_end, is_input, is_open_line, is_window, is_wish, linked_at, links, message_packet, next_held, next_line, old_to_broker, publish, publisher, publisher_named, publisher_restarted, publisher_told, pump, receiver, receiver_named, receiver_restarted, receiver_told, restart, restarts, stop_after, stop_before, stranger, stranger_named, subscribe, taken_old, taken_up, tick, to_broker, to_end, with_line, may_ask}
 use Rattle.mqtt_unrolled_laws.specs.Taken.{HasTexts, HaveTexts, IsTakenFrom, IsTakenFromReceiver}
 use Rattle.mqtt_unrolled_laws.proofs.TakenLines.{Carries, gives_carries, joined_carries, left_carries, old_carries, restarted_carries, told_carries, up_carries}
 use Rattle.mqtt_unrolled_laws.proofs.TakenPackets.{IsName, wish_taken}
@@ -137,12 +137,12 @@ name_of client good text =
 
 happens_sound : (e : Event) (set : Setting) (w : World) → HasTexts e → is_bad e w ≡ false → AreSound w → AreSound (happens set e w)
 happens_sound (publisher client) set w text good h = record {
-  publishers = each_append IsSound w.publishers (new_publisher client ∷ []) h.publishers (new_sound client (name_of client (neither (is_bad_name client) (is_taken client w) good).0 text), tt);
+  publishers = each_append IsSound w.publishers (new_publisher client ∷ []) h.publishers (new_sound client (name_of client (neither (is_bad_name client) (is_end client w) good).0 text), tt);
   receivers = h.receivers;
 }
 happens_sound (receiver client window) set w text good h =
-    let both = neither (is_bad_name client) (is_taken client w || not (is_window window)) good in
-    let more = neither (is_taken client w) (not (is_window window)) both.1 in
+    let both = neither (is_bad_name client) (is_end client w || not (is_window window)) good in
+    let more = neither (is_end client w) (not (is_window window)) both.1 in
     let since = w.broker.records.births in
     record {
       publishers = h.publishers;

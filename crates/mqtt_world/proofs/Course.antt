@@ -1,6 +1,6 @@
 -- What events come to in a world that runs, one after the other, and that all it keeps is a run of the definitions' world.
-use Rattle.std.proofs.Common.{◌≡◌, ◌≢◌, List, [], ◌∷◌, ◌++◌, IfErr, IfOk, OnOk, Option, None, Some, append-nil, append_assoc, refl, sym, ap, subst, ◌∙◌, ◌⊎◌, inl}
-use Rattle.std.specs.Prelude.{ℕ, length, true, Result, Ok, Err}
+use Rattle.std.proofs.Common.{◌≡◌, List, [], ◌∷◌, ◌++◌, IfErr, IfOk, OnOk, Option, None, Some, append-nil, append_assoc, refl, sym, ap, subst, ◌∙◌}
+use Rattle.std.specs.Prelude.{length, Result, Ok, Err}
 use Rattle.mqtt_records.specs.declared.keep.Keep.{Ghosts}
 use Rattle.mqtt_laws.specs.Tellings.{Telling}
 use Rattle.mqtt_laws.specs.World as world
@@ -8,14 +8,14 @@ use Rattle.mqtt_laws.specs.World.{World}
 use Rattle.mqtt_peers.specs.declared.told.RunFault.{RunFault}
 use Rattle.mqtt_peers.specs.declared.told.RunFault.TheVariants as fault
 use Rattle.mqtt_script.specs.declared.event.Event.{Event}
-use Rattle.mqtt_script_laws.specs.Scripted.{IsBadEvent, IsBadHere, RunsTo, as_event, event_of}
+use Rattle.mqtt_script_laws.specs.Scripted.{IsBadEvent, RunsTo, as_event, event_of}
 use Rattle.mqtt_script_laws.proofs.Carrying.{delivers_once}
 use Rattle.mqtt_script_laws.proofs.Scripts.{runs_join}
 use Rattle.mqtt_broker.specs.TheRules.Laws.{AreWithin}
 use Rattle.mqtt_broker.specs.TheRules.declared.Limits.{Limits}
 use Rattle.mqtt_world.specs.Events.{IsReached}
 use Rattle.mqtt_world.specs.Openings.{AlwaysSound}
-use Rattle.mqtt_world.specs.Stages.{Plays, Staged, broker_of, world_at}
+use Rattle.mqtt_world.specs.Stages.{Staged, broker_of, world_at}
 use Rattle.mqtt_world.specs.Worlds.{Came, CantHappen, Happen, HasCome, HasDelivered, IfSound, Lasting, PlaysIf, Refuses, Runs, Stops, fault_of, over_by, with_stage}
 use Rattle.mqtt_world.specs.declared.over.Over.{Over}
 use Rattle.mqtt_world.specs.declared.over.Over.TheVariants as over
@@ -165,9 +165,9 @@ module _ {K : Type 0} (g : Ghosts K) where
   one_comes start e (Err f) old new sound h r come = come_refused start e f old new sound r come
 
 pub delivered : {K : Type 0} (start : World) (w : Lasting K) → HasCome start w → HasDelivered start w
-delivered {K} start w come = λ s is untouched apart keeps.
+delivered {K} start w come = λ s is untouched apart clean.
     let c = come s is in
-    delivers_once s.limits w.events c.tells start (world_at s) c.within untouched apart keeps c.runs
+    delivers_once s.limits w.events c.tells start (world_at s) c.within untouched apart clean c.runs
 
 module _ {K : Type 0} (g : Ghosts K) where
   -- ---- what a step of the world comes to

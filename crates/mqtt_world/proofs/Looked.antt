@@ -1,9 +1,11 @@
 -- What is seen of a world that stands, from what is seen of its broker and its ends (MQTT 5.0, 4.1 to 4.4).
 use Rattle.std.proofs.Common.{◌≡◌, ℕ, Bool, true, false, cond, length, List, Option, Some, None, option_map, refl, sym, ap, subst, ◌∙◌}
-use Rattle.std.specs.Prelude.{Err, IfOk, Ok, Result}
+use Rattle.std.specs.Prelude.{Err, IfOk, Ok, Result, count_by, is_some}
 use Rattle.mqtt_records.specs.declared.session.Session.{Session}
+use Rattle.mqtt_laws.specs.Ends.{Publisher}
 use Rattle.mqtt_laws.specs.Tellings.{queue_length}
-use Rattle.mqtt_laws.specs.World.{Stranger, World, is_end}
+use Rattle.mqtt_laws.specs.World.{Stranger, World, is_end, publisher_named}
+use Rattle.mqtt_script.specs.declared.event.Event.{Event}
 use Rattle.mqtt_broker.specs.Serving.{Serving}
 use Rattle.mqtt_broker.specs.TheRules.State.{session_named}
 use Rattle.mqtt_broker.specs.TheRules.declared.Limits.{Limits}
@@ -11,7 +13,7 @@ use Rattle.mqtt_clients.specs.Ends.{Ends}
 use Rattle.mqtt_world.specs.Events.{played, world_of}
 use Rattle.mqtt_world.specs.Scenes.{Played}
 use Rattle.mqtt_world.specs.Stages.{Staged, world_at}
-use Rattle.mqtt_world.specs.Worlds.{queue_in}
+use Rattle.mqtt_world.specs.Worlds.{is_publish_of, queue_in, sent_in}
 
 -- a stage that is taken apart, and its scene too
 pub seen_from : {K : Type 0} (P : World → Type 0) (E : Serving K) (O : Ends) (S : Played K) (ss : List Stranger) (now : ℕ) (limits : Limits) (s : Staged K)
@@ -23,6 +25,23 @@ seen_from {K} P E O S ss now limits s scene stage h =
 pub ok_at : {A E : Type 0} (P : A → World → Type 0) (r : Result A E) (w : World) → IfOk r (λ x. (v : World) → P x v) → IfOk r (λ x. P x w)
 ok_at P (Ok x) w h = h w
 ok_at P (Err e) w h = tt
+
+-- ---- what a publisher sent
+
+nothing_sent : (o : Option Publisher) (is : Bool) (n : ℕ) → is ≡ is_some o → is ≡ false → None ≡ option_map (λ p. n) o
+nothing_sent None is n same none = refl
+nothing_sent (Some p) is n same none = absurd cc
+
+so_many_sent : (o : Option Publisher) (is : Bool) (n : ℕ) → is ≡ is_some o → is ≡ true → Some n ≡ option_map (λ p. n) o
+so_many_sent None is n same there = absurd cc
+so_many_sent (Some p) is n same there = refl
+
+pub no_publisher : (is : Bool) (client : List ℕ) (es : List Event) (w : World) → is ≡ is_some (publisher_named client w) → is ≡ false → None ≡ sent_in client es w
+no_publisher is client es w same none = nothing_sent (publisher_named client w) is (count_by (is_publish_of client) es) same none
+
+pub its_messages : (is : Bool) (client : List ℕ) (es : List Event) (w : World) (n : ℕ) → is ≡ is_some (publisher_named client w) → is ≡ true
+    → n ≡ count_by (is_publish_of client) es → Some n ≡ sent_in client es w
+its_messages is client es w n same there count = ap Some count ∙ so_many_sent (publisher_named client w) is (count_by (is_publish_of client) es) same there
 
 -- ---- the queue of an end
 

@@ -1,11 +1,12 @@
 -- What becomes of a world that stands, by what becomes of its broker and ends (MQTT 5.0, 4.1 to 4.4).
-use Rattle.std.proofs.Common.{◌≡◌, ℕ, ◌+◌, false, List, map, Option, Some, None, refl, sym, ap, subst, ◌∙◌}
+use Rattle.std.proofs.Common.{◌≡◌, ℕ, false, List, map, Option, Some, None, refl, sym, ap, subst, ◌∙◌}
 use Rattle.std.specs.Prelude.{Err, IfOk, Ok, Result}
 use Rattle.mqtt_records.specs.declared.keep.Keep.{Ghosts}
 use Rattle.mqtt_laws.specs.Tellings.{Telling, silent}
 use Rattle.mqtt_laws.specs.World.{Asking, Event, Stranger, World, ask, clock, restart, restarts, stop_after, stop_before, unlinked}
 use Rattle.mqtt_broker.specs.Serving.{Serving}
 use Rattle.mqtt_broker.specs.TheRules.Laws.{AreWithin}
+use Rattle.mqtt_broker.specs.TheRules.State.{later}
 use Rattle.mqtt_broker.specs.TheRules.Step.{is_opening_spent}
 use Rattle.mqtt_broker.specs.TheRules.declared.Limits.{Limits}
 use Rattle.mqtt_peers.specs.declared.told.RunFault.{RunFault}
@@ -74,7 +75,7 @@ module _ {K : Type 0} (g : Ghosts K) where
   -- ---- time passes
 
   clock_plays : (wait : ℕ) (S : Played K) (ss : List Stranger) (now after : ℕ) (limits : Limits) → IsStanding g (staged S ss now limits)
-      → after ≡ now + wait → Plays g (clock wait) (staged S ss now limits) (Some silent) (staged S ss after limits)
+      → after ≡ later now wait → Plays g (clock wait) (staged S ss now limits) (Some silent) (staged S ss after limits)
   clock_plays wait S ss now after limits stands is = record {
     standing = record { playable = stands.playable; limits = stands.limits; within = stands.within };
     limits = refl;
@@ -84,7 +85,7 @@ module _ {K : Type 0} (g : Ghosts K) where
   }
 
   pub clock_plays_in : (wait : ℕ) (S : Played K) (ss : List Stranger) (now after : ℕ) (limits : Limits) (s : Staged K) (t : Telling)
-      → staged S ss now limits ≡ s → IsStanding g s → after ≡ now + wait → t ≡ silent
+      → staged S ss now limits ≡ s → IsStanding g s → after ≡ later now wait → t ≡ silent
       → Plays g (clock wait) s (Some t) (staged S ss after limits)
   clock_plays_in wait S ss now after limits s t view stands is told =
       subst (λ (x : Telling). Plays g (clock wait) s (Some x) (staged S ss after limits)) (sym told)

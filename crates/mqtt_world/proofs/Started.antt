@@ -16,8 +16,8 @@ use Rattle.mqtt_clients.specs.Ends.{Ends}
 use Rattle.mqtt_world.specs.Events.{IsReached, opens, world_of}
 use Rattle.mqtt_world.specs.Openings.{Begins, Opens, no_ends}
 use Rattle.mqtt_world.specs.Scenes.{Played}
-use Rattle.mqtt_world.specs.Stages.{IsStanding, Staged}
-use Rattle.mqtt_world.specs.Worlds.{Came, HasCome, Lasting, Starts}
+use Rattle.mqtt_world.specs.Stages.{IsStanding}
+use Rattle.mqtt_world.specs.Worlds.{Came, Starts}
 use Rattle.mqtt_world.proofs.Course.{ok_is}
 use Rattle.mqtt_world.proofs.Staged.{staged}
 

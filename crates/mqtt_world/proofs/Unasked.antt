@@ -1,12 +1,12 @@
 -- What ends do while the broker is asked for nothing, from what their calls make of them.
-use Rattle.std.proofs.Common.{◌≡◌, ℕ, ◌^◌, Bool, true, false, ◌&&◌, ◌||◌, List, [], ◌∷◌, ◌++◌, length, Option, Some, None, option_map, refl, sym, ap, subst, ◌∙◌, inl}
-use Rattle.std.specs.Prelude.{is_some, nat_lt}
+use Rattle.std.proofs.Common.{◌≡◌, ℕ, ◌^◌, Bool, true, false, ◌&&◌, ◌||◌, List, [], ◌∷◌, ◌++◌, Some, None, refl, sym, ap, subst, ◌∙◌, inl}
+use Rattle.std.specs.Prelude.{nat_lt}
 use Rattle.mqtt_records.specs.declared.keep.Keep.{Ghosts}
 use Rattle.mqtt_laws.specs.Ends.{new_publisher, new_receiver}
 use Rattle.mqtt_laws.specs.Tellings.{Telling, silent}
-use Rattle.mqtt_laws.specs.World.{Event, Setting, Stranger, World, happens, is_bad, is_end, is_taken, is_window, publisher, receiver}
+use Rattle.mqtt_laws.specs.World.{Event, Setting, Stranger, World, happens, is_bad, is_window, publisher, receiver}
 use Rattle.mqtt_broker.specs.Serving.{Serving}
-use Rattle.mqtt_broker.specs.TheRules.State.{Broker, session_named}
+use Rattle.mqtt_broker.specs.TheRules.State.{Broker}
 use Rattle.mqtt_clients.specs.Ends.{BecomeAt, Ends, in_world}
 use Rattle.mqtt_script_laws.specs.Turns.{IsQuiet}
 use Rattle.mqtt_world.specs.Scenes.{IsPlayable, Played}
@@ -36,34 +36,11 @@ and_true false b is = refl
 pub window_is : (window : ℕ) (t : Bool) → t ≡ nat_lt 0 window → nat_lt window (2 ^ 16) ≡ true → t ≡ is_window window
 window_is window t is within = is ∙ and_true (nat_lt 0 window) (nat_lt window (2 ^ 16)) within
 
-some_of_map : {A B : Type 0} (f : A → B) (o : Option A) → is_some (option_map f o) ≡ is_some o
-some_of_map f None = refl
-some_of_map f (Some x) = refl
-
 -- ---- what is seen of the ends is seen in the world
 
 pub seen : {A : Type 0} (f : World → A) {K : Type 0} (s : Played K) (E : Serving K) (O : Ends) (t : A) → played E O ≡ s → ((w : World) → t ≡ f (in_world O w))
     → (now : ℕ) (ss : List Stranger) → t ≡ f (world_of now ss s)
 seen f s E O t view tells now ss = tells (world_of now ss (played E O)) ∙ ap (λ (x : Played _). f (world_of now ss x)) view
-
-pub taken_by_end : (client : List ℕ) {K : Type 0} (s : Played K) (E : Serving K) (O : Ends) (t : Bool) → played E O ≡ s
-    → ((w : World) → t ≡ is_end client (in_world O w)) → t ≡ true
-    → (now : ℕ) (ss : List Stranger) → t ≡ is_taken client (world_of now ss s)
-taken_by_end client s E O t view ends is now ss =
-    let w = world_of now ss s in
-    or_first (is_end client w) (is_some (session_named client w.broker.records)) t (seen (is_end client) s E O t view ends now ss) is
-
-pub taken_by_session : (client : List ℕ) {K : Type 0} (s : Played K) (E : Serving K) (O : Ends) (t u : Bool) (q : Option ℕ) → played E O ≡ s
-    → ((w : World) → t ≡ is_end client (in_world O w)) → t ≡ false
-    → q ≡ option_map (λ s. length s.queue) (session_named client E.running.broker.records) → u ≡ is_some q
-    → (now : ℕ) (ss : List Stranger) → u ≡ is_taken client (world_of now ss s)
-taken_by_session client s E O t u q view ends is queue some now ss =
-    let w = world_of now ss s in
-    let there = some ∙ (ap (λ (o : Option ℕ). is_some o) queue
-    ∙ (some_of_map (λ s. length s.queue) (session_named client E.running.broker.records)
-    ∙ ap (λ (x : Played _). is_some (session_named client x.engine.running.broker.records)) view)) in
-    or_second (is_end client w) (is_some (session_named client w.broker.records)) u
-    (sym (seen (is_end client) s E O t view ends now ss) ∙ is) there
 
 -- ---- ends that are made
 

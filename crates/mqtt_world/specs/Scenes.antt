@@ -1,11 +1,10 @@
 -- A broker with the ends that it serves, and what its calls make of both (MQTT 5.0, 4.1, 4.2).
-use Rattle.std.specs.Prelude.{◌≡◌, ℕ, false, List, [], Option, Some, None}
+use Rattle.std.specs.Prelude.{◌≡◌, ℕ, false, List, []}
 use Rattle.std.specs.List.{AllByRecursion}
 use Rattle.mqtt_records.specs.declared.keep.Keep.{Ghosts}
 use Rattle.mqtt_laws.specs.Tellings.{Telling, telling}
-use Rattle.mqtt_broker.specs.TheRules.State.{Broker, MemberChoice}
+use Rattle.mqtt_broker.specs.TheRules.State.{MemberChoice}
 use Rattle.mqtt_broker.specs.TheRules.Step.{Call, deeds, is_step_spent, stepped, told}
-use Rattle.mqtt_broker.specs.TheRules.declared.Limits.{Limits}
 use Rattle.mqtt_broker.specs.Serving.{Serving}
 use Rattle.mqtt_framing.specs.Framers.{HeldLine}
 use Rattle.mqtt_clients.specs.Ends.{Ends}

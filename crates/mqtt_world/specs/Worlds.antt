@@ -1,10 +1,11 @@
 -- Worlds that run: what a script's events come to there, one after the other, and what holds of all of them (MQTT 5.0, 4.1 to
 -- 4.4).
-use Rattle.std.specs.Prelude.{◌≡◌, ⊤, ℕ, false, true, List, [], ◌∷◌, ◌++◌, length, cond, Option, None, Some, Result, Ok, Err, option_map}
+use Rattle.std.specs.Prelude.{◌≡◌, ⊤, ℕ, Bool, false, List, [], ◌∷◌, ◌++◌, length, count_by, cond, bytes_eq, Option, None, Some}
+use Rattle.std.specs.Prelude.{Result, Ok, Err, option_map}
 use Rattle.mqtt_records.specs.declared.keep.Keep.{Ghosts}
 use Rattle.mqtt_records.specs.declared.records.Records.{Records}
 use Rattle.mqtt_lawful.specs.Lawful.{IsLawful}
-use Rattle.mqtt_laws.specs.Tellings.{Telling, done_by, handed_by, messages_of, queue_length}
+use Rattle.mqtt_laws.specs.Tellings.{Telling, done_by, handed_by, queue_length}
 use Rattle.mqtt_laws.specs.World as world
 use Rattle.mqtt_laws.specs.World.{World, is_end, publisher_named, receiver_named}
 use Rattle.mqtt_peers.specs.declared.told.RunFault.{RunFault}
@@ -14,8 +15,8 @@ use Rattle.mqtt_script.specs.declared.event.Event.{Event}
 use Rattle.mqtt_script.specs.declared.event.Event.TheVariants.{Publisher, Receiver, Connect, GiveUp, Publish, Subscribe}
 use Rattle.mqtt_script.specs.declared.event.Event.TheVariants.{ToBroker, ToEnd, Break, Pump, Clock, Tick, Restart, StopBefore}
 use Rattle.mqtt_script.specs.declared.event.Event.TheVariants.{StopAfter, Stranger, Drain}
-use Rattle.mqtt_script_laws.specs.Cleanly.{ScriptDelivers, keep_clean_starts}
-use Rattle.mqtt_script_laws.specs.Scripted.{IsBadHere, RunsTo, event_of}
+use Rattle.mqtt_script_laws.specs.Cleanly.{BeginClean, ScriptDelivers}
+use Rattle.mqtt_script_laws.specs.Scripted.{IsBadHere, RunsTo}
 use Rattle.mqtt_spelled_laws.specs.Sending.{HaveSentPhases}
 use Rattle.mqtt_every_run_laws.specs.Untouched.{IsUntouched}
 use Rattle.mqtt_world_laws.specs.Fair.{opened_world}
@@ -135,11 +136,11 @@ pub record Came {K : Type 0} (start : World) (es : List Event) (s : Staged K) : 
 abbrev pub HasCome : {K : Type 0} → World → Lasting K → Type 0
 HasCome {K} start w = (s : Staged K) → w.stage ≡ Ok s → Came start w.events s
 
--- exactly-once delivery, of all of them: where nobody was there at first, what was stored is as a broker leaves it, and their
--- Clean Starts are carried through (3.1.2.4, 3.3.4, 4.3, 4.4, 4.6, 4.8, 4.9)
+-- exactly-once delivery, of all of them: where nobody was there at first, what was stored is as a broker leaves it, and their ends
+-- begin clean (3.1.2.4, 3.3.4, 4.3, 4.4, 4.6, 4.8, 4.9)
 abbrev pub HasDelivered : {K : Type 0} → World → Lasting K → Type 0
 HasDelivered {K} start w = (s : Staged K) → w.stage ≡ Ok s → IsUntouched s.limits start → TellsApart start.broker.records
-    → keep_clean_starts [] w.events ≡ true → ScriptDelivers s.limits w.events start (world_at s)
+    → BeginClean s.limits w.events start → ScriptDelivers s.limits w.events start (world_at s)
 
 -- it begins at moment 0 with an opening of lawful records that the store's load answered, without ends or strangers
 pub record Starts {K : Type 0} (g : Ghosts K) (limits : Limits) (keep : K) (w : Lasting K) : Type 0 where
@@ -166,8 +167,14 @@ seen_at look (Err o) = None
 abbrev pub seen : {K A : Type 0} → (World → Option A) → Lasting K → Option A
 seen look w = seen_at look w.stage
 
-abbrev pub sent_in : List ℕ → World → Option ℕ
-sent_in client w = option_map (λ p. messages_of (Some p)) (publisher_named client w)
+-- a publisher of this name is given a message, of any QoS
+abbrev pub is_publish_of : List ℕ → Event → Bool
+is_publish_of client (Publish name draft) = bytes_eq name client
+is_publish_of client e = false
+
+-- how many messages a publisher was given in these events, whether they went out or not
+abbrev pub sent_in : List ℕ → List Event → World → Option ℕ
+sent_in client es w = option_map (λ p. count_by (is_publish_of client) es) (publisher_named client w)
 
 abbrev pub done_in : List ℕ → World → Option ℕ
 done_in client w = option_map (λ p. done_by (Some p)) (publisher_named client w)

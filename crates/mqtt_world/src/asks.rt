@@ -25,7 +25,7 @@ pub(crate) fn has_line(link: Option<Link>) -> bool
 
 impl<K: Keep> Scene<K> {
     /// The broker looks at the moment.
-    pub(crate) fn ask_tick(&mut self, now: u128) -> Result<Option<Told>, RunFault>
+    pub(crate) fn ask_tick(&mut self, now: u64) -> Result<Option<Told>, RunFault>
         requires { IsPlayable K.Keep self.old }
         ensures { IfOk result (λ t. Does K.Keep now (ask tick) self.old t self.new) }
     {
@@ -38,7 +38,7 @@ impl<K: Keep> Scene<K> {
         &mut self,
         alloc: Global,
         client: &str,
-        now: u128,
+        now: u64,
     ) -> Result<Option<Told>, RunFault>
         requires { IsPlayable K.Keep self.old }
         ensures { IfOk result (λ t. Does K.Keep now (ask (pump client.now)) self.old t self.new) }
@@ -60,7 +60,7 @@ impl<K: Keep> Scene<K> {
         &mut self,
         alloc: Global,
         client: &str,
-        now: u128,
+        now: u64,
     ) -> Result<Option<Told>, RunFault>
         requires { IsPlayable K.Keep self.old }
         ensures { IfOk result (λ t. Does K.Keep now (ask (break client.now)) self.old t self.new) }
@@ -88,7 +88,7 @@ impl<K: Keep> Scene<K> {
         old: bool,
         line: u64,
         packet: &Packet,
-        now: u128,
+        now: u64,
     ) -> Result<Option<Told>, RunFault>
         requires playable { IsPlayable K.Keep self.old }
         requires there { (w : World) → is_end client.now (in_world self.old.ends w) ≡ true }
@@ -110,7 +110,7 @@ impl<K: Keep> Scene<K> {
         alloc: Global,
         client: &str,
         old: bool,
-        now: u128,
+        now: u64,
     ) -> Result<Option<Told>, RunFault>
         requires { IsPlayable K.Keep self.old }
         ensures { IfOk result (λ t. Does K.Keep now (ask (reading old client.now)) self.old t self.new) }

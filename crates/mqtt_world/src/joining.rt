@@ -28,7 +28,7 @@ impl<K: Keep> Scene<K> {
         alloc: Global,
         client: &str,
         clean: bool,
-        now: u128,
+        now: u64,
     ) -> Result<Option<Told>, RunFault>
         requires { IsPlayable K.Keep self.old }
         ensures { IfOk result (λ t. Does K.Keep now (connect_end client.now clean) self.old t self.new) }

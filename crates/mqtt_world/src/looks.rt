@@ -1,19 +1,43 @@
 //! What is seen of a world: messages of publishers, copies of receivers, and numbers of the broker (MQTT 5.0, 4.1, 4.3).
 
-ghost use Rattle.std.specs.Prelude.{◌≡◌, IfOk, option_map, vec_items};
+ghost use Rattle.std.specs.Prelude.{◌≡◌, IfOk, count_by, option_map, vec_items};
 ghost use Rattle.mqtt_world.specs.Stages.{world_at};
-ghost use Rattle.mqtt_world.specs.Worlds.{done_in, handed_in, publications_in, queue_in, seen, sent_in, sessions_in};
+ghost use Rattle.mqtt_world.specs.Worlds.{done_in, handed_in, is_publish_of, publications_in, queue_in, seen, sent_in, sessions_in};
 
 use crate::stage::Stage;
 use crate::world::World;
 use mqtt_broker::Keep;
+use mqtt_script::Event;
 use std::alloc::{AllocError, Global};
 
+/// Whether a publisher of this name is given a message. Takes no memory.
+fn is_publish_of(event: &Event, client: &str) -> bool
+    ensures { result ≡ is_publish_of client.now event.now }
+{
+    match event {
+        Event::Publish { client: name, .. } => name.as_str() == client,
+        _ => false,
+    }
+}
+
+/// How many messages a publisher of this name was given. Takes no memory.
+fn published(events: &[Event], client: &str) -> u64
+    ensures { result ≡ count_by (is_publish_of client.now) events.now }
+{
+    events
+        .iter()
+        .filter(|event| is_publish_of(event, client))
+        .count() as u64
+}
+
 impl<K: Keep> Stage<K> {
-    fn sent(&self, client: &str) -> Option<u64>
-        ensures { result ≡ sent_in client.now (world_at self.entry.now) }
+    fn sent(&self, client: &str, events: &[Event]) -> Option<u64>
+        ensures { result ≡ sent_in client.now events.now (world_at self.entry.now) }
     {
-        self.scene.clients.sent(client)
+        if !self.scene.clients.has_publisher(client) {
+            return None;
+        }
+        Some(published(events, client))
     }
 
     fn done(&self, client: &str) -> Option<u64>
@@ -42,13 +66,13 @@ impl<K: Keep> Stage<K> {
 }
 
 impl<K: Keep> World<K> {
-    /// How many messages a publisher has: of QoS 1 and 2 that went out, and any that did not yet. None where no publisher
-    /// has the name, or the world is over. Takes no memory.
+    /// How many messages a publisher was given, of any QoS, whether they went out or not. None where no publisher has the
+    /// name, or the world is over. Takes no memory.
     pub fn sent(&self, client: &str) -> Option<u64>
-        ensures { result ≡ seen (sent_in client.now) self.now }
+        ensures { result ≡ seen (sent_in client.now self.now.events) self.now }
     {
         match &self.stage {
-            Ok(stage) => stage.sent(client),
+            Ok(stage) => stage.sent(client, &self.events),
             Err(_) => None,
         }
     }

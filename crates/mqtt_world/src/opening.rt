@@ -46,7 +46,7 @@ impl<K: Keep> Scene<K> {
     pub(crate) fn open(
         alloc: Global,
         keep: K,
-        now: u128,
+        now: u64,
         limits: Limits,
         hasher: RandomState,
     ) -> Result<Scene<K>, RunFault>
@@ -63,7 +63,7 @@ impl<K: Keep> Scene<K> {
     pub(crate) fn reopen(
         self,
         alloc: Global,
-        now: u128,
+        now: u64,
         limits: Limits,
         hasher: RandomState,
     ) -> Result<Scene<K>, RunFault>

@@ -20,7 +20,7 @@ impl<K: Keep> Scene<K> {
         &mut self,
         alloc: Global,
         event: &Event,
-        now: u128,
+        now: u64,
     ) -> Result<Option<Told>, RunFault>
         requires { IsPlayable K.Keep self.old }
         ensures { IsOfEnds event.now
@@ -94,7 +94,7 @@ impl<K: Keep> Stage<K> {
             Event::StopAfter(asking) => self.stop(asking, true),
             Event::Clock { wait } => {
                 let told = self.clock(*wait);
-                self.with_told(told)
+                Ok((self, Some(told)))
             }
             Event::Stranger { name, bytes } => {
                 let told = self.visit(name, bytes.as_slice());

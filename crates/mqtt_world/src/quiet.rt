@@ -1,6 +1,6 @@
 //! How ends come to be, and what they do while the broker is asked for nothing (MQTT 5.0, 3.1.3.1, 3.3, 3.8, 4.4).
 ghost use Rattle.std.specs.Prelude.{◌≡◌, ℕ, List, IfOk};
-ghost use Rattle.mqtt_laws.specs.World.{Stranger, give_up, is_bad, is_bad_name, is_taken, is_window, publish};
+ghost use Rattle.mqtt_laws.specs.World.{Stranger, give_up, is_bad, is_bad_name, is_window, publish};
 ghost use Rattle.mqtt_laws.specs.World.{publisher, receiver, subscribe, to_end};
 ghost use Rattle.mqtt_peers.specs.Publishers.{draft_of};
 ghost use Rattle.mqtt_peers.specs.Receivers.{wish_of};
@@ -30,18 +30,11 @@ fn is_window(window: u16) -> bool
 }
 
 impl<K: Keep> Scene<K> {
-    /// Whether an end or a session has the name. Takes no memory.
-    fn is_taken(&self, client: &str) -> bool
-        ensures { (now : ℕ) (ss : List Stranger) → result ≡ is_taken client.now (world_of now ss self.now) }
-    {
-        self.clients.is_end(client) || self.engine.queue_len(client).is_some()
-    }
-
     fn is_bad_publisher(&self, client: &str) -> bool
         ensures { (now : ℕ) (ss : List Stranger) → result
             ≡ is_bad (publisher client.now) (world_of now ss self.now) }
     {
-        is_bad_name(client) || self.is_taken(client)
+        is_bad_name(client) || self.clients.is_end(client)
     }
 
     fn is_bad_receiver(&self, client: &str, window: u16) -> bool
@@ -65,7 +58,7 @@ impl<K: Keep> Scene<K> {
         Ok(!self.clients.may_ask(client) || !is_wish(alloc, wish)?)
     }
 
-    /// A publisher is made, if the name is free.
+    /// A publisher is made, if no end has the name.
     pub(crate) fn make_publisher(
         &mut self,
         alloc: Global,
@@ -82,7 +75,7 @@ impl<K: Keep> Scene<K> {
         Ok(Some(Told::silent(alloc)))
     }
 
-    /// A receiver is made, if the name is free. `window` is its Receive Maximum (3.1.2.11.3).
+    /// A receiver is made, if no end has the name. `window` is its Receive Maximum (3.1.2.11.3).
     pub(crate) fn make_receiver(
         &mut self,
         alloc: Global,

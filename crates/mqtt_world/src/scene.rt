@@ -35,10 +35,10 @@ impl<K: Keep> Model for Scene<K> {
 }
 
 /// The moment that the broker is handed: none is later than the last number. Takes no memory.
-pub(crate) fn moment(now: u128) -> u64
+pub(crate) fn moment(now: u64) -> u64
     ensures { result ≡ min now LAST_NUMBER }
 {
-    now.min(u128::from(LAST_NUMBER)) as u64
+    now.min(LAST_NUMBER)
 }
 
 /// Why a refused call ends the world.
@@ -87,7 +87,7 @@ impl<K: Keep> Scene<K> {
     }
 
     /// A line is linked, and gets the next number, if there is room for it. Takes no memory.
-    pub(crate) fn link(&mut self, now: u128) -> Option<u64>
+    pub(crate) fn link(&mut self, now: u64) -> Option<u64>
         requires { IsPlayable K.Keep self.old }
         ensures line { result ≡ next_line self.old.engine.running.broker }
         ensures calls { Calls K.Keep now NewLine self.old silent self.new }
@@ -98,7 +98,7 @@ impl<K: Keep> Scene<K> {
     }
 
     /// What waits for the session of a line is sent (4.6, 4.9).
-    pub(crate) fn pump(&mut self, line: u64, now: u128) -> Result<Told, RunFault>
+    pub(crate) fn pump(&mut self, line: u64, now: u64) -> Result<Told, RunFault>
         requires { IsPlayable K.Keep self.old }
         ensures { IfOk result (λ t. Calls K.Keep now (Pump line) self.old t self.new) }
     {
@@ -109,7 +109,7 @@ impl<K: Keep> Scene<K> {
     }
 
     /// A line is lost (4.1).
-    pub(crate) fn lose(&mut self, line: u64, now: u128) -> Result<Told, RunFault>
+    pub(crate) fn lose(&mut self, line: u64, now: u64) -> Result<Told, RunFault>
         requires { IsPlayable K.Keep self.old }
         ensures { IfOk result (λ t. Calls K.Keep now (Lost line) self.old t self.new) }
     {
@@ -120,7 +120,7 @@ impl<K: Keep> Scene<K> {
     }
 
     /// The broker looks at the moment.
-    pub(crate) fn tick(&mut self, now: u128) -> Result<Told, RunFault>
+    pub(crate) fn tick(&mut self, now: u64) -> Result<Told, RunFault>
         requires { IsPlayable K.Keep self.old }
         ensures { IfOk result (λ t. Calls K.Keep now Tick self.old t self.new) }
     {
@@ -131,7 +131,7 @@ impl<K: Keep> Scene<K> {
     }
 
     /// A packet comes on a line (3, 4).
-    pub(crate) fn input(&mut self, line: u64, packet: &Packet, now: u128) -> Result<Told, RunFault>
+    pub(crate) fn input(&mut self, line: u64, packet: &Packet, now: u64) -> Result<Told, RunFault>
         requires playable { IsPlayable K.Keep self.old }
         requires taken { IsTaken packet.now }
         ensures { IfOk result (λ t. Calls K.Keep now (Input line packet.now) self.old t self.new) }
@@ -143,7 +143,7 @@ impl<K: Keep> Scene<K> {
     }
 
     /// Bytes come on a line, which holds none: a packet or a fault, and nothing behind it (2.1, 4.13).
-    pub(crate) fn give(&mut self, line: u64, bytes: &[u8], now: u128) -> Result<Told, RunFault>
+    pub(crate) fn give(&mut self, line: u64, bytes: &[u8], now: u64) -> Result<Told, RunFault>
         requires playable { IsPlayable K.Keep self.old }
         requires left { held_after bytes.now ≡ [] }
         requires within { length bytes.now ≤ PACKET_LIMIT }

@@ -1,6 +1,6 @@
 //! A world that stands: a broker with its ends, strangers and the moment (MQTT 5.0, 4.1 to 4.4).
 
-ghost use Rattle.std.specs.Prelude.{IfOk};
+ghost use Rattle.std.specs.Prelude.{IfOk, Some};
 ghost use Rattle.mqtt_laws.specs.World.{clock, restart};
 ghost use Rattle.mqtt_world.specs.Stages.{IsStanding, Plays, Restages};
 
@@ -8,6 +8,7 @@ use crate::scene::Scene;
 use mqtt_broker::{Keep, Limits};
 use mqtt_peers::{RunFault, Told};
 use mqtt_strangers::Strangers;
+use mqtt_verdicts::later;
 use std::alloc::Global;
 use std::hash::RandomState;
 use std::marker::Model;
@@ -18,7 +19,7 @@ use std::marker::Model;
 pub(crate) struct Stage<K: Keep> {
     pub(crate) scene: Scene<K>,
     pub(crate) strangers: Strangers,
-    pub(crate) now: u128,
+    pub(crate) now: u64,
     pub(crate) limits: Limits,
     pub(crate) hasher: RandomState,
     pub(crate) alloc: Global,
@@ -67,17 +68,12 @@ impl<K: Keep> Stage<K> {
         }
     }
 
-    /// Time passes: milliseconds, while their sum fits.
-    pub(crate) fn clock(&mut self, wait: u64) -> Result<Option<Told>, RunFault>
+    /// Time passes: milliseconds. A sum above 2^62 is taken as 2^62.
+    pub(crate) fn clock(&mut self, wait: u64) -> Told
         requires { IsStanding K.Keep self.old }
-        ensures { IfOk result (λ t. Plays K.Keep (clock wait) self.old t self.new) }
+        ensures { Plays K.Keep (clock wait) self.old (Some result) self.new }
     {
-        match self.now.checked_add(u128::from(wait)) {
-            Some(now) => {
-                self.now = now;
-                Ok(Some(Told::silent(self.alloc)))
-            }
-            None => Err(RunFault::Memory),
-        }
+        self.now = later(self.now, wait);
+        Told::silent(self.alloc)
     }
 }

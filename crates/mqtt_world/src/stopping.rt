@@ -21,7 +21,7 @@ use std::alloc::{AllocError, Global};
 
 impl<K: Keep> Scene<K> {
     /// What is asked of the broker, by no stranger, happens.
-    fn ask(&mut self, alloc: Global, asking: &Asking, now: u128) -> Result<Option<Told>, RunFault>
+    fn ask(&mut self, alloc: Global, asking: &Asking, now: u64) -> Result<Option<Told>, RunFault>
         requires playable { IsPlayable K.Keep self.old }
         requires plain { IsPlain (asking_of asking.now) }
         ensures { IfOk result (λ t. Does K.Keep now (ask (asking_of asking.now)) self.old t self.new) }

@@ -58,7 +58,7 @@ impl<K: Keep> Scene<K> {
         &mut self,
         line: Option<u64>,
         bytes: &[u8],
-        now: u128,
+        now: u64,
         told: &mut Told,
     ) -> Result<(), RunFault>
         requires playable { IsPlayable K.Keep self.old }

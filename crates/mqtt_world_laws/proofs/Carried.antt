@@ -19,7 +19,7 @@ use Rattle.mqtt_rules.proofs.Leads.{row_among}
 use Rattle.mqtt_rules.proofs.Copies.{each_append}
 use Rattle.mqtt_laws.specs.Ends.{Content, no_content, content_at, Sent, shake, plain, Publisher, new_publisher, wire, message_in}
 use Rattle.mqtt_laws.specs.World.{World, Setting, Event, publisher, receiver, connect_end, give_up, publish, subscribe, to_end, clock, ask, restart, stop_before, stop_after, Asking, to_broker, old_to_broker, break, pump, tick, stranger, publisher_named, receiver_named, with_line, taken_up, taken_old, input_on, view_by, first_step, is_bad, happens}
-use Rattle.mqtt_laws.specs.Run.{Turn, setting, turned, run, deeds_at, From, from_message, each_from, from_over, client_message, front_message, front_of_line, front_of_old, asked_from, message_read, accepted_at, carries_clean, are_clean_starts_carried, read_if, read_first, read_opening, read_in, read_at, the_deeds}
+use Rattle.mqtt_laws.specs.Run.{Turn, setting, turned, run, deeds_at, From, from_message, each_from, from_over, client_message, front_message, front_of_line, front_of_old, asked_from, message_read, accepted_at, begins_clean, are_beginnings_clean, read_if, read_first, read_opening, read_in, read_at, the_deeds}
 use Rattle.mqtt_laws.specs.Laws.{Carries, contents_by}
 use Rattle.mqtt_laws.specs.Hops.{IsOurs, Own}
 use Rattle.mqtt_laws.specs.Seats.{Former, Present, absent, closed, joined, late, lingers, over, waiting, IsHis, connected_at}
@@ -291,12 +291,12 @@ turn_tells t c limits accepted from w h = by (is_bad t.event w) refl
         let says = event_says t.event c set h.stays.his accepted from w h.stays.holds h.tells in
         event_tells t.event c set w (from ++ each_from (message_read c t.event w) (read_in the_deeds set t.event w)) is (tells_more (publisher_named c w) from _ h.tells says)
 
-run_tells : (ts : List Turn) (c : List ℕ) (limits : Limits) (accepted : List ℕ) (from : List From) (w : World) → Told c limits accepted from w → run_spends limits ts w ≡ false → are_clean_starts_carried limits ts w ≡ true
+run_tells : (ts : List Turn) (c : List ℕ) (limits : Limits) (accepted : List ℕ) (from : List From) (w : World) → Told c limits accepted from w → run_spends limits ts w ≡ false → are_beginnings_clean limits ts w ≡ true
     → Tells (publisher_named c (run limits ts w)) (from ++ from_over c limits ts w)
 run_tells [] c limits accepted from w h unspent carried = subst (λ (xs : List From). Tells (publisher_named c w) xs) (sym (append-nil from)) h.tells
 run_tells (t ∷ ts) c limits accepted from w h unspent carried =
     let costs = either (read_at spending (setting limits t) t.event w) (run_spends limits ts (turned limits t w)) unspent in
-    let clean = both_true (carries_clean t.event w) (are_clean_starts_carried limits ts (turned limits t w)) carried in
+    let clean = both_true (begins_clean t.event w) (are_beginnings_clean limits ts (turned limits t w)) carried in
     let stays = turn_stays t c limits accepted w h.stays clean.0 costs.0 in
     let more = accepted ++ accepted_at c (setting limits t) t.event w in
     let next : Told c limits more (from ++ from_at c limits t w) (turned limits t w) = record { stays = stays; tells = turn_tells t c limits accepted from w h } in
@@ -312,7 +312,7 @@ all_carried limits ts w new fair c =
       stays = new_stays c limits w fair.within new;
       tells = subst (λ (o : Option Publisher). Tells o []) (sym nobody) refl;
     } in
-    let tells = run_tells ts c limits [] [] w first fair.unspent fair.carried in
+    let tells = run_tells ts c limits [] [] w first fair.unspent fair.clean in
     by (publisher_named c (run limits ts w)) refl tells
   where
     by : (o : Option Publisher) → publisher_named c (run limits ts w) ≡ o → Tells o (from_over c limits ts w) → AllByRecursion (CarriesIn c (contents_by o)) (from_over c limits ts w)

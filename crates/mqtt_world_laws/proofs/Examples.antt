@@ -10,14 +10,14 @@ use Rattle.mqtt_rules.proofs.Play.{usual, topic, options}
 use Rattle.mqtt_laws.specs.Ends.{Publisher, Wish}
 use Rattle.mqtt_laws.specs.World.{Event, publisher, receiver, connect_end, give_up, publish, subscribe, ask, break, restart, stop_before, stop_after, to_broker, old_to_broker, stranger, publisher_named, start}
 use Rattle.mqtt_laws.specs.Laws.{fate_of, standing}
-use Rattle.mqtt_laws.specs.Run.{run, are_clean_starts_carried}
+use Rattle.mqtt_laws.specs.Run.{run, are_beginnings_clean}
 use Rattle.mqtt_laws.proofs.Scripts.{turns, p1, r1, draft, joins, exchange}
 use Rattle.mqtt_world_laws.specs.Spending.{run_spends}
 use Rattle.mqtt_world_laws.specs.Once.{times_accepted}
 use Rattle.mqtt_world_laws.specs.Copies.{entered_from, ended_from}
 
 abbrev is_fair : List Event → Bool
-is_fair es = not (run_spends usual (turns es) start) && are_clean_starts_carried usual (turns es) start
+is_fair es = not (run_spends usual (turns es) start) && are_beginnings_clean usual (turns es) start
 
 abbrev times : List Event → ℕ
 times es = times_accepted p1 0 usual (turns es) start

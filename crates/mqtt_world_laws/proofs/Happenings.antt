@@ -1,6 +1,6 @@
 -- What ends do, in the eyes of one publisher: they come, join, give a line up, publish, subscribe and read.
 use Rattle.std.proofs.Common.{◌≡◌, ℕ, Bool, true, false, cond, not, ◌||◌, ◌&&◌, List, [], ◌∷◌, ◌++◌, length, Option, Some, None, nat_eq, nat_lt, bytes_eq, refl, sym, ap, subst, ◌∙◌, inl, inr}
-use Rattle.std.specs.Prelude.{option_map, is_some}
+use Rattle.std.specs.Prelude.{option_map, is_none, is_some}
 use Rattle.std.specs.List.{AllByRecursion, starts_with}
 use Rattle.std.proofs.lemmas.Bool.{cases_Bool}
 use Rattle.std.proofs.lemmas.Slice.Eq.{bytes_eq-Decides}
@@ -12,8 +12,8 @@ use Rattle.mqtt_rules.specs.State.{Broker, session_named}
 use Rattle.mqtt_rules.specs.Laws.{IsAmong}
 use Rattle.mqtt_laws.specs.Lines.{Line, gives_up}
 use Rattle.mqtt_laws.specs.Ends.{Draft, Sent, Publisher, new_publisher, published, publisher_reads, Wish, Back, Receiver, new_receiver, receiver_reads}
-use Rattle.mqtt_laws.specs.World.{World, Setting, publisher, receiver, give_up, publish, subscribe, to_end, clock, happens, is_bad, is_bad_name, is_taken, is_window, link_by, publisher_named, receiver_named, with_publisher, is_open_line, asks_wish}
-use Rattle.mqtt_laws.specs.Run.{is_asked, is_clean, carries_clean}
+use Rattle.mqtt_laws.specs.World.{World, Setting, publisher, receiver, give_up, publish, subscribe, to_end, clock, happens, is_bad, is_bad_name, is_end, is_window, link_by, publisher_named, receiver_named, with_publisher, is_open_line, asks_wish}
+use Rattle.mqtt_laws.specs.Run.{is_asked, is_clean, begins_clean}
 use Rattle.mqtt_laws.specs.Seen.{open_in, seen}
 use Rattle.mqtt_laws.specs.Hops.{MayGiveUp}
 use Rattle.mqtt_laws.specs.Seats.{IsNamed, absent, over}
@@ -31,6 +31,10 @@ either false b h = (refl, h)
 not_some : {X : Type 0} (o : Option X) → is_some o ≡ false → o ≡ None
 not_some None e = refl
 not_some (Some x) e = absurd cc
+
+is_nothing : {X : Type 0} (o : Option X) → is_none o ≡ true → o ≡ None
+is_nothing None e = refl
+is_nothing (Some x) e = absurd cc
 
 -- ---- a publisher comes
 
@@ -65,8 +69,9 @@ unlined his given l e f = record {
   old_number = λ j is. let clash : None ≡ Some j = sym f ∙ is in absurd cc;
 }
 
-pub publisher_comes : (c d : List ℕ) (set : Setting) (his accepted : List ℕ) (w : World) → Holds c set.limits his accepted w → is_bad (publisher d) w ≡ false → Holds c set.limits his accepted (happens set (publisher d) w)
-publisher_comes c d set his accepted w h good = elim (cases_Bool (bytes_eq d c)) [
+pub publisher_comes : (c d : List ℕ) (set : Setting) (his accepted : List ℕ) (w : World) → Holds c set.limits his accepted w → is_bad (publisher d) w ≡ false → begins_clean (publisher d) w ≡ true
+    → Holds c set.limits his accepted (happens set (publisher d) w)
+publisher_comes c d set his accepted w h good clean = elim (cases_Bool (bytes_eq d c)) [
   | inl its ↦ own ((bytes_eq-Decides d c).0 its)
   | inr other ↦ others other
 ]
@@ -96,9 +101,8 @@ publisher_comes c d set his accepted w h good = elim (cases_Bool (bytes_eq d c))
 
     own : d ≡ c → Goal
     own is =
-        let name = either (is_bad_name d) (is_taken d w) good in
-        let free = either (is_some (publisher_named d w) || is_some (receiver_named d w)) (is_some (session_named d w.broker.records)) name.1 in
-        let ends = either (is_some (publisher_named d w)) (is_some (receiver_named d w)) free.0 in
+        let name = either (is_bad_name d) (is_end d w) good in
+        let ends = either (is_some (publisher_named d w)) (is_some (receiver_named d w)) name.1 in
         let nobody : publisher_named c w ≡ None = not_some (publisher_named c w) (ap (λ (x : List ℕ). is_some (publisher_named x w)) (sym is) ∙ ends.0) in
         let found : publisher_named c (happens set (publisher d) w) ≡ Some (new_publisher d) =
         find_last (λ (p : Publisher). bytes_eq p.client c) (new_publisher d) w.publishers ((bytes_eq-Decides d c).1 is) nobody in
@@ -116,7 +120,7 @@ publisher_comes c d set his accepted w h good = elim (cases_Bool (bytes_eq d c))
           };
           him = subst (Him his w.broker accepted) (sym found)
               (subst (λ (ns : List ℕ). Placed his (new_publisher d) w.broker ns) (sym none)
-              (new_placed d his w.broker h.around.none name.0 (not_some (session_named d w.broker.records) free.1)));
+              (new_placed d his w.broker h.around.none name.0 (is_nothing (session_named d w.broker.records) clean)));
         }
 
 -- ---- a receiver comes
@@ -125,10 +129,9 @@ pub receiver_comes : (c d : List ℕ) (window : ℕ) (set : Setting) (his accept
     → Holds c set.limits his accepted (happens set (receiver d window) w)
 receiver_comes c d window set his accepted w h good =
     let new = new_receiver d window w.broker.records.births in
-    let name = either (is_bad_name d) (is_taken d w || not (is_window window)) good in
-    let there = either (is_taken d w) (not (is_window window)) name.1 in
-    let free = either (is_some (publisher_named d w) || is_some (receiver_named d w)) (is_some (session_named d w.broker.records)) there.0 in
-    let ends = either (is_some (publisher_named d w)) (is_some (receiver_named d w)) free.0 in
+    let name = either (is_bad_name d) (is_end d w || not (is_window window)) good in
+    let there = either (is_end d w) (not (is_window window)) name.1 in
+    let ends = either (is_some (publisher_named d w)) (is_some (receiver_named d w)) there.0 in
     record {
       around = record {
         within = h.around.within;
@@ -157,11 +160,11 @@ may_give live clean h = tt
 may_give asked true h = absurd cc
 may_give asked false h = refl
 
-pub given_up_holds : (c d : List ℕ) (set : Setting) (his accepted : List ℕ) (w : World) → Holds c set.limits his accepted w → carries_clean (give_up d) w ≡ true → Holds c set.limits his accepted (happens set (give_up d) w)
+pub given_up_holds : (c d : List ℕ) (set : Setting) (his accepted : List ℕ) (w : World) → Holds c set.limits his accepted w → begins_clean (give_up d) w ≡ true → Holds c set.limits his accepted (happens set (give_up d) w)
 given_up_holds c d set his accepted w h carried = elim (whose_name c d w) [
   | inr not_him ↦ line_others c d set.limits his accepted w gives_his gives_theirs (λ l. gives_free his w.broker.given l.link l) (λ l. gives_free his w.broker.given l.link l) not_him h
   | inl own ↦ subst (λ (x : List ℕ). Holds c set.limits his accepted (happens set (give_up x) w)) (sym own.2)
-      (own_gives own.0 own.1 (subst (λ (x : List ℕ). carries_clean (give_up x) w ≡ true) own.2 carried))
+      (own_gives own.0 own.1 (subst (λ (x : List ℕ). begins_clean (give_up x) w ≡ true) own.2 carried))
 ]
   where
     gives_his : Line Sent → Line Sent
@@ -170,14 +173,14 @@ given_up_holds c d set his accepted w h carried = elim (whose_name c d w) [
     gives_theirs : Line Back → Line Back
     gives_theirs l = gives_up l.link l
 
-    own_gives : (p : Publisher) → publisher_named c w ≡ Some p → carries_clean (give_up c) w ≡ true → Holds c set.limits his accepted (happens set (give_up c) w)
+    own_gives : (p : Publisher) → publisher_named c w ≡ Some p → begins_clean (give_up c) w ≡ true → Holds c set.limits his accepted (happens set (give_up c) w)
     own_gives p e carries =
         let placed = subst (Him his w.broker accepted) e h.him in
         let may = may_give p.line.link p.line.clean (sym (by e) ∙ carries) in
         own_holds c set.limits his accepted w p (on_line gives_his) (on_back gives_theirs) (λ q. refl) (λ q. refl) e h.around
         (placed_does his p (on_line gives_his p) w.broker accepted placed (gives placed.birth placed.line p w.broker accepted placed.seat placed.settled placed.run may))
       where
-        by : publisher_named c w ≡ Some p → carries_clean (give_up c) w ≡ not (is_asked (Some p.line.link) && p.line.clean)
+        by : publisher_named c w ≡ Some p → begins_clean (give_up c) w ≡ not (is_asked (Some p.line.link) && p.line.clean)
         by e = ap (λ (o : Option Publisher). not (is_asked (link_by o (receiver_named c w)) && clean_of o)) e
           where
             clean_of : Option Publisher → Bool

@@ -10,7 +10,7 @@ use Rattle.mqtt_rules.specs.Step.{NewLine, can_link, stepped, told}
 use Rattle.mqtt_laws.specs.Lines.{Line, joined}
 use Rattle.mqtt_laws.specs.Ends.{Sent, shake, Publisher, Back, answers}
 use Rattle.mqtt_laws.specs.World.{World, Setting, connect_end, happens, is_bad, is_away, link_by, publisher_named, receiver_named, publisher_told, receiver_told, calls, links}
-use Rattle.mqtt_laws.specs.Run.{is_clean, carries_clean}
+use Rattle.mqtt_laws.specs.Run.{is_clean, begins_clean}
 use Rattle.mqtt_laws.specs.Hops.{MayJoin, joined_by}
 use Rattle.mqtt_laws.specs.Seats.{Comes}
 use Rattle.mqtt_laws.proofs.Doings.{joins}
@@ -121,7 +121,7 @@ so_clean true was h is = refl
 so_clean false true h is = absurd cc
 so_clean false false h is = absurd cc
 
-pub joined_stays : (c d : List ℕ) (clean : Bool) (set : Setting) (accepted : List ℕ) (w : World) → Stays c set.limits accepted w → is_bad (connect_end d clean) w ≡ false → carries_clean (connect_end d clean) w ≡ true
+pub joined_stays : (c d : List ℕ) (clean : Bool) (set : Setting) (accepted : List ℕ) (w : World) → Stays c set.limits accepted w → is_bad (connect_end d clean) w ≡ false → begins_clean (connect_end d clean) w ≡ true
     → Stays c set.limits accepted (happens set (connect_end d clean) w)
 joined_stays c d clean set accepted w stay good carried = by (can_link w.broker) refl
   where
@@ -135,7 +135,7 @@ joined_stays c d clean set accepted w stay good carried = by (can_link w.broker)
           let free : not (is_away (Some p.line.link)) ≡ false =
           sym (ap (λ (o : Option Publisher). not (is_away (link_by o r))) own.1) ∙ subst (λ (x : List ℕ). is_bad (connect_end x clean) w ≡ false) own.2 good in
           let kept : (clean || not p.line.clean) ≡ true =
-          sym (ap (λ (o : Option Publisher). clean || not (is_clean o r)) own.1) ∙ subst (λ (x : List ℕ). carries_clean (connect_end x clean) w ≡ true) own.2 carried in
+          sym (ap (λ (o : Option Publisher). clean || not (is_clean o r)) own.1) ∙ subst (λ (x : List ℕ). begins_clean (connect_end x clean) w ≡ true) own.2 carried in
           subst (λ (x : List ℕ). Stays c set.limits accepted (links set (Some (suc w.broker.given)) x clean w)) (sym own.2)
           (his_joins c d clean set accepted w can stay.his p stay.holds own.1 (so_away p.line.link free) (so_clean clean p.line.clean kept))
     ]

@@ -10,7 +10,7 @@ use Rattle.mqtt_rules.specs.State.{Broker, MemberChoice}
 use Rattle.mqtt_rules.specs.Laws.{AreWithin, FewOpen, HasFewOpen, HasTables}
 use Rattle.mqtt_laws.specs.Ends.{Publisher, Receiver}
 use Rattle.mqtt_laws.specs.World.{World, Setting, Event, publisher, receiver, connect_end, give_up, publish, subscribe, to_end, clock, ask, restart, stop_before, stop_after, to_broker, old_to_broker, break, pump, tick, stranger, publisher_named, is_bad, first_step, happens, start}
-use Rattle.mqtt_laws.specs.Run.{Turn, setting, turned, run, message_read, each_of, accepted_at, accepted_over, carries_clean, are_clean_starts_carried, asked_from, read_first, read_opening, read_in, read_at, the_deeds}
+use Rattle.mqtt_laws.specs.Run.{Turn, setting, turned, run, message_read, each_of, accepted_at, accepted_over, begins_clean, are_beginnings_clean, asked_from, read_first, read_opening, read_in, read_at, the_deeds}
 use Rattle.mqtt_laws.specs.Laws.{fate_by}
 use Rattle.mqtt_laws.proofs.Projected.{at_most_once, none_unsent, once_completed, none_refused, some_acknowledged}
 use Rattle.mqtt_world_laws.specs.Spending.{run_spends, spending}
@@ -43,9 +43,9 @@ quietly c limits his accepted w h = record { his = his; holds = subst (λ (ns : 
 quiet : (c : List ℕ) (limits : Limits) (accepted : List ℕ) (w : World) → Stays c limits accepted w → Stays c limits (accepted ++ []) w
 quiet c limits accepted w s = quietly c limits s.his accepted w s.holds
 
-happens_stays : (e : Event) (c : List ℕ) (set : Setting) (accepted : List ℕ) (w : World) → Stays c set.limits accepted w → is_bad e w ≡ false → carries_clean e w ≡ true → read_in spending set e w ≡ false
+happens_stays : (e : Event) (c : List ℕ) (set : Setting) (accepted : List ℕ) (w : World) → Stays c set.limits accepted w → is_bad e w ≡ false → begins_clean e w ≡ true → read_in spending set e w ≡ false
     → Stays c set.limits (accepted ++ each_of (message_read c e w) (read_in the_deeds set e w)) (happens set e w)
-happens_stays (publisher d) c set accepted w s good carried unspent = quietly c set.limits s.his accepted _ (publisher_comes c d set s.his accepted w s.holds good)
+happens_stays (publisher d) c set accepted w s good carried unspent = quietly c set.limits s.his accepted _ (publisher_comes c d set s.his accepted w s.holds good carried)
 happens_stays (receiver d window) c set accepted w s good carried unspent = quietly c set.limits s.his accepted _ (receiver_comes c d window set s.his accepted w s.holds good)
 happens_stays (connect_end d clean) c set accepted w s good carried unspent = quiet c set.limits accepted _ (joined_stays c d clean set accepted w s good carried)
 happens_stays (give_up d) c set accepted w s good carried unspent = quietly c set.limits s.his accepted _ (given_up_holds c d set s.his accepted w s.holds carried)
@@ -73,7 +73,7 @@ none_each : (o : Option ℕ) → each_of o [] ≡ []
 none_each None = refl
 none_each (Some n) = refl
 
-pub turn_stays : (t : Turn) (c : List ℕ) (limits : Limits) (accepted : List ℕ) (w : World) → Stays c limits accepted w → carries_clean t.event w ≡ true → read_at spending (setting limits t) t.event w ≡ false
+pub turn_stays : (t : Turn) (c : List ℕ) (limits : Limits) (accepted : List ℕ) (w : World) → Stays c limits accepted w → begins_clean t.event w ≡ true → read_at spending (setting limits t) t.event w ≡ false
     → Stays c limits (accepted ++ accepted_at c (setting limits t) t.event w) (turned limits t w)
 turn_stays t c limits accepted w s carried unspent = by (is_bad t.event w) refl unspent
   where
@@ -85,12 +85,12 @@ turn_stays t c limits accepted w s carried unspent = by (is_bad t.event w) refl 
     by true is u = subst (λ (ns : List ℕ). Stays c limits (accepted ++ ns) w) (sym (none_each (message_read c t.event w))) (quiet c limits accepted w s)
     by false is u = happens_stays t.event c set accepted w s is carried u
 
-run_stays : (ts : List Turn) (c : List ℕ) (limits : Limits) (accepted : List ℕ) (w : World) → Stays c limits accepted w → run_spends limits ts w ≡ false → are_clean_starts_carried limits ts w ≡ true
+run_stays : (ts : List Turn) (c : List ℕ) (limits : Limits) (accepted : List ℕ) (w : World) → Stays c limits accepted w → run_spends limits ts w ≡ false → are_beginnings_clean limits ts w ≡ true
     → Stays c limits (accepted ++ accepted_over c limits ts w) (run limits ts w)
 run_stays [] c limits accepted w s unspent carried = quiet c limits accepted w s
 run_stays (t ∷ ts) c limits accepted w s unspent carried =
     let costs = either (read_at spending (setting limits t) t.event w) (run_spends limits ts (turned limits t w)) unspent in
-    let clean = both_true (carries_clean t.event w) (are_clean_starts_carried limits ts (turned limits t w)) carried in
+    let clean = both_true (begins_clean t.event w) (are_beginnings_clean limits ts (turned limits t w)) carried in
     let now_ = accepted_at c (setting limits t) t.event w in
     let next = turn_stays t c limits accepted w s clean.0 costs.0 in
     subst (λ (ns : List ℕ). Stays c limits ns (run limits (t ∷ ts) w)) (append_assoc accepted now_ (accepted_over c limits ts (turned limits t w)))
@@ -120,7 +120,7 @@ new_stays c limits w within new = record {
 }
 
 pub fair_run_stays : (limits : Limits) (ts : List Turn) (w : World) → IsNew limits w → IsFair limits ts w → (c : List ℕ) → Stays c limits (accepted_over c limits ts w) (run limits ts w)
-fair_run_stays limits ts w new fair c = run_stays ts c limits [] w (new_stays c limits w fair.within new) fair.unspent fair.carried
+fair_run_stays limits ts w new fair c = run_stays ts c limits [] w (new_stays c limits w fair.within new) fair.unspent fair.clean
 
 -- ---- what it says of his messages
 

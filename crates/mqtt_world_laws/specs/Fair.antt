@@ -9,7 +9,7 @@ use Rattle.mqtt_rules.specs.Lines.{HasUniqueLines}
 use Rattle.mqtt_rules.specs.Numbers.{IsTimed}
 use Rattle.mqtt_rules.specs.Step.{opened, is_opening_spent}
 use Rattle.mqtt_laws.specs.World.{World}
-use Rattle.mqtt_laws.specs.Run.{Turn, are_clean_starts_carried}
+use Rattle.mqtt_laws.specs.Run.{Turn, are_beginnings_clean}
 use Rattle.mqtt_world_laws.specs.Spending.{run_spends}
 
 -- the tables of the broker are in order and within the limits, and so are its lines
@@ -43,9 +43,9 @@ pub record MayOpen (limits : Limits) (choice : MemberChoice) (now : ℕ) (r : Re
   pub room : length r.sessions ≤ limits.sessions
   pub unspent : is_opening_spent limits choice now r ≡ false
 
--- what is asked of a run: the limits are within those of the tables, no number is spent, and each Clean Start is
--- carried through (3.1.2.4, ours); whatever else its events are
+-- what is asked of a run: the limits are within those of the tables, no number is spent, no session of an end's name
+-- stands when it is made, and each Clean Start is carried through (3.1.2.4, ours); whatever else its events are
 pub record IsFair (limits : Limits) (ts : List Turn) (w : World) : Type 0 where
   pub within : AreWithin limits
   pub unspent : run_spends limits ts w ≡ false
-  pub carried : are_clean_starts_carried limits ts w ≡ true
+  pub clean : are_beginnings_clean limits ts w ≡ true

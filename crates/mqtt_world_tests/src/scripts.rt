@@ -156,3 +156,56 @@ fn strangers_are_answered_packet_by_packet(rt: HostRuntime) -> Result<(), Fail> 
     );
     Ok(())
 }
+
+/// A publisher connects, and is given a message of QoS 0.
+const PLAIN: &str = "publisher p1;connect p1 0;tobroker p1;toend p1;publish p1 0 0 a/b 6869";
+
+/// What it tells.
+const PLAIN_TEXT: &str = "1 publisher\n2 connect\n3 tobroker out=1\n4 toend\n5 publish\n";
+
+#[test]
+fn a_message_of_qos_0_counts_when_it_has_gone_out(rt: HostRuntime) -> Result<(), Fail> {
+    let hasher = RandomState::new(&rt)?;
+    let (is_right, sight) = sight_behind(
+        rt.alloc(),
+        hasher,
+        (PLAIN, PLAIN_TEXT),
+        ("tobroker p1", "1 tobroker accepted=1\n"),
+    )?;
+    assert!(rt; is_right, "what it tells");
+    assert!(rt;
+        sight
+            == Sight {
+                messages: (Some(1), Some(0)),
+                copies: (None, None, None),
+                broker: (Some(1), Some(1)),
+            },
+        "{sight:?}"
+    );
+    Ok(())
+}
+
+/// A stranger's CONNECT has the client identifier p1, and its session stays.
+const TAKEN: &str = "stranger s 101400044d515454050000000511ffffffff00027031";
+
+#[test]
+fn an_end_is_made_where_a_session_has_its_name(rt: HostRuntime) -> Result<(), Fail> {
+    let hasher = RandomState::new(&rt)?;
+    let (is_right, sight) = sight_behind(
+        rt.alloc(),
+        hasher,
+        (TAKEN, "1 stranger out=1\n"),
+        ("publisher p1", "1 publisher\n"),
+    )?;
+    assert!(rt; is_right, "what it tells");
+    assert!(rt;
+        sight
+            == Sight {
+                messages: (Some(0), Some(0)),
+                copies: (None, None, None),
+                broker: (Some(0), Some(1)),
+            },
+        "{sight:?}"
+    );
+    Ok(())
+}

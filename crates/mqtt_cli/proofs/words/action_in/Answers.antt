@@ -12,7 +12,7 @@ returns-in_err-file c =
     let rows_are = rows_in-view c.args.matches.now _ found met.name met.rows c.if-ne.ensures in
     asks_nothing (subcommand_rows_of c.args.matches.now) c.from_residual-in_err-file.result c.from_residual-in_err-file.ensures
     (rw rows_are (sym (c.in_err-file.ensures ∙ first_value-rows found (codes "file"))))
-    (ap file_in (replay_rows_in-other c.args.matches.now _ found met.name met.rows c.if-eq-3.ensures))
+    (replay_rows_in-other c.args.matches.now _ found met.name met.rows c.if-eq-3.ensures)
     (is_vectors-met c.args.matches.now _ found _ met.name met.rows c.if-eq.ensures)
     (serve_rows_in-other c.args.matches.now _ found met.name met.rows c.if-eq-2.ensures)
 
@@ -22,7 +22,7 @@ returns-then-ne c =
     let found = found_of c.in_ok-name.view.now in
     asks_nothing (subcommand_rows_of c.args.matches.now) None refl
     (ap file_in (rows_in-other c.args.matches.now _ found met.name met.rows c.if-ne.ensures))
-    (ap file_in (replay_rows_in-other c.args.matches.now _ found met.name met.rows c.if-eq-3.ensures))
+    (replay_rows_in-other c.args.matches.now _ found met.name met.rows c.if-eq-3.ensures)
     (is_vectors-met c.args.matches.now _ found _ met.name met.rows c.if-eq.ensures)
     (serve_rows_in-other c.args.matches.now _ found met.name met.rows c.if-eq-2.ensures)
 

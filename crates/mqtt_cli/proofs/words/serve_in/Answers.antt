@@ -1,7 +1,7 @@
 use Rattle.std.proofs.Common.{Some, codes, sym, ◌∙◌}
 use Rattle.clap.specs.Words.{found_of, rows_of}
 use Rattle.clap.proofs.WalkLemmas.{first_value-rows}
-use Rattle.mqtt_cli.proofs.Commands.{asks_no_server, no_server-address, no_server-count, no_server-db, no_server-listen, no_server-turns}
+use Rattle.mqtt_cli.proofs.Commands.{asks_no_server, no_server-address, no_server-count, no_server-db, no_server-limits, no_server-listen, no_server-turns}
 use Rattle.mqtt_cli.proofs.words.serve_in.Goals as goal
 
 pub returns : goal.returns
@@ -15,6 +15,7 @@ returns c =
       db_is = sym (c.in_ok-db.ensures ∙ first_value-rows found (codes "db"));
       turns_is = sym (c.in_ok-turns.ensures ∙ first_value-rows found (codes "turns"));
       count = c.in_ok-turns-2.ensures.read;
+      limits_are = c.in_ok-limits.ensures;
     }
 
 pub returns-in_err-listen : goal.returns-in_err-listen
@@ -48,3 +49,9 @@ returns-in_err-turns-2 c =
     asks_no_server (rows_of found) c.from_residual-in_err-turns-2.result c.from_residual-in_err-turns-2.ensures
     (no_server-count (Some (rows_of found)) c.in_ok-turns.turns.now
     (sym (c.in_ok-turns.ensures ∙ first_value-rows found (codes "turns"))) c.in_err-turns-2.ensures.only)
+
+pub returns-in_err-limits : goal.returns-in_err-limits
+returns-in_err-limits c =
+    let found = found_of c.args.matches.now in
+    asks_no_server (rows_of found) c.from_residual-in_err-limits.result c.from_residual-in_err-limits.ensures
+    (no_server-limits (Some (rows_of found)) c.in_err-limits.ensures)

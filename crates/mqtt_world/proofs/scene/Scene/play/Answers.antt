@@ -1,5 +1,5 @@
 -- By what the call does that the event comes to.
-use Rattle.std.proofs.Common.{List, ℕ, ap, refl, Ok}
+use Rattle.std.proofs.Common.{ap, refl, Ok}
 use Rattle.mqtt_laws.specs.World as world
 use Rattle.mqtt_peers.specs.Publishers.{draft_of}
 use Rattle.mqtt_peers.specs.Receivers.{wish_of}

@@ -1,6 +1,7 @@
 -- By what the call does that the event comes to.
 use Rattle.std.proofs.Common.{ap, sym, Some, ◌∙◌}
-use Rattle.mqtt_laws.specs.World.{Event, ask, clock, restart, stop_after, stop_before, stranger}
+use Rattle.std.specs.Prelude.{Ok}
+use Rattle.mqtt_laws.specs.World.{ask, clock, restart, stop_after, stop_before, stranger}
 use Rattle.mqtt_script_laws.specs.Scripted.{asking_of, event_of}
 use Rattle.mqtt_world.proofs.Pieces.{drained, events_of_ends, plays_of, told_of, with_told}
 use Rattle.mqtt_world.proofs.stage.Stage.happen.Goals as goal
@@ -20,16 +21,16 @@ returns-in-StopAfter g c =
 
 pub returns-in-Clock : goal.returns-in-Clock
 returns-in-Clock g c =
-    told_of g.K.Keep c.args.event.now (clock c.in-Clock.wait) c.args.self c.clock-told.new.self c.clock-told.result c.with_told.result
-    (ap event_of c.in-Clock.is) c.with_told.ensures c.clock-told.ensures
+    plays_of g.K.Keep c.args.event.now (clock c.in-Clock.wait) c.args.self (Ok (c.clock-told.new.self, Some c.clock-told.result))
+    (ap event_of c.in-Clock.is) c.clock-told.ensures
 
 pub returns-in-Stranger : goal.returns-in-Stranger
 returns-in-Stranger g c =
     let name = c.in-Stranger.name in
     told_of g.K.Keep c.args.event.now (ask (stranger name c.as_slice.result.now)) c.args.self c.visit-told.new.self c.visit-told.result
-    c.with_told-in-Stranger.result
+    c.with_told.result
     (ap event_of c.in-Stranger.is ∙ ap (λ bytes. Some (ask (stranger name bytes))) (sym c.as_slice.ensures))
-    c.with_told-in-Stranger.ensures c.visit-told.ensures
+    c.with_told.ensures c.visit-told.ensures
 
 pub returns-in-Drain : goal.returns-in-Drain
 returns-in-Drain g c = drained g.K.Keep c.args.event.now c.args.self (ap event_of c.in-Drain.is)

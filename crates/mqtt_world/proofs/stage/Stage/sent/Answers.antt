@@ -1,15 +1,28 @@
-use Rattle.std.proofs.Common.{◌≡◌, ap}
+use Rattle.std.proofs.Common.{◌≡◌, None, Some, ap}
 use Rattle.mqtt_laws.specs.World.{World}
 use Rattle.mqtt_world.specs.declared.stage.Stage.TheInside.{Inside}
 use Rattle.mqtt_world.specs.Events.{played, world_of}
 use Rattle.mqtt_world.specs.Worlds.{sent_in}
-use Rattle.mqtt_world.proofs.Looked.{seen_from}
+use Rattle.mqtt_world.proofs.Looked.{its_messages, no_publisher, seen_from}
 use Rattle.mqtt_world.proofs.stage.Stage.sent.Goals as goal
+
+pub returns-then-not-has_publisher : goal.returns-then-not-has_publisher
+returns-then-not-has_publisher g c =
+    let s = c.self.inside in
+    let x = c.self-inside.inside.0.0 in
+    let scene = ap (λ (i : Inside _). i.scene) c.self-inside.view_is in
+    let w : World = world_of s.now s.strangers (played x.engine x.clients) in
+    seen_from (λ (v : World). None ≡ sent_in c.args.client.now c.args.events.now v)
+    x.engine x.clients s.scene s.strangers s.now s.limits c.args.self.now scene c.self.view_is
+    (no_publisher c.has_publisher.result c.args.client.now c.args.events.now w (c.has_publisher.ensures w) c.if-not-has_publisher.true)
 
 pub returns : goal.returns
 returns g c =
     let s = c.self.inside in
     let x = c.self-inside.inside.0.0 in
     let scene = ap (λ (i : Inside _). i.scene) c.self-inside.view_is in
-    seen_from (λ (w : World). c.sent.result ≡ sent_in c.args.client.now w) x.engine x.clients s.scene s.strangers s.now s.limits c.args.self.now
-    scene c.self.view_is (c.sent.ensures (world_of s.now s.strangers (played x.engine x.clients)))
+    let w : World = world_of s.now s.strangers (played x.engine x.clients) in
+    seen_from (λ (v : World). Some c.published.result ≡ sent_in c.args.client.now c.args.events.now v)
+    x.engine x.clients s.scene s.strangers s.now s.limits c.args.self.now scene c.self.view_is
+    (its_messages c.has_publisher.result c.args.client.now c.args.events.now w c.published.result (c.has_publisher.ensures w) c.if-not-has_publisher.false
+    c.published.ensures)

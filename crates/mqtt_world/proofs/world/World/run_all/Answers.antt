@@ -1,4 +1,4 @@
-use Rattle.mqtt_world.proofs.Course.{so_far_all, so_far_more, so_far_none, so_far_stops}
+use Rattle.mqtt_world.proofs.Course.{so_far_all, so_far_more, so_far_none}
 use Rattle.mqtt_world.proofs.world.World.run_all.Goals as goal
 
 pub loop-first-init : goal.loop-first-init

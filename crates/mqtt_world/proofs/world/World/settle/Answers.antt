@@ -1,4 +1,4 @@
-use Rattle.std.proofs.Common.{◌≡◌, Option, sym, subst}
+use Rattle.std.proofs.Common.{Option, subst}
 use Rattle.mqtt_laws.specs.Tellings.{Telling}
 use Rattle.mqtt_script_laws.specs.Scripted.{event_of}
 use Rattle.mqtt_world.specs.Worlds.{PlaysIf}
