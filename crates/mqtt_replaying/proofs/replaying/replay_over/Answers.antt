@@ -1,6 +1,5 @@
-use Rattle.std.proofs.Common.{inl, inr, rules}
 use Rattle.std.proofs.lemmas.Result.{IfErr-weaker, IfOk-weaker}
-use Rattle.mqtt_replaying.proofs.Texted.{front_over, front_seen, replays_over, replays_seen}
+use Rattle.mqtt_replaying.proofs.Texted.{front_seen, replays_seen}
 use Rattle.mqtt_replaying.proofs.replaying.replay_over.Goals as goal
 
 pub returns-in-Ok-clause-ok : goal.returns-in-Ok-clause-ok
