@@ -83,19 +83,21 @@ fn push_publish(bytes: &mut Vec<u8>, identifier: u16, payload: usize) -> Result<
     Ok(())
 }
 
-/// Gives bytes to the broker on a line, until all are taken.
+/// Gives bytes to the broker on a line, until all are taken and nothing more is whole.
 fn give<K: Keep>(engine: &mut Engine<K>, line: u64, bytes: &[u8]) -> bool {
     let mut rest = bytes;
     for _ in 0..bytes.len() {
-        if rest.is_empty() {
-            return true;
-        }
         match engine.piece(line, rest, 0) {
-            Ok(out) => rest = rest.get(out.taken..).unwrap_or(&[]),
+            Ok(out) => {
+                rest = rest.get(out.taken..).unwrap_or(&[]);
+                if rest.is_empty() && !out.again {
+                    return true;
+                }
+            }
             Err(_) => return false,
         }
     }
-    rest.is_empty()
+    false
 }
 
 /// A broker with a session that is away, and waiting copies of these PUBLISH.
@@ -155,7 +157,7 @@ fn a_backlog_of_great_messages_comes_whole_over_a_slow_line(rt: HostRuntime) -> 
 
 #[test]
 fn a_backlog_of_many_messages_comes_whole_over_a_slow_line(rt: HostRuntime) -> Result<(), Fail> {
-    let comes = comes_whole(rt.alloc(), RandomState::new(&rt)?, 1_000, 8_000, 400)?;
+    let comes = comes_whole(rt.alloc(), RandomState::new(&rt)?, 300, 8_000, 130)?;
     assert!(rt; comes);
     Ok(())
 }
