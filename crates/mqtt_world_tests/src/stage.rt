@@ -48,9 +48,9 @@ pub(crate) fn run(alloc: Global, world: &mut World<MemKeep>, script: &str) -> Re
 
 /// What events told, a line for each.
 fn push_tells(text: &mut String, events: &[Event], tells: &[Told]) -> Result<(), AllocError> {
-    let mut number = 0;
+    let mut number: u64 = 0;
     for (event, told) in events.iter().zip(tells) {
-        number += 1;
+        number = number.saturating_add(1);
         push_told(
             text,
             number,
