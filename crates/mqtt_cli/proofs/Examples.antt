@@ -87,3 +87,28 @@ served-turns = refl
 no_database : command_of (line_of (codes "serve" ∷ codes "--turns" ∷ codes "3" ∷ codes "--listen" ∷ codes "1.2.3.4:5" ∷ [])) ≡ None
 unfolding clap_on_literals
 no_database = refl
+
+-- ---- limits
+
+abbrev limited : List Text
+limited = line_of (codes "replay" ∷ codes "--queue" ∷ codes "2" ∷ codes "a" ∷ codes "--full=drop" ∷ [])
+
+limited-queue : value_in (codes "queue") (replay_rows_in (command_of limited)) ≡ Some (codes "2")
+unfolding clap_on_literals
+limited-queue = refl
+
+limited-full : value_in (codes "full") (replay_rows_in (command_of limited)) ≡ Some (codes "drop")
+unfolding clap_on_literals
+limited-full = refl
+
+limited-sessions : value_in (codes "sessions") (replay_rows_in (command_of limited)) ≡ None
+unfolding clap_on_literals
+limited-sessions = refl
+
+served-queue : value_in (codes "queue") (serve_rows_in (command_of served)) ≡ None
+unfolding clap_on_literals
+served-queue = refl
+
+queue_twice : command_of (line_of (codes "replay" ∷ codes "--queue" ∷ codes "2" ∷ codes "--queue" ∷ codes "3" ∷ codes "a" ∷ [])) ≡ None
+unfolding clap_on_literals
+queue_twice = refl

@@ -52,7 +52,10 @@ fn choice_arg<'a>(alloc: Global, name: &'a str, value: &'a str, help: &'a str) -
     ensures rule { rule_of result ≡ choice_rule name.entry.now }
     ensures local { result.global ≡ false }
 {
-    Arg::new(alloc, name).long(name).value_name(value).help(help)
+    Arg::new(alloc, name)
+        .long(name)
+        .value_name(value)
+        .help(help)
 }
 
 /// The limits that the matches of a command ask for: nothing, where a value isn't of its form.

@@ -95,12 +95,14 @@ pub fn perform<
             Ok(status) => Outcome::Done(status),
             Err(fault) => Outcome::Vectors(fault),
         },
-        Ok(Action::Serve {
-            listen,
-            db,
-            turns,
-            limits,
-        }) => match served(serve, listen, db, turns, limits) {
+        Ok(
+            Action::Serve {
+                listen,
+                db,
+                turns,
+                limits,
+            },
+        ) => match served(serve, listen, db, turns, limits) {
             Ok(()) => Outcome::Served,
             Err(fault) => Outcome::Serve(fault),
         },

@@ -8,19 +8,28 @@ use std::test::Fail;
 /// Options, and the limits that they ask for.
 fn asked() -> &'static [(&'static [&'static str], (Full, u32, u32, u32))] {
     &[
-    (&[], (Full::Refuse, 1_000, 1_000, 1_000)),
-    (&["--full", "drop"], (Full::Drop, 1_000, 1_000, 1_000)),
-    (&["--full", "refuse"], (Full::Refuse, 1_000, 1_000, 1_000)),
-    (&["--queue", "1"], (Full::Refuse, 1, 1_000, 1_000)),
-    (&["--queue", "1000"], (Full::Refuse, 1_000, 1_000, 1_000)),
-    (&["--sessions", "1"], (Full::Refuse, 1_000, 1, 1_000)),
-    (&["--sessions=999"], (Full::Refuse, 1_000, 999, 1_000)),
-    (&["--retained", "1"], (Full::Refuse, 1_000, 1_000, 1)),
-    (&["--retained=1000"], (Full::Refuse, 1_000, 1_000, 1_000)),
-    (
-        &["--retained", "4", "--sessions", "3", "--queue", "2", "--full", "drop"],
-        (Full::Drop, 2, 3, 4),
-    ),
+        (&[], (Full::Refuse, 1_000, 1_000, 1_000)),
+        (&["--full", "drop"], (Full::Drop, 1_000, 1_000, 1_000)),
+        (&["--full", "refuse"], (Full::Refuse, 1_000, 1_000, 1_000)),
+        (&["--queue", "1"], (Full::Refuse, 1, 1_000, 1_000)),
+        (&["--queue", "1000"], (Full::Refuse, 1_000, 1_000, 1_000)),
+        (&["--sessions", "1"], (Full::Refuse, 1_000, 1, 1_000)),
+        (&["--sessions=999"], (Full::Refuse, 1_000, 999, 1_000)),
+        (&["--retained", "1"], (Full::Refuse, 1_000, 1_000, 1)),
+        (&["--retained=1000"], (Full::Refuse, 1_000, 1_000, 1_000)),
+        (
+            &[
+                "--retained",
+                "4",
+                "--sessions",
+                "3",
+                "--queue",
+                "2",
+                "--full",
+                "drop",
+            ],
+            (Full::Drop, 2, 3, 4),
+        ),
     ]
 }
 
@@ -43,6 +52,7 @@ const WRONG: [(&[&str], &str); 14] = [
 ];
 
 const FULL: &str = "mqtt5: --full is refuse or drop\n";
+
 const SIZES: &str = "mqtt5: --queue, --sessions and --retained are from 1 to 1000\n";
 
 /// The words in front of options, and these.
@@ -90,6 +100,7 @@ fn is_refused(alloc: Global, front: &[&str], options: &[&str], told: &str) -> Re
 }
 
 const REPLAY: [&str; 3] = ["mqtt5", "replay", "a.script"];
+
 const SERVE: [&str; 8] = [
     "mqtt5",
     "serve",
@@ -121,8 +132,14 @@ fn limits_are_those_of_the_options(rt: HostRuntime) -> Result<(), Fail> {
             turns: 3,
             limits,
         };
-        assert!(rt; is_asked(rt.alloc(), &REPLAY, options, replay)?, "{options:?}");
-        assert!(rt; is_asked(rt.alloc(), &SERVE, options, serve)?, "{options:?}");
+        assert!(rt;
+            is_asked(rt.alloc(), &REPLAY, options, replay)?,
+            "{options:?}"
+        );
+        assert!(rt;
+            is_asked(rt.alloc(), &SERVE, options, serve)?,
+            "{options:?}"
+        );
     }
     Ok(())
 }
@@ -130,8 +147,14 @@ fn limits_are_those_of_the_options(rt: HostRuntime) -> Result<(), Fail> {
 #[test]
 fn a_limit_that_is_out_of_range_is_usage(rt: HostRuntime) -> Result<(), Fail> {
     for (options, told) in WRONG {
-        assert!(rt; is_refused(rt.alloc(), &REPLAY, options, told)?, "{options:?}");
-        assert!(rt; is_refused(rt.alloc(), &SERVE, options, told)?, "{options:?}");
+        assert!(rt;
+            is_refused(rt.alloc(), &REPLAY, options, told)?,
+            "{options:?}"
+        );
+        assert!(rt;
+            is_refused(rt.alloc(), &SERVE, options, told)?,
+            "{options:?}"
+        );
     }
     Ok(())
 }
@@ -139,10 +162,24 @@ fn a_limit_that_is_out_of_range_is_usage(rt: HostRuntime) -> Result<(), Fail> {
 /// A wrong address, and a wrong number of turns.
 const SERVE_WRONG: [[&str; 8]; 2] = [
     [
-        "mqtt5", "serve", "--listen", "localhost:1883", "--db", "a.db", "--turns", "3",
+        "mqtt5",
+        "serve",
+        "--listen",
+        "localhost:1883",
+        "--db",
+        "a.db",
+        "--turns",
+        "3",
     ],
     [
-        "mqtt5", "serve", "--listen", "127.0.0.1:1883", "--db", "a.db", "--turns", "0",
+        "mqtt5",
+        "serve",
+        "--listen",
+        "127.0.0.1:1883",
+        "--db",
+        "a.db",
+        "--turns",
+        "0",
     ],
 ];
 

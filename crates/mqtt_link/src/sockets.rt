@@ -1,4 +1,4 @@
-//! Sockets of the runtime whose calls never wait (MQTT 5.0, 4.2).
+//! Sockets of the runtime whose calls don't wait (MQTT 5.0, 4.2).
 ghost use Rattle.std.specs.Prelude.{◌≡◌, ◌≢◌, ◌⊎◌, ℕ, List, length, Ok, IfOk, IfErr};
 ghost use Rattle.std.specs.Io.{ReadsAtMost, WritesAtMost};
 ghost use Rattle.std.specs.IoError.{error_kind};
@@ -71,6 +71,9 @@ impl<R: Net> Link for NetLink<R> {
         let _ = stream.set_nodelay(true);
         Got::Given(stream)
     }
+
+    /// Returns at once, since the runtime waits on one socket alone.
+    fn wait(&mut self) {}
 
     fn read(&mut self, peer: &mut R::Stream, buffer: &mut [u8]) -> Got<usize> {
         got(peer.read(buffer))

@@ -1,6 +1,6 @@
 //! Bytes that wait to go out on a connection (MQTT 5.0, 4.2).
 ghost use Rattle.std.specs.Prelude.{◌≡◌, ◌≤◌, ◌+◌, ◌++◌, ◌↔◌, [], length, OnOk, OnErr, IfErr, IsTrue};
-ghost use Rattle.mqtt_link.specs.Links.{and_then, one_more_if_any, Refuses};
+ghost use Rattle.mqtt_link.specs.Links.{and_then, ended_unless, one_more_if_any, Refuses};
 
 use crate::link::{Got, Link};
 use std::alloc::{AllocError, Global};
@@ -93,8 +93,9 @@ impl Waiting {
         ensures moved { and_then (L.written peer.new) self.new ≡ and_then (L.written peer.old) self.old }
         ensures kept { L.was_read peer.new ≡ L.was_read peer.old }
         ensures counted { L.writes peer.new ≡ one_more_if_any self.old (L.writes peer.old) }
-        ensures uncounted { L.reads peer.new ≡ L.reads peer.old }
-        ensures same { L.accepts link.new ≡ L.accepts link.old }
+        ensures ended { L.ended peer.new ≡ ended_unless result (L.ended peer.old) }
+        ensures uncounted { (L.reads peer.new ≡ L.reads peer.old) × (L.room peer.new ≡ L.room peer.old) }
+        ensures same { L.calls link.new ≡ L.calls link.old }
     {
         if self.bytes.is_empty() {
             return true;

@@ -1,6 +1,6 @@
 //! Bytes that wait to go out.
 use crate::memory::{MemoryLink, MemoryPeer};
-use mqtt_link::{Got, Link, WAITING_LIMIT, Waiting, WaitingFault};
+use mqtt_link::{Got, Link, Waiting, WaitingFault};
 use std::test::Fail;
 
 #[test]
@@ -29,6 +29,7 @@ fn a_failed_write_keeps_what_waits(rt: HostRuntime) -> Result<(), Fail> {
     let mut waiting = Waiting::new(alloc);
     waiting.push(b"abc")?;
     assert!(rt; !waiting.write(&mut link, &mut peer));
+    assert!(rt; peer.has_ended());
     let mut other = MemoryPeer::new(alloc, b"", 9)?;
     assert!(rt; waiting.write(&mut link, &mut other));
     assert_eq!(rt; other.taken(), b"abc".as_slice());
@@ -39,7 +40,7 @@ fn a_failed_write_keeps_what_waits(rt: HostRuntime) -> Result<(), Fail> {
 fn at_most_a_mebibyte_waits(rt: HostRuntime) -> Result<(), Fail> {
     let alloc = rt.alloc();
     let mut waiting = Waiting::new(alloc);
-    let block = Vec::from_elem(alloc, 7_u8, WAITING_LIMIT)?;
+    let block = Vec::from_elem(alloc, 7_u8, 1_048_576)?;
     waiting.push(&block)?;
     waiting.push(b"")?;
     assert!(rt; waiting.push(b"a") == Err(WaitingFault::Full));
@@ -59,6 +60,8 @@ fn a_read_gives_what_came(rt: HostRuntime) -> Result<(), Fail> {
     assert!(rt; buffer[0] == b'c');
     assert!(rt; link.read(&mut peer, &mut buffer) == Got::Nothing);
     assert!(rt; matches!(link.accept(), Got::Nothing));
-    assert!(rt; peer.reads() == 3 && link.accepts() == 1);
+    link.wait();
+    assert!(rt; peer.reads() == 3 && link.accepts() == 1 && link.waits() == 1);
+    assert!(rt; peer.room() == 4 && !peer.has_ended());
     Ok(())
 }

@@ -1,6 +1,6 @@
 -- What a refused event says of a world that runs.
-use Rattle.std.proofs.Common.{◌≡◌, ℕ, subst}
-use Rattle.std.specs.Prelude.{Result, Err, IfErr, IsErrOf}
+use Rattle.std.proofs.Common.{ℕ, subst}
+use Rattle.std.specs.Prelude.{Result, IfErr, IsErrOf}
 use Rattle.mqtt_records.specs.declared.keep.Keep.{Ghosts}
 use Rattle.mqtt_laws.specs.Tellings.{Telling}
 use Rattle.mqtt_peers.specs.declared.told.RunFault.{RunFault}

@@ -1,6 +1,6 @@
 -- What lines come to that play in a world that runs, and the text of it.
 use Rattle.std.proofs.Common.{◌≡◌, ◌⊎◌, inl, inr, ℕ, ◌+◌, List, [], ◌∷◌, ◌++◌, length, Option, None, Some, IfSome, append-nil, append_assoc, refl, sym, ap, ap₂, subst, ◌∙◌, arith}
-use Rattle.std.specs.Prelude.{false, true, suc, Result, Ok, unwrap_or, option_to_list}
+use Rattle.std.specs.Prelude.{false, true, suc, Result, Ok, Err, IfErr, unwrap_or, option_to_list}
 use Rattle.std.specs.List.{flat_map}
 use Rattle.std.specs.Io.KnownBytes.{Keeps}
 use Rattle.std.proofs.KnownBytes.{Appends-kept, Appends-nil, Keeps-refl}
@@ -96,6 +96,17 @@ module _ {K : Type 0} (g : Ghosts K) where
       counts : (a b d n : ℕ) → b ≡ a + 1 → d ≡ b + n → d ≡ a + suc n
       counts a b d n first more = omega (arith, first, more)
 
+  -- a line, and others behind it
+  line_comes : (line : List ℕ) (lines : List (List ℕ)) (s mid end : Standing (Lasting K)) (first rest : List ℕ) (from : Staged K) → s.world.stage ≡ Ok from
+      → ((at : Staged K) → mid.world.stage ≡ Ok at → Comes g lines mid rest end)
+      → LinePlays (play_of g) line s first mid → Comes g (line ∷ lines) s (first ++ rest) end
+  line_comes line lines s mid end first rest from is onward (inl (passed, none, same)) =
+      let behind : Comes g lines mid rest end = onward from (ap (λ (m : Standing (Lasting K)). m.world.stage) same ∙ is) in
+      subst (λ (t : List ℕ). Comes g (line ∷ lines) s (t ++ rest) end) (sym none)
+      (comes_passed line lines s end rest passed (subst (λ (m : Standing (Lasting K)). Comes g lines m rest end) same behind))
+  line_comes line lines s mid end first rest from is onward (inr (kept, e, is_line, h)) =
+      comes_more line lines e s mid end first rest kept is_line h (onward h.happens.to h.happens.is)
+
   comes : (lines : List (List ℕ)) (s end : Standing (Lasting K)) (text : List ℕ) (from : Staged K) → s.world.stage ≡ Ok from
       → LinesPlay (play_of g) lines s text end → Comes g lines s text end
   comes [] s end text from is plays =
@@ -103,16 +114,8 @@ module _ {K : Type 0} (g : Ghosts K) where
       (subst (λ (x : Standing (Lasting K)). Comes g [] s [] x) (sym plays.1) (comes_none s from is))
   comes (line ∷ lines) s end text from is plays =
       let (first, rest, mid, play, more, are) = plays in
-      subst (λ (t : List ℕ). Comes g (line ∷ lines) s t end) (sym are) (one first rest mid play more)
-    where
-      one : (first rest : List ℕ) (mid : Standing (Lasting K)) → LinePlays (play_of g) line s first mid → LinesPlay (play_of g) lines mid rest end
-          → Comes g (line ∷ lines) s (first ++ rest) end
-      one first rest mid (inl (passed, none, same)) more =
-          subst (λ (t : List ℕ). Comes g (line ∷ lines) s (t ++ rest) end) (sym none)
-          (comes_passed line lines s end rest passed
-          (comes lines s end rest from is (subst (λ (m : Standing (Lasting K)). LinesPlay (play_of g) lines m rest end) same more)))
-      one first rest mid (inr (kept, e, is_line, h)) more =
-          comes_more line lines e s mid end first rest kept is_line h (comes lines mid end rest h.happens.to h.happens.is more)
+      subst (λ (t : List ℕ). Comes g (line ∷ lines) s t end) (sym are)
+      (line_comes line lines s mid end first rest from is (λ at m. comes lines mid end rest at m more) play)
 
   -- ---- what is seen of a world that stands
 
@@ -142,7 +145,7 @@ module _ {K : Type 0} (g : Ghosts K) where
   -- ---- from where a world begins over a store
 
   module _ (limits : Limits) (keep : K) (w : Lasting K) (starts : Starts g limits keep w) (sound : AlwaysSound g) (phases : HaveSentPhases starts.records) where
-    begun : World
+    abbrev begun : World
     begun = opened_world limits starts.choice 0 starts.records
 
     has_come : HasCome begun w
@@ -176,7 +179,8 @@ module _ {K : Type 0} (g : Ghosts K) where
     bad_here : (bad : List ℕ) (end : Standing (Lasting K)) (es : List Event) (ts : List Telling) → (h : Happen g es ts w end.world)
         → IsBadLine (play_of g) bad end → IsBadLineIn bad (world_at h.to)
     bad_here bad end es ts h (kept, inl none) = (kept, inl none)
-    bad_here bad end es ts h (kept, inr (e, is, after, cant)) =
+    bad_here bad end es ts h (kept, inr (e, is, refused)) =
+        let (after, cant) = refused in
         let from = cant.nothing.from in
         let same : from ≡ h.to = ok_is end.world.stage from h.to cant.nothing.was h.is in
         let come : HasCome begun end.world = come_on g begun es ts w end.world sound h has_come in
@@ -268,7 +272,7 @@ nothing_runs limits w within = record {
   tells = [];
   runs = (refl, refl);
   told = refl;
-  delivers = λ untouched apart clean. delivers_once limits [] [] w w within untouched apart keeps (refl, refl);
+  delivers = λ untouched apart clean. delivers_once limits [] [] w w within untouched apart clean (refl, refl);
 }
 
 pub front_none : (limits : Limits) (lines : List (List ℕ)) (before after : Option (List ℕ)) → AreWithin limits → Keeps before after
@@ -314,3 +318,8 @@ pub front_kept : (limits : Limits) (input before : Option (List ℕ)) → AreWit
     → IfSome input (λ bytes. Wrote (λ text. FrontText limits start_world (lines_of bytes) text) before before)
 front_kept limits None before within = tt
 front_kept limits (Some bytes) before within = front_none limits (lines_of bytes) before before within (Keeps-refl before)
+
+-- whatever the fault is
+pub any_fault : {A E : Type 0} (r : Result A E) (P : E → Type 0) → ((e : E) → P e) → IfErr r P
+any_fault (Ok x) P all = tt
+any_fault (Err e) P all = all e

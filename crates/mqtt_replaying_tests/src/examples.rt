@@ -55,8 +55,7 @@ const LATE_CONNECT_TEXT: &str =
     p1 sent=1 done=1\nbroker publications=1 sessions=2\n";
 
 /// Of three copies a queue of two drops the oldest.
-const FULL_QUEUE: &str =
-    "receiver r1 10\npublisher p1\nconnect r1 0\ntobroker r1\ntoend r1\n\
+const FULL_QUEUE: &str = "receiver r1 10\npublisher p1\nconnect r1 0\ntobroker r1\ntoend r1\n\
     subscribe r1 2 0 0 0 0 home/temperature\ntobroker r1\ntoend r1\nbreak r1\nconnect p1 0\n\
     tobroker p1\ntoend p1\npublish p1 2 0 home/temperature 31392e35\ntobroker p1\ntoend p1\n\
     tobroker p1\ntoend p1\npublish p1 2 0 home/temperature 31392e37\ntobroker p1\ntoend p1\n\

@@ -31,14 +31,16 @@ const THREE: &str = "receiver r1 10\npublisher p1\nconnect r1 0\ntobroker r1\nto
     publish p1 2 0 a/b 33\ntobroker p1\n";
 
 /// The third makes the first copy give way.
-const THREE_DROPPED: &str = "1 receiver\n2 publisher\n3 connect\n4 tobroker out=1\n5 toend\n6 subscribe\n\
+const THREE_DROPPED: &str =
+    "1 receiver\n2 publisher\n3 connect\n4 tobroker out=1\n5 toend\n6 subscribe\n\
     7 tobroker out=1\n8 toend\n9 connect\n10 tobroker out=1\n11 toend\n12 publish\n\
     13 tobroker accepted=1 entered=1>r1 out=1\n14 publish\n15 tobroker accepted=2 entered=2>r1 out=1\n\
     16 publish\n17 tobroker accepted=3 ended=1>r1:Dropped entered=3>r1 out=1\n\
     r1 handed=- queue=2\np1 sent=3 done=0\nbroker publications=3 sessions=2\n";
 
 /// The third is refused: PUBREC with 97.
-const THREE_REFUSED: &str = "1 receiver\n2 publisher\n3 connect\n4 tobroker out=1\n5 toend\n6 subscribe\n\
+const THREE_REFUSED: &str =
+    "1 receiver\n2 publisher\n3 connect\n4 tobroker out=1\n5 toend\n6 subscribe\n\
     7 tobroker out=1\n8 toend\n9 connect\n10 tobroker out=1\n11 toend\n12 publish\n\
     13 tobroker accepted=1 entered=1>r1 out=1\n14 publish\n15 tobroker accepted=2 entered=2>r1 out=1\n\
     16 publish\n17 tobroker out=1\n\
@@ -51,7 +53,8 @@ const SENT: &str = "receiver r1 10\npublisher p1\nconnect r1 0\ntobroker r1\ntoe
     publish p1 2 0 a/b 33\ntobroker p1\n";
 
 /// What was sent does not give way: the third is refused.
-const SENT_REFUSED: &str = "1 receiver\n2 publisher\n3 connect\n4 tobroker out=1\n5 toend\n6 subscribe\n\
+const SENT_REFUSED: &str =
+    "1 receiver\n2 publisher\n3 connect\n4 tobroker out=1\n5 toend\n6 subscribe\n\
     7 tobroker out=1\n8 toend\n9 connect\n10 tobroker out=1\n11 toend\n12 publish\n\
     13 tobroker accepted=1 entered=1>r1 out=1\n14 publish\n15 tobroker accepted=2 entered=2>r1 out=1\n\
     16 pump out=2\n17 publish\n18 tobroker out=1\n\
@@ -104,12 +107,8 @@ fn a_session_more_than_there_may_be_is_refused(rt: HostRuntime) -> Result<(), Fa
         sessions: 1,
         retained: 1_000,
     };
-    assert!(rt;
-        is_so_within(alloc, hasher, LIMITS, TWO_SESSIONS, TWO_SESSIONS_TEXT) == Ok(true)
-    );
-    assert!(rt;
-        is_so_within(alloc, hasher, one, TWO_SESSIONS, ONE_SESSION_TEXT) == Ok(true)
-    );
+    assert!(rt; is_so_within(alloc, hasher, LIMITS, TWO_SESSIONS, TWO_SESSIONS_TEXT) == Ok(true));
+    assert!(rt; is_so_within(alloc, hasher, one, TWO_SESSIONS, ONE_SESSION_TEXT) == Ok(true));
     Ok(())
 }
 

@@ -1,7 +1,7 @@
 //! The broker stops before and after each commit of a message's way, and the ends connect again: the message is accepted once
 //! and handed over once, over each store (MQTT 5.0, 4.1, 4.3.3, 4.4).
 
-use crate::playing::{in_memory, in_sql, is_so};
+use crate::playing::{LIMITS, in_memory, in_sql, is_so_within};
 use mqtt_replaying::{Played, ReplayFault};
 use std::alloc::{AllocError, Global};
 use std::hash::RandomState;
@@ -128,7 +128,7 @@ fn of_what_a_stranger_sent_the_first_packet_is_a_step(rt: HostRuntime) -> Result
         ),
     ] {
         assert!(rt;
-            is_so(rt.alloc(), hasher, script, Played::Whole, text) == Ok(true),
+            is_so_within(rt.alloc(), hasher, LIMITS, script, text) == Ok(true),
             "{script}"
         );
     }

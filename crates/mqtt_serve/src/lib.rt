@@ -6,6 +6,7 @@ mod poll_link;
 mod serving;
 mod store;
 
+pub use clock::SteadyClock;
 pub use mqtt_serve_fault::ServeFault;
-pub use mqtt_serving::{Full, Limits};
+pub use mqtt_serving::{Full, Limits, Timer};
 pub use serving::{serve, serve_over};

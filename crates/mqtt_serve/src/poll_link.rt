@@ -11,6 +11,9 @@ use std::time::Duration;
 /// How many changes of sockets one wait may tell of.
 const EVENTS: usize = 64;
 
+/// How long a wait takes in the kernel at most, in milliseconds (ours).
+const WAIT: u64 = 10;
+
 /// A listening socket and its connections, registered with the kernel.
 #[derive(Drop)]
 pub(crate) struct PollLink {
@@ -38,11 +41,6 @@ impl PollLink {
     pub fn address(&self) -> io::Result<SocketAddr> {
         self.listener.local_addr()
     }
-
-    /// Waits until a socket changes or the time is up. A wait that fails is none.
-    pub fn wait(&mut self, limit: Duration) {
-        let _ = self.poll.poll(&mut self.events, Some(limit));
-    }
 }
 
 impl Link for PollLink {
@@ -65,6 +63,12 @@ impl Link for PollLink {
             Ok(()) => Got::Given(stream),
             Err(_) => Got::Failure,
         }
+    }
+
+    /// Waits until a socket changes or the time is up. A wait that fails is none.
+    fn wait(&mut self) {
+        let limit = Duration::from_millis(WAIT);
+        let _ = self.poll.poll(&mut self.events, Some(limit));
     }
 
     fn read(&mut self, peer: &mut TcpStream, buffer: &mut [u8]) -> Got<usize> {

@@ -55,6 +55,16 @@ pub(crate) fn store_over<S: Alter + Drop>(
     }
 }
 
+/// The moment of the newest step that a database has, in milliseconds; 0 where it has none that can be read.
+pub(crate) fn stored_moment<S: Alter + Drop>(conn: &mut Connection<S>) -> u64 {
+    let row = match conn.query_row("SELECT value FROM meta WHERE name = 'moment'", &[]) {
+        Ok(row) => row,
+        Err(_) => return 0,
+    };
+    let moment: i64 = row.get(0).unwrap_or(0);
+    u64::try_from(moment).unwrap_or(0)
+}
+
 /// Opens the broker over what a store holds, at a moment in milliseconds, with these limits.
 pub(crate) fn open_engine<K: Keep>(
     rt: &HostRuntime,
@@ -62,7 +72,7 @@ pub(crate) fn open_engine<K: Keep>(
     moment: u64,
     limits: Limits,
 ) -> Result<Engine<K>, ServeFault>
-    requires within { AreWithin limits }
+    requires { AreWithin limits }
     ensures begun { IfOk result (λ engine. Begins K.Keep limits moment keep engine) }
     ensures fault { IfErr result (λ fault. fault ≢ ServeFault.Socket) }
 {

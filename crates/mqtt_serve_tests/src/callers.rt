@@ -4,7 +4,7 @@ use std::io::{ErrorKind, Read, Write};
 use std::net::{Ipv4Addr, SocketAddr, TcpStream};
 use std::{fs, io, str};
 
-/// Those of the tables; a full queue refuses.
+/// The limits of the tables; a full queue refuses.
 pub const LIMITS: Limits = Limits {
     full: Full::Refuse,
     queue: 1_000,
@@ -66,6 +66,17 @@ pub fn is_answered(
     sends: &[u8],
     answer: &[u8],
 ) -> Result<bool, ServeFault> {
+    is_answered_in(rt, db, 12, sends, answer)
+}
+
+/// The same over so many turns.
+pub fn is_answered_in(
+    rt: &HostRuntime,
+    db: &str,
+    turns: u32,
+    sends: &[u8],
+    answer: &[u8],
+) -> Result<bool, ServeFault> {
     let mut caller = Caller {
         rt,
         sends,
@@ -73,7 +84,7 @@ pub fn is_answered(
         stream: None,
         came: Vec::new(rt.alloc()),
     };
-    let ran = serve(rt, any_port(), db, 12, &mut caller, LIMITS);
+    let ran = serve(rt, any_port(), db, turns, &mut caller, LIMITS);
     let is_it = caller.came.as_slice() == answer && caller.told.ends_with(b"\ndone\n");
     drop(caller);
     match ran {

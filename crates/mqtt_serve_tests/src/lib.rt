@@ -7,3 +7,5 @@ mod callers;
 mod restarts;
 #[cfg(test)]
 mod runs;
+#[cfg(test)]
+mod time;

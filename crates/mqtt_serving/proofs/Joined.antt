@@ -12,12 +12,11 @@ and_then_append None a b = refl
 and_then_append (Some bytes) a b = ap Some (sym (append_assoc bytes a b))
 
 -- what waited grew, and nothing else
-pub said_more : (number : ℕ) (reads writes : Option ℕ) (heard said more : Option (List ℕ)) (fate : Fate) (rest waits bytes : List ℕ)
-    → rest ≡ waits ++ bytes → more ≡ and_then said bytes
-    → record { number = number; reads = reads; heard = heard; writes = writes; waits = rest; said = more; fate = fate }
-    ≡ hearing_more bytes (record { number = number; reads = reads; heard = heard; writes = writes; waits = waits; said = said; fate = fate })
-said_more number reads writes heard said more fate rest waits bytes is e =
-    ap₂ (λ (w : List ℕ) (s : Option (List ℕ)). let c : Wire = record { number = number; reads = reads; heard = heard; writes = writes; waits = w; said = s; fate = fate } in c) is e
+pub said_more : (w : Wire) (more : Option (List ℕ)) (rest bytes : List ℕ)
+    → rest ≡ w.waits ++ bytes → more ≡ and_then w.said bytes
+    → record w { waits = rest; said = more } ≡ hearing_more bytes w
+said_more w more rest bytes is e =
+    ap₂ (λ (r : List ℕ) (s : Option (List ℕ)). let c : Wire = record w { waits = r; said = s } in c) is e
 
 -- all was said to one that stands
 pub hears_all : (fate : Fate) (outputs : List (ℕ × List ℕ)) (old new : Wire) → is_standing fate ≡ true

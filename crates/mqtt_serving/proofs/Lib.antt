@@ -1,2 +1,3 @@
+mod Constants
 pub mod Joined
 pub mod Going

@@ -1,15 +1,17 @@
 //! A connection that is accepted (MQTT 5.0, 4.2).
-ghost use Rattle.std.specs.Prelude.{◌≡◌};
-ghost use Rattle.mqtt_link.specs.Links.{one_more};
+ghost use Rattle.std.specs.Prelude.{◌≡◌, ◌≤◌, ◌+◌, length};
+ghost use Rattle.std.specs.Vec.{vec_capacity};
+ghost use Rattle.mqtt_link.specs.Links.{asked};
 ghost use Rattle.mqtt_serving.specs.Turns.{server, Accepts};
 
 use crate::connection::Connection;
+use mqtt_base::LINE_LIMIT;
 use mqtt_broker::{Engine, Keep};
 use mqtt_link::{Got, Link};
 use std::alloc::Global;
 
-/// At most one connection is accepted, and linked; it is dropped where memory is wanting or the broker links no more.
-/// Whether one came.
+/// At most one connection is accepted, and linked; it is dropped where as many are here as may be, or the broker links no
+/// more. Whether one came. Takes no memory: there is room for as many as may be.
 pub(crate) fn accept<L: Link, K: Keep>(
     alloc: Global,
     link: &mut L,
@@ -17,15 +19,17 @@ pub(crate) fn accept<L: Link, K: Keep>(
     engine: &mut Engine<K>,
     moment: u64,
 ) -> bool
-    ensures accepts { Accepts K.Keep moment
+    requires room { LINE_LIMIT ≤ vec_capacity lines.old }
+    ensures accepts { Accepts K.Keep moment result
         (server engine.old lines.old.items) (server engine.new lines.new.items) }
-    ensures counted { L.accepts link.new ≡ one_more (L.accepts link.old) }
+    ensures counted { L.calls link.new ≡ asked result (L.calls link.old) }
+    ensures room { LINE_LIMIT ≤ vec_capacity lines.new }
 {
     let peer = match link.accept() {
         Got::Given(peer) => peer,
         Got::Nothing | Got::End | Got::Failure => return false,
     };
-    if lines.reserve(1).is_err() {
+    if lines.len() >= LINE_LIMIT {
         return true;
     }
     if let Some(number) = engine.link(moment) {

@@ -1,6 +1,8 @@
 //! What is asked of the broker in a turn, and what the answer makes of the connections (MQTT 5.0, 4.2).
-ghost use Rattle.std.specs.Prelude.{◌≡◌, ◌≢◌, ◌<◌, Some, option_map, length, slice_get, OnOk, IfOk, IfErr};
-ghost use Rattle.mqtt_serving.specs.Turns.{server, stands_at, is_lost_at, Tells, LosesIf, PumpsIf, IsTicked};
+ghost use Rattle.std.specs.Prelude.{◌≡◌, ◌≢◌, ◌<◌, true, Some, Err, option_map, length, slice_get, OnOk, IfOk, IfErr};
+ghost use Rattle.mqtt_broker.specs.TheRules.Step.{Lost, Pump, Tick};
+ghost use Rattle.mqtt_serving.specs.Breaks.{Refused};
+ghost use Rattle.mqtt_serving.specs.Turns.{server, may_send_at, stands_at, is_lost_at, Tells, LosesIf, PumpsIf, IsTicked};
 
 use crate::connection::Connection;
 use crate::telling::{deliver, lose};
@@ -13,6 +15,14 @@ pub(crate) fn number_at<L: Link>(lines: &[Connection<L>], place: usize) -> u64
     ensures { option_map (λ w. w.number) (slice_get lines.now place) ≡ Some result }
 {
     lines[place].number()
+}
+
+/// Whether the broker sends to the connection at a place.
+fn may_send_at<L: Link>(lines: &[Connection<L>], place: usize) -> bool
+    requires place { place < length lines.now }
+    ensures { result ≡ may_send_at place lines.now }
+{
+    lines[place].may_send()
 }
 
 /// Whether the connection at a place stands.
@@ -34,13 +44,14 @@ fn is_lost_at<L: Link>(lines: &[Connection<L>], place: usize) -> bool
 /// An answer reaches the connections; where memory was wanting, the connection on the line that was asked for is lost.
 /// Another refusal is handed on.
 pub(crate) fn tell<L: Link>(
-    lines: &mut Vec<Connection<L>>,
+    lines: &mut [Connection<L>],
     number: u64,
     answer: &Result<Outcome, EngineError>,
 ) -> Result<(), EngineError>
-    ensures told { OnOk result (Tells number answer.now lines.old.items lines.new.items) }
-    ensures len { OnOk result (length lines.new.items ≡ length lines.old.items) }
+    ensures told { OnOk result (Tells number answer.now lines.old lines.new) }
+    ensures len { OnOk result (length lines.new ≡ length lines.old) }
     ensures refused { IfErr result (λ error. error ≢ EngineError.Memory) }
+    ensures err { IfErr result (λ error. (answer.now ≡ Err error) × (lines.new ≡ lines.old)) }
 {
     match answer {
         Ok(out) => {
@@ -55,21 +66,24 @@ pub(crate) fn tell<L: Link>(
     }
 }
 
-/// A turn of sending for the line at a place, where it stands.
+/// A turn of sending for the line at a place, where it stands and the last write took all that waited: so what a slow
+/// connection is sent waits in the broker, and not here.
 pub(crate) fn pump_at<L: Link, K: Keep>(
-    lines: &mut Vec<Connection<L>>,
+    lines: &mut [Connection<L>],
     engine: &mut Engine<K>,
     place: usize,
     number: u64,
     moment: u64,
 ) -> Result<(), EngineError>
-    requires place { place < length lines.old.items }
-    ensures pumps { OnOk result (PumpsIf K.Keep moment number (stands_at place lines.old.items)
-        (server engine.old lines.old.items) (server engine.new lines.new.items)) }
-    ensures len { OnOk result (length lines.new.items ≡ length lines.old.items) }
+    requires place { place < length lines.old }
+    ensures pumps { OnOk result (PumpsIf K.Keep moment number (may_send_at place lines.old)
+        (server engine.old lines.old) (server engine.new lines.new)) }
+    ensures len { OnOk result (length lines.new ≡ length lines.old) }
     ensures refused { IfErr result (λ error. error ≢ EngineError.Memory) }
+    ensures breaks { IfErr result (λ error. (may_send_at place lines.old ≡ true)
+        × Refused K.Keep moment (Pump number) error (server engine.old lines.old) (server engine.new lines.new)) }
 {
-    if !stands_at(lines, place) {
+    if !may_send_at(lines, place) {
         return Ok(());
     }
     let answer = engine.pump(number, moment);
@@ -78,17 +92,19 @@ pub(crate) fn pump_at<L: Link, K: Keep>(
 
 /// The broker is told of the line at a place, where it is lost. Where memory is wanting it is told again in the next turn.
 pub(crate) fn report_at<L: Link, K: Keep>(
-    lines: &mut Vec<Connection<L>>,
+    lines: &mut [Connection<L>],
     engine: &mut Engine<K>,
     place: usize,
     number: u64,
     moment: u64,
 ) -> Result<(), EngineError>
-    requires place { place < length lines.old.items }
-    ensures loses { OnOk result (LosesIf K.Keep moment number (is_lost_at place lines.old.items)
-        (server engine.old lines.old.items) (server engine.new lines.new.items)) }
-    ensures len { OnOk result (length lines.new.items ≡ length lines.old.items) }
+    requires place { place < length lines.old }
+    ensures loses { OnOk result (LosesIf K.Keep moment number (is_lost_at place lines.old)
+        (server engine.old lines.old) (server engine.new lines.new)) }
+    ensures len { OnOk result (length lines.new ≡ length lines.old) }
     ensures refused { IfErr result (λ error. error ≢ EngineError.Memory) }
+    ensures breaks { IfErr result (λ error. (is_lost_at place lines.old ≡ true)
+        × Refused K.Keep moment (Lost number) error (server engine.old lines.old) (server engine.new lines.new)) }
 {
     if !is_lost_at(lines, place) {
         return Ok(());
@@ -99,13 +115,15 @@ pub(crate) fn report_at<L: Link, K: Keep>(
 
 /// A turn of the clock: whether more may be due.
 pub(crate) fn tick<L: Link, K: Keep>(
-    lines: &mut Vec<Connection<L>>,
+    lines: &mut [Connection<L>],
     engine: &mut Engine<K>,
     moment: u64,
 ) -> Result<bool, EngineError>
     ensures ticks { IfOk result (λ again. IsTicked K.Keep moment again
-        (server engine.old lines.old.items) (server engine.new lines.new.items)) }
+        (server engine.old lines.old) (server engine.new lines.new)) }
     ensures refused { IfErr result (λ error. error ≢ EngineError.Memory) }
+    ensures breaks { IfErr result (λ error. Refused K.Keep moment Tick error
+        (server engine.old lines.old) (server engine.new lines.new)) }
 {
     match engine.tick(moment) {
         Ok(out) => {

@@ -1,9 +1,9 @@
 //! A connection: its line of the broker, what waits to go out on it, and what becomes of it (MQTT 5.0, 4.2).
-ghost use Rattle.std.specs.Prelude.{◌≡◌, ◌≤◌, ◌++◌, [], ℕ, length, take, IsTrue, IsFalse};
-ghost use Rattle.mqtt_serving.specs.Wires.{Reads, Hears, Writes, WritesLast, bytes_to, closing, is_standing, is_lost, is_closed};
+ghost use Rattle.std.specs.Prelude.{◌≡◌, ◌≤◌, ◌++◌, [], ℕ, false, length, take, OnOk, IfErr};
+ghost use Rattle.mqtt_serving.specs.Wires.{FindsNoRoom, Reads, Hears, WritesAnd, WritesLast, bytes_to, closing, is_standing, is_lost, is_closed, may_send};
 
 use bytes::Bytes;
-use mqtt_link::{Got, Link, Waiting};
+use mqtt_link::{Got, Link, Waiting, WaitingFault};
 use std::alloc::Global;
 use std::marker::Model;
 
@@ -24,6 +24,7 @@ pub struct Connection<L: Link> {
     number: u64,
     peer: L::Peer,
     waiting: Waiting,
+    is_clear: bool,
     fate: Fate,
 }
 
@@ -37,27 +38,35 @@ impl<L: Link> Model for Connection<L> {
     ghost view = { λ c. record {
       number = c.number;
       reads = L.reads c.peer;
+      room = L.room c.peer;
       heard = L.was_read c.peer;
       writes = L.writes c.peer;
+      ended = L.ended c.peer;
       waits = c.waiting;
       said = and_then (L.written c.peer) c.waiting;
+      clear = c.is_clear;
       fate = c.fate;
     } };
 }
 
-/// Puts the outputs to a line behind what waits on it, up to the first for which there is no room. Whether there was room
-/// for all.
-fn push_all(waiting: &mut Waiting, number: u64, outputs: &[(u64, Bytes)]) -> bool
-    ensures all { IsTrue result → waiting.new ≡ waiting.old ++ bytes_to number outputs.now }
-    ensures cut { IsFalse result → (count : ℕ)
-        × (waiting.new ≡ waiting.old ++ bytes_to number (take count outputs.now)) }
+/// Puts the outputs to a line behind what waits on it, up to the first that finds no room: too much would wait (1), or memory
+/// is wanting (2).
+fn push_all(
+    waiting: &mut Waiting,
+    number: u64,
+    outputs: &[(u64, Bytes)],
+) -> Result<(), WaitingFault>
+    ensures all { OnOk result (waiting.new ≡ waiting.old ++ bytes_to number outputs.now) }
+    ensures cut { IfErr result (λ fault. (count : ℕ)
+        × FindsNoRoom number outputs.now count waiting.old fault
+        × (waiting.new ≡ waiting.old ++ bytes_to number (take count outputs.now))) }
 {
     for (line, bytes) in outputs {
-        if *line == number && waiting.push(bytes).is_err() {
-            return false;
+        if *line == number {
+            waiting.push(bytes)?;
         }
     }
-    true
+    Ok(())
 }
 
 impl<L: Link> Connection<L> {
@@ -65,14 +74,16 @@ impl<L: Link> Connection<L> {
     pub fn new(alloc: Global, number: u64, peer: L::Peer) -> Connection<L>
         ensures number { result.number ≡ number }
         ensures fate { result.fate ≡ Fate.Stands }
-        ensures silent { result.waits ≡ [] }
+        ensures silent { (result.waits ≡ []) × (result.clear ≡ false) }
         ensures read { (result.reads ≡ L.reads peer) × (result.heard ≡ L.was_read peer) }
         ensures unwritten { (result.writes ≡ L.writes peer) × (result.said ≡ L.written peer) }
+        ensures ended { result.ended ≡ L.ended peer }
     {
         Connection {
             number,
             peer,
             waiting: Waiting::new(alloc),
+            is_clear: false,
             fate: Fate::Stands,
         }
     }
@@ -89,6 +100,13 @@ impl<L: Link> Connection<L> {
         ensures { result ≡ is_standing self.now.fate }
     {
         matches!(self.fate, Fate::Stands)
+    }
+
+    /// Whether the broker sends to it: it stands, and the last write took all that waited.
+    pub fn may_send(&self) -> bool
+        ensures { result ≡ may_send self.now }
+    {
+        self.is_standing() && self.is_clear
     }
 
     /// Whether it is lost, and the broker is to be told.
@@ -108,8 +126,8 @@ impl<L: Link> Connection<L> {
     /// Reads once, where it stands; a read that ends or fails makes it lost. How many bytes came.
     pub fn read(&mut self, link: &mut L, buffer: &mut [u8]) -> usize
         ensures bound { result ≤ length buffer.new }
-        ensures reads { Reads self.old.fate (take result buffer.new) self.old self.new }
-        ensures same { L.accepts link.new ≡ L.accepts link.old }
+        ensures reads { Reads self.old.fate (length buffer.new) (take result buffer.new) self.old self.new }
+        ensures same { L.calls link.new ≡ L.calls link.old }
     {
         if !self.is_standing() {
             return 0;
@@ -126,8 +144,8 @@ impl<L: Link> Connection<L> {
 
     /// Writes once what waits, unless it is lost; a write that ends or fails makes it lost. Whether bytes went out.
     pub fn write(&mut self, link: &mut L) -> bool
-        ensures writes { Writes self.old.fate self.old self.new }
-        ensures same { L.accepts link.new ≡ L.accepts link.old }
+        ensures writes { WritesAnd result self.old self.new }
+        ensures same { L.calls link.new ≡ L.calls link.old }
     {
         if self.is_lost() {
             return false;
@@ -136,13 +154,16 @@ impl<L: Link> Connection<L> {
         if !self.waiting.write(link, &mut self.peer) && self.is_standing() {
             self.fate = Fate::Lost;
         }
+        if before > 0 {
+            self.is_clear = self.waiting.is_empty();
+        }
         self.waiting.len() < before
     }
 
     /// Writes once more what waits, where the broker has closed its line.
     pub fn write_last(&mut self, link: &mut L)
         ensures writes { WritesLast self.old.fate self.old self.new }
-        ensures same { L.accepts link.new ≡ L.accepts link.old }
+        ensures same { L.calls link.new ≡ L.calls link.old }
     {
         if self.is_closed() {
             self.write(link);
@@ -157,7 +178,7 @@ impl<L: Link> Connection<L> {
         if !self.is_standing() {
             return;
         }
-        if !push_all(&mut self.waiting, self.number, outputs) {
+        if push_all(&mut self.waiting, self.number, outputs).is_err() {
             self.fate = Fate::Lost;
         }
     }

@@ -7,8 +7,10 @@ mod asking;
 mod connection;
 mod giving;
 mod line;
+mod running;
 mod telling;
 mod turn;
 
 pub use mqtt_broker::{Engine, EngineError, Full, Keep, KeepError, Limits, MemKeep};
+pub use running::{Timer, run_turns};
 pub use turn::{Links, READ_LIMIT, TICK_LIMIT, serve_turn};

@@ -1,35 +1,37 @@
 //! The turn of one connection (MQTT 5.0, 4.2).
 ghost use Rattle.std.specs.Prelude.{◌≡◌, ◌≢◌, ◌≤◌, ◌<◌, length, take, OnOk, IfOk, IfErr};
+ghost use Rattle.mqtt_serving.specs.Breaks.{BreaksLine};
 ghost use Rattle.mqtt_serving.specs.Turns.{server, ReadsAt, WritesAt, ServesLine};
 
 use crate::asking::{number_at, pump_at, report_at};
 use crate::connection::Connection;
 use crate::giving::give_at;
+use crate::turn::READ_LIMIT;
 use mqtt_broker::{Engine, EngineError, Keep};
 use mqtt_link::Link;
 
 /// The connection at a place is read once: how many bytes came.
 fn read_at<L: Link>(
     link: &mut L,
-    lines: &mut Vec<Connection<L>>,
+    lines: &mut [Connection<L>],
     place: usize,
     buffer: &mut [u8],
 ) -> usize
-    requires place { place < length lines.old.items }
+    requires place { place < length lines.old }
     ensures bound { result ≤ length buffer.new }
-    ensures reads { ReadsAt place (take result buffer.new) lines.old.items lines.new.items }
-    ensures len { length lines.new.items ≡ length lines.old.items }
-    ensures same { L.accepts link.new ≡ L.accepts link.old }
+    ensures reads { ReadsAt place (length buffer.new) (take result buffer.new) lines.old lines.new }
+    ensures len { length lines.new ≡ length lines.old }
+    ensures same { L.calls link.new ≡ L.calls link.old }
 {
     lines[place].read(link, buffer)
 }
 
 /// What waits on the connection at a place is written once: whether bytes went out.
-fn write_at<L: Link>(link: &mut L, lines: &mut Vec<Connection<L>>, place: usize) -> bool
-    requires place { place < length lines.old.items }
-    ensures writes { WritesAt place lines.old.items lines.new.items }
-    ensures len { length lines.new.items ≡ length lines.old.items }
-    ensures same { L.accepts link.new ≡ L.accepts link.old }
+fn write_at<L: Link>(link: &mut L, lines: &mut [Connection<L>], place: usize) -> bool
+    requires place { place < length lines.old }
+    ensures writes { WritesAt place result lines.old lines.new }
+    ensures len { length lines.new ≡ length lines.old }
+    ensures same { L.calls link.new ≡ L.calls link.old }
 {
     lines[place].write(link)
 }
@@ -38,18 +40,20 @@ fn write_at<L: Link>(link: &mut L, lines: &mut Vec<Connection<L>>, place: usize)
 /// written once; and if it is lost the broker is told. Whether bytes went in or out.
 pub(crate) fn serve_line<L: Link, K: Keep>(
     link: &mut L,
-    lines: &mut Vec<Connection<L>>,
+    lines: &mut [Connection<L>],
     engine: &mut Engine<K>,
     place: usize,
     moment: u64,
-    buffer: &mut [u8],
+    buffer: &mut [u8; READ_LIMIT],
 ) -> Result<bool, EngineError>
-    requires place { place < length lines.old.items }
-    ensures serves { OnOk result (ServesLine K.Keep moment place
-        (server engine.old lines.old.items) (server engine.new lines.new.items)) }
-    ensures len { OnOk result (length lines.new.items ≡ length lines.old.items) }
-    ensures same { L.accepts link.new ≡ L.accepts link.old }
+    requires place { place < length lines.old }
+    ensures serves { IfOk result (λ moved. ServesLine K.Keep moment place moved
+        (server engine.old lines.old) (server engine.new lines.new)) }
+    ensures len { OnOk result (length lines.new ≡ length lines.old) }
+    ensures same { L.calls link.new ≡ L.calls link.old }
     ensures refused { IfErr result (λ error. error ≢ EngineError.Memory) }
+    ensures breaks { IfErr result (λ error. BreaksLine K.Keep moment place error
+        (server engine.old lines.old) (server engine.new lines.new)) }
 {
     let number = number_at(lines, place);
     let count = read_at(link, lines, place, buffer);

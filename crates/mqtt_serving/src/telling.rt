@@ -7,8 +7,8 @@ use mqtt_broker::Outcome;
 use mqtt_link::Link;
 
 /// The outputs of an answer wait on the connections that they name, and the connections that it closed are closed.
-pub(crate) fn deliver<L: Link>(lines: &mut Vec<Connection<L>>, out: &Outcome)
-    ensures { Related (Reaches out.now.outputs.items out.now.closed.items) lines.old.items lines.new.items }
+pub(crate) fn deliver<L: Link>(lines: &mut [Connection<L>], out: &Outcome)
+    ensures { Related (Reaches out.now.outputs.items out.now.closed.items) lines.old lines.new }
 {
     for line in lines.iter_mut() {
         line.tell(&out.outputs);
@@ -17,8 +17,8 @@ pub(crate) fn deliver<L: Link>(lines: &mut Vec<Connection<L>>, out: &Outcome)
 }
 
 /// The connection on a line is lost.
-pub(crate) fn lose<L: Link>(lines: &mut Vec<Connection<L>>, number: u64)
-    ensures { AreLost number lines.old.items lines.new.items }
+pub(crate) fn lose<L: Link>(lines: &mut [Connection<L>], number: u64)
+    ensures { AreLost number lines.old lines.new }
 {
     for line in lines.iter_mut() {
         if line.number() == number {

@@ -6,7 +6,7 @@ ghost use Rattle.mqtt_link.specs.Links.{GivesAtMost};
 use mqtt_link::{Got, Link};
 use std::alloc::{AllocError, Global};
 
-/// What a client sends once so many bytes have come to it.
+/// What a client sends once so many bytes have come to it; without bytes it closes.
 pub type Stage = (usize, &'static [u8]);
 
 /// A call of a link.
@@ -69,10 +69,16 @@ impl Client {
         let Some((after, bytes)) = self.stages.get(self.stage) else {
             return Got::Nothing;
         };
+        if self.taken.len() < *after {
+            return Got::Nothing;
+        }
+        if bytes.is_empty() {
+            return Got::End;
+        }
         let at = self.at.min(bytes.len());
         let rest = &bytes[at..];
         let count = rest.len().min(chunk).min(buffer.len());
-        if self.taken.len() < *after || count == 0 {
+        if count == 0 {
             return Got::Nothing;
         }
         buffer[..count].copy_from_slice(&rest[..count]);
@@ -151,6 +157,11 @@ impl Clients {
         self.failed
     }
 
+    /// Whether no call has gone wrong.
+    pub fn is_well(&self) -> bool {
+        self.fault.is_some()
+    }
+
     /// Whether this call goes wrong. Each is counted.
     fn goes_wrong(&mut self, call: Call, place: usize) -> Option<Wrong> {
         let Some(fault) = self.fault else {
@@ -188,6 +199,8 @@ impl Link for Clients {
         self.came = place + 1;
         Got::Given(Peer { place })
     }
+
+    fn wait(&mut self) {}
 
     fn read(&mut self, peer: &mut Peer, buffer: &mut [u8]) -> Got<usize> {
         if let Some(wrong) = self.goes_wrong(Call::Read, peer.place) {

@@ -4,6 +4,10 @@
 #[cfg(test)]
 mod clients;
 #[cfg(test)]
+mod full;
+#[cfg(test)]
+mod slow;
+#[cfg(test)]
 mod sockets;
 #[cfg(test)]
 mod turns;

@@ -123,7 +123,7 @@ fn are_served(
 #[test]
 fn both_handshakes_are_done_within_sixty_turns_over_sockets(rt: HostRuntime) -> Result<(), Fail> {
     let any = SocketAddr::from((Ipv4Addr::LOCALHOST, 0));
-    let mut links = Links::new(rt.alloc(), NetLink::bind(&rt, any)?);
+    let mut links = Links::new(rt.alloc(), NetLink::bind(&rt, any)?)?;
     let served = are_served(&rt, &mut links, 60);
     drop(links);
     assert!(rt; served?);

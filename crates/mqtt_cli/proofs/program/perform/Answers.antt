@@ -1,5 +1,5 @@
-use Rattle.std.proofs.Common.{Some, codes, map, sym, ◌≡◌, ◌∙◌}
-use Rattle.mqtt_cli.specs.Line.{AskFor, AsksToReplay, AsksToServe, command_of, file_in, replay_rows_in, rows_in, serve_rows_in}
+use Rattle.std.proofs.Common.{Some, map}
+use Rattle.mqtt_cli.specs.Line.{AskFor, AsksToReplay, AsksToServe, command_of, replay_rows_in, serve_rows_in}
 use Rattle.mqtt_cli.proofs.Commands.{limits_within}
 use Rattle.mqtt_cli.proofs.Views.{view_writes}
 use Rattle.mqtt_cli.specs.declared.line.Action.TheVariants.{View}

@@ -1,5 +1,5 @@
-use Rattle.std.proofs.Common.{refl, ◌∙◌}
-use Rattle.mqtt_serving.specs.Turns.{no_line, line_after}
+use Rattle.std.proofs.Common.{◌≡◌, Err, rules, refl, ◌∙◌}
+use Rattle.mqtt_serving.specs.Turns.{server, no_line, line_after}
 use Rattle.mqtt_serving.proofs.turn.serve_lines.Goals as goal
 
 pub loop-place-init : goal.loop-place-init
@@ -11,3 +11,15 @@ loop-place-preserved g c = record {
   serves = line_after c.loop-place.invariant.serves c.in_ok-busy.ensures.serves;
   same = c.in_ok-busy.ensures.same ∙ c.loop-place.invariant.same;
 }
+
+pub returns-in_err-busy-clause-breaks : goal.returns-in_err-busy-clause-breaks
+returns-in_err-busy-clause-breaks g c =
+    let is : c.from_residual.result ≡ Err c.in_err-busy.field-0.0 = search rules in
+    rw is (record {
+      place = c.loop-place.place;
+      moved = c.loop-place.busy;
+      mid = server c.loop-place.engine c.loop-place.lines;
+      serves = c.loop-place.invariant.serves;
+      within = search rules;
+      breaks = c.in_err-busy.ensures.breaks;
+    })

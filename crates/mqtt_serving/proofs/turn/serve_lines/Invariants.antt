@@ -4,7 +4,7 @@ use Rattle.mqtt_serving.proofs.turn.serve_lines.Given as goal
 
 abbrev pub invariant-loop-place : goal.invariant-loop-place
 invariant-loop-place g l = record {
-  len : length l.lines.items ≡ length l.fn.lines.items;
-  serves : ServesBelow g.K.Keep l.fn.moment l.place (server l.fn.engine l.fn.lines.items) (server l.engine l.lines.items);
-  same : g.L.Link.accepts l.link ≡ g.L.Link.accepts l.fn.link;
+  len : length l.lines ≡ length l.fn.lines;
+  serves : ServesBelow g.K.Keep l.fn.moment l.place l.busy (server l.fn.engine l.fn.lines) (server l.engine l.lines);
+  same : g.L.Link.calls l.link ≡ g.L.Link.calls l.fn.link;
 }

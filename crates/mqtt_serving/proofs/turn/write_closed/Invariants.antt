@@ -5,4 +5,4 @@ use Rattle.mqtt_serving.proofs.turn.write_closed.Given as goal
 
 abbrev pub invariant-loop-line : goal.invariant-loop-line
 invariant-loop-line g l =
-    RelatedBelow (λ x y. WritesLast x.fate x y) l.line-index l.fn.lines.items l.line-items × (g.L.Link.accepts l.link ≡ g.L.Link.accepts l.fn.link)
+    RelatedBelow (λ x y. WritesLast x.fate x y) l.line-index l.fn.lines l.lines × (g.L.Link.calls l.link ≡ g.L.Link.calls l.fn.link)
