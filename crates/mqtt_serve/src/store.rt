@@ -57,7 +57,7 @@ pub(crate) fn store_over<S: Alter + Drop>(
 
 /// The moment of the newest step that a database has, in milliseconds; 0 where it has none that can be read.
 pub(crate) fn stored_moment<S: Alter + Drop>(conn: &mut Connection<S>) -> u64 {
-    let row = match conn.query_row("SELECT value FROM meta WHERE name = 'moment'", &[]) {
+    let row = match conn.query_row("SELECT n FROM meta WHERE name = 'moment'", &[]) {
         Ok(row) => row,
         Err(_) => return 0,
     };

@@ -20,7 +20,7 @@ const SILENCED: &[u8] =
 fn set_forward(rt: &HostRuntime, db: &str) -> Result<(), Error> {
     let mut conn = Connection::open(rt, db)?;
     conn.execute(
-        "UPDATE meta SET value = value + 31536000000 WHERE name = 'moment'",
+        "UPDATE meta SET n = n + 31536000000 WHERE name = 'moment'",
         &[],
     )?;
     conn.close()
