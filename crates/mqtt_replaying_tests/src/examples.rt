@@ -67,9 +67,9 @@ const FULL_QUEUE_TEXT: &str =
     "1 receiver\n2 publisher\n3 connect\n4 tobroker out=1\n5 toend\n6 subscribe\n7 tobroker out=1\n\
     8 toend\n9 break\n10 connect\n11 tobroker out=1\n12 toend\n13 publish\n\
     14 tobroker accepted=1 entered=1>r1 out=1\n15 toend\n16 tobroker released=1 out=1\n17 toend\n\
-    18 publish\n19 tobroker accepted=2 entered=2>r1 out=1\n20 toend\n21 tobroker released=2 out=1\n\
+    18 publish\n19 tobroker accepted=2 entered=2>r1 out=1\n20 toend\n21 tobroker released=1 out=1\n\
     22 toend\n23 publish\n24 tobroker accepted=3 ended=1>r1:Dropped entered=3>r1 out=1\n25 toend\n\
-    26 tobroker released=3 out=1\n27 toend\n28 connect\n29 tobroker out=1\n30 toend\n31 pump out=2\n\
+    26 tobroker released=1 out=1\n27 toend\n28 connect\n29 tobroker out=1\n30 toend\n31 pump out=2\n\
     32 toend\n33 toend\n34 tobroker out=1\n35 tobroker out=1\n36 toend\n37 toend\n\
     38 tobroker ended=2>r1:Taken\n39 tobroker ended=3>r1:Taken\nr1 handed=2,3 queue=0\n\
     p1 sent=3 done=3\nbroker publications=3 sessions=2\n";
