@@ -64,15 +64,15 @@ impl Link for Slow {
 fn push_publish(bytes: &mut Vec<u8>, identifier: u16, payload: usize) -> Result<(), AllocError> {
     bytes.push(0x32)?;
     let mut left = payload.saturating_add(8);
-    loop {
-        let low = (left % 128) as u8;
-        left /= 128;
-        if left == 0 {
-            bytes.push(low)?;
+    // A variable byte integer has at most four bytes (1.5.5).
+    for _ in 0..3 {
+        if left < 128 {
             break;
         }
-        bytes.push(low | 0x80)?;
+        bytes.push((left % 128) as u8 | 0x80)?;
+        left /= 128;
     }
+    bytes.push((left % 128) as u8)?;
     bytes.extend_from_slice(b"\x00\x03a/b")?;
     bytes.extend_from_slice(&identifier.to_be_bytes())?;
     bytes.push(0)?;
