@@ -43,7 +43,7 @@ fn bad() -> &'static [(&'static str, &'static str)] {
         ),
         (READY, "subscribe r1 2 1 0 0 0 $share/g/a/b"),
         (WAITING, "subscribe r1 2 0 0 0 0 a/b"),
-        ("receiver r1 10\n", "drain r1"),
+        (READY, "drain r1"),
         (
             "receiver r1 10\n",
             "stranger s 101400044d515454050000000511ffffffff00027231",
