@@ -1,0 +1,6 @@
+pub mod Lists
+pub mod Groups
+pub mod OwnSteps
+pub mod OwnRuns
+pub mod OwnCounts
+pub mod Intended
