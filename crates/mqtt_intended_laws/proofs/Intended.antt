@@ -49,7 +49,7 @@ all_next : (xs : List Step) → AllByRecursion (λ (x : Step). AreNext (accepted
 all_next [] h a among = absurd among
 all_next (x ∷ xs) h a among = in_front (accepted_in x) h.0 (all_next xs h.1 a) among
   where
-    in_front : (as : List Acceptance) → AreNext as → (IsAmong a (flat_map accepted_in xs) → IsNext a) → IsAmong a (as ++ flat_map accepted_in xs) → IsNext a
+    in_front : (accepted : List Acceptance) → AreNext accepted → (IsAmong a (flat_map accepted_in xs) → IsNext a) → IsAmong a (accepted ++ flat_map accepted_in xs) → IsNext a
     in_front [] q more among = more among
     in_front (c ∷ cs) q more (inl same) = subst IsNext same q.0
     in_front (c ∷ cs) q more (inr behind) = in_front cs q.1 more behind
@@ -95,7 +95,7 @@ module _ (limits : Limits) (ts : List Turn) (w : World) (new : IsNew limits w) (
   numbers_differ = subst AllDiffer it.numbers (counts_differ w.broker.records.publications (run limits ts w).broker.records.publications _ (run_numbers limits ts w new fair))
 
   next : (a : Acceptance) → IsAmong a (acceptances_over limits ts w) → IsNext a
-  next a among = all_next (steps_over limits ts w) it.each a (subst (λ (as : List Acceptance). IsAmong a as) it.accepted_are among)
+  next a among = all_next (steps_over limits ts w) it.each a (subst (λ (accepted : List Acceptance). IsAmong a accepted) it.accepted_are among)
 
   of_acceptance : (a : Acceptance) → IsAmong a (acceptances_over limits ts w) → IsNext a → EntersAsIntended limits ts w a
   of_acceptance a among h = record {

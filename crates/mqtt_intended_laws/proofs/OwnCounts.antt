@@ -45,20 +45,20 @@ counts_differ n m (x ∷ xs) h = (each_more (λ y. x < y) (λ y. x ≢ y) (λ y 
 
 -- ---- of one acceptance among many that differ in their numbers
 
-others_none : (n : ℕ) (as : List Acceptance) → AllByRecursion (λ k. n ≢ k) (map number_of as) → flat_map (own_ids n) as ≡ []
+others_none : (n : ℕ) (accepted : List Acceptance) → AllByRecursion (λ k. n ≢ k) (map number_of accepted) → flat_map (own_ids n) accepted ≡ []
 others_none n [] h = refl
-others_none n (a ∷ as) h =
+others_none n (a ∷ accepted) h =
     let other : nat_eq a.number n ≡ false = apart a.number n (λ e. h.0 (sym e)) in
-    rw other (others_none n as h.1)
+    rw other (others_none n accepted h.1)
 
-among_numbers : (P : ℕ → Type 0) (a : Acceptance) (as : List Acceptance) → AllByRecursion P (map number_of as) → IsAmong a as → P a.number
+among_numbers : (P : ℕ → Type 0) (a : Acceptance) (accepted : List Acceptance) → AllByRecursion P (map number_of accepted) → IsAmong a accepted → P a.number
 among_numbers P a [] h among = absurd among
 among_numbers P a (x ∷ xs) h among = elim among [
   | inl same ↦ subst (λ (y : Acceptance). P y.number) same h.0
   | inr behind ↦ among_numbers P a xs h.1 behind
 ]
 
-pub only_own : (a : Acceptance) (as : List Acceptance) → AllDiffer (map number_of as) → IsAmong a as → flat_map (own_ids a.number) as ≡ its_ids a
+pub only_own : (a : Acceptance) (accepted : List Acceptance) → AllDiffer (map number_of accepted) → IsAmong a accepted → flat_map (own_ids a.number) accepted ≡ its_ids a
 only_own a [] differ among = absurd among
 only_own a (x ∷ xs) differ among = by among (only_own a xs differ.1)
   where
@@ -74,6 +74,9 @@ only_own a (x ∷ xs) differ among = by among (only_own a xs differ.1)
         ap (λ (t : Bool). cond t (its_ids x) [] ++ flat_map (own_ids a.number) xs) other ∙ more behind
 
 -- ---- counts of what passes a further test
+
+abbrev one_if : Bool → ℕ
+one_if t = cond t 1 0
 
 module _ {X : Type 0} (P : X → Bool) where
   pub counted_cons : (x : X) (xs : List X) → count_by P (x ∷ xs) ≡ cond (P x) 1 0 + count_by P xs
@@ -93,7 +96,7 @@ module _ {X : Type 0} (P : X → Bool) where
     | inr goes ↦
         let rest = count_kept keep stays xs in
         let first = counted_cons x xs in
-        let none : cond (P x) 1 0 ≡ 0 = elim (cases_Bool (P x)) [
+        let none : one_if (P x) ≡ 0 = elim (cases_Bool (P x)) [
           | inl passes ↦ let clash : true ≡ false = sym (stays x passes) ∙ goes in absurd cc
           | inr fails ↦ rw fails refl
         ] in
@@ -120,22 +123,15 @@ groups_own n group x h =
 
 counted_once : (c : CopyId) (is : List CopyId) → AllDiffer is → count_of c is ≡ cond (list_any (is_copy c) is) 1 0
 counted_once c [] h = refl
-counted_once c (i ∷ is) h = elim (cases_Bool (is_copy c i)) [
-  | inl same ↦
-      let first = count_cons c i is in
-      let one : cond (is_copy c i) 1 0 ≡ 1 = rw same refl in
-      let rest = count_none c is (others (copy_is c i same) is h.0) in
-      rw same (omega (arith, first, one, rest))
-  | inr other ↦
-      let first = count_cons c i is in
-      let none : cond (is_copy c i) 1 0 ≡ 0 = rw other refl in
-      let rest = counted_once c is h.1 in
-      rw other (omega (arith, first, none, rest))
-]
+counted_once c (i ∷ is) h = count_cons c i is ∙ by (is_copy c i) refl (counted_once c is h.1)
   where
     others : c ≡ i → (ys : List CopyId) → AllByRecursion (λ y. i ≢ y) ys → AllByRecursion (λ y. c ≢ y) ys
     others same [] q = tt
     others same (y ∷ ys) q = ((λ e. q.0 (sym same ∙ e)), others same ys q.1)
+
+    by : (t : Bool) → is_copy c i ≡ t → count_of c is ≡ cond (list_any (is_copy c) is) 1 0 → cond t 1 0 + count_of c is ≡ cond (t || list_any (is_copy c) is) 1 0
+    by true same rest = let none = count_none c is (others (copy_is c i same) is h.0) in omega (arith, none)
+    by false other rest = omega (arith, rest)
 
 intended_is : (c : CopyId) (ds : List CopyTo) → list_any (is_copy c) (queued_ids ds) ≡ is_intended c ds
 intended_is c [] = refl
@@ -168,7 +164,7 @@ module _ (number now : ℕ) (m : Message) (group : List ℕ) where
     | inl is ↦
         let rest = none_direct cs in
         let first = counted_cons its (copy_to number now m Direct c).copy.id (queued_ids (map (copy_to number now m Direct) cs)) in
-        let none : cond (nat_eq number number && false) 1 0 ≡ 0 = elim (cases_Bool (nat_eq number number)) [ inl same ↦ rw same refl | inr other ↦ rw other refl ] in
+        let none : one_if (nat_eq number number && false) ≡ 0 = elim (cases_Bool (nat_eq number number)) [ inl same ↦ rw same refl | inr other ↦ rw other refl ] in
         rw is (omega (arith, rest, first, none))
     | inr goes ↦ rw goes (none_direct cs)
   ]
@@ -202,7 +198,7 @@ module _ (number now : ℕ) (m : Message) (group : List ℕ) where
       let all = counted_served s ss in
       let rest = other_groups ss h.1 in
       let other : bytes_eq group s.group ≡ false = elim (cases_Bool (bytes_eq group s.group)) [ inl same ↦ absurd (h.0 ((bytes_eq-Decides group s.group).0 same)) | inr differs ↦ differs ] in
-      let none : cond (bytes_eq group s.group && enters_queue s.copy) 1 0 ≡ 0 = rw other refl in
+      let none : one_if (bytes_eq group s.group && enters_queue s.copy) ≡ 0 = rw other refl in
       omega (arith, all, rest, none)
 
   counted_routed : (r : Routed) → count_by its (queued_ids (copies_to number now m r)) ≡ count_by its (queued_ids (served_to r.served))
@@ -232,14 +228,14 @@ module _ (number now : ℕ) (m : Message) where
           let all = counted_served number now m x.group x xs in
           let none = other_groups number now m x.group xs differ.0 in
           let its : bytes_eq x.group x.group ≡ true = (bytes_eq-Decides x.group x.group).1 refl in
-          let one : cond (bytes_eq x.group x.group && enters_queue x.copy) 1 0 ≡ cond (enters_queue x.copy) 1 0 = rw its refl in
+          let one : one_if (bytes_eq x.group x.group && enters_queue x.copy) ≡ one_if (enters_queue x.copy) = rw its refl in
           subst Goal same (omega (arith, all, none, one))
       by (inr behind) more =
           let all = counted_served number now m s.group x xs in
           let rest = more behind in
           let unlike = differs xs differ.0 behind in
           let other : bytes_eq s.group x.group ≡ false = elim (cases_Bool (bytes_eq s.group x.group)) [ inl same ↦ absurd (unlike (sym ((bytes_eq-Decides s.group x.group).0 same))) | inr apart_ ↦ apart_ ] in
-          let none : cond (bytes_eq s.group x.group && enters_queue x.copy) 1 0 ≡ 0 = rw other refl in
+          let none : one_if (bytes_eq s.group x.group && enters_queue x.copy) ≡ 0 = rw other refl in
           omega (arith, all, rest, none)
 
   pub one_each : (r : Routed) → AllDiffer (map (λ (x : Served). x.group) r.served) → (s : Served) → IsAmong s r.served

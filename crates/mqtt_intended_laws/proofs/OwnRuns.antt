@@ -42,9 +42,9 @@ abbrev pub accepted_in : Step → List Acceptance
 accepted_in x = acceptances_of x.env x.deeds x.broker
 
 -- these deeds are done in these steps, and these are what they accept
-pub record Accepts (ds : List Deed) (xs : List Step) (as : List Acceptance) : Type 0 where
-  pub numbers : filter_map publication_given ds ≡ map number_of as
-  pub accepted_are : as ≡ flat_map accepted_in xs
+pub record Accepts (ds : List Deed) (xs : List Step) (accepted : List Acceptance) : Type 0 where
+  pub numbers : filter_map publication_given ds ≡ map number_of accepted
+  pub accepted_are : accepted ≡ flat_map accepted_in xs
   pub each : AllByRecursion (λ (x : Step). AreNext (accepted_in x)) xs
 
 none_accept : Accepts [] [] []
@@ -53,10 +53,10 @@ none_accept = record { numbers = refl; accepted_are = refl; each = tt }
 one_accepts : (x : Step) → AreNext (accepted_in x) → Accepts x.deeds (x ∷ []) (accepted_in x)
 one_accepts x h = record { numbers = numbers_are x.env x.deeds x.broker; accepted_are = sym (append-nil (accepted_in x)); each = (h, tt) }
 
-both_accept : (ds es : List Deed) (xs ys : List Step) (as cs : List Acceptance) → Accepts ds xs as → Accepts es ys cs → Accepts (ds ++ es) (xs ++ ys) (as ++ cs)
-both_accept ds es xs ys as cs p q = record {
-  numbers = filter_map-append publication_given ds es ∙ ap (λ (ns : List ℕ). ns ++ filter_map publication_given es) p.numbers ∙ ap (λ (ns : List ℕ). map number_of as ++ ns) q.numbers
-      ∙ sym (map-append number_of as cs);
+both_accept : (ds es : List Deed) (xs ys : List Step) (accepted cs : List Acceptance) → Accepts ds xs accepted → Accepts es ys cs → Accepts (ds ++ es) (xs ++ ys) (accepted ++ cs)
+both_accept ds es xs ys accepted cs p q = record {
+  numbers = filter_map-append publication_given ds es ∙ ap (λ (ns : List ℕ). ns ++ filter_map publication_given es) p.numbers ∙ ap (λ (ns : List ℕ). map number_of accepted ++ ns) q.numbers
+      ∙ sym (map-append number_of accepted cs);
   accepted_are = ap (λ (zs : List Acceptance). zs ++ cs) p.accepted_are ∙ ap (λ (zs : List Acceptance). flat_map accepted_in xs ++ zs) q.accepted_are ∙ sym (flat_map-append accepted_in xs ys);
   each = each_append (λ (x : Step). AreNext (accepted_in x)) xs ys p.each q.each;
 }

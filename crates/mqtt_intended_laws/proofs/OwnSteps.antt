@@ -73,7 +73,7 @@ accepted_append env (x ∷ xs) ys b = by (accepted_by env x b) (accepted_append 
     by : (o : Option Acceptance) → acceptances_of env (xs ++ ys) (after x b) ≡ acceptances_of env xs (after x b) ++ acceptances_of env ys (after_all xs (after x b))
         → cons_option o (acceptances_of env (xs ++ ys) (after x b)) ≡ cons_option o (acceptances_of env xs (after x b)) ++ acceptances_of env ys (after_all xs (after x b))
     by None rest = rest
-    by (Some a) rest = ap (λ (as : List Acceptance). a ∷ as) rest
+    by (Some a) rest = ap (λ (accepted : List Acceptance). a ∷ accepted) rest
 
 -- ---- an acceptance as it comes: it has the next number, and was routed on tables in order
 
