@@ -1,5 +1,5 @@
 -- Who gets a copy: direct copies, a session's once; groups with their members; and what is served (MQTT 5.0, 3.3.4, 4.8.2).
-use Rattle.std.proofs.Common.{◌≡◌, ◌≢◌, ℕ, ◌≤◌, ◌+◌, Bool, true, false, cond, not, ◌&&◌, ◌||◌, List, [], ◌∷◌, ◌++◌, map, Option, Some, None, nat_eq, nat_lt, refl, sym, ap, subst, ◌∙◌, arith, inl, inr, append-nil, append_assoc}
+use Rattle.std.proofs.Common.{◌≡◌, ◌≢◌, ℕ, ◌≤◌, ◌+◌, Bool, true, false, cond, not, ◌&&◌, ◌||◌, ◌⊎◌, List, [], ◌∷◌, ◌++◌, map, Option, Some, None, nat_eq, nat_lt, refl, sym, ap, subst, ◌∙◌, arith, inl, inr, append-nil, append_assoc}
 use Rattle.std.specs.Prelude.{bytes_eq, option_map, slice_index_or, count_by}
 use Rattle.std.specs.List.{AllByRecursion, list_any, list_all}
 use Rattle.std.specs.Option.{option_and_then}
@@ -21,7 +21,7 @@ use Rattle.mqtt_rules.proofs.Copies.{each_all, each_more}
 use Rattle.mqtt_world_laws.proofs.CopiesApart.{Any}
 use Rattle.mqtt_world_laws.proofs.RoutedApart.{AreStanding, IsApart, IsGroups, routed_apart}
 use Rattle.mqtt_world_laws.proofs.Shares.{same_group}
-use Rattle.mqtt_intended_laws.specs.Groups.{gets_direct, is_of_group, has_member, IsServedOnce, AreServedOnce, EachGetsOne}
+use Rattle.mqtt_intended_laws.specs.Groups.{gets_direct, is_of_group, has_member, IsOfSession, IsServedOnce, AreServedOnce, EachGetsOne}
 use Rattle.mqtt_intended_laws.proofs.Lists.{some_pass, one_among, among_passing}
 
 -- ---- direct copies
@@ -145,6 +145,49 @@ module _ (p : Publication) (text : List ℕ) where
   pub groups_match : (sessions : List Subscriber) → list_any (bytes_eq text) (groups (members p sessions)) ≡ has_member p text sessions
   groups_match sessions = named_by [] (members p sessions) refl ∙ of_sessions sessions [] ∙ or_none (has_member p text sessions)
 
+-- ---- each member is of a session
+
+of_inserted : (m n : Member) (ms : List Member) → IsAmong m (insert_member n ms) → (n ≡ m) ⊎ IsAmong m ms
+of_inserted m n [] h = h
+of_inserted m n (x ∷ xs) h = by (nat_lt n.sub.place x.sub.place) (of_inserted m n xs) h
+  where
+    by : (t : Bool) → (IsAmong m (insert_member n xs) → (n ≡ m) ⊎ IsAmong m xs) → IsAmong m (cond t (n ∷ x ∷ xs) (x ∷ insert_member n xs)) → (n ≡ m) ⊎ IsAmong m (x ∷ xs)
+    by true more q = q
+    by false more (inl first) = inr (inl first)
+    by false more (inr behind) = elim (more behind) [ inl is ↦ inl is | inr later ↦ inr (inr later) ]
+
+module _ (p : Publication) (m : Member) where
+  -- one that a session adds, or one from before
+  its_own : (birth : ℕ) (subs : List Subscription) (before : List Member) → IsAmong m (members_with p birth subs before) → ((birth ≡ m.birth) × IsAmong m.sub subs) ⊎ IsAmong m before
+  its_own birth [] before h = inr h
+  its_own birth (s ∷ ss) before h =
+      let t = is_shared s && matches_topic p s in
+      let n : Member = record { birth = birth; sub = s } in
+      elim (its_own birth ss (cond t (insert_member n before) before) h) [
+        | inl own ↦ inl (own.0, inr own.1)
+        | inr earlier ↦ by t earlier
+      ]
+    where
+      by : (t : Bool) → IsAmong m (cond t (insert_member (record { birth = birth; sub = s }) before) before) → ((birth ≡ m.birth) × IsAmong m.sub (s ∷ ss)) ⊎ IsAmong m before
+      by false q = inr q
+      by true q = elim (of_inserted m (record { birth = birth; sub = s }) before q) [
+        | inl is ↦ inl (ap (λ (x : Member). x.birth) is, inl (ap (λ (x : Member). x.sub) is))
+        | inr earlier ↦ inr earlier
+      ]
+
+  of_one : (xs : List Subscriber) (before : List Member) → IsAmong m (members_after p xs before) → IsOfSession xs m ⊎ IsAmong m before
+  of_one [] before h = inr h
+  of_one (x ∷ xs) before h = elim (of_one xs (members_with p x.birth x.subs before) h) [
+    | inl later ↦ inl (record { session = later.session; stands = inr later.stands; birth = later.birth; subscribed = later.subscribed })
+    | inr earlier ↦ elim (its_own x.birth x.subs before earlier) [
+      | inl own ↦ inl (record { session = x; stands = inl refl; birth = own.0; subscribed = own.1 })
+      | inr first ↦ inr first
+    ]
+  ]
+
+  pub belongs_to : (sessions : List Subscriber) → IsAmong m (members p sessions) → IsOfSession sessions m
+  belongs_to sessions h = elim (of_one sessions [] h) [ inl it ↦ it | inr none ↦ absurd none ]
+
 -- ---- what is served
 
 module _ (at : Answers) (p : Publication) (all : List Member) (direct : List Copy) where
@@ -241,6 +284,7 @@ module _ (at : Answers) (p : Publication) (choices : List ℕ) (sessions : List 
       subst (EachGetsOne at p sessions) same (record {
         direct = λ birth. direct_once at p birth sessions order;
         matching = λ text. groups_match p text sessions;
+        belongs = λ m among. belongs_to p m sessions among;
         apart = subst AllDiffer (names_are at p all direct [] (groups all) out once) differ_out;
         served = once;
       })

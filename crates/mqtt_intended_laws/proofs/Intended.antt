@@ -1,5 +1,5 @@
 -- Each publication of a run enters exactly its copies (MQTT 5.0, 3.3.4, 4.3, 4.8.2).
-use Rattle.std.proofs.Common.{◌≡◌, ℕ, ◌+◌, Bool, true, false, cond, List, [], ◌∷◌, ◌++◌, map, filter, Option, Some, None, refl, sym, ap, subst, ◌∙◌, arith, inl, inr}
+use Rattle.std.proofs.Common.{◌≡◌, ℕ, ◌+◌, Bool, true, false, List, [], ◌∷◌, ◌++◌, map, filter, Option, Some, None, refl, sym, ap, subst, ◌∙◌, arith, inl, inr}
 use Rattle.std.specs.Prelude.{flat_map, option_map, count_by}
 use Rattle.std.specs.List.{AllByRecursion}
 use Rattle.std.proofs.lemmas.List.Elements.{All-from_recursion, filter-append}
@@ -16,7 +16,7 @@ use Rattle.mqtt_rules.specs.Laws.{IsAmong}
 use Rattle.mqtt_rules.specs.Routing.{CopyTo, copies_to, accepted_if, accepted_copies, finds_place, routing_of, next_publication, answers, publication_of, subscriber_of, subscribers}
 use Rattle.mqtt_rules.proofs.Copies.{each_more}
 use Rattle.mqtt_laws.specs.World.{World, start}
-use Rattle.mqtt_laws.specs.Run.{Turn, run, after, Acceptance, acceptances_over, deeds_over}
+use Rattle.mqtt_laws.specs.Run.{Turn, run, Acceptance, acceptances_over, deeds_over}
 use Rattle.mqtt_laws.specs.Laws.{count_of, is_copy, is_own, standing, EnteredOnce, CopiesOnce}
 use Rattle.mqtt_world_laws.specs.Copies.{entered_from, ended_from}
 use Rattle.mqtt_world_laws.specs.Entries.{queued_ids, ids_if, brought_in}
@@ -27,13 +27,12 @@ use Rattle.mqtt_world_laws.proofs.CopyRuns.{run_balances, run_numbers}
 use Rattle.mqtt_world_laws.proofs.OnceRuns.{enters_once, start_apart}
 use Rattle.mqtt_world_laws.proofs.Runs.{start_new}
 use Rattle.mqtt_world_laws.proofs.StepRuns.{run_enters}
-use Rattle.mqtt_intended_laws.specs.Groups.{EachGetsOne}
-use Rattle.mqtt_intended_laws.specs.Intended.{intended_for, is_groups, is_intended, enters_queue, EntersForGroup, EntersAsIntended, AllEnterAsIntended}
+use Rattle.mqtt_intended_laws.specs.Intended.{intended_for, is_groups, EntersForGroup, EntersAsIntended, AllEnterAsIntended}
 use Rattle.mqtt_intended_laws.proofs.Groups.{each_gets_one, served_differ}
 use Rattle.mqtt_intended_laws.proofs.Lists.{each_among}
 use Rattle.mqtt_intended_laws.proofs.OwnCounts.{counts_differ, only_own, count_kept, same_own, groups_own, intended_once, one_each}
 use Rattle.mqtt_intended_laws.proofs.OwnRuns.{number_of, accepted_in, Accepts, run_accepts}
-use Rattle.mqtt_intended_laws.proofs.OwnSteps.{IsNext, AreNext, its_ids, own_ids, own_brought}
+use Rattle.mqtt_intended_laws.proofs.OwnSteps.{IsNext, AreNext, own_ids, own_brought}
 
 -- ---- what the steps of a run bring of a publication
 

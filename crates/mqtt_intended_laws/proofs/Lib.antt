@@ -4,3 +4,4 @@ pub mod OwnSteps
 pub mod OwnRuns
 pub mod OwnCounts
 pub mod Intended
+pub mod Examples

@@ -1,16 +1,16 @@
 -- Over a run: its acceptances are those of its steps, numbered as its deeds number them, and each comes with the next number on tables in order.
-use Rattle.std.proofs.Common.{◌≡◌, ℕ, zero, suc, Bool, true, false, cond, List, [], ◌∷◌, ◌++◌, map, Option, Some, None, refl, sym, ap, subst, ◌∙◌, append-nil}
+use Rattle.std.proofs.Common.{◌≡◌, ℕ, zero, suc, Bool, true, false, cond, List, [], ◌∷◌, ◌++◌, map, Option, Some, None, refl, sym, ap, ◌∙◌, append-nil}
 use Rattle.std.specs.Prelude.{⊤, flat_map, filter_map}
 use Rattle.std.specs.List.{AllByRecursion}
 use Rattle.std.proofs.lemmas.Grind.{flat_map-append}
 use Rattle.std.proofs.lemmas.List.{map-append}
 use Rattle.std.proofs.lemmas.List.Elements.{filter_map-append}
 use Rattle.mqtt_rules.specs.declared.Limits.{Limits}
-use Rattle.mqtt_rules.specs.State.{Broker, Env}
+use Rattle.mqtt_rules.specs.State.{Broker}
 use Rattle.mqtt_rules.specs.Deeds.{Deed, Link}
 use Rattle.mqtt_rules.specs.Laws.{AreWithin}
 use Rattle.mqtt_rules.specs.Numbers.{publication_given}
-use Rattle.mqtt_rules.specs.Step.{Call, NewLine, can_link, env_of, at_moment, deeds, opening, unopened}
+use Rattle.mqtt_rules.specs.Step.{Call, NewLine, can_link, env_of, at_moment, deeds, unopened}
 use Rattle.mqtt_rules.proofs.Copies.{each_append}
 use Rattle.mqtt_laws.specs.World.{World, Setting, Event, publisher, receiver, connect_end, give_up, publish, subscribe, to_end, clock, ask, restart, stop_before, stop_after, Asking, to_broker, old_to_broker, break, pump, tick, stranger, stranger_named, calls_if, comes, next_held, call_of_stranger, held_count, before, call_of, first_step, is_bad}
 use Rattle.mqtt_laws.specs.Run.{Turn, setting, turned, deeds_at, deeds_over, read_if, read_rest, read_first, read_asked, read_opening, read_in, read_at, the_deeds, Acceptance, acceptances_of, acceptances_over, the_acceptances}
@@ -19,7 +19,7 @@ use Rattle.mqtt_world_laws.specs.Fair.{IsSteady, IsNew, IsFair}
 use Rattle.mqtt_world_laws.specs.Steps.{Step, step_called, opening_step, steps_over, the_steps}
 use Rattle.mqtt_world_laws.proofs.Walks.{Walk, before_goes, first_goes, if_goes, same_cost, comes_goes, turn_goes}
 use Rattle.mqtt_world_laws.proofs.Runs.{either}
-use Rattle.mqtt_intended_laws.proofs.OwnSteps.{AreNext, Next, call_next, opening_next, numbers_are}
+use Rattle.mqtt_intended_laws.proofs.OwnSteps.{AreNext, call_next, opening_next, numbers_are}
 
 -- steps that keep the tables in order, of which nothing else is said
 abbrev Any : List Deed → Broker → Broker → Type 0

@@ -2,8 +2,7 @@
 use Rattle.std.proofs.Common.{◌≡◌, ℕ, Bool, true, false, cond, not, ◌&&◌, List, [], ◌∷◌, ◌++◌, map, filter, Option, Some, None, nat_eq, refl, sym, ap, subst, ◌∙◌, inl, inr}
 use Rattle.std.specs.Prelude.{⊤, flat_map, filter_map}
 use Rattle.std.specs.List.{AllByRecursion, cons_option}
-use Rattle.std.proofs.lemmas.Bool.{cases_Bool, eqb-true}
-use Rattle.std.proofs.lemmas.Cmp.{nat_eq_equiv}
+use Rattle.std.proofs.lemmas.Bool.{cases_Bool}
 use Rattle.std.proofs.lemmas.List.Elements.{filter-append}
 use Rattle.mqtt_base.specs.declared.session.Cause.{Cause}
 use Rattle.mqtt_base.specs.declared.session.Cause.TheVariants.{Direct, Share, Retained}
@@ -16,7 +15,7 @@ use Rattle.mqtt_records.specs.declared.subscription.Subscription.{Subscription}
 use Rattle.mqtt_routes.specs.Retained.{kept_for}
 use Rattle.mqtt_topic.specs.Filters.{begins_share}
 use Rattle.mqtt_topic.specs.Names.{is_empty}
-use Rattle.mqtt_rules.specs.Deeds.{whose, Message, Origin, Subscribe, Enter, Deed, Accept, Count, At, Keep, after, after_all, always, series, with_session}
+use Rattle.mqtt_rules.specs.Deeds.{whose, Message, Origin, Subscribe, Enter, Deed, Accept, Count, At, after, after_all, always, series, with_session}
 use Rattle.mqtt_rules.specs.Outbound.{leave_deeds, since, queue_limits, enter_deeds}
 use Rattle.mqtt_rules.specs.Packets.{publish_of}
 use Rattle.mqtt_rules.specs.Routing.{CopyTo, is_queued, deliver_by, deliver, retained_of, forgets, retain_by, next_publication, accepted_copies, publish}
@@ -30,12 +29,12 @@ use Rattle.mqtt_rules.proofs.StandLaw.{Orders}
 use Rattle.mqtt_rules.specs.Numbers.{publication_given}
 use Rattle.mqtt_laws.specs.Run.{Acceptance, accepted_by, acceptances_of}
 use Rattle.mqtt_laws.specs.Laws.{is_own, is_routed}
-use Rattle.mqtt_world_laws.specs.Entries.{brings, ids_if, queued_ids, retained_ids, wish_in}
+use Rattle.mqtt_world_laws.specs.Entries.{ids_if, queued_ids, retained_ids, wish_in}
 use Rattle.mqtt_world_laws.proofs.CopiesApart.{Any, accepted_differ}
 use Rattle.mqtt_world_laws.proofs.Differ.{each_mapped}
 use Rattle.mqtt_world_laws.proofs.EachAct.{Says, call_says, opening_says, says_still, whatever}
 use Rattle.mqtt_world_laws.proofs.Entering.{IsStill, AreStill, brought_by}
-use Rattle.mqtt_world_laws.proofs.RoutedApart.{IsCauseOf, id_to, ids_to}
+use Rattle.mqtt_world_laws.proofs.RoutedApart.{IsCauseOf, id_to}
 
 -- ---- deeds that accept nothing
 

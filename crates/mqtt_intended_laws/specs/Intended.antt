@@ -1,6 +1,6 @@
 -- Which copies of a publication enter queues in a run: those that were intended for it, with QoS 1 or 2, each once, and
 -- no other (MQTT 5.0, 3.3.4, 4.3, 4.8.2).
-use Rattle.std.specs.Prelude.{◌≡◌, ℕ, Bool, true, false, cond, ◌&&◌, List, map, filter, count_by, nat_eq, nat_lt, Option, Some, None}
+use Rattle.std.specs.Prelude.{◌≡◌, ℕ, Bool, true, false, cond, ◌&&◌, List, filter, count_by, nat_eq, nat_lt, Option, Some, None}
 use Rattle.std.specs.List.{AllByRecursion, list_any}
 use Rattle.mqtt_base.specs.declared.session.CopyId.{CopyId}
 use Rattle.mqtt_routes.specs.Intended.{Copy}

@@ -5,6 +5,5 @@
 mod laws;
 
 pub use laws::{
-    copies_of_members_find_a_line, each_publication_enters_exactly_its_copies,
-    each_session_and_each_group_gets_one_copy,
+    each_publication_enters_exactly_its_copies, each_session_and_each_group_gets_one_copy,
 };
