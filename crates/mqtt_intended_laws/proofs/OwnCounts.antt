@@ -148,7 +148,7 @@ intended_once c ds h = counted_once c (queued_ids ds) h ∙ ap (λ (t : Bool). c
 queued_append : (xs ys : List CopyTo) → queued_ids (xs ++ ys) ≡ queued_ids xs ++ queued_ids ys
 queued_append xs ys = ap (map id_of) (filter-append is_queued xs ys) ∙ map-append id_of (filter is_queued xs) (filter is_queued ys)
 
-queued_quality : (n : ℕ) → is_queued_at (quality n) ≡ nat_lt 0 n
+pub queued_quality : (n : ℕ) → is_queued_at (quality n) ≡ nat_lt 0 n
 queued_quality zero = refl
 queued_quality (suc zero) = refl
 queued_quality (suc (suc zero)) = refl

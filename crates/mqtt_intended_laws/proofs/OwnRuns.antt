@@ -1,5 +1,5 @@
 -- Over a run: its acceptances are those of its steps, numbered as its deeds number them, and each comes with the next number on tables in order.
-use Rattle.std.proofs.Common.{◌≡◌, ℕ, zero, suc, Bool, true, false, cond, List, [], ◌∷◌, ◌++◌, map, Option, Some, None, refl, sym, ap, ◌∙◌, append-nil}
+use Rattle.std.proofs.Common.{◌⊎◌, inl, inr, ◌≡◌, ℕ, zero, suc, Bool, true, false, cond, List, [], ◌∷◌, ◌++◌, map, Option, Some, None, refl, sym, ap, ◌∙◌, append-nil}
 use Rattle.std.specs.Prelude.{⊤, flat_map, filter_map}
 use Rattle.std.specs.List.{AllByRecursion}
 use Rattle.std.proofs.lemmas.Grind.{flat_map-append}
@@ -11,7 +11,8 @@ use Rattle.mqtt_rules.specs.Deeds.{Deed, Link}
 use Rattle.mqtt_rules.specs.Laws.{AreWithin}
 use Rattle.mqtt_rules.specs.Numbers.{publication_given}
 use Rattle.mqtt_rules.specs.Step.{Call, NewLine, can_link, env_of, at_moment, deeds, unopened}
-use Rattle.mqtt_rules.proofs.Copies.{each_append}
+use Rattle.mqtt_rules.specs.Lines.{HasUniqueLines}
+use Rattle.mqtt_rules.proofs.Copies.{each_append, each_more}
 use Rattle.mqtt_laws.specs.World.{World, Setting, Event, publisher, receiver, connect_end, give_up, publish, subscribe, to_end, clock, ask, restart, stop_before, stop_after, Asking, to_broker, old_to_broker, break, pump, tick, stranger, stranger_named, calls_if, comes, next_held, call_of_stranger, held_count, before, call_of, first_step, is_bad}
 use Rattle.mqtt_laws.specs.Run.{Turn, setting, turned, deeds_at, deeds_over, read_if, read_rest, read_first, read_asked, read_opening, read_in, read_at, the_deeds, Acceptance, acceptances_of, acceptances_over, the_acceptances}
 use Rattle.mqtt_world_laws.specs.Spending.{run_spends, spending}
@@ -19,6 +20,7 @@ use Rattle.mqtt_world_laws.specs.Fair.{IsSteady, IsNew, IsFair}
 use Rattle.mqtt_world_laws.specs.Steps.{Step, step_called, opening_step, steps_over, the_steps}
 use Rattle.mqtt_world_laws.proofs.Walks.{Walk, before_goes, first_goes, if_goes, same_cost, comes_goes, turn_goes}
 use Rattle.mqtt_world_laws.proofs.Runs.{either}
+use Rattle.mqtt_intended_laws.proofs.LinesStand.{IsUnique, HasNoLine, call_unique, opening_lineless}
 use Rattle.mqtt_intended_laws.proofs.OwnSteps.{AreNext, call_next, opening_next, numbers_are}
 
 -- steps that keep the tables in order, of which nothing else is said
@@ -41,17 +43,25 @@ number_of a = a.number
 abbrev pub accepted_in : Step → List Acceptance
 accepted_in x = acceptances_of x.env x.deeds x.broker
 
+-- lines are unique where a publication is accepted, or none stands
+abbrev pub IsLinedUp : Acceptance → Type 0
+IsLinedUp a = HasUniqueLines a.broker ⊎ (a.broker.lines ≡ [])
+
+abbrev pub AreLinedUp : List Acceptance → Type 0
+AreLinedUp accepted = AllByRecursion IsLinedUp accepted
+
 -- these deeds are done in these steps, and these are what they accept
 pub record Accepts (ds : List Deed) (xs : List Step) (accepted : List Acceptance) : Type 0 where
   pub numbers : filter_map publication_given ds ≡ map number_of accepted
   pub accepted_are : accepted ≡ flat_map accepted_in xs
   pub each : AllByRecursion (λ (x : Step). AreNext (accepted_in x)) xs
+  pub lined : AreLinedUp accepted
 
 none_accept : Accepts [] [] []
-none_accept = record { numbers = refl; accepted_are = refl; each = tt }
+none_accept = record { numbers = refl; accepted_are = refl; each = tt; lined = tt }
 
-one_accepts : (x : Step) → AreNext (accepted_in x) → Accepts x.deeds (x ∷ []) (accepted_in x)
-one_accepts x h = record { numbers = numbers_are x.env x.deeds x.broker; accepted_are = sym (append-nil (accepted_in x)); each = (h, tt) }
+one_accepts : (x : Step) → AreNext (accepted_in x) → AreLinedUp (accepted_in x) → Accepts x.deeds (x ∷ []) (accepted_in x)
+one_accepts x h up = record { numbers = numbers_are x.env x.deeds x.broker; accepted_are = sym (append-nil (accepted_in x)); each = (h, tt); lined = up }
 
 both_accept : (ds es : List Deed) (xs ys : List Step) (accepted cs : List Acceptance) → Accepts ds xs accepted → Accepts es ys cs → Accepts (ds ++ es) (xs ++ ys) (accepted ++ cs)
 both_accept ds es xs ys accepted cs p q = record {
@@ -59,12 +69,15 @@ both_accept ds es xs ys accepted cs p q = record {
       ∙ sym (map-append number_of accepted cs);
   accepted_are = ap (λ (zs : List Acceptance). zs ++ cs) p.accepted_are ∙ ap (λ (zs : List Acceptance). flat_map accepted_in xs ++ zs) q.accepted_are ∙ sym (flat_map-append accepted_in xs ys);
   each = each_append (λ (x : Step). AreNext (accepted_in x)) xs ys p.each q.each;
+  lined = each_append IsLinedUp accepted cs p.lined q.lined;
 }
 
 module _ (set : Setting) (within : AreWithin set.limits) where
-  if_accepts : (call : Option Call) (w : World) → IsSteady set.limits w.broker → Accepts (read_if the_deeds set call w) (read_if the_steps set call w) (read_if the_acceptances set call w)
-  if_accepts None w s = none_accept
-  if_accepts (Some call) w s = one_accepts (step_called set call w) (call_next (env_of set.limits set.choice w.broker) call (at_moment w.now w.broker) s.coherent.ordered)
+  if_accepts : (call : Option Call) (w : World) → IsSteady set.limits w.broker → read_if spending set call w ≡ false → Accepts (read_if the_deeds set call w) (read_if the_steps set call w) (read_if the_acceptances set call w)
+  if_accepts None w s unspent = none_accept
+  if_accepts (Some call) w s unspent =
+      one_accepts (step_called set call w) (call_next (env_of set.limits set.choice w.broker) call (at_moment w.now w.broker) s.coherent.ordered)
+      (each_more IsUnique IsLinedUp (λ a unique. inl unique) (accepted_in (step_called set call w)) (call_unique set.limits set.choice w.now call w.broker within s unspent))
 
   -- a new line accepts nothing
   line_accepts : (w : World) → Accepts (deeds set.limits set.choice w.now NewLine w.broker) (step_called set NewLine w ∷ []) []
@@ -74,16 +87,17 @@ module _ (set : Setting) (within : AreWithin set.limits) where
       of_deeds ds = record { env = env_of set.limits set.choice w.broker; deeds = ds; broker = at_moment w.now w.broker }
 
       by : (t : Bool) → Accepts (cond t (Link (suc w.broker.given) ∷ []) []) (of_deeds (cond t (Link (suc w.broker.given) ∷ []) []) ∷ []) []
-      by true = record { numbers = refl; accepted_are = refl; each = (tt, tt) }
-      by false = record { numbers = refl; accepted_are = refl; each = (tt, tt) }
+      by true = record { numbers = refl; accepted_are = refl; each = (tt, tt); lined = tt }
+      by false = record { numbers = refl; accepted_are = refl; each = (tt, tt); lined = tt }
 
   opening_accepts : (w : World) → IsSteady set.limits w.broker → Accepts (read_opening the_deeds set w) (opening_step set w ∷ []) (read_opening the_acceptances set w)
   opening_accepts w s =
       let b = unopened w.now w.broker.records in
       one_accepts (opening_step set w) (opening_next (env_of set.limits set.choice b) b s.coherent.ordered)
+      (each_more HasNoLine IsLinedUp (λ a none. inr none) (accepted_in (opening_step set w)) (opening_lineless (env_of set.limits set.choice b) b refl))
 
-  first_accepts : (a : Asking) (w : World) → IsSteady set.limits w.broker → Accepts (read_first the_deeds set a w) (read_first the_steps set a w) (read_first the_acceptances set a w)
-  first_accepts a w s = if_accepts (call_of set a w) (before set a w) (before_goes Any set (anything set.limits) within a w s).steady
+  first_accepts : (a : Asking) (w : World) → IsSteady set.limits w.broker → read_first spending set a w ≡ false → Accepts (read_first the_deeds set a w) (read_first the_steps set a w) (read_first the_acceptances set a w)
+  first_accepts a w s unspent = if_accepts (call_of set a w) (before set a w) (before_goes Any set (anything set.limits) within a w s).steady unspent
 
   rest_accepts : (more : ℕ) (name : List ℕ) (v : World) → IsSteady set.limits v.broker → read_rest spending set more name v ≡ false
       → Accepts (read_rest the_deeds set more name v) (read_rest the_steps set more name v) (read_rest the_acceptances set more name v)
@@ -95,14 +109,14 @@ module _ (set : Setting) (within : AreWithin set.limits) where
       let costs = either (read_if spending set call v) (read_rest spending set more name u) unspent in
       let x = if_goes Any set (anything set.limits) within call held s (same_cost Any set (anything set.limits) within name v call costs.0) in
       both_accept (read_if the_deeds set call v) (read_rest the_deeds set more name u) (read_if the_steps set call v) (read_rest the_steps set more name u) (read_if the_acceptances set call v) (read_rest the_acceptances set more name u)
-      (if_accepts call v s) (rest_accepts more name u x.steady costs.1)
+      (if_accepts call v s costs.0) (rest_accepts more name u x.steady costs.1)
 
   asked_accepts : (a : Asking) (w : World) → IsSteady set.limits w.broker → read_asked spending set a w ≡ false → Accepts (read_asked the_deeds set a w) (read_asked the_steps set a w) (read_asked the_acceptances set a w)
-  asked_accepts (to_broker d) w s unspent = first_accepts (to_broker d) w s
-  asked_accepts (old_to_broker d) w s unspent = first_accepts (old_to_broker d) w s
-  asked_accepts (break d) w s unspent = first_accepts (break d) w s
-  asked_accepts (pump d) w s unspent = first_accepts (pump d) w s
-  asked_accepts tick w s unspent = first_accepts tick w s
+  asked_accepts (to_broker d) w s unspent = first_accepts (to_broker d) w s unspent
+  asked_accepts (old_to_broker d) w s unspent = first_accepts (old_to_broker d) w s unspent
+  asked_accepts (break d) w s unspent = first_accepts (break d) w s unspent
+  asked_accepts (pump d) w s unspent = first_accepts (pump d) w s unspent
+  asked_accepts tick w s unspent = first_accepts tick w s unspent
   asked_accepts (stranger name bytes) w s unspent =
       let v = comes set name bytes w in
       rest_accepts (held_count (stranger_named name v)) name v (comes_goes Any set (anything set.limits) within name bytes w s).steady unspent
@@ -124,7 +138,7 @@ module _ (set : Setting) (within : AreWithin set.limits) where
       let costs = either (read_first spending set a w) (read_opening spending set v) unspent in
       let x = first_goes Any set (anything set.limits) within a w s costs.0 in
       both_accept (read_first the_deeds set a w) (read_opening the_deeds set v) (read_first the_steps set a w) (opening_step set v ∷ []) (read_first the_acceptances set a w) (read_opening the_acceptances set v)
-      (first_accepts a w s) (opening_accepts v x.steady)
+      (first_accepts a w s costs.0) (opening_accepts v x.steady)
 
 -- ---- a turn, and a run
 

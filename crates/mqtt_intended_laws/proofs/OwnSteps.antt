@@ -8,6 +8,7 @@ use Rattle.mqtt_base.specs.declared.session.Cause.{Cause}
 use Rattle.mqtt_base.specs.declared.session.Cause.TheVariants.{Direct, Share, Retained}
 use Rattle.mqtt_base.specs.declared.session.CopyId.{CopyId}
 use Rattle.mqtt_flow.specs.Outbound.{way_made}
+use Rattle.mqtt_flow.specs.declared.entry.Turn.{Turn}
 use Rattle.mqtt_message.specs.declared.message.MessageCopy.{MessageCopy}
 use Rattle.mqtt_message.specs.declared.message.RetainedMessage.{RetainedMessage}
 use Rattle.mqtt_records.specs.declared.session.Session.{Session}
@@ -38,11 +39,11 @@ use Rattle.mqtt_world_laws.proofs.RoutedApart.{IsCauseOf, id_to}
 
 -- ---- deeds that accept nothing
 
-abbrev IsOther : Deed → Type 0
+abbrev pub IsOther : Deed → Type 0
 IsOther (Accept number origin m) = ⊥
 IsOther d = ⊤
 
-abbrev AreOther : List Deed → Type 0
+abbrev pub AreOther : List Deed → Type 0
 AreOther ds = AllByRecursion IsOther ds
 
 plain_other : (d : Deed) → IsPlain d → IsOther d
@@ -52,6 +53,9 @@ plain_other d h = tt
 plains_other : (ds : List Deed) → ArePlain ds → AreOther ds
 plains_other [] h = tt
 plains_other (d ∷ ds) h = (plain_other d h.0, plains_other ds h.1)
+
+pub leave_other : (s : Session) (t : Turn) → AreOther (leave_deeds s t)
+leave_other s t = plains_other (leave_deeds s t) (plain_leave s t)
 
 still_other : (d : Deed) → IsStill d → IsOther d
 still_other (Accept number origin m) h = absurd h
@@ -112,7 +116,7 @@ module _ (env : Env) where
       by (Some s) = other_enter d.copy s
   other_deliver false d b = plains_other (deliver_by false env d b) (plain_offer (line_of d.birth b) (publish_of b.now false 0 d.copy))
 
-  other_deliveries : (ds : List CopyTo) (b : Broker) → AreOther (series (map (deliver env) ds) b)
+  pub other_deliveries : (ds : List CopyTo) (b : Broker) → AreOther (series (map (deliver env) ds) b)
   other_deliveries [] b = tt
   other_deliveries (d ∷ ds) b =
       let first = deliver env d b in
@@ -123,7 +127,7 @@ module _ (env : Env) where
   other_forgets None = tt
   other_forgets (Some k) = (tt, tt)
 
-  other_retain : (retain empty : Bool) (number : ℕ) (m : Message) (b : Broker) → AreOther (retain_by retain empty number m b)
+  pub other_retain : (retain empty : Bool) (number : ℕ) (m : Message) (b : Broker) → AreOther (retain_by retain empty number m b)
   other_retain false empty number m b = tt
   other_retain true true number m b = other_forgets (retained_of m.topic b.records)
   other_retain true false number m b = (tt, tt)

@@ -10,6 +10,7 @@ ghost use Rattle.mqtt_rules.specs.declared.Limits.{Limits};
 ghost use Rattle.mqtt_world_laws.specs.Fair.{IsFair, IsNew};
 ghost use Rattle.mqtt_intended_laws.specs.Groups.{EachGetsOne};
 ghost use Rattle.mqtt_intended_laws.specs.Intended.{AllEnterAsIntended};
+ghost use Rattle.mqtt_intended_laws.specs.Members.{AllFindLines};
 
 /// Whoever is chosen among the members of groups: each session with a subscription of its own that matches gets one
 /// direct copy, and no other session gets any; and each group with a matching subscription is served once, one after
@@ -30,4 +31,12 @@ pub fn each_publication_enters_exactly_its_copies()
 
     // From nothing stored: so entered, at most once, and waits or has ended once, in the words of the run.
     ensures every { (limits : Limits) (ts : List Turn) → IsFair limits ts start → CopiesOnce limits ts }
+{}
+
+/// A member of a group gets a copy of QoS 0 only where its session is connected; and whoever is connected as a call of
+/// the broker accepts a publication stands on a line. So that copy goes out at once, or it is too large for its
+/// client; but while the broker is opened no line stands at all, and nothing goes out (4.1, 4.3.1, 4.8.2).
+pub fn copies_of_members_find_a_line()
+    ensures { (limits : Limits) (ts : List Turn) (w : World) → IsNew limits w → IsFair limits ts w
+        → AllFindLines limits ts w }
 {}

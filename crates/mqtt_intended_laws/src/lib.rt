@@ -5,5 +5,6 @@
 mod laws;
 
 pub use laws::{
-    each_publication_enters_exactly_its_copies, each_session_and_each_group_gets_one_copy,
+    copies_of_members_find_a_line, each_publication_enters_exactly_its_copies,
+    each_session_and_each_group_gets_one_copy,
 };
