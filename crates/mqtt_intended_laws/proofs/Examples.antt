@@ -1,18 +1,30 @@
 -- Worked rows: who gets a copy of a publication to a/b, and what enters of it in a run (MQTT 5.0, 3.3.1.3, 3.3.4, 4.8.2).
 use Rattle.std.proofs.Common.{◌≡◌, ℕ, Bool, true, false, List, [], ◌∷◌, ◌++◌, map, filter, Option, Some, None, refl}
-use Rattle.std.specs.Prelude.{codes, count_by, nat_lt}
+use Rattle.std.specs.Prelude.{codes, count_by, is_some, nat_lt}
+use Rattle.std.specs.Str.{is_utf8, chars}
+use Rattle.std.proofs.Math.Utf8.{encode}
 use Rattle.mqtt_base.specs.Values.{varint}
+use Rattle.mqtt_base.specs.Reading.{groups_at, varint_at, blob_at, text_at}
+use Rattle.mqtt_base.specs.Items.{items_in, items_at}
 use Rattle.mqtt_base.specs.declared.session.Cause.TheVariants.{Direct, Share, Retained}
 use Rattle.mqtt_base.specs.declared.session.CopyId.{CopyId}
 use Rattle.mqtt_base.specs.declared.session.Qos.{Qos}
 use Rattle.mqtt_base.specs.declared.session.Qos.TheVariants.{AtMostOnce, AtLeastOnce, ExactlyOnce}
+use Rattle.mqtt_props.specs.Reading.{value_at, prop_at, block_at}
+use Rattle.mqtt_props.specs.Laws.{layout_at}
+use Rattle.mqtt_codec.specs.Connect.{will_at, user_name_at, password_at, fields_at, connect_at}
+use Rattle.mqtt_codec.specs.Publish.{delivery_at, publish_at}
+use Rattle.mqtt_codec.specs.Frames.{frame_at, body_at, versioned_at, lawful_at, packet_at}
+use Rattle.mqtt_packet.specs.Front.{size_at, first_of}
 use Rattle.mqtt_routes.specs.Acceptance.{Served, Routed, routed}
 use Rattle.mqtt_routes.specs.Intended.{Publication, Answers, Copy, groups, members}
 use Rattle.mqtt_routes.specs.Subscriptions.{Subscriber}
 use Rattle.mqtt_routes.specs.declared.subscription.Subscription.{Subscription}
-use Rattle.mqtt_rules.proofs.Play.{usual, topic, hi, options}
+use Rattle.mqtt_rules.specs.Routing.{CopyTo, accepted_copies}
+use Rattle.mqtt_rules.specs.State.{line_of}
+use Rattle.mqtt_rules.proofs.Play.{usual, topic, hi, options, bytes}
 use Rattle.mqtt_laws.specs.Ends.{Draft}
-use Rattle.mqtt_laws.specs.World.{Event, publisher, receiver, publish, subscribe, ask, to_broker, start}
+use Rattle.mqtt_laws.specs.World.{Event, publisher, receiver, publish, subscribe, ask, to_broker, restart, stranger, start}
 use Rattle.mqtt_laws.specs.Run.{Acceptance, acceptances_over}
 use Rattle.mqtt_laws.specs.Laws.{is_own}
 use Rattle.mqtt_laws.proofs.Scripts.{turns, p1, r1, draft, joins, subscribes, exchange}
@@ -133,3 +145,31 @@ one_is_brought_later = refl
 pub that_one_is_not_of_the_routing : filter (is_own 1) (entered_from usual (turns kept) start) ≡ directly 1 ∷ []
 unfolding varint
 that_one_is_not_of_the_routing = refl
+
+-- ---- a stranger's Will goes to a group whose only member has QoS 0: the member stands on a line, but not while the broker
+-- is opened
+
+abbrev s1 : List ℕ
+s1 = codes "s1"
+
+-- its CONNECT has a Will of QoS 1 to a/b
+abbrev willed : List Event
+willed =
+    ask (stranger s1 (bytes "10 1e 00 04 4d 51 54 54 05 0e 00 00 05 11 ff ff ff ff 00 02 73 31 00 00 03 61 2f 62 00 02 68 69")) ∷ receiver r1 10
+    ∷ joins_group r1 AtMostOnce
+
+-- of each that was accepted: the sessions that got a copy, each with whether it stands on a line
+abbrev with_lines : Acceptance → Option (List CopyTo) → List (ℕ × Bool)
+with_lines a None = []
+with_lines a (Some ds) = map (λ (d : CopyTo). (d.birth, is_some (line_of d.birth a.broker))) ds
+
+abbrev lines_over : List Event → List (List (ℕ × Bool))
+lines_over es = map (λ (a : Acceptance). with_lines a (accepted_copies a.env a.message a.broker)) (acceptances_over usual (turns es) start)
+
+pub its_member_stands_on_a_line : lines_over (willed ++ ask (stranger s1 (bytes "00 00")) ∷ []) ≡ ((2, true) ∷ []) ∷ []
+unfolding varint first_of size_at packet_at frame_at versioned_at lawful_at body_at connect_at fields_at will_at user_name_at password_at publish_at delivery_at layout_at block_at items_at items_in text_at blob_at is_utf8 chars encode varint_at groups_at prop_at value_at
+its_member_stands_on_a_line = refl
+
+pub none_stands_while_it_is_opened : lines_over (willed ++ restart ∷ []) ≡ ((2, false) ∷ []) ∷ []
+unfolding varint first_of size_at packet_at frame_at versioned_at lawful_at body_at connect_at fields_at will_at user_name_at password_at publish_at delivery_at layout_at block_at items_at items_in text_at blob_at is_utf8 chars encode varint_at groups_at prop_at value_at
+none_stands_while_it_is_opened = refl

@@ -1,6 +1,6 @@
 -- Where a publication is accepted in a call, lines are unique: a session that is connected stands on one (MQTT 5.0, 3.1.4).
-use Rattle.std.proofs.Common.{◌≡◌, ℕ, suc, ◌≤◌, Bool, true, false, cond, List, [], ◌∷◌, ◌++◌, map, Option, Some, None, refl, sym, ap, subst, ◌∙◌, arith, inl, inr}
-use Rattle.std.specs.Prelude.{⊤, option_map, is_none, decimal, flat_map, filter}
+use Rattle.std.proofs.Common.{◌≡◌, ℕ, suc, ◌≤◌, Bool, true, false, List, [], ◌∷◌, ◌++◌, map, Option, Some, None, refl, sym, ap, subst, ◌∙◌, arith, inl, inr}
+use Rattle.std.specs.Prelude.{⊤, option_map, decimal, filter}
 use Rattle.std.specs.List.{AllByRecursion}
 use Rattle.mqtt_base.specs.Codes.{success}
 use Rattle.mqtt_base.specs.declared.limits.TheConstants.{LAST_NUMBER}
@@ -20,13 +20,13 @@ use Rattle.mqtt_rules.specs.Closing.{end_session, settle, is_due, end_due, has_d
 use Rattle.mqtt_rules.specs.Connect.{expiry_of, will_of, greet, begin_named, connack_properties}
 use Rattle.mqtt_rules.specs.Deeds.{Whose, whose, Message, Origin, Subscribe, Part, Resume, Open, Close, Leave, SetAlias, Hear, Deed, Accept, Begin, Name, Count, At, Finish, Forget, RefuseWill, Link, On, Send, Gone, on_line, without_place, rows_of_all, after, after_all, series, always}
 use Rattle.mqtt_rules.specs.Inbound.{pump_deeds, pump_turns}
-use Rattle.mqtt_rules.specs.Laws.{IsAmong, IsCoherent, AreWithin}
+use Rattle.mqtt_rules.specs.Laws.{IsAmong, AreWithin}
 use Rattle.mqtt_rules.specs.Lines.{closed_at, HasUniqueLines}
 use Rattle.mqtt_rules.specs.Outbound.{of_entry, leave_deeds, turn_deeds}
 use Rattle.mqtt_rules.specs.Packets.{connack}
-use Rattle.mqtt_rules.specs.Routing.{CopyTo, is_queued, deliver, next_publication, retain_by, accepted_copies, publish}
-use Rattle.mqtt_rules.specs.State.{Line, Broker, Env, stored, session_at, is_connected, MemberChoice}
-use Rattle.mqtt_rules.specs.Step.{Call, deeds, deeds_of, env_of, at_moment, with_moment, stepped, is_step_spent, close_if, opening, unopened}
+use Rattle.mqtt_rules.specs.Routing.{CopyTo, is_queued, deliver, next_publication, retain_by, publish}
+use Rattle.mqtt_rules.specs.State.{Line, Broker, Env, session_at, is_connected, MemberChoice}
+use Rattle.mqtt_rules.specs.Step.{Call, deeds, env_of, at_moment, with_moment, is_step_spent, close_if, opening}
 use Rattle.mqtt_rules.specs.Subscribe as sub
 use Rattle.mqtt_rules.specs.Tick.{lapses, lapse_deeds}
 use Rattle.mqtt_rules.proofs.Acts.{is_alone, closing_session, closing_on, closing, brought_to, MayEnd, IsPrepared, Law, leads_call}
@@ -34,7 +34,7 @@ use Rattle.mqtt_rules.proofs.ByDeeds.{by_deeds, turn_law}
 use Rattle.mqtt_rules.proofs.Coherent.{Coheres, IsFit}
 use Rattle.mqtt_rules.proofs.Copies.{each_append, each_flat}
 use Rattle.mqtt_rules.proofs.FitLaw.{Keeps, naming, fit_law, fit_mark, autos_grow}
-use Rattle.mqtt_rules.proofs.Goods.{AreGood, after_append, good_append, good_two}
+use Rattle.mqtt_rules.proofs.Goods.{AreGood, good_append, good_two}
 use Rattle.mqtt_rules.proofs.Leads.{Leads}
 use Rattle.mqtt_rules.proofs.LineActs.{quiet_turn, quiet_pump, quiet_lapses, quiet_publish, quiet_grants, still_settle}
 use Rattle.mqtt_rules.proofs.LineLaw.{here, unique_quiet, unique_linked, unique_closes, unique_ended, unique_resumed, unique_begun}
@@ -43,7 +43,7 @@ use Rattle.mqtt_rules.proofs.LineRows.{IsStill, IsQuiet}
 use Rattle.mqtt_rules.proofs.LineSteps.{Keep}
 use Rattle.mqtt_rules.proofs.NumberFacts.{Counts, counts_deed}
 use Rattle.mqtt_rules.proofs.RowsFit.{made_of, naming_call, moment_last, step_coherent}
-use Rattle.mqtt_laws.specs.Run.{Acceptance, accepted_by, acceptances_of}
+use Rattle.mqtt_laws.specs.Run.{Acceptance, acceptances_of}
 use Rattle.mqtt_world_laws.specs.Fair.{IsSteady}
 use Rattle.mqtt_intended_laws.proofs.OwnSteps.{IsOther, AreOther, other_deliveries, other_retain, leave_other}
 

@@ -1,24 +1,24 @@
 -- A member of a group that gets a copy of QoS 0 is connected, and stands on a line where lines are unique (MQTT 5.0, 3.1.4, 4.8.2).
-use Rattle.std.proofs.Common.{◌≡◌, ℕ, max, ◌⊎◌, Bool, true, false, cond, List, [], ◌∷◌, ◌++◌, map, Option, Some, None, nat_lt, refl, sym, ap, subst, ◌∙◌, arith, inl, inr}
+use Rattle.std.proofs.Common.{◌≡◌, ℕ, max, ◌⊎◌, true, false, List, [], ◌∷◌, ◌++◌, map, Option, Some, None, nat_lt, refl, sym, ap, subst, ◌∙◌, arith, inl, inr}
 use Rattle.std.specs.Prelude.{flat_map, is_none}
 use Rattle.std.specs.List.{AllByRecursion, list_any}
 use Rattle.std.proofs.lemmas.Bool.{cases_Bool}
 use Rattle.mqtt_base.specs.declared.session.Cause.TheVariants.{Direct, Share}
 use Rattle.mqtt_records.specs.declared.session.Session.{Session}
-use Rattle.mqtt_routes.specs.Acceptance.{Served, Routed, copies_in, is_eligible, needs_room, shared_copy}
+use Rattle.mqtt_routes.specs.Acceptance.{Served, copies_in, is_eligible, needs_room, shared_copy}
 use Rattle.mqtt_routes.specs.Intended.{Publication, Copy, Member, granted_qos, in_group, groups, members}
 use Rattle.mqtt_rules.specs.Deeds.{Message}
 use Rattle.mqtt_rules.specs.Lines.{HasUniqueLines}
 use Rattle.mqtt_rules.specs.Packets.{quality}
-use Rattle.mqtt_rules.specs.Routing.{CopyTo, copy_to, served_copies_to, copies_to, is_queued_at, is_there, answers, publication_of, subscribers}
+use Rattle.mqtt_rules.specs.Routing.{copy_to, served_copies_to, is_queued_at, is_there, answers, publication_of, subscribers}
 use Rattle.mqtt_rules.specs.State.{Broker, Env, Line, line_of, session_at, is_connected}
 use Rattle.mqtt_rules.specs.declared.Limits.{Limits}
-use Rattle.mqtt_rules.proofs.Copies.{each_append, each_more}
+use Rattle.mqtt_rules.proofs.Copies.{each_append}
 use Rattle.mqtt_rules.proofs.LineLaw.{line_found}
 use Rattle.mqtt_laws.specs.Run.{Turn, Acceptance, acceptances_over}
 use Rattle.mqtt_laws.specs.World.{World}
 use Rattle.mqtt_world_laws.specs.Fair.{IsNew, IsFair}
-use Rattle.mqtt_intended_laws.specs.Groups.{IsServedOnce, AreServedOnce, EachGetsOne}
+use Rattle.mqtt_intended_laws.specs.Groups.{IsServedOnce, AreServedOnce}
 use Rattle.mqtt_intended_laws.specs.Intended.{intended_for, EntersAsIntended}
 use Rattle.mqtt_intended_laws.specs.Members.{HasLine, HaveLines, FindLines, AllFindLines}
 use Rattle.mqtt_intended_laws.proofs.Intended.{all_enter}
