@@ -1,0 +1,9 @@
+pub mod Lists
+pub mod Groups
+pub mod OwnSteps
+pub mod LinesStand
+pub mod OwnRuns
+pub mod OwnCounts
+pub mod Intended
+pub mod Members
+pub mod Examples
