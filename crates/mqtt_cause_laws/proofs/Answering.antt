@@ -1,6 +1,6 @@
 -- A receiver's answers: a copy that leaves by one was taken or refused, or has outgrown its line.
-use Rattle.std.proofs.Common.{◌≡◌, ℕ, Bool, true, false, List, map, Option, Some, None, nat_eq, refl, sym, ap, subst, ◌∙◌, ◌⊎◌, inl, inr}
-use Rattle.std.specs.Prelude.{⊤, find, Ok, Err, nat_le}
+use Rattle.std.proofs.Common.{◌≡◌, ℕ, Bool, true, false, List, Option, Some, None, refl, sym, ap, subst, ◌∙◌, inl, inr}
+use Rattle.std.specs.Prelude.{⊤, Ok, Err}
 use Rattle.std.proofs.lemmas.Bool.{eqb-true, leb-true, leb-false}
 use Rattle.mqtt_base.specs.declared.session.Ending.{Ending}
 use Rattle.mqtt_base.specs.declared.session.Ending.TheVariants as endings
@@ -20,13 +20,13 @@ use Rattle.mqtt_flow.specs.declared.entry.Turn.TheVariants as turns
 use Rattle.mqtt_message.specs.Queue.{CopyRow}
 use Rattle.mqtt_records.specs.Session.{copy_place}
 use Rattle.mqtt_records.specs.declared.session.Session.{Session}
-use Rattle.mqtt_rows.specs.Order.{IsAscending, row_at}
+use Rattle.mqtt_rows.specs.Order.{IsAscending}
 use Rattle.mqtt_rules.specs.State.{Line, Broker, entry_on, queue_on}
-use Rattle.mqtt_rules.specs.Step.{Call, Input}
-use Rattle.mqtt_rules.specs.Deeds.{whose, Deed}
+use Rattle.mqtt_rules.specs.Step.{Input}
+use Rattle.mqtt_rules.specs.Deeds.{Deed}
 use Rattle.mqtt_rules.proofs.Leads.{found_passes}
-use Rattle.mqtt_cause_laws.specs.Endings.{Asked, EndAt}
-use Rattle.mqtt_cause_laws.specs.Causes.{IsCause, IsAcknowledged, IsCompleted, IsRefused, HasOutgrown, IsOfItsLine, IsRead}
+use Rattle.mqtt_cause_laws.specs.Endings.{Asked}
+use Rattle.mqtt_cause_laws.specs.Causes.{IsRead}
 use Rattle.mqtt_cause_laws.proofs.Queues.{Row, find_row, some_is}
 use Rattle.mqtt_cause_laws.proofs.Turning.{IsFine, HasReason, Comes, of_line, the_end}
 

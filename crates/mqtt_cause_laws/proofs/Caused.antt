@@ -1,14 +1,10 @@
 -- Lists of deeds in which each end has its cause: by the deeds before and behind each, and one list after another.
-use Rattle.std.proofs.Common.{◌≡◌, ℕ, Bool, true, false, cond, List, [], ◌∷◌, ◌++◌, map, Option, Some, None, refl, sym, ap, subst, ◌∙◌, append_assoc, append-nil}
-use Rattle.std.specs.Prelude.{⊤, flat_map, filter_map}
+use Rattle.std.proofs.Common.{◌≡◌, List, [], ◌∷◌, ◌++◌, map, Option, Some, None, refl, sym, ap, subst, append_assoc, append-nil}
+use Rattle.std.specs.Prelude.{⊤, filter_map}
 use Rattle.std.specs.List.{AllByRecursion, cons_option}
-use Rattle.mqtt_base.specs.declared.session.Ending.{Ending}
-use Rattle.mqtt_codec.specs.declared.packet.Packet.{Packet}
-use Rattle.mqtt_message.specs.Queue.{CopyRow}
 use Rattle.mqtt_records.specs.declared.session.Session.{Session}
-use Rattle.mqtt_rules.specs.State.{Line, Broker, session_at}
-use Rattle.mqtt_rules.specs.Deeds.{Whose, whose, Leave, Deed, At, Send, after, after_all, offer}
-use Rattle.mqtt_rules.specs.Outbound.{of_entry}
+use Rattle.mqtt_rules.specs.State.{Broker, session_at}
+use Rattle.mqtt_rules.specs.Deeds.{whose, Leave, Deed, At, after, after_all}
 use Rattle.mqtt_rules.proofs.Goods.{AreGood}
 use Rattle.mqtt_rules.proofs.Turns.{Stands}
 use Rattle.mqtt_laws.specs.Run.{End, ended_in}

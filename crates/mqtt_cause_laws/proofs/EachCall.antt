@@ -1,5 +1,5 @@
 -- Each act of a call or an opening: the copies that end in it have their causes.
-use Rattle.std.proofs.Common.{◌≡◌, ℕ, suc, ◌≤◌, Bool, true, false, cond, not, ◌&&◌, ◌||◌, List, [], ◌∷◌, ◌++◌, filter, length, map, Option, Some, None, bytes_eq, refl, sym, ap, subst, ◌∙◌, ◌⊎◌, inl, inr, append_assoc}
+use Rattle.std.proofs.Common.{◌≡◌, ℕ, suc, Bool, true, false, cond, not, ◌&&◌, ◌||◌, List, [], ◌∷◌, ◌++◌, filter, length, map, Option, Some, None, bytes_eq, refl, sym, ap, subst, ◌∙◌, inl, inr, append_assoc}
 use Rattle.std.specs.Prelude.{⊤, Err, Ok, find, flat_map, nat_le, nat_lt, option_map}
 use Rattle.std.specs.List.{AllByRecursion}
 use Rattle.std.proofs.lemmas.Bool.{leb-true}
@@ -16,7 +16,6 @@ use Rattle.mqtt_codec.specs.declared.publish.Publish.{Publish as Publication}
 use Rattle.mqtt_connect.specs.declared.connect.Connect.{Connect as Greeting}
 use Rattle.mqtt_flow.specs.Outbound.{Answer, due_from, resumed_with}
 use Rattle.mqtt_flow.specs.Outbound as rules
-use Rattle.mqtt_flow.specs.declared.entry.Turn.{Turn}
 use Rattle.mqtt_flow.specs.declared.entry.Turn.TheVariants as turns
 use Rattle.mqtt_inbound.specs.Identifiers.{is_among}
 use Rattle.mqtt_inbound.specs.Inbound.{answer_to_release}
@@ -37,10 +36,10 @@ use Rattle.mqtt_topic.specs.Filters.{is_filter}
 use Rattle.mqtt_topic.specs.Names.{is_empty}
 use Rattle.mqtt_rules.specs.Closing.{close, close_connected, close_session, drop_line, end_session, has_due_end, has_due_will, publish_or_refuse, publish_will, settle, will_deeds, will_message}
 use Rattle.mqtt_rules.specs.Connect.{begin_named, clear, connect_by, joins, largest_of, of_client, prepare, refusal, refusal_size, refused, resume, take_over}
-use Rattle.mqtt_rules.specs.Deeds.{Whose, whose, Message, Origin, FromClient, FromWill, Close, DropWill, Hear, Deed, At, Finish, Forget, RefuseWill, Link, On, Send, Gone, Act, after, after_all, always, of_session, offer, only_if, series, with_line, with_session}
+use Rattle.mqtt_rules.specs.Deeds.{Whose, whose, Message, FromClient, FromWill, Close, DropWill, Hear, Deed, At, Forget, RefuseWill, Link, On, Send, Gone, Act, after_all, always, of_session, offer, only_if, series, with_line, with_session}
 use Rattle.mqtt_rules.specs.Inbound.{Meaning, Means, Wrong, answer, code_accepted, code_again, leave_by, meaning, message_of, new_expiry, on_answer, opens, publish_by, publish_meant, publish_new, pump_deeds, release_by, sets_alias, standing}
 use Rattle.mqtt_rules.specs.Laws.{IsAmong}
-use Rattle.mqtt_rules.specs.Outbound.{all_turn_deeds, turn_deeds, room}
+use Rattle.mqtt_rules.specs.Outbound.{all_turn_deeds, room}
 use Rattle.mqtt_rules.specs.Packets.{connack, disconnect, number_at, publish_of, size_of, suback, unsuback}
 use Rattle.mqtt_rules.specs.Routing.{CopyTo, accepted_copies, is_queued, is_wanted, publish}
 use Rattle.mqtt_rules.specs.State.{Broker, Env, Line, is_connected, line_at, line_of, queue_on, session_at, session_named}
@@ -57,9 +56,9 @@ use Rattle.mqtt_rules.proofs.StandLaw.{Orders, ordered_all, rising}
 use Rattle.mqtt_cause_laws.specs.Endings.{Asked}
 use Rattle.mqtt_cause_laws.proofs.Caused.{Caused, IsQuiet, AreQuiet, quietly, caused_next}
 use Rattle.mqtt_cause_laws.proofs.Queues.{same_now}
-use Rattle.mqtt_cause_laws.proofs.Turning.{Comes, IsFine, lapse_caused, pump_caused, turn_caused}
+use Rattle.mqtt_cause_laws.proofs.Turning.{lapse_caused, pump_caused, turn_caused}
 use Rattle.mqtt_cause_laws.proofs.Answering.{Reads, IsFineAnswer, puback_fine, pubrec_fine, pubcomp_fine}
-use Rattle.mqtt_cause_laws.proofs.Entering.{Clears, MayEnd, end_caused}
+use Rattle.mqtt_cause_laws.proofs.Entering.{Clears, end_caused}
 use Rattle.mqtt_cause_laws.proofs.Publishing.{publish_caused, grant_caused}
 
 module _ (m : Asked) where
@@ -228,9 +227,12 @@ module _ (m : Asked) where
         (λ d k. on_client c.client_identifier (take_over env) d k (λ s there named. taking_over s d k)),
         (
           (λ d k. on_client c.client_identifier (λ s. settle env s.birth) d k (λ s there named. settling s.birth d k)),
-          ((λ d k. if_so c.clean_start (of_client c.client_identifier (clear env)) d
-              (λ t. on_client c.client_identifier (clear env) d k
-              (λ s there named. clearing s (record { number = n; packet = c; asked = asked; clean = t; named = sym named }) d k))), tt),
+          (
+            (λ d k. if_so c.clean_start (of_client c.client_identifier (clear env)) d
+                (λ t. on_client c.client_identifier (clear env) d k
+                (λ s there named. clearing s (record { number = n; packet = c; asked = asked; clean = t; named = sym named }) d k))),
+            tt,
+          ),
         ),
       ) b h
 
@@ -357,11 +359,14 @@ module _ (m : Asked) where
           mapped (publish_will env) wills b (λ s e. its_will s b h),
           (
             mapped (λ (s : Session). always (end_session s)) ends b
-            (λ s e. end_caused m s b (among_own s b h (found_among (has_due_end b.now) s b.records.sessions e)) (inl (found_passes (has_due_end b.now) s b.records.sessions e))),
+                (λ s e. end_caused m s b (among_own s b h (found_among (has_due_end b.now) s b.records.sessions e)) (inl (found_passes (has_due_end b.now) s b.records.sessions e))),
             (
               mapped (λ (k : RetainedMessage). always (Forget k.place ∷ [])) kept b (λ k e. quietly m (Forget k.place ∷ []) b (tt, tt)),
-              (mapped (λ (s : Session). always (lapse_deeds b.now s)) waiting b
-                  (λ s e. let there = among_own s b h (found_among (has_lapsed b.now) s b.records.sessions e) in lapse_caused m s b asked (rising s b h there) (same_now s b.records there)), tt),
+              (
+                mapped (λ (s : Session). always (lapse_deeds b.now s)) waiting b
+                    (λ s e. let there = among_own s b h (found_among (has_lapsed b.now) s b.records.sessions e) in lapse_caused m s b asked (rising s b h there) (same_now s b.records there)),
+                tt,
+              ),
             ),
           ),
         ),

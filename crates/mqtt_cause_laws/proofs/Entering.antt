@@ -1,35 +1,32 @@
 -- A copy enters a queue, and those that give way have their cause; and so have the copies of a session that ends.
-use Rattle.std.proofs.Common.{◌≡◌, ℕ, zero, suc, ◌+◌, ◌-◌, ◌≤◌, ◌<◌, Bool, true, false, ◌&&◌, List, [], ◌∷◌, ◌++◌, length, map, Option, Some, None, nat_lt, refl, sym, ap, subst, ◌∙◌, ◌⊎◌, inl, inr, arith, append_assoc}
-use Rattle.std.specs.Prelude.{⊤, flat_map, find}
-use Rattle.std.specs.List.{AllByRecursion}
+use Rattle.std.proofs.Common.{◌≡◌, ℕ, zero, suc, ◌+◌, ◌-◌, ◌≤◌, ◌<◌, Bool, true, false, ◌&&◌, List, [], ◌∷◌, ◌++◌, length, map, Option, Some, None, refl, sym, ap, subst, ◌∙◌, ◌⊎◌, inl, inr, arith}
+use Rattle.std.specs.Prelude.{⊤, flat_map}
 use Rattle.std.proofs.lemmas.Bool.{ltb-true}
-use Rattle.mqtt_base.specs.declared.session.Ending.{Ending}
 use Rattle.mqtt_base.specs.declared.session.Ending.TheVariants as endings
 use Rattle.mqtt_base.specs.declared.session.Phase.{Phase}
 use Rattle.mqtt_base.specs.declared.session.Phase.TheVariants.{Waiting, Sent, Released, Oversize}
 use Rattle.mqtt_connect.specs.declared.connect.Connect.{Connect}
 use Rattle.mqtt_codec.specs.declared.packet.Packet.TheVariants as packets
-use Rattle.mqtt_flow.specs.Outbound.{gives_way, dropped, dropped_at, is_waiting, way_made}
-use Rattle.mqtt_flow.specs.declared.entry.Full.TheVariants.{Drop, Refuse}
+use Rattle.mqtt_flow.specs.Outbound.{gives_way, dropped, dropped_at, is_waiting}
+use Rattle.mqtt_flow.specs.declared.entry.Full.TheVariants.{Drop}
 use Rattle.mqtt_flow.specs.declared.entry.Turn.{Turn}
-use Rattle.mqtt_flow.specs.declared.entry.Turn.TheVariants as turns
 use Rattle.mqtt_message.specs.Queue.{CopyRow}
 use Rattle.mqtt_message.specs.declared.message.MessageCopy.{MessageCopy}
 use Rattle.mqtt_records.specs.Session.{copy_place, without_copy}
 use Rattle.mqtt_records.specs.declared.session.Session.{Session}
 use Rattle.mqtt_rows.specs.Order.{IsAscending, row_at}
 use Rattle.mqtt_rules.specs.Closing.{end_due, has_due_end, end_session, is_due}
-use Rattle.mqtt_rules.specs.Deeds.{whose, Enter, Leave, Deed, At, Finish, after, after_all}
+use Rattle.mqtt_rules.specs.Deeds.{whose, Enter, Leave, Deed, At, Finish, after}
 use Rattle.mqtt_rules.specs.Laws.{IsAmong}
-use Rattle.mqtt_rules.specs.Outbound.{of_entry, leave_deeds, is_new, since, queue_limits, enter_deeds}
-use Rattle.mqtt_rules.specs.State.{Broker, Env, entry_on, queue_on, session_at}
-use Rattle.mqtt_rules.specs.Step.{Call, Input}
+use Rattle.mqtt_rules.specs.Outbound.{of_entry, leave_deeds, is_new, since, enter_deeds}
+use Rattle.mqtt_rules.specs.State.{Broker, entry_on, queue_on, session_at}
+use Rattle.mqtt_rules.specs.Step.{Input}
 use Rattle.mqtt_rules.proofs.FlightRows.{all_found}
 use Rattle.mqtt_rules.proofs.Leads.{row_among}
 use Rattle.mqtt_rules.proofs.OrderedQueues.{length-mapped}
 use Rattle.mqtt_rules.proofs.StandLaw.{Orders, ordered_all, rising}
-use Rattle.mqtt_cause_laws.specs.Endings.{Asked, EndAt}
-use Rattle.mqtt_cause_laws.specs.Causes.{IsCause, HasGivenWay, HasSessionEnded, StartsClean}
+use Rattle.mqtt_cause_laws.specs.Endings.{Asked}
+use Rattle.mqtt_cause_laws.specs.Causes.{HasGivenWay, HasSessionEnded}
 use Rattle.mqtt_cause_laws.proofs.Caused.{Caused, CausedBefore, quietly}
 use Rattle.mqtt_cause_laws.proofs.Queues.{Same, same_now, same_left, left_there, some_is, one_leaves, is_older, among_last}
 use Rattle.mqtt_cause_laws.proofs.Turning.{AreThere, the_end}

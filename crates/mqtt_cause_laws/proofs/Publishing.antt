@@ -1,7 +1,6 @@
 -- Publications and granted filters: where a full queue refuses, their copies enter only where there is room.
-use Rattle.std.proofs.Common.{◌≡◌, ℕ, suc, ◌+◌, ◌-◌, ◌≤◌, ◌<◌, Bool, true, false, cond, not, ◌&&◌, List, [], ◌∷◌, ◌++◌, length, filter, map, Option, Some, None, nat_eq, refl, sym, ap, subst, ◌∙◌, ◌⊎◌, inl, inr, arith}
-use Rattle.std.specs.Prelude.{⊤, find, nat_le}
-use Rattle.std.specs.List.{AllByRecursion}
+use Rattle.std.proofs.Common.{◌≡◌, ℕ, suc, ◌-◌, ◌≤◌, ◌<◌, Bool, true, false, cond, not, ◌&&◌, List, [], ◌∷◌, ◌++◌, length, filter, map, Option, Some, None, nat_eq, refl, sym, ap, subst, ◌∙◌, ◌⊎◌, inl, inr, arith}
+use Rattle.std.specs.Prelude.{nat_le}
 use Rattle.std.proofs.lemmas.Bool.{cases_Bool, eqb-true}
 use Rattle.std.proofs.lemmas.Cmp.{nat_eq_equiv}
 use Rattle.mqtt_codec.specs.declared.packet.Packet.{Packet}
@@ -20,11 +19,11 @@ use Rattle.mqtt_routes.specs.Retained.{kept_for}
 use Rattle.mqtt_rows.specs.Order.{row_at, change_row}
 use Rattle.mqtt_topic.specs.Filters.{begins_share}
 use Rattle.mqtt_topic.specs.Names.{is_empty}
-use Rattle.mqtt_rules.specs.Deeds.{whose, Message, Origin, Subscribe, Enter, Deed, Accept, Count, At, Forget, Send, Act, part_rows_of, new_entry, after, after_all, always, series, with_session, offer}
+use Rattle.mqtt_rules.specs.Deeds.{whose, Message, Origin, Subscribe, Enter, Deed, Accept, Count, At, Send, part_rows_of, new_entry, after, after_all, always, series, with_session, offer}
 use Rattle.mqtt_rules.specs.Outbound.{enter_deeds, room, room_at, since}
 use Rattle.mqtt_rules.specs.Packets.{publish_of, size_of}
 use Rattle.mqtt_rules.specs.Routing.{CopyTo, accepted_copies, deliver, deliver_by, forgets, is_queued, next_publication, publish, retain_by, retained_of}
-use Rattle.mqtt_rules.specs.State.{Broker, Env, Line, entry_on, line_of, queue_on, session_at}
+use Rattle.mqtt_rules.specs.State.{Broker, Line, entry_on, line_of, queue_on, session_at}
 use Rattle.mqtt_rules.specs.Subscribe as sub
 use Rattle.mqtt_rules.proofs.Acts.{brought_to}
 use Rattle.mqtt_rules.proofs.FlightRows.{found_key, change_row-here, change_row-other}

@@ -1,7 +1,6 @@
 -- The session of a queue while its copies leave and are marked; and a queue of which one leaves.
-use Rattle.std.proofs.Common.{◌≡◌, ℕ, suc, ◌≤◌, ◌<◌, Bool, true, false, not, List, [], ◌∷◌, ◌++◌, length, filter, map, Option, Some, None, nat_eq, refl, sym, ap, subst, ◌∙◌, ◌⊎◌, inl, inr, arith}
-use Rattle.std.specs.Prelude.{⊤, find}
-use Rattle.std.specs.List.{AllByRecursion}
+use Rattle.std.proofs.Common.{◌≡◌, ℕ, suc, ◌≤◌, ◌<◌, Bool, true, false, List, [], ◌∷◌, ◌++◌, length, map, Option, Some, None, nat_eq, refl, sym, ap, subst, ◌∙◌, inl, inr, arith}
+use Rattle.std.specs.Prelude.{find}
 use Rattle.std.proofs.lemmas.Bool.{cases_Bool, eqb-true}
 use Rattle.mqtt_base.specs.declared.session.Ending.{Ending}
 use Rattle.mqtt_base.specs.declared.session.Phase.{Phase}
@@ -16,7 +15,7 @@ use Rattle.mqtt_rows.proofs.LookUps.{row_at-here}
 use Rattle.mqtt_rules.specs.Deeds.{Whose, whose, Part, Leave, Mark, Deed, At, part_rows_of, after}
 use Rattle.mqtt_rules.specs.Laws.{IsAmong}
 use Rattle.mqtt_rules.specs.Outbound.{first_given}
-use Rattle.mqtt_rules.specs.State.{Broker, session_at, entry_on, next_of}
+use Rattle.mqtt_rules.specs.State.{Broker, session_at, entry_on}
 use Rattle.mqtt_rules.proofs.FlightRows.{found_key, found_behind, change_row-here}
 
 -- ---- a session while its copies leave and are marked

@@ -1,25 +1,19 @@
 -- The turns of a session's queue: each copy that leaves by an answer, a pump or a lapse has its cause.
-use Rattle.std.proofs.Common.{◌≡◌, ℕ, zero, suc, ◌≤◌, ◌<◌, ◌-◌, ◌/◌, Bool, true, false, cond, ◌&&◌, List, [], ◌∷◌, ◌++◌, map, Option, Some, None, nat_eq, nat_lt, refl, sym, ap, subst, ◌∙◌, ◌⊎◌, inl, inr}
-use Rattle.std.specs.Prelude.{⊤, flat_map, find, Ok, Err, nat_le}
+use Rattle.std.proofs.Common.{◌≡◌, ℕ, zero, suc, ◌≤◌, ◌-◌, ◌/◌, Bool, true, false, ◌&&◌, List, [], ◌∷◌, map, Option, Some, None, refl, sym, ap, subst, ◌∙◌, ◌⊎◌, inl, inr}
+use Rattle.std.specs.Prelude.{⊤, flat_map}
 use Rattle.std.specs.List.{AllByRecursion}
-use Rattle.std.proofs.lemmas.Bool.{cases_Bool, eqb-true, ltb-true, leb-true, leb-false}
+use Rattle.std.proofs.lemmas.Bool.{ltb-true, leb-true}
 use Rattle.mqtt_base.specs.declared.session.Ending.{Ending}
 use Rattle.mqtt_base.specs.declared.session.Ending.TheVariants as endings
 use Rattle.mqtt_base.specs.declared.session.Phase.{Phase}
 use Rattle.mqtt_base.specs.declared.session.Phase.TheVariants.{Waiting, Sent, Released, Oversize}
 use Rattle.mqtt_base.specs.declared.session.Qos.{Qos}
 use Rattle.mqtt_base.specs.declared.session.Qos.TheVariants.{AtMostOnce, AtLeastOnce, ExactlyOnce}
-use Rattle.mqtt_codec.specs.declared.ack.Ack.{Ack}
-use Rattle.mqtt_codec.specs.declared.packet.Packet.{Packet}
-use Rattle.mqtt_codec.specs.declared.packet.Packet.TheVariants as packets
-use Rattle.mqtt_flow.specs.Outbound.{Verdict, pass, end, outgrow, send, resend, Answer, is_refusal, ending_by, acknowledged, puback_by, puback_at, released_by, received, pubrec_by, pubrec_at, pubcomp_by, pubcomp_at, first_time, too_large, once_more, verdict, verdict_by, in_room, step_on, step_by, pump_step, paced, then_on, pump_from, pace, is_late, is_large, is_waiting, is_past, expired, expired_at}
-use Rattle.mqtt_flow.specs.Outbound as rules
+use Rattle.mqtt_flow.specs.Outbound.{Verdict, pass, end, outgrow, send, resend, first_time, too_large, once_more, verdict, verdict_by, in_room, step_on, step_by, paced, then_on, pump_from, pace, is_late, is_large, is_waiting, is_past, expired, expired_at}
 use Rattle.mqtt_flow.specs.Pacing.{Pacing}
 use Rattle.mqtt_inbound.specs.Identifiers.{free_identifier}
-use Rattle.mqtt_flow.specs.declared.entry.Entry.{Entry as FlowEntry}
 use Rattle.mqtt_flow.specs.declared.entry.Turn.{Turn}
 use Rattle.mqtt_flow.specs.declared.entry.Turn.TheVariants as turns
-use Rattle.mqtt_flow.specs.declared.entry.Way.{Way}
 use Rattle.mqtt_message.specs.Queue.{CopyRow}
 use Rattle.mqtt_records.specs.Session.{copy_place}
 use Rattle.mqtt_records.specs.declared.session.Session.{Session}
@@ -29,14 +23,13 @@ use Rattle.mqtt_rules.specs.Inbound.{pump_turns, pump_deeds}
 use Rattle.mqtt_rules.specs.Outbound.{of_entry, leave_deeds, turn_deeds, all_turn_deeds, way_of}
 use Rattle.mqtt_rules.specs.Packets.{publish_of}
 use Rattle.mqtt_rules.specs.State.{Line, Broker, entry_on, queue_on, queued_copy, line_at}
-use Rattle.mqtt_rules.specs.Step.{Call, Input, Pump, Tick}
+use Rattle.mqtt_rules.specs.Step.{Call, Pump, Tick}
 use Rattle.mqtt_rules.specs.Tick.{lapses, lapse_deeds}
 use Rattle.mqtt_rules.proofs.FlightRows.{all_found}
-use Rattle.mqtt_rules.proofs.Leads.{found_passes}
-use Rattle.mqtt_cause_laws.specs.Endings.{Asked, EndAt, end_at}
-use Rattle.mqtt_cause_laws.specs.Causes.{IsCause, HasExpired, IsTooLarge, HasOutgrown, IsAcknowledged, IsCompleted, IsRefused, IsOfItsLine, MayBeTooLarge}
-use Rattle.mqtt_cause_laws.proofs.Caused.{Caused, AreQuiet, quietly, caused_next}
-use Rattle.mqtt_cause_laws.proofs.Queues.{Same, same_left, same_marked, Row, find_row, some_is}
+use Rattle.mqtt_cause_laws.specs.Endings.{Asked, EndAt}
+use Rattle.mqtt_cause_laws.specs.Causes.{IsCause, IsOfItsLine, MayBeTooLarge}
+use Rattle.mqtt_cause_laws.proofs.Caused.{Caused, quietly, caused_next}
+use Rattle.mqtt_cause_laws.proofs.Queues.{Same, same_left, same_marked, some_is}
 
 module _ (m : Asked) where
   abbrev pub the_end : Broker → List Deed → Session → CopyRow → Ending → EndAt
