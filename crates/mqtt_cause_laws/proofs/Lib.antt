@@ -1,4 +1,5 @@
 -- Turns, acts and runs, by the causes of the copies that end.
+pub mod Examples
 pub mod Caused
 pub mod Queues
 pub mod Turning
