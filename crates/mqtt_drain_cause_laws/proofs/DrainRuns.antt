@@ -1,18 +1,18 @@
 -- A drain, turn by turn: in each only copies of its receiver end, for what ends them in a drain.
 use Rattle.std.proofs.Common.{◌≡◌, ℕ, zero, suc, Bool, true, false, not, ◌||◌, ◌&&◌, List, [], ◌∷◌, ◌++◌, map, Option, Some, None, bytes_eq, refl, sym, ap, subst, ◌∙◌, append_assoc}
-use Rattle.std.specs.Prelude.{⊤, cond, is_some, flat_map}
+use Rattle.std.specs.Prelude.{cond, is_some, flat_map}
 use Rattle.std.specs.List.{AllByRecursion}
 use Rattle.std.proofs.lemmas.Slice.Eq.{bytes_eq-Decides}
 use Rattle.std.proofs.lemmas.Grind.{flat_map-append}
 use Rattle.mqtt_rules.proofs.Copies.{each_append}
 use Rattle.mqtt_rules.proofs.Leads.{found_passes}
-use Rattle.mqtt_rules.specs.State.{Broker, MemberChoice}
+use Rattle.mqtt_rules.specs.State.{MemberChoice}
 use Rattle.mqtt_rules.specs.Step.{Call, Input, Pump, deeds}
 use Rattle.mqtt_rules.specs.declared.Limits.{Limits}
 use Rattle.mqtt_laws.specs.Ends.{Back, Publisher, Receiver, wire_back}
 use Rattle.mqtt_laws.specs.Run.{Turn, are_beginnings_clean, begins_clean, read_at, read_if, read_in, run, setting, turned}
 use Rattle.mqtt_laws.specs.World.{Event, Setting, View, World, ask, before, input_on, is_bad, pump, pump_on, receiver_named, start, to_broker, to_end, view_by, view_of}
-use Rattle.mqtt_world_laws.specs.Fair.{IsFair, IsNew}
+use Rattle.mqtt_world_laws.specs.Fair.{IsFair}
 use Rattle.mqtt_world_laws.specs.Spending.{run_spends, spending}
 use Rattle.mqtt_world_laws.specs.Steps.{step_called}
 use Rattle.mqtt_world_laws.proofs.Runs.{either}
@@ -29,7 +29,7 @@ use Rattle.mqtt_every_run_laws.proofs.EveryRun.{carried_append, fair_run_kept, s
 use Rattle.mqtt_every_run_laws.proofs.Ledgers.{run_remains}
 use Rattle.mqtt_every_run_laws.proofs.Untouched.{start_untouched}
 use Rattle.mqtt_every_run_laws.proofs.Runs.{IsKept, turn_kept}
-use Rattle.mqtt_drain_cause_laws.specs.DrainEnds.{AllDrainsEndSo, AreOfDrain, EndOfDrain, EndWhere, EndsBy, IsOfDrain}
+use Rattle.mqtt_drain_cause_laws.specs.DrainEnds.{AllDrainsEndSo, AreOfDrain, EndOfDrain, EndWhere, IsOfDrain}
 use Rattle.mqtt_drain_cause_laws.proofs.OwnEnds.{AreOwn, IsIts, all_its}
 use Rattle.mqtt_drain_cause_laws.proofs.OwnCalls.{SaysWell, input_own, pump_own}
 use Rattle.mqtt_drain_cause_laws.proofs.Sayings.{AllSay, named_says, none_say, run_say, turned_say}

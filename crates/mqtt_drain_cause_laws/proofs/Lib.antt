@@ -1,4 +1,5 @@
 -- Whose copies end in a drain, and by what.
+pub mod Examples
 pub mod OwnEnds
 pub mod OwnWishes
 pub mod OwnCalls

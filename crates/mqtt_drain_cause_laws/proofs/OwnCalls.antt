@@ -1,13 +1,11 @@
 -- What a receiver's line is pumped or read for, wherever the receiver is: by it only the receiver's copies end, for what ends them in
 -- a drain.
-use Rattle.std.proofs.Common.{◌≡◌, ◌≢◌, ℕ, suc, Bool, true, false, ◌&&◌, ◌⊎◌, List, [], ◌∷◌, ◌++◌, map, length, Option, Some, None, nat_eq, nat_lt, refl, sym, ap, subst, ◌∙◌, arith, inl, inr}
-use Rattle.std.specs.Prelude.{⊤, Ok, Err, cond, find, option_map}
-use Rattle.std.specs.List.{AllByRecursion}
+use Rattle.std.proofs.Common.{◌≡◌, ℕ, suc, Bool, true, false, List, [], ◌∷◌, ◌++◌, map, length, Option, Some, None, nat_eq, nat_lt, refl, sym, ap, subst, ◌∙◌, arith, inl, inr}
+use Rattle.std.specs.Prelude.{⊤, Ok, Err, cond, option_map}
 use Rattle.std.proofs.lemmas.Bool.{cases_Bool, eqb-true}
 use Rattle.mqtt_base.specs.Codes.{protocol_error, quota_exceeded, success}
 use Rattle.mqtt_base.specs.declared.session.CopyId.{CopyId}
 use Rattle.mqtt_base.specs.declared.session.Ending.TheVariants.{SessionEnded}
-use Rattle.mqtt_codec.specs.declared.packet.Packet.{Packet}
 use Rattle.mqtt_codec.specs.declared.packet.Packet.TheVariants as packets
 use Rattle.mqtt_connect.specs.declared.connect.Connect.{Connect as Greeting}
 use Rattle.mqtt_flow.specs.Outbound.{Answer, due_from, is_refusal, pace}
@@ -24,7 +22,7 @@ use Rattle.mqtt_laws.proofs.CleanConnects.{clear_is}
 use Rattle.mqtt_laws.proofs.Connects.{left_by, named_taken, prepare_front, taken_client, taken_from, taken_will}
 use Rattle.mqtt_laws.proofs.OwnSeats.{line_of_on}
 use Rattle.mqtt_laws.proofs.OwnStep.{heard_of, input_is}
-use Rattle.mqtt_laws.proofs.Publishes.{act_none, drop_is, dropped}
+use Rattle.mqtt_laws.proofs.Publishes.{act_none, drop_is}
 use Rattle.mqtt_laws.proofs.Seats.{kept_of}
 use Rattle.mqtt_records.specs.declared.records.Records.{Records}
 use Rattle.mqtt_records.specs.declared.session.Session.{Session}
@@ -32,7 +30,7 @@ use Rattle.mqtt_rules.proofs.Copies.{each_append}
 use Rattle.mqtt_rules.proofs.Leads.{found_passes}
 use Rattle.mqtt_rules.specs.Closing.{drop_line, end_session, never, settle}
 use Rattle.mqtt_rules.specs.Connect.{begin_named, clear, connect_by, joins, largest_of, of_client, on_connect, prepare, refusal, refusal_size, refused, resume, take_over}
-use Rattle.mqtt_rules.specs.Deeds.{Act, At, Deed, Finish, Gone, Hear, Leave, On, Send, after_all, always, only_if, whose, with_line, with_session}
+use Rattle.mqtt_rules.specs.Deeds.{Act, At, Deed, Finish, Gone, Leave, Send, after_all, always, only_if, whose, with_line, with_session}
 use Rattle.mqtt_rules.specs.Inbound.{on_answer, pump_deeds, pump_turns}
 use Rattle.mqtt_rules.specs.Outbound.{all_turn_deeds, way_of}
 use Rattle.mqtt_rules.specs.Packets.{connack}
@@ -43,7 +41,7 @@ use Rattle.mqtt_handed_laws.proofs.Pumps.{its_session}
 use Rattle.mqtt_handed_laws.proofs.Resuming.{call_is, greeting}
 use Rattle.mqtt_every_run_laws.specs.Standing.{IsPlaced, line_like}
 use Rattle.mqtt_every_run_laws.proofs.Fronts.{Connects, IsJoined, front}
-use Rattle.mqtt_drain_cause_laws.specs.DrainEnds.{EndsBy, StartsClean, Subscribes}
+use Rattle.mqtt_drain_cause_laws.specs.DrainEnds.{StartsClean}
 use Rattle.mqtt_drain_cause_laws.proofs.OwnEnds.{AreOwn, IsOwn, IsWellAnswer, own_cond, own_turn, own_turns, pump_well, puback_well, pubcomp_well, pubrec_well}
 use Rattle.mqtt_drain_cause_laws.proofs.OwnWishes.{subscribe_own}
 

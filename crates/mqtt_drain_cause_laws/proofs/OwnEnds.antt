@@ -1,15 +1,13 @@
 -- Deeds by which copies of one client alone end, and by what ends in a drain; and the turns of a queue that make such.
-use Rattle.std.proofs.Common.{◌≡◌, ℕ, zero, suc, Bool, true, false, cond, ◌&&◌, List, [], ◌∷◌, ◌++◌, map, Option, Some, None, refl, sym, ap, subst, ◌∙◌}
-use Rattle.std.specs.Prelude.{⊤, flat_map, find, nat_le, Ok, Err}
+use Rattle.std.proofs.Common.{◌≡◌, ℕ, zero, suc, Bool, true, false, cond, List, [], ◌∷◌, ◌++◌, Option, Some, None, sym, subst}
+use Rattle.std.specs.Prelude.{⊤, flat_map, nat_le, Ok, Err}
 use Rattle.std.specs.List.{AllByRecursion, cons_option}
-use Rattle.mqtt_base.specs.declared.session.Ending.{Ending}
-use Rattle.mqtt_base.specs.declared.session.Ending.TheVariants as endings
 use Rattle.mqtt_base.specs.declared.session.Phase.{Phase}
 use Rattle.mqtt_base.specs.declared.session.Phase.TheVariants.{Waiting, Sent, Released, Oversize}
 use Rattle.mqtt_base.specs.declared.session.Qos.{Qos}
 use Rattle.mqtt_base.specs.declared.session.Qos.TheVariants.{AtMostOnce, AtLeastOnce, ExactlyOnce}
 use Rattle.mqtt_codec.specs.declared.packet.Packet.{Packet}
-use Rattle.mqtt_flow.specs.Outbound.{Verdict, pass, end, outgrow, send, resend, Answer, is_refusal, ending_by, acknowledged, puback_by, puback_at, released_by, received, pubrec_by, pubrec_at, pubcomp_by, pubcomp_at, first_time, too_large, once_more, verdict, verdict_by, in_room, step_on, step_by, paced, then_on, pump_from, dropped, dropped_at, gives_way, is_late, is_large}
+use Rattle.mqtt_flow.specs.Outbound.{Verdict, pass, end, outgrow, send, resend, Answer, is_refusal, ending_by, acknowledged, puback_by, puback_at, released_by, received, pubrec_by, pubrec_at, pubcomp_by, pubcomp_at, first_time, too_large, once_more, verdict, verdict_by, in_room, step_by, paced, then_on, pump_from, dropped, dropped_at, gives_way, is_late, is_large}
 use Rattle.mqtt_flow.specs.Pacing.{Pacing}
 use Rattle.mqtt_flow.specs.declared.entry.Entry.{Entry as FlowEntry}
 use Rattle.mqtt_flow.specs.declared.entry.QueuedCopy.{QueuedCopy}
@@ -26,7 +24,6 @@ use Rattle.mqtt_rules.specs.Outbound.{of_entry, leave_deeds, turn_deeds, all_tur
 use Rattle.mqtt_rules.specs.Packets.{size_of}
 use Rattle.mqtt_rules.specs.State.{Broker, Line}
 use Rattle.mqtt_rules.specs.Step.{Call}
-use Rattle.mqtt_rules.proofs.Copies.{each_flat}
 use Rattle.mqtt_cause_laws.specs.Endings.{Asked, EndAt, end_at, ends_of}
 use Rattle.mqtt_drain_cause_laws.specs.DrainEnds.{EndsBy, Subscribes}
 

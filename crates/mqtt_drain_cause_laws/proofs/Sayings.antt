@@ -1,6 +1,6 @@
 -- What receivers have under way says that all is well, in every run that begins with none (MQTT 5.0, 4.3.2, 4.3.3).
-use Rattle.std.proofs.Common.{◌≡◌, ℕ, zero, suc, Bool, true, false, cond, if◌then◌else◌, inl, inr, List, [], ◌∷◌, map, Option, Some, None, nat_lt, bytes_eq, refl, sym, ap, subst}
-use Rattle.std.specs.Prelude.{⊤, find, is_some}
+use Rattle.std.proofs.Common.{◌≡◌, ℕ, zero, suc, Bool, true, false, cond, if◌then◌else◌, inl, inr, List, [], ◌∷◌, map, Option, Some, None, nat_lt, bytes_eq, refl, sym, subst}
+use Rattle.std.specs.Prelude.{find, is_some}
 use Rattle.std.specs.List.{AllByRecursion}
 use Rattle.std.proofs.lemmas.Bool.{cases_Bool}
 use Rattle.mqtt_base.specs.Codes.{success, identifier_not_found}
@@ -16,10 +16,10 @@ use Rattle.mqtt_inbound.specs.Line.{Link, away, asked, live}
 use Rattle.mqtt_rules.proofs.Copies.{each_append}
 use Rattle.mqtt_rules.specs.Step.{Call, NewLine, stepped, told}
 use Rattle.mqtt_rules.specs.declared.Limits.{Limits}
-use Rattle.mqtt_laws.specs.Ends.{Back, Receiver, Wish, answers, asks_for, greeted, hears, new_receiver, reads_publish, receiver_connack, receiver_reads}
-use Rattle.mqtt_laws.specs.Lines.{Down, Line, gives_up, joined, left, told_by}
+use Rattle.mqtt_laws.specs.Ends.{Back, Receiver, answers, asks_for, greeted, hears, new_receiver, reads_publish, receiver_connack, receiver_reads}
+use Rattle.mqtt_laws.specs.Lines.{Down, Line, gives_up, joined, left}
 use Rattle.mqtt_laws.specs.Run.{Turn, run, setting, turned}
-use Rattle.mqtt_laws.specs.World.{Asking, Event, Setting, World, answers_rest, ask, asks, asks_wish, before, break, call_of, call_of_stranger, calls, calls_if, clock, comes, connect_end, end_reads, first_step, give_up, happens, held_count, is_bad, is_open_line, linked_at, links, next_held, next_line, old_to_broker, publish, publisher, pump, receiver, receiver_named, receiver_restarted, receiver_told, restart, restarts, stop_after, stop_before, stranger, stranger_named, subscribe, taken_old, taken_up, tick, to_broker, to_end, with_line}
+use Rattle.mqtt_laws.specs.World.{Asking, Event, Setting, World, answers_rest, ask, asks, asks_wish, before, break, call_of, call_of_stranger, calls, calls_if, clock, comes, connect_end, first_step, give_up, happens, held_count, is_bad, is_open_line, linked_at, links, next_held, next_line, old_to_broker, publish, publisher, pump, receiver, receiver_named, receiver_restarted, receiver_told, restart, restarts, stop_after, stop_before, stranger, stranger_named, subscribe, taken_old, taken_up, tick, to_broker, to_end}
 use Rattle.mqtt_unrolled_laws.proofs.TakenLines.{Carries, gives_carries, goes_carries, joined_carries, left_carries, old_carries, restarted_carries, told_carries, up_carries}
 use Rattle.mqtt_drain_cause_laws.proofs.OwnCalls.{SaysWell}
 
