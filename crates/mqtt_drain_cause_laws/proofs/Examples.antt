@@ -1,5 +1,5 @@
 -- Worked drains: whose the copies are that end, by what, and for which packet (MQTT 5.0, 3.1.2.4, 4.3).
-use Rattle.std.proofs.Common.{◌≡◌, ℕ, true, false, Bool, List, [], ◌∷◌, ◌++◌, map, Option, Some, None, refl}
+use Rattle.std.proofs.Common.{◌≡◌, ℕ, true, false, Bool, List, [], ◌∷◌, ◌++◌, map, Option, Some, refl}
 use Rattle.mqtt_base.specs.Values.{varint}
 use Rattle.mqtt_base.specs.declared.session.Ending.{Ending}
 use Rattle.mqtt_base.specs.declared.session.Ending.TheVariants.{Taken, SessionEnded}
@@ -8,7 +8,7 @@ use Rattle.mqtt_codec.specs.declared.packet.Packet.TheVariants as packets
 use Rattle.mqtt_rules.specs.Step.{Call, Input}
 use Rattle.mqtt_rules.proofs.Play.{first, usual}
 use Rattle.mqtt_laws.specs.Run.{after}
-use Rattle.mqtt_laws.specs.World.{Event, World, ask, connect_end, give_up, publish, publisher, receiver, to_broker}
+use Rattle.mqtt_laws.specs.World.{Event, ask, connect_end, give_up, publish, publisher, receiver, to_broker}
 use Rattle.mqtt_laws.proofs.Scripts.{draft, joins, p1, r1, round, subscribes, turns}
 use Rattle.mqtt_handed_laws.specs.Drains.{drain_turns}
 use Rattle.mqtt_cause_laws.specs.Endings.{EndAt, ends_over}
