@@ -194,14 +194,16 @@ module _ (client : List ℕ) (call : Option Call) where
 
 -- ---- the ends in a step
 
--- it is of the client's copies, by what ends them in a drain
-abbrev pub IsIts : List ℕ → EndAt → Type 0
-IsIts client x = (x.who.client ≡ client) × EndsBy client x.asked.call x.ending
+-- it is of the client's copies, by what ends them in a drain, and at this moment
+pub record IsIts (client : List ℕ) (moment : ℕ) (x : EndAt) : Type 0 where
+  pub its : x.who.client ≡ client
+  pub by : EndsBy client x.asked.call x.ending
+  pub at : x.broker.now ≡ moment
 
-one_its : (client : List ℕ) (m : Asked) (b : Broker) (ds : List Deed) (d : Deed) (xs : List EndAt) → IsOwn client m.call d → AllByRecursion (IsIts client) xs → AllByRecursion (IsIts client) (cons_option (end_at m b ds d) xs)
-one_its client m b ds (At who (Leave e ending)) xs h more = (h, more)
-one_its client m b ds d xs h more = more
+one_its : (client : List ℕ) (m : Asked) (moment : ℕ) (b : Broker) (ds : List Deed) (d : Deed) (xs : List EndAt) → b.now ≡ moment → IsOwn client m.call d → AllByRecursion (IsIts client moment) xs → AllByRecursion (IsIts client moment) (cons_option (end_at m b ds d) xs)
+one_its client m moment b ds (At who (Leave e ending)) xs at h more = (record { its = h.0; by = h.1; at = at }, more)
+one_its client m moment b ds d xs at h more = more
 
-pub all_its : (client : List ℕ) (m : Asked) (ds : List Deed) (b : Broker) → AreOwn client m.call ds → AllByRecursion (IsIts client) (ends_of m ds b)
-all_its client m [] b h = tt
-all_its client m (d ∷ ds) b h = one_its client m b ds d (ends_of m ds (after d b)) h.0 (all_its client m ds (after d b) h.1)
+pub all_its : (client : List ℕ) (m : Asked) (moment : ℕ) (ds : List Deed) (b : Broker) → b.now ≡ moment → AreOwn client m.call ds → AllByRecursion (IsIts client moment) (ends_of m ds b)
+all_its client m moment [] b at h = tt
+all_its client m moment (d ∷ ds) b at h = one_its client m moment b ds d (ends_of m ds (after d b)) at h.0 (all_its client m moment ds (after d b) at h.1)

@@ -7,7 +7,7 @@ use Rattle.mqtt_codec.specs.declared.packet.Packet.TheVariants as packets
 use Rattle.mqtt_connect.specs.declared.connect.Connect.{Connect}
 use Rattle.mqtt_subscribe.specs.declared.subscribe.Subscribe.{Subscribe}
 use Rattle.mqtt_rules.specs.State.{MemberChoice}
-use Rattle.mqtt_rules.specs.Step.{Call, Input}
+use Rattle.mqtt_rules.specs.Step.{Call, Input, at_moment}
 use Rattle.mqtt_rules.specs.declared.Limits.{Limits}
 use Rattle.mqtt_laws.specs.Run.{Turn, run}
 use Rattle.mqtt_laws.specs.World.{World}
@@ -39,14 +39,19 @@ EndsBy client call TooLarge = ⊤
 EndsBy client call SessionEnded = StartsClean client call
 EndsBy client call Dropped = Subscribes call
 
--- an end is of the receiver's copies, by one of these, and for its cause
-pub record IsOfDrain (client : List ℕ) (x : EndAt) : Type 0 where
+-- the moment of what is asked of the broker in this world
+abbrev pub moment_of : World → ℕ
+moment_of w = (at_moment w.now w.broker).now
+
+-- an end is of the receiver's copies, by one of these, at the drain's moment, and for its cause
+pub record IsOfDrain (client : List ℕ) (moment : ℕ) (x : EndAt) : Type 0 where
   pub its : x.who.client ≡ client
   pub by : EndsBy client x.asked.call x.ending
+  pub at : x.broker.now ≡ moment
   pub cause : HasCause x
 
 abbrev pub AreOfDrain : List ℕ → Limits → List Turn → World → Type 0
-AreOfDrain client limits ts w = AllByRecursion (IsOfDrain client) (ends_over limits ts w)
+AreOfDrain client limits ts w = AllByRecursion (IsOfDrain client (moment_of w)) (ends_over limits ts w)
 
 -- each end of a drain that takes so many rounds at most
 abbrev pub EndOfDrain : Limits → MemberChoice → List ℕ → ℕ → World → Type 0
