@@ -1,0 +1,7 @@
+-- Whose copies end in a drain, and by what.
+pub mod Examples
+pub mod OwnEnds
+pub mod OwnWishes
+pub mod OwnCalls
+pub mod Sayings
+pub mod DrainRuns

@@ -1,0 +1,2 @@
+-- The ends of copies in a drain.
+pub mod DrainEnds

@@ -1,0 +1,27 @@
+//! The law of the ends of copies in a drain (3.1.2.4, 3.1.2.11, 3.3.2.3.3, 4.3).
+ghost use Rattle.std.specs.Prelude.{◌≡◌, ℕ, List, false};
+ghost use Rattle.mqtt_drain_cause_laws.specs.DrainEnds.{AllDrainsEndSo, EndOfDrain};
+ghost use Rattle.mqtt_every_run_laws.specs.Untouched.{IsUntouched};
+ghost use Rattle.mqtt_handed_laws.specs.Drains.{Doing, all_turns, drain_turns};
+ghost use Rattle.mqtt_laws.specs.Run.{Turn, run};
+ghost use Rattle.mqtt_laws.specs.World.{World, start};
+ghost use Rattle.mqtt_rules.specs.State.{MemberChoice};
+ghost use Rattle.mqtt_rules.specs.declared.Limits.{Limits};
+ghost use Rattle.mqtt_world_laws.specs.Fair.{IsFair};
+ghost use Rattle.mqtt_world_laws.specs.Spending.{run_spends};
+
+/// From wherever a fair run comes to, whatever is under way from a receiver and to it: each copy that ends in a drain
+/// of the receiver is one of its own, and ends at the drain's moment. It is taken, or has expired, or is too large; or
+/// it ends with its session, as a CONNECT of the receiver with Clean Start is read, or makes way in a full queue, as a
+/// SUBSCRIBE is; and it ends for its cause. None is refused. So it is of each drain of a script (3.1.2.4, 3.1.2.11,
+/// 3.3.2.3.3, 4.3).
+pub fn copies_of_a_drain_end_by_its_causes()
+    ensures ends { (limits : Limits) (ts : List Turn) (choice : MemberChoice) (client : List ℕ) (most : ℕ) (w : World)
+        → IsUntouched limits w → IsFair limits ts w
+        → run_spends limits (drain_turns limits choice client most (run limits ts w)) (run limits ts w) ≡ false
+        → EndOfDrain limits choice client most (run limits ts w) }
+    ensures of_scripts { (limits : Limits) (ds : List Doing) (w : World) → IsUntouched limits w
+        → IsFair limits (all_turns limits ds w) w → AllDrainsEndSo limits ds w }
+    ensures from_nothing { (limits : Limits) (ds : List Doing) → IsFair limits (all_turns limits ds start) start
+        → AllDrainsEndSo limits ds start }
+{}
