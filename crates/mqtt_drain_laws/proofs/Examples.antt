@@ -46,11 +46,6 @@ pub through_a_window_of_one : drains_after (both_wait 1) ≡ record { enough = 5
 unfolding varint
 through_a_window_of_one = refl
 
--- what stands after fewer rounds waits still
-pub two_rounds_are_too_few : waiting_for r1 (drained usual first r1 2 (after usual (turns (both_wait 1)))) ≡ 1
-unfolding varint
-two_rounds_are_too_few = refl
-
 -- ---- its CONNECT is under way: the session is resumed, or with Clean Start another begins instead of it
 
 abbrev comes_again : Bool → List Event
@@ -59,6 +54,18 @@ comes_again clean = both_wait 10 ++ round r1 ++ give_up r1 ∷ connect_end r1 cl
 pub resumed_it_is_emptied : drains_after (comes_again false) ≡ record { enough = 5; rounds = 3; left = 0; bad = false; rounds_of_more = 3 }
 unfolding varint
 resumed_it_is_emptied = refl
+
+-- each of the rounds that are enough may be needed: one for CONNECT, and two for each copy
+abbrev one_by_one : List Event
+one_by_one = both_wait 1 ++ give_up r1 ∷ connect_end r1 false ∷ []
+
+pub each_round_is_needed : drains_after one_by_one ≡ record { enough = 5; rounds = 5; left = 0; bad = false; rounds_of_more = 5 }
+unfolding varint
+each_round_is_needed = refl
+
+pub four_rounds_are_too_few : waiting_for r1 (drained usual first r1 4 (after usual (turns one_by_one))) ≡ 1
+unfolding varint
+four_rounds_are_too_few = refl
 
 pub renewed_it_is_emptied : drains_after (comes_again true) ≡ record { enough = 5; rounds = 1; left = 0; bad = false; rounds_of_more = 1 }
 unfolding varint

@@ -1,0 +1,2 @@
+-- A drain of a script by one choice.
+pub mod Done

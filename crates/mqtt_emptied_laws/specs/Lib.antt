@@ -1,0 +1,2 @@
+-- Drains of a script.
+pub mod Done
