@@ -71,6 +71,7 @@ begins g limits now moment keep engine ends result moment_is is begun held none 
       loaded = o.loaded;
       records = o.records;
       load = o.load;
+      sound = o.sound;
       lawful = o.lawful;
       opens = opens g limits now keep (record { engine = engine; ends = ends }) o (none_held engine result is held);
       ends = none;
@@ -104,7 +105,8 @@ reopens {K} g limits now moment old before engine was ends keep result view play
     subst (λ (s : Played K). Reopens g limits now s new) (sym view) (record {
       playable = again.playable;
       limits_are = again.limits_are;
-      opens = λ sound. subst (λ (r : Records). Opens g limits now r new) (o.load.exact before.running.broker.records stored (sound o.loaded)) again;
+      sound = λ sound. subst (λ (k : K). g.is_sound k) same (o.load.sound (o.sound sound));
+      opens = λ sound. subst (λ (r : Records). Opens g limits now r new) (o.load.exact before.running.broker.records stored (o.sound sound)) again;
       ends = ap (λ (ps : List Publisher). record { publishers = ps; receivers = ends.receivers }) publishers_are
           ∙ ap (λ (rs : List Receiver). record (ends_restarted was) { receivers = rs }) receivers_are;
     })
