@@ -130,6 +130,5 @@ begun_of limits now r s is =
     ∙ ap (λ (x : Records). resting s.limits now x) (sym (ap (λ (t : Stepping). t.broker.records) is)))
 
 pub load_begun : {K : Type 0} (g : Ghosts K) (first loaded : K) (r : Records) → ((h : Records) → g.holds first h → g.is_sound loaded → r ≡ h) → (g.is_sound loaded → g.leaves first r)
-    → (g.is_sound loaded → g.is_sound first) → ((h : Records) → g.holds first h → g.holds loaded h)
-    → ((after : Records) → g.leaves loaded after → g.leaves first after) → IsBegun g first r loaded
-load_begun g first loaded r exact found sound same crash = record { load = record { exact = exact; found = found; sound = sound }; same = same; crash = crash }
+    → ((h : Records) → g.holds first h → g.holds loaded h) → ((after : Records) → g.leaves loaded after → g.leaves first after) → IsBegun g first r loaded
+load_begun g first loaded r exact found same crash = record { load = record { exact = exact; found = found }; same = same; crash = crash }

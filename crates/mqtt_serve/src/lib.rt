@@ -10,4 +10,3 @@ pub use clock::SteadyClock;
 pub use mqtt_serve_fault::ServeFault;
 pub use mqtt_serving::{Full, Limits, Timer};
 pub use serving::{serve, serve_over};
-pub use sqlite::{Start, Unknown};

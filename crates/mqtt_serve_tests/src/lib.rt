@@ -4,8 +4,6 @@
 #[cfg(test)]
 mod callers;
 #[cfg(test)]
-mod limits;
-#[cfg(test)]
 mod restarts;
 #[cfg(test)]
 mod runs;

@@ -3,7 +3,6 @@
 
 mod columns;
 mod commit;
-mod ending;
 mod parts;
 mod sizes;
 mod statement;

@@ -69,7 +69,6 @@ module _ {K : Type 0} (g : Ghosts K) (now : ℕ) (call : Call) (old new : Played
             is ∙ ap (λ x. ends_told x a.told old.ends) broker_is ∙ ap (λ x. ends_told (stepped limits choice now call b) x old.ends) answer_is;
         told_is = tells a.told a.tells ∙ ap (λ (x : Answer). record { reports = x.reports; out = length x.outputs }) answer_is;
         limits = served.called.limits;
-        sound = served.called.sound;
         playable = record {
           runs = served.called.stored.0;
           stored = served.called.stored.1;

@@ -90,7 +90,6 @@ module _ {K : Type 0} (g : Ghosts K) (now : ℕ) where
     choice = any_choice;
     playable = playable;
     limits = refl;
-    sound = λ sound. sound;
     reached = λ reached. reached;
     unspent = λ ss. refl;
     told = λ ss. refl;
@@ -102,7 +101,6 @@ module _ {K : Type 0} (g : Ghosts K) (now : ℕ) where
     choice = c.choice;
     playable = c.playable;
     limits = c.limits;
-    sound = c.sound;
     reached = reached_after g now call old new t takes c;
     unspent = λ ss. c.unspent;
     told = λ ss. c.told_is;
@@ -185,7 +183,6 @@ module _ {K : Type 0} (g : Ghosts K) (name : List ℕ) where
   welcome_again s standing there alike waits = record {
     standing = standing;
     limits = refl;
-    sound = λ sound. sound;
     reached = λ reached. reached;
     there = there;
     same = refl;
@@ -203,7 +200,6 @@ module _ {K : Type 0} (g : Ghosts K) (name : List ℕ) where
     first_welcomed playable within none alike line_is c = record {
       standing = record { playable = c.playable; limits = sym c.limits; within = within };
       limits = refl;
-      sound = c.sound;
       reached = reached_after g now NewLine P N silent tt c;
       there = ap is_some found;
       same = ap bytes_held found ∙ sym (ap bytes_held none);
@@ -289,7 +285,6 @@ module _ {K : Type 0} (g : Ghosts K) (name bytes : List ℕ) (now taken : ℕ) (
   piece_taken line t playable within there alike waits line_is given c a = record {
     standing = record { playable = a.playable; limits = sym a.limits; within = within };
     limits = refl;
-    sound = a.sound;
     reached = a.reached;
     within = c.within;
     next = c.next;
@@ -363,7 +358,6 @@ module _ {K : Type 0} (g : Ghosts K) (name bytes : List ℕ) (old mid new : Stag
   welcomed_piece taken t w p = record {
     standing = p.standing;
     limits = p.limits ∙ w.limits;
-    sound = λ sound. w.sound (p.sound sound);
     reached = λ reached. subst (λ (l : Limits). IsReached l (broker_of mid) → IsReached l (broker_of new)) w.limits p.reached (w.reached reached);
     within = p.within;
     next = subst (λ (held : List ℕ). IsNextPiece held (take taken bytes) (drop taken bytes)) w.same p.next;

@@ -241,7 +241,6 @@ module _ {K : Type 0} (g : Ghosts K) (now line : ℕ) (call : Call) (piece : Lis
             ∙ ap (λ (os : List (ℕ × Packet)). record { reports = a.after.out.reports; out = length os }) outputs
             ∙ ap (λ rs. record { reports = rs; out = length (told limits choice now call b).outputs }) reports;
         limits = ap (λ (e : Serving K). e.running.limits) same ∙ at.limits;
-        sound = λ sound. at.sound (subst (λ (e : Serving K). g.is_sound e.running.keep) same sound);
         playable = record {
           runs = ap (λ (e : Serving K). e.running.stopped) same ∙ at.stored.0;
           stored = subst (λ (e : Serving K). g.holds e.running.keep e.running.broker.records) (sym same) at.stored.1;

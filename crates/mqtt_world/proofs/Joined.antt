@@ -26,7 +26,6 @@ module _ {K : Type 0} (g : Ghosts K) (now : ℕ) (client : List ℕ) (clean : Bo
       record {
         playable = playable_still g now F P N c.playable;
         limits = c.limits;
-        sound = c.sound;
         reached = reached_after g now NewLine s (played F P) silent tt c;
         done = λ spells reached ss.
             let limits = s.engine.running.limits in
@@ -47,7 +46,6 @@ module _ {K : Type 0} (g : Ghosts K) (now : ℕ) (client : List ℕ) (clean : Bo
   left_alone told before playable good none = record {
     playable = playable;
     limits = refl;
-    sound = λ sound. sound;
     reached = λ reached. reached;
     done = λ spells reached ss.
         let limits = s.engine.running.limits in

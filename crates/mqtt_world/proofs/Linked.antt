@@ -91,7 +91,6 @@ linked {K} g now moment line old new playable moment_is step same held ends =
           ∙ ap (λ (x : Answer). ends_told (stepped limits choice now NewLine b) x old.ends) answer_is;
       told_is = ap (λ (x : Answer). record { reports = x.reports; out = length x.outputs }) answer_is;
       limits = ap (λ r. r.limits) same;
-      sound = λ sound. subst (λ k. g.is_sound k) keep_is sound;
       playable = record {
         runs = ap (λ r. r.stopped) same ∙ playable.runs;
         stored = subst (λ k. g.holds k new.engine.running.broker.records) (sym keep_is)

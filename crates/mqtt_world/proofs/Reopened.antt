@@ -71,7 +71,6 @@ begins g limits now moment keep engine ends result moment_is is begun held none 
       loaded = o.loaded;
       records = o.records;
       load = o.load;
-      sound = o.sound;
       lawful = o.lawful;
       opens = opens g limits now keep (record { engine = engine; ends = ends }) o (none_held engine result is held);
       ends = none;
@@ -105,8 +104,7 @@ reopens {K} g limits now moment old before engine was ends keep result view play
     subst (λ (s : Played K). Reopens g limits now s new) (sym view) (record {
       playable = again.playable;
       limits_are = again.limits_are;
-      sound = λ sound. subst (λ (k : K). g.is_sound k) same (o.load.sound (o.sound sound));
-      opens = λ sound. subst (λ (r : Records). Opens g limits now r new) (o.load.exact before.running.broker.records stored (o.sound sound)) again;
+      opens = λ sound. subst (λ (r : Records). Opens g limits now r new) (o.load.exact before.running.broker.records stored (sound o.loaded)) again;
       ends = ap (λ (ps : List Publisher). record { publishers = ps; receivers = ends.receivers }) publishers_are
           ∙ ap (λ (rs : List Receiver). record (ends_restarted was) { receivers = rs }) receivers_are;
     })

@@ -14,9 +14,9 @@ use Rattle.mqtt_script_laws.specs.Scripted.{IsBadEvent}
 use Rattle.mqtt_script_laws.specs.Turns.{IsPlain, IsReopened, by_choice}
 use Rattle.mqtt_script_laws.proofs.Single.{quiet, reopens, stops_before}
 use Rattle.mqtt_world.specs.Events.{Does, IsDone, IsReached, SpellsAll, world_of}
-use Rattle.mqtt_world.specs.Openings.{Reopens}
+use Rattle.mqtt_world.specs.Openings.{AlwaysSound, Reopens}
 use Rattle.mqtt_world.specs.Scenes.{HoldNone, IsPlayable, Played}
-use Rattle.mqtt_world.specs.Stages.{IsSoundAt, IsStanding, Plays, Restages, Staged, broker_of, world_at}
+use Rattle.mqtt_world.specs.Stages.{IsStanding, Plays, Restages, Staged, broker_of, world_at}
 use Rattle.mqtt_world.specs.Stopping.{IsTakenOff, TakesOff}
 use Rattle.mqtt_world.proofs.Eventful.{any_choice}
 use Rattle.mqtt_world.proofs.Stopped.{reached_again, reopened, stops_behind}
@@ -50,7 +50,6 @@ module _ {K : Type 0} (g : Ghosts K) where
       record {
         standing = record { playable = does.playable; limits = here ∙ sym does.limits; within = stands.within };
         limits = refl;
-        sound = does.sound;
         reached = λ sound reached.
             subst (λ (l : Limits). IsReached l P.engine.running.broker) (sym here)
             (does.reached (subst (λ (l : Limits). IsReached l S.engine.running.broker) here reached));
@@ -80,7 +79,6 @@ module _ {K : Type 0} (g : Ghosts K) where
   clock_plays wait S ss now after limits stands is = record {
     standing = record { playable = stands.playable; limits = stands.limits; within = stands.within };
     limits = refl;
-    sound = λ sound. sound;
     reached = λ sound reached. reached;
     done = λ sound spells reached.
         quiet limits any_choice (clock wait) (world_of now ss S) (world_of after ss S) tt refl (ap (λ (n : ℕ). world_of n ss S) is);
@@ -116,13 +114,13 @@ module _ {K : Type 0} (g : Ghosts K) where
       ap (λ (n : ℕ). world_of n new.strangers new.played) r.now
       ∙ ap (λ (ss : List Stranger). world_of mid.now ss new.played) r.strangers
 
-  pub reopened_at : (mid new : Staged K) (t : Option Telling) → Restages g mid t new → IsSoundAt g new
+  pub reopened_at : (mid new : Staged K) (t : Option Telling) → Restages g mid t new → AlwaysSound g
       → IsReopened mid.limits (world_at mid) (world_at new)
   reopened_at mid new t r sound =
       subst (λ (w : World). IsReopened mid.limits (world_at mid) w) (sym (world_after mid new t r))
       (reopened g mid.now mid.limits mid.played new.played mid.strangers r.reopens sound)
 
-  pub reached_at : (mid new : Staged K) (t : Option Telling) → Restages g mid t new → IsSoundAt g new
+  pub reached_at : (mid new : Staged K) (t : Option Telling) → Restages g mid t new → AlwaysSound g
       → IsReached mid.limits (broker_of mid) → IsReached mid.limits (broker_of new)
   reached_at mid new t r sound reached = reached_again g mid.now mid.limits mid.played new.played r.reopens sound reached
 
@@ -132,7 +130,6 @@ module _ {K : Type 0} (g : Ghosts K) where
       subst (λ (x : Option Telling). Plays g restart old x new) (sym r.told) (record {
         standing = standing_again old new t stands r;
         limits = r.limits;
-        sound = r.reopens.sound;
         reached = reached_at old new t r;
         done = λ sound spells reached. reopens old.limits (world_at old) (world_at new) (reopened_at old new t r sound);
       })
@@ -144,20 +141,19 @@ module _ {K : Type 0} (g : Ghosts K) where
       subst (λ (x : Option Telling). Plays g (stop_after a) old x new) (sym r.told) (record {
         standing = standing_again mid new t asked.standing r;
         limits = r.limits ∙ asked.limits;
-        sound = λ sound. asked.sound (r.reopens.sound sound);
         reached = λ sound reached.
             subst (λ (l : Limits). IsReached l (broker_of new)) asked.limits
             (reached_at mid new t r sound
-            (subst (λ (l : Limits). IsReached l (broker_of mid)) (sym asked.limits) (asked.reached (r.reopens.sound sound) reached)));
+            (subst (λ (l : Limits). IsReached l (broker_of mid)) (sym asked.limits) (asked.reached sound reached)));
         done = λ sound spells reached.
-            stops_behind old.limits a u (world_at old) (world_at mid) (world_at new) plain (asked.done (r.reopens.sound sound) spells reached)
+            stops_behind old.limits a u (world_at old) (world_at mid) (world_at new) plain (asked.done sound spells reached)
             (subst (λ (l : Limits). IsReopened l (world_at mid) (world_at new)) asked.limits (reopened_at mid new t r sound));
       })
 
   -- what can't be asked can't be stopped after
   pub stop_after_bad : (a : Asking) (old new : Staged K) → Plays g (ask a) old None new → Plays g (stop_after a) old None new
   stop_after_bad a old new asked =
-      record { standing = asked.standing; limits = asked.limits; sound = asked.sound; reached = asked.reached; done = asked.done }
+      record { standing = asked.standing; limits = asked.limits; reached = asked.reached; done = asked.done }
 
   -- ---- a stop before the commit
 
@@ -185,7 +181,6 @@ module _ {K : Type 0} (g : Ghosts K) where
       subst (λ (x : Option Telling). Plays g (stop_before a) old x new) (sym r.told) (record {
         standing = standing_again mid new t (off_stands a old M stands off) r;
         limits = r.limits;
-        sound = λ sound. subst (λ (e : Serving K). g.is_sound e.running.keep) off.engine (r.reopens.sound sound);
         reached = λ sound reached.
             reached_at mid new t r sound
             (subst (λ (e : Serving K). IsReached old.limits e.running.broker) (sym off.engine) reached);
@@ -204,12 +199,11 @@ module _ {K : Type 0} (g : Ghosts K) where
       off_plays a old new mid.played t stands off (subst (λ (x : Staged K). Restages g x t new) same r)
 
   bad_plays : (e : Event) (old : Staged K) (M : Played K) → IsStanding g old → M ≡ old.played
-      → IsBadEvent e (world_at old) → Plays g e old None (record old { played = M })
+      → IsBadEvent (Some e) (world_at old) → Plays g e old None (record old { played = M })
   bad_plays e old M stands same is =
       subst (λ (x : Played K). Plays g e old None (record old { played = x })) (sym same) (record {
         standing = record { playable = stands.playable; limits = stands.limits; within = stands.within };
         limits = refl;
-        sound = λ sound. sound;
         reached = λ sound reached. reached;
         done = λ sound spells reached. (is, refl);
       })

@@ -52,12 +52,11 @@ module _ {K : Type 0} (g : Ghosts K) (limits : Limits) (keep : K) (s : Played K)
     choice = b.opens.choice;
     unspent = b.opens.unspent;
     at = staged s [] 0 limits;
-    sound = b.sound;
     stage = refl;
     limits_are = refl;
     world = world_began g limits b.records s b.opens b.ends;
     events = nothing;
-    comes = λ phases t is sound.
+    comes = λ phases t is.
         subst (Came (opened_world limits b.opens.choice 0 b.records) events) (ok_is (Ok (staged s [] 0 limits)) (staged s [] 0 limits) t refl is)
         (came_first g limits b.records s events b.opens b.ends nothing within b.lawful phases);
   }

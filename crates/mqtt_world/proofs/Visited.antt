@@ -14,7 +14,7 @@ use Rattle.mqtt_script_laws.proofs.Pieces.{last_piece, piece_and_more, stops_aft
 use Rattle.mqtt_strangers.specs.Strangers.{named, newcomer}
 use Rattle.mqtt_strangers.proofs.Steps.{good_rest}
 use Rattle.mqtt_world.specs.Events.{IsReached, SpellsAll, world_of}
-use Rattle.mqtt_world.specs.Scenes.{Played, WasSound}
+use Rattle.mqtt_world.specs.Scenes.{Played}
 use Rattle.mqtt_world.specs.Stages.{IsStanding, Plays, Restages, Staged, broker_of, world_at}
 use Rattle.mqtt_world.specs.Visits.{MayStopAt, StopsAt, TakesPiece, TellsPiece}
 use Rattle.mqtt_world.proofs.Calling.{all_taken, comes_in, decided, none_tells, piece_good, staged, tells_after}
@@ -24,7 +24,6 @@ use Rattle.mqtt_world.proofs.Staged.{ok_as, reached_at as reached_again, reopene
 pub record ComesOn {K : Type 0} (g : Ghosts K) (name bytes : List ℕ) (old : Staged K) (told : Telling) (mid : Staged K) (rest : List ℕ) : Type 0 where
   pub standing : IsStanding g mid
   pub limits : mid.limits ≡ old.limits
-  pub sound : WasSound g old.played mid.played
   pub reached : IsReached old.limits (broker_of old) → IsReached old.limits (broker_of mid)
   pub good : SpellsAll old.limits → IsReached old.limits (broker_of old) → is_bad (comes_in name rest) (world_at mid) ≡ false
   pub done : SpellsAll old.limits → IsReached old.limits (broker_of old) → (u : Telling) (after : World)
@@ -53,7 +52,6 @@ module _ {K : Type 0} (g : Ghosts K) (name : List ℕ) where
   comes_first bytes old told standing none good = record {
     standing = standing;
     limits = refl;
-    sound = λ sound. sound;
     reached = λ reached. reached;
     good = λ spells reached. good;
     done = λ spells reached u after does.
@@ -111,7 +109,6 @@ module _ {K : Type 0} (g : Ghosts K) (name : List ℕ) where
         record {
           standing = p.takes.standing;
           limits = p.takes.limits ∙ c.limits;
-          sound = λ sound. c.sound (p.takes.sound sound);
           reached = λ reached. reached_at rest taken p.t mid new old.limits c.limits p.takes (c.reached reached);
           good = rest_good whole;
           done = rest_done whole;
@@ -123,7 +120,6 @@ module _ {K : Type 0} (g : Ghosts K) (name : List ℕ) where
     comes_last none = record {
       standing = p.takes.standing;
       limits = p.takes.limits ∙ c.limits;
-      sound = λ sound. c.sound (p.takes.sound sound);
       reached = λ sound reached. reached_at rest taken p.t mid new old.limits c.limits p.takes (c.reached reached);
       done = λ sound spells reached.
           subst (λ (t : Telling). Happens old.limits (comes_in name bytes) t (world_at old) (world_at new)) (sym p.told)
@@ -139,7 +135,6 @@ module _ {K : Type 0} (g : Ghosts K) (name : List ℕ) where
   refused bytes s bad standing tells is = record {
     standing = standing;
     limits = refl;
-    sound = λ sound. sound;
     reached = λ sound reached. reached;
     done = λ sound spells reached. (inl (sym tells ∙ is), refl);
   }
@@ -151,7 +146,6 @@ module _ {K : Type 0} (g : Ghosts K) (name : List ℕ) where
   cut_short bytes taken t old new p good = record {
     standing = p.standing;
     limits = p.limits;
-    sound = p.sound;
     reached = p.reached;
     done = λ spells reached after opens.
         let w = world_at old in
@@ -172,7 +166,6 @@ module _ {K : Type 0} (g : Ghosts K) (name : List ℕ) where
   named_before s standing there bytes good = record {
     standing = standing;
     limits = refl;
-    sound = λ sound. sound;
     reached = λ reached. reached;
     done = λ spells reached after opens. stops_before_there s.limits name bytes (world_at s) after there good opens;
   }
@@ -190,7 +183,6 @@ module _ {K : Type 0} (g : Ghosts K) (name : List ℕ) where
       (record {
         standing = record { playable = at.playable; limits = at.limits; within = at.within };
         limits = refl;
-        sound = λ sound. sound;
         reached = λ reached. reached;
         done = λ spells reached after opens. stops_before_first limits name bytes (world_of now ss P) after none fine opens;
       }))
@@ -203,7 +195,6 @@ module _ {K : Type 0} (g : Ghosts K) (e : Event) where
       subst (λ (x : Option Telling). Plays g e old x new) (sym r.told) (record {
         standing = standing_again g mid new t s.standing r;
         limits = r.limits ∙ s.limits;
-        sound = λ sound. s.sound (r.reopens.sound sound);
         reached = λ sound reached.
             subst (λ (l : Limits). IsReached l (broker_of new)) s.limits
             (reached_again g mid new t r sound (subst (λ (l : Limits). IsReached l (broker_of mid)) (sym s.limits) (s.reached reached)));
@@ -225,7 +216,6 @@ module _ {K : Type 0} (g : Ghosts K) (e : Event) where
       (record {
         standing = standing;
         limits = refl;
-        sound = λ sound. sound;
         reached = λ sound reached. reached;
         done = λ sound spells reached. (inl bad.0, refl);
       })

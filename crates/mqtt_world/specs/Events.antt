@@ -17,7 +17,7 @@ use Rattle.mqtt_clients.specs.Ends.{Ends}
 use Rattle.mqtt_clients.specs.Telling.{AreSpelled}
 use Rattle.mqtt_script_laws.specs.Scripted.{Happens, IsBadEvent}
 use Rattle.mqtt_spelled_laws.specs.Sending.{HaveSentPhases}
-use Rattle.mqtt_world.specs.Scenes.{IsPlayable, Played, WasSound}
+use Rattle.mqtt_world.specs.Scenes.{IsPlayable, Played}
 
 -- ---- the brokers that there are: what opens on lawful records with identifiers of two bytes, what steps lead to, and what opens again on what they left
 
@@ -60,7 +60,7 @@ world_of now strangers s = record {
 
 -- the event happens, and this is what it tells; or it can't happen there, and nothing changed
 abbrev pub IsDone : Limits → Event → Option Telling → World → World → Type 0
-IsDone limits e None w after = IsBadEvent e w × (after ≡ w)
+IsDone limits e None w after = IsBadEvent (Some e) w × (after ≡ w)
 IsDone limits e (Some t) w after = Happens limits e t w after
 
 -- ---- what an event leaves that leaves strangers alone, at a moment, whatever strangers there are
@@ -68,7 +68,6 @@ IsDone limits e (Some t) w after = Happens limits e t w after
 pub record Does {K : Type 0} (g : Ghosts K) (now : ℕ) (e : Event) (old : Played K) (t : Option Telling) (new : Played K) : Type 0 where
   pub playable : IsPlayable g new
   pub limits : new.engine.running.limits ≡ old.engine.running.limits
-  pub sound : WasSound g old new
   pub reached : IsReached old.engine.running.limits old.engine.running.broker → IsReached old.engine.running.limits new.engine.running.broker
   pub done : SpellsAll old.engine.running.limits → IsReached old.engine.running.limits old.engine.running.broker
       → (strangers : List Stranger) → IsDone old.engine.running.limits e t (world_of now strangers old) (world_of now strangers new)

@@ -1,5 +1,4 @@
 -- The world that runs.
-pub mod Draining
 pub mod Events
 pub mod Openings
 pub mod Scenes

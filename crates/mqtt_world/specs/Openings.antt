@@ -9,7 +9,11 @@ use Rattle.mqtt_broker.specs.TheRules.State.{MemberChoice}
 use Rattle.mqtt_broker.specs.TheRules.Step.{is_opening_spent, opened}
 use Rattle.mqtt_broker.specs.TheRules.declared.Limits.{Limits}
 use Rattle.mqtt_clients.specs.Ends.{Ends}
-use Rattle.mqtt_world.specs.Scenes.{IsPlayable, Played, WasSound}
+use Rattle.mqtt_world.specs.Scenes.{IsPlayable, Played}
+
+-- the device of a store always returns what was written
+abbrev pub AlwaysSound : {K : Type 0} → Ghosts K → Type 0
+AlwaysSound {K} g = (keep : K) → g.is_sound keep
 
 -- the broker begins with an opening of these records, for some choice of members, that spends no number
 pub record Opens {K : Type 0} (g : Ghosts K) (limits : Limits) (now : ℕ) (r : Records) (s : Played K) : Type 0 where
@@ -28,12 +32,11 @@ pub record Begins {K : Type 0} (g : Ghosts K) (limits : Limits) (now : ℕ) (kee
   pub loaded : K
   pub records : Records
   pub load : IsLoad g keep records loaded
-  pub sound : g.is_sound s.engine.running.keep → g.is_sound loaded
   pub lawful : IsLawful records
   pub opens : Opens g limits now records s
   pub ends : s.ends ≡ no_ends
 
--- ---- and again: on what is stored, where the device returns what was written, and each end's lines are lost
+-- ---- and again: on what is stored, and each end's lines are lost
 
 abbrev pub ends_restarted : Ends → Ends
 ends_restarted e = record {
@@ -44,6 +47,5 @@ ends_restarted e = record {
 pub record Reopens {K : Type 0} (g : Ghosts K) (limits : Limits) (now : ℕ) (old new : Played K) : Type 0 where
   pub playable : IsPlayable g new
   pub limits_are : new.engine.running.limits ≡ limits
-  pub sound : WasSound g old new
-  pub opens : g.is_sound new.engine.running.keep → Opens g limits now old.engine.running.broker.records new
+  pub opens : AlwaysSound g → Opens g limits now old.engine.running.broker.records new
   pub ends : new.ends ≡ ends_restarted old.ends

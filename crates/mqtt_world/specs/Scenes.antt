@@ -27,10 +27,6 @@ pub record IsPlayable {K : Type 0} (g : Ghosts K) (s : Played K) : Type 0 where
   pub stored : g.holds s.engine.running.keep s.engine.running.broker.records
   pub clear : HoldNone s.engine.held
 
--- the device of the store has returned what was written, if it still has afterwards
-abbrev pub WasSound : {K : Type 0} → Ghosts K → Played K → Played K → Type 0
-WasSound g old new = g.is_sound new.engine.running.keep → g.is_sound old.engine.running.keep
-
 -- A call was a step of the broker, for some choice of members, that spends no number; each end was told, where the packets
 -- that went out have spellings; and this is what it told.
 pub record Calls {K : Type 0} (g : Ghosts K) (now : ℕ) (call : Call) (old : Played K) (t : Telling) (new : Played K) : Type 0 where
@@ -42,5 +38,4 @@ pub record Calls {K : Type 0} (g : Ghosts K) (now : ℕ) (call : Call) (old : Pl
       (told old.engine.running.limits choice now call old.engine.running.broker) old.ends
   pub told_is : t ≡ telling (deeds old.engine.running.limits choice now call old.engine.running.broker)
   pub limits : new.engine.running.limits ≡ old.engine.running.limits
-  pub sound : WasSound g old new
   pub playable : IsPlayable g new

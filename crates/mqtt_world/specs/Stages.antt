@@ -7,8 +7,8 @@ use Rattle.mqtt_broker.specs.TheRules.Laws.{AreWithin}
 use Rattle.mqtt_broker.specs.TheRules.State.{Broker}
 use Rattle.mqtt_broker.specs.TheRules.declared.Limits.{Limits}
 use Rattle.mqtt_world.specs.Events.{IsDone, IsReached, SpellsAll, world_of}
-use Rattle.mqtt_world.specs.Openings.{Reopens}
-use Rattle.mqtt_world.specs.Scenes.{IsPlayable, Played, WasSound}
+use Rattle.mqtt_world.specs.Openings.{AlwaysSound, Reopens}
+use Rattle.mqtt_world.specs.Scenes.{IsPlayable, Played}
 
 pub record Staged (K : Type 0) : Type 0 where
   pub played : Played K
@@ -23,23 +23,18 @@ world_at s = world_of s.now s.strangers s.played
 abbrev pub broker_of : {K : Type 0} → Staged K → Broker
 broker_of s = s.played.engine.running.broker
 
--- the device of its store has returned what was written, so far
-abbrev pub IsSoundAt : {K : Type 0} → Ghosts K → Staged K → Type 0
-IsSoundAt g s = g.is_sound s.played.engine.running.keep
-
 -- where it can go on
 pub record IsStanding {K : Type 0} (g : Ghosts K) (s : Staged K) : Type 0 where
   pub playable : IsPlayable g s.played
   pub limits : s.limits ≡ s.played.engine.running.limits
   pub within : AreWithin s.limits
 
--- an event happens there, or can't; over a store whose device is sound after it
+-- an event happens there, or can't; over a store whose device is always sound
 pub record Plays {K : Type 0} (g : Ghosts K) (e : Event) (old : Staged K) (t : Option Telling) (new : Staged K) : Type 0 where
   pub standing : IsStanding g new
   pub limits : new.limits ≡ old.limits
-  pub sound : WasSound g old.played new.played
-  pub reached : IsSoundAt g new → IsReached old.limits (broker_of old) → IsReached old.limits (broker_of new)
-  pub done : IsSoundAt g new → SpellsAll old.limits → IsReached old.limits (broker_of old)
+  pub reached : AlwaysSound g → IsReached old.limits (broker_of old) → IsReached old.limits (broker_of new)
+  pub done : AlwaysSound g → SpellsAll old.limits → IsReached old.limits (broker_of old)
       → IsDone old.limits e t (world_at old) (world_at new)
 
 -- the broker is opened again on what is stored; no line is left, of an end or of a stranger, and nothing is told

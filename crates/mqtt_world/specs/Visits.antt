@@ -14,7 +14,7 @@ use Rattle.mqtt_script_laws.specs.Turns.{IsReopened, IsTurn, both_tell, by_choic
 use Rattle.mqtt_strangers.specs.Fronts.{IsNextPiece}
 use Rattle.mqtt_strangers.specs.Strangers.{held_of, named}
 use Rattle.mqtt_world.specs.Events.{IsReached, SpellsAll, world_of}
-use Rattle.mqtt_world.specs.Scenes.{IsPlayable, Played, WasSound}
+use Rattle.mqtt_world.specs.Scenes.{IsPlayable, Played}
 use Rattle.mqtt_world.specs.Stages.{IsStanding, Staged, broker_of, world_at}
 
 -- ---- the broker is asked for this, if for anything: for some choice of members that spends no number, whatever strangers
@@ -24,7 +24,6 @@ pub record Asks {K : Type 0} (g : Ghosts K) (now : ℕ) (call : Option Call) (ol
   pub choice : MemberChoice
   pub playable : IsPlayable g new
   pub limits : new.engine.running.limits ≡ old.engine.running.limits
-  pub sound : WasSound g old new
   pub reached : IsReached old.engine.running.limits old.engine.running.broker → IsReached old.engine.running.limits new.engine.running.broker
   pub unspent : (strangers : List Stranger)
       → read_if spending (by_choice old.engine.running.limits choice) call (world_of now strangers old) ≡ false
@@ -45,7 +44,6 @@ pub record Hears {K : Type 0} (g : Ghosts K) (now : ℕ) (call : Option Call) (o
 pub record Welcomes {K : Type 0} (g : Ghosts K) (name : List ℕ) (old new : Staged K) : Type 0 where
   pub standing : IsStanding g new
   pub limits : new.limits ≡ old.limits
-  pub sound : WasSound g old.played new.played
   pub reached : IsReached old.limits (broker_of old) → IsReached old.limits (broker_of new)
   pub there : is_some (named name new.strangers) ≡ true
   pub same : held_of name new.strangers ≡ held_of name old.strangers
@@ -64,7 +62,6 @@ pub record Welcomes {K : Type 0} (g : Ghosts K) (name : List ℕ) (old new : Sta
 pub record TakesPiece {K : Type 0} (g : Ghosts K) (name bytes : List ℕ) (old : Staged K) (taken : ℕ) (t : Telling) (new : Staged K) : Type 0 where
   pub standing : IsStanding g new
   pub limits : new.limits ≡ old.limits
-  pub sound : WasSound g old.played new.played
   pub reached : IsReached old.limits (broker_of old) → IsReached old.limits (broker_of new)
   pub within : taken ≤ length bytes
   pub next : IsNextPiece (held_of name old.strangers) (take taken bytes) (drop taken bytes)
@@ -85,7 +82,6 @@ pub record TellsPiece {K : Type 0} (g : Ghosts K) (name bytes : List ℕ) (old :
 pub record StopsAt {K : Type 0} (g : Ghosts K) (e : Event) (old new : Staged K) : Type 0 where
   pub standing : IsStanding g new
   pub limits : new.limits ≡ old.limits
-  pub sound : WasSound g old.played new.played
   pub reached : IsReached old.limits (broker_of old) → IsReached old.limits (broker_of new)
   pub done : SpellsAll old.limits → IsReached old.limits (broker_of old) → (after : World)
       → IsReopened old.limits (world_at new) after → Happens old.limits e silent (world_at old) after

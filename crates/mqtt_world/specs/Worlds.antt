@@ -1,7 +1,7 @@
 -- Worlds that run: what a script's events come to there, one after the other, and what holds of all of them (MQTT 5.0, 4.1 to
 -- 4.4).
-use Rattle.std.specs.Prelude.{◌≡◌, ◌≤◌, ◌+◌, ⊤, ℕ, Bool, false, List, [], ◌∷◌, ◌++◌, length, count_by, cond, bytes_eq, Option, None}
-use Rattle.std.specs.Prelude.{Some, Result, Ok, Err, option_map}
+use Rattle.std.specs.Prelude.{◌≡◌, ⊤, ℕ, Bool, false, List, [], ◌∷◌, ◌++◌, length, count_by, cond, bytes_eq, Option, None, Some}
+use Rattle.std.specs.Prelude.{Result, Ok, Err, option_map}
 use Rattle.mqtt_records.specs.declared.keep.Keep.{Ghosts}
 use Rattle.mqtt_records.specs.declared.records.Records.{Records}
 use Rattle.mqtt_lawful.specs.Lawful.{IsLawful}
@@ -16,12 +16,9 @@ use Rattle.mqtt_script.specs.declared.event.Event.TheVariants.{Publisher, Receiv
 use Rattle.mqtt_script.specs.declared.event.Event.TheVariants.{ToBroker, ToEnd, Break, Pump, Clock, Tick, Restart, StopBefore}
 use Rattle.mqtt_script.specs.declared.event.Event.TheVariants.{StopAfter, Stranger, Drain}
 use Rattle.mqtt_script_laws.specs.Cleanly.{BeginClean, ScriptDelivers}
-use Rattle.mqtt_script_laws.specs.Drains.{DrainHappens}
-use Rattle.mqtt_script_laws.specs.Scripted.{IsBadHere, RunsTo, event_of}
-use Rattle.mqtt_handed_laws.specs.Drains.{copies_left, enough_rounds, round_turns}
+use Rattle.mqtt_script_laws.specs.Scripted.{IsBadHere, RunsTo}
 use Rattle.mqtt_spelled_laws.specs.Sending.{HaveSentPhases}
 use Rattle.mqtt_every_run_laws.specs.Untouched.{IsUntouched}
-use Rattle.mqtt_world_laws.specs.Copies.{entered_from}
 use Rattle.mqtt_world_laws.specs.Fair.{opened_world}
 use Rattle.mqtt_world_laws.specs.Identities.{TellsApart}
 use Rattle.mqtt_broker.specs.TheRules.Laws.{AreWithin}
@@ -30,10 +27,10 @@ use Rattle.mqtt_broker.specs.TheRules.Step.{is_opening_spent}
 use Rattle.mqtt_broker.specs.TheRules.declared.Limits.{Limits}
 use Rattle.mqtt_world.specs.declared.over.Over.{Over}
 use Rattle.mqtt_world.specs.declared.over.Over.TheVariants as over
-use Rattle.mqtt_world.specs.Draining.{TellsDrain}
 use Rattle.mqtt_world.specs.Events.{Does, IsReached}
-use Rattle.mqtt_world.specs.Scenes.{Played, WasSound}
-use Rattle.mqtt_world.specs.Stages.{IsSoundAt, Plays, Staged, broker_of, world_at}
+use Rattle.mqtt_world.specs.Openings.{AlwaysSound}
+use Rattle.mqtt_world.specs.Scenes.{Played}
+use Rattle.mqtt_world.specs.Stages.{Plays, Staged, broker_of, world_at}
 
 -- ---- one event of a script
 
@@ -66,23 +63,17 @@ abbrev pub PlaysIf : {K : Type 0} → Ghosts K → Option world.Event → Staged
 PlaysIf g None old t new = (t ≡ None) × (new ≡ old)
 PlaysIf g (Some e) old t new = Plays g e old t new
 
--- an event of a script: it happens as the world's that it means, or can't; or it is a drain, that happens, or can't
-pub data Performs {K : Type 0} (g : Ghosts K) (e : Event) (old : Staged K) (t : Option Telling) (new : Staged K) : Type 0 where
-  performs_event : (x : world.Event) → event_of e ≡ Some x → Plays g x old t new → Performs g e old t new
-  performs_drain : (client : List ℕ) → e ≡ Drain client → TellsDrain g client old t new → Performs g e old t new
-
 -- ---- events, one after the other
 
--- over a store whose device is sound after it, from a broker that there is
-abbrev pub IfSound : {K : Type 0} → Ghosts K → Staged K → Staged K → Type 0 → Type 0
-IfSound g old new P = IsSoundAt g new → IsReached old.limits (broker_of old) → P
+-- over a store whose device is always sound, from a broker that there is
+abbrev pub IfSound : {K : Type 0} → Ghosts K → Staged K → Type 0 → Type 0
+IfSound g s P = AlwaysSound g → IsReached s.limits (broker_of s) → P
 
 -- they happen in the definitions' world, with what each tells
 pub record Runs {K : Type 0} (g : Ghosts K) (es : List Event) (old : Staged K) (ts : List Telling) (new : Staged K) : Type 0 where
   pub limits : new.limits ≡ old.limits
-  pub sound : WasSound g old.played new.played
-  pub reached : IfSound g old new (IsReached old.limits (broker_of new))
-  pub runs : IfSound g old new (RunsTo old.limits es ts (world_at old) (world_at new))
+  pub reached : IfSound g old (IsReached old.limits (broker_of new))
+  pub runs : IfSound g old (RunsTo old.limits es ts (world_at old) (world_at new))
 
 -- ---- a world: what stands, or why it is over; and the events that happened in it
 
@@ -110,17 +101,10 @@ pub record Happen {K : Type 0} (g : Ghosts K) (es : List Event) (ts : List Telli
   pub runs : Runs g es from ts to
   pub kept : new.events ≡ old.events ++ es
 
--- a receiver was drained, in so many rounds, and the world keeps that
-pub record HappenDrained {K : Type 0} (g : Ghosts K) (client : List ℕ) (rounds : ℕ) (old new : Lasting K) : Type 0 where
-  pub t : Telling
-  pub happened : Happen g (Drain client ∷ []) (t ∷ []) old new
-  pub drained : (from to : Staged K) → old.stage ≡ Ok from → new.stage ≡ Ok to
-      → IfSound g from to ((h : DrainHappens from.limits client t (world_at from) (world_at to)) × (h.rounds ≡ rounds))
-
 -- an event can't happen there, and nothing changed
 pub record CantHappen {K : Type 0} (g : Ghosts K) (e : Event) (old new : Lasting K) : Type 0 where
   pub nothing : Happen g [] [] old new
-  pub bad : IfSound g nothing.from nothing.to (IsBadHere e (world_at nothing.from))
+  pub bad : IfSound g nothing.from (IsBadHere e (world_at nothing.from))
 
 -- why an event did not happen: it can't, and its place is behind those that the world keeps; or the world is over
 abbrev pub Refuses : {K : Type 0} → Ghosts K → Event → RunFault → Lasting K → Lasting K → Type 0
@@ -148,23 +132,15 @@ pub record Came {K : Type 0} (start : World) (es : List Event) (s : Staged K) : 
   pub tells : List Telling
   pub runs : RunsTo s.limits es tells start (world_at s)
 
--- while it stands, and the device of its store has returned what was written, the events that it keeps led there
-abbrev pub HasCome : {K : Type 0} → Ghosts K → World → Lasting K → Type 0
-HasCome {K} g start w = (s : Staged K) → w.stage ≡ Ok s → IsSoundAt g s → Came start w.events s
+-- while it stands, the events that it keeps led there
+abbrev pub HasCome : {K : Type 0} → World → Lasting K → Type 0
+HasCome {K} start w = (s : Staged K) → w.stage ≡ Ok s → Came start w.events s
 
 -- exactly-once delivery, of all of them: where nobody was there at first, what was stored is as a broker leaves it, and their ends
 -- begin clean (3.1.2.4, 3.3.4, 4.3, 4.4, 4.6, 4.8, 4.9)
-abbrev pub HasDelivered : {K : Type 0} → Ghosts K → World → Lasting K → Type 0
-HasDelivered {K} g start w = (s : Staged K) → w.stage ≡ Ok s → IsSoundAt g s → IsUntouched s.limits start → TellsApart start.broker.records
+abbrev pub HasDelivered : {K : Type 0} → World → Lasting K → Type 0
+HasDelivered {K} start w = (s : Staged K) → w.stage ≡ Ok s → IsUntouched s.limits start → TellsApart start.broker.records
     → BeginClean s.limits w.events start → ScriptDelivers s.limits w.events start (world_at s)
-
--- a drain from there takes no more rounds than twice the copies that stand in the queue or enter in its first round, and one, if
--- nobody was there at first and the ends so far began clean (3.1.2.4, 4.3, 4.4, 4.6, 4.9)
-abbrev pub DrainEnds : {K : Type 0} → Ghosts K → World → List ℕ → ℕ → Lasting K → Lasting K → Type 0
-DrainEnds {K} g start client rounds w new =
-    (s t : Staged K) → w.stage ≡ Ok s → new.stage ≡ Ok t → IsSoundAt g t → IsUntouched s.limits start → BeginClean s.limits w.events start
-    → (choice : MemberChoice) → rounds
-    ≤ enough_rounds (copies_left client (world_at s) + length (entered_from s.limits (round_turns s.limits choice client (world_at s)) (world_at s)))
 
 -- it begins at moment 0 with an opening of lawful records that the store's load answered, without ends or strangers
 pub record Starts {K : Type 0} (g : Ghosts K) (limits : Limits) (keep : K) (w : Lasting K) : Type 0 where
@@ -175,13 +151,12 @@ pub record Starts {K : Type 0} (g : Ghosts K) (limits : Limits) (keep : K) (w : 
   pub choice : MemberChoice
   pub unspent : is_opening_spent limits choice 0 records ≡ false
   pub at : Staged K
-  pub sound : IsSoundAt g at → g.is_sound loaded
   pub stage : w.stage ≡ Ok at
   pub limits_are : at.limits ≡ limits
   pub world : world_at at ≡ opened_world limits choice 0 records
   pub events : w.events ≡ []
   -- its runs have all that is proved of every run, if what was in flight has identifiers of two bytes (2.2.1)
-  pub comes : HaveSentPhases records → HasCome g (opened_world limits choice 0 records) w
+  pub comes : HaveSentPhases records → HasCome (opened_world limits choice 0 records) w
 
 -- ---- what is seen of a world; of one that is over there is nothing to see
 

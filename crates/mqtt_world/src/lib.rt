@@ -3,8 +3,6 @@
 #![tactic(auto)]
 
 mod asks;
-mod draining;
-mod drains;
 mod joining;
 mod lines;
 mod looks;

@@ -6,8 +6,10 @@ ghost use Rattle.mqtt_broker.specs.TheRules.Laws.{AreWithin};
 ghost use Rattle.mqtt_laws.specs.Tellings.{Telling};
 ghost use Rattle.mqtt_laws.specs.World.{World as Start};
 ghost use Rattle.mqtt_peers.specs.declared.told.RunFault.TheVariants as fault;
+ghost use Rattle.mqtt_script_laws.specs.Scripted.{event_of};
+ghost use Rattle.mqtt_world.specs.Openings.{AlwaysSound};
 ghost use Rattle.mqtt_world.specs.Stages.{IsStanding, Staged};
-ghost use Rattle.mqtt_world.specs.Worlds.{Happen, HasCome, HasDelivered, Performs, Refuses, Starts, Stops, fault_of, over_by, with_stage};
+ghost use Rattle.mqtt_world.specs.Worlds.{Happen, HasCome, HasDelivered, PlaysIf, Refuses, Starts, Stops, fault_of, over_by, with_stage};
 ghost use Rattle.mqtt_world.specs.declared.over.Over.{Over as Why};
 ghost use Rattle.mqtt_world.specs.declared.over.Over.TheVariants as over;
 
@@ -74,7 +76,7 @@ impl<K: Keep> World<K> {
     }
 
     /// The world is over from now on, and answers this. Takes no memory.
-    pub(crate) fn end(&mut self, over: Over) -> RunFault
+    fn end(&mut self, over: Over) -> RunFault
         ensures fault { result ≡ fault_of over }
         ensures over { self.new ≡ over_by over self.old }
     {
@@ -92,12 +94,7 @@ impl<K: Keep> World<K> {
     }
 
     /// An event happened, and is kept. Where there was room, there is now.
-    pub(crate) fn keep(
-        &mut self,
-        stage: Stage<K>,
-        event: Event,
-        told: Told,
-    ) -> Result<Told, RunFault>
+    fn keep(&mut self, stage: Stage<K>, event: Event, told: Told) -> Result<Told, RunFault>
         requires standing { IsStanding K.Keep stage }
         ensures told { IfOk result (λ t. t ≡ told) }
         ensures kept { IfOk result (λ t. self.new
@@ -118,16 +115,16 @@ impl<K: Keep> World<K> {
         }
     }
 
-    /// An event can't happen, and what stands goes on. Takes no memory.
-    pub(crate) fn refuse(&mut self, stage: Stage<K>) -> RunFault
+    /// An event can't happen, and what stands goes on.
+    fn refuse(&mut self, stage: Stage<K>) -> Result<Told, RunFault>
         requires standing { IsStanding K.Keep stage }
-        ensures fault { result ≡ fault.BadEvent (length self.old.events) }
+        ensures fault { result ≡ Err (fault.BadEvent (length self.old.events)) }
         ensures goes_on { self.new ≡ with_stage stage self.old }
     {
         self.stage = Ok(stage);
-        RunFault::BadEvent {
+        Err(RunFault::BadEvent {
             place: self.events.len(),
-        }
+        })
     }
 
     /// What came of an event leaves this stage.
@@ -138,16 +135,16 @@ impl<K: Keep> World<K> {
         told: Option<Told>,
     ) -> Result<Told, RunFault>
         requires standing { IsStanding K.Keep stage }
-        ensures happened { (s : Staged K) → Performs K.Keep event s told stage
+        ensures happened { (s : Staged K) → PlaysIf K.Keep (event_of event) s told stage
             → IfOk result (λ t. Happen K.Keep (event ∷ []) (t ∷ []) (with_stage s self.old) self.new) }
-        ensures refused { (s : Staged K) → Performs K.Keep event s told stage
+        ensures refused { (s : Staged K) → PlaysIf K.Keep (event_of event) s told stage
             → IfErr result (λ f. Refuses K.Keep event f (with_stage s self.old) self.new) }
     {
         match told {
             Some(told) => self.keep(stage, event, told),
             None => {
                 drop(event);
-                Err(self.refuse(stage))
+                self.refuse(stage)
             }
         }
     }
@@ -195,11 +192,10 @@ impl<K: Keep> World<K> {
         ensures over { (o : Why) → self.old.stage ≡ Err o
             → (result ≡ Err (fault_of o)) × (self.new ≡ self.old) }
 
-        // All that it keeps is a run of the definitions' world, and exactly-once delivery holds of it, as long as the
-        // device of its store has returned what was written.
-        ensures goes_on { (start : Start) → HasCome K.Keep start self.old → HasCome K.Keep start self.new }
-        ensures delivers { (start : Start) → HasCome K.Keep start self.old
-            → HasDelivered K.Keep start self.new }
+        // All that it keeps is a run of the definitions' world, and exactly-once delivery holds of it.
+        ensures goes_on { AlwaysSound K.Keep → (start : Start) → HasCome start self.old → HasCome start self.new }
+        ensures delivers { AlwaysSound K.Keep → (start : Start) → HasCome start self.old
+            → HasDelivered start self.new }
     {
         match mem::replace(&mut self.stage, Err(Over::Memory)) {
             Ok(stage) => self.go_on(stage, event),
@@ -247,11 +243,10 @@ impl<K: Keep> World<K> {
         ensures over { (o : Why) → self.old.stage ≡ Err o
             → (result ≡ Err (fault_of o)) × (self.new ≡ self.old) }
 
-        // All that it keeps is a run of the definitions' world, and exactly-once delivery holds of it, as long as the
-        // device of its store has returned what was written.
-        ensures goes_on { (start : Start) → HasCome K.Keep start self.old → HasCome K.Keep start self.new }
-        ensures delivers { (start : Start) → HasCome K.Keep start self.old
-            → HasDelivered K.Keep start self.new }
+        // All that it keeps is a run of the definitions' world, and exactly-once delivery holds of it.
+        ensures goes_on { AlwaysSound K.Keep → (start : Start) → HasCome start self.old → HasCome start self.new }
+        ensures delivers { AlwaysSound K.Keep → (start : Start) → HasCome start self.old
+            → HasDelivered start self.new }
     {
         if let Err(over) = &self.stage {
             return Err(over.fault());

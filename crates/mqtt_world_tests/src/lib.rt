@@ -2,8 +2,6 @@
 #![tactic(auto)]
 
 #[cfg(test)]
-mod drains;
-#[cfg(test)]
 mod refusals;
 #[cfg(test)]
 mod scripts;

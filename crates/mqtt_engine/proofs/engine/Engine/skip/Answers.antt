@@ -16,7 +16,6 @@ returns g c = λ call on.
       stored = search rules;
       limits = search rules;
       same = search rules;
-      lines = search rules;
       memory = search rules;
       spent = search rules;
       stopped = search rules;
