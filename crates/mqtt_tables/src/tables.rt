@@ -8,7 +8,7 @@ ghost use Rattle.mqtt_records.specs.Session.{birth_of, copy_place};
 ghost use Rattle.mqtt_records.specs.declared.change.Change.TheVariants.{RemoveSession, RemoveCopy, RemoveRetained};
 ghost use Rattle.mqtt_topic.specs.Aliases.{IsInRange};
 ghost use Rattle.mqtt_rules.specs.Laws.{HasTables};
-ghost use Rattle.mqtt_rules.specs.State.{Line, session_at};
+ghost use Rattle.mqtt_rules.specs.State.{Line, session_at, session_named};
 ghost use Rattle.mqtt_tables.specs.Lines.{line_changed, line_number, with_alias};
 ghost use Rattle.mqtt_tables.specs.Backs.{TakesLineBack};
 ghost use Rattle.mqtt_tables.specs.Undoing.{become, settled, taken_back, undone, broker_of, with_change, with_lines, with_line_changed, with_linked, with_moment_of, moment_of};
@@ -17,6 +17,7 @@ use crate::line::{LineChange, LineState};
 use crate::started::{publications_before, subscribes_before};
 use crate::undo::Undo;
 use mqtt_base::LINE_LIMIT;
+use mqtt_named::NamedRecords;
 use mqtt_records::{Change, Records, Rows, Session};
 use mqtt_topic::TopicName;
 use std::alloc::{AllocError, Global};
@@ -25,7 +26,7 @@ use std::marker::Model;
 /// The tables, and what takes back all that changed since the step began.
 #[derive(Drop)]
 pub(crate) struct Tables {
-    records: Records,
+    records: NamedRecords,
     lines: Rows<LineState, LINE_LIMIT>,
     given: u64,
     moment: u64,
@@ -42,7 +43,7 @@ impl Model for Tables {
 
 /// Takes one change back.
 fn undo_one(
-    records: &mut Records,
+    records: &mut NamedRecords,
     lines: &mut Rows<LineState, LINE_LIMIT>,
     given: &mut u64,
     moment: &mut u64,
@@ -53,7 +54,7 @@ fn undo_one(
 {
     match undo {
         Undo::Make { change } => records.change(change),
-        Undo::PutSession { session } => records.sessions.put(session),
+        Undo::PutSession { session } => records.put_session(session),
         Undo::PutLine { line } => lines.put(line),
         Undo::RemoveLine {
             number,
@@ -69,7 +70,7 @@ fn undo_one(
 
 /// Takes changes back, the last one first.
 fn undo_all(
-    records: &mut Records,
+    records: &mut NamedRecords,
     lines: &mut Rows<LineState, LINE_LIMIT>,
     given: &mut u64,
     moment: &mut u64,
@@ -116,7 +117,7 @@ impl Tables {
         ensures { IfOk result (λ tables. tables ≡ settled (broker_of records [] 0 moment)) }
     {
         Ok(Tables {
-            records,
+            records: NamedRecords::new(alloc, records)?,
             lines: Rows::new(alloc)?,
             given: 0,
             moment,
@@ -128,7 +129,7 @@ impl Tables {
     pub(crate) fn session(&self, birth: u64) -> Option<&Session>
         ensures { option_copied result ≡ session_at birth self.now.broker.records }
     {
-        match self.records.sessions.get(birth) {
+        match self.records.records().sessions.get(birth) {
             Some(session) => Some(session.get()),
             None => None,
         }
@@ -138,21 +139,28 @@ impl Tables {
     pub(crate) fn records(&self) -> &Records
         ensures { result.now ≡ self.now.broker.records }
     {
-        &self.records
+        self.records.records()
+    }
+
+    /// The session of a client identifier, if it stands.
+    pub(crate) fn session_named(&self, client: &str) -> Option<&Session>
+        ensures { option_copied result ≡ session_named client.now self.now.broker.records }
+    {
+        self.records.session_named(client)
     }
 
     /// The number of the last publication before the step.
     pub(crate) fn publications_before(&self) -> u64
         ensures { result ≡ self.now.start.records.publications }
     {
-        publications_before(&self.journal, self.records.publications)
+        publications_before(&self.journal, self.records.records().publications)
     }
 
     /// The number of the last granted filter before the step.
     pub(crate) fn subscribes_before(&self) -> u64
         ensures { result ≡ self.now.start.records.subscribes }
     {
-        subscribes_before(&self.journal, self.records.subscribes)
+        subscribes_before(&self.journal, self.records.records().subscribes)
     }
 
     /// The moment.
@@ -274,8 +282,8 @@ impl Tables {
         ensures err { OnErr result (self.new ≡ self.old) }
     {
         self.journal.reserve(1)?;
-        self.records.sessions.as_slice();
-        match self.records.sessions.take(birth) {
+        self.records.records().sessions.as_slice();
+        match self.records.take_session(birth) {
             Some(session) => self.journal.push(Undo::PutSession { session }).unwrap(),
             None => {}
         }
@@ -307,8 +315,8 @@ impl Tables {
         ensures err { OnErr result (self.new ≡ self.old) }
     {
         self.journal.reserve(1)?;
-        self.records.retained.as_slice();
-        match self.records.retained.take(place) {
+        self.records.records().retained.as_slice();
+        match self.records.take_retained(place) {
             Some(kept) => {
                 let change = Change::PutRetained { kept };
                 self.journal.push(Undo::Make { change }).unwrap();

@@ -1,8 +1,5 @@
-use Rattle.std.proofs.Common.{List, sym, subst}
-use Rattle.mqtt_records.specs.declared.session.Session.{Session as TheSession}
-use Rattle.mqtt_records.specs.Session.{birth_of}
-use Rattle.mqtt_rows.specs.Order.{IsAscending}
+use Rattle.mqtt_tables.proofs.Named.{stands_by_birth}
 use Rattle.mqtt_tables.proofs.step.Step.session_named.Goals as goal
 
-pub named-requires : goal.named-requires
-named-requires c = subst (λ (ss : List TheSession). IsAscending birth_of ss) (sym c.as_slice.ensures.rows) c.as_slice.ensures.order
+pub returns-clause-stands : goal.returns-clause-stands
+returns-clause-stands c = λ s found. stands_by_birth c.args.client.now c.args.self.now.broker.records.sessions s c.show_order.ensures found

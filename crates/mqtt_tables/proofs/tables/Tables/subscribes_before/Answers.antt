@@ -1,4 +1,5 @@
 use Rattle.std.proofs.Common.{List, ap, sym, ◌∙◌}
+use Rattle.mqtt_records.specs.declared.records.Records.{Records}
 use Rattle.mqtt_tables.specs.declared.undo.Undo.{Undo}
 use Rattle.mqtt_tables.specs.Undoing.{Changing, broker_of, subscribes_before}
 use Rattle.mqtt_tables.proofs.NumbersBefore.{subscribes_taken_back}
@@ -7,6 +8,7 @@ use Rattle.mqtt_tables.proofs.tables.Tables.subscribes_before.Goals as goal
 pub returns : goal.returns
 returns c =
     c.subscribes_before.ensures
+    ∙ (ap (λ (r : Records). subscribes_before c.deref.result.now r.subscribes) c.records.ensures
     ∙ (ap (λ (us : List Undo). subscribes_before us c.self.inside.records.subscribes) c.deref.ensures.value
     ∙ (sym (subscribes_taken_back c.self.inside.journal.items (broker_of c.self.inside.records c.self.inside.lines c.self.inside.given c.self.inside.moment))
-    ∙ ap (λ (v : Changing). v.start.records.subscribes) c.self.view_is))
+    ∙ ap (λ (v : Changing). v.start.records.subscribes) c.self.view_is)))

@@ -1,0 +1,4 @@
+pub mod Digested
+pub mod OtherChanges
+pub mod Making
+pub mod Examples
