@@ -8,3 +8,4 @@ pub mod Steady
 pub mod Prepared
 pub mod Standings
 pub mod Once
+pub mod Unassigned

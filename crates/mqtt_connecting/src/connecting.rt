@@ -1,5 +1,7 @@
 //! CONNECT: whether it is refused at once, and that of a client that has no session (MQTT 5.0, 3.1.4, 3.2.2.2).
-ghost use Rattle.std.specs.Prelude.{◌≡◌, Some, None, option_map, is_some, OnOk, IfErr};
+ghost use Rattle.std.specs.Prelude.{◌≡◌, ◌||◌, not, nat_eq, Some, None, option_map, is_some, OnOk, IfErr};
+ghost use Rattle.std.specs.List.{starts_with};
+ghost use Rattle.mqtt_records.specs.Session.{auto};
 ghost use Rattle.mqtt_closing.specs.TheRules.Connect.{connect_by, on_connect, refusal};
 ghost use Rattle.mqtt_closing.specs.TheRules.Numbers.{HasGivenBirths};
 ghost use Rattle.mqtt_closing.specs.TheRules.State.{Line, session_named};
@@ -22,12 +24,21 @@ fn is_known(step: &Step, client: &str) -> bool
     }
 }
 
+/// Whether a client identifier isn't such as the broker assigns, or a session has it (ours). No session is sought for
+/// another name.
+fn may_come(step: &Step, client: &str) -> bool
+    ensures { result ≡ (not (starts_with nat_eq client.now auto)
+        || is_some (session_named client.now step.now.broker.records)) }
+{
+    !client.as_bytes().starts_with(b"auto-") || is_known(step, client)
+}
+
 /// The code by which a CONNECT is refused at once, if it is (3.2.2.2). Takes no memory.
 pub fn refusal_of(step: &Step, connect: &Connect) -> Option<Reason>
     ensures { option_map (λ code. code.0) result
         ≡ refusal connect.now step.now.broker.records }
 {
-    let known = is_known(step, connect.client_identifier.as_str());
+    let known = may_come(step, connect.client_identifier.as_str());
     refusal(connect, known)
 }
 
