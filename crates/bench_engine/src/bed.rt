@@ -1,7 +1,7 @@
 //! Calls of a broker over the store in memory, and what stands in it.
 
 use crate::packets::{
-    QOS_0, QUEUED, SUBSCRIBE, SUBSCRIBE_QUEUED, answer, connect, publish, subscribe,
+    QOS_0, QUEUED, RETURNING, SUBSCRIBE, SUBSCRIBE_QUEUED, answer, connect, publish, subscribe,
 };
 use anyhow::Context;
 use mqtt_broker::{Engine, EngineError, MemKeep, Outcome};
@@ -11,6 +11,9 @@ const BATCH: u8 = 16;
 
 /// How many turns an idle one is measured by.
 const IDLE_TURNS: u64 = 64;
+
+/// How many times a client comes back.
+const RETURNS: u64 = 16;
 
 /// How many calls were made, and how many packets went out.
 #[derive(Clone, Copy)]
@@ -55,6 +58,8 @@ pub(crate) enum Step {
     IdlePump,
     /// Turns of the clock where nothing is due.
     IdleTick,
+    /// A client comes back and goes, with a turn of the clock after each.
+    Return,
 }
 
 impl Tally {
@@ -208,6 +213,25 @@ fn idle(
     Ok(())
 }
 
+/// A client comes back to its session, and its connection is lost; after each the clock turns once.
+fn come_and_go(engine: &mut Engine<MemKeep>, tally: &mut Tally) -> Result<(), EngineError> {
+    let Some(line) = engine.link(0) else {
+        return Err(EngineError::Spent);
+    };
+    give(engine, tally, line, RETURNING)?;
+    tick(engine, tally)?;
+    lose(engine, tally, line)?;
+    tick(engine, tally)
+}
+
+/// The same, so many times.
+fn come_back(engine: &mut Engine<MemKeep>, tally: &mut Tally) -> Result<(), EngineError> {
+    for _ in 0..RETURNS {
+        come_and_go(engine, tally)?;
+    }
+    Ok(())
+}
+
 /// What is done with a batch.
 pub(crate) fn make(
     engine: &mut Engine<MemKeep>,
@@ -227,5 +251,6 @@ pub(crate) fn make(
         Step::Release => answer_all(engine, tally, publisher, 0x62),
         Step::Pump | Step::Answer(_) => read(engine, tally, lines, step),
         Step::IdlePump | Step::IdleTick => idle(engine, tally, lines, step),
+        Step::Return => come_back(engine, tally),
     }
 }

@@ -1,6 +1,6 @@
 //! Publishes to the broker over the store in memory, without sockets, and tells the time of each kind of step; for
-//! bench/engine/run. Words: how many batches of 16 publications, sessions that went away, filters of each, copies that wait
-//! in each, and readers.
+//! bench/engine/run and reconnects. Words: how many batches of 16 publications, sessions that went away, filters of each,
+//! copies that wait in each, readers, and batches of 16 times that a client comes back.
 #![tactic(auto)]
 
 mod bed;
@@ -19,6 +19,7 @@ struct Sizes {
     batches: u64,
     crowd: Crowd,
     readers: u64,
+    returns: u64,
 }
 
 /// Steps of one kind: of which publications, which, how many, and how long they took.
@@ -142,7 +143,38 @@ fn measure(
     report_all(rt, course, &parts)
 }
 
+/// Has a client come back to its session again and again, and tells the time; it was there once before.
+fn measure_returns(
+    rt: &(impl Print + Eprint + CpuClock),
+    engine: &mut Engine<MemKeep>,
+    course: &str,
+    sizes: Sizes,
+) -> anyhow::Result<()> {
+    let lines = gather(engine, sizes.crowd, 0)?;
+    let mut first = Tally::new();
+    make(engine, &mut first, lines, Step::Return)?;
+    let mut part = part_of("session", "return", Step::Return);
+    for _ in 0..sizes.returns {
+        timed(rt, engine, lines, &mut part)?;
+    }
+    report(rt, course, &part)
+}
+
 /// The same with a new broker.
+fn run_returns(
+    rt: &(impl Print + Eprint + CpuClock),
+    alloc: Global,
+    hasher: RandomState,
+    course: &str,
+    sizes: Sizes,
+) -> anyhow::Result<()> {
+    let mut engine = opened(alloc, hasher)?;
+    let measured = measure_returns(rt, &mut engine, course, sizes);
+    drop(engine.close());
+    measured
+}
+
+/// Batches with a new broker.
 fn run(
     rt: &(impl Print + Eprint + CpuClock),
     alloc: Global,
@@ -201,6 +233,26 @@ fn run_all(
     run(rt, alloc, hasher, "copies", beside(sizes, 0, copies))
 }
 
+/// A client comes back where nobody else was, beside sessions alone, and beside the copies that wait for them.
+fn run_all_returns(
+    rt: &(impl Print + Eprint + CpuClock),
+    alloc: Global,
+    hasher: RandomState,
+    sizes: Sizes,
+) -> anyhow::Result<()> {
+    run_returns(rt, alloc, hasher, "empty", beside(sizes, 0, 0))?;
+    let mut sessions = beside(sizes, 0, 1);
+    sessions.crowd.copies = 0;
+    run_returns(rt, alloc, hasher, "sessions", sessions)?;
+    run_returns(
+        rt,
+        alloc,
+        hasher,
+        "copies",
+        beside(sizes, 0, sizes.crowd.copies),
+    )
+}
+
 /// The number that a word says, or this one where there is no word.
 fn number(word: Option<&String>, other: u64) -> anyhow::Result<u64> {
     match word {
@@ -216,6 +268,7 @@ fn sizes_of(words: &[String]) -> anyhow::Result<Sizes> {
     let filters = number(words.get(3), 3)?;
     let copies = number(words.get(4), 12)?;
     let readers = number(words.get(5), 3)?;
+    let returns = number(words.get(6), 1)?;
     let crowd = Crowd {
         sessions,
         filters,
@@ -225,6 +278,7 @@ fn sizes_of(words: &[String]) -> anyhow::Result<Sizes> {
         batches,
         crowd,
         readers,
+        returns,
     })
 }
 
@@ -233,5 +287,12 @@ fn main(rt: HostRuntime) -> anyhow::Result<()> {
     let words: Vec<String> = env::args(&rt)?.collect(rt.alloc())?;
     let sizes = sizes_of(&words);
     drop(words);
-    run_all(&rt, rt.alloc(), hasher, sizes?)
+    let sizes = sizes?;
+    if sizes.batches > 0 {
+        run_all(&rt, rt.alloc(), hasher, sizes)?;
+    }
+    if sizes.returns > 0 {
+        run_all_returns(&rt, rt.alloc(), hasher, sizes)?;
+    }
+    Ok(())
 }

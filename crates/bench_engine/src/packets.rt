@@ -12,6 +12,11 @@ pub(crate) const SUBSCRIBE: &[u8] = b"\x82\x09\x00\x01\x00\x00\x03a/b\x02";
 /// SUBSCRIBE of `q` at QoS 1.
 pub(crate) const SUBSCRIBE_QUEUED: &[u8] = b"\x82\x07\x00\x01\x00\x00\x01q\x01";
 
+/// CONNECT of `back` with Clean Start 0, whose session ends an hour after its connection, and a Will to `w` at QoS 1,
+/// delayed by a minute (3.1).
+pub(crate) const RETURNING: &[u8] = b"\x10\x24\x00\x04MQTT\x05\x0c\x00\x00\x05\x11\x00\x00\x0e\x10\
+    \x00\x04back\x05\x18\x00\x00\x00\x3c\x00\x01w\x00\x03bye";
+
 /// PUBLISH of `12345` to `a/b` with this first byte, at QoS 1 or 2, under an identifier.
 pub(crate) fn publish(first: u8, identifier: u8) -> [u8; 15] {
     [

@@ -3,7 +3,7 @@
 
 use mqtt_cli::{ending, run};
 use mqtt_replaying::replay_at;
-use mqtt_serve::serve;
+use mqtt_serve::{Unknown, serve};
 use std::io;
 use std::net::SocketAddr;
 use std::process::ExitCode;
@@ -19,6 +19,7 @@ fn main(rt: HostRuntime) -> ExitCode {
                 turns,
                 &mut io::writer(&rt),
                 limits,
+                Unknown,
             )
         },
         &|file, limits| replay_at(&rt, file, &mut io::writer(&rt), limits),

@@ -17,14 +17,14 @@ use Rattle.mqtt_opening.specs.TheTables.declared.call.EngineError.{EngineError}
 use Rattle.mqtt_opening.specs.TheTables.declared.call.EngineError.TheVariants.{Memory, Stopped, Spent}
 use Rattle.mqtt_framing.specs.Framers.{HeldLine, changed_at, framing_at, given_back, line_of, taken_of}
 use Rattle.mqtt_opening.specs.Outcome.{Outcome}
-use Rattle.mqtt_opening.specs.Calling.{Called, Tells}
+use Rattle.mqtt_opening.specs.Calling.{Called, KeepsLines, Tells}
 use Rattle.mqtt_opening.specs.Running.{Running}
 use Rattle.mqtt_broker.specs.Asking.{CalledIf, Rested}
 use Rattle.mqtt_broker.specs.Piece.{IsLeftByAny, IsPieceAnswered, IsSpentBy, PieceCalled}
 use Rattle.mqtt_broker.specs.Serving.{IsOfLines, serving, without_closed}
 use Rattle.mqtt_broker.proofs.Framings.{back, changed_twice, fed_long, framing_changed, none_ended, numbers_stay, taken_linked, taken_within, unchanged, whole_left}
 use Rattle.mqtt_broker.proofs.Left.{is_linked}
-use Rattle.mqtt_broker.proofs.Serving.{not_refused, of_lines_called, rested_lines}
+use Rattle.mqtt_broker.proofs.Serving.{not_refused, of_lines_called, of_lines_kept, rested_lines}
 use Rattle.mqtt_broker.proofs.Unlinked.{IsOld}
 
 -- ---- the step, whatever is asked
@@ -222,7 +222,8 @@ module _ {K : Type 0} (g : Ghosts K) (now line : ℕ) (piece : List ℕ) (old ne
           step = piece_answered told count again done after taken whole;
           stored = stored_if call told h;
           limits = limits_if call (Ok told) h;
-          same = tt;
+          same = λ other. tt;
+          lines = tt;
           kept = tt;
           memory = λ e. absurd (not_refused out Memory e);
           spent = λ e. absurd (not_refused out Spent e);
@@ -233,9 +234,14 @@ module _ {K : Type 0} (g : Ghosts K) (now line : ℕ) (piece : List ℕ) (old ne
           sound = sound_if call (Ok told) h;
         }
 
-    same_if : (call : Option Call) (error : EngineError) → CalledIf g now call old (Err error) new → new.broker ≡ old.broker
-    same_if None error h = ap (λ (r : Running K). r.broker) h.memory.1
-    same_if (Some c) error h = h.same
+    same_if : (call : Option Call) (error : EngineError) → CalledIf g now call old (Err error) new
+        → (IsErrOf {T = Outcome} (Err error) Stopped → ⊥) → new.broker ≡ old.broker
+    same_if None error h other = ap (λ (r : Running K). r.broker) h.memory.1
+    same_if (Some c) error h other = h.same other
+
+    kept_if : (call : Option Call) (error : EngineError) → CalledIf g now call old (Err error) new → KeepsLines old.broker new.broker
+    kept_if None error h = (ap (λ (r : Running K). r.broker.lines) h.memory.1, ap (λ (r : Running K). r.broker.given) h.memory.1)
+    kept_if (Some c) error h = h.lines
 
     memory_if : (call : Option Call) (error : EngineError) → CalledIf g now call old (Err error) new → IsErrOf {T = Outcome} (Err error) Memory → (new.stopped ≡ false) × g.holds new.keep old.broker.records
     memory_if None error h e = (
@@ -266,6 +272,7 @@ module _ {K : Type 0} (g : Ghosts K) (now line : ℕ) (piece : List ℕ) (old ne
       stored = tt;
       limits = limits_if call (Err error) h;
       same = same_if call error h;
+      lines = kept_if call error h;
       kept = kept;
       memory = λ e. memory_if call error h e;
       spent = λ e.
@@ -282,7 +289,7 @@ module _ {K : Type 0} (g : Ghosts K) (now line : ℕ) (piece : List ℕ) (old ne
 
     pub lines_err : (call : Option Call) (error : EngineError) (rest : List HeldLine) → CalledIf g now call old (Err error) new → rest ≡ held → IsOfLines rest new.broker
     lines_err call error rest h kept =
-        subst (λ (hs : List HeldLine). IsOfLines hs new.broker) (sym kept) (subst (λ (b : Broker). IsOfLines held b) (sym (same_if call error h)) lines)
+        subst (λ (hs : List HeldLine). IsOfLines hs new.broker) (sym kept) (of_lines_kept held old.broker new.broker (kept_if call error h) lines)
 
     pub lines_ok : (call : Option Call) (told : Outcome) → ((c : Call) → call ≡ Some c → IsOld c) → CalledIf g now call old (Ok told) new → IsOfLines (without_closed told.closed.items its_held) new.broker
     lines_ok call told is h = lines_if call told its_held is h (fed_lines line piece old.broker held lines linked without_first)
@@ -298,7 +305,8 @@ module _ {K : Type 0} (g : Ghosts K) (now : ℕ) (old : Running K) (running : ol
     step = tt;
     stored = tt;
     limits = refl;
-    same = refl;
+    same = λ other. refl;
+    lines = (refl, refl);
     memory = λ e. (running, holds);
     spent = λ e. absurd cc;
     stopped = λ e. absurd cc;
@@ -409,7 +417,8 @@ module _ {K : Type 0} (g : Ghosts K) (now line : ℕ) (piece : List ℕ) (old : 
     step = passed_answer out told;
     stored = (running, holds);
     limits = refl;
-    same = tt;
+    same = λ other. tt;
+    lines = tt;
     kept = tt;
     memory = λ e. absurd (not_refused out Memory e);
     spent = λ e. absurd (not_refused out Spent e);

@@ -1,16 +1,17 @@
 -- What calls of the engine make of the lines and of what they hold.
-use Rattle.std.proofs.Common.{◌≡◌, ℕ, Bool, true, false, List, Option, Some, None, refl, sym, ap, subst, ◌∙◌, inl}
+use Rattle.std.proofs.Common.{◌≡◌, ℕ, suc, Bool, true, false, List, Option, Some, None, map, refl, sym, ap, subst, ◌∙◌, inl}
 use Rattle.std.specs.Prelude.{Result, Ok, Err, IfOk, OnErr, IsErrOf, is_some}
 use Rattle.mqtt_records.specs.declared.keep.Keep.{Ghosts}
 use Rattle.mqtt_records.specs.declared.records.Records.{Records}
-use Rattle.mqtt_rows.specs.Order.{has_row}
+use Rattle.mqtt_rows.specs.Order.{IsBelow, has_row}
+use Rattle.mqtt_opening.specs.TheRules.Lines.{line_number}
 use Rattle.mqtt_opening.specs.TheRules.State.{Broker, Line, line_at}
 use Rattle.mqtt_opening.specs.TheRules.Step.{Call, at_moment, nothing_told}
 use Rattle.mqtt_opening.specs.TheTables.declared.call.EngineError.{EngineError}
 use Rattle.mqtt_opening.specs.TheTables.declared.call.EngineError.TheVariants.{Memory, Stopped, Spent}
 use Rattle.mqtt_framing.specs.Framers.{HeldLine, line_of}
 use Rattle.mqtt_opening.specs.Outcome.{Outcome}
-use Rattle.mqtt_opening.specs.Calling.{Called, IsOn, Tells}
+use Rattle.mqtt_opening.specs.Calling.{Called, IsOn, KeepsLines, Tells}
 use Rattle.mqtt_opening.specs.Running.{Running}
 use Rattle.mqtt_opening.proofs.Linked.{passed_over}
 use Rattle.mqtt_broker.specs.Serving.{IsOfLines, Served, Serving, serving, without_closed}
@@ -45,7 +46,8 @@ module _ {K : Type 0} (g : Ghosts K) (now : ℕ) (old : Running K) (running : ol
     step = passed_over old.limits now line old.broker (at_moment now old.broker) out none refl told call on;
     stored = (running, holds);
     limits = refl;
-    same = tt;
+    same = λ other. tt;
+    lines = tt;
     memory = λ e. absurd (not_refused out Memory e);
     spent = λ e. absurd (not_refused out Spent e);
     stopped = λ e. absurd (not_refused out Stopped e);
@@ -68,10 +70,17 @@ rested_lines now old new held is h = subst (λ (b : Broker). IsOfLines held b) (
 
 -- ---- any other call
 
+-- where the lines stay the bytes that they hold are theirs still
+pub of_lines_kept : (held : List HeldLine) (old new : Broker) → KeepsLines old new → IsOfLines held old → IsOfLines held new
+of_lines_kept held old new same h = record {
+  linked = h.linked ∙ sym (ap (map line_number) same.0);
+  given = subst (λ (n : ℕ). IsBelow line_of (suc n) held) (sym same.1) h.given;
+}
+
 pub of_lines_called : {K : Type 0} (g : Ghosts K) (now : ℕ) (call : Call) (old new : Running K) (held rest : List HeldLine) (r : Result Outcome EngineError) → IsOld call → Called g now call old r new
     → IfOk r (λ out. rest ≡ without_closed out.closed.items held) → OnErr r (rest ≡ held) → IsOfLines held old.broker → IsOfLines rest new.broker
 of_lines_called g now call old new held rest (Ok out) is h ok err lines =
     subst (λ (hs : List HeldLine). IsOfLines hs new.broker) (sym (ok ∙ ap (λ closed. without_closed closed held) h.step.tells.closed))
     (of_lines_step old.limits old.broker now call h.step.told new.broker held is h.step.step lines)
 of_lines_called g now call old new held rest (Err e) is h ok err lines =
-    subst (λ (hs : List HeldLine). IsOfLines hs new.broker) (sym err) (subst (λ (b : Broker). IsOfLines held b) (sym h.same) lines)
+    subst (λ (hs : List HeldLine). IsOfLines hs new.broker) (sym err) (of_lines_kept held old.broker new.broker h.lines lines)

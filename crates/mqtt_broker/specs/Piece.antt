@@ -11,7 +11,7 @@ use Rattle.mqtt_framing.specs.Framers.{changed_at, framing_at}
 use Rattle.mqtt_opening.specs.TheTables.declared.call.EngineError.{EngineError}
 use Rattle.mqtt_opening.specs.TheTables.declared.call.EngineError.TheVariants.{Memory, Stopped, Spent}
 use Rattle.mqtt_opening.specs.Outcome.{Outcome}
-use Rattle.mqtt_opening.specs.Calling.{IsLeftBy, Tells}
+use Rattle.mqtt_opening.specs.Calling.{IsLeftBy, KeepsLines, Tells}
 use Rattle.mqtt_broker.specs.Serving.{Serving, without_closed}
 
 -- what the line's bytes ask with the piece behind them, if the line is linked and something is whole
@@ -47,8 +47,10 @@ pub record PieceCalled {K : Type 0} (g : Ghosts K) (now line : ℕ) (piece : Lis
   pub step : IfOk result (λ out. IsPieceAnswered now line piece old out new)
   pub stored : OnOk result ((new.running.stopped ≡ false) × g.holds new.running.keep new.running.broker.records)
   pub limits : new.running.limits ≡ old.running.limits
-  -- otherwise nothing changed here, no byte was taken, and in the store something changed only where it failed
-  pub same : OnErr result (new.running.broker ≡ old.running.broker)
+  -- where memory is wanting or numbers are spent nothing changed here, nor in what the store holds; of the broker of an engine
+  -- that has stopped it is said only that the same lines are linked, since it may link more; and no refusal takes a byte
+  pub same : (IsErrOf result Stopped → ⊥) → OnErr result (new.running.broker ≡ old.running.broker)
+  pub lines : OnErr result (KeepsLines old.running.broker new.running.broker)
   pub kept : OnErr result (new.held ≡ old.held)
   pub memory : IsErrOf result Memory → (new.running.stopped ≡ false) × g.holds new.running.keep old.running.broker.records
   pub spent : IsErrOf result Spent → (new ≡ old) × IsSpentBy old.running.limits old.running.broker now (call_by line piece old)

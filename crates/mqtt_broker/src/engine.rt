@@ -56,7 +56,8 @@ impl<K: Keep> Engine<K> {
     /// Bytes come on a line: as many as fit are taken, and the first packet, or fault, that is whole is answered, at most
     /// one (2.1, 3, 4.13). `taken` says how many were taken, and `again` whether more is whole: give the rest on, and
     /// call again. On a line that isn't linked nothing is done, without memory. `Memory` (1) and `Spent` (3): nothing
-    /// changed, and no byte was taken. `Stopped` (2): the store has failed, and nothing changed here.
+    /// changed, and no byte was taken. `Stopped` (2): the store has failed; no byte was taken, the same lines are linked,
+    /// and no more is said of the broker.
     pub fn piece(&mut self, line: u64, piece: &[u8], moment: u64) -> Result<Outcome, EngineError>
         ensures called { PieceCalled K.Keep moment line piece.now self.old result self.new }
         ensures within { IfOk result (λ out. out.taken ≤ length piece.now) }

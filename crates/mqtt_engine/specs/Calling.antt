@@ -39,6 +39,12 @@ pub record IsStoredNext (limits : Limits) (old : Broker) (now : ℕ) (call : Cal
 abbrev pub IsLeftBy : Limits → Broker → ℕ → Call → Records → Type 0
 IsLeftBy limits old now call r = (r ≡ stored old) ⊎ IsStoredNext limits old now call r
 
+-- ---- what each refusal leaves alone
+
+-- the same lines are linked, and as many were linked so far
+abbrev pub KeepsLines : Broker → Broker → Type 0
+KeepsLines old new = (new.lines ≡ old.lines) × (new.given ≡ old.given)
+
 -- ---- what a call makes of an engine over a store, and what it answers
 
 pub record Called {K : Type 0} (g : Ghosts K) (now : ℕ) (call : Call) (old : Running K) (result : Result Outcome EngineError) (new : Running K)
@@ -47,8 +53,10 @@ pub record Called {K : Type 0} (g : Ghosts K) (now : ℕ) (call : Call) (old : R
   pub step : IfOk result (λ out. IsAnswered old.limits old.broker now call out new.broker)
   pub stored : OnOk result ((new.stopped ≡ false) × g.holds new.keep new.broker.records)
   pub limits : new.limits ≡ old.limits
-  -- otherwise nothing changed here, and in the store only where it failed
-  pub same : OnErr result (new.broker ≡ old.broker)
+  -- where memory is wanting or numbers are spent nothing changed here, nor in what the store holds; of the broker of an engine
+  -- that has stopped it is said only that the same lines are linked, since it may link more
+  pub same : (IsErrOf result Stopped → ⊥) → OnErr result (new.broker ≡ old.broker)
+  pub lines : OnErr result (KeepsLines old.broker new.broker)
   pub memory : IsErrOf result Memory → (new.stopped ≡ false) × g.holds new.keep old.broker.records
   pub spent : IsErrOf result Spent → (new ≡ old) × SpentStep old.limits old.broker now call
   -- it stops where the store counted a failure, and stays stopped

@@ -170,8 +170,8 @@ impl<K: Keep> Engine<K> {
     }
 
     /// A packet, the first whole one of a line, is answered (3, 4). On a line that isn't linked nothing is done, without
-    /// memory. `Memory` (1) and `Spent` (3): nothing changed. `Stopped` (2): the store has failed, and nothing changed
-    /// here.
+    /// memory. `Memory` (1) and `Spent` (3): nothing changed. `Stopped` (2): the store has failed; the same lines are
+    /// linked, and no more is said of the broker.
     pub fn input(&mut self, line: u64, packet: &Packet, moment: u64) -> Result<Outcome, EngineError>
         requires { IsTaken packet.now }
         ensures { Called K.Keep moment (Input line packet.now) self.old result self.new }

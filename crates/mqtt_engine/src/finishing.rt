@@ -83,7 +83,7 @@ fn tell<K: Keep>(
         index.take_back();
         return Err(EngineError::Memory);
     }
-    let after = quiet_after(*quiet, step.rows());
+    let after = quiet_after(step, *quiet);
     let told = commit(keep, step);
     if told.is_err() {
         *is_stale = true;

@@ -43,7 +43,18 @@ fn bad() -> &'static [(&'static str, &'static str)] {
         ),
         (READY, "subscribe r1 2 1 0 0 0 $share/g/a/b"),
         (WAITING, "subscribe r1 2 0 0 0 0 a/b"),
-        (READY, "drain r1"),
+        ("", "drain r1"),
+        ("receiver r1 10\n", "drain r1"),
+        ("receiver r1 10\nconnect r1 0\ngiveup r1\n", "drain r1"),
+        (
+            "publisher p1\nconnect p1 0\ntobroker p1\ntoend p1\n",
+            "drain p1",
+        ),
+        // (the broker has closed its line: no CONNECT came in time)
+        (
+            "receiver r1 10\nconnect r1 0\nclock 86400000\ntick\n",
+            "drain r1",
+        ),
         (
             "receiver r1 10\n",
             "stranger s 101400044d515454050000000511ffffffff00027231",

@@ -1,5 +1,6 @@
 //! The scripts of examples/ without their notes, and what stands beside them: an answer that is lost, a broker that is killed
-//! between commit and answer, a CONNECT that comes late, a full queue that drops (MQTT 5.0, 3.1.4, 4.1, 4.3.3, 4.4, 4.6).
+//! between commit and answer, a CONNECT that comes late, a queue that is drained, a full queue that drops (MQTT 5.0, 3.1.4, 4.1,
+//! 4.3.3, 4.4, 4.6).
 
 use crate::limits::is_so_in_queues_of_two;
 use crate::playing::is_so;
@@ -54,6 +55,21 @@ const LATE_CONNECT_TEXT: &str =
     26 toend\n27 tobroker out=1\n28 toend\n29 tobroker ended=1>r1:Taken\nr1 handed=1 queue=0\n\
     p1 sent=1 done=1\nbroker publications=1 sessions=2\n";
 
+/// Two copies wait for a receiver that takes one at a time, and it is drained.
+const DRAINED_QUEUE: &str =
+    "receiver r1 1\npublisher p1\nconnect r1 0\ntobroker r1\ntoend r1\nsubscribe r1 2 0 0 0 0 a/b\n\
+    tobroker r1\ntoend r1\nbreak r1\nconnect p1 0\ntobroker p1\ntoend p1\npublish p1 2 0 a/b 6869\n\
+    publish p1 2 0 a/b 686f\ntobroker p1\ntobroker p1\ntoend p1\ntoend p1\ntobroker p1\ntobroker p1\n\
+    toend p1\ntoend p1\nconnect r1 0\ntobroker r1\ntoend r1\ndrain r1\n";
+
+const DRAINED_QUEUE_TEXT: &str =
+    "1 receiver\n2 publisher\n3 connect\n4 tobroker out=1\n5 toend\n6 subscribe\n7 tobroker out=1\n\
+    8 toend\n9 break\n10 connect\n11 tobroker out=1\n12 toend\n13 publish\n14 publish\n\
+    15 tobroker accepted=1 entered=1>r1 out=1\n16 tobroker accepted=2 entered=2>r1 out=1\n17 toend\n\
+    18 toend\n19 tobroker released=1 out=1\n20 tobroker released=2 out=1\n21 toend\n22 toend\n\
+    23 connect\n24 tobroker out=1\n25 toend\n26 drain ended=1>r1:Taken ended=2>r1:Taken out=4\n\
+    r1 handed=1,2 queue=0\np1 sent=2 done=2\nbroker publications=2 sessions=2\n";
+
 /// Of three copies a queue of two drops the oldest.
 const FULL_QUEUE: &str = "receiver r1 10\npublisher p1\nconnect r1 0\ntobroker r1\ntoend r1\n\
     subscribe r1 2 0 0 0 0 home/temperature\ntobroker r1\ntoend r1\nbreak r1\nconnect p1 0\n\
@@ -80,6 +96,7 @@ fn scripts() -> &'static [(&'static str, &'static str)] {
         (LOST_PUBREC, LOST_PUBREC_TEXT),
         (KILLED_BROKER, KILLED_BROKER_TEXT),
         (LATE_CONNECT, LATE_CONNECT_TEXT),
+        (DRAINED_QUEUE, DRAINED_QUEUE_TEXT),
     ]
 }
 

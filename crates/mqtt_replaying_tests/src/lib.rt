@@ -1,9 +1,11 @@
 //! What no clause of mqtt_replaying says: the texts of scripts that are worked out by hand, a broker that stops at each commit,
-//! over each store, events that can't happen, a long script, and stores that fail.
+//! over each store, a receiver that is drained, events that can't happen, a long script, and stores that fail.
 #![tactic(auto)]
 
 #[cfg(test)]
 mod bad;
+#[cfg(test)]
+mod drains;
 #[cfg(test)]
 mod examples;
 #[cfg(test)]

@@ -1,5 +1,5 @@
-//! Scripts whose texts are worked out by hand: a message whose broker stops between commit and answer, and a PUBREL on a line
-//! that was given up, read before the CONNECT of the new one and after it (MQTT 5.0, 4.3.3, 4.4).
+//! Scripts whose texts are worked out by hand: a message whose broker stops between commit and answer, a PUBREL on a line that
+//! was given up, read before the CONNECT of the new one and after it, and a receiver that is drained (MQTT 5.0, 4.3.3, 4.4).
 
 use crate::playing::{in_memory, is_so, is_so_in_sql};
 use mqtt_replaying::{Played, ReplayFault};
@@ -38,12 +38,26 @@ const NEW_FIRST_TEXT: &str = "1 publisher\n2 connect\n3 tobroker out=1\n4 toend\
     6 tobroker accepted=1 out=1\n7 toend\n8 giveup\n9 connect\n10 tobroker out=2\n11 tobroker\n\
     12 toend\n13 tobroker released=1 out=1\n14 toend\np1 sent=1 done=1\nbroker publications=1 sessions=1\n";
 
+/// Two messages of QoS 2 wait for a receiver whose Receive Maximum is 1, and it is drained: in four rounds, in each of which one
+/// packet goes out. Then nothing waits, and it is drained once more.
+const DRAINED: &str = "receiver r1 1\npublisher p1\nconnect r1 0\ntobroker r1\ntoend r1\n\
+    subscribe r1 2 0 0 0 0 a/b\ntobroker r1\ntoend r1\nconnect p1 0\ntobroker p1\ntoend p1\n\
+    publish p1 2 0 a/b 6869\npublish p1 2 0 a/b 6869\ntobroker p1\ntobroker p1\ndrain r1\ndrain r1\n";
+
+const DRAINED_TEXT: &str =
+    "1 receiver\n2 publisher\n3 connect\n4 tobroker out=1\n5 toend\n6 subscribe\n\
+    7 tobroker out=1\n8 toend\n9 connect\n10 tobroker out=1\n11 toend\n12 publish\n13 publish\n\
+    14 tobroker accepted=1 entered=1>r1 out=1\n15 tobroker accepted=2 entered=2>r1 out=1\n\
+    16 drain ended=1>r1:Taken ended=2>r1:Taken out=4\n17 drain\nr1 handed=1,2 queue=0\np1 sent=2 done=0\n\
+    broker publications=2 sessions=2\n";
+
 /// The scripts, and their texts.
 fn rows() -> &'static [(&'static str, &'static str)] {
     &[
         (STOPPED, STOPPED_TEXT),
         (OLD_FIRST, OLD_FIRST_TEXT),
         (NEW_FIRST, NEW_FIRST_TEXT),
+        (DRAINED, DRAINED_TEXT),
     ]
 }
 

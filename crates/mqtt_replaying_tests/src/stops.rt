@@ -39,12 +39,10 @@ fn commits() -> &'static [usize] {
     &[13, 14, 16, 18, 20]
 }
 
-/// Both ends connect again, the publisher finishes its handshake, and the receiver its own.
+/// Both ends connect again, the publisher finishes its handshake, and the receiver is drained.
 const AGAIN: &str = "connect r1 0\ntobroker r1\ntoend r1\nconnect p1 0\n\
     tobroker p1\ntoend p1\ntobroker p1\ntoend p1\ntobroker p1\ntoend p1\n\
-    tobroker p1\ntoend p1\ntobroker p1\ntoend p1\ntobroker p1\ntoend p1\n\
-    pump r1\ntoend r1\ntoend r1\ntobroker r1\ntobroker r1\ntoend r1\ntobroker r1\n\
-    pump r1\ntoend r1\ntoend r1\ntobroker r1\ntobroker r1\ntoend r1\ntobroker r1\n";
+    tobroker p1\ntoend p1\ntobroker p1\ntoend p1\ntobroker p1\ntoend p1\ndrain r1\n";
 
 /// What each of them comes to.
 const CAME: &str = "\nr1 handed=1 queue=0\np1 sent=1 done=1\nbroker publications=1 sessions=2\n";

@@ -17,6 +17,7 @@ use Rattle.mqtt_script.specs.declared.event.Event.{Event}
 use Rattle.mqtt_script.specs.declared.event.Event.TheVariants.{Publisher, Receiver, Connect, GiveUp, Publish, Subscribe}
 use Rattle.mqtt_script.specs.declared.event.Event.TheVariants.{ToBroker, ToEnd, Break, Pump as PumpEvent, Clock, Tick as TickEvent}
 use Rattle.mqtt_script.specs.declared.event.Event.TheVariants.{Restart, StopBefore, StopAfter, Stranger, Drain}
+use Rattle.mqtt_handed_laws.specs.Drains.{is_bad_drain}
 use Rattle.mqtt_unrolled_laws.specs.Unrolled.{Unrolls}
 use Rattle.mqtt_world_laws.specs.Spending.{run_spends}
 use Rattle.mqtt_script_laws.specs.Drains.{AreTurnsOfDrain, DrainHappens}
@@ -133,13 +134,14 @@ HasBadFront (world.stop_before a) w = IsRefused (front_of a w)
 HasBadFront (world.stop_after a) w = IsRefused (front_of a w)
 HasBadFront e w = ⊥
 
-abbrev pub IsBadEvent : Option world.Event → World → Type 0
-IsBadEvent None w = Unit {0}
-IsBadEvent (Some e) w = (is_bad e w ≡ true) ⊎ HasBadFront e w
+abbrev pub IsBadEvent : world.Event → World → Type 0
+IsBadEvent e w = (is_bad e w ≡ true) ⊎ HasBadFront e w
 
--- it is bad, or a drain, or the broker would not take the packet in front
-abbrev pub IsBadHere : Event → World → Type 0
-IsBadHere e w = IsBadEvent (event_of e) w
+-- an event of a script: it is bad as the world's that it means, or the broker would not take the packet in front; or it is a drain
+-- that is bad
+pub data IsBadHere (e : Event) (w : World) : Type 0 where
+  bad_event : (x : world.Event) → event_of e ≡ Some x → IsBadEvent x w → IsBadHere e w
+  bad_drain : (client : List ℕ) → e ≡ Drain client → is_bad_drain client w ≡ true → IsBadHere e w
 
 -- ---- turns to which events come
 

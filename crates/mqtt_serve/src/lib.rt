@@ -10,3 +10,4 @@ pub use clock::SteadyClock;
 pub use mqtt_serve_fault::ServeFault;
 pub use mqtt_serving::{Full, Limits, Timer};
 pub use serving::{serve, serve_over};
+pub use sqlite::{Start, Unknown};

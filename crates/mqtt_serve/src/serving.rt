@@ -1,9 +1,11 @@
 //! The server: turns over sockets and a database (MQTT 5.0, 4.2).
-ghost use Rattle.std.specs.Prelude.{◌≡◌, ◌≢◌, [], OnOk, IfOk, IfErr};
+ghost use Rattle.std.specs.Prelude.{◌≡◌, ◌≢◌, [], codes, OnOk, IfOk, IfErr};
 ghost use Rattle.std.specs.Io.KnownBytes.{Appends, Keeps};
+ghost use Rattle.sqlite.specs.WalFiles.{image_at};
 ghost use Rattle.mqtt_rules.specs.Laws.{AreWithin};
 ghost use Rattle.mqtt_serving.specs.Turns.{Begins, Runs, RunsAlone};
 ghost use Rattle.mqtt_serve.specs.Announcing.{Announces, done, listening};
+ghost use Rattle.mqtt_serve.specs.Database.{RunsOnDatabase, RunsOnFiles};
 
 use crate::clock::{SteadyClock, moment};
 use crate::poll_link::PollLink;
@@ -12,7 +14,8 @@ use crate::store::{
 };
 use mqtt_serve_fault::ServeFault;
 use mqtt_serving::{Engine, Keep, Limits, Links, run_turns};
-use sqlite::{Alter, Connection};
+use mqtt_store::SqlKeep;
+use sqlite::{Alter, Connection, FileFrom, FileStore, Start};
 use std::io;
 use std::io::{ErrorKind, Write};
 use std::net::SocketAddr;
@@ -151,6 +154,7 @@ fn serve_database<S: Alter + Drop, W: Write>(
 ) -> Result<Connection<S>, ServeFault>
     requires { AreWithin limits }
     ensures ok { OnOk result (Announces (W.contents writer.old) (W.contents writer.new) []) }
+    ensures ran { IfOk result (λ given. RunsOnDatabase S.Store ⟦<SqlKeep<S> as Keep>⟧ (λ keep. keep.conn) limits turns conn given) }
     ensures socket { IfErr result (λ fault. fault ≡ ServeFault.Socket
         → Keeps (W.contents writer.old) (W.contents writer.new)) }
 {
@@ -160,23 +164,27 @@ fn serve_database<S: Alter + Drop, W: Write>(
     Ok(keep.into_inner())
 }
 
-/// Serves MQTT 5.0 at an address, over the database at a path, for so many turns, with these limits (4.1, 4.2): it writes
-/// `listening` and the address, with the port that was bound, and at the end `done`. The database is opened first, then the
-/// socket. `Write` (2), `Memory` (3), `Store` (4) and `Socket` (5); where the socket failed nothing was written.
-pub fn serve<W: Write>(
+/// Serves MQTT 5.0 at an address, over the database in the file at a path, for so many turns, with these limits (4.1, 4.2): it
+/// writes `listening` and the address, with the port that was bound, and at the end `done`. The database is opened first, then
+/// the socket. `S` stands for what the database's files held: `main` passes `Unknown`. `Write` (2), `Memory` (3), `Store` (4),
+/// where `:memory:` was asked for too, and `Socket` (5), where nothing was written.
+pub fn serve<W: Write, S: Start>(
     rt: &HostRuntime,
     listen: SocketAddr,
     db: &str,
     turns: u32,
     writer: &mut W,
     limits: Limits,
+    start: S,
 ) -> Result<(), ServeFault>
     requires { AreWithin limits }
     ensures ok { OnOk result (Announces (W.contents writer.old) (W.contents writer.new) done) }
+    ensures ran { OnOk result (RunsOnFiles ⟦<SqlKeep<FileStore<FileFrom<S>>> as Keep>⟧ (λ keep. keep.conn) (image_at S.Start) limits turns) }
+    ensures no_file { db.now ≡ codes ":memory:" → result ≡ Err ServeFault.Store }
     ensures socket { IfErr result (λ fault. fault ≡ ServeFault.Socket
         → Keeps (W.contents writer.old) (W.contents writer.new)) }
 {
-    let conn = open_database(rt, db)?;
+    let conn = open_database(rt, db, start)?;
     let conn = serve_database(rt, listen, conn, turns, writer, limits)?;
     close_database(conn)?;
     write_done(writer)

@@ -1,21 +1,29 @@
 //! The store of the server: a database in a file (MQTT 5.0, 4.1).
-ghost use Rattle.std.specs.Prelude.{◌≡◌, ◌≢◌, IfErr, IfOk};
+ghost use Rattle.std.specs.Prelude.{◌≡◌, ◌≢◌, codes, IfErr, IfOk};
+ghost use Rattle.sqlite.specs.WalFiles.{image_at};
+ghost use Rattle.sqlite.specs.State.{HasCleanDisk};
+ghost use Rattle.sqlite.specs.Held.{IsNew, state};
+ghost use Rattle.sqlite.specs.Files.{file_state, IsOpened};
+ghost use Rattle.sqlite.specs.Start.{FindsIn};
 ghost use Rattle.mqtt_rules.specs.Laws.{AreWithin};
 ghost use Rattle.mqtt_serving.specs.Turns.{Begins};
+ghost use Rattle.mqtt_serve.specs.Database.{IsAsked, IsStoreOver};
 
 use mqtt_serve_fault::ServeFault;
 use mqtt_serving::{Engine, EngineError, Keep, KeepError, Limits};
 use mqtt_store::SqlKeep;
-use sqlite::{Alter, Connection, Error, ErrorCode, File, FileStore};
+use sqlite::{Alter, Connection, Error, ErrorCode, FileFrom, FileStore, Start};
 use std::alloc::Global;
 use std::hash::RandomState;
 
-/// A database in a file.
-pub(crate) type Database = Connection<FileStore<File>>;
+/// A database in files that held what `S` says.
+pub(crate) type Database<S> = Connection<FileStore<FileFrom<S>>>;
 
 /// What a failure of the database is to the server.
 fn fault_of(error: &Error) -> ServeFault
-    ensures { result ≢ ServeFault.Socket }
+    ensures memory { error.now ≡ Error.SqliteFailure ErrorCode.OutOfMemory → result ≡ ServeFault.Memory }
+    ensures store { error.now ≢ Error.SqliteFailure ErrorCode.OutOfMemory → result ≡ ServeFault.Store }
+    ensures other { result ≢ ServeFault.Socket }
 {
     match error {
         Error::SqliteFailure(ErrorCode::OutOfMemory) => ServeFault::Memory,
@@ -23,16 +31,29 @@ fn fault_of(error: &Error) -> ServeFault
     }
 }
 
-/// Opens the database at a path, or makes it.
-pub(crate) fn open_database(rt: &HostRuntime, path: &str) -> Result<Database, ServeFault> {
-    match Connection::open(rt, path) {
+/// Opens the database in the file at a path, or makes it. `S` stands for what its files held. `:memory:` is no file.
+pub(crate) fn open_database<S: Start>(
+    rt: &HostRuntime,
+    path: &str,
+    start: S,
+) -> Result<Database<S>, ServeFault>
+    ensures fresh { IfOk result IsNew }
+    ensures opened { IfOk result (λ conn. HasCleanDisk (file_state conn) → IsOpened conn) }
+    ensures found { IfOk result (λ conn. HasCleanDisk (file_state conn) → FindsIn (image_at S.Start) (file_state conn)) }
+    ensures no_file { path.now ≡ codes ":memory:" → result ≡ Err ServeFault.Store }
+    ensures fault { IfErr result (λ fault. fault ≢ ServeFault.Socket) }
+{
+    match Connection::open_from(rt, path, false, start) {
         Ok(conn) => Ok(conn),
-        Err(error) => Err(fault_of(&error)),
+        Err((error, left)) => {
+            drop(left);
+            Err(fault_of(&error))
+        }
     }
 }
 
 /// Closes the database: the log beside it goes into its file.
-pub(crate) fn close_database(conn: Database) -> Result<(), ServeFault>
+pub(crate) fn close_database<S: Start>(conn: Database<S>) -> Result<(), ServeFault>
     ensures fault { IfErr result (λ fault. fault ≢ ServeFault.Socket) }
 {
     match conn.close() {
@@ -45,7 +66,10 @@ pub(crate) fn close_database(conn: Database) -> Result<(), ServeFault>
 pub(crate) fn store_over<S: Alter + Drop>(
     alloc: Global,
     conn: Connection<S>,
-) -> Result<SqlKeep<S>, ServeFault> {
+) -> Result<SqlKeep<S>, ServeFault>
+    ensures over { IfOk result (λ keep. IsStoreOver (state S.Store conn) (state S.Store keep.conn)) }
+    ensures fault { IfErr result (λ fault. fault ≢ ServeFault.Socket) }
+{
     match SqlKeep::new(alloc, conn) {
         Ok(keep) => Ok(keep),
         Err((error, store)) => {
@@ -56,7 +80,9 @@ pub(crate) fn store_over<S: Alter + Drop>(
 }
 
 /// The moment of the newest step that a database has, in milliseconds; 0 where it has none that can be read.
-pub(crate) fn stored_moment<S: Alter + Drop>(conn: &mut Connection<S>) -> u64 {
+pub(crate) fn stored_moment<S: Alter + Drop>(conn: &mut Connection<S>) -> u64
+    ensures { IsAsked (state S.Store conn.old) (state S.Store conn.new) }
+{
     let row = match conn.query_row("SELECT n FROM meta WHERE name = 'moment'", &[]) {
         Ok(row) => row,
         Err(_) => return 0,

@@ -1,7 +1,10 @@
 //! A client that calls the server as soon as it is told where it listens (MQTT 5.0, 4.2).
-use mqtt_serve::{Full, Limits, ServeFault, serve};
+ghost use Rattle.mqtt_rules.specs.Laws.{AreWithin};
+
+use mqtt_serve::{Full, Limits, ServeFault, Unknown, serve};
 use std::io::{ErrorKind, Read, Write};
 use std::net::{Ipv4Addr, SocketAddr, TcpStream};
+use std::test::Fail;
 use std::{fs, io, str};
 
 /// The limits of the tables; a full queue refuses.
@@ -59,24 +62,18 @@ impl Write for Caller<'_> {
     }
 }
 
-/// Whether a client that sends this to a server that runs twelve turns over a database is sent that and nothing else.
+/// Whether a client that sends this to a server that runs so many turns over a database, under these limits, is sent that and
+/// nothing else.
 pub fn is_answered(
     rt: &HostRuntime,
     db: &str,
-    sends: &[u8],
-    answer: &[u8],
-) -> Result<bool, ServeFault> {
-    is_answered_in(rt, db, 12, sends, answer)
-}
-
-/// The same over so many turns.
-pub fn is_answered_in(
-    rt: &HostRuntime,
-    db: &str,
     turns: u32,
+    limits: Limits,
     sends: &[u8],
     answer: &[u8],
-) -> Result<bool, ServeFault> {
+) -> Result<bool, ServeFault>
+    requires { AreWithin limits }
+{
     let mut caller = Caller {
         rt,
         sends,
@@ -84,13 +81,34 @@ pub fn is_answered_in(
         stream: None,
         came: Vec::new(rt.alloc()),
     };
-    let ran = serve(rt, any_port(), db, turns, &mut caller, LIMITS);
+    let ran = serve(rt, any_port(), db, turns, &mut caller, limits, Unknown);
     let is_it = caller.came.as_slice() == answer && caller.told.ends_with(b"\ndone\n");
     drop(caller);
     match ran {
         Ok(()) => Ok(is_it),
         Err(fault) => Err(fault),
     }
+}
+
+/// A run of the server: what happens in it, what a client sends, and what it is sent.
+pub type Run = (&'static str, &'static [u8], &'static [u8]);
+
+/// The first run of twelve turns each, over one database and under these limits, in which a client is sent something else than it
+/// should; none where there is no such run.
+pub fn first_wrong(
+    rt: &HostRuntime,
+    db: &str,
+    limits: Limits,
+    runs: &'static [Run],
+) -> Result<&'static str, Fail>
+    requires { AreWithin limits }
+{
+    for (what, sends, answer) in runs {
+        if !is_answered(rt, db, 12, limits, sends, answer)? {
+            return Ok(what);
+        }
+    }
+    Ok("")
 }
 
 /// Removes a database and its log, where they are there.

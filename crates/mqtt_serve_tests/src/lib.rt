@@ -4,6 +4,8 @@
 #[cfg(test)]
 mod callers;
 #[cfg(test)]
+mod limits;
+#[cfg(test)]
 mod restarts;
 #[cfg(test)]
 mod runs;

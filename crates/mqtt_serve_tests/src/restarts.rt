@@ -1,12 +1,9 @@
 //! Sessions and their handshakes over restarts of the server, each over the same file (MQTT 5.0, 4.1, 4.3.3, 4.4, 4.9).
-use crate::callers::{forget, is_answered};
+use crate::callers::{LIMITS, Run, first_wrong, forget};
 use std::test::Fail;
 
-/// A run of the server: what happens in it, what a client sends, and what it is sent. Each CONNECT is without Clean Start
-/// and with a session that doesn't end (3.1); CONNACK tells whether the session was there (3.2.2.1.1).
-type Run = (&'static str, &'static [u8], &'static [u8]);
-
-/// A message at QoS 2 whose receiver is stopped on at each step of its handshake.
+/// A message at QoS 2 whose receiver is stopped on at each step of its handshake. Each CONNECT is without Clean Start and with a
+/// session that doesn't end (3.1); CONNACK tells whether the session was there (3.2.2.1.1).
 const RECEIVED: [Run; 6] = [
     (
         "r1 subscribes to a/b at QoS 2",
@@ -100,22 +97,12 @@ fn open() -> &'static [Run] {
     &OPEN
 }
 
-/// The first run in which a client is sent something else than it should; none where there is no such run.
-fn first_wrong(rt: &HostRuntime, db: &str, runs: &'static [Run]) -> Result<&'static str, Fail> {
-    for (what, sends, answer) in runs {
-        if !is_answered(rt, db, sends, answer)? {
-            return Ok(what);
-        }
-    }
-    Ok("")
-}
-
 #[test]
 fn sessions_and_handshakes_stay_over_restarts(rt: HostRuntime) -> Result<(), Fail> {
     let (db, log) = ("restarts.db", "restarts.db-wal");
     forget(&rt, db, log);
-    let received = first_wrong(&rt, db, received())?;
-    let open = first_wrong(&rt, db, open())?;
+    let received = first_wrong(&rt, db, LIMITS, received())?;
+    let open = first_wrong(&rt, db, LIMITS, open())?;
     forget(&rt, db, log);
     assert_eq!(rt; received, "");
     assert_eq!(rt; open, "");

@@ -1,6 +1,6 @@
 //! Runs of the server: what it writes, and why it ends early (MQTT 5.0, 4.2).
 use crate::callers::{LIMITS, any_port, forget};
-use mqtt_serve::{ServeFault, serve};
+use mqtt_serve::{ServeFault, Unknown, serve};
 use std::io;
 use std::io::{ErrorKind, Write};
 use std::net::{SocketAddr, TcpListener};
@@ -10,7 +10,7 @@ use std::test::Fail;
 /// written and they end early.
 fn runs(rt: &HostRuntime, at: SocketAddr, db: &str) -> Result<bool, ServeFault> {
     let mut written: Vec<u8> = Vec::new(rt.alloc());
-    let ran = serve(rt, at, db, 3, &mut written, LIMITS);
+    let ran = serve(rt, at, db, 3, &mut written, LIMITS, Unknown);
     let is_silent = written.is_empty();
     let begins = written.starts_with(b"listening 127.0.0.1:");
     let ends = written.ends_with(b"\ndone\n");
@@ -66,7 +66,15 @@ impl Write for Broken {
 
 #[test]
 fn a_write_that_fails_is_told(rt: HostRuntime) {
-    let ran = serve(&rt, any_port(), "broken.db", 3, &mut Broken, LIMITS);
+    let ran = serve(
+        &rt,
+        any_port(),
+        "broken.db",
+        3,
+        &mut Broken,
+        LIMITS,
+        Unknown,
+    );
     forget(&rt, "broken.db", "broken.db-wal");
     assert!(rt; ran == Err(ServeFault::Write));
 }

@@ -1,5 +1,5 @@
 //! Time in a server (MQTT 5.0, 3.1.2.10).
-use crate::callers::{forget, is_answered_in};
+use crate::callers::{LIMITS, forget, is_answered};
 use mqtt_serve::{SteadyClock, Timer};
 use sqlite::{Connection, Error};
 use std::cell::Cell;
@@ -33,9 +33,9 @@ fn idle_turns_wait_and_time_passes_behind_a_stored_moment_that_lies_ahead_too(
     let (db, log) = ("ahead.db", "ahead.db-wal");
     forget(&rt, db, log);
     // 240 idle turns of 10 ms each: without waits, or with a clock that stands, they end before Keep Alive does.
-    let is_first = is_answered_in(&rt, db, 240, CONNECT, SILENCED);
+    let is_first = is_answered(&rt, db, 240, LIMITS, CONNECT, SILENCED);
     let is_set = set_forward(&rt, db);
-    let is_silenced = is_answered_in(&rt, db, 240, CONNECT, SILENCED);
+    let is_silenced = is_answered(&rt, db, 240, LIMITS, CONNECT, SILENCED);
     forget(&rt, db, log);
     assert!(rt; is_first?);
     assert!(rt; is_set.is_ok());

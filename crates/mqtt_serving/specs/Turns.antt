@@ -301,8 +301,9 @@ pub record RunsFor {K : Type 0} (g : Ghosts K) (begin turns : ℕ) (told told_th
 
 pub record Begins {K : Type 0} (g : Ghosts K) (limits : Limits) (moment : ℕ) (keep : K) (start : Serving K) : Type 0 where
   pub records : Records
-  -- of a device that lied nothing is said
+  -- what the store has, and such as a crash of it may leave; of a device that lied nothing is said
   pub exact : (held : Records) → g.holds keep held → g.is_sound start.running.keep → records ≡ held
+  pub found : g.is_sound start.running.keep → g.leaves keep records
   pub opening : BrokerOpening limits records moment start.running.broker
   pub limits_are : start.running.limits ≡ limits
   pub holds : g.holds start.running.keep start.running.broker.records

@@ -1,11 +1,11 @@
 -- One write of a transaction after the other.
-use Rattle.std.proofs.Common.{◌≡◌, ℕ, ◌+◌, ◌<◌, List, ◌∷◌, length, get_or, drop, sym, ap, ◌∙◌, subst, arith}
-use Rattle.std.proofs.lemmas.List.{drop_more}
+use Rattle.std.proofs.Common.{◌≡◌, Bool, true, false, cond, List, [], ◌∷◌, length, refl, sym, ap, ◌∙◌, subst, arith}
 use Rattle.sqlite_trees.specs.Tree.{Trees}
 use Rattle.sqlite.specs.State.{State, HasCleanDisk}
 use Rattle.sqlite.proofs.StateLemmas.{survives_then}
 use Rattle.mqtt_records.specs.declared.change.Change.{Change}
-use Rattle.mqtt_sql_changes.specs.Making.{Makes, Needs, MakeAll, NeedAll, StaysInside}
+use Rattle.mqtt_sql_changes.specs.Making.{Makes, MakeAll, NeedAll, StaysInside}
+use Rattle.mqtt_sql_changes.specs.Shortened.{MakesUnless, NeedsUnless, goes_anyway, shortened}
 
 pub clean_before : (a b : State) → StaysInside a b → HasCleanDisk b → HasCleanDisk a
 clean_before a b it clean = let less = it.survives.clean in omega (arith, less, clean)
@@ -19,15 +19,27 @@ stays_then a b c x y = record {
   survives = survives_then a b c (λ _. ⊥) (λ _. ⊥) (λ _. ⊥) (λ _ db none. none) (λ _ db none. none) x.survives y.survives;
 }
 
--- what is left to make of the changes, and that all are made where the rest is
-abbrev pub Leads : List Change → ℕ → Trees → Trees → Type 0
-Leads changes at old now =
-    NeedAll (drop at changes) now × ((after : Trees) → MakeAll (drop at changes) now after → MakeAll changes old after)
+-- what is left to write of the changes, and that all are made where the rest is
+abbrev pub Leads : List Change → List Change → Trees → Trees → Type 0
+Leads whole rest old now =
+    NeedAll (shortened rest) now × ((after : Trees) → MakeAll (shortened rest) now after → MakeAll (shortened whole) old after)
 
-pub leads_on : (changes : List Change) (at : ℕ) (change : Change) (old mid new : Trees) → at < length changes → change ≡ get_or changes at change → Leads changes at old mid → (Needs change mid → Makes change mid new)
-    → Leads changes (at + 1) old new
-leads_on changes at change old mid new within is left made =
-    let e : drop at changes ≡ change ∷ drop (at + 1) changes = drop_more changes at change within ∙ ap (λ c. c ∷ drop (at + 1) changes) (sym is) in
-    let need : NeedAll (change ∷ drop (at + 1) changes) mid = subst (λ l. NeedAll l mid) e left.0 in
+leads_by : (goes : Bool) (whole : List Change) (change : Change) (after : List Change) (old mid new : Trees) → goes ≡ goes_anyway change after → Leads whole (change ∷ after) old mid
+    → (NeedsUnless goes change mid → MakesUnless goes change mid new) → Leads whole after old new
+leads_by true whole change after old mid new is left made =
+    let same : new ≡ mid = made tt in
+    let e : shortened (change ∷ after) ≡ shortened after = ap (λ (b : Bool). cond b (shortened after) (change ∷ shortened after)) (sym is) in
+    subst (λ (db : Trees). Leads whole after old db) (sym same) (subst (λ (l : List Change). NeedAll l mid) e left.0, λ last rest. left.1 last (subst (λ (l : List Change). MakeAll l mid last) (sym e) rest))
+leads_by false whole change after old mid new is left made =
+    let e : shortened (change ∷ after) ≡ change ∷ shortened after = ap (λ (b : Bool). cond b (shortened after) (change ∷ shortened after)) (sym is) in
+    let need : NeedAll (change ∷ shortened after) mid = subst (λ (l : List Change). NeedAll l mid) e left.0 in
     let it : Makes change mid new = made need.0 in
-    (need.1 new it, λ after rest. left.1 after (subst (λ l. MakeAll l mid after) (sym e) (new, it, rest)))
+    (need.1 new it, λ last rest. left.1 last (subst (λ (l : List Change). MakeAll l mid last) (sym e) (new, it, rest)))
+
+pub leads_on : (goes : Bool) (whole : List Change) (change : Change) (after rest : List Change) (old mid new : Trees) → rest ≡ change ∷ after → goes ≡ goes_anyway change after → Leads whole rest old mid
+    → (NeedsUnless goes change mid → MakesUnless goes change mid new) → Leads whole after old new
+leads_on goes whole change after rest old mid new splits is left made = leads_by goes whole change after old mid new is (subst (λ (l : List Change). Leads whole l old mid) splits left) made
+
+pub leads_end : (whole rest : List Change) (old now : Trees) → length rest ≡ 0 → Leads whole rest old now → MakeAll (shortened whole) old now
+leads_end whole [] old now ends left = left.1 now refl
+leads_end whole (x ∷ xs) old now ends left = absurd cc

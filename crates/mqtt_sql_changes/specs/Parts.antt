@@ -4,7 +4,7 @@ use Rattle.mqtt_props.specs.Properties.{block}
 use Rattle.mqtt_message.specs.Queue.{first_sent}
 use Rattle.mqtt_records.specs.declared.session.Columns.{Columns}
 use Rattle.mqtt_records.specs.declared.change.Change.{Change}
-use Rattle.mqtt_records.specs.declared.change.Change.TheVariants.{SetCounter, PutSession, SetSession, RemoveSession, PutWill, RemoveWill, PutSubscription, RemoveSubscription, PutInbound, RemoveInbound, PutCopy, SetCopy, RemoveCopy, PutRetained, RemoveRetained}
+use Rattle.mqtt_records.specs.declared.change.Change.TheVariants.{PutSession, SetSession, PutWill, PutCopy, PutRetained}
 use Rattle.mqtt_sql_changes.specs.declared.parts.Parts.{Parts}
 
 -- the own row of a session, if that is put

@@ -6,7 +6,9 @@ ghost use Rattle.mqtt_sql_write.specs.Content.{IsWhole};
 ghost use Rattle.mqtt_sql_step.specs.Step.{IsSettled};
 ghost use Rattle.mqtt_sql_changes.specs.Parts.{ArePartsOf};
 ghost use Rattle.mqtt_sql_changes.specs.Making.{Makes, Needs, MakeAll, NeedAll, StaysInside, MayCommit};
+ghost use Rattle.mqtt_sql_changes.specs.Shortened.{MakesUnless, NeedsUnless, shortened};
 
+use crate::ending::{goes_by, known_behind};
 use crate::parts::{Parts, parts_of};
 use crate::sizes::is_sized;
 use crate::statement::statement_of;
@@ -64,7 +66,29 @@ fn write_change<S: Alter>(
     }
 }
 
-/// Writes what changes say, one after the other.
+/// Writes what a change says, unless its row goes with its session.
+fn write_unless<S: Alter>(
+    alloc: Global,
+    tx: &mut Transaction<'_, S>,
+    goes: bool,
+    change: &Change,
+) -> Result<(), Error>
+    ensures same_reference { tx.new.conn.ghost_name ≡ tx.old.conn.ghost_name }
+    ensures made { HasCleanDisk (state S.Store tx.new.conn.now) → IsWhole (state S.Store tx.old.conn.now)
+        → NeedsUnless goes change.now (state S.Store tx.old.conn.now).now.trees
+        → OnOk result (MakesUnless goes change.now (state S.Store tx.old.conn.now).now.trees (state S.Store tx.new.conn.now).now.trees) }
+    ensures whole { HasCleanDisk (state S.Store tx.new.conn.now) → IsWhole (state S.Store tx.old.conn.now)
+        → OnOk result (IsWhole (state S.Store tx.new.conn.now)) }
+    ensures inside { StaysInside (state S.Store tx.old.conn.now) (state S.Store tx.new.conn.now) }
+{
+    if goes {
+        Ok(())
+    } else {
+        write_change(alloc, tx, change)
+    }
+}
+
+/// Writes what changes say, one after the other, but for copies that go with their session.
 fn write_changes<S: Alter>(
     alloc: Global,
     tx: &mut Transaction<'_, S>,
@@ -72,20 +96,24 @@ fn write_changes<S: Alter>(
 ) -> Result<(), Error>
     ensures same_reference { tx.new.conn.ghost_name ≡ tx.old.conn.ghost_name }
     ensures made { HasCleanDisk (state S.Store tx.new.conn.now) → IsWhole (state S.Store tx.old.conn.now)
-        → NeedAll changes.now (state S.Store tx.old.conn.now).now.trees
-        → OnOk result (MakeAll changes.now (state S.Store tx.old.conn.now).now.trees (state S.Store tx.new.conn.now).now.trees) }
+        → NeedAll (shortened changes.now) (state S.Store tx.old.conn.now).now.trees
+        → OnOk result (MakeAll (shortened changes.now) (state S.Store tx.old.conn.now).now.trees (state S.Store tx.new.conn.now).now.trees) }
     ensures whole { HasCleanDisk (state S.Store tx.new.conn.now) → IsWhole (state S.Store tx.old.conn.now)
         → OnOk result (IsWhole (state S.Store tx.new.conn.now)) }
     ensures inside { StaysInside (state S.Store tx.old.conn.now) (state S.Store tx.new.conn.now) }
 {
-    for change in changes {
-        write_change(alloc, tx, change)?;
+    let mut rest = changes;
+    let mut known = None;
+    while let Some((change, after)) = rest.split_first() {
+        known = known_behind(known, change, after);
+        write_unless(alloc, tx, goes_by(known), change)?;
+        rest = after;
     }
     Ok(())
 }
 
-/// Makes all changes one transaction: all are committed, or none. A crash leaves the tables before
-/// or after. `OutOfMemory` where a block of properties takes more memory than there is, `TooBig`
+/// Makes all changes one transaction: all are committed, or none; copies that are removed just before
+/// their session go with it, and are not written. A crash leaves the tables before or after. `OutOfMemory` where a block of properties takes more memory than there is, `TooBig`
 /// where SQL has no such number.
 pub fn commit_changes<S: Alter>(
     alloc: Global,
@@ -95,8 +123,8 @@ pub fn commit_changes<S: Alter>(
     requires { conn.old.in_transaction ≡ false }
     ensures autocommit { conn.new.in_transaction ≡ false }
     ensures ok { HasCleanDisk (state S.Store conn.new) → IsSettled (state S.Store conn.old)
-        → NeedAll changes.now (state S.Store conn.old).now.trees
-        → OnOk result (MakeAll changes.now (state S.Store conn.old).now.trees (state S.Store conn.new).now.trees) }
+        → NeedAll (shortened changes.now) (state S.Store conn.old).now.trees
+        → OnOk result (MakeAll (shortened changes.now) (state S.Store conn.old).now.trees (state S.Store conn.new).now.trees) }
     ensures settled { HasCleanDisk (state S.Store conn.new) → IsSettled (state S.Store conn.old)
         → OnOk result (IsSettled (state S.Store conn.new)) }
 
@@ -104,7 +132,7 @@ pub fn commit_changes<S: Alter>(
     ensures err { HasCleanDisk (state S.Store conn.new) → IsSettled (state S.Store conn.old) → IsTrue (state S.Store conn.new).is_open
         → OnErr result (((state S.Store conn.new).now ≡ (state S.Store conn.old).now)
         × IsSettled (state S.Store conn.new)) }
-    ensures crash { Survives (state S.Store conn.old) (state S.Store conn.new) (MayCommit (state S.Store conn.old) changes.now) }
+    ensures crash { Survives (state S.Store conn.old) (state S.Store conn.new) (MayCommit (state S.Store conn.old) (shortened changes.now)) }
 {
     let mut tx = conn.transaction();
     match write_changes(alloc, &mut tx, changes) {

@@ -3,6 +3,7 @@
 
 mod columns;
 mod commit;
+mod ending;
 mod parts;
 mod sizes;
 mod statement;

@@ -12,8 +12,10 @@ use Rattle.mqtt_sql_step.specs.Step.{IsSettled}
 use Rattle.mqtt_sql_kept.specs.Written.{KeepsRows, AreInOrder, AllSayable}
 use Rattle.mqtt_sql_kept.proofs.Statements.{statement_keeps, statement_asks}
 use Rattle.mqtt_sql_changes.specs.Making.{MakeAll, NeedAll, MayCommit}
+use Rattle.mqtt_sql_changes.specs.Shortened.{shortened}
 use Rattle.mqtt_store.specs.Holding.{Holds, IsReady, OnlySteps}
 use Rattle.mqtt_store.proofs.Held.{not_both}
+use Rattle.mqtt_store.proofs.Shortened.{shortened_same, shortened_fit, shortened_sayable}
 
 -- ---- what the statements of changes make of the rows
 
@@ -61,7 +63,7 @@ ready_still mid new h same = record {
 
 -- where it is open after the step, nothing is changed or all is made
 abbrev pub IsEither : List Change → State → State → Type 0
-IsEither changes old new = (new.now ≡ old.now) ⊎ ((new.now.schema ≡ keep_schema) × (NeedAll changes old.now.trees → MakeAll changes old.now.trees new.now.trees))
+IsEither changes old new = (new.now ≡ old.now) ⊎ ((new.now.schema ≡ keep_schema) × (NeedAll (shortened changes) old.now.trees → MakeAll (shortened changes) old.now.trees new.now.trees))
 
 module _ (old : State) (changes : List Change) (r : Records) (full : HasCleanDisk old → IsSettled old) (holds : Holds old r) where
   pub keeps_old : HasCleanDisk old → KeepsRows old.now.trees r
@@ -70,18 +72,20 @@ module _ (old : State) (changes : List Change) (r : Records) (full : HasCleanDis
       elim ((holds clean).shows s.is_open) [ inl ours ↦ ours.1 | inr none ↦ absurd (not_both old.now.schema s.schema none.0) ]
 
   module _ (fit : FitAll changes r) (say : AllSayable changes) where
-    pub needs_old : HasCleanDisk old → NeedAll changes old.now.trees
-    needs_old clean = needs_met changes old.now.trees r (keeps_old clean) (order_of old (full clean)) fit say
+    pub needs_old : HasCleanDisk old → NeedAll (shortened changes) old.now.trees
+    needs_old clean = needs_met (shortened changes) old.now.trees r (keeps_old clean) (order_of old (full clean)) (shortened_fit changes r fit) (shortened_sayable changes say)
 
-    pub keeps_made : HasCleanDisk old → (db : Trees) → MakeAll changes old.now.trees db → KeepsRows db (changed_all changes r)
-    keeps_made clean db made = makes_kept changes old.now.trees db r (keeps_old clean) (order_of old (full clean)) fit say made
+    pub keeps_made : HasCleanDisk old → (db : Trees) → MakeAll (shortened changes) old.now.trees db → KeepsRows db (changed_all changes r)
+    keeps_made clean db made =
+        subst (KeepsRows db) (shortened_same changes r)
+        (makes_kept (shortened changes) old.now.trees db r (keeps_old clean) (order_of old (full clean)) (shortened_fit changes r fit) (shortened_sayable changes say) made)
 
-    pub only_steps : (new : State) → Survives old new (MayCommit old changes) → (HasCleanDisk new → IsTrue new.is_open → IsEither changes old new) → OnlySteps old new r (changed_all changes r)
+    pub only_steps : (new : State) → Survives old new (MayCommit old (shortened changes)) → (HasCleanDisk new → IsTrue new.is_open → IsEither changes old new) → OnlySteps old new r (changed_all changes r)
     only_steps new it either =
         let less = it.clean in
         let clean = λ (now : HasCleanDisk new). let was : HasCleanDisk old = omega (arith, less, now) in was in
         record {
-          survives = survives_weaker old new (MayCommit old changes) (λ db. KeepsRows db (changed_all changes r)) (λ now db commits. keeps_made (clean now) db (commits (full (clean now)) (needs_old (clean now)))) it;
+          survives = survives_weaker old new (MayCommit old (shortened changes)) (λ db. KeepsRows db (changed_all changes r)) (λ now db commits. keeps_made (clean now) db (commits (full (clean now)) (needs_old (clean now)))) it;
           left = λ now up. elim (either now up) [
             | inl same ↦ inl (inl (ap (λ (d : Database). d.schema) same ∙ (full (clean now)).schema, subst (λ (d : Database). KeepsRows d.trees r) (sym same) (keeps_old (clean now))))
             | inr made ↦ inr (inl (made.0, keeps_made (clean now) new.now.trees (made.1 (needs_old (clean now)))))

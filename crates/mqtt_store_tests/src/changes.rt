@@ -190,8 +190,8 @@ pub(crate) const STEPS: [(usize, usize); 11] = [
     (11, 12),
     (12, 17),
     (17, 19),
-    (19, 20),
-    (20, 24),
+    (19, 21),
+    (21, 25),
 ];
 
 /// The steps that a subscriber's CONNECT and SUBSCRIBE, a publisher's CONNECT and PUBLISH, and a pump make.
@@ -223,8 +223,9 @@ fn plain_change_at(at: usize) -> Change {
         },
         17 => Change::RemoveCopy { birth: 1, place: 1 },
         18 => Change::RemoveWill { birth: 2 },
-        19 => Change::RemoveSession { birth: 1 },
-        21 => number(Counter::Subscribes, 2),
+        19 => Change::RemoveCopy { birth: 1, place: 2 },
+        20 => Change::RemoveSession { birth: 1 },
+        22 => number(Counter::Subscribes, 2),
         _ => Change::RemoveRetained { place: 1 },
     }
 }
@@ -232,7 +233,7 @@ fn plain_change_at(at: usize) -> Change {
 /// A change of the course: `r1` comes (0, 1) and subscribes (2, 3), `p1` comes (4, 5) and publishes under identifier 10
 /// (6 to 8), the copy is sent (9), `p1` gives a Will (10) and retains a message (11); it publishes again, the first copy is
 /// released, its identifier closes and so does its connection (12 to 16); the first copy and the Will end (17, 18), and the
-/// session of `r1` (19); `p1` subscribes and unsubscribes, and its retained message goes (20 to 23).
+/// session of `r1` with the second copy (19, 20); `p1` subscribes and unsubscribes, and its retained message goes (21 to 24).
 fn change_at(alloc: Global, at: usize) -> Result<Change, AllocError> {
     match at {
         0 => session(alloc, 1, "r1"),
@@ -243,8 +244,8 @@ fn change_at(alloc: Global, at: usize) -> Result<Change, AllocError> {
         11 => retained(alloc),
         13 => copy(alloc, 2),
         16 => closed(alloc),
-        20 => subscription(alloc, 2),
-        22 => no_subscription(alloc),
+        21 => subscription(alloc, 2),
+        23 => no_subscription(alloc),
         _ => Ok(plain_change_at(at)),
     }
 }

@@ -103,7 +103,7 @@ pub fn lapsed_session(step: &Step) -> Option<u64>
 }
 
 /// What is so of sessions and lines: they are in order. Shows it to the prover.
-fn in_order(step: &Step)
+pub(crate) fn in_order(step: &Step)
     ensures sessions { IsAscending birth_of step.now.broker.records.sessions }
     ensures lines { IsAscending line_number step.now.broker.lines }
 {

@@ -3,16 +3,15 @@ ghost use Rattle.std.specs.Prelude.{◌≡◌, ◌≤◌, ◌<◌, ◌+◌, ℕ,
 ghost use Rattle.std.specs.List.{AllByRecursion};
 ghost use Rattle.mqtt_base.specs.declared.limits.TheConstants.{LAST_NUMBER};
 ghost use Rattle.mqtt_flow.specs.Outbound.{is_waiting};
-ghost use Rattle.mqtt_records.specs.declared.records.Records.{Records};
-ghost use Rattle.mqtt_records.specs.Records.{changed_all};
 ghost use Rattle.mqtt_closing.specs.TheRules.Closing.{is_due};
 ghost use Rattle.mqtt_closing.specs.TheRules.Packets.{is_expired};
 ghost use Rattle.mqtt_closing.specs.TheRules.Tick.{is_stale};
-ghost use Rattle.mqtt_ticking.specs.Quiet.{AreQuietBefore, BringsNothing, IsFresh, IsQuiet, IsSettled};
+ghost use Rattle.mqtt_ticking.specs.Quiet.{AreQuietBefore, BringsNothing, IsFresh, IsQuiet, IsSettled, IsSettledIn};
 
+use crate::finding::in_order;
 use mqtt_base::{LAST_NUMBER, Phase};
 use mqtt_closing::{Step, expiry_due, settling_due};
-use mqtt_records::{Boxed, Change, Columns, Content, CopyRow, RetainedMessage, Session};
+use mqtt_records::{Boxed, Change, Content, CopyRow, RetainedMessage, Session};
 
 /// Past each moment.
 const NEVER: u64 = LAST_NUMBER + 1;
@@ -76,12 +75,19 @@ fn queue_before(queue: &[Boxed<CopyRow>]) -> u64
     least
 }
 
+/// Before which moment no Will and no end is due of a session.
+fn settled_before(session: &Session) -> u64
+    ensures { (now : ℕ) → now < result → IsSettled now session.now }
+{
+    or_never(settling_due(session))
+}
+
 /// Before which moment nothing is due of a session.
 fn session_before(session: &Session) -> u64
     ensures { (now : ℕ) → now < result → IsQuiet now session.now }
 {
     sooner(
-        or_never(settling_due(session)),
+        settled_before(session),
         queue_before(session.queue.as_slice()),
     )
 }
@@ -122,23 +128,25 @@ pub fn quiet_before(step: &Step) -> u64
     )
 }
 
-/// Before which moment nothing is due of a session with this row: it isn't closed, or is closed then.
-fn columns_before(row: &Columns) -> u64
-    ensures { (now : ℕ) → now < result → IsSettled now row.now }
+/// Before which moment nothing is due of the session with that birth, but its copies: as it stands now, if it does.
+fn settled_in(step: &Step, birth: u64) -> u64
+    ensures { (now : ℕ) → now < result → IsSettledIn now step.now.broker.records birth }
 {
-    match row.closed {
-        Some(closed) => closed.min(LAST_NUMBER),
+    match step.session(birth) {
+        Some(session) => settled_before(session),
         None => NEVER,
     }
 }
 
-/// Before which moment a change brings nothing that is due. Of a new session, and of a Will, nothing is said.
-fn change_before(change: &Change) -> u64
-    ensures { (now : ℕ) → now < result → BringsNothing now change.now }
+/// Before which moment a change of the step brings nothing that is due. Whose columns or Will it set is looked at as it
+/// stands now; of a copy that waits again nothing is said.
+fn change_before(step: &Step, change: &Change) -> u64
+    ensures { (now : ℕ) → now < result → BringsNothing now step.now.broker.records change.now }
 {
     match change {
-        Change::SetSession { row } => columns_before(row),
-        Change::PutSession { .. } | Change::PutWill { .. } => 0,
+        Change::PutSession { row } => settled_in(step, row.birth()),
+        Change::SetSession { row } => settled_in(step, row.birth),
+        Change::PutWill { birth, .. } => settled_in(step, *birth),
         Change::PutCopy { row, .. } => row_before(row.get()),
         Change::SetCopy { phase, .. } => { if is_waiting(*phase) { 0 } else { NEVER } }
         Change::PutRetained { kept } => content_before(&kept.get().content),
@@ -154,14 +162,17 @@ fn change_before(change: &Change) -> u64
     }
 }
 
-/// The moment before which nothing is due, after so many changes: it looks at them alone. Takes no memory.
-pub fn quiet_after(quiet: u64, changes: &[Change]) -> u64
-    ensures { (r : Records) → AreQuietBefore quiet r → AreQuietBefore result (changed_all changes.now r) }
+/// The moment before which nothing is due after the step under way: it looks at the step's changes, and at no session
+/// but those whose columns or Will they set. Takes no memory.
+pub fn quiet_after(step: &Step, quiet: u64) -> u64
+    ensures { AreQuietBefore quiet step.now.start.records
+        → AreQuietBefore result step.now.broker.records }
 {
+    in_order(step);
     let mut least = quiet;
-    let mut rest = changes;
+    let mut rest = step.rows();
     while let Some((change, after)) = rest.split_first() {
-        least = sooner(least, change_before(change));
+        least = sooner(least, change_before(step, change));
         rest = after;
     }
     least

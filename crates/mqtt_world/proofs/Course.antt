@@ -1,22 +1,27 @@
 -- What events come to in a world that runs, one after the other, and that all it keeps is a run of the definitions' world.
 use Rattle.std.proofs.Common.{◌≡◌, List, [], ◌∷◌, ◌++◌, IfErr, IfOk, OnOk, Option, None, Some, append-nil, append_assoc, refl, sym, ap, subst, ◌∙◌}
-use Rattle.std.specs.Prelude.{length, Result, Ok, Err}
+use Rattle.std.specs.Prelude.{ℕ, ◌≤◌, ◌+◌, length, Result, Ok, Err}
 use Rattle.mqtt_records.specs.declared.keep.Keep.{Ghosts}
 use Rattle.mqtt_laws.specs.Tellings.{Telling}
-use Rattle.mqtt_laws.specs.World as world
 use Rattle.mqtt_laws.specs.World.{World}
 use Rattle.mqtt_peers.specs.declared.told.RunFault.{RunFault}
 use Rattle.mqtt_peers.specs.declared.told.RunFault.TheVariants as fault
 use Rattle.mqtt_script.specs.declared.event.Event.{Event}
-use Rattle.mqtt_script_laws.specs.Scripted.{IsBadEvent, RunsTo, as_event, event_of}
+use Rattle.mqtt_script.specs.declared.event.Event.TheVariants.{Drain}
+use Rattle.mqtt_script_laws.specs.Scripted.{IsBadHere, RunsTo, as_drain, as_event, bad_drain, bad_event}
+use Rattle.mqtt_script_laws.specs.Drains.{DrainHappens}
+use Rattle.mqtt_handed_laws.specs.Drains.{copies_left, enough_rounds, round_turns}
+use Rattle.mqtt_world_laws.specs.Copies.{entered_from}
+use Rattle.mqtt_script_laws.proofs.Drained.{is_within}
 use Rattle.mqtt_script_laws.proofs.Carrying.{delivers_once}
 use Rattle.mqtt_script_laws.proofs.Scripts.{runs_join}
 use Rattle.mqtt_broker.specs.TheRules.Laws.{AreWithin}
 use Rattle.mqtt_broker.specs.TheRules.declared.Limits.{Limits}
+use Rattle.mqtt_world.specs.Draining.{PlaysDrain}
 use Rattle.mqtt_world.specs.Events.{IsReached}
 use Rattle.mqtt_world.specs.Openings.{AlwaysSound}
-use Rattle.mqtt_world.specs.Stages.{Staged, broker_of, world_at}
-use Rattle.mqtt_world.specs.Worlds.{Came, CantHappen, Happen, HasCome, HasDelivered, IfSound, Lasting, PlaysIf, Refuses, Runs, Stops, fault_of, over_by, with_stage}
+use Rattle.mqtt_world.specs.Stages.{IsStanding, Staged, broker_of, world_at}
+use Rattle.mqtt_world.specs.Worlds.{Came, CantHappen, DrainEnds, Happen, HappenDrained, HasCome, HasDelivered, IfSound, Lasting, Performs, Refuses, Runs, Stops, fault_of, over_by, performs_drain, performs_event, with_stage}
 use Rattle.mqtt_world.specs.declared.over.Over.{Over}
 use Rattle.mqtt_world.specs.declared.over.Over.TheVariants as over
 use Rattle.mqtt_world.proofs.ReadAsSent.{spells_all}
@@ -55,31 +60,46 @@ module _ {K : Type 0} (g : Ghosts K) where
         (b.runs sound (reached_on es old ts mid a sound reached)));
   }
 
+  -- whatever it comes to, what stands can go on
+  pub performs_stands : (e : Event) (old : Staged K) (t : Option Telling) (new : Staged K) → Performs g e old t new → IsStanding g new
+  performs_stands e old t new (performs_event x is p) = p.standing
+  performs_stands e old t new (performs_drain client is (x, told, p)) = p.standing
+
   -- one event that happened
-  played_if : (e : Event) (o : Option world.Event) (old : Staged K) (t : Telling) (new : Staged K) → event_of e ≡ o → PlaysIf g o old (Some t) new
-      → Runs g (e ∷ []) old (t ∷ []) new
-  played_if e None old t new is p = absurd (cc)
-  played_if e (Some x) old t new is p = record {
+  pub played_one : (e : Event) (old : Staged K) (t : Telling) (new : Staged K) → Performs g e old (Some t) new → Runs g (e ∷ []) old (t ∷ []) new
+  played_one e old t new (performs_event x is p) = record {
     limits = p.limits;
     reached = p.reached;
     runs = λ sound reached. (world_at new, as_event x is (p.done sound (spells_all old.limits) reached), (refl, refl));
   }
-
-  pub played_one : (e : Event) (old : Staged K) (t : Telling) (new : Staged K) → PlaysIf g (event_of e) old (Some t) new → Runs g (e ∷ []) old (t ∷ []) new
-  played_one e old t new p = played_if e (event_of e) old t new refl p
+  played_one e old t new (performs_drain client is (None, told, p)) = absurd (cc)
+  played_one e old t new (performs_drain client is (Some x, told, p)) = record {
+    limits = p.limits;
+    reached = p.reached;
+    runs = λ sound reached.
+        let happens : DrainHappens old.limits client x.0 (world_at old) (world_at new) = (p.done sound (spells_all old.limits) reached).0 in
+        let same : t ≡ x.0 = cc in
+        (world_at new, as_drain client is (subst (λ (u : Telling). DrainHappens old.limits client u (world_at old) (world_at new)) (sym same) happens), (refl, refl));
+  }
 
   -- and one that can't
-  played_none : (o : Option world.Event) (old new : Staged K) → PlaysIf g o old None new → Runs g [] old [] new
-  played_none None old new p = subst (λ (s : Staged K). Runs g [] old [] s) (sym p.1) (runs_none old)
-  played_none (Some x) old new p = record {
+  played_none : (e : Event) (old new : Staged K) → Performs g e old None new → Runs g [] old [] new
+  played_none e old new (performs_event x is p) = record {
     limits = p.limits;
     reached = p.reached;
     runs = λ sound reached. (refl, (p.done sound (spells_all old.limits) reached).1);
   }
+  played_none e old new (performs_drain client is (None, told, p)) = record {
+    limits = p.limits;
+    reached = p.reached;
+    runs = λ sound reached. (refl, (p.done sound (spells_all old.limits) reached).1);
+  }
+  played_none e old new (performs_drain client is (Some x, told, p)) = absurd (cc)
 
-  played_bad : (o : Option world.Event) (old new : Staged K) → PlaysIf g o old None new → IfSound g old (IsBadEvent o (world_at old))
-  played_bad None old new p = λ sound reached. tt
-  played_bad (Some x) old new p = λ sound reached. (p.done sound (spells_all old.limits) reached).0
+  played_bad : (e : Event) (old new : Staged K) → Performs g e old None new → IfSound g old (IsBadHere e (world_at old))
+  played_bad e old new (performs_event x is p) = λ sound reached. bad_event x is (p.done sound (spells_all old.limits) reached).0
+  played_bad e old new (performs_drain client is (None, told, p)) = λ sound reached. bad_drain client is (p.done sound (spells_all old.limits) reached).0
+  played_bad e old new (performs_drain client is (Some x, told, p)) = absurd (cc)
 
   -- ---- in the world
 
@@ -99,21 +119,21 @@ module _ {K : Type 0} (g : Ghosts K) where
         kept = b.kept ∙ (ap (λ (xs : List Event). xs ++ more) a.kept ∙ append_assoc old.events es more);
       }
 
-  pub happened_one : (e : Event) (s n : Staged K) (t : Telling) (w new : Lasting K) → PlaysIf g (event_of e) s (Some t) n → new.stage ≡ Ok n
+  pub happened_one : (e : Event) (s n : Staged K) (t : Telling) (w new : Lasting K) → Performs g e s (Some t) n → new.stage ≡ Ok n
       → new.events ≡ w.events ++ e ∷ [] → Happen g (e ∷ []) (t ∷ []) (with_stage s w) new
   happened_one e s n t w new p is kept = record { from = s; to = n; was = refl; is = is; runs = played_one e s t n p; kept = kept }
 
-  pub cant_happen : (e : Event) (s n : Staged K) (w : Lasting K) → PlaysIf g (event_of e) s None n → CantHappen g e (with_stage s w) (with_stage n w)
+  pub cant_happen : (e : Event) (s n : Staged K) (w : Lasting K) → Performs g e s None n → CantHappen g e (with_stage s w) (with_stage n w)
   cant_happen e s n w p = record {
     nothing = record {
       from = s;
       to = n;
       was = refl;
       is = refl;
-      runs = played_none (event_of e) s n p;
+      runs = played_none e s n p;
       kept = sym (append-nil w.events);
     };
-    bad = played_bad (event_of e) s n p;
+    bad = played_bad e s n p;
   }
 
   -- a world that is over
@@ -173,7 +193,7 @@ module _ {K : Type 0} (g : Ghosts K) where
   -- ---- what a step of the world comes to
 
   -- what happened is kept
-  pub kept_happens : (e : Event) (s n : Staged K) (told : Telling) (w new : Lasting K) (r : Result Telling RunFault) → PlaysIf g (event_of e) s (Some told) n
+  pub kept_happens : (e : Event) (s n : Staged K) (told : Telling) (w new : Lasting K) (r : Result Telling RunFault) → Performs g e s (Some told) n
       → IfOk r (λ (t : Telling). t ≡ told) → IfOk r (λ (t : Telling). new ≡ record { stage = Ok n; events = w.events ++ e ∷ [] })
       → IfOk r (λ (t : Telling). Happen g (e ∷ []) (t ∷ []) (with_stage s w) new)
   kept_happens e s n told w new (Ok t) p told_is is =
@@ -182,11 +202,120 @@ module _ {K : Type 0} (g : Ghosts K) where
   kept_happens e s n told w new (Err f) p told_is is = tt
 
   -- what can't happen is not
-  pub refused_here : (e : Event) (s n : Staged K) (w new : Lasting K) (r : Result Telling RunFault) → PlaysIf g (event_of e) s None n
+  pub refused_here : (e : Event) (s n : Staged K) (w new : Lasting K) (r : Result Telling RunFault) → Performs g e s None n
       → r ≡ Err (fault.BadEvent (length w.events)) → new ≡ with_stage n w → IfErr r (λ (f : RunFault). Refuses g e f (with_stage s w) new)
   refused_here e s n w new r p is same =
       subst (λ (x : Result Telling RunFault). IfErr x (λ (f : RunFault). Refuses g e f (with_stage s w) new)) (sym is)
       (subst (λ (x : Lasting K). CantHappen g e (with_stage s w) x) (sym same) (cant_happen g e s n w p), refl)
+
+  -- ---- what a drain comes to
+
+  pub kept_drain : (e : Event) (client : List ℕ) (rounds : ℕ) (s n : Staged K) (told : Telling) (w new : Lasting K) (r : Result Telling RunFault) → e ≡ Drain client
+      → PlaysDrain g client s (Some (told, rounds)) n
+      → IfOk r (λ (t : Telling). new ≡ record { stage = Ok n; events = w.events ++ e ∷ [] })
+      → IfOk r (λ (t : Telling). HappenDrained g client rounds (with_stage s w) new)
+  kept_drain e client rounds s n told w new (Ok t) is p kept =
+      let stage : new.stage ≡ Ok n = ap (λ (x : Lasting K). x.stage) kept in
+      record {
+        t = told;
+        happened =
+            happened_one g (Drain client) s n told w new (performs_drain client refl (Some (told, rounds), refl, p)) stage
+            (ap (λ (x : Lasting K). x.events) kept ∙ ap (λ (x : Event). w.events ++ x ∷ []) is);
+        drained = λ from to was goes.
+            let begins : s ≡ from = ok_is {E = Over} (Ok s) s from refl was in
+            let ends : n ≡ to = ok_is new.stage n to stage goes in
+            subst (λ (x : Staged K). IfSound g x ((h : DrainHappens x.limits client told (world_at x) (world_at to)) × (h.rounds ≡ rounds))) begins
+            (subst (λ (x : Staged K). IfSound g s ((h : DrainHappens s.limits client told (world_at s) (world_at x)) × (h.rounds ≡ rounds))) ends
+            (λ sound reached. p.done sound (spells_all s.limits) reached));
+      }
+  kept_drain e client rounds s n told w new (Err f) is p kept = tt
+
+  pub drain_refused : (client : List ℕ) (s n : Staged K) (w new : Lasting K) (f : RunFault) → PlaysDrain g client s None n → f ≡ fault.BadEvent (length w.events)
+      → new ≡ with_stage n w → Refuses g (Drain client) f (with_stage s w) new
+  drain_refused client s n w new f p is same =
+      subst (λ (x : RunFault). Refuses g (Drain client) x (with_stage s w) new) (sym is) (
+        subst (λ (x : Lasting K). CantHappen g (Drain client) (with_stage s w) x) (sym same)
+            (cant_happen g (Drain client) s n w (performs_drain client refl (None, refl, p))),
+        refl,
+      )
+
+  -- what ends the world refuses it
+  pub kept_none : {U : Type 0} (e : Event) (s : Staged K) (w new : Lasting K) (r : Result U RunFault)
+      → IfErr r (λ (f : RunFault). (f ≡ fault.Memory) × (new ≡ over_by over.Memory w)) → IfErr r (λ (f : RunFault). Refuses g e f (with_stage s w) new)
+  kept_none e s w new (Ok u) h = tt
+  kept_none e s w new (Err f) h = subst (λ (x : RunFault). Refuses g e x (with_stage s w) new) (sym h.0) h.1
+
+  pub ended : (e : Event) (o : Over) (s : Staged K) (w new : Lasting K) (f : RunFault) → f ≡ fault_of o → new ≡ over_by o w → Refuses g e f (with_stage s w) new
+  ended e o s w new f is over =
+      subst (λ (x : RunFault). Refuses g e x (with_stage s w) new) (sym is)
+      (subst (λ (x : Lasting K). Refuses g e (fault_of o) (with_stage s w) x) (sym over) (refused_over g e o (with_stage s w)))
+
+  -- the same client, and the same world
+  pub drained_as : (name client : List ℕ) (s : Staged K) (mid w new : Lasting K) (r : Result ℕ RunFault) → name ≡ client → mid ≡ w
+      → IfOk r (λ (n : ℕ). HappenDrained g name n (with_stage s mid) new) → IfOk r (λ (n : ℕ). HappenDrained g client n (with_stage s w) new)
+  drained_as name client s mid w new r same is h =
+      subst (λ (x : List ℕ). IfOk r (λ (n : ℕ). HappenDrained g x n (with_stage s w) new)) same
+      (subst (λ (x : Lasting K). IfOk r (λ (n : ℕ). HappenDrained g name n (with_stage s x) new)) is h)
+
+  pub drain_refused_as : (name client : List ℕ) (s : Staged K) (mid w new : Lasting K) (r : Result ℕ RunFault) → name ≡ client → mid ≡ w
+      → IfErr r (λ (f : RunFault). Refuses g (Drain name) f (with_stage s mid) new) → IfErr r (λ (f : RunFault). Refuses g (Drain client) f (with_stage s w) new)
+  drain_refused_as name client s mid w new r same is h =
+      subst (λ (x : List ℕ). IfErr r (λ (f : RunFault). Refuses g (Drain x) f (with_stage s w) new)) same
+      (subst (λ (x : Lasting K). IfErr r (λ (f : RunFault). Refuses g (Drain name) f (with_stage s x) new)) is h)
+
+  -- a world that stands, and one that is over, taken apart
+  abbrev lasting : Result (Staged K) Over → List Event → Lasting K
+  lasting stage es = record { stage = stage; events = es }
+
+  pub lasting_as : (stage at : Result (Staged K) Over) (es : List Event) (w : Lasting K) → lasting stage es ≡ w → stage ≡ at → lasting at es ≡ w
+  lasting_as stage at es w view is = ap (λ (x : Result (Staged K) Over). lasting x es) (sym is) ∙ view
+
+  pub drained_at : (client : List ℕ) (w0 w new : Lasting K) (r : Result ℕ RunFault) → w0 ≡ w → IfOk r (λ (n : ℕ). HappenDrained g client n w0 new)
+      → IfOk r (λ (n : ℕ). HappenDrained g client n w new)
+  drained_at client w0 w new r same h = subst (λ (x : Lasting K). IfOk r (λ (n : ℕ). HappenDrained g client n x new)) same h
+
+  pub drain_refused_at : (client : List ℕ) (w0 w new : Lasting K) (r : Result ℕ RunFault) → w0 ≡ w → IfErr r (λ (f : RunFault). Refuses g (Drain client) f w0 new)
+      → IfErr r (λ (f : RunFault). Refuses g (Drain client) f w new)
+  drain_refused_at client w0 w new r same h = subst (λ (x : Lasting K). IfErr r (λ (f : RunFault). Refuses g (Drain client) f x new)) same h
+
+  pub none_over : {P : Type 0} (s : Staged K) (es : List Event) (w : Lasting K) → lasting (Ok s) es ≡ w → (o : Over) → w.stage ≡ Err o → P
+  none_over s es w view o is = ok_no_err w.stage s o (ap (λ (x : Lasting K). x.stage) (sym view)) is
+
+  pub still_over : (e : Event) (o : Over) (es : List Event) (w new : Lasting K) (f : RunFault) → f ≡ fault_of o → new ≡ lasting (Err o) es → lasting (Err o) es ≡ w
+      → Refuses g e f w new
+  still_over e o es w new f is over view =
+      subst (λ (x : RunFault). Refuses g e x w new) (sym is)
+      (subst (λ (x : Lasting K). Refuses g e (fault_of o) w x) (sym over)
+      (subst (λ (x : Lasting K). Refuses g e (fault_of o) x (lasting (Err o) es)) view (refused_over g e o (lasting (Err o) es))))
+
+  pub answers_why : {T : Type 0} (o : Over) (es : List Event) (w new : Lasting K) (f : RunFault) → f ≡ fault_of o → new ≡ lasting (Err o) es → lasting (Err o) es ≡ w
+      → (p : Over) → w.stage ≡ Err p → (◌≡◌ {A = Result T RunFault} (Err f) (Err (fault_of p))) × (new ≡ w)
+  answers_why {T} o es w new f is over view p at =
+      let stage : w.stage ≡ Err o = ap (λ (x : Lasting K). x.stage) (sym view) in
+      let same : o ≡ p = cc in
+      (ap (λ (x : RunFault). Err x) (is ∙ ap fault_of same), over ∙ view)
+
+  pub over_comes : (start : World) (o : Over) (es : List Event) (new : Lasting K) → new ≡ lasting (Err o) es → HasCome start new
+  over_comes start o es new is = come_over g start o (lasting (Err o) es) new is
+
+  -- all that a world keeps after it
+  pub drain_comes : (start : World) (client : List ℕ) (r : Result ℕ RunFault) (old new : Lasting K) → AlwaysSound g
+      → IfOk r (λ (n : ℕ). HappenDrained g client n old new) → IfErr r (λ (f : RunFault). Refuses g (Drain client) f old new)
+      → HasCome start old → HasCome start new
+  drain_comes start client (Ok n) old new sound h r come = come_on g start (Drain client ∷ []) (h.t ∷ []) old new sound h.happened come
+  drain_comes start client (Err f) old new sound h r come = come_refused g start (Drain client) f old new sound r come
+
+  -- and its rounds
+  pub drain_ends : (start : World) (client : List ℕ) (r : Result ℕ RunFault) (old new : Lasting K) → AlwaysSound g
+      → IfOk r (λ (n : ℕ). HappenDrained g client n old new) → HasCome start old → IfOk r (λ (n : ℕ). DrainEnds start client n old)
+  drain_ends start client (Ok n) old new sound h come = λ s is untouched keeps choice.
+      let c = come s is in
+      let d = h.drained s h.happened.to is h.happened.is sound c.reached in
+      subst
+      (λ (k : ℕ). k ≤ enough_rounds (copies_left client (world_at s) + length (entered_from s.limits (round_turns s.limits choice client (world_at s)) (world_at s))))
+      d.1
+      (is_within s.limits old.events c.tells choice client start (world_at s) c.within untouched keeps c.runs d.0.rounds h.t (world_at h.happened.to) d.0.made)
+  drain_ends start client (Err f) old new sound h come = tt
 
   -- ---- what a run comes to
 

@@ -26,7 +26,7 @@ module _ {K : Type 0} (g : Ghosts K) (now : ℕ) where
 
   -- ---- an event that can't happen
 
-  pub bad_done : (e : Event) (s : Played K) → IsPlayable g s → ((ss : List Stranger) → IsBadEvent (Some e) (world_of now ss s)) → Does g now e s None s
+  pub bad_done : (e : Event) (s : Played K) → IsPlayable g s → ((ss : List Stranger) → IsBadEvent e (world_of now ss s)) → Does g now e s None s
   bad_done e s playable is = record { playable = playable; limits = refl; reached = λ reached. reached; done = λ spells reached ss. (is ss, refl) }
 
   -- ---- what ends do
@@ -109,7 +109,7 @@ module _ {K : Type 0} (g : Ghosts K) (now : ℕ) where
   -- ---- the same of a scene that is taken apart
 
   pub bad_from : (e : Event) (E : Serving K) (O : Ends) (s : Played K) → played E O ≡ s → IsPlayable g s
-      → ((ss : List Stranger) → IsBadEvent (Some e) (world_of now ss (played E O))) → Does g now e s None s
+      → ((ss : List Stranger) → IsBadEvent e (world_of now ss (played E O))) → Does g now e s None s
   bad_from e E O s same playable is = subst (λ (x : Played K). Does g now e x None x) same (bad_done e (played E O) (subst (IsPlayable g) (sym same) playable) is)
 
   pub nothing_from : (a : Asking) (E : Serving K) (O N : Ends) (s : Played K) (t : Telling) → IsPlain a → t ≡ silent → played E O ≡ s → IsPlayable g s
@@ -194,7 +194,7 @@ pub front_refused : (set : Setting) (old : Bool) (client : List ℕ) (w : World)
 front_refused set old client w line packet is refused = subst IsRefused (ap packet_of is ∙ sym (front_is set old client w)) refused
 
 pub reading_refused : (set : Setting) (old : Bool) (client : List ℕ) (w : World) (line : ℕ) (packet : Packet) → Some (Input line packet) ≡ call_of set (reading old client) w
-    → (IsTaken packet → ⊥) → IsBadEvent (Some (ask (reading old client))) w
+    → (IsTaken packet → ⊥) → IsBadEvent (ask (reading old client)) w
 reading_refused set old client w line packet is refused = inr (front_refused set old client w line packet is refused)
 
 pub reading_leaves : (old : Bool) (client : List ℕ) (w : World) → w ≡ left_by (reading old client) w

@@ -4,6 +4,8 @@ use Rattle.std.specs.Prelude.{Result, Ok, Err}
 use Rattle.mqtt_records.specs.declared.keep.Keep.{Ghosts}
 use Rattle.mqtt_laws.specs.Tellings.{Telling}
 use Rattle.mqtt_laws.specs.World as world
+use Rattle.mqtt_peers.specs.Publishers.{draft_of}
+use Rattle.mqtt_peers.specs.Receivers.{wish_of}
 use Rattle.mqtt_peers.specs.declared.told.RunFault.{RunFault}
 use Rattle.mqtt_script.specs.declared.event.Asking.{Asking}
 use Rattle.mqtt_script.specs.declared.event.Asking.TheVariants as asking
@@ -18,11 +20,12 @@ use Rattle.mqtt_script_laws.specs.Scripted.{asking_of, event_of}
 use Rattle.mqtt_script_laws.specs.Turns.{IsPlain}
 use Rattle.mqtt_clients.specs.Ends.{reading}
 use Rattle.mqtt_broker.specs.TheRules.declared.Limits.{Limits}
+use Rattle.mqtt_world.specs.Draining.{TellsDrain}
 use Rattle.mqtt_world.specs.Events.{Does}
 use Rattle.mqtt_world.specs.Scenes.{Played}
 use Rattle.mqtt_world.specs.Stages.{IsStanding, Plays, Staged}
 use Rattle.mqtt_world.specs.Stopping.{stop_at}
-use Rattle.mqtt_world.specs.Worlds.{DoesIf, IsOfEnds, PlaysIf}
+use Rattle.mqtt_world.specs.Worlds.{DoesIf, IsOfEnds, Performs, PlaysIf, performs_drain, performs_event}
 use Rattle.mqtt_world.proofs.Staged.{plays_in, staged}
 
 -- ---- which events they are
@@ -121,28 +124,66 @@ module _ {K : Type 0} (g : Ghosts K) (S P : Played K) (ss : List world.Stranger)
   if_plays o (Err f) view stands h = tt
 
 -- what was told, with the stage that is left
-pub with_told : {K : Type 0} (g : Ghosts K) (o : Option world.Event) (s mid : Staged K) (r : Result (Option Telling) RunFault) (x : Result (Staged K × Option Telling) RunFault)
-    → IfOk x (λ (y : Staged K × Option Telling). (y.0 ≡ mid) × (r ≡ Ok y.1)) → IfOk r (λ (t : Option Telling). PlaysIf g o s t mid)
-    → IfOk x (λ (y : Staged K × Option Telling). PlaysIf g o s y.1 y.0)
-with_told {K} g o s mid r (Ok y) is h =
-    subst (λ (m : Staged K). PlaysIf g o s y.1 m) (sym is.0)
-    (subst (λ (q : Result (Option Telling) RunFault). IfOk q (λ (t : Option Telling). PlaysIf g o s t mid)) is.1 h)
-with_told g o s mid r (Err f) is h = tt
+with_told : {K : Type 0} (P : Option Telling → Staged K → Type 0) (mid : Staged K) (r : Result (Option Telling) RunFault) (x : Result (Staged K × Option Telling) RunFault)
+    → IfOk x (λ (y : Staged K × Option Telling). (y.0 ≡ mid) × (r ≡ Ok y.1)) → IfOk r (λ (t : Option Telling). P t mid)
+    → IfOk x (λ (y : Staged K × Option Telling). P y.1 y.0)
+with_told {K} P mid r (Ok y) is h =
+    subst (λ (m : Staged K). P y.1 m) (sym is.0) (subst (λ (q : Result (Option Telling) RunFault). IfOk q (λ (t : Option Telling). P t mid)) is.1 h)
+with_told P mid r (Err f) is h = tt
 
 -- and of an event that is one of the world's
 module _ {K : Type 0} (g : Ghosts K) (e : Event) (x : world.Event) (s : Staged K) where
   pub plays_of : (r : Result (Staged K × Option Telling) RunFault) → event_of e ≡ Some x
-      → IfOk r (λ (y : Staged K × Option Telling). Plays g x s y.1 y.0) → IfOk r (λ (y : Staged K × Option Telling). PlaysIf g (event_of e) s y.1 y.0)
-  plays_of r is h = subst (λ (o : Option world.Event). IfOk r (λ (y : Staged K × Option Telling). PlaysIf g o s y.1 y.0)) (sym is) h
+      → IfOk r (λ (y : Staged K × Option Telling). Plays g x s y.1 y.0) → IfOk r (λ (y : Staged K × Option Telling). Performs g e s y.1 y.0)
+  plays_of (Ok y) is h = performs_event x is h
+  plays_of (Err f) is h = tt
 
   pub told_of : (mid : Staged K) (r : Result (Option Telling) RunFault) (y : Result (Staged K × Option Telling) RunFault) → event_of e ≡ Some x
       → IfOk y (λ (z : Staged K × Option Telling). (z.0 ≡ mid) × (r ≡ Ok z.1)) → IfOk r (λ (t : Option Telling). Plays g x s t mid)
-      → IfOk y (λ (z : Staged K × Option Telling). PlaysIf g (event_of e) s z.1 z.0)
-  told_of mid r y is told h = plays_of y is (with_told g (Some x) s mid r y told h)
+      → IfOk y (λ (z : Staged K × Option Telling). Performs g e s z.1 z.0)
+  told_of mid r y is told h = plays_of y is (with_told (λ (t : Option Telling) (z : Staged K). Plays g x s t z) mid r y told h)
 
--- a drain is none
-pub drained : {K : Type 0} (g : Ghosts K) (e : Event) (s : Staged K) → event_of e ≡ None → PlaysIf g (event_of e) s None s
-drained g e s is = subst (λ (o : Option world.Event). PlaysIf g o s None s) (sym is) (refl, refl)
+-- of one in which ends and the broker alone take part
+of_ends_if : {K : Type 0} (g : Ghosts K) (e : Event) (s n : Staged K) (t : Option Telling) → IsOfEnds e → PlaysIf g (event_of e) s t n → Performs g e s t n
+of_ends_if g (Publisher c) s n t is p = performs_event (world.publisher c) refl p
+of_ends_if g (Receiver c window) s n t is p = performs_event (world.receiver c window) refl p
+of_ends_if g (Connect c b) s n t is p = performs_event (world.connect_end c b) refl p
+of_ends_if g (GiveUp c) s n t is p = performs_event (world.give_up c) refl p
+of_ends_if g (Publish c d) s n t is p = performs_event (world.publish c (draft_of d)) refl p
+of_ends_if g (Subscribe c x) s n t is p = performs_event (world.subscribe c (wish_of x)) refl p
+of_ends_if g (ToBroker c b) s n t is p = performs_event (world.ask (scripted.reading b c)) refl p
+of_ends_if g (ToEnd c) s n t is p = performs_event (world.to_end c) refl p
+of_ends_if g (Break c) s n t is p = performs_event (world.ask (world.break c)) refl p
+of_ends_if g (Pump c) s n t is p = performs_event (world.ask (world.pump c)) refl p
+of_ends_if g (Clock wait) s n t is p = absurd is
+of_ends_if g Tick s n t is p = performs_event (world.ask world.tick) refl p
+of_ends_if g Restart s n t is p = absurd is
+of_ends_if g (StopBefore a) s n t is p = absurd is
+of_ends_if g (StopAfter a) s n t is p = absurd is
+of_ends_if g (Stranger name bytes) s n t is p = absurd is
+of_ends_if g (Drain c) s n t is p = absurd is
+
+pub told_of_ends : {K : Type 0} (g : Ghosts K) (e : Event) (s mid : Staged K) (r : Result (Option Telling) RunFault) (y : Result (Staged K × Option Telling) RunFault) → IsOfEnds e
+    → IfOk y (λ (z : Staged K × Option Telling). (z.0 ≡ mid) × (r ≡ Ok z.1)) → IfOk r (λ (t : Option Telling). PlaysIf g (event_of e) s t mid)
+    → IfOk y (λ (z : Staged K × Option Telling). Performs g e s z.1 z.0)
+told_of_ends {K} g e s mid (Ok t) y is told h =
+    let r : Result (Option Telling) RunFault = Ok t in
+    with_told (λ (u : Option Telling) (z : Staged K). Performs g e s u z) mid r y told (of_ends_if g e s mid t is h)
+told_of_ends {K} g e s mid (Err f) y is told h =
+    let r : Result (Option Telling) RunFault = Err f in
+    with_told (λ (u : Option Telling) (z : Staged K). Performs g e s u z) mid r y told tt
+
+-- and of a drain
+drain_if : {K : Type 0} (g : Ghosts K) (e : Event) (client : List ℕ) (s mid : Staged K) (r : Result (Option Telling) RunFault) → e ≡ Drain client
+    → IfOk r (λ (t : Option Telling). TellsDrain g client s t mid) → IfOk r (λ (t : Option Telling). Performs g e s t mid)
+drain_if g e client s mid (Ok t) is h = performs_drain client is h
+drain_if g e client s mid (Err f) is h = tt
+
+pub told_of_drain : {K : Type 0} (g : Ghosts K) (e : Event) (client : List ℕ) (s mid : Staged K) (r : Result (Option Telling) RunFault)
+    (y : Result (Staged K × Option Telling) RunFault) → e ≡ Drain client
+    → IfOk y (λ (z : Staged K × Option Telling). (z.0 ≡ mid) × (r ≡ Ok z.1)) → IfOk r (λ (t : Option Telling). TellsDrain g client s t mid)
+    → IfOk y (λ (z : Staged K × Option Telling). Performs g e s z.1 z.0)
+told_of_drain {K} g e client s mid r y is told h = with_told (λ (t : Option Telling) (z : Staged K). Performs g e s t z) mid r y told (drain_if g e client s mid r is h)
 
 -- a stop at what is asked of the broker, as it is called
 pub stops_of : {K : Type 0} (g : Ghosts K) (after : Bool) (a : Asking) (x : world.Asking) (s : Staged K) (r : Result (Staged K × Option Telling) RunFault)

@@ -199,7 +199,7 @@ module _ {K : Type 0} (g : Ghosts K) where
       off_plays a old new mid.played t stands off (subst (λ (x : Staged K). Restages g x t new) same r)
 
   bad_plays : (e : Event) (old : Staged K) (M : Played K) → IsStanding g old → M ≡ old.played
-      → IsBadEvent (Some e) (world_at old) → Plays g e old None (record old { played = M })
+      → IsBadEvent e (world_at old) → Plays g e old None (record old { played = M })
   bad_plays e old M stands same is =
       subst (λ (x : Played K). Plays g e old None (record old { played = x })) (sym same) (record {
         standing = record { playable = stands.playable; limits = stands.limits; within = stands.within };

@@ -69,7 +69,7 @@ unreadable is a w fails tells = subst (λ (t : Bool). IsReadable t a w) fails te
 -- ---- what is taken off
 
 module _ {K : Type 0} (a : Asking) (E : Serving K) (O : Ends) (s : Played K) where
-  pub bad_off : played E O ≡ s → ((now : ℕ) (ss : List Stranger) → IsBadEvent (Some (stop_before a)) (world_of now ss (played E O)))
+  pub bad_off : played E O ≡ s → ((now : ℕ) (ss : List Stranger) → IsBadEvent (stop_before a) (world_of now ss (played E O)))
       → TakesOff a false s s
   bad_off view is = subst (λ (x : Played K). TakesOff a false x x) view (is, refl)
 

@@ -60,7 +60,7 @@ world_of now strangers s = record {
 
 -- the event happens, and this is what it tells; or it can't happen there, and nothing changed
 abbrev pub IsDone : Limits → Event → Option Telling → World → World → Type 0
-IsDone limits e None w after = IsBadEvent (Some e) w × (after ≡ w)
+IsDone limits e None w after = IsBadEvent e w × (after ≡ w)
 IsDone limits e (Some t) w after = Happens limits e t w after
 
 -- ---- what an event leaves that leaves strangers alone, at a moment, whatever strangers there are

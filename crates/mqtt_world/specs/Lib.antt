@@ -1,4 +1,5 @@
 -- The world that runs.
+pub mod Draining
 pub mod Events
 pub mod Openings
 pub mod Scenes

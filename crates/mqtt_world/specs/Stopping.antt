@@ -1,5 +1,5 @@
 -- What a stop before its commit leaves of what ends ask of the broker (MQTT 5.0, 4.1).
-use Rattle.std.specs.Prelude.{◌≡◌, ℕ, Bool, true, false, List, Some}
+use Rattle.std.specs.Prelude.{◌≡◌, ℕ, Bool, true, false, List}
 use Rattle.mqtt_laws.specs.World.{Asking, Event, Setting, Stranger, before, is_bad_asking, stop_after, stop_before}
 use Rattle.mqtt_script_laws.specs.Scripted.{IsBadEvent, IsRefused, front_of}
 use Rattle.mqtt_world.specs.Events.{world_of}
@@ -21,5 +21,5 @@ pub record IsTakenOff {K : Type 0} (a : Asking) (old new : Played K) : Type 0 wh
 -- or it can't be asked, and nothing changes
 abbrev pub TakesOff : {K : Type 0} → Asking → Bool → Played K → Played K → Type 0
 TakesOff a false old new =
-    ((now : ℕ) (strangers : List Stranger) → IsBadEvent (Some (stop_before a)) (world_of now strangers old)) × (new ≡ old)
+    ((now : ℕ) (strangers : List Stranger) → IsBadEvent (stop_before a) (world_of now strangers old)) × (new ≡ old)
 TakesOff a true old new = IsTakenOff a old new

@@ -1,7 +1,7 @@
 -- Worlds that run: what a script's events come to there, one after the other, and what holds of all of them (MQTT 5.0, 4.1 to
 -- 4.4).
-use Rattle.std.specs.Prelude.{◌≡◌, ⊤, ℕ, Bool, false, List, [], ◌∷◌, ◌++◌, length, count_by, cond, bytes_eq, Option, None, Some}
-use Rattle.std.specs.Prelude.{Result, Ok, Err, option_map}
+use Rattle.std.specs.Prelude.{◌≡◌, ◌≤◌, ◌+◌, ⊤, ℕ, Bool, false, List, [], ◌∷◌, ◌++◌, length, count_by, cond, bytes_eq, Option, None}
+use Rattle.std.specs.Prelude.{Some, Result, Ok, Err, option_map}
 use Rattle.mqtt_records.specs.declared.keep.Keep.{Ghosts}
 use Rattle.mqtt_records.specs.declared.records.Records.{Records}
 use Rattle.mqtt_lawful.specs.Lawful.{IsLawful}
@@ -16,9 +16,12 @@ use Rattle.mqtt_script.specs.declared.event.Event.TheVariants.{Publisher, Receiv
 use Rattle.mqtt_script.specs.declared.event.Event.TheVariants.{ToBroker, ToEnd, Break, Pump, Clock, Tick, Restart, StopBefore}
 use Rattle.mqtt_script.specs.declared.event.Event.TheVariants.{StopAfter, Stranger, Drain}
 use Rattle.mqtt_script_laws.specs.Cleanly.{BeginClean, ScriptDelivers}
-use Rattle.mqtt_script_laws.specs.Scripted.{IsBadHere, RunsTo}
+use Rattle.mqtt_script_laws.specs.Drains.{DrainHappens}
+use Rattle.mqtt_script_laws.specs.Scripted.{IsBadHere, RunsTo, event_of}
+use Rattle.mqtt_handed_laws.specs.Drains.{copies_left, enough_rounds, round_turns}
 use Rattle.mqtt_spelled_laws.specs.Sending.{HaveSentPhases}
 use Rattle.mqtt_every_run_laws.specs.Untouched.{IsUntouched}
+use Rattle.mqtt_world_laws.specs.Copies.{entered_from}
 use Rattle.mqtt_world_laws.specs.Fair.{opened_world}
 use Rattle.mqtt_world_laws.specs.Identities.{TellsApart}
 use Rattle.mqtt_broker.specs.TheRules.Laws.{AreWithin}
@@ -27,6 +30,7 @@ use Rattle.mqtt_broker.specs.TheRules.Step.{is_opening_spent}
 use Rattle.mqtt_broker.specs.TheRules.declared.Limits.{Limits}
 use Rattle.mqtt_world.specs.declared.over.Over.{Over}
 use Rattle.mqtt_world.specs.declared.over.Over.TheVariants as over
+use Rattle.mqtt_world.specs.Draining.{TellsDrain}
 use Rattle.mqtt_world.specs.Events.{Does, IsReached}
 use Rattle.mqtt_world.specs.Openings.{AlwaysSound}
 use Rattle.mqtt_world.specs.Scenes.{Played}
@@ -62,6 +66,11 @@ DoesIf g now (Some e) old t new = Does g now e old t new
 abbrev pub PlaysIf : {K : Type 0} → Ghosts K → Option world.Event → Staged K → Option Telling → Staged K → Type 0
 PlaysIf g None old t new = (t ≡ None) × (new ≡ old)
 PlaysIf g (Some e) old t new = Plays g e old t new
+
+-- an event of a script: it happens as the world's that it means, or can't; or it is a drain, that happens, or can't
+pub data Performs {K : Type 0} (g : Ghosts K) (e : Event) (old : Staged K) (t : Option Telling) (new : Staged K) : Type 0 where
+  performs_event : (x : world.Event) → event_of e ≡ Some x → Plays g x old t new → Performs g e old t new
+  performs_drain : (client : List ℕ) → e ≡ Drain client → TellsDrain g client old t new → Performs g e old t new
 
 -- ---- events, one after the other
 
@@ -100,6 +109,13 @@ pub record Happen {K : Type 0} (g : Ghosts K) (es : List Event) (ts : List Telli
   pub is : new.stage ≡ Ok to
   pub runs : Runs g es from ts to
   pub kept : new.events ≡ old.events ++ es
+
+-- a receiver was drained, in so many rounds, and the world keeps that
+pub record HappenDrained {K : Type 0} (g : Ghosts K) (client : List ℕ) (rounds : ℕ) (old new : Lasting K) : Type 0 where
+  pub t : Telling
+  pub happened : Happen g (Drain client ∷ []) (t ∷ []) old new
+  pub drained : (from to : Staged K) → old.stage ≡ Ok from → new.stage ≡ Ok to
+      → IfSound g from ((h : DrainHappens from.limits client t (world_at from) (world_at to)) × (h.rounds ≡ rounds))
 
 -- an event can't happen there, and nothing changed
 pub record CantHappen {K : Type 0} (g : Ghosts K) (e : Event) (old new : Lasting K) : Type 0 where
@@ -141,6 +157,13 @@ HasCome {K} start w = (s : Staged K) → w.stage ≡ Ok s → Came start w.event
 abbrev pub HasDelivered : {K : Type 0} → World → Lasting K → Type 0
 HasDelivered {K} start w = (s : Staged K) → w.stage ≡ Ok s → IsUntouched s.limits start → TellsApart start.broker.records
     → BeginClean s.limits w.events start → ScriptDelivers s.limits w.events start (world_at s)
+
+-- a drain from there takes no more rounds than twice the copies that stand in the queue or enter in its first round, and one, if
+-- nobody was there at first and the ends so far began clean (3.1.2.4, 4.3, 4.4, 4.6, 4.9)
+abbrev pub DrainEnds : {K : Type 0} → World → List ℕ → ℕ → Lasting K → Type 0
+DrainEnds {K} start client rounds w = (s : Staged K) → w.stage ≡ Ok s → IsUntouched s.limits start → BeginClean s.limits w.events start
+    → (choice : MemberChoice) → rounds
+    ≤ enough_rounds (copies_left client (world_at s) + length (entered_from s.limits (round_turns s.limits choice client (world_at s)) (world_at s)))
 
 -- it begins at moment 0 with an opening of lawful records that the store's load answered, without ends or strangers
 pub record Starts {K : Type 0} (g : Ghosts K) (limits : Limits) (keep : K) (w : Lasting K) : Type 0 where

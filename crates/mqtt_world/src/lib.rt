@@ -3,6 +3,8 @@
 #![tactic(auto)]
 
 mod asks;
+mod draining;
+mod drains;
 mod joining;
 mod lines;
 mod looks;

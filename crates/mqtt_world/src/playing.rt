@@ -5,7 +5,7 @@ ghost use Rattle.mqtt_script_laws.specs.Scripted.{asking_of, event_of};
 ghost use Rattle.mqtt_world.specs.Scenes.{IsPlayable};
 ghost use Rattle.mqtt_world.specs.Stages.{IsStanding, Plays};
 ghost use Rattle.mqtt_world.specs.Stopping.{stop_at};
-ghost use Rattle.mqtt_world.specs.Worlds.{DoesIf, IsOfEnds, PlaysIf};
+ghost use Rattle.mqtt_world.specs.Worlds.{DoesIf, IsOfEnds, Performs, PlaysIf};
 
 use crate::scene::Scene;
 use crate::stage::Stage;
@@ -83,10 +83,10 @@ impl<K: Keep> Stage<K> {
         }
     }
 
-    /// An event of a script happens, or can't: a drain is none that can.
+    /// An event of a script happens, or can't.
     pub(crate) fn happen(mut self, event: &Event) -> Result<(Stage<K>, Option<Told>), RunFault>
         requires { IsStanding K.Keep self }
-        ensures { IfOk result (λ x. PlaysIf K.Keep (event_of event.now) self x.1 x.0) }
+        ensures { IfOk result (λ x. Performs K.Keep event.now self x.1 x.0) }
     {
         match event {
             Event::Restart => self.restart(),
@@ -100,7 +100,10 @@ impl<K: Keep> Stage<K> {
                 let told = self.visit(name, bytes.as_slice());
                 self.with_told(told)
             }
-            Event::Drain { .. } => Ok((self, None)),
+            Event::Drain { client } => {
+                let told = self.drain_told(client.as_str());
+                self.with_told(told)
+            }
             _ => {
                 let told = self.play(event);
                 self.with_told(told)

@@ -37,7 +37,7 @@ fn is_end_among(clients: &Clients, names: &[Text]) -> bool
 }
 
 /// What one tells, behind what was told before.
-fn join(told: &mut Told, more: Told) -> Result<(), RunFault>
+pub(crate) fn join(told: &mut Told, more: Told) -> Result<(), RunFault>
     ensures { OnOk result (told.new ≡ both_tell told.old more) }
 {
     let Told { mut reports, out } = more;

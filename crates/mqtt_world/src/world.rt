@@ -6,10 +6,9 @@ ghost use Rattle.mqtt_broker.specs.TheRules.Laws.{AreWithin};
 ghost use Rattle.mqtt_laws.specs.Tellings.{Telling};
 ghost use Rattle.mqtt_laws.specs.World.{World as Start};
 ghost use Rattle.mqtt_peers.specs.declared.told.RunFault.TheVariants as fault;
-ghost use Rattle.mqtt_script_laws.specs.Scripted.{event_of};
 ghost use Rattle.mqtt_world.specs.Openings.{AlwaysSound};
 ghost use Rattle.mqtt_world.specs.Stages.{IsStanding, Staged};
-ghost use Rattle.mqtt_world.specs.Worlds.{Happen, HasCome, HasDelivered, PlaysIf, Refuses, Starts, Stops, fault_of, over_by, with_stage};
+ghost use Rattle.mqtt_world.specs.Worlds.{Happen, HasCome, HasDelivered, Performs, Refuses, Starts, Stops, fault_of, over_by, with_stage};
 ghost use Rattle.mqtt_world.specs.declared.over.Over.{Over as Why};
 ghost use Rattle.mqtt_world.specs.declared.over.Over.TheVariants as over;
 
@@ -76,7 +75,7 @@ impl<K: Keep> World<K> {
     }
 
     /// The world is over from now on, and answers this. Takes no memory.
-    fn end(&mut self, over: Over) -> RunFault
+    pub(crate) fn end(&mut self, over: Over) -> RunFault
         ensures fault { result ≡ fault_of over }
         ensures over { self.new ≡ over_by over self.old }
     {
@@ -94,7 +93,12 @@ impl<K: Keep> World<K> {
     }
 
     /// An event happened, and is kept. Where there was room, there is now.
-    fn keep(&mut self, stage: Stage<K>, event: Event, told: Told) -> Result<Told, RunFault>
+    pub(crate) fn keep(
+        &mut self,
+        stage: Stage<K>,
+        event: Event,
+        told: Told,
+    ) -> Result<Told, RunFault>
         requires standing { IsStanding K.Keep stage }
         ensures told { IfOk result (λ t. t ≡ told) }
         ensures kept { IfOk result (λ t. self.new
@@ -115,16 +119,16 @@ impl<K: Keep> World<K> {
         }
     }
 
-    /// An event can't happen, and what stands goes on.
-    fn refuse(&mut self, stage: Stage<K>) -> Result<Told, RunFault>
+    /// An event can't happen, and what stands goes on. Takes no memory.
+    pub(crate) fn refuse(&mut self, stage: Stage<K>) -> RunFault
         requires standing { IsStanding K.Keep stage }
-        ensures fault { result ≡ Err (fault.BadEvent (length self.old.events)) }
+        ensures fault { result ≡ fault.BadEvent (length self.old.events) }
         ensures goes_on { self.new ≡ with_stage stage self.old }
     {
         self.stage = Ok(stage);
-        Err(RunFault::BadEvent {
+        RunFault::BadEvent {
             place: self.events.len(),
-        })
+        }
     }
 
     /// What came of an event leaves this stage.
@@ -135,16 +139,16 @@ impl<K: Keep> World<K> {
         told: Option<Told>,
     ) -> Result<Told, RunFault>
         requires standing { IsStanding K.Keep stage }
-        ensures happened { (s : Staged K) → PlaysIf K.Keep (event_of event) s told stage
+        ensures happened { (s : Staged K) → Performs K.Keep event s told stage
             → IfOk result (λ t. Happen K.Keep (event ∷ []) (t ∷ []) (with_stage s self.old) self.new) }
-        ensures refused { (s : Staged K) → PlaysIf K.Keep (event_of event) s told stage
+        ensures refused { (s : Staged K) → Performs K.Keep event s told stage
             → IfErr result (λ f. Refuses K.Keep event f (with_stage s self.old) self.new) }
     {
         match told {
             Some(told) => self.keep(stage, event, told),
             None => {
                 drop(event);
-                self.refuse(stage)
+                Err(self.refuse(stage))
             }
         }
     }

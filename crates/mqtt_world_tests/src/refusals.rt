@@ -32,7 +32,12 @@ fn scripts() -> &'static [(&'static str, usize)] {
         ("tobroker p1 old", 0),
         ("toend p1", 0),
         ("pump p1", 0),
+        ("drain r1", 0),
         ("receiver r1 1;drain r1", 1),
+        ("publisher p1;connect p1 0;drain p1", 2),
+        ("receiver r1 1;connect r1 0;giveup r1;drain r1", 3),
+        // (the broker has closed its line)
+        ("receiver r1 1;connect r1 0;clock 86400000;tick;drain r1", 4),
         ("stopafter tobroker p1", 0),
         ("publisher p1;stopafter break p1", 1),
         ("stopbefore pump p1", 0),

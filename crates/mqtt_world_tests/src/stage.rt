@@ -46,6 +46,26 @@ pub(crate) fn run(alloc: Global, world: &mut World<MemKeep>, script: &str) -> Re
     }
 }
 
+/// How many rounds the drain of a line takes.
+pub(crate) fn drain(
+    alloc: Global,
+    world: &mut World<MemKeep>,
+    line: &str,
+) -> Result<u32, RunFault> {
+    match event_of(alloc, line.as_bytes()) {
+        Ok(Event::Drain { client }) => {
+            let rounds = world.drain(&client);
+            drop(client);
+            rounds
+        }
+        Ok(other) => {
+            drop(other);
+            Err(RunFault::Store)
+        }
+        Err(_) => Err(RunFault::Memory),
+    }
+}
+
 /// What events told, a line for each.
 fn push_tells(text: &mut String, events: &[Event], tells: &[Told]) -> Result<(), AllocError> {
     let mut number: u64 = 0;

@@ -1,8 +1,5 @@
--- Where the step is taken back, what was quiet is quiet; where it is stored, its rows brought nothing before that moment.
-use Rattle.std.proofs.Common.{◌≡◌, List, rules, ap, sym, subst, ◌∙◌}
-use Rattle.mqtt_records.specs.declared.change.Change.{Change}
-use Rattle.mqtt_records.specs.declared.records.Records.{Records}
-use Rattle.mqtt_records.specs.Records.{changed_all}
+-- Where the step is taken back, what was quiet is quiet; where it is stored, so is what stands then before the new moment.
+use Rattle.std.proofs.Common.{◌≡◌, rules, sym, subst}
 use Rattle.mqtt_lines.specs.Quiet.{AreQuietBefore}
 use Rattle.mqtt_lines.specs.TheTables.Stepping.{Stepping, at_rest}
 use Rattle.mqtt_engine.proofs.finishing.tell.Goals as goal
@@ -20,6 +17,4 @@ pub returns-else-is_err-2-clause-quiet : goal.returns-else-is_err-2-clause-quiet
 returns-else-is_err-2-clause-quiet g c = λ before.
     let s = c.args.step.now in
     let is : c.commit-told.new.step ≡ at_rest s.limits s.broker = search rules in
-    let made = ap (λ (rows : List Change). changed_all rows s.start.records) c.rows.ensures.rows ∙ c.rows.ensures.made in
-    let after = subst (λ (r : Records). AreQuietBefore c.quiet_after-after.result r) made (c.quiet_after-after.ensures s.start.records before) in
-    subst (λ (t : Stepping). AreQuietBefore c.quiet_after-after.result t.broker.records) (sym is) after
+    subst (λ (t : Stepping). AreQuietBefore c.quiet_after-after.result t.broker.records) (sym is) (c.quiet_after-after.ensures before)

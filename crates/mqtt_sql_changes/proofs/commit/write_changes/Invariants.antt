@@ -1,8 +1,9 @@
-use Rattle.std.proofs.Common.{◌≡◌}
+use Rattle.std.proofs.Common.{◌≡◌, length}
 use Rattle.sqlite.specs.State.{HasCleanDisk}
 use Rattle.sqlite.specs.Held.{state}
 use Rattle.mqtt_sql_write.specs.Content.{IsWhole}
 use Rattle.mqtt_sql_changes.specs.Making.{NeedAll, StaysInside}
+use Rattle.mqtt_sql_changes.specs.Shortened.{KnowsEnd, shortened}
 use Rattle.mqtt_sql_changes.proofs.Inside.{Leads}
 use Rattle.mqtt_sql_changes.proofs.commit.write_changes.Given as goal
 
@@ -14,5 +15,9 @@ invariant-loop-change g l =
       same : l.tx.conn.ghost_name ≡ l.fn.tx.conn.ghost_name;
       inside : StaysInside old now;
       whole : HasCleanDisk now → IsWhole old → IsWhole now;
-      left : HasCleanDisk now → IsWhole old → NeedAll l.changes old.now.trees → Leads l.changes l.change-index old.now.trees now.now.trees;
+      left : HasCleanDisk now → IsWhole old → NeedAll (shortened l.changes) old.now.trees → Leads l.changes l.rest old.now.trees now.now.trees;
+      knows : KnowsEnd l.known l.rest;
     }
+
+abbrev pub decreases-loop-change : goal.decreases-loop-change
+decreases-loop-change g l = length l.rest

@@ -6,6 +6,7 @@ use Rattle.sqlite.proofs.StateLemmas.{survives_then}
 use Rattle.mqtt_records.specs.Records.{changed_all}
 use Rattle.mqtt_sql_kept.specs.Written.{KeepsRows}
 use Rattle.mqtt_sql_changes.specs.Making.{MayCommit}
+use Rattle.mqtt_sql_changes.specs.Shortened.{shortened}
 use Rattle.mqtt_store.proofs.Held.{has_now, step_leaves}
 use Rattle.mqtt_store.proofs.Applies.{settled_of, ready_of, ready_still, IsEither, keeps_old, needs_old, keeps_made, only_steps}
 use Rattle.mqtt_store.proofs.apply.apply_all.Goals as goal
@@ -72,7 +73,7 @@ returns-in-Ok-probe-clause-crash g c =
     let new = state g.S.Store c.probe.new.conn in
     let reads = c.probe.ensures.reads in
     let second = λ (clean : HasCleanDisk new). let less = reads.survives.clean in let k : HasCleanDisk mid = omega (arith, less, clean) in k in
-    let it = survives_then old mid new (MayCommit old changes) (λ _. ⊥) (MayCommit old changes) (λ _ db h. h) (λ _ db none. absurd none) e.crash reads.survives in
+    let it = survives_then old mid new (MayCommit old (shortened changes)) (λ _. ⊥) (MayCommit old (shortened changes)) (λ _ db h. h) (λ _ db none. absurd none) e.crash reads.survives in
     let either = λ (clean : HasCleanDisk new) (up : IsTrue new.is_open).
     let stays = reads.stays clean in
     let before = second clean in
@@ -93,7 +94,7 @@ returns-in-Err-probe-clause-crash g c =
     let new = state g.S.Store c.probe.new.conn in
     let reads = c.probe.ensures.reads in
     let second = λ (clean : HasCleanDisk new). let less = reads.survives.clean in let k : HasCleanDisk mid = omega (arith, less, clean) in k in
-    let it = survives_then old mid new (MayCommit old changes) (λ _. ⊥) (MayCommit old changes) (λ _ db h. h) (λ _ db none. absurd none) e.crash reads.survives in
+    let it = survives_then old mid new (MayCommit old (shortened changes)) (λ _. ⊥) (MayCommit old (shortened changes)) (λ _ db h. h) (λ _ db none. absurd none) e.crash reads.survives in
     let either = λ (clean : HasCleanDisk new) (up : IsTrue new.is_open).
     let stays = reads.stays clean in
     let before = second clean in

@@ -5,7 +5,7 @@ use Rattle.mqtt_ticking.specs.Quiet.{BringsNothing}
 use Rattle.mqtt_ticking.proofs.quiet.quiet_after.Given as goal
 
 abbrev pub invariant-loop-change : goal.invariant-loop-change
-invariant-loop-change l = (now : ℕ) → now < l.least → (now < l.quiet) × (AllByRecursion (BringsNothing now) l.rest → AllByRecursion (BringsNothing now) l.changes)
+invariant-loop-change l = (now : ℕ) → now < l.least → (now < l.quiet) × (AllByRecursion (BringsNothing now l.step.broker.records) l.rest → AllByRecursion (BringsNothing now l.step.broker.records) l.step.rows)
 
 abbrev pub decreases-loop-change : goal.decreases-loop-change
 decreases-loop-change l = length l.rest

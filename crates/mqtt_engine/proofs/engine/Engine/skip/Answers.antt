@@ -16,6 +16,7 @@ returns g c = λ call on.
       stored = search rules;
       limits = search rules;
       same = search rules;
+      lines = search rules;
       memory = search rules;
       spent = search rules;
       stopped = search rules;

@@ -1,9 +1,10 @@
 -- By what the call does that the event comes to.
-use Rattle.std.proofs.Common.{ap, sym, Some, ◌∙◌}
+use Rattle.std.proofs.Common.{ap, sym, List, ℕ, Some, ◌∙◌}
 use Rattle.std.specs.Prelude.{Ok}
 use Rattle.mqtt_laws.specs.World.{ask, clock, restart, stop_after, stop_before, stranger}
+use Rattle.mqtt_script.specs.declared.event.Event.TheVariants.{Drain}
 use Rattle.mqtt_script_laws.specs.Scripted.{asking_of, event_of}
-use Rattle.mqtt_world.proofs.Pieces.{drained, events_of_ends, plays_of, told_of, with_told}
+use Rattle.mqtt_world.proofs.Pieces.{events_of_ends, plays_of, told_of, told_of_drain, told_of_ends}
 use Rattle.mqtt_world.proofs.stage.Stage.happen.Goals as goal
 
 pub returns-in-Restart : goal.returns-in-Restart
@@ -33,11 +34,13 @@ returns-in-Stranger g c =
     c.with_told.ensures c.visit-told.ensures
 
 pub returns-in-Drain : goal.returns-in-Drain
-returns-in-Drain g c = drained g.K.Keep c.args.event.now c.args.self (ap event_of c.in-Drain.is)
+returns-in-Drain g c =
+    told_of_drain g.K.Keep c.args.event.now c.as_str.result.now c.args.self c.drain_told-told.new.self c.drain_told-told.result c.with_told-in-Drain.result
+    (c.in-Drain.is ∙ ap (λ (name : List ℕ). Drain name) (sym c.as_str.ensures.value)) c.with_told-in-Drain.ensures c.drain_told-told.ensures
 
 pub returns-in_default : goal.returns-in_default
 returns-in_default g c =
     let d = c.in_default in
-    with_told g.K.Keep (event_of c.args.event.now) c.args.self c.play-told.new.self c.play-told.result c.with_told-in_default.result
-    c.with_told-in_default.ensures
-    (c.play-told.ensures (events_of_ends c.args.event.now d.not-Restart d.not-StopBefore d.not-StopAfter d.not-Clock d.not-Stranger d.not-Drain))
+    let is = events_of_ends c.args.event.now d.not-Restart d.not-StopBefore d.not-StopAfter d.not-Clock d.not-Stranger d.not-Drain in
+    told_of_ends g.K.Keep c.args.event.now c.args.self c.play-told.new.self c.play-told.result c.with_told-in_default.result is
+    c.with_told-in_default.ensures (c.play-told.ensures is)
