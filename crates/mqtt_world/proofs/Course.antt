@@ -1,6 +1,6 @@
 -- What events come to in a world that runs, one after the other, and that all it keeps is a run of the definitions' world.
 use Rattle.std.proofs.Common.{◌≡◌, List, [], ◌∷◌, ◌++◌, IfErr, IfOk, OnOk, Option, None, Some, append-nil, append_assoc, refl, sym, ap, subst, ◌∙◌}
-use Rattle.std.specs.Prelude.{ℕ, ◌≤◌, ◌+◌, length, Result, Ok, Err}
+use Rattle.std.specs.Prelude.{ℕ, length, Result, Ok, Err}
 use Rattle.mqtt_records.specs.declared.keep.Keep.{Ghosts}
 use Rattle.mqtt_laws.specs.Tellings.{Telling}
 use Rattle.mqtt_laws.specs.World.{World}
@@ -10,9 +10,8 @@ use Rattle.mqtt_script.specs.declared.event.Event.{Event}
 use Rattle.mqtt_script.specs.declared.event.Event.TheVariants.{Drain}
 use Rattle.mqtt_script_laws.specs.Scripted.{IsBadHere, RunsTo, as_drain, as_event, bad_drain, bad_event}
 use Rattle.mqtt_script_laws.specs.Drains.{DrainHappens}
-use Rattle.mqtt_handed_laws.specs.Drains.{copies_left, enough_rounds, round_turns}
-use Rattle.mqtt_world_laws.specs.Copies.{entered_from}
-use Rattle.mqtt_script_laws.proofs.Drained.{is_within}
+use Rattle.mqtt_emptied_laws.specs.Done.{IsEmptied}
+use Rattle.mqtt_emptied_laws.proofs.Done.{script_empties}
 use Rattle.mqtt_script_laws.proofs.Carrying.{delivers_once}
 use Rattle.mqtt_script_laws.proofs.Scripts.{runs_join}
 use Rattle.mqtt_broker.specs.TheRules.Laws.{AreWithin}
@@ -21,7 +20,7 @@ use Rattle.mqtt_world.specs.Draining.{PlaysDrain}
 use Rattle.mqtt_world.specs.Events.{IsReached}
 use Rattle.mqtt_world.specs.Openings.{AlwaysSound}
 use Rattle.mqtt_world.specs.Stages.{IsStanding, Staged, broker_of, world_at}
-use Rattle.mqtt_world.specs.Worlds.{Came, CantHappen, DrainEnds, Happen, HappenDrained, HasCome, HasDelivered, IfSound, Lasting, Performs, Refuses, Runs, Stops, fault_of, over_by, performs_drain, performs_event, with_stage}
+use Rattle.mqtt_world.specs.Worlds.{Came, CantHappen, DrainEmpties, Happen, HappenDrained, HasCome, HasDelivered, IfSound, Lasting, Performs, Refuses, Runs, Stops, fault_of, over_by, performs_drain, performs_event, with_stage}
 use Rattle.mqtt_world.specs.declared.over.Over.{Over}
 use Rattle.mqtt_world.specs.declared.over.Over.TheVariants as over
 use Rattle.mqtt_world.proofs.ReadAsSent.{spells_all}
@@ -305,17 +304,16 @@ module _ {K : Type 0} (g : Ghosts K) where
   drain_comes start client (Ok n) old new sound h r come = come_on g start (Drain client ∷ []) (h.t ∷ []) old new sound h.happened come
   drain_comes start client (Err f) old new sound h r come = come_refused g start (Drain client) f old new sound r come
 
-  -- and its rounds
-  pub drain_ends : (start : World) (client : List ℕ) (r : Result ℕ RunFault) (old new : Lasting K) → AlwaysSound g
-      → IfOk r (λ (n : ℕ). HappenDrained g client n old new) → HasCome start old → IfOk r (λ (n : ℕ). DrainEnds start client n old)
-  drain_ends start client (Ok n) old new sound h come = λ s is untouched keeps choice.
-      let c = come s is in
-      let d = h.drained s h.happened.to is h.happened.is sound c.reached in
-      subst
-      (λ (k : ℕ). k ≤ enough_rounds (copies_left client (world_at s) + length (entered_from s.limits (round_turns s.limits choice client (world_at s)) (world_at s))))
-      d.1
-      (is_within s.limits old.events c.tells choice client start (world_at s) c.within untouched keeps c.runs d.0.rounds h.t (world_at h.happened.to) d.0.made)
-  drain_ends start client (Err f) old new sound h come = tt
+  -- and what it leaves of the queue
+  pub drain_empties : (start : World) (client : List ℕ) (r : Result ℕ RunFault) (old new : Lasting K) → AlwaysSound g
+      → IfOk r (λ (n : ℕ). HappenDrained g client n old new) → HasCome start old
+      → IfOk r (λ (n : ℕ). DrainEmpties start client n old new)
+  drain_empties start client (Ok n) old new sound h come = λ from to was is untouched clean.
+      let c = come from was in
+      let d = h.drained from to was is sound c.reached in
+      subst (λ (k : ℕ). IsEmptied from.limits client k (world_at from) (world_at to)) d.1
+      (script_empties from.limits old.events c.tells client start (world_at from) c.within untouched clean c.runs h.t (world_at to) d.0)
+  drain_empties start client (Err f) old new sound h come = tt
 
   -- ---- what a run comes to
 

@@ -1,6 +1,6 @@
 -- Worlds that run: what a script's events come to there, one after the other, and what holds of all of them (MQTT 5.0, 4.1 to
 -- 4.4).
-use Rattle.std.specs.Prelude.{◌≡◌, ◌≤◌, ◌+◌, ⊤, ℕ, Bool, false, List, [], ◌∷◌, ◌++◌, length, count_by, cond, bytes_eq, Option, None}
+use Rattle.std.specs.Prelude.{◌≡◌, ⊤, ℕ, Bool, false, List, [], ◌∷◌, ◌++◌, length, count_by, cond, bytes_eq, Option, None}
 use Rattle.std.specs.Prelude.{Some, Result, Ok, Err, option_map}
 use Rattle.mqtt_records.specs.declared.keep.Keep.{Ghosts}
 use Rattle.mqtt_records.specs.declared.records.Records.{Records}
@@ -18,10 +18,9 @@ use Rattle.mqtt_script.specs.declared.event.Event.TheVariants.{StopAfter, Strang
 use Rattle.mqtt_script_laws.specs.Cleanly.{BeginClean, ScriptDelivers}
 use Rattle.mqtt_script_laws.specs.Drains.{DrainHappens}
 use Rattle.mqtt_script_laws.specs.Scripted.{IsBadHere, RunsTo, event_of}
-use Rattle.mqtt_handed_laws.specs.Drains.{copies_left, enough_rounds, round_turns}
+use Rattle.mqtt_emptied_laws.specs.Done.{IsEmptied}
 use Rattle.mqtt_spelled_laws.specs.Sending.{HaveSentPhases}
 use Rattle.mqtt_every_run_laws.specs.Untouched.{IsUntouched}
-use Rattle.mqtt_world_laws.specs.Copies.{entered_from}
 use Rattle.mqtt_world_laws.specs.Fair.{opened_world}
 use Rattle.mqtt_world_laws.specs.Identities.{TellsApart}
 use Rattle.mqtt_broker.specs.TheRules.Laws.{AreWithin}
@@ -158,12 +157,13 @@ abbrev pub HasDelivered : {K : Type 0} → World → Lasting K → Type 0
 HasDelivered {K} start w = (s : Staged K) → w.stage ≡ Ok s → IsUntouched s.limits start → TellsApart start.broker.records
     → BeginClean s.limits w.events start → ScriptDelivers s.limits w.events start (world_at s)
 
--- a drain from there takes no more rounds than twice the copies that stand in the queue or enter in its first round, and one, if
--- nobody was there at first and the ends so far began clean (3.1.2.4, 4.3, 4.4, 4.6, 4.9)
-abbrev pub DrainEnds : {K : Type 0} → World → List ℕ → ℕ → Lasting K → Type 0
-DrainEnds {K} start client rounds w = (s : Staged K) → w.stage ≡ Ok s → IsUntouched s.limits start → BeginClean s.limits w.events start
-    → (choice : MemberChoice) → rounds
-    ≤ enough_rounds (copies_left client (world_at s) + length (entered_from s.limits (round_turns s.limits choice client (world_at s)) (world_at s)))
+-- a drain empties the queue, and the receiver's line stands still; it takes no more rounds than twice the copies that stand in
+-- the queue at its start or enter in its first round, and one; if nobody was there at first and the ends so far began clean
+-- (3.1.2.4, 4.3, 4.4, 4.6, 4.9)
+abbrev pub DrainEmpties : {K : Type 0} → World → List ℕ → ℕ → Lasting K → Lasting K → Type 0
+DrainEmpties {K} start client rounds old new = (from to : Staged K) → old.stage ≡ Ok from → new.stage ≡ Ok to
+    → IsUntouched from.limits start → BeginClean from.limits old.events start
+    → IsEmptied from.limits client rounds (world_at from) (world_at to)
 
 -- it begins at moment 0 with an opening of lawful records that the store's load answered, without ends or strangers
 pub record Starts {K : Type 0} (g : Ghosts K) (limits : Limits) (keep : K) (w : Lasting K) : Type 0 where

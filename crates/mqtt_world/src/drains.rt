@@ -7,7 +7,7 @@ ghost use Rattle.mqtt_script.specs.declared.event.Event.TheVariants.{Drain};
 ghost use Rattle.mqtt_world.specs.Draining.{PlaysDrain};
 ghost use Rattle.mqtt_world.specs.Openings.{AlwaysSound};
 ghost use Rattle.mqtt_world.specs.Stages.{IsStanding, Staged};
-ghost use Rattle.mqtt_world.specs.Worlds.{DrainEnds, HappenDrained, HasCome, HasDelivered, Refuses, fault_of, over_by, with_stage};
+ghost use Rattle.mqtt_world.specs.Worlds.{DrainEmpties, HappenDrained, HasCome, HasDelivered, Refuses, fault_of, over_by, with_stage};
 ghost use Rattle.mqtt_world.specs.declared.over.Over.{Over as Why};
 ghost use Rattle.mqtt_world.specs.declared.over.Over.TheVariants as over;
 
@@ -112,9 +112,9 @@ impl<K: Keep> World<K> {
         ensures over { (o : Why) → self.old.stage ≡ Err o
             → (result ≡ Err (fault_of o)) × (self.new ≡ self.old) }
 
-        // A drain ends within so many rounds.
-        ensures ends { AlwaysSound K.Keep → (start : Start) → HasCome start self.old
-            → IfOk result (λ n. DrainEnds start client.now n self.old) }
+        // It ends within so many rounds, and then no copy waits for the receiver, or is in flight to it.
+        ensures empty { AlwaysSound K.Keep → (start : Start) → HasCome start self.old
+            → IfOk result (λ n. DrainEmpties start client.now n self.old self.new) }
 
         // All that it keeps is a run of the definitions' world, and exactly-once delivery holds of it.
         ensures goes_on { AlwaysSound K.Keep → (start : Start) → HasCome start self.old → HasCome start self.new }

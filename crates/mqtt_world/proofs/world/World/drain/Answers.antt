@@ -2,7 +2,7 @@
 use Rattle.std.proofs.Common.{◌∙◌, sym}
 use Rattle.std.specs.Prelude.{Err, Ok}
 use Rattle.mqtt_script.specs.declared.event.Event.TheVariants.{Drain}
-use Rattle.mqtt_world.proofs.Course.{answers_why, delivered, drain_comes, drain_ends, drain_refused_at, drained_at, lasting_as, none_over, over_comes}
+use Rattle.mqtt_world.proofs.Course.{answers_why, delivered, drain_comes, drain_empties, drain_refused_at, drained_at, lasting_as, none_over, over_comes}
 use Rattle.mqtt_world.proofs.Course.{still_over}
 use Rattle.mqtt_world.proofs.world.World.drain.Goals as goal
 
@@ -26,12 +26,12 @@ returns-in-Ok-clause-over g c =
     let view = lasting_as g.K.Keep i.stage (Ok c.in-Ok.stage) i.events.items c.args.self.now c.self.view_is (sym c.replace.ensures.value ∙ c.in-Ok.is) in
     λ o is. none_over g.K.Keep c.in-Ok.stage i.events.items c.args.self.now view o is
 
-pub returns-in-Ok-clause-ends : goal.returns-in-Ok-clause-ends
-returns-in-Ok-clause-ends g c =
+pub returns-in-Ok-clause-empty : goal.returns-in-Ok-clause-empty
+returns-in-Ok-clause-empty g c =
     let i = c.self.inside in
     let view = lasting_as g.K.Keep i.stage (Ok c.in-Ok.stage) i.events.items c.args.self.now c.self.view_is (sym c.replace.ensures.value ∙ c.in-Ok.is) in
     λ sound start come.
-    drain_ends g.K.Keep start c.args.client.now c.drain_on.result c.args.self.now c.drain_on.new.self sound
+    drain_empties g.K.Keep start c.args.client.now c.drain_on.result c.args.self.now c.drain_on.new.self sound
     (drained_at g.K.Keep c.args.client.now _ c.args.self.now c.drain_on.new.self c.drain_on.result view c.drain_on.ensures.drained) come
 
 pub returns-in-Ok-clause-goes_on : goal.returns-in-Ok-clause-goes_on
@@ -65,8 +65,8 @@ returns-in-Err-clause-over g c =
     let view = lasting_as g.K.Keep i.stage (Err c.in-Err.over) i.events.items c.args.self.now c.self.view_is (sym c.replace.ensures.value ∙ c.in-Err.is) in
     λ o is. answers_why g.K.Keep c.in-Err.over i.events.items c.args.self.now c.end.new.self c.end.result c.end.ensures.fault c.end.ensures.over view o is
 
-pub returns-in-Err-clause-ends : goal.returns-in-Err-clause-ends
-returns-in-Err-clause-ends g c = λ sound start come. tt
+pub returns-in-Err-clause-empty : goal.returns-in-Err-clause-empty
+returns-in-Err-clause-empty g c = λ sound start come. tt
 
 pub returns-in-Err-clause-goes_on : goal.returns-in-Err-clause-goes_on
 returns-in-Err-clause-goes_on g c = λ sound start come. over_comes g.K.Keep start c.in-Err.over c.self.inside.events.items c.end.new.self c.end.ensures.over
