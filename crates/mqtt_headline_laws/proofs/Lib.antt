@@ -1,0 +1,4 @@
+-- The parts of the one law, and what a run leaves.
+pub mod Lives
+pub mod Drained
+pub mod Delivered

@@ -1,0 +1,12 @@
+-- By what each step keeps.
+use Rattle.mqtt_headline_laws.proofs.Lives.{lives_begin, run_begins, start_begins}
+use Rattle.mqtt_headline_laws.proofs.laws.what_a_run_leaves_may_begin_another.Goals as goal
+
+pub returns-clause-nothing : goal.returns-clause-nothing
+returns-clause-nothing c = start_begins
+
+pub returns-clause-again : goal.returns-clause-again
+returns-clause-again c = run_begins
+
+pub returns-clause-lives : goal.returns-clause-lives
+returns-clause-lives c = lives_begin
