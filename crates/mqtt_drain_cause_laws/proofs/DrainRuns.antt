@@ -1,12 +1,15 @@
 -- A drain, turn by turn: in each only copies of its receiver end, for what ends them in a drain.
 use Rattle.std.proofs.Common.{◌≡◌, ℕ, zero, suc, Bool, true, false, not, ◌||◌, ◌&&◌, List, [], ◌∷◌, ◌++◌, map, Option, Some, None, bytes_eq, refl, sym, ap, subst, ◌∙◌, append_assoc}
-use Rattle.std.specs.Prelude.{cond, is_some, flat_map, max}
+use Rattle.std.specs.Prelude.{⊤, cond, is_some, flat_map, max}
 use Rattle.std.specs.List.{AllByRecursion}
 use Rattle.std.proofs.lemmas.Slice.Eq.{bytes_eq-Decides}
 use Rattle.std.proofs.lemmas.Grind.{flat_map-append}
 use Rattle.mqtt_rules.proofs.Copies.{each_append}
 use Rattle.mqtt_rules.proofs.Leads.{found_passes}
-use Rattle.mqtt_rules.specs.State.{Broker, MemberChoice, capped}
+use Rattle.mqtt_base.specs.declared.session.Phase.{Phase}
+use Rattle.mqtt_base.specs.declared.session.Phase.TheVariants.{Waiting, Sent, Released, Oversize}
+use Rattle.mqtt_flow.specs.declared.entry.Entry.{Entry as FlowEntry}
+use Rattle.mqtt_rules.specs.State.{Broker, MemberChoice, capped, queue_on}
 use Rattle.mqtt_rules.specs.Deeds.{Deed, after_all, rows_of_all}
 use Rattle.mqtt_rules.proofs.StoredLaw.{now_stays}
 use Rattle.mqtt_records.specs.declared.change.Change.{Change}
@@ -35,15 +38,15 @@ use Rattle.mqtt_every_run_laws.proofs.Ledgers.{run_remains}
 use Rattle.mqtt_every_run_laws.proofs.Untouched.{start_untouched}
 use Rattle.mqtt_every_run_laws.proofs.Runs.{IsKept, turn_kept}
 use Rattle.mqtt_drain_cause_laws.specs.DrainEnds.{moment_of, AllDrainsEndSo, AreOfDrain, EndOfDrain, EndWhere, IsOfDrain}
-use Rattle.mqtt_drain_cause_laws.proofs.OwnEnds.{AreOwn, IsIts, all_its}
-use Rattle.mqtt_drain_cause_laws.proofs.OwnCalls.{SaysWell, input_own, pump_own}
+use Rattle.mqtt_drain_cause_laws.proofs.OwnEnds.{AreFit, AreOwn, IsFitPhase, IsIts, all_its, ends_by}
+use Rattle.mqtt_drain_cause_laws.proofs.OwnCalls.{HasFit, SaysWell, input_own, pump_own}
 use Rattle.mqtt_drain_cause_laws.proofs.Sayings.{AllSay, named_says, none_say, run_say, turned_say}
 
-abbrev AreIts : List ℕ → ℕ → List Asked → Type 0
-AreIts client moment xs = AllByRecursion (λ (x : Asked). AllByRecursion (IsIts client moment) (ends_in x)) xs
+abbrev pub AreIts : Type 0 → List ℕ → ℕ → List Asked → Type 0
+AreIts large client moment xs = AllByRecursion (λ (x : Asked). AllByRecursion (IsIts large client moment) (ends_in x)) xs
 
-both_its : (client : List ℕ) (moment : ℕ) (xs ys : List Asked) → AreIts client moment xs → AreIts client moment ys → AreIts client moment (xs ++ ys)
-both_its client moment xs ys p q = each_append (λ (x : Asked). AllByRecursion (IsIts client moment) (ends_in x)) xs ys p q
+both_its : (large : Type 0) (client : List ℕ) (moment : ℕ) (xs ys : List Asked) → AreIts large client moment xs → AreIts large client moment ys → AreIts large client moment (xs ++ ys)
+both_its large client moment xs ys p q = each_append (λ (x : Asked). AllByRecursion (IsIts large client moment) (ends_in x)) xs ys p q
 
 -- ---- the moment stands while the broker is asked
 
@@ -66,14 +69,34 @@ if_moment : (set : Setting) (o : Option Call) (w : World) → moment_of (calls_i
 if_moment set None w = refl
 if_moment set (Some call) w = call_moment set call w
 
+-- what is known of a world beside, as long as something is so of each step: by it the receiver's copies fit, but if this holds
+pub record Knows (large : Type 0) (client : List ℕ) (limits : Limits) (K : World → Type 0) (S : Asked → Type 0) : Type 0 where
+  pub fits : (w : World) (r : Receiver) → IsKept [] client limits w → K w → receiver_named client w ≡ Some r → HasFit large r w.broker
+  pub keeps : (t : Turn) (w : World) → IsKept [] client limits w → read_at spending (setting limits t) t.event w ≡ false → AllByRecursion S (read_at the_asked (setting limits t) t.event w) → K w → K (turned limits t w)
+
 -- the receiver stands, is there, and says that all is well
-record IsReady (client : List ℕ) (limits : Limits) (moment : ℕ) (w : World) : Type 0 where
+record IsReady (client : List ℕ) (limits : Limits) (K : World → Type 0) (moment : ℕ) (w : World) : Type 0 where
   kept : IsKept [] client limits w
   there : is_some (receiver_named client w) ≡ true
   says : AllSay w
   at : moment_of w ≡ moment
+  known : K w
 
-module _ (client : List ℕ) (limits : Limits) (choice : MemberChoice) (moment : ℕ) where
+pub first_steps : (S : Asked → Type 0) (xs ys : List Asked) → AllByRecursion S (xs ++ ys) → AllByRecursion S xs × AllByRecursion S ys
+first_steps S [] ys h = (tt, h)
+first_steps S (x ∷ xs) ys h = let rest = first_steps S xs ys h.1 in ((h.0, rest.0), rest.1)
+
+pub asked_append : (limits : Limits) (xs ys : List Turn) (w : World) → asked_over limits (xs ++ ys) w ≡ asked_over limits xs w ++ asked_over limits ys (run limits xs w)
+asked_append limits [] ys w = refl
+asked_append limits (t ∷ xs) ys w =
+    let first = read_at the_asked (setting limits t) t.event w in
+    let v = turned limits t w in
+    ap (λ (zs : List Asked). first ++ zs) (asked_append limits xs ys v) ∙ sym (append_assoc first (asked_over limits xs v) (asked_over limits ys (run limits xs v)))
+
+pub steps_parts : (S : Asked → Type 0) (limits : Limits) (xs ys : List Turn) (w : World) → AllByRecursion S (asked_over limits (xs ++ ys) w) → AllByRecursion S (asked_over limits xs w) × AllByRecursion S (asked_over limits ys (run limits xs w))
+steps_parts S limits xs ys w h = first_steps S (asked_over limits xs w) (asked_over limits ys (run limits xs w)) (subst (AllByRecursion S) (asked_append limits xs ys w) h)
+
+module _ (large : Type 0) (client : List ℕ) (limits : Limits) (K : World → Type 0) (S : Asked → Type 0) (knows : Knows large client limits K S) (choice : MemberChoice) (moment : ℕ) where
   abbrev set : Setting
   set = record { limits = limits; choice = choice }
 
@@ -82,46 +105,46 @@ module _ (client : List ℕ) (limits : Limits) (choice : MemberChoice) (moment :
 
   -- ---- what is asked of the broker
 
-  call_its : (o : Option Call) (w : World) → moment_of w ≡ moment → ((call : Call) → o ≡ Some call → AreOwn client (Some call) (deeds limits choice w.now call w.broker)) → AreIts client moment (read_if the_asked set o w)
+  call_its : (o : Option Call) (w : World) → moment_of w ≡ moment → ((call : Call) → o ≡ Some call → AreOwn large client (Some call) (deeds limits choice w.now call w.broker)) → AreIts large client moment (read_if the_asked set o w)
   call_its None w at h = tt
   call_its (Some call) w at h =
       let x : Asked = record { call = Some call; step = step_called set call w } in
-      (all_its client x moment x.step.deeds x.step.broker at (h call refl), tt)
+      (all_its large client x moment x.step.deeds x.step.broker at (h call refl), tt)
 
   named_client : (r : Receiver) (w : World) → receiver_named client w ≡ Some r → r.client ≡ client
   named_client r w e = (bytes_eq-Decides r.client client).0 (found_passes (λ (q : Receiver). bytes_eq q.client client) r w.receivers e)
 
-  module _ (w : World) (ready : IsReady client limits moment w) (r : Receiver) (e : receiver_named client w ≡ Some r) where
+  module _ (w : World) (ready : IsReady client limits K moment w) (r : Receiver) (e : receiver_named client w ≡ Some r) where
     placed : IsPlaced any_size ready.kept.stands.ids ready.kept.stands.ns r w.broker
     placed = subst (IsSeen any_size ready.kept.stands.ids ready.kept.stands.ns w.broker) e ready.kept.stands.standing.seen
 
     view : view_of client w ≡ view_by None (Some r)
     view = ap (λ (o : Option Publisher). view_by o (receiver_named client w)) (ready.kept.stands.standing.around.alone (ap is_some e)) ∙ ap (λ (o : Option Receiver). view_by None o) e
 
-    pumped : (number : Option ℕ) → r.line.number ≡ number → (call : Call) → pump_on number ≡ Some call → AreOwn client (Some call) (deeds limits choice w.now call w.broker)
+    pumped : (number : Option ℕ) → r.line.number ≡ number → (call : Call) → pump_on number ≡ Some call → AreOwn large client (Some call) (deeds limits choice w.now call w.broker)
     pumped None is call asked = absurd cc
     pumped (Some n) is call asked =
         let same : Pump n ≡ call = cc in
-        subst (λ (x : Call). AreOwn client (Some x) (deeds limits choice w.now x w.broker)) same
-        (subst (λ (c : List ℕ). AreOwn c (Some (Pump n)) (deeds limits choice w.now (Pump n) w.broker)) (named_client r w e)
-        (pump_own limits choice w.now r w.broker any_size ready.kept.stands.ids ready.kept.stands.ns placed n is))
+        subst (λ (x : Call). AreOwn large client (Some x) (deeds limits choice w.now x w.broker)) same
+        (subst (λ (c : List ℕ). AreOwn large c (Some (Pump n)) (deeds limits choice w.now (Pump n) w.broker)) (named_client r w e)
+        (pump_own large limits choice w.now r w.broker (knows.fits w r ready.kept ready.known e) any_size ready.kept.stands.ids ready.kept.stands.ns placed n is))
 
     read : (number : Option ℕ) (up : List Back) → r.line.number ≡ number → r.line.up ≡ up → AllByRecursion SaysWell up → (call : Call) → input_on number (map (wire_back r.client r.window) up) ≡ Some call
-        → AreOwn client (Some call) (deeds limits choice w.now call w.broker)
+        → AreOwn large client (Some call) (deeds limits choice w.now call w.broker)
     read None up is ups says call asked = absurd cc
     read (Some n) [] is ups says call asked = absurd cc
     read (Some n) (x ∷ rest) is ups says call asked =
         let same : Input n (wire_back r.client r.window x) ≡ call = cc in
-        subst (λ (y : Call). AreOwn client (Some y) (deeds limits choice w.now y w.broker)) same
-        (subst (λ (c : List ℕ). AreOwn c (Some (Input n (wire_back r.client r.window x))) (deeds limits choice w.now (Input n (wire_back r.client r.window x)) w.broker)) (named_client r w e)
-        (input_own limits choice w.now r w.broker any_size ready.kept.stands.ids ready.kept.stands.ns placed n x rest is ups says.0))
+        subst (λ (y : Call). AreOwn large client (Some y) (deeds limits choice w.now y w.broker)) same
+        (subst (λ (c : List ℕ). AreOwn large c (Some (Input n (wire_back r.client r.window x))) (deeds limits choice w.now (Input n (wire_back r.client r.window x)) w.broker)) (named_client r w e)
+        (input_own large limits choice w.now r w.broker (knows.fits w r ready.kept ready.known e) any_size ready.kept.stands.ids ready.kept.stands.ns placed n x rest is ups says.0))
 
-    pump_its : AreIts client moment (read_in the_asked set (ask (pump client)) w)
+    pump_its : AreIts large client moment (read_in the_asked set (ask (pump client)) w)
     pump_its =
         let number : (view_of client w).number ≡ r.line.number = ap (λ (v : View). v.number) view in
         call_its (pump_on (view_of client w).number) w ready.at (λ call asked. pumped r.line.number refl call (ap pump_on (sym number) ∙ asked))
 
-    read_its : AreIts client moment (read_in the_asked set (ask (to_broker client)) w)
+    read_its : AreIts large client moment (read_in the_asked set (ask (to_broker client)) w)
     read_its =
         let v = view_of client w in
         let same : input_on v.number v.up ≡ input_on r.line.number (map (wire_back r.client r.window) r.line.up) = ap (λ (x : View). input_on x.number x.up) view in
@@ -130,10 +153,10 @@ module _ (client : List ℕ) (limits : Limits) (choice : MemberChoice) (moment :
   -- ---- a turn
 
   record IsRight (e : Event) : Type 0 where
-    ends : (w : World) → IsReady client limits moment w → AreIts client moment (read_in the_asked set e w)
+    ends : (w : World) → IsReady client limits K moment w → AreIts large client moment (read_in the_asked set e w)
     stands : (w : World) → moment_of (happen set e w) ≡ moment_of w
 
-  with_receiver_there : (w : World) → IsReady client limits moment w → (P : Type 0) → ((r : Receiver) → receiver_named client w ≡ Some r → P) → P
+  with_receiver_there : (w : World) → IsReady client limits K moment w → (P : Type 0) → ((r : Receiver) → receiver_named client w ≡ Some r → P) → P
   with_receiver_there w ready P h = by (receiver_named client w) refl ready.there
     where
       by : (o : Option Receiver) → receiver_named client w ≡ o → is_some o ≡ true → P
@@ -142,23 +165,23 @@ module _ (client : List ℕ) (limits : Limits) (choice : MemberChoice) (moment :
 
   pump_right : IsRight (ask (pump client))
   pump_right = record {
-    ends = λ w ready. with_receiver_there w ready (AreIts client moment (read_in the_asked set (ask (pump client)) w)) (λ r e. pump_its w ready r e);
+    ends = λ w ready. with_receiver_there w ready (AreIts large client moment (read_in the_asked set (ask (pump client)) w)) (λ r e. pump_its w ready r e);
     stands = λ w. if_moment set (pump_on (view_of client w).number) w;
   }
 
   read_right : IsRight (ask (to_broker client))
   read_right = record {
-    ends = λ w ready. with_receiver_there w ready (AreIts client moment (read_in the_asked set (ask (to_broker client)) w)) (λ r e. read_its w ready r e);
+    ends = λ w ready. with_receiver_there w ready (AreIts large client moment (read_in the_asked set (ask (to_broker client)) w)) (λ r e. read_its w ready r e);
     stands = λ w. if_moment set (input_on (view_of client w).number (view_of client w).up) (before set (to_broker client) w);
   }
 
   end_right : IsRight (to_end client)
   end_right = record { ends = λ w ready. tt; stands = λ w. refl }
 
-  turn_its : (e : Event) (w : World) → IsRight e → IsReady client limits moment w → AreIts client moment (read_at the_asked (setting limits (its e)) e w)
+  turn_its : (e : Event) (w : World) → IsRight e → IsReady client limits K moment w → AreIts large client moment (read_at the_asked (setting limits (its e)) e w)
   turn_its e w right ready = by (is_bad e w)
     where
-      by : (bad : Bool) → AreIts client moment (cond bad [] (read_in the_asked set e w))
+      by : (bad : Bool) → AreIts large client moment (cond bad [] (read_in the_asked set e w))
       by true = tt
       by false = right.ends w ready
 
@@ -176,49 +199,45 @@ module _ (client : List ℕ) (limits : Limits) (choice : MemberChoice) (moment :
       by true = refl
       by false = right.stands w
 
-  ready_after : (e : Event) (w : World) → IsRight e → begins_clean e w ≡ true → IsReady client limits moment w → run_spends limits (its e ∷ []) w ≡ false → IsReady client limits moment (turned limits (its e) w)
-  ready_after e w right clean ready unspent = record {
+  ready_after : (e : Event) (w : World) → IsRight e → begins_clean e w ≡ true → IsReady client limits K moment w → run_spends limits (its e ∷ []) w ≡ false → AllByRecursion S (asked_over limits (its e ∷ []) w) → IsReady client limits K moment (turned limits (its e) w)
+  ready_after e w right clean ready unspent steps = record {
     kept = turn_kept [] client limits (its e) w ready.kept clean (either (read_at spending (setting limits (its e)) e w) false unspent).0;
     there = stays_there (its e ∷ []) w ready.there;
     says = turned_say limits (its e) w ready.says;
     at = moment_after e w right ∙ ready.at;
+    known = knows.keeps (its e) w ready.kept (either (read_at spending (setting limits (its e)) e w) false unspent).0 (first_steps S (read_at the_asked (setting limits (its e)) e w) [] steps).0 ready.known;
   }
 
   -- ---- some turns, in the end
 
   -- their ends, and where they come to
   record Goes (ts : List Turn) (w : World) : Type 0 where
-    ends : AreIts client moment (asked_over limits ts w)
-    ready : IsReady client limits moment (run limits ts w)
-
-  asked_append : (xs ys : List Turn) (w : World) → asked_over limits (xs ++ ys) w ≡ asked_over limits xs w ++ asked_over limits ys (run limits xs w)
-  asked_append [] ys w = refl
-  asked_append (t ∷ xs) ys w =
-      let first = read_at the_asked (setting limits t) t.event w in
-      let v = turned limits t w in
-      ap (λ (zs : List Asked). first ++ zs) (asked_append xs ys v) ∙ sym (append_assoc first (asked_over limits xs v) (asked_over limits ys (run limits xs v)))
+    ends : AreIts large client moment (asked_over limits ts w)
+    ready : IsReady client limits K moment (run limits ts w)
 
   go_on : (xs ys : List Turn) (w : World) → Goes xs w → Goes ys (run limits xs w) → Goes (xs ++ ys) w
   go_on xs ys w p q = record {
-    ends = subst (AreIts client moment) (sym (asked_append xs ys w)) (both_its client moment (asked_over limits xs w) (asked_over limits ys (run limits xs w)) p.ends q.ends);
-    ready = subst (IsReady client limits moment) (sym (run_append limits xs ys w)) q.ready;
+    ends = subst (AreIts large client moment) (sym (asked_append limits xs ys w)) (both_its large client moment (asked_over limits xs w) (asked_over limits ys (run limits xs w)) p.ends q.ends);
+    ready = subst (IsReady client limits K moment) (sym (run_append limits xs ys w)) q.ready;
   }
 
-  one_goes : (e : Event) (w : World) → IsRight e → ((v : World) → begins_clean e v ≡ true) → IsReady client limits moment w → run_spends limits (its e ∷ []) w ≡ false → Goes (its e ∷ []) w
-  one_goes e w right clean ready unspent = record {
-    ends = both_its client moment (read_at the_asked (setting limits (its e)) e w) [] (turn_its e w right ready) tt;
-    ready = ready_after e w right (clean w) ready unspent;
+  one_goes : (e : Event) (w : World) → IsRight e → ((v : World) → begins_clean e v ≡ true) → IsReady client limits K moment w → run_spends limits (its e ∷ []) w ≡ false → AllByRecursion S (asked_over limits (its e ∷ []) w) → Goes (its e ∷ []) w
+  one_goes e w right clean ready unspent steps = record {
+    ends = both_its large client moment (read_at the_asked (setting limits (its e)) e w) [] (turn_its e w right ready) tt;
+    ready = ready_after e w right (clean w) ready unspent steps;
   }
 
-  times_go : (n : ℕ) (e : Event) (w : World) → IsRight e → ((v : World) → begins_clean e v ≡ true) → IsReady client limits moment w → run_spends limits (times n (its e)) w ≡ false → Goes (times n (its e)) w
-  times_go zero e w right clean ready unspent = record { ends = tt; ready = ready }
-  times_go (suc n) e w right clean ready unspent =
+  times_go : (n : ℕ) (e : Event) (w : World) → IsRight e → ((v : World) → begins_clean e v ≡ true) → IsReady client limits K moment w → run_spends limits (times n (its e)) w ≡ false → AllByRecursion S (asked_over limits (times n (its e)) w) → Goes (times n (its e)) w
+  times_go zero e w right clean ready unspent steps = record { ends = tt; ready = ready }
+  times_go (suc n) e w right clean ready unspent steps =
+      let parts = steps_parts S limits (its e ∷ []) (times n (its e)) w steps in
       let costs = spent_append limits (its e ∷ []) (times n (its e)) w unspent in
-      let first = one_goes e w right clean ready costs.0 in
-      go_on (its e ∷ []) (times n (its e)) w first (times_go n e (turned limits (its e) w) right clean first.ready costs.1)
+      let first = one_goes e w right clean ready costs.0 parts.0 in
+      go_on (its e ∷ []) (times n (its e)) w first (times_go n e (turned limits (its e) w) right clean first.ready costs.1 parts.1)
 
-  round_goes : (w : World) → IsReady client limits moment w → run_spends limits (round_turns limits choice client w) w ≡ false → Goes (round_turns limits choice client w) w
-  round_goes w ready unspent =
+  round_goes : (w : World) → IsReady client limits K moment w → run_spends limits (round_turns limits choice client w) w ≡ false → AllByRecursion S (asked_over limits (round_turns limits choice client w) w)
+      → Goes (round_turns limits choice client w) w
+  round_goes w ready unspent steps =
       let sends : List Turn = its (ask (pump client)) ∷ [] in
       let sent = run limits sends w in
       let reads = all_to_end choice client sent in
@@ -226,9 +245,11 @@ module _ (client : List ℕ) (limits : Limits) (choice : MemberChoice) (moment :
       let answers = all_to_broker choice client then_ in
       let costs = spent_append limits sends (reads ++ answers) w unspent in
       let later = spent_append limits reads answers sent costs.1 in
-      let one = one_goes (ask (pump client)) w pump_right (λ v. refl) ready costs.0 in
-      let two = times_go (downs_by (receiver_named client sent)) (to_end client) sent end_right (λ v. refl) one.ready later.0 in
-      let three = times_go (ups_by (receiver_named client then_)) (ask (to_broker client)) then_ read_right (λ v. refl) two.ready later.1 in
+      let parts = steps_parts S limits sends (reads ++ answers) w steps in
+      let others = steps_parts S limits reads answers sent parts.1 in
+      let one = one_goes (ask (pump client)) w pump_right (λ v. refl) ready costs.0 parts.0 in
+      let two = times_go (downs_by (receiver_named client sent)) (to_end client) sent end_right (λ v. refl) one.ready later.0 others.0 in
+      let three = times_go (ups_by (receiver_named client then_)) (ask (to_broker client)) then_ read_right (λ v. refl) two.ready later.1 others.1 in
       go_on sends (reads ++ answers) w one (go_on reads answers sent two three)
 
   -- where a drain goes on its receiver is there
@@ -243,27 +264,51 @@ module _ (client : List ℕ) (limits : Limits) (choice : MemberChoice) (moment :
       by (Some r) e = refl
       by None e = none (is_none_left (copies_left client w)) (sym (ap (λ (o : Option Receiver). is_none_left (copies_left client w) || not (line_stands o w)) e) ∙ on)
 
-  drain_its : (most : ℕ) (w : World) → IsKept [] client limits w → AllSay w → moment_of w ≡ moment → run_spends limits (drain_turns limits choice client most w) w ≡ false → AreIts client moment (asked_over limits (drain_turns limits choice client most w) w)
-  drain_its zero w kept says at unspent = tt
-  drain_its (suc most) w kept says at unspent = by (is_over client w) refl unspent (λ v k s a u. drain_its most v k s a u)
+  pub drain_its : (most : ℕ) (w : World) → IsKept [] client limits w → AllSay w → moment_of w ≡ moment → K w → run_spends limits (drain_turns limits choice client most w) w ≡ false
+      → AllByRecursion S (asked_over limits (drain_turns limits choice client most w) w) → AreIts large client moment (asked_over limits (drain_turns limits choice client most w) w)
+  drain_its zero w kept says at known unspent steps = tt
+  drain_its (suc most) w kept says at known unspent steps = by (is_over client w) refl unspent steps (λ v k s a n u more. drain_its most v k s a n u more)
     where
-      turns : List Turn
-      turns = round_turns limits choice client w
-
-      after_it : World
-      after_it = after_round limits choice client w
-
-      by : (over : Bool) → is_over client w ≡ over → run_spends limits (drain_by over (round_turns limits choice client w) (drain_turns limits choice client most (after_round limits choice client w))) w ≡ false
-          → ((v : World) → IsKept [] client limits v → AllSay v → moment_of v ≡ moment → run_spends limits (drain_turns limits choice client most v) v ≡ false → AreIts client moment (asked_over limits (drain_turns limits choice client most v) v))
-          → AreIts client moment (asked_over limits (drain_by over (round_turns limits choice client w) (drain_turns limits choice client most (after_round limits choice client w))) w)
-      by true is u next = tt
-      by false is u next =
+      by : (over : Bool) → is_over client w ≡ over → run_spends limits (drain_by over (round_turns limits choice client w) (drain_turns limits choice client most (after_round limits choice client w))) w ≡ false → AllByRecursion S (asked_over limits (drain_by over (round_turns limits choice client w) (drain_turns limits choice client most (after_round limits choice client w))) w)
+          → ((u : World) → IsKept [] client limits u → AllSay u → moment_of u ≡ moment → K u → run_spends limits (drain_turns limits choice client most u) u ≡ false → AllByRecursion S (asked_over limits (drain_turns limits choice client most u) u)
+          → AreIts large client moment (asked_over limits (drain_turns limits choice client most u) u)) → AreIts large client moment (asked_over limits (drain_by over (round_turns limits choice client w) (drain_turns limits choice client most (after_round limits choice client w))) w)
+      by true is u done next = tt
+      by false is u done next =
           let xs = round_turns limits choice client w in
           let v = after_round limits choice client w in
           let ys = drain_turns limits choice client most v in
           let costs = spent_append limits xs ys w u in
-          let first = round_goes w (record { kept = kept; there = has_receiver w is; says = says; at = at }) costs.0 in
-          subst (AreIts client moment) (sym (asked_append xs ys w)) (both_its client moment (asked_over limits xs w) (asked_over limits ys v) first.ends (next v first.ready.kept first.ready.says first.ready.at costs.1))
+          let parts = steps_parts S limits xs ys w done in
+          let first = round_goes w (record { kept = kept; there = has_receiver w is; says = says; at = at; known = known }) costs.0 parts.0 in
+          subst (AreIts large client moment) (sym (asked_append limits xs ys w)) (both_its large client moment (asked_over limits xs w) (asked_over limits ys v) first.ends (next v first.ready.kept first.ready.says first.ready.at first.ready.known costs.1 parts.1))
+
+-- ---- where nothing is known beside
+
+abbrev Anywhere : World → Type 0
+Anywhere w = ⊤
+
+abbrev Anyhow : Asked → Type 0
+Anyhow x = ⊤
+
+any_steps : (xs : List Asked) → AllByRecursion Anyhow xs
+any_steps [] = tt
+any_steps (x ∷ xs) = (tt, any_steps xs)
+
+any_phase : (phase : Phase) → IsFitPhase ⊤ phase
+any_phase Waiting = tt
+any_phase (Sent i) = tt
+any_phase (Released i order) = tt
+any_phase (Oversize i order) = tt
+
+all_fit : (largest : ℕ) (es : List FlowEntry) → AreFit ⊤ largest es
+all_fit largest [] = tt
+all_fit largest (e ∷ es) = (record { released = any_phase e.phase; above = λ h. tt }, all_fit largest es)
+
+knows_nothing : (client : List ℕ) (limits : Limits) → Knows ⊤ client limits Anywhere Anyhow
+knows_nothing client limits = record {
+  fits = λ w r kept known e n l birth s number at on there its. all_fit l.largest (queue_on l.went s);
+  keeps = λ t w kept unspent steps known. tt;
+}
 
 -- ---- with their causes
 
@@ -296,16 +341,16 @@ last_of : (xs ys : List EndAt) → AllByRecursion HasCause (xs ++ ys) → AllByR
 last_of [] ys h = h
 last_of (x ∷ xs) ys h = last_of xs ys h.1
 
-ends_append : (limits : Limits) (choice : MemberChoice) (client : List ℕ) (xs ys : List Turn) (w : World) → ends_over limits (xs ++ ys) w ≡ ends_over limits xs w ++ ends_over limits ys (run limits xs w)
-ends_append limits choice client xs ys w = ap (flat_map ends_in) (asked_append client limits choice 0 xs ys w) ∙ flat_map-append ends_in (asked_over limits xs w) (asked_over limits ys (run limits xs w))
+pub ends_append : (limits : Limits) (xs ys : List Turn) (w : World) → ends_over limits (xs ++ ys) w ≡ ends_over limits xs w ++ ends_over limits ys (run limits xs w)
+ends_append limits xs ys w = ap (flat_map ends_in) (asked_append limits xs ys w) ∙ flat_map-append ends_in (asked_over limits xs w) (asked_over limits ys (run limits xs w))
 
-joined_its : (client : List ℕ) (moment : ℕ) (xs : List Asked) → AreIts client moment xs → AllByRecursion (IsIts client moment) (flat_map ends_in xs)
-joined_its client moment [] h = tt
-joined_its client moment (x ∷ xs) h = each_append (IsIts client moment) (ends_in x) (flat_map ends_in xs) h.0 (joined_its client moment xs h.1)
+pub joined_its : (large : Type 0) (client : List ℕ) (moment : ℕ) (xs : List Asked) → AreIts large client moment xs → AllByRecursion (IsIts large client moment) (flat_map ends_in xs)
+joined_its large client moment [] h = tt
+joined_its large client moment (x ∷ xs) h = each_append (IsIts large client moment) (ends_in x) (flat_map ends_in xs) h.0 (joined_its large client moment xs h.1)
 
-with_causes : (client : List ℕ) (moment : ℕ) (xs : List EndAt) → AllByRecursion (IsIts client moment) xs → AllByRecursion HasCause xs → AllByRecursion (IsOfDrain client moment) xs
+with_causes : (client : List ℕ) (moment : ℕ) (xs : List EndAt) → AllByRecursion (IsIts ⊤ client moment) xs → AllByRecursion HasCause xs → AllByRecursion (IsOfDrain client moment) xs
 with_causes client moment [] p q = tt
-with_causes client moment (x ∷ xs) p q = let y = p.0 in (record { its = y.its; by = y.by; at = y.at; cause = q.0 }, with_causes client moment xs p.1 q.1)
+with_causes client moment (x ∷ xs) p q = let y = p.0 in (record { its = y.its; by = ends_by ⊤ client x.asked.call x.ending y.by; at = y.at; cause = q.0 }, with_causes client moment xs p.1 q.1)
 
 pub drain_ends : (limits : Limits) (ts : List Turn) (choice : MemberChoice) (client : List ℕ) (most : ℕ) (w : World) → IsUntouched limits w → IsFair limits ts w
     → run_spends limits (drain_turns limits choice client most (run limits ts w)) (run limits ts w) ≡ false → EndOfDrain limits choice client most (run limits ts w)
@@ -314,8 +359,9 @@ drain_ends limits ts choice client most w u fair unspent =
     let turns = drain_turns limits choice client most v in
     let all : IsFair limits (ts ++ turns) w = record { within = fair.within; unspent = spent_joined limits ts turns w fair.unspent unspent; clean = clean_joined limits ts turns w fair.clean (drain_clean limits choice client most v) } in
     let caused = run_caused limits (ts ++ turns) w u.new all in
-    let causes = last_of (ends_over limits ts w) (ends_over limits turns v) (subst (AllByRecursion HasCause) (ends_append limits choice client ts turns w) caused) in
-    let its = joined_its client (moment_of v) (asked_over limits turns v) (drain_its client limits choice (moment_of v) most v (fair_run_kept limits ts w u fair client) (run_say limits ts w (none_say w u.new.receivers)) refl unspent) in
+    let causes = last_of (ends_over limits ts w) (ends_over limits turns v) (subst (AllByRecursion HasCause) (ends_append limits ts turns w) caused) in
+    let its = joined_its ⊤ client (moment_of v) (asked_over limits turns v)
+    (drain_its ⊤ client limits Anywhere Anyhow (knows_nothing client limits) choice (moment_of v) most v (fair_run_kept limits ts w u fair client) (run_say limits ts w (none_say w u.new.receivers)) refl tt unspent (any_steps (asked_over limits turns v))) in
     with_causes client (moment_of v) (ends_over limits turns v) its causes
 
 -- ---- of scripts

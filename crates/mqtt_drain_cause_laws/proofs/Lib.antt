@@ -5,3 +5,6 @@ pub mod OwnWishes
 pub mod OwnCalls
 pub mod Sayings
 pub mod DrainRuns
+pub mod Contents
+pub mod Fits
+pub mod Fitting

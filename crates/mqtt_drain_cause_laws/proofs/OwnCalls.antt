@@ -10,8 +10,9 @@ use Rattle.mqtt_codec.specs.declared.packet.Packet.TheVariants as packets
 use Rattle.mqtt_connect.specs.declared.connect.Connect.{Connect as Greeting}
 use Rattle.mqtt_flow.specs.Outbound.{Answer, due_from, is_refusal, pace}
 use Rattle.mqtt_flow.specs.Outbound as rules
-use Rattle.mqtt_flow.specs.Queue.{holder, next_order}
+use Rattle.mqtt_flow.specs.Queue.{holder, is_holder, next_order}
 use Rattle.mqtt_flow.specs.Receiver.{connect, puback, pubcomp, pubrec}
+use Rattle.mqtt_flow.specs.declared.entry.Entry.{Entry as FlowEntry}
 use Rattle.mqtt_flow.specs.declared.entry.Turn.TheVariants as turns
 use Rattle.mqtt_inbound.specs.Identifiers.{is_among}
 use Rattle.mqtt_message.specs.Queue.{CopyRow}
@@ -19,6 +20,7 @@ use Rattle.mqtt_laws.specs.Ends.{Back, Receiver, answers, asks_for, wire_back}
 use Rattle.mqtt_laws.specs.Hops.{IsKept, IsTaken}
 use Rattle.mqtt_laws.specs.Seats.{Glance, IsHis, IsNamed, Present, absent, closed, connected_at, glance, glance_at, joined, waiting, waits_there}
 use Rattle.mqtt_laws.proofs.CleanConnects.{clear_is}
+use Rattle.mqtt_laws.proofs.Lists.{all_find}
 use Rattle.mqtt_laws.proofs.Connects.{left_by, named_taken, prepare_front, taken_client, taken_from, taken_will}
 use Rattle.mqtt_laws.proofs.OwnSeats.{line_of_on}
 use Rattle.mqtt_laws.proofs.OwnStep.{heard_of, input_is}
@@ -42,7 +44,7 @@ use Rattle.mqtt_handed_laws.proofs.Resuming.{call_is, greeting}
 use Rattle.mqtt_every_run_laws.specs.Standing.{IsPlaced, line_like}
 use Rattle.mqtt_every_run_laws.proofs.Fronts.{Connects, IsJoined, front}
 use Rattle.mqtt_drain_cause_laws.specs.DrainEnds.{StartsClean}
-use Rattle.mqtt_drain_cause_laws.proofs.OwnEnds.{AreOwn, IsOwn, IsWellAnswer, own_cond, own_turn, own_turns, pump_well, puback_well, pubcomp_well, pubrec_well}
+use Rattle.mqtt_drain_cause_laws.proofs.OwnEnds.{AreFit, AreOwn, IsFit, IsOwn, IsWellAnswer, own_cond, own_turn, own_turns, pump_well, puback_well, pubcomp_well, pubrec_well}
 use Rattle.mqtt_drain_cause_laws.proofs.OwnWishes.{subscribe_own}
 
 -- an answer of a receiver says that all is well
@@ -55,24 +57,24 @@ SaysWell (asks_for w) = ⊤
 
 -- ---- on a line on which its session is connected
 
-module _ (client : List ℕ) (call : Option Call) (env : Env) (l : BrokerLine) (s : Session) (b : Broker) (at : session_at s.birth b.records ≡ Some s) (on : l.session ≡ Some s.birth) (no_will : s.will ≡ None) (no_end : s.expiry ≡ never) (its : s.client ≡ client) where
-  line_dropped : (code : ℕ) → AreOwn client call (drop_line env code l b)
-  line_dropped code = subst (AreOwn client call) (sym (drop_is env code l s b at on no_will no_end)) (tt, (tt, (tt, tt)))
+module _ (large : Type 0) (client : List ℕ) (call : Option Call) (env : Env) (l : BrokerLine) (s : Session) (b : Broker) (at : session_at s.birth b.records ≡ Some s) (on : l.session ≡ Some s.birth) (no_will : s.will ≡ None) (no_end : s.expiry ≡ never) (its : s.client ≡ client) (fit : AreFit large l.largest (queue_on l.went s)) where
+  line_dropped : (code : ℕ) → AreOwn large client call (drop_line env code l b)
+  line_dropped code = subst (AreOwn large client call) (sym (drop_is env code l s b at on no_will no_end)) (tt, (tt, (tt, tt)))
 
-  answered : (a : Answer) → IsWellAnswer client call a → AreOwn client call (on_answer a env l s b)
+  answered : (a : Answer) → IsWellAnswer large client call a → AreOwn large client call (on_answer a env l s b)
   answered (Ok None) h = tt
-  answered (Ok (Some t)) h = own_turn client call b.now l.number s t its h
+  answered (Ok (Some t)) h = own_turn large client call b.now l.number s t its h
   answered (Err fault) h = line_dropped protocol_error
 
   well : (code : ℕ) → code ≡ success → is_refusal code ≡ false
   well code is = ap is_refusal is
 
-  heard : (window : ℕ) (x : Back) → SaysWell x → ((number : ℕ) → call ≡ Some (Input number (wire_back client window x)) → AreOwn client call (next_packet env l (wire_back client window x) s b))
+  heard : (window : ℕ) (x : Back) → SaysWell x → ((number : ℕ) → call ≡ Some (Input number (wire_back client window x)) → AreOwn large client call (next_packet env l (wire_back client window x) s b))
   heard window (answers (connect clean)) h number asked = line_dropped protocol_error
-  heard window (answers (puback i code)) h number asked = answered (rules.puback i code (queue_on l.went s)) (puback_well client call code (holder i (queue_on l.went s)) (well code h))
-  heard window (answers (pubrec i code)) h number asked = answered (rules.pubrec i code (queue_on l.went s)) (pubrec_well client call i code (next_order (queue_on l.went s)) (holder i (queue_on l.went s)) (well code h))
-  heard window (answers (pubcomp i code)) h number asked = answered (rules.pubcomp i (queue_on l.went s)) (pubcomp_well client call (holder i (queue_on l.went s)))
-  heard window (asks_for w) h number asked = subscribe_own client call (record { number = number; packet = _; asked = asked }) (is_among 1 s.inbound) env l.number s _ b at its
+  heard window (answers (puback i code)) h number asked = answered (rules.puback i code (queue_on l.went s)) (puback_well large client call code (holder i (queue_on l.went s)) (well code h))
+  heard window (answers (pubrec i code)) h number asked = answered (rules.pubrec i code (queue_on l.went s)) (pubrec_well large client call i code (next_order (queue_on l.went s)) (holder i (queue_on l.went s)) (well code h))
+  heard window (answers (pubcomp i code)) h number asked = answered (rules.pubcomp i (queue_on l.went s)) (pubcomp_well large client call (holder i (queue_on l.went s)) (λ e there. (all_find (λ (x : FlowEntry). IsFit large l.largest x.phase x.copy.size) (λ (x : FlowEntry). is_holder i x.phase) e (queue_on l.went s) fit there).0.released))
+  heard window (asks_for w) h number asked = subscribe_own large client call (record { number = number; packet = _; asked = asked }) (is_among 1 s.inbound) env l.number s _ b at its
 
 -- ---- a CONNECT
 
@@ -97,7 +99,7 @@ abbrev cleared_by : Bool → Session → List Deed
 cleared_by true s = end_session s
 cleared_by false s = []
 
-module _ (clean : Bool) (client : List ℕ) (window : ℕ) (b : Broker) where
+module _ (large : Type 0) (clean : Bool) (client : List ℕ) (window : ℕ) (b : Broker) where
   abbrev hello : Greeting
   hello = greeting clean client window
 
@@ -129,64 +131,70 @@ module _ (clean : Bool) (client : List ℕ) (window : ℕ) (b : Broker) where
       cleared false = refl
 
   module _ (call : Option Call) (number : ℕ) (asked : call ≡ Some (Input number (packets.Connect hello))) (env : Env) (l : BrokerLine) where
-    own_left : (o : Option BrokerLine) (s : Session) (now : ℕ) → AreOwn client call (left_by o s now)
+    own_left : (o : Option BrokerLine) (s : Session) (now : ℕ) → AreOwn large client call (left_by o s now)
     own_left None s now = tt
     own_left (Some x) s now = (tt, (tt, (tt, tt)))
 
-    own_ends : (s : Session) (es : List CopyRow) → s.client ≡ client → StartsClean client call → AreOwn client call (map (λ e. At (whose s) (Leave e SessionEnded)) es ++ Finish (whose s) ∷ [])
+    own_ends : (s : Session) (es : List CopyRow) → s.client ≡ client → StartsClean client call → AreOwn large client call (map (λ e. At (whose s) (Leave e SessionEnded)) es ++ Finish (whose s) ∷ [])
     own_ends s [] its starts = (tt, tt)
     own_ends s (e ∷ es) its starts = ((its, starts), own_ends s es its starts)
 
-    own_cleared : (t : Bool) (s : Session) → clean ≡ t → s.client ≡ client → AreOwn client call (cleared_by t s)
+    own_cleared : (t : Bool) (s : Session) → clean ≡ t → s.client ≡ client → AreOwn large client call (cleared_by t s)
     own_cleared false s is its = tt
     own_cleared true s is its = own_ends s s.queue its (record { number = number; packet = hello; asked = asked; clean = is; named = refl })
 
-    own_prepared : (o : Option BrokerLine) (s : Session) → line_of s.birth b ≡ o → IsKept client s b → AreOwn client call (prepare env hello b)
+    own_prepared : (o : Option BrokerLine) (s : Session) → line_of s.birth b ≡ o → IsKept client s b → AreOwn large client call (prepare env hello b)
     own_prepared o s is k =
         let x = taken_from o b.now s in
-        subst (AreOwn client call) (sym (its_prepared env o s is k))
-        (each_append (IsOwn client call) (left_by o s b.now) (cleared_by clean x ++ []) (own_left o s b.now)
-        (each_append (IsOwn client call) (cleared_by clean x) [] (own_cleared clean x refl (taken_client o b.now s ∙ k.name)) tt))
+        subst (AreOwn large client call) (sym (its_prepared env o s is k))
+        (each_append (IsOwn large client call) (left_by o s b.now) (cleared_by clean x ++ []) (own_left o s b.now)
+        (each_append (IsOwn large client call) (cleared_by clean x) [] (own_cleared clean x refl (taken_client o b.now s ∙ k.name)) tt))
 
-    own_refused : (code : ℕ) → AreOwn client call (refused l hello code)
-    own_refused code = each_append (IsOwn client call) (cond (nat_lt (largest_of hello) refusal_size) [] (Send l.number (connack false code []) ∷ [])) (Gone l.number ∷ [])
-        (own_cond client call (nat_lt (largest_of hello) refusal_size) [] (Send l.number (connack false code []) ∷ []) tt (tt, tt)) (tt, tt)
+    own_refused : (code : ℕ) → AreOwn large client call (refused l hello code)
+    own_refused code = each_append (IsOwn large client call) (cond (nat_lt (largest_of hello) refusal_size) [] (Send l.number (connack false code []) ∷ [])) (Gone l.number ∷ [])
+        (own_cond large client call (nat_lt (largest_of hello) refusal_size) [] (Send l.number (connack false code []) ∷ []) tt (tt, tt)) (tt, tt)
 
-    own_repeats : {X : Type 0} (now line : ℕ) (s : Session) (id : X → ℕ) (xs : List X) → AreOwn client call (all_turn_deeds now line s (map (λ x. turns.Repeat (id x)) xs))
+    own_repeats : {X : Type 0} (now line : ℕ) (s : Session) (id : X → ℕ) (xs : List X) → AreOwn large client call (all_turn_deeds now line s (map (λ x. turns.Repeat (id x)) xs))
     own_repeats now line s id [] = tt
     own_repeats now line s id (x ∷ xs) = (tt, own_repeats now line s id xs)
 
-    own_begin : (t : Bool) (r : Records) → AreOwn client call (begin_named t l hello r)
+    own_begin : (t : Bool) (r : Records) → AreOwn large client call (begin_named t l hello r)
     own_begin false r = (tt, (tt, (tt, tt)))
     own_begin true r = (tt, (tt, (tt, (tt, tt))))
 
-    own_joins : (ds : List Deed) (r : Records) (o : Option Session) → AreOwn client call ds → AreOwn client call (joins env l hello b.now ds r o)
-    own_joins ds r (Some s) h = each_append (IsOwn client call) ds (resume l hello b.now s) h (tt, (tt, (tt, own_repeats b.now l.number s (λ d. d.identifier) (due_from [] (queue_on [] s)))))
-    own_joins ds r None h = own_cond client call (nat_lt (length r.sessions) env.limits.sessions) (ds ++ begin_named _ l hello r) (refused l hello quota_exceeded)
-        (each_append (IsOwn client call) ds (begin_named _ l hello r) h (own_begin _ r)) (own_refused quota_exceeded)
+    own_joins : (ds : List Deed) (r : Records) (o : Option Session) → AreOwn large client call ds → AreOwn large client call (joins env l hello b.now ds r o)
+    own_joins ds r (Some s) h = each_append (IsOwn large client call) ds (resume l hello b.now s) h (tt, (tt, (tt, own_repeats b.now l.number s (λ d. d.identifier) (due_from [] (queue_on [] s)))))
+    own_joins ds r None h = own_cond large client call (nat_lt (length r.sessions) env.limits.sessions) (ds ++ begin_named _ l hello r) (refused l hello quota_exceeded)
+        (each_append (IsOwn large client call) ds (begin_named _ l hello r) h (own_begin _ r)) (own_refused quota_exceeded)
 
-    own_connect : AreOwn client call (prepare env hello b) → AreOwn client call (on_connect env l hello b)
+    own_connect : AreOwn large client call (prepare env hello b) → AreOwn large client call (on_connect env l hello b)
     own_connect h = by (refusal hello b.records)
       where
-        by : (o : Option ℕ) → AreOwn client call (connect_by o env l hello b)
+        by : (o : Option ℕ) → AreOwn large client call (connect_by o env l hello b)
         by (Some code) = own_refused code
         by None = let ds = prepare env hello b in let r = (after_all ds b).records in own_joins ds r (session_named client r) h
 
 -- ---- whatever it sends
 
-module _ (limits : Limits) (choice : MemberChoice) (now : ℕ) (r : Receiver) (b : Broker) where
-  abbrev IsOwnCall : Call → Type 0
-  IsOwnCall call = AreOwn r.client (Some call) (deeds limits choice now call b)
+-- the copies of its session fit on the line on which it is connected, but if this holds
+abbrev pub HasFit : Type 0 → Receiver → Broker → Type 0
+HasFit large r b =
+    (n : ℕ) (l : BrokerLine) (birth : ℕ) (s : Session) → r.line.number ≡ Some n → line_at n b ≡ Some l → l.session ≡ Some birth → session_at birth b.records ≡ Some s → s.client ≡ r.client
+    → AreFit large l.largest (queue_on l.went s)
 
-  on_its_line : (n : ℕ) (x : Back) (s : Session) (l : BrokerLine) → l.number ≡ n → line_at n b ≡ Some l → l.session ≡ Some s.birth → IsKept r.client s b → SaysWell x → IsOwnCall (Input n (wire_back r.client r.window x))
-  on_its_line n x s l number at on k says =
+module _ (large : Type 0) (limits : Limits) (choice : MemberChoice) (now : ℕ) (r : Receiver) (b : Broker) (fits : HasFit large r b) where
+  abbrev IsOwnCall : Call → Type 0
+  IsOwnCall call = AreOwn large r.client (Some call) (deeds limits choice now call b)
+
+  on_its_line : (n : ℕ) (x : Back) (s : Session) (l : BrokerLine) → r.line.number ≡ Some n → l.number ≡ n → line_at n b ≡ Some l → l.session ≡ Some s.birth → IsKept r.client s b → SaysWell x → IsOwnCall (Input n (wire_back r.client r.window x))
+  on_its_line n x s l its number at on k says =
       let packet = wire_back r.client r.window x in
       let there : line_at l.number b ≡ Some l = ap (λ (m : ℕ). line_at m b) number ∙ at in
       let h = heard_of now l.number b in
-      let ds = heard r.client (Some (Input l.number packet)) (env_of limits choice b) l s h k.session on k.no_will k.no_end k.name r.window x says l.number refl in
+      let ds = heard large r.client (Some (Input l.number packet)) (env_of limits choice b) l s h k.session on k.no_will k.no_end k.name (fits n l s.birth s its at on k.session k.name) r.window x says l.number refl in
       subst (λ (m : ℕ). IsOwnCall (Input m packet)) number
-      (subst (AreOwn r.client (Some (Input l.number packet))) (sym (input_is limits choice now packet l s b there on k.session))
-      (tt, each_append (IsOwn r.client (Some (Input l.number packet))) (next_packet (env_of limits choice b) l packet s h) [] ds tt))
+      (subst (AreOwn large r.client (Some (Input l.number packet))) (sym (input_is limits choice now packet l s b there on k.session))
+      (tt, each_append (IsOwn large r.client (Some (Input l.number packet))) (next_packet (env_of limits choice b) l packet s h) [] ds tt))
 
   -- the CONNECT comes where its line waits for it
   first_of_line : (k : ℕ) (o : Option ℕ) (clean : Bool) (l : BrokerLine) → line_at l.number b ≡ Some l → l.session ≡ None → IsHis r.client o k b → IsNamed r.client → IsOwnCall (Input l.number (wire_back r.client r.window (answers (connect clean))))
@@ -194,19 +202,19 @@ module _ (limits : Limits) (choice : MemberChoice) (now : ℕ) (r : Receiver) (b
       let env = env_of limits choice b in
       let h = heard_of now l.number b in
       let call = Some (Input l.number (packets.Connect (greeting clean r.client r.window))) in
-      subst (AreOwn r.client call) (sym (call_is limits choice now clean r.client r.window l b at waits))
-      (tt, each_append (IsOwn r.client call) (on_connect env l (greeting clean r.client r.window) h) [] (own_connect clean r.client r.window h call l.number refl env l (prepared o his)) tt)
+      subst (AreOwn large r.client call) (sym (call_is limits choice now clean r.client r.window l b at waits))
+      (tt, each_append (IsOwn large r.client call) (on_connect env l (greeting clean r.client r.window) h) [] (own_connect large clean r.client r.window h call l.number refl env l (prepared o his)) tt)
     where
       prepared : (p : Option ℕ) → IsHis r.client p k b
-          → AreOwn r.client (Some (Input l.number (packets.Connect (greeting clean r.client r.window)))) (prepare (env_of limits choice b) (greeting clean r.client r.window) (heard_of now l.number b))
-      prepared None none = subst (AreOwn r.client _) (sym (none_prepared clean r.client r.window (heard_of now l.number b) (env_of limits choice b) none)) tt
+          → AreOwn large r.client (Some (Input l.number (packets.Connect (greeting clean r.client r.window)))) (prepare (env_of limits choice b) (greeting clean r.client r.window) (heard_of now l.number b))
+      prepared None none = subst (AreOwn large r.client _) (sym (none_prepared large clean r.client r.window (heard_of now l.number b) (env_of limits choice b) none)) tt
       prepared (Some birth) own =
           let h = heard_of now l.number b in
           let x = kept_of r.client birth k b own.0 own.1 named.short named.plain in
           let s = x.0 in
           let a = x.2 in
           let kept : IsKept r.client s h = record { session = a.session; name = a.name; only = a.only; no_will = a.no_will; no_end = a.no_end; short = a.short; plain = a.plain } in
-          own_prepared clean r.client r.window h (Some (Input l.number (packets.Connect (greeting clean r.client r.window)))) l.number refl (env_of limits choice b) l (line_of s.birth h) s refl kept
+          own_prepared large clean r.client r.window h (Some (Input l.number (packets.Connect (greeting clean r.client r.window)))) l.number refl (env_of limits choice b) l (line_of s.birth h) s refl kept
 
   module _ (largest : ℕ) (ids : List CopyId) (ns : List ℕ) (placed : IsPlaced largest ids ns r b) where
     pub input_own : (n : ℕ) (x : Back) (rest : List Back) → r.line.number ≡ Some n → r.line.up ≡ x ∷ rest → SaysWell x → IsOwnCall (Input n (wire_back r.client r.window x))
@@ -222,7 +230,7 @@ module _ (limits : Limits) (choice : MemberChoice) (now : ℕ) (r : Receiver) (b
             let l = line_of_on placed.line (Some j.birth) b j.there in
             let both : Some n ≡ Some placed.line = sym number ∙ j.at in
             let same : n ≡ placed.line = cc in
-            subst (λ (m : ℕ). IsOwnCall (Input m (wire_back r.client r.window x))) (sym same) (on_its_line placed.line x k.0 l.0 l.3 l.1 (l.2 ∙ ap Some (sym k.1)) k.2 says)
+            subst (λ (m : ℕ). IsOwnCall (Input m (wire_back r.client r.window x))) (sym same) (on_its_line placed.line x k.0 l.0 j.at l.3 l.1 (l.2 ∙ ap Some (sym k.1)) k.2 says)
 
         where_waiting : (clean : Bool) → Connects clean x rest r.line.number b → IsOwnCall (Input n (wire_back r.client r.window x))
         where_waiting clean h =
@@ -237,8 +245,8 @@ module _ (limits : Limits) (choice : MemberChoice) (now : ℕ) (r : Receiver) (b
     abbrev c : Broker
     c = at_moment now b
 
-    own_pump : (n : ℕ) (l : BrokerLine) (s : Session) → s.client ≡ r.client → AreOwn r.client (Some (Pump n)) (pump_deeds l c.now s)
-    own_pump n l s its = own_turns r.client (Some (Pump n)) c.now l.number s (pump_turns l c.now s) its (pump_well r.client (Some (Pump n)) (way_of l c.now) (queue_on l.went s) (pace (way_of l c.now) (queue_on l.went s)))
+    own_pump : (n : ℕ) (l : BrokerLine) (s : Session) → s.client ≡ r.client → AreFit large l.largest (queue_on l.went s) → AreOwn large r.client (Some (Pump n)) (pump_deeds l c.now s)
+    own_pump n l s its fit = own_turns large r.client (Some (Pump n)) c.now l.number s (pump_turns l c.now s) its (pump_well large r.client (Some (Pump n)) (way_of l c.now) (queue_on l.went s) (pace (way_of l c.now) (queue_on l.went s)) fit)
 
     its_line : (n : ℕ) (l : BrokerLine) (birth : ℕ) (s : Session) → r.line.number ≡ Some n → line_at n b ≡ Some l → l.session ≡ Some birth → session_at birth b.records ≡ Some s → s.client ≡ r.client
     its_line n l birth s number at on there = by placed.seat.present
@@ -276,14 +284,14 @@ module _ (limits : Limits) (choice : MemberChoice) (now : ℕ) (r : Receiver) (b
     pub pump_own : (n : ℕ) → r.line.number ≡ Some n → IsOwnCall (Pump n)
     pump_own n number = on_line (line_at n b) refl
       where
-        on_line : (o : Option BrokerLine) → line_at n b ≡ o → AreOwn r.client (Some (Pump n)) (with_line o (λ l. on_pump l l.session) (at_moment now b))
+        on_line : (o : Option BrokerLine) → line_at n b ≡ o → AreOwn large r.client (Some (Pump n)) (with_line o (λ l. on_pump l l.session) (at_moment now b))
         on_line None at = tt
         on_line (Some l) at = on_session l.session refl
           where
-            on_session : (o : Option ℕ) → l.session ≡ o → AreOwn r.client (Some (Pump n)) (on_pump l o (at_moment now b))
+            on_session : (o : Option ℕ) → l.session ≡ o → AreOwn large r.client (Some (Pump n)) (on_pump l o (at_moment now b))
             on_session None on = tt
             on_session (Some birth) on = found (session_at birth b.records) refl
               where
-                found : (o : Option Session) → session_at birth b.records ≡ o → AreOwn r.client (Some (Pump n)) (with_session o (λ s. always (pump_deeds l (at_moment now b).now s)) (at_moment now b))
+                found : (o : Option Session) → session_at birth b.records ≡ o → AreOwn large r.client (Some (Pump n)) (with_session o (λ s. always (pump_deeds l (at_moment now b).now s)) (at_moment now b))
                 found None there = tt
-                found (Some s) there = own_pump n l s (its_line n l birth s number at on there)
+                found (Some s) there = let its = its_line n l birth s number at on there in own_pump n l s its (fits n l birth s number at on there its)

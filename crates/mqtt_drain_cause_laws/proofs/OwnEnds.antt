@@ -1,7 +1,9 @@
 -- Deeds by which copies of one client alone end, and by what ends in a drain; and the turns of a queue that make such.
-use Rattle.std.proofs.Common.{◌≡◌, ℕ, zero, suc, Bool, true, false, cond, List, [], ◌∷◌, ◌++◌, Option, Some, None, sym, subst}
+use Rattle.std.proofs.Common.{◌≡◌, ℕ, zero, suc, Bool, true, false, cond, List, [], ◌∷◌, ◌++◌, Option, Some, None, nat_lt, refl, sym, subst}
 use Rattle.std.specs.Prelude.{⊤, flat_map, nat_le, Ok, Err}
 use Rattle.std.specs.List.{AllByRecursion, cons_option}
+use Rattle.mqtt_base.specs.declared.session.Ending.{Ending}
+use Rattle.mqtt_base.specs.declared.session.Ending.TheVariants.{Taken, Refused, Expired, TooLarge, SessionEnded, Dropped}
 use Rattle.mqtt_base.specs.declared.session.Phase.{Phase}
 use Rattle.mqtt_base.specs.declared.session.Phase.TheVariants.{Waiting, Sent, Released, Oversize}
 use Rattle.mqtt_base.specs.declared.session.Qos.{Qos}
@@ -25,13 +27,47 @@ use Rattle.mqtt_rules.specs.Packets.{size_of}
 use Rattle.mqtt_rules.specs.State.{Broker, Line}
 use Rattle.mqtt_rules.specs.Step.{Call}
 use Rattle.mqtt_cause_laws.specs.Endings.{Asked, EndAt, end_at, ends_of}
-use Rattle.mqtt_drain_cause_laws.specs.DrainEnds.{EndsBy, Subscribes}
+use Rattle.mqtt_drain_cause_laws.specs.DrainEnds.{EndsBy, StartsClean, Subscribes}
 
-module _ (client : List ℕ) (call : Option Call) where
+-- as a drain has it, where a copy ends as too large only if this holds
+abbrev pub Ends : Type 0 → List ℕ → Option Call → Ending → Type 0
+Ends large client call Taken = ⊤
+Ends large client call Refused = ⊥
+Ends large client call Expired = ⊤
+Ends large client call TooLarge = large
+Ends large client call SessionEnded = StartsClean client call
+Ends large client call Dropped = Subscribes call
+
+pub ends_by : (large : Type 0) (client : List ℕ) (call : Option Call) (ending : Ending) → Ends large client call ending → EndsBy client call ending
+ends_by large client call Taken h = tt
+ends_by large client call Refused h = h
+ends_by large client call Expired h = tt
+ends_by large client call TooLarge h = tt
+ends_by large client call SessionEnded h = h
+ends_by large client call Dropped h = h
+
+-- ---- copies that are not too large but if this holds
+
+-- one that was released as too large
+abbrev pub IsFitPhase : Type 0 → Phase → Type 0
+IsFitPhase large Waiting = ⊤
+IsFitPhase large (Sent i) = ⊤
+IsFitPhase large (Released i order) = ⊤
+IsFitPhase large (Oversize i order) = large
+
+-- on a line whose client takes packets of this size
+pub record IsFit (large : Type 0) (largest : ℕ) (phase : Phase) (size : ℕ) : Type 0 where
+  pub released : IsFitPhase large phase
+  pub above : nat_lt largest size ≡ true → large
+
+abbrev pub AreFit : Type 0 → ℕ → List FlowEntry → Type 0
+AreFit large largest es = AllByRecursion (λ (e : FlowEntry). IsFit large largest e.phase e.copy.size) es
+
+module _ (large : Type 0) (client : List ℕ) (call : Option Call) where
   -- ---- deeds
 
   abbrev pub IsOwn : Deed → Type 0
-  IsOwn (At who (Leave e ending)) = (who.client ≡ client) × EndsBy client call ending
+  IsOwn (At who (Leave e ending)) = (who.client ≡ client) × Ends large client call ending
   IsOwn d = ⊤
 
   abbrev pub AreOwn : List Deed → Type 0
@@ -48,7 +84,7 @@ module _ (client : List ℕ) (call : Option Call) where
   -- ---- turns
 
   abbrev pub IsWell : Turn → Type 0
-  IsWell (turns.Leave place ending) = EndsBy client call ending
+  IsWell (turns.Leave place ending) = Ends large client call ending
   IsWell t = ⊤
 
   abbrev pub AreWell : List Turn → Type 0
@@ -91,29 +127,29 @@ module _ (client : List ℕ) (call : Option Call) where
   -- ---- a pump: copies expire, or are too large
 
   abbrev IsWellBy : Verdict → Type 0
-  IsWellBy (end ending) = EndsBy client call ending
+  IsWellBy (end ending) = Ends large client call ending
   IsWellBy v = ⊤
 
-  first_well : (late large : Bool) → IsWellBy (first_time late large)
-  first_well true large = tt
-  first_well false true = tt
-  first_well false false = tt
+  first_well : (late above : Bool) → (above ≡ true → large) → IsWellBy (first_time late above)
+  first_well true above h = tt
+  first_well false true h = h refl
+  first_well false false h = tt
 
-  large_well : (qos : Qos) (i : ℕ) → IsWellBy (too_large qos i)
-  large_well AtMostOnce i = tt
-  large_well AtLeastOnce i = tt
-  large_well ExactlyOnce i = tt
+  large_well : (qos : Qos) (i : ℕ) → large → IsWellBy (too_large qos i)
+  large_well AtMostOnce i h = h
+  large_well AtLeastOnce i h = h
+  large_well ExactlyOnce i h = tt
 
-  again_well : (here large : Bool) (qos : Qos) (i : ℕ) → IsWellBy (once_more here large qos i)
-  again_well true large qos i = tt
-  again_well false true qos i = large_well qos i
-  again_well false false qos i = tt
+  again_well : (here above : Bool) (qos : Qos) (i : ℕ) → (above ≡ true → large) → IsWellBy (once_more here above qos i)
+  again_well true above qos i h = tt
+  again_well false true qos i h = large_well qos i (h refl)
+  again_well false false qos i h = tt
 
-  verdict_well : (way : Way) (copy : QueuedCopy) (here : Bool) (phase : Phase) → IsWellBy (verdict_by way copy here phase)
-  verdict_well way copy here Waiting = first_well (is_late way.now copy) (is_large way copy)
-  verdict_well way copy here (Sent i) = again_well here (is_large way copy) copy.qos i
-  verdict_well way copy here (Released i order) = tt
-  verdict_well way copy here (Oversize i order) = tt
+  verdict_well : (way : Way) (copy : QueuedCopy) (here : Bool) (phase : Phase) → (is_large way copy ≡ true → large) → IsWellBy (verdict_by way copy here phase)
+  verdict_well way copy here Waiting h = first_well (is_late way.now copy) (is_large way copy) h
+  verdict_well way copy here (Sent i) h = again_well here (is_large way copy) copy.qos i h
+  verdict_well way copy here (Released i order) h = tt
+  verdict_well way copy here (Oversize i order) h = tt
 
   room_well : (room : ℕ) (t : Turn) (phase : Phase) (p : Pacing) (rest : Pacing → List Turn) → IsWell t → ((q : Pacing) → AreWell (rest q)) → AreWell (then_on (in_room room t) phase p rest)
   room_well zero t phase p rest h more = tt
@@ -127,9 +163,9 @@ module _ (client : List ℕ) (call : Option Call) where
   step_well (suc left) send place phase p rest h more = room_well p.room (turns.Send place (free_identifier p.used)) phase p rest tt more
   step_well (suc left) (resend i) place phase p rest h more = room_well p.room (turns.Resend place i) phase p rest tt more
 
-  pub pump_well : (way : Way) (es : List FlowEntry) (p : Pacing) → AreWell (pump_from way es p)
-  pump_well way [] p = tt
-  pump_well way (e ∷ es) p = step_well p.left (verdict way e) e.place e.phase p (pump_from way es) (verdict_well way e.copy e.here e.phase) (λ q. pump_well way es q)
+  pub pump_well : (way : Way) (es : List FlowEntry) (p : Pacing) → AreFit large way.largest es → AreWell (pump_from way es p)
+  pump_well way [] p fit = tt
+  pump_well way (e ∷ es) p fit = step_well p.left (verdict way e) e.place e.phase p (pump_from way es) (verdict_well way e.copy e.here e.phase fit.0.above) (λ q. pump_well way es q fit.1)
 
   -- ---- answers that refuse nothing
 
@@ -143,7 +179,7 @@ module _ (client : List ℕ) (call : Option Call) where
 
   acknowledged_well : (qos : Qos) (code place : ℕ) → is_refusal code ≡ false → IsWellAnswer (acknowledged qos code place)
   acknowledged_well AtMostOnce code place h = tt
-  acknowledged_well AtLeastOnce code place h = subst (λ (t : Bool). EndsBy client call (ending_by t)) (sym h) tt
+  acknowledged_well AtLeastOnce code place h = subst (λ (t : Bool). Ends large client call (ending_by t)) (sym h) tt
   acknowledged_well ExactlyOnce code place h = tt
 
   pub puback_well : (code : ℕ) (o : Option FlowEntry) → is_refusal code ≡ false → IsWellAnswer (puback_at code o)
@@ -171,15 +207,15 @@ module _ (client : List ℕ) (call : Option Call) where
       by (Released j k) = tt
       by (Oversize j k) = tt
 
-  pub pubcomp_well : (o : Option FlowEntry) → IsWellAnswer (pubcomp_at o)
-  pubcomp_well None = tt
-  pubcomp_well (Some e) = by e.phase
+  pub pubcomp_well : (o : Option FlowEntry) → ((e : FlowEntry) → o ≡ Some e → IsFitPhase large e.phase) → IsWellAnswer (pubcomp_at o)
+  pubcomp_well None h = tt
+  pubcomp_well (Some e) h = by e.phase (h e refl)
     where
-      by : (phase : Phase) → IsWellAnswer (pubcomp_by phase e.place)
-      by Waiting = tt
-      by (Sent i) = tt
-      by (Released i order) = tt
-      by (Oversize i order) = tt
+      by : (phase : Phase) → IsFitPhase large phase → IsWellAnswer (pubcomp_by phase e.place)
+      by Waiting fit = tt
+      by (Sent i) fit = tt
+      by (Released i order) fit = tt
+      by (Oversize i order) fit = fit
 
   -- ---- copies that make way
 
@@ -195,15 +231,15 @@ module _ (client : List ℕ) (call : Option Call) where
 -- ---- the ends in a step
 
 -- it is of the client's copies, by what ends them in a drain, and at this moment
-pub record IsIts (client : List ℕ) (moment : ℕ) (x : EndAt) : Type 0 where
+pub record IsIts (large : Type 0) (client : List ℕ) (moment : ℕ) (x : EndAt) : Type 0 where
   pub its : x.who.client ≡ client
-  pub by : EndsBy client x.asked.call x.ending
+  pub by : Ends large client x.asked.call x.ending
   pub at : x.broker.now ≡ moment
 
-one_its : (client : List ℕ) (m : Asked) (moment : ℕ) (b : Broker) (ds : List Deed) (d : Deed) (xs : List EndAt) → b.now ≡ moment → IsOwn client m.call d → AllByRecursion (IsIts client moment) xs → AllByRecursion (IsIts client moment) (cons_option (end_at m b ds d) xs)
-one_its client m moment b ds (At who (Leave e ending)) xs at h more = (record { its = h.0; by = h.1; at = at }, more)
-one_its client m moment b ds d xs at h more = more
+one_its : (large : Type 0) (client : List ℕ) (m : Asked) (moment : ℕ) (b : Broker) (ds : List Deed) (d : Deed) (xs : List EndAt) → b.now ≡ moment → IsOwn large client m.call d → AllByRecursion (IsIts large client moment) xs → AllByRecursion (IsIts large client moment) (cons_option (end_at m b ds d) xs)
+one_its large client m moment b ds (At who (Leave e ending)) xs at h more = (record { its = h.0; by = h.1; at = at }, more)
+one_its large client m moment b ds d xs at h more = more
 
-pub all_its : (client : List ℕ) (m : Asked) (moment : ℕ) (ds : List Deed) (b : Broker) → b.now ≡ moment → AreOwn client m.call ds → AllByRecursion (IsIts client moment) (ends_of m ds b)
-all_its client m moment [] b at h = tt
-all_its client m moment (d ∷ ds) b at h = one_its client m moment b ds d (ends_of m ds (after d b)) at h.0 (all_its client m moment ds (after d b) at h.1)
+pub all_its : (large : Type 0) (client : List ℕ) (m : Asked) (moment : ℕ) (ds : List Deed) (b : Broker) → b.now ≡ moment → AreOwn large client m.call ds → AllByRecursion (IsIts large client moment) (ends_of m ds b)
+all_its large client m moment [] b at h = tt
+all_its large client m moment (d ∷ ds) b at h = one_its large client m moment b ds d (ends_of m ds (after d b)) at h.0 (all_its large client m moment ds (after d b) at h.1)

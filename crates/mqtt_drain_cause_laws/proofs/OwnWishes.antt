@@ -34,14 +34,14 @@ use Rattle.mqtt_rules.proofs.Acts.{brought_to}
 use Rattle.mqtt_rules.proofs.Copies.{each_append, each_flat}
 use Rattle.mqtt_rules.proofs.FlightRows.{found_key}
 use Rattle.mqtt_rules.proofs.LookedUp.{client_at_part}
-use Rattle.mqtt_drain_cause_laws.specs.DrainEnds.{EndsBy, Subscribes}
+use Rattle.mqtt_drain_cause_laws.specs.DrainEnds.{Subscribes}
 use Rattle.mqtt_drain_cause_laws.proofs.OwnEnds.{AreOwn, AreWell, IsWell, drop_well}
 use Rattle.mqtt_drain_cause_laws.proofs.OwnEnds as own
 
-module _ (client : List ℕ) (call : Option Call) (asks : Subscribes call) (birth : ℕ) where
+module _ (large : Type 0) (client : List ℕ) (call : Option Call) (asks : Subscribes call) (birth : ℕ) where
   -- the deeds of a filter that is granted: only these copies leave, and no session begins or ends
   abbrev IsMild : Deed → Type 0
-  IsMild (At who (Leave e ending)) = (who.client ≡ client) × EndsBy client call ending
+  IsMild (At who (Leave e ending)) = (who.client ≡ client) × own.Ends large client call ending
   IsMild (At who part) = ⊤
   IsMild (Count n) = ⊤
   IsMild (Send n packet) = ⊤
@@ -50,11 +50,11 @@ module _ (client : List ℕ) (call : Option Call) (asks : Subscribes call) (birt
   abbrev AreMild : List Deed → Type 0
   AreMild ds = AllByRecursion IsMild ds
 
-  one_own : (d : Deed) → IsMild d → own.IsOwn client call d
+  one_own : (d : Deed) → IsMild d → own.IsOwn large client call d
   one_own (At who (Leave e ending)) h = h
   one_own d h = tt
 
-  all_own : (ds : List Deed) → AreMild ds → AreOwn client call ds
+  all_own : (ds : List Deed) → AreMild ds → AreOwn large client call ds
   all_own [] h = tt
   all_own (d ∷ ds) h = (one_own d h.0, all_own ds h.1)
 
@@ -93,7 +93,7 @@ module _ (client : List ℕ) (call : Option Call) (asks : Subscribes call) (birt
   mild_entry None f h = tt
   mild_entry (Some e) f h = h e
 
-  mild_leave : (s : Session) (t : Turn) → s.client ≡ client → IsWell client call t → AreMild (leave_deeds s t)
+  mild_leave : (s : Session) (t : Turn) → s.client ≡ client → IsWell large client call t → AreMild (leave_deeds s t)
   mild_leave s (turns.Leave place ending) its h = mild_entry (row_at copy_place place s.queue) (λ e. At (whose s) (Leave e ending) ∷ []) (λ e. ((its, h), tt))
   mild_leave s (turns.Send place id) its h = tt
   mild_leave s (turns.Resend place id) its h = tt
@@ -102,7 +102,7 @@ module _ (client : List ℕ) (call : Option Call) (asks : Subscribes call) (birt
   mild_leave s (turns.Repeat id) its h = tt
   mild_leave s (turns.Unknown id) its h = tt
 
-  mild_leaves : (s : Session) (ts : List Turn) → s.client ≡ client → AreWell client call ts → AreMild (flat_map (leave_deeds s) ts)
+  mild_leaves : (s : Session) (ts : List Turn) → s.client ≡ client → AreWell large client call ts → AreMild (flat_map (leave_deeds s) ts)
   mild_leaves s [] its h = tt
   mild_leaves s (t ∷ ts) its h = each_append IsMild (leave_deeds s t) (flat_map (leave_deeds s) ts) (mild_leave s t its h.0) (mild_leaves s ts its h.1)
 
@@ -110,7 +110,7 @@ module _ (client : List ℕ) (call : Option Call) (asks : Subscribes call) (birt
   entering env copy s its =
       let ts = way_made (queue_limits env) (since env s) (queue_on [] s) in
       each_append IsMild (flat_map (leave_deeds s) ts) (At (whose s) (Enter copy) ∷ [])
-      (mild_leaves s ts its (drop_well client call asks (length (queue_on [] s) + 1 - env.limits.queue) (since env s) (queue_on [] s))) (tt, tt)
+      (mild_leaves s ts its (drop_well large client call asks (length (queue_on [] s) + 1 - env.limits.queue) (since env s) (queue_on [] s))) (tt, tt)
 
   mild_offer : (o : Option Line) (packet : Packet) → AreMild (offer o packet)
   mild_offer None packet = tt
@@ -183,15 +183,15 @@ module _ (client : List ℕ) (call : Option Call) (asks : Subscribes call) (birt
       let mild = filter_mild env identifier a.filter (options_of a.options) b (session_at birth b.records) refl owns in
       each_append IsMild g.deeds (sub.filter_answers env birth identifier rest (after_all g.deeds b)).deeds mild (filters_mild env identifier rest (after_all g.deeds b) (owns_all g.deeds b mild owns))
 
-pub subscribe_own : (client : List ℕ) (call : Option Call) → Subscribes call → (t : Bool) (env : Env) (line : ℕ) (s : Session) (p : Asking) (b : Broker) → session_at s.birth b.records ≡ Some s → s.client ≡ client
-    → AreOwn client call (sub.subscribe_by t env line s p b)
-subscribe_own client call asks true env line s p b there its = own.own_offer client call (line_at line b) (suback p.identifier (map (λ a. identifier_in_use) p.subscriptions))
-subscribe_own client call asks false env line s p b there its =
+pub subscribe_own : (large : Type 0) (client : List ℕ) (call : Option Call) → Subscribes call → (t : Bool) (env : Env) (line : ℕ) (s : Session) (p : Asking) (b : Broker) → session_at s.birth b.records ≡ Some s → s.client ≡ client
+    → AreOwn large client call (sub.subscribe_by t env line s p b)
+subscribe_own large client call asks true env line s p b there its = own.own_offer large client call (line_at line b) (suback p.identifier (map (λ a. identifier_in_use) p.subscriptions))
+subscribe_own large client call asks false env line s p b there its =
     let a = sub.filter_answers env s.birth (number_at SubscriptionIdentifier p.properties) p.subscriptions b in
     let told = offer (line_at line b) (suback p.identifier a.codes) in
     let late = flat_map (λ d. sub.late_sends line b.now d b) a.late in
     let owns : client_at s.birth b.records ≡ Some client = ap (option_map (λ (x : Session). x.client)) there ∙ ap Some its in
-    let mild = filters_mild client call asks s.birth env (number_at SubscriptionIdentifier p.properties) p.subscriptions b owns in
-    let said = each_append (own.IsOwn client call) told late (own.own_offer client call (line_at line b) (suback p.identifier a.codes))
-    (each_flat (own.IsOwn client call) (λ d. sub.late_sends line b.now d b) (λ d. own.own_offer client call (line_at line b) (publish_of b.now false 0 d.copy)) a.late) in
-    subst (AreOwn client call) (sym (append_assoc a.deeds told late)) (each_append (own.IsOwn client call) a.deeds (told ++ late) (all_own client call asks s.birth a.deeds mild) said)
+    let mild = filters_mild large client call asks s.birth env (number_at SubscriptionIdentifier p.properties) p.subscriptions b owns in
+    let said = each_append (own.IsOwn large client call) told late (own.own_offer large client call (line_at line b) (suback p.identifier a.codes))
+    (each_flat (own.IsOwn large client call) (λ d. sub.late_sends line b.now d b) (λ d. own.own_offer large client call (line_at line b) (publish_of b.now false 0 d.copy)) a.late) in
+    subst (AreOwn large client call) (sym (append_assoc a.deeds told late)) (each_append (own.IsOwn large client call) a.deeds (told ++ late) (all_own large client call asks s.birth a.deeds mild) said)

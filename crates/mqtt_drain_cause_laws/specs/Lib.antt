@@ -1,2 +1,3 @@
 -- The ends of copies in a drain.
 pub mod DrainEnds
+pub mod Fitting

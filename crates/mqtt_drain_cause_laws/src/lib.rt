@@ -3,4 +3,4 @@
 
 mod laws;
 
-pub use laws::copies_of_a_drain_end_by_its_causes;
+pub use laws::{copies_of_a_drain_end_by_its_causes, no_copy_is_too_large_in_a_drain};

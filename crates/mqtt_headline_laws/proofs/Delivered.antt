@@ -22,6 +22,7 @@ use Rattle.mqtt_every_run_laws.proofs.EveryRun.{run_hands_once, run_keeps_ledger
 use Rattle.mqtt_every_run_laws.proofs.Scripts.{run_delivers}
 use Rattle.mqtt_drain_laws.proofs.Emptied.{script_empties}
 use Rattle.mqtt_drain_cause_laws.proofs.DrainRuns.{script_ends}
+use Rattle.mqtt_drain_cause_laws.proofs.Fitting.{script_fits}
 use Rattle.mqtt_headline_laws.specs.Delivery.{DeliversExactlyOnce, HandsOverOnce, ScriptDelivers}
 use Rattle.mqtt_headline_laws.specs.Lives.{AreFairLives, IsFairScript, Life, MayBegin, world_after}
 use Rattle.mqtt_headline_laws.proofs.Drained.{each_drains}
@@ -80,6 +81,7 @@ script_delivers limits ds w m fair = record {
   is_run = drains_are_runs limits ds w;
   delivers = run_delivers_all limits (all_turns limits ds w) w m fair;
   drained = each_drains limits ds w (script_empties limits ds w m.untouched fair) (script_ends limits ds w m.untouched fair);
+  fit = λ contents reads. script_fits limits ds w m.untouched contents fair reads;
 }
 
 pub lives_deliver : (limits : Limits) (ls : List Life) (ds : List Doing) → AreWithin limits → AreFairLives limits ls → IsFairScript limits ds (world_after limits ls) → ScriptDelivers limits ds (world_after limits ls)
