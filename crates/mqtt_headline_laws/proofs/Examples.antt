@@ -18,8 +18,8 @@ use Rattle.mqtt_world_laws.specs.Fair.{IsFair}
 use Rattle.mqtt_world_laws.specs.Once.{times_accepted}
 use Rattle.mqtt_handed_laws.specs.Drains.{Doing, drains, happens}
 use Rattle.mqtt_drain_laws.specs.Emptied.{waiting_for}
-use Rattle.mqtt_headline_laws.specs.Delivery.{DeliversExactlyOnce, ScriptDelivers}
-use Rattle.mqtt_headline_laws.specs.Lives.{IsFairLife, IsFairScript, Life, world_after}
+use Rattle.mqtt_headline_laws.specs.Delivery.{DeliversExactlyOnce, DoingsDeliver}
+use Rattle.mqtt_headline_laws.specs.Lives.{BrokerLife, IsFairLife, IsFairScript, after_lives}
 use Rattle.mqtt_headline_laws.proofs.Delivered.{lives_deliver, run_delivers_all}
 use Rattle.mqtt_headline_laws.proofs.Lives.{start_begins}
 
@@ -28,7 +28,7 @@ usual_within = record { queue = omega arith; sessions = omega arith; retained = 
 
 -- ---- a first life: a copy of QoS 2 waits for r1, and the broker is opened again
 
-abbrev first_life : Life
+abbrev first_life : BrokerLife
 first_life = record {
   doings = map happens (turns (receiver r1 10 ∷ publisher p1 ∷ joins r1 false ++ (subscribes r1 ++ (joins p1 false ++ (publish p1 draft ∷ ask (to_broker p1) ∷ [])))));
   choice = first;
@@ -49,7 +49,7 @@ abbrev second_life : List Doing
 second_life = map happens (turns others) ++ drains first r2 5 ∷ []
 
 abbrev opened_then : World
-opened_then = world_after usual (first_life ∷ [])
+opened_then = after_lives usual (first_life ∷ [])
 
 pub one_is_stored : waiting_for r1 opened_then ≡ 1
 unfolding varint
@@ -72,7 +72,7 @@ unfolding varint
 the_second_is_fair = record { within = usual_within; unspent = refl; clean = refl }
 
 -- so the law holds of it
-pub the_second_delivers : ScriptDelivers usual second_life opened_then
+pub the_second_delivers : DoingsDeliver usual second_life opened_then
 the_second_delivers = lives_deliver usual (first_life ∷ []) second_life usual_within (tt, the_first_is_fair) the_second_is_fair
 
 -- ---- a PUBACK to a publisher is lost: its message of QoS 1 is accepted twice, and completed

@@ -17,8 +17,8 @@ use Rattle.mqtt_world_laws.proofs.OnceRuns.{opened_apart}
 use Rattle.mqtt_handed_laws.specs.Drains.{Doing}
 use Rattle.mqtt_every_run_laws.specs.Retaining.{AreRetainedOnce}
 use Rattle.mqtt_every_run_laws.proofs.Untouched.{opened_untouched}
-use Rattle.mqtt_headline_laws.specs.Delivery.{ScriptDelivers}
-use Rattle.mqtt_headline_laws.specs.Lives.{IsFairScript, MayBegin}
+use Rattle.mqtt_headline_laws.specs.Delivery.{DoingsDeliver}
+use Rattle.mqtt_headline_laws.specs.Lives.{BeginsWell, IsFairScript}
 use Rattle.mqtt_headline_laws.proofs.Delivered.{script_delivers}
 use Rattle.mqtt_kept_lawful.specs.Written.{IsWritten}
 use Rattle.mqtt_kept_lawful.proofs.Facts.{facts_of}
@@ -28,7 +28,7 @@ use Rattle.mqtt_written_laws.specs.Within.{IsWrittenWithin}
 pub retained_once : (r : Records) → IsWritten r → AreRetainedOnce r
 retained_once r w = w.publications
 
-pub written_begins : (limits : Limits) (choice : MemberChoice) (now : ℕ) (r : Records) → AreWithin limits → IsWrittenWithin limits r → is_opening_spent limits choice now r ≡ false → MayBegin limits (opened_world limits choice now r)
+pub written_begins : (limits : Limits) (choice : MemberChoice) (now : ℕ) (r : Records) → AreWithin limits → IsWrittenWithin limits r → is_opening_spent limits choice now r ≡ false → BeginsWell limits (opened_world limits choice now r)
 written_begins limits choice now r within w unspent =
     let lawful = w.written.lawful in
     let f = facts_of r w.written in
@@ -43,5 +43,5 @@ pub written_contents : (limits : Limits) (choice : MemberChoice) (now : ℕ) (r 
 written_contents limits choice now r w = opening_contents of_rows rows_are limits choice now r (lawful_contents r w.lawful)
 
 pub written_delivers : (limits : Limits) (choice : MemberChoice) (now : ℕ) (r : Records) (ds : List Doing) → AreWithin limits → IsWrittenWithin limits r → is_opening_spent limits choice now r ≡ false → IsFairScript limits ds (opened_world limits choice now r)
-    → ScriptDelivers limits ds (opened_world limits choice now r)
+    → DoingsDeliver limits ds (opened_world limits choice now r)
 written_delivers limits choice now r ds within w unspent fair = script_delivers limits ds (opened_world limits choice now r) (written_begins limits choice now r within w unspent) fair

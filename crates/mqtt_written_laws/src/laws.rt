@@ -11,8 +11,8 @@ ghost use Rattle.mqtt_calls.specs.TheRules.declared.Limits.{Limits as TheLimits}
 ghost use Rattle.mqtt_world_laws.specs.Fair.{opened_world};
 ghost use Rattle.mqtt_handed_laws.specs.Drains.{Doing};
 ghost use Rattle.mqtt_every_run_laws.specs.Retaining.{AreRetainedOnce};
-ghost use Rattle.mqtt_headline_laws.specs.Delivery.{ScriptDelivers};
-ghost use Rattle.mqtt_headline_laws.specs.Lives.{IsFairScript, MayBegin};
+ghost use Rattle.mqtt_headline_laws.specs.Delivery.{DoingsDeliver};
+ghost use Rattle.mqtt_headline_laws.specs.Lives.{BeginsWell, IsFairScript};
 ghost use Rattle.mqtt_kept_lawful.specs.Written.{IsWritten};
 ghost use Rattle.mqtt_written_laws.specs.Within.{IsWrittenWithin};
 
@@ -28,11 +28,11 @@ pub fn what_a_broker_wrote_is_told_apart()
 pub fn a_world_may_begin_on_what_a_broker_wrote()
     ensures begins { (limits : TheLimits) (choice : MemberChoice) (now : ℕ) (r : Records) → AreWithin limits
         → IsWrittenWithin limits r → is_opening_spent limits choice now r ≡ false
-        → MayBegin limits (opened_world limits choice now r) }
+        → BeginsWell limits (opened_world limits choice now r) }
     ensures contents { (limits : TheLimits) (choice : MemberChoice) (now : ℕ) (r : Records) → IsWritten r
         → AreContentsLawful (opened_world limits choice now r).broker }
     ensures delivers { (limits : TheLimits) (choice : MemberChoice) (now : ℕ) (r : Records) (ds : List Doing) → AreWithin limits
         → IsWrittenWithin limits r → is_opening_spent limits choice now r ≡ false
         → IsFairScript limits ds (opened_world limits choice now r)
-        → ScriptDelivers limits ds (opened_world limits choice now r) }
+        → DoingsDeliver limits ds (opened_world limits choice now r) }
 {}
