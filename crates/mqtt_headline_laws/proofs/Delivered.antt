@@ -23,14 +23,14 @@ use Rattle.mqtt_every_run_laws.proofs.Scripts.{run_delivers}
 use Rattle.mqtt_drain_laws.proofs.Emptied.{script_empties}
 use Rattle.mqtt_drain_cause_laws.proofs.DrainRuns.{script_ends}
 use Rattle.mqtt_drain_cause_laws.proofs.Fitting.{script_fits}
-use Rattle.mqtt_headline_laws.specs.Delivery.{DeliversExactlyOnce, HandsOverOnce, ScriptDelivers}
-use Rattle.mqtt_headline_laws.specs.Lives.{AreFairLives, IsFairScript, Life, MayBegin, world_after}
+use Rattle.mqtt_headline_laws.specs.Delivery.{DeliversExactlyOnce, DoingsDeliver, HandsOverOnce}
+use Rattle.mqtt_headline_laws.specs.Lives.{AreFairLives, BeginsWell, BrokerLife, IsFairScript, after_lives}
 use Rattle.mqtt_headline_laws.proofs.Drained.{each_drains}
 use Rattle.mqtt_headline_laws.proofs.Lives.{lives_begin}
 
 -- ---- a run
 
-module _ (limits : Limits) (ts : List Turn) (w : World) (m : MayBegin limits w) (fair : IsFair limits ts w) where
+module _ (limits : Limits) (ts : List Turn) (w : World) (m : BeginsWell limits w) (fair : IsFair limits ts w) where
   all : DeliversOnce limits ts w
   all = run_delivers limits ts w m.untouched m.apart fair
 
@@ -76,7 +76,7 @@ module _ (limits : Limits) (ts : List Turn) (w : World) (m : MayBegin limits w) 
 
 -- ---- a script
 
-pub script_delivers : (limits : Limits) (ds : List Doing) (w : World) → MayBegin limits w → IsFairScript limits ds w → ScriptDelivers limits ds w
+pub script_delivers : (limits : Limits) (ds : List Doing) (w : World) → BeginsWell limits w → IsFairScript limits ds w → DoingsDeliver limits ds w
 script_delivers limits ds w m fair = record {
   is_run = drains_are_runs limits ds w;
   delivers = run_delivers_all limits (all_turns limits ds w) w m fair;
@@ -84,8 +84,8 @@ script_delivers limits ds w m fair = record {
   fit = λ contents reads. script_fits limits ds w m.untouched contents fair reads;
 }
 
-pub lives_deliver : (limits : Limits) (ls : List Life) (ds : List Doing) → AreWithin limits → AreFairLives limits ls → IsFairScript limits ds (world_after limits ls) → ScriptDelivers limits ds (world_after limits ls)
-lives_deliver limits ls ds within h fair = script_delivers limits ds (world_after limits ls) (lives_begin limits ls within h) fair
+pub lives_deliver : (limits : Limits) (ls : List BrokerLife) (ds : List Doing) → AreWithin limits → AreFairLives limits ls → IsFairScript limits ds (after_lives limits ls) → DoingsDeliver limits ds (after_lives limits ls)
+lives_deliver limits ls ds within h fair = script_delivers limits ds (after_lives limits ls) (lives_begin limits ls within h) fair
 
 -- ---- from nothing stored
 

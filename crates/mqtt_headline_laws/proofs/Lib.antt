@@ -2,3 +2,4 @@
 pub mod Lives
 pub mod Drained
 pub mod Delivered
+pub mod Examples

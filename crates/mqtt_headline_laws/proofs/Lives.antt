@@ -28,7 +28,7 @@ use Rattle.mqtt_every_run_laws.specs.Untouched.{IsUntouched}
 use Rattle.mqtt_every_run_laws.proofs.Alone.{run_keeps}
 use Rattle.mqtt_every_run_laws.proofs.EveryRun.{fair_run_kept, run_opens_again}
 use Rattle.mqtt_every_run_laws.proofs.Untouched.{start_untouched}
-use Rattle.mqtt_headline_laws.specs.Lives.{AreFairLives, Life, MayBegin, world_after}
+use Rattle.mqtt_headline_laws.specs.Lives.{AreFairLives, BeginsWell, BrokerLife, after_lives}
 
 -- ---- copies that may come yet, over a run
 
@@ -101,11 +101,11 @@ numbers_kept limits = record {
 
 -- ---- so it may begin
 
-pub start_begins : (limits : Limits) → AreWithin limits → MayBegin limits start
+pub start_begins : (limits : Limits) → AreWithin limits → BeginsWell limits start
 start_begins limits within = record { untouched = start_untouched limits within; apart = start_apart; numbers = (tt, tt) }
 
-pub run_begins : (limits : Limits) (ts : List Turn) (choice : MemberChoice) (now : ℕ) (w : World) → MayBegin limits w → IsFair limits ts w → is_opening_spent limits choice now (run limits ts w).broker.records ≡ false
-    → MayBegin limits (opened_world limits choice now (run limits ts w).broker.records)
+pub run_begins : (limits : Limits) (ts : List Turn) (choice : MemberChoice) (now : ℕ) (w : World) → BeginsWell limits w → IsFair limits ts w → is_opening_spent limits choice now (run limits ts w).broker.records ≡ false
+    → BeginsWell limits (opened_world limits choice now (run limits ts w).broker.records)
 run_begins limits ts choice now w m fair unspent =
     let r = (run limits ts w).broker.records in
     let s = (fair_run_kept limits ts w m.untouched fair []).stands.standing.around.steady in
@@ -116,11 +116,11 @@ run_begins limits ts choice now w m fair unspent =
     }
 
 -- and after any lives
-pub lives_begin : (limits : Limits) (ls : List Life) → AreWithin limits → AreFairLives limits ls → MayBegin limits (world_after limits ls)
+pub lives_begin : (limits : Limits) (ls : List BrokerLife) → AreWithin limits → AreFairLives limits ls → BeginsWell limits (after_lives limits ls)
 lives_begin limits [] within h = start_begins limits within
 lives_begin limits (l ∷ ls) within h =
-    let w = world_after limits ls in
+    let w = after_lives limits ls in
     let is = drains_are_runs limits l.doings w in
-    subst (λ (v : World). MayBegin limits (opened_world limits l.choice l.now v.broker.records)) (sym is)
+    subst (λ (v : World). BeginsWell limits (opened_world limits l.choice l.now v.broker.records)) (sym is)
     (run_begins limits (all_turns limits l.doings w) l.choice l.now w (lives_begin limits ls within h.0) h.1.fair
     (subst (λ (v : World). is_opening_spent limits l.choice l.now v.broker.records ≡ false) is h.1.unspent))

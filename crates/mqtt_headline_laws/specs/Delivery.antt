@@ -117,7 +117,7 @@ EachDrains limits (d ∷ ds) w = DrainsWhere limits d w × EachDrains limits ds 
 
 -- It is the run of its events and of those that its drains are made of; all holds of that run, and of each drain. No copy ends in
 -- a drain as too large, if what is stored has lawful contents and each packet that is read is lawful
-pub record ScriptDelivers (limits : Limits) (ds : List Doing) (w : World) : Type 0 where
+pub record DoingsDeliver (limits : Limits) (ds : List Doing) (w : World) : Type 0 where
   pub is_run : after_doings limits ds w ≡ run limits (all_turns limits ds w) w
   pub delivers : DeliversExactlyOnce limits (all_turns limits ds w) w
   pub drained : EachDrains limits ds w

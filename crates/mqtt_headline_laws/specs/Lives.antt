@@ -12,7 +12,7 @@ use Rattle.mqtt_every_run_laws.specs.Untouched.{IsUntouched}
 
 -- nobody is there; the tables are as a broker leaves them, tell their copies apart, and have numbers of publications that were
 -- accepted
-pub record MayBegin (limits : Limits) (w : World) : Type 0 where
+pub record BeginsWell (limits : Limits) (w : World) : Type 0 where
   pub untouched : IsUntouched limits w
   pub apart : TellsApart w.broker.records
   pub numbers : HasAcceptedNumbers w.broker.records
@@ -24,24 +24,24 @@ IsFairScript limits ds w = IsFair limits (all_turns limits ds w) w
 -- ---- lives of a broker, one after the other
 
 -- a script, after which the broker is opened again at this moment, on what the script left
-pub record Life : Type 0 where
+pub record BrokerLife : Type 0 where
   pub doings : List Doing
   pub choice : MemberChoice
   pub now : ℕ
 
-abbrev pub opened_after : Limits → Life → World → World
+abbrev pub opened_after : Limits → BrokerLife → World → World
 opened_after limits l w = opened_world limits l.choice l.now (after_doings limits l.doings w).broker.records
 
 -- the last life comes first; before the first one nothing is stored
-abbrev pub world_after : Limits → List Life → World
-world_after limits [] = start
-world_after limits (l ∷ ls) = opened_after limits l (world_after limits ls)
+abbrev pub after_lives : Limits → List BrokerLife → World
+after_lives limits [] = start
+after_lives limits (l ∷ ls) = opened_after limits l (after_lives limits ls)
 
 -- the script is fair, and opening spends no number
-pub record IsFairLife (limits : Limits) (l : Life) (w : World) : Type 0 where
+pub record IsFairLife (limits : Limits) (l : BrokerLife) (w : World) : Type 0 where
   pub fair : IsFairScript limits l.doings w
   pub unspent : is_opening_spent limits l.choice l.now (after_doings limits l.doings w).broker.records ≡ false
 
-abbrev pub AreFairLives : Limits → List Life → Type 0
+abbrev pub AreFairLives : Limits → List BrokerLife → Type 0
 AreFairLives limits [] = ⊤
-AreFairLives limits (l ∷ ls) = AreFairLives limits ls × IsFairLife limits l (world_after limits ls)
+AreFairLives limits (l ∷ ls) = AreFairLives limits ls × IsFairLife limits l (after_lives limits ls)

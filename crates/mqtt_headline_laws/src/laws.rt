@@ -9,8 +9,8 @@ ghost use Rattle.mqtt_laws.specs.Run.{Turn, run};
 ghost use Rattle.mqtt_laws.specs.World.{World, start};
 ghost use Rattle.mqtt_world_laws.specs.Fair.{IsFair, opened_world};
 ghost use Rattle.mqtt_handed_laws.specs.Drains.{Doing};
-ghost use Rattle.mqtt_headline_laws.specs.Delivery.{DeliversExactlyOnce, ScriptDelivers};
-ghost use Rattle.mqtt_headline_laws.specs.Lives.{AreFairLives, IsFairScript, Life, MayBegin, world_after};
+ghost use Rattle.mqtt_headline_laws.specs.Delivery.{DeliversExactlyOnce, DoingsDeliver};
+ghost use Rattle.mqtt_headline_laws.specs.Lives.{AreFairLives, BeginsWell, BrokerLife, IsFairScript, after_lives};
 
 /// Exactly-once delivery, over every script of events and drains, whatever is lost, given up, restarted or stopped, and
 /// however often the broker was opened again before on what an earlier script left. Each message of a publisher is accepted
@@ -20,14 +20,14 @@ ghost use Rattle.mqtt_headline_laws.specs.Lives.{AreFairLives, IsFairScript, Lif
 /// in a bounded number of rounds, and copies end in it by its causes. Asked: nothing but that each script is fair, and that
 /// opening spends no number (3.3.4, 4.3, 4.4, 4.6, 4.8, 4.9).
 pub fn messages_are_delivered_exactly_once()
-    ensures delivers { (limits : Limits) (lives : List Life) (ds : List Doing) → AreWithin limits
-        → AreFairLives limits lives → IsFairScript limits ds (world_after limits lives)
-        → ScriptDelivers limits ds (world_after limits lives) }
+    ensures delivers { (limits : Limits) (lives : List BrokerLife) (ds : List Doing) → AreWithin limits
+        → AreFairLives limits lives → IsFairScript limits ds (after_lives limits lives)
+        → DoingsDeliver limits ds (after_lives limits lives) }
 
     // From any tables that are as a broker leaves them.
-    ensures wherever { (limits : Limits) (ds : List Doing) (w : World) → MayBegin limits w → IsFairScript limits ds w
-        → ScriptDelivers limits ds w }
-    ensures run { (limits : Limits) (ts : List Turn) (w : World) → MayBegin limits w → IsFair limits ts w
+    ensures wherever { (limits : Limits) (ds : List Doing) (w : World) → BeginsWell limits w → IsFairScript limits ds w
+        → DoingsDeliver limits ds w }
+    ensures run { (limits : Limits) (ts : List Turn) (w : World) → BeginsWell limits w → IsFair limits ts w
         → DeliversExactlyOnce limits ts w }
 
     // From nothing stored, in the words of the run.
@@ -38,10 +38,10 @@ pub fn messages_are_delivered_exactly_once()
 
 /// So a run may begin: with nothing stored, or when the broker is opened on what any fair run has left that began so (4.1).
 pub fn what_a_run_leaves_may_begin_another()
-    ensures nothing { (limits : Limits) → AreWithin limits → MayBegin limits start }
-    ensures again { (limits : Limits) (ts : List Turn) (choice : MemberChoice) (now : ℕ) (w : World) → MayBegin limits w
+    ensures nothing { (limits : Limits) → AreWithin limits → BeginsWell limits start }
+    ensures again { (limits : Limits) (ts : List Turn) (choice : MemberChoice) (now : ℕ) (w : World) → BeginsWell limits w
         → IsFair limits ts w → is_opening_spent limits choice now (run limits ts w).broker.records ≡ false
-        → MayBegin limits (opened_world limits choice now (run limits ts w).broker.records) }
-    ensures lives { (limits : Limits) (lives : List Life) → AreWithin limits → AreFairLives limits lives
-        → MayBegin limits (world_after limits lives) }
+        → BeginsWell limits (opened_world limits choice now (run limits ts w).broker.records) }
+    ensures lives { (limits : Limits) (lives : List BrokerLife) → AreWithin limits → AreFairLives limits lives
+        → BeginsWell limits (after_lives limits lives) }
 {}

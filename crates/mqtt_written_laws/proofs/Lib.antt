@@ -1,0 +1,2 @@
+-- What a broker wrote may begin a world.
+pub mod Begun
