@@ -6,6 +6,8 @@ mod clients;
 #[cfg(test)]
 mod full;
 #[cfg(test)]
+mod groups;
+#[cfg(test)]
 mod slow;
 #[cfg(test)]
 mod sockets;
