@@ -76,40 +76,6 @@ impl Encoded {
     }
 }
 
-/// The PUBLISH of a copy of QoS 0, which has a spelling, at a moment in milliseconds (3.3), twice: both share their bytes.
-fn encoded_twice(
-    alloc: Global,
-    moment: u64,
-    copy: &MessageCopy,
-) -> Result<(Bytes, Bytes), AllocError>
-    requires { IsSpelled copy.now }
-    ensures first { IfOk result (λ both. both.0 ≡ shortest_of (publish_of moment false 0 copy.now)) }
-    ensures second { IfOk result (λ both. both.1 ≡ shortest_of (publish_of moment false 0 copy.now)) }
-{
-    let bytes = publish(alloc, moment, false, 0, copy)?;
-    let shared = bytes.clone()?;
-    Ok((bytes, shared))
-}
-
-/// The same, once; it is what was encoded last from now on.
-fn encode(
-    alloc: Global,
-    moment: u64,
-    copy: MessageCopy,
-    last: &mut Option<Encoded>,
-) -> Result<Bytes, AllocError>
-    requires { IsSpelled copy }
-    ensures { IfOk result (λ bytes. bytes ≡ shortest_of (publish_of moment false 0 copy)) }
-{
-    let (bytes, shared) = encoded_twice(alloc, moment, &copy)?;
-    drop(last.replace(Encoded {
-        moment,
-        copy,
-        bytes: shared,
-    }));
-    Ok(bytes)
-}
-
 /// The PUBLISH of a copy of QoS 0, which has a spelling, at a moment in milliseconds (3.3). Where it is the one that was
 /// encoded last, both share their bytes.
 pub(crate) fn encoding(
@@ -123,9 +89,15 @@ pub(crate) fn encoding(
 {
     if let Some(encoded) = last {
         if encoded.is_of(moment, &copy) {
-            drop(copy);
             return encoded.bytes.clone();
         }
     }
-    encode(alloc, moment, copy, last)
+    let bytes = publish(alloc, moment, false, 0, &copy)?;
+    let shared = bytes.clone()?;
+    *last = Some(Encoded {
+        moment,
+        copy,
+        bytes: shared,
+    });
+    Ok(bytes)
 }

@@ -1,5 +1,5 @@
 //! A step under way: deeds are done in place and noted for the store, and can be taken back.
-ghost use Rattle.std.specs.Prelude.{◌≡◌, ◌≤◌, ◌<◌, [], ◌∷◌, ◌++◌, option_copied, IfOk, IfErr, OnOk, OnErr, vec_len, vec_capacity};
+ghost use Rattle.std.specs.Prelude.{◌≡◌, ◌≤◌, ◌<◌, [], option_copied, IfOk, IfErr, OnOk, OnErr, vec_len, vec_capacity};
 ghost use Rattle.mqtt_base.specs.declared.limits.TheConstants.{LAST_NUMBER as last_number};
 ghost use Rattle.mqtt_records.specs.Records.{changed};
 ghost use Rattle.mqtt_rules.specs.State.{session_at};
@@ -9,7 +9,6 @@ ghost use Rattle.mqtt_tables.specs.Stepping.{at_rest, written, told, shut, sent,
 
 use crate::fault::StepFault;
 use crate::tables::Tables;
-use crate::undo::Undo;
 use bytes::Bytes;
 use mqtt_base::LAST_NUMBER;
 use mqtt_records::{Change, Counter, Records, Session};
@@ -80,26 +79,19 @@ fn number_given(row: &Change) -> u64
     }
 }
 
-/// Makes room in the journal for one entry, and notes a row for the store. A refusal notes nothing: Spent (3) where the row
-/// gives a number above the last.
-pub(crate) fn note(
-    journal: &mut Vec<Undo>,
-    rows: &mut Vec<Change>,
-    row: &Change,
-) -> Result<(), StepFault>
-    ensures noted { OnOk result (rows.new.items ≡ rows.old.items ++ row.now ∷ []) }
-    ensures kept { OnErr result (rows.new.items ≡ rows.old.items) }
+/// A row as it is noted for the store, for which there is room then. Spent (3) where it gives a number above the last.
+fn row_noted(rows: &mut Vec<Change>, row: &Change) -> Result<Change, StepFault>
+    ensures noted { IfOk result (λ noted. noted ≡ row.now) }
     ensures within { OnOk result (number_given row.now ≤ last_number) }
-    ensures same { journal.new.items ≡ journal.old.items }
-    ensures room { OnOk result (vec_len journal.new < vec_capacity journal.new) }
+    ensures same { rows.new.items ≡ rows.old.items }
+    ensures room { OnOk result (vec_len rows.new < vec_capacity rows.new) }
     ensures fault { IfErr result (IsRefusedRow row.now) }
 {
     if number_given(row) > LAST_NUMBER {
         return Err(StepFault::Spent);
     }
-    journal.reserve(1)?;
-    rows.push(row.clone()?)?;
-    Ok(())
+    rows.reserve(1)?;
+    Ok(row.clone()?)
 }
 
 impl Step {
@@ -132,7 +124,9 @@ impl Step {
         ensures err { OnErr result (self.new ≡ self.old) }
         ensures fault { IfErr result (IsRefusedRow row) }
     {
-        self.tables.make(&mut self.rows, row, undo)?;
+        let noted = row_noted(&mut self.rows, &row)?;
+        self.tables.make(row, undo)?;
+        self.rows.push(noted).unwrap();
         Ok(())
     }
 

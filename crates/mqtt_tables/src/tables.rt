@@ -1,6 +1,6 @@
 //! What is stored and the lines, changed in place, with a journal that takes the changes back.
-ghost use Rattle.std.specs.Prelude.{◌≡◌, ◌≤◌, [], ◌∷◌, ◌++◌, Some, length, option_copied, IfOk, IfErr, OnOk, OnErr};
-ghost use Rattle.mqtt_base.specs.declared.limits.TheConstants.{LAST_NUMBER as last_number, LINE_LIMIT as line_limit};
+ghost use Rattle.std.specs.Prelude.{◌≡◌, ◌≤◌, [], Some, length, option_copied, IfOk, OnOk, OnErr};
+ghost use Rattle.mqtt_base.specs.declared.limits.TheConstants.{LINE_LIMIT as line_limit};
 ghost use Rattle.mqtt_rows.specs.Order.{IsAscending, row_at, change_row, remove_row};
 ghost use Rattle.mqtt_records.specs.Records.{changed, kept_place};
 ghost use Rattle.mqtt_records.specs.declared.session.Session.{Session as TheSession};
@@ -9,16 +9,12 @@ ghost use Rattle.mqtt_records.specs.declared.change.Change.TheVariants.{RemoveSe
 ghost use Rattle.mqtt_topic.specs.Aliases.{IsInRange};
 ghost use Rattle.mqtt_rules.specs.Laws.{HasTables};
 ghost use Rattle.mqtt_rules.specs.State.{Line, session_at, session_named};
-ghost use Rattle.mqtt_rules.specs.Step.{number_given};
 ghost use Rattle.mqtt_tables.specs.Lines.{line_changed, line_number, with_alias};
 ghost use Rattle.mqtt_tables.specs.Backs.{TakesLineBack};
-ghost use Rattle.mqtt_tables.specs.Stepping.{IsRefusedRow};
 ghost use Rattle.mqtt_tables.specs.Undoing.{become, settled, taken_back, undone, broker_of, with_change, with_lines, with_line_changed, with_linked, with_moment_of, moment_of};
 
-use crate::fault::StepFault;
 use crate::line::{LineChange, LineState};
 use crate::started::{publications_before, subscribes_before};
-use crate::step::note;
 use crate::undo::Undo;
 use mqtt_base::LINE_LIMIT;
 use mqtt_named::NamedRecords;
@@ -187,29 +183,15 @@ impl Tables {
         Ok(())
     }
 
-    /// Makes a change that another takes back, and notes its row for the store. A refusal changes nothing.
-    pub(crate) fn make(
-        &mut self,
-        rows: &mut Vec<Change>,
-        change: Change,
-        undo: Change,
-    ) -> Result<(), StepFault>
+    /// Makes a change that another takes back. Want of memory changes nothing.
+    pub(crate) fn make(&mut self, change: Change, undo: Change) -> Result<(), AllocError>
         requires { changed undo (changed change self.old.broker.records)
             ≡ self.old.broker.records }
         ensures ok { OnOk result (self.new
             ≡ become (with_change change self.old.broker) self.old) }
         ensures err { OnErr result (self.new ≡ self.old) }
-        ensures noted { OnOk result (rows.new.items ≡ rows.old.items ++ change ∷ []) }
-        ensures kept { OnErr result (rows.new.items ≡ rows.old.items) }
-        ensures within { OnOk result (number_given change ≤ last_number) }
-        ensures fault { IfErr result (IsRefusedRow change) }
     {
-        if let Err(fault) = note(&mut self.journal, rows, &change) {
-            drop(change);
-            drop(undo);
-            return Err(fault);
-        }
-        self.journal.push(Undo::Make { change: undo }).unwrap();
+        self.journal.push(Undo::Make { change: undo })?;
         self.records.change(change);
         Ok(())
     }
