@@ -1,11 +1,11 @@
 -- Worked rows of topics that are told, of forms and of sizes, by computing (MQTT 5.0, 3.1.2.11.5, 3.3.2.3.4).
-use Rattle.std.proofs.Common.{◌≡◌, ℕ, true, false, refl, codes, List, [], ◌∷◌, length, Some, None}
+use Rattle.std.proofs.Common.{◌≡◌, ℕ, refl, codes, List, [], ◌∷◌, length, Some, None}
 use Rattle.mqtt_base.specs.Values.{varint}
 use Rattle.mqtt_topic_aliases.specs.declared.form.Form.TheVariants.{Plain, Named, Short}
 use Rattle.mqtt_topic_aliases.specs.declared.sizes.OtherBytes.{OtherBytes}
 use Rattle.mqtt_topic_aliases.specs.Told.{ToldTopics, alias_of, forms, most_of, next_alias, none_told, shortened, with_told}
 use Rattle.mqtt_topic_aliases.specs.Sizes.{form_for, size_in}
-use Rattle.mqtt_topic_aliases.specs.Said.{Meant, Said, said}
+use Rattle.mqtt_topic_aliases.specs.Said.{Meant, said}
 
 none_was_asked_for : most_of None ≡ 0
 none_was_asked_for = refl

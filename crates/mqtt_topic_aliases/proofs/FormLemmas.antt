@@ -1,11 +1,11 @@
 -- Which form a PUBLISH gets, and that what goes out is allowed (MQTT 5.0, 3.1.2.11.4, 3.3.2.3.4).
-use Rattle.std.proofs.Common.{◌≡◌, ℕ, ◌≤◌, Bool, true, false, cond, List, [], ◌∷◌, ◌++◌, length, take, refl, sym, ap, subst, ◌∙◌, Option, Some, None, inl, inr}
+use Rattle.std.proofs.Common.{◌≡◌, ℕ, ◌≤◌, Bool, true, false, cond, List, [], ◌∷◌, ◌++◌, length, take, refl, ap, ◌∙◌, Option, Some, None, inl, inr}
 use Rattle.mqtt_topic.specs.Aliases.{no_aliases}
 use Rattle.mqtt_topic_aliases.specs.declared.form.Form.{Form}
 use Rattle.mqtt_topic_aliases.specs.declared.sizes.OtherBytes.{OtherBytes}
 use Rattle.mqtt_topic_aliases.specs.Told.{ToldTopics, forms, none_told, shortened, with_told, after_send}
-use Rattle.mqtt_topic_aliases.specs.Sizes.{IsAmong, IsFirstWithin, NoneIsWithin, is_within, first_within, form_for}
-use Rattle.mqtt_topic_aliases.specs.Said.{AreAllowed, AreMeantNames, AreNames, MeanTheirTopics, Meant, Said, said, said_first}
+use Rattle.mqtt_topic_aliases.specs.Sizes.{IsAmong, IsFirstWithin, is_within, first_within, form_for}
+use Rattle.mqtt_topic_aliases.specs.Said.{AreAllowed, AreMeantNames, AreNames, MeanTheirTopics, Meant, said, said_first}
 use Rattle.mqtt_topic_aliases.proofs.AgreeLemmas.{agree}
 
 -- the first that is within is one of the forms, and within

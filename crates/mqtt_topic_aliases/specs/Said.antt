@@ -1,5 +1,5 @@
 -- Topics that are sent one after the other, and what a reader makes of them (MQTT 5.0, 3.3.2.3.4).
-use Rattle.std.specs.Prelude.{◌≡◌, ℕ, ⊤, List, [], ◌∷◌, Option, Some, None}
+use Rattle.std.specs.Prelude.{ℕ, ⊤, List, [], ◌∷◌, Option, Some, None}
 use Rattle.mqtt_topic.specs.Names.{IsTopicName}
 use Rattle.mqtt_topic.specs.Aliases.{AliasTable, Resolves, after_resolve}
 use Rattle.mqtt_topic_aliases.specs.declared.form.Form.{Form}

@@ -1,5 +1,5 @@
 -- The size of a PUBLISH in each of its forms (MQTT 5.0, 2.1.4, 3.1.2.11.4, 3.3).
-use Rattle.std.specs.Prelude.{◌≡◌, ℕ, ◌+◌, ◌^◌, Bool, true, false, cond, ◌&&◌, ◌⊎◌, List, [], ◌∷◌, length, nat_lt, nat_le, Option, Some, None}
+use Rattle.std.specs.Prelude.{◌≡◌, ℕ, ◌+◌, ◌^◌, Bool, true, false, cond, ◌⊎◌, List, [], ◌∷◌, length, nat_lt, nat_le, Option, Some, None}
 use Rattle.mqtt_base.specs.Values.{varint}
 use Rattle.mqtt_topic_aliases.specs.declared.form.Form.{Form}
 use Rattle.mqtt_topic_aliases.specs.declared.form.Form.TheVariants.{Plain, Named, Short}
