@@ -1,5 +1,5 @@
 -- Topic aliases as a sender gives them, and the forms of a PUBLISH (MQTT 5.0, 3.1.2.11.5, 3.3.2.1, 3.3.2.3.4).
-use Rattle.std.specs.Prelude.{ℕ, suc, cond, List, [], ◌∷◌, ◌++◌, length, min, take, nat_lt, bytes_eq, Option, Some, None}
+use Rattle.std.specs.Prelude.{ℕ, ⊤, suc, cond, List, [], ◌∷◌, ◌++◌, length, min, take, nat_lt, bytes_eq, Option, Some, None}
 use Rattle.mqtt_topic_aliases.specs.declared.told.TheConstants.{ALIAS_LIMIT}
 use Rattle.mqtt_topic_aliases.specs.declared.form.Form.{Form}
 use Rattle.mqtt_topic_aliases.specs.declared.form.Form.TheVariants.{Plain, Named, Short}
@@ -73,3 +73,10 @@ told_in (Short alias) topic told = told
 abbrev pub after_send : Option Form → List ℕ → ToldTopics → ToldTopics
 after_send None topic told = told
 after_send (Some form) topic told = told_in form topic told
+
+-- a packet in this form tells its topic
+abbrev pub IsTelling : Option Form → Type 0
+IsTelling None = ⊥
+IsTelling (Some Plain) = ⊥
+IsTelling (Some (Named alias)) = ⊤
+IsTelling (Some (Short alias)) = ⊥

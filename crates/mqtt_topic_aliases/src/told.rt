@@ -1,6 +1,6 @@
 //! The topics that a client was told by an alias (MQTT 5.0, 3.1.2.11.5, 3.3.2.3.4).
-ghost use Rattle.std.specs.Prelude.{◌≡◌, ◌≤◌, None, IfErr, IfOk, OnErr, OnOk, length};
-ghost use Rattle.mqtt_topic_aliases.specs.Told.{alias_of, after_send, most_of, next_alias, none_told, place_from, shortened, told_if};
+ghost use Rattle.std.specs.Prelude.{◌≡◌, ◌≤◌, None, IfErr, IfOk, IsSome, OnErr, OnOk, length};
+ghost use Rattle.mqtt_topic_aliases.specs.Told.{IsTelling, alias_of, after_send, most_of, next_alias, none_told, place_from, shortened, told_if};
 ghost use Rattle.mqtt_topic_aliases.specs.Sizes.{form_for};
 
 use crate::form::Form;
@@ -86,8 +86,9 @@ impl OutAliases {
         ensures number { IfOk result (λ number. number ≡ next_alias self.old) }
         ensures ok { OnOk result (self.new ≡ told_if (next_alias self.old) topic.now self.old) }
 
-        // Want of memory is the only refusal, and changes nothing.
+        // Want of memory is the only refusal, only where an alias is free, and changes nothing.
         ensures fault { IfErr result (λ fault. fault ≡ TopicFault.Memory) }
+        ensures only { OnErr result (IsSome (next_alias self.old)) }
         ensures err { OnErr result (self.new ≡ self.old) }
     {
         let Some(alias) = self.next() else {
@@ -133,8 +134,9 @@ impl OutAliases {
         ensures ok { OnOk result (self.new
             ≡ after_send (form_for largest self.old topic.now other) topic.now self.old) }
 
-        // Want of memory is the only refusal, and changes nothing.
+        // Want of memory is the only refusal, only of a packet that tells, and changes nothing.
         ensures fault { IfErr result (λ fault. fault ≡ TopicFault.Memory) }
+        ensures only { OnErr result (IsTelling (form_for largest self.old topic.now other)) }
         ensures err { OnErr result (self.new ≡ self.old) }
     {
         let form = self.form_for(largest, topic, other);
