@@ -1,0 +1,2 @@
+-- States that are alike but for what waiting copies say.
+pub mod Alike
