@@ -9,4 +9,5 @@ pub mod Connecting
 pub mod Subscribing
 pub mod Calls
 pub mod Steps
+pub mod SlimRows
 pub mod Examples

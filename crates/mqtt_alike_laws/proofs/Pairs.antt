@@ -1,6 +1,6 @@
 -- Two lists that are alike one by one.
-use Rattle.std.proofs.Common.{◌≡◌, ℕ, suc, arith, Bool, true, false, cond, not, ◌||◌, List, [], ◌∷◌, ◌++◌, map, length, Option, Some, None, nat_eq, nat_lt, refl, sym, ap, ap₂, ◌∙◌}
-use Rattle.std.specs.Prelude.{⊤, filter, find, flat_map, filter_map, is_some, is_none, option_map}
+use Rattle.std.proofs.Common.{◌≡◌, ℕ, arith, Bool, true, false, cond, not, ◌||◌, List, [], ◌∷◌, ◌++◌, map, length, Option, Some, None, nat_eq, nat_lt, refl, ap, ap₂}
+use Rattle.std.specs.Prelude.{⊤, find, flat_map, filter_map, is_some, is_none, option_map}
 use Rattle.std.specs.List.{cons_option}
 use Rattle.mqtt_rows.specs.Order.{row_at, has_row, insert_row, put_row, remove_row, change_row}
 use Rattle.mqtt_alike_laws.specs.Alike.{Each}

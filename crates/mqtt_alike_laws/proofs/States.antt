@@ -1,10 +1,9 @@
 -- What changes and deeds make of brokers that are alike.
-use Rattle.std.proofs.Common.{◌≡◌, ℕ, suc, Bool, true, false, cond, ◌||◌, List, [], ◌∷◌, ◌++◌, map, length, Option, Some, None, nat_lt, refl, sym, ap, ap₂, subst, subst₂, ◌∙◌}
+use Rattle.std.proofs.Common.{◌≡◌, ℕ, suc, List, [], ◌∷◌, map, Option, Some, None, refl, sym, ap, ap₂, subst, subst₂, ◌∙◌}
 use Rattle.mqtt_base.specs.declared.limits.TheConstants.{SESSION_LIMIT, QUEUE_LIMIT}
 use Rattle.mqtt_base.specs.declared.session.Ending.{Ending}
 use Rattle.mqtt_base.specs.declared.session.Phase.{Phase}
 use Rattle.mqtt_base.specs.declared.session.Phase.TheVariants.{Waiting}
-use Rattle.mqtt_message.specs.declared.message.Will.{Will}
 use Rattle.mqtt_message.specs.Queue.{CopyRow}
 use Rattle.mqtt_records.specs.declared.change.Counter.TheVariants.{Births, Publications, Subscribes, Autos, Moment}
 use Rattle.mqtt_records.specs.declared.change.Change.{Change}
@@ -17,9 +16,9 @@ use Rattle.mqtt_records.specs.Session.{birth_of, copy_place, fresh, in_phase, wi
 use Rattle.mqtt_rows.specs.Order.{has_row, put_row, change_row}
 use Rattle.mqtt_routes.specs.Intended.{greatest}
 use Rattle.mqtt_rules.specs.State.{Line, Broker, session_at}
-use Rattle.mqtt_rules.specs.Deeds.{Whose, Part, Resume, Close, SetExpiry, DropWill, Subscribe, Unsubscribe, Open, Release, Enter, Mark, Leave, Deed, Accept, Begin, Name, Count, At, Finish, Keep, Forget, RefuseWill, Link, On, Send, Gone, Act, after, after_all, rows_of, rows_of_all, part_rows, part_rows_of, lines_after, given_after, without_place}
-use Rattle.mqtt_alike_laws.specs.Alike.{Each, AlikeCopies, AlikeRows, AlikeSessions, AlikeRecords, AlikeBrokers, AlikeDeeds, AlikeLeaves, AlikeSends, same, leaves, sends, with_queue, with_sessions, with_records}
-use Rattle.mqtt_alike_laws.proofs.Pairs.{Both, by_cond, each_refl, each_map, each_length, map_same, both_at, each_changed, each_removed, each_put, has_same}
+use Rattle.mqtt_rules.specs.Deeds.{Whose, Part, Resume, Close, SetExpiry, DropWill, Subscribe, Unsubscribe, Open, Release, Enter, Mark, Leave, Deed, Accept, Begin, Name, Count, At, Finish, Keep, Forget, RefuseWill, Link, On, Send, Gone, after, after_all, rows_of, part_rows, part_rows_of, lines_after, given_after, without_place}
+use Rattle.mqtt_alike_laws.specs.Alike.{Each, AlikeRows, AlikeSessions, AlikeRecords, AlikeBrokers, AlikeDeeds, same, leaves, sends, with_queue, with_sessions, with_records}
+use Rattle.mqtt_alike_laws.proofs.Pairs.{Both, by_cond, each_refl, map_same, both_at, each_changed, each_removed, each_put, has_same}
 
 -- ---- what is alike to itself
 
@@ -29,8 +28,8 @@ row_alike e = record { place = refl; phase = refl; copy = record { seen = refl; 
 pub session_alike : (s : Session) → AlikeSessions s s
 session_alike s = record { rest = refl; queue = each_refl AlikeRows row_alike s.queue }
 
-pub deed_alike : (d : Deed) → AlikeDeeds d d
-deed_alike d = same refl
+pub deed_alike : (P : Type 0) (d : Deed) → AlikeDeeds P d d
+deed_alike P d = same refl
 
 -- ---- what is alike to a session, to records, to a broker: the same with other rows
 
@@ -184,30 +183,31 @@ DoSame d e = (r : Records) (now : ℕ) (ls : List Line) (given : ℕ) → (rows_
 leave_does : (who : Whose) (x y : CopyRow) (ending : Ending) → x.place ≡ y.place → DoSame (At who (Leave x ending)) (At who (Leave y ending))
 leave_does who x y ending e r now ls given = (leave_rows who x y ending (session_at who.birth r) e, ap (λ (n : ℕ). map (without_place who.birth n) ls) e, refl)
 
-deeds_do : (d e : Deed) → AlikeDeeds d e → DoSame d e
-deeds_do d e (same p) = λ r now ls given. (ap (λ (x : Deed). rows_of x r) p, ap (λ (x : Deed). lines_after now x ls) p, ap (λ (x : Deed). given_after x given) p)
-deeds_do d e (leaves l) = subst₂ DoSame (sym l.first) (sym l.second) (leave_does l.who l.row l.other_row l.ending l.rows.place)
-deeds_do d e (sends l) = subst₂ DoSame (sym l.first) (sym l.second) (λ r now ls given. (refl, refl, refl))
+module _ (P : Type 0) where
+  deeds_do : (d e : Deed) → AlikeDeeds P d e → DoSame d e
+  deeds_do d e (same p) = λ r now ls given. (ap (λ (x : Deed). rows_of x r) p, ap (λ (x : Deed). lines_after now x ls) p, ap (λ (x : Deed). given_after x given) p)
+  deeds_do d e (leaves l) = subst₂ DoSame (sym l.first) (sym l.second) (leave_does l.who l.row l.other_row l.ending l.rows.place)
+  deeds_do d e (sends m l) = subst₂ DoSame (sym l.first) (sym l.second) (λ r now ls given. (refl, refl, refl))
 
-pub rows_alike : (d e : Deed) → AlikeDeeds d e → (r : Records) (ss : List Session) → Each AlikeSessions r.sessions ss → rows_of d r ≡ rows_of e (with_sessions ss r)
-rows_alike d e k r ss h = rows_same d r ss h ∙ (deeds_do d e k (with_sessions ss r) 0 [] 0).0
+  pub rows_alike : (d e : Deed) → AlikeDeeds P d e → (r : Records) (ss : List Session) → Each AlikeSessions r.sessions ss → rows_of d r ≡ rows_of e (with_sessions ss r)
+  rows_alike d e k r ss h = rows_same d r ss h ∙ (deeds_do d e k (with_sessions ss r) 0 [] 0).0
 
-abbrev with_all : Records → List Line → ℕ → ℕ → Broker
-with_all r ls given now = record { records = r; lines = ls; given = given; now = now }
+  abbrev with_all : Records → List Line → ℕ → ℕ → Broker
+  with_all r ls given now = record { records = r; lines = ls; given = given; now = now }
 
-pub after_alike : (d e : Deed) → AlikeDeeds d e → (b : Broker) (ss : List Session) → Each AlikeSessions b.records.sessions ss → AlikeBrokers (after d b) (after e (like ss b))
-after_alike d e k b ss h =
-    let does = deeds_do d e k b.records b.now b.lines b.given in
-    let o = with_sessions ss b.records in
-    record {
-      rest = ap₂ (λ ls n. with_all (changed_all (rows_of e o) o) ls n b.now) does.1 does.2;
-      records = subst (λ (rows : List Change). AlikeRecords (changed_all (rows_of d b.records) b.records) (changed_all rows o)) (rows_alike d e k b.records ss h)
-          (changed_all_alike (rows_of d b.records) b.records o (records_put b.records ss h));
-    }
+  pub after_alike : (d e : Deed) → AlikeDeeds P d e → (b : Broker) (ss : List Session) → Each AlikeSessions b.records.sessions ss → AlikeBrokers (after d b) (after e (like ss b))
+  after_alike d e k b ss h =
+      let does = deeds_do d e k b.records b.now b.lines b.given in
+      let o = with_sessions ss b.records in
+      record {
+        rest = ap₂ (λ ls n. with_all (changed_all (rows_of e o) o) ls n b.now) does.1 does.2;
+        records = subst (λ (rows : List Change). AlikeRecords (changed_all (rows_of d b.records) b.records) (changed_all rows o)) (rows_alike d e k b.records ss h)
+            (changed_all_alike (rows_of d b.records) b.records o (records_put b.records ss h));
+      }
 
-pub all_after_alike : (ds es : List Deed) → Each AlikeDeeds ds es → (b c : Broker) → AlikeBrokers b c → AlikeBrokers (after_all ds b) (after_all es c)
-all_after_alike [] [] k b c h = h
-all_after_alike [] (e ∷ es) k b c h = absurd k
-all_after_alike (d ∷ ds) [] k b c h = absurd k
-all_after_alike (d ∷ ds) (e ∷ es) k b c h =
-    all_after_alike ds es k.1 (after d b) (after e c) (by_broker (λ (x : Broker). AlikeBrokers (after d b) (after e x)) b (after_alike d e k.0 b) c h)
+  pub all_after_alike : (ds es : List Deed) → Each (AlikeDeeds P) ds es → (b c : Broker) → AlikeBrokers b c → AlikeBrokers (after_all ds b) (after_all es c)
+  all_after_alike [] [] k b c h = h
+  all_after_alike [] (e ∷ es) k b c h = absurd k
+  all_after_alike (d ∷ ds) [] k b c h = absurd k
+  all_after_alike (d ∷ ds) (e ∷ es) k b c h =
+      all_after_alike ds es k.1 (after d b) (after e c) (by_broker (λ (x : Broker). AlikeBrokers (after d b) (after e x)) b (after_alike d e k.0 b) c h)

@@ -1,5 +1,5 @@
 -- Brokers that are the same but for what their waiting copies say (MQTT 5.0, 3.3, 4.6).
-use Rattle.std.specs.Prelude.{◌≡◌, ◌⊎◌, ⊤, ℕ, Bool, List, [], ◌∷◌, Option, Some, None}
+use Rattle.std.specs.Prelude.{◌≡◌, ◌⊎◌, ⊤, ℕ, Bool, List, [], ◌∷◌}
 use Rattle.mqtt_base.specs.declared.session.Ending.{Ending}
 use Rattle.mqtt_codec.specs.declared.packet.Packet.{Packet}
 use Rattle.mqtt_message.specs.declared.message.MessageCopy.{MessageCopy}
@@ -7,9 +7,9 @@ use Rattle.mqtt_message.specs.Queue.{CopyRow}
 use Rattle.mqtt_records.specs.declared.session.Session.{Session}
 use Rattle.mqtt_records.specs.declared.records.Records.{Records}
 use Rattle.mqtt_rules.specs.Packets.{publish_of}
-use Rattle.mqtt_rules.specs.State.{Broker, entry_on, queued_copy}
+use Rattle.mqtt_rules.specs.State.{Broker, queued_copy}
 use Rattle.mqtt_rules.specs.Deeds.{Whose, Leave, Deed, At, Send}
-use Rattle.mqtt_rules.specs.Step.{Outcome}
+use Rattle.mqtt_rules.specs.Step.{Call, NewLine, Input, BadInput, Lost, Pump, Tick, Outcome}
 
 -- two lists, one by one
 abbrev pub Each : {X : Type 0} → (X → X → Type 0) → List X → List X → Type 0
@@ -86,22 +86,32 @@ pub record AlikeSends (one other : Deed) : Type 0 where
   pub first : one ≡ Send line packet
   pub second : other ≡ Send line other_packet
 
-pub data AlikeDeeds (one other : Deed) : Type 0 where
-  same : one ≡ other → AlikeDeeds one other
-  leaves : AlikeLeaves one other → AlikeDeeds one other
-  sends : AlikeSends one other → AlikeDeeds one other
+-- `Says`: whether what copies of the queue say may be sent
+pub data AlikeDeeds (Says : Type 0) (one other : Deed) : Type 0 where
+  same : one ≡ other → AlikeDeeds Says one other
+  leaves : AlikeLeaves one other → AlikeDeeds Says one other
+  sends : Says → AlikeSends one other → AlikeDeeds Says one other
+
+-- a pump sends what they say, and nothing else does
+abbrev pub IsPump : Call → Type 0
+IsPump NewLine = ⊥
+IsPump (Input line packet) = ⊥
+IsPump (BadInput line is_connect code) = ⊥
+IsPump (Lost line) = ⊥
+IsPump (Pump line) = ⊤
+IsPump Tick = ⊥
 
 -- ---- what is answered: a packet on a line
 
-abbrev pub AlikePackets : Packet → Packet → Type 0
-AlikePackets one other = (one ≡ other) ⊎ AlikePublishes one other
+abbrev pub AlikePackets : Type 0 → Packet → Packet → Type 0
+AlikePackets Says one other = (one ≡ other) ⊎ (Says × AlikePublishes one other)
 
-abbrev pub AlikeOutputs : ℕ × Packet → ℕ × Packet → Type 0
-AlikeOutputs one other = (one.0 ≡ other.0) × AlikePackets one.1 other.1
+abbrev pub AlikeOutputs : Type 0 → ℕ × Packet → ℕ × Packet → Type 0
+AlikeOutputs Says one other = (one.0 ≡ other.0) × AlikePackets Says one.1 other.1
 
 -- the same, packet by packet alike
-pub record AlikeOutcomes (one other : Outcome) : Type 0 where
-  pub outputs : Each AlikeOutputs one.outputs other.outputs
+pub record AlikeOutcomes (Says : Type 0) (one other : Outcome) : Type 0 where
+  pub outputs : Each (AlikeOutputs Says) one.outputs other.outputs
   pub closed : one.closed ≡ other.closed
   pub reports : one.reports ≡ other.reports
   pub taken : one.taken ≡ other.taken

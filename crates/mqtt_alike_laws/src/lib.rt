@@ -3,4 +3,4 @@
 
 mod alike_laws;
 
-pub use alike_laws::{alike_pumps, alike_steps};
+pub use alike_laws::{alike_pumps, alike_steps, slim_rows_are_alike};
