@@ -22,11 +22,13 @@ use Rattle.mqtt_every_run_laws.proofs.EveryRun.{run_hands_once, run_keeps_ledger
 use Rattle.mqtt_every_run_laws.proofs.Scripts.{run_delivers}
 use Rattle.mqtt_drain_laws.proofs.Emptied.{script_empties}
 use Rattle.mqtt_drain_cause_laws.proofs.DrainRuns.{script_ends}
-use Rattle.mqtt_drain_cause_laws.proofs.Fitting.{script_fits}
+use Rattle.mqtt_drain_cause_laws.specs.Fitting.{AllDrainsFit}
+use Rattle.mqtt_read_laws.specs.Sayable.{AreSayableDoings}
+use Rattle.mqtt_read_laws.proofs.Scripts.{drains_fit}
 use Rattle.mqtt_headline_laws.specs.Delivery.{DeliversExactlyOnce, DoingsDeliver, HandsOverOnce}
-use Rattle.mqtt_headline_laws.specs.Lives.{AreFairLives, BeginsWell, BrokerLife, IsFairScript, after_lives}
+use Rattle.mqtt_headline_laws.specs.Lives.{AreFairLives, AreSayableLives, BeginsWell, BrokerLife, IsFairScript, after_lives}
 use Rattle.mqtt_headline_laws.proofs.Drained.{each_drains}
-use Rattle.mqtt_headline_laws.proofs.Lives.{lives_begin}
+use Rattle.mqtt_headline_laws.proofs.Lives.{lives_begin, lives_send}
 
 -- ---- a run
 
@@ -81,11 +83,14 @@ script_delivers limits ds w m fair = record {
   is_run = drains_are_runs limits ds w;
   delivers = run_delivers_all limits (all_turns limits ds w) w m fair;
   drained = each_drains limits ds w (script_empties limits ds w m.untouched fair) (script_ends limits ds w m.untouched fair);
-  fit = λ contents reads. script_fits limits ds w m.untouched contents fair reads;
+  fit = λ sends say. drains_fit limits ds w m.untouched sends fair say;
 }
 
 pub lives_deliver : (limits : Limits) (ls : List BrokerLife) (ds : List Doing) → AreWithin limits → AreFairLives limits ls → IsFairScript limits ds (after_lives limits ls) → DoingsDeliver limits ds (after_lives limits ls)
 lives_deliver limits ls ds within h fair = script_delivers limits ds (after_lives limits ls) (lives_begin limits ls within h) fair
+
+pub lives_fit : (limits : Limits) (ls : List BrokerLife) (ds : List Doing) → AreWithin limits → AreFairLives limits ls → AreSayableLives ls → IsFairScript limits ds (after_lives limits ls) → AreSayableDoings ds → AllDrainsFit limits ds (after_lives limits ls)
+lives_fit limits ls ds within h said fair say = (lives_deliver limits ls ds within h fair).fit (lives_send limits ls within h said) say
 
 -- ---- from nothing stored
 

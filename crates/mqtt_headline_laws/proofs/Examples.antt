@@ -1,6 +1,6 @@
 -- Worked lives and runs: one begins on what another left, with a session and a copy in its queue; a message of QoS 1 is accepted
 -- twice, and a copy of QoS 1 read twice, where an answer is lost (MQTT 5.0, 4.1, 4.3.2, 4.4).
-use Rattle.std.proofs.Common.{◌≡◌, ℕ, ◌≤◌, false, List, [], ◌∷◌, ◌++◌, length, map, Some, refl, arith}
+use Rattle.std.proofs.Common.{◌≡◌, ℕ, false, List, [], ◌∷◌, ◌++◌, map, Some, refl, arith}
 use Rattle.std.specs.Prelude.{codes, option_map}
 use Rattle.mqtt_base.specs.Values.{varint}
 use Rattle.mqtt_base.specs.declared.session.Qos.TheVariants.{AtLeastOnce}
@@ -23,12 +23,12 @@ use Rattle.mqtt_headline_laws.specs.Lives.{BrokerLife, IsFairLife, IsFairScript,
 use Rattle.mqtt_headline_laws.proofs.Delivered.{lives_deliver, run_delivers_all}
 use Rattle.mqtt_headline_laws.proofs.Lives.{start_begins}
 
-usual_within : AreWithin usual
+pub usual_within : AreWithin usual
 usual_within = record { queue = omega arith; sessions = omega arith; retained = omega arith }
 
 -- ---- a first life: a copy of QoS 2 waits for r1, and the broker is opened again
 
-abbrev first_life : BrokerLife
+abbrev pub first_life : BrokerLife
 first_life = record {
   doings = map happens (turns (receiver r1 10 ∷ publisher p1 ∷ joins r1 false ++ (subscribes r1 ++ (joins p1 false ++ (publish p1 draft ∷ ask (to_broker p1) ∷ [])))));
   choice = first;
@@ -45,10 +45,10 @@ r2 = codes "r2"
 abbrev others : List Event
 others = receiver r2 10 ∷ publisher p2 ∷ joins r2 false ++ (subscribes r2 ++ (joins p2 false ++ (publish p2 draft ∷ ask (to_broker p2) ∷ [])))
 
-abbrev second_life : List Doing
+abbrev pub second_life : List Doing
 second_life = map happens (turns others) ++ drains first r2 5 ∷ []
 
-abbrev opened_then : World
+abbrev pub opened_then : World
 opened_then = after_lives usual (first_life ∷ [])
 
 pub one_is_stored : waiting_for r1 opened_then ≡ 1

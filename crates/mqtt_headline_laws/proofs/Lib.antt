@@ -3,3 +3,4 @@ pub mod Lives
 pub mod Drained
 pub mod Delivered
 pub mod Examples
+pub mod SaidExamples

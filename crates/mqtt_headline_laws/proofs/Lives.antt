@@ -28,7 +28,11 @@ use Rattle.mqtt_every_run_laws.specs.Untouched.{IsUntouched}
 use Rattle.mqtt_every_run_laws.proofs.Alone.{run_keeps}
 use Rattle.mqtt_every_run_laws.proofs.EveryRun.{fair_run_kept, run_opens_again}
 use Rattle.mqtt_every_run_laws.proofs.Untouched.{start_untouched}
-use Rattle.mqtt_headline_laws.specs.Lives.{AreFairLives, BeginsWell, BrokerLife, after_lives}
+use Rattle.mqtt_spelled_laws.specs.Sending.{SendsWell}
+use Rattle.mqtt_spelled_laws.proofs.Steps.{well_reopened}
+use Rattle.mqtt_read_laws.specs.Sayable.{AreSayable}
+use Rattle.mqtt_read_laws.proofs.Scripts.{all_said, sends_on, start_sends}
+use Rattle.mqtt_headline_laws.specs.Lives.{AreFairLives, AreSayableLives, BeginsWell, BrokerLife, after_lives}
 
 -- ---- copies that may come yet, over a run
 
@@ -123,4 +127,19 @@ lives_begin limits (l ∷ ls) within h =
     let is = drains_are_runs limits l.doings w in
     subst (λ (v : World). BeginsWell limits (opened_world limits l.choice l.now v.broker.records)) (sym is)
     (run_begins limits (all_turns limits l.doings w) l.choice l.now w (lives_begin limits ls within h.0) h.1.fair
+    (subst (λ (v : World). is_opening_spent limits l.choice l.now v.broker.records ≡ false) is h.1.unspent))
+
+-- ---- and the broker sends well still
+
+pub run_sends : (limits : Limits) (ts : List Turn) (choice : MemberChoice) (now : ℕ) (w : World) → BeginsWell limits w → SendsWell w.broker → IsFair limits ts w → AreSayable ts → is_opening_spent limits choice now (run limits ts w).broker.records ≡ false
+    → SendsWell (opened_world limits choice now (run limits ts w).broker.records).broker
+run_sends limits ts choice now w m sends fair say unspent = well_reopened limits choice now (run limits ts w).broker unspent (sends_on limits ts w m.untouched.new sends fair say)
+
+pub lives_send : (limits : Limits) (ls : List BrokerLife) → AreWithin limits → AreFairLives limits ls → AreSayableLives ls → SendsWell (after_lives limits ls).broker
+lives_send limits [] within h said = start_sends limits within
+lives_send limits (l ∷ ls) within h said =
+    let w = after_lives limits ls in
+    let is = drains_are_runs limits l.doings w in
+    subst (λ (v : World). SendsWell (opened_world limits l.choice l.now v.broker.records).broker) (sym is)
+    (run_sends limits (all_turns limits l.doings w) l.choice l.now w (lives_begin limits ls within h.0) (lives_send limits ls within h.0 said.0) h.1.fair (all_said limits l.doings w said.1)
     (subst (λ (v : World). is_opening_spent limits l.choice l.now v.broker.records ≡ false) is h.1.unspent))

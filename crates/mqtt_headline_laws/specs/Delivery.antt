@@ -2,7 +2,6 @@
 -- 4.3, 4.4, 4.6, 4.8, 4.9).
 use Rattle.std.specs.Prelude.{◌≡◌, ◌≤◌, ◌+◌, ⊤, All, ℕ, true, false, List, [], ◌∷◌, ◌++◌, Some, filter_map, length}
 use Rattle.mqtt_base.specs.declared.session.CopyId.{CopyId}
-use Rattle.mqtt_rules.specs.Contents.{AreContentsLawful}
 use Rattle.mqtt_rules.specs.Laws.{FewOpen}
 use Rattle.mqtt_rules.specs.State.{MemberChoice, session_named}
 use Rattle.mqtt_rules.specs.declared.Limits.{Limits}
@@ -25,7 +24,9 @@ use Rattle.mqtt_every_run_laws.specs.HandedOnce.{CarriesEach, WasHanded}
 use Rattle.mqtt_every_run_laws.specs.HandedOver.{AreHandedInOrder, CarryQueued, WasHandedOver, queued_by}
 use Rattle.mqtt_drain_laws.specs.Emptied.{EmptiesQueue}
 use Rattle.mqtt_drain_cause_laws.specs.DrainEnds.{EndOfDrain}
-use Rattle.mqtt_drain_cause_laws.specs.Fitting.{AllDrainsFit, AllReadLawful}
+use Rattle.mqtt_drain_cause_laws.specs.Fitting.{AllDrainsFit}
+use Rattle.mqtt_spelled_laws.specs.Sending.{SendsWell}
+use Rattle.mqtt_read_laws.specs.Sayable.{AreSayableDoings}
 
 -- ---- messages are accepted once
 
@@ -116,9 +117,9 @@ EachDrains limits (d ∷ ds) w = DrainsWhere limits d w × EachDrains limits ds 
 -- ---- a script
 
 -- It is the run of its events and of those that its drains are made of; all holds of that run, and of each drain. No copy ends in
--- a drain as too large, if what is stored has lawful contents and each packet that is read is lawful
+-- a drain as too large, if the broker sends well at the beginning, the script's texts are texts, and strangers send bytes
 pub record DoingsDeliver (limits : Limits) (ds : List Doing) (w : World) : Type 0 where
   pub is_run : after_doings limits ds w ≡ run limits (all_turns limits ds w) w
   pub delivers : DeliversExactlyOnce limits (all_turns limits ds w) w
   pub drained : EachDrains limits ds w
-  pub fit : AreContentsLawful w.broker → AllReadLawful limits (all_turns limits ds w) w → AllDrainsFit limits ds w
+  pub fit : SendsWell w.broker → AreSayableDoings ds → AllDrainsFit limits ds w

@@ -9,6 +9,7 @@ use Rattle.mqtt_world_laws.specs.Fair.{IsFair, opened_world}
 use Rattle.mqtt_world_laws.specs.Identities.{TellsApart}
 use Rattle.mqtt_handed_laws.specs.Drains.{Doing, after_doings, all_turns}
 use Rattle.mqtt_every_run_laws.specs.Untouched.{IsUntouched}
+use Rattle.mqtt_read_laws.specs.Sayable.{AreSayableDoings}
 
 -- nobody is there; the tables are as a broker leaves them, tell their copies apart, and have numbers of publications that were
 -- accepted
@@ -45,3 +46,8 @@ pub record IsFairLife (limits : Limits) (l : BrokerLife) (w : World) : Type 0 wh
 abbrev pub AreFairLives : Limits → List BrokerLife → Type 0
 AreFairLives limits [] = ⊤
 AreFairLives limits (l ∷ ls) = AreFairLives limits ls × IsFairLife limits l (after_lives limits ls)
+
+-- the texts of each script are texts, and strangers send bytes
+abbrev pub AreSayableLives : List BrokerLife → Type 0
+AreSayableLives [] = ⊤
+AreSayableLives (l ∷ ls) = AreSayableLives ls × AreSayableDoings l.doings

@@ -20,6 +20,8 @@ use Rattle.mqtt_every_run_laws.proofs.Untouched.{opened_untouched}
 use Rattle.mqtt_headline_laws.specs.Delivery.{DoingsDeliver}
 use Rattle.mqtt_headline_laws.specs.Lives.{BeginsWell, IsFairScript}
 use Rattle.mqtt_headline_laws.proofs.Delivered.{script_delivers}
+use Rattle.mqtt_spelled_laws.specs.Sending.{HaveSentPhases, SendsWell}
+use Rattle.mqtt_spelled_laws.proofs.Steps.{well_begun}
 use Rattle.mqtt_kept_lawful.specs.Written.{IsWritten}
 use Rattle.mqtt_kept_lawful.proofs.Facts.{facts_of}
 use Rattle.mqtt_kept_lawful.proofs.ToldApart.{tells_apart}
@@ -41,6 +43,9 @@ written_begins limits choice now r within w unspent =
 
 pub written_contents : (limits : Limits) (choice : MemberChoice) (now : ℕ) (r : Records) → IsWritten r → AreContentsLawful (opened_world limits choice now r).broker
 written_contents limits choice now r w = opening_contents of_rows rows_are limits choice now r (lawful_contents r w.lawful)
+
+pub written_sends : (limits : Limits) (choice : MemberChoice) (now : ℕ) (r : Records) → IsWritten r → HaveSentPhases r → is_opening_spent limits choice now r ≡ false → SendsWell (opened_world limits choice now r).broker
+written_sends limits choice now r w phases unspent = well_begun limits choice now r unspent w.lawful phases
 
 pub written_delivers : (limits : Limits) (choice : MemberChoice) (now : ℕ) (r : Records) (ds : List Doing) → AreWithin limits → IsWrittenWithin limits r → is_opening_spent limits choice now r ≡ false → IsFairScript limits ds (opened_world limits choice now r)
     → DoingsDeliver limits ds (opened_world limits choice now r)

@@ -13,6 +13,7 @@ ghost use Rattle.mqtt_handed_laws.specs.Drains.{Doing};
 ghost use Rattle.mqtt_every_run_laws.specs.Retaining.{AreRetainedOnce};
 ghost use Rattle.mqtt_headline_laws.specs.Delivery.{DoingsDeliver};
 ghost use Rattle.mqtt_headline_laws.specs.Lives.{BeginsWell, IsFairScript};
+ghost use Rattle.mqtt_spelled_laws.specs.Sending.{HaveSentPhases, SendsWell};
 ghost use Rattle.mqtt_kept_lawful.specs.Written.{IsWritten};
 ghost use Rattle.mqtt_written_laws.specs.Within.{IsWrittenWithin};
 
@@ -24,13 +25,16 @@ pub fn what_a_broker_wrote_is_told_apart()
 {}
 
 /// So a run may begin when the broker is opened on what any broker wrote, under limits that this is within: its contents are
-/// lawful, and all of exactly-once delivery holds of every fair script from there (4.1).
+/// lawful, and all of exactly-once delivery holds of every fair script from there. And where each packet identifier in flight
+/// has two bytes, it sends well, so that what is read in a run from there is lawful (2.2.1, 4.1).
 pub fn a_world_may_begin_on_what_a_broker_wrote()
     ensures begins { (limits : TheLimits) (choice : MemberChoice) (now : ℕ) (r : Records) → AreWithin limits
         → IsWrittenWithin limits r → is_opening_spent limits choice now r ≡ false
         → BeginsWell limits (opened_world limits choice now r) }
     ensures contents { (limits : TheLimits) (choice : MemberChoice) (now : ℕ) (r : Records) → IsWritten r
         → AreContentsLawful (opened_world limits choice now r).broker }
+    ensures sends { (limits : TheLimits) (choice : MemberChoice) (now : ℕ) (r : Records) → IsWritten r → HaveSentPhases r
+        → is_opening_spent limits choice now r ≡ false → SendsWell (opened_world limits choice now r).broker }
     ensures delivers { (limits : TheLimits) (choice : MemberChoice) (now : ℕ) (r : Records) (ds : List Doing) → AreWithin limits
         → IsWrittenWithin limits r → is_opening_spent limits choice now r ≡ false
         → IsFairScript limits ds (opened_world limits choice now r)

@@ -1,11 +1,14 @@
 -- By the laws of every run, of intended copies, of causes and of drains.
 use Rattle.mqtt_intended_laws.proofs.Intended.{copies_once}
 use Rattle.mqtt_every_run_laws.proofs.WholeRuns.{all_handed_whole}
-use Rattle.mqtt_headline_laws.proofs.Delivered.{accepted_once, lives_deliver, run_delivers_all, script_delivers}
+use Rattle.mqtt_headline_laws.proofs.Delivered.{accepted_once, lives_deliver, lives_fit, run_delivers_all, script_delivers}
 use Rattle.mqtt_headline_laws.proofs.laws.messages_are_delivered_exactly_once.Goals as goal
 
 pub returns-clause-delivers : goal.returns-clause-delivers
 returns-clause-delivers c = lives_deliver
+
+pub returns-clause-fits : goal.returns-clause-fits
+returns-clause-fits c = lives_fit
 
 pub returns-clause-wherever : goal.returns-clause-wherever
 returns-clause-wherever c = script_delivers
