@@ -14,7 +14,12 @@ ghost use Rattle.mqtt_spelled_laws.specs.Sending.{SendsWell};
 ghost use Rattle.mqtt_read_laws.specs.Sayable.{AreSayable, AreSayableDoings};
 ghost use Rattle.mqtt_headline_laws.specs.Delivery.{DeliversExactlyOnce, DoingsDeliver};
 ghost use Rattle.mqtt_headline_laws.specs.Lives.{
-    AreFairLives, AreSayableLives, BeginsWell, BrokerLife, IsFairScript, after_lives,
+  AreFairLives,
+  AreSayableLives,
+  BeginsWell,
+  BrokerLife,
+  IsFairScript,
+  after_lives,
 };
 
 /// Exactly-once delivery, over every script of events and drains, whatever is lost, given up, restarted or stopped, and
