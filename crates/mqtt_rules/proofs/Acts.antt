@@ -4,35 +4,36 @@ use Rattle.std.specs.Prelude.{⊤, suc, nat_lt, nat_le, flat_map, find, option_m
 use Rattle.std.proofs.lemmas.Bool.{cases_Bool, eqb-true}
 use Rattle.std.proofs.lemmas.Slice.Eq.{bytes_eq-Decides}
 use Rattle.mqtt_props.specs.declared.table.PropName.TheVariants.{SessionExpiryInterval, SubscriptionIdentifier, TopicAlias}
-use Rattle.mqtt_connect.specs.declared.connect.Connect.{Connect as Greeting}
+use Rattle.mqtt_codec_connect.specs.declared.connect.Connect.{Connect as Greeting}
 use Rattle.mqtt_codec.specs.declared.publish.Delivery.{Delivery as Quality}
 use Rattle.mqtt_codec.specs.declared.publish.Delivery.TheVariants as delivery
 use Rattle.mqtt_codec.specs.declared.publish.Publish.{Publish as Publication}
-use Rattle.mqtt_subscribe.specs.declared.subscribe.Subscribe.{Subscribe as Asking}
-use Rattle.mqtt_subscribe.specs.declared.unsubscribe.Unsubscribe.{Unsubscribe as GivingUp}
+use Rattle.mqtt_codec_subscribe.specs.declared.subscribe.Subscribe.{Subscribe as Asking}
+use Rattle.mqtt_codec_subscribe.specs.declared.unsubscribe.Unsubscribe.{Unsubscribe as GivingUp}
 use Rattle.mqtt_codec.specs.declared.packet.Packet.{Packet}
 use Rattle.mqtt_codec.specs.declared.packet.Packet.TheVariants as packets
-use Rattle.mqtt_codec.specs.Subscriptions.{Subscription as Asked}
+use Rattle.mqtt_codec_subscribe.specs.Subscriptions.{Subscription as Asked}
 use Rattle.mqtt_topic.specs.Names.{is_empty}
 use Rattle.mqtt_topic.specs.Filters.{is_filter}
 use Rattle.mqtt_flow.specs.declared.entry.Turn.{Turn}
 use Rattle.mqtt_flow.specs.declared.entry.Turn.TheVariants as turns
-use Rattle.mqtt_inbound.specs.declared.inflow.Published.{Published}
-use Rattle.mqtt_inbound.specs.declared.inflow.Published.TheVariants.{New, Again, Over}
-use Rattle.mqtt_inbound.specs.declared.inflow.ReleaseAnswer.{ReleaseAnswer}
-use Rattle.mqtt_inbound.specs.declared.inflow.ReleaseAnswer.TheVariants.{Known, Unknown}
+use Rattle.mqtt_flow_inbound.specs.declared.inflow.Published.{Published}
+use Rattle.mqtt_flow_inbound.specs.declared.inflow.Published.TheVariants.{New, Again, Over}
+use Rattle.mqtt_flow_inbound.specs.declared.inflow.ReleaseAnswer.{ReleaseAnswer}
+use Rattle.mqtt_flow_inbound.specs.declared.inflow.ReleaseAnswer.TheVariants.{Known, Unknown}
 use Rattle.mqtt_base.specs.Codes.{success, identifier_in_use, identifier_not_found, quota_exceeded, receive_maximum_exceeded, session_taken_over}
 use Rattle.mqtt_base.specs.declared.limits.TheConstants.{SUBSCRIPTION_LIMIT}
-use Rattle.mqtt_inbound.specs.Identifiers.{is_among}
-use Rattle.mqtt_inbound.specs.Inbound.{answer_to, answer_to_release}
+use Rattle.mqtt_flow_inbound.specs.Identifiers.{is_among}
+use Rattle.mqtt_flow_inbound.specs.Inbound.{answer_to, answer_to_release}
 use Rattle.mqtt_flow.specs.Outbound.{Answer, due_from}
 use Rattle.mqtt_flow.specs.Outbound as rules
-use Rattle.mqtt_message.specs.declared.message.RetainedMessage.{RetainedMessage}
-use Rattle.mqtt_message.specs.declared.message.Will.{Will}
+use Rattle.mqtt_records_message.specs.declared.message.RetainedMessage.{RetainedMessage}
+use Rattle.mqtt_records_message.specs.declared.message.Will.{Will}
 use Rattle.mqtt_records.specs.declared.session.Session.{Session}
 use Rattle.mqtt_records.specs.declared.records.Records.{Records}
 use Rattle.mqtt_records.specs.Session.{birth_of}
-use Rattle.mqtt_rules.specs.Packets.{puback, pubrec, pubcomp, pubrel, suback, unsuback, connack, disconnect, publish_of, number_at}
+use Rattle.mqtt_rules.specs.Packets.{puback, pubrec, pubcomp, pubrel, suback, unsuback, connack, disconnect, publish_of}
+use Rattle.mqtt_records_message.specs.PassedOn.{number_at}
 use Rattle.mqtt_rules.specs.State.{Line, Broker, Env, session_at, session_named, line_at, line_of, is_connected, queue_on}
 use Rattle.mqtt_rules.specs.Deeds.{Whose, whose, Message, Origin, FromClient, FromWill, Part, Resume, Close, SetExpiry, DropWill, Unsubscribe, Open, Release, LinePart, Hear, Greet, SetAlias, Went, Deed, At, Forget, RefuseWill, Link, On, Send, Gone, line_after, on_line, after, after_all, Act, series, always, only_if, with_session, of_session, offer}
 use Rattle.mqtt_rules.specs.Outbound.{turn_deeds, all_turn_deeds, room}
@@ -47,7 +48,7 @@ use Rattle.mqtt_rules.proofs.FlightRows.{found_key}
 use Rattle.mqtt_rules.proofs.StoredLaw.{now_stays}
 use Rattle.mqtt_rules.specs.Laws.{IsAmong}
 use Rattle.mqtt_base.specs.declared.session.SubscriptionOptions.{SubscriptionOptions}
-use Rattle.mqtt_codec.specs.Options.{options_of}
+use Rattle.mqtt_codec_subscribe.specs.Options.{options_of}
 use Rattle.mqtt_rules.proofs.Leads.{found_among, found_passes, row_among, Leads, Leading, leads_append, leads_series, leads_two, leads_flat, leads_map, leads_cond, leads_of_session, leads_of_client, leads_with_line}
 
 -- ---- whom a step concerns

@@ -6,21 +6,21 @@ use Rattle.mqtt_base.specs.declared.session.Ending.TheVariants.{SessionEnded}
 use Rattle.mqtt_base.specs.declared.session.Phase.{Phase}
 use Rattle.mqtt_base.specs.declared.session.Phase.TheVariants.{Sent, Released as ReleasedPhase, Oversize}
 use Rattle.mqtt_base.specs.Codes.{success, identifier_not_found}
-use Rattle.mqtt_connect.specs.declared.connect.Connect.{Connect as Greeting}
+use Rattle.mqtt_codec_connect.specs.declared.connect.Connect.{Connect as Greeting}
 use Rattle.mqtt_codec.specs.declared.packet.Packet.{Packet}
 use Rattle.mqtt_codec.specs.declared.packet.Packet.TheVariants as packets
 use Rattle.mqtt_topic.specs.Names.{is_empty}
 use Rattle.mqtt_flow.specs.declared.entry.Turn.{Turn}
 use Rattle.mqtt_flow.specs.declared.entry.Turn.TheVariants as turns
-use Rattle.mqtt_inbound.specs.declared.inflow.Published.TheVariants.{New}
-use Rattle.mqtt_inbound.specs.Inbound.{answer_to}
+use Rattle.mqtt_flow_inbound.specs.declared.inflow.Published.TheVariants.{New}
+use Rattle.mqtt_flow_inbound.specs.Inbound.{answer_to}
 use Rattle.mqtt_flow.specs.Outbound.{Answer, way_made}
-use Rattle.mqtt_message.specs.declared.message.MessageCopy.{MessageCopy}
-use Rattle.mqtt_message.specs.declared.message.RetainedMessage.{RetainedMessage}
-use Rattle.mqtt_message.specs.declared.message.Will.{Will}
-use Rattle.mqtt_message.specs.Queue.{CopyRow}
+use Rattle.mqtt_records_message.specs.declared.message.MessageCopy.{MessageCopy}
+use Rattle.mqtt_records_message.specs.declared.message.RetainedMessage.{RetainedMessage}
+use Rattle.mqtt_records_message.specs.declared.message.Will.{Will}
+use Rattle.mqtt_records_message.specs.Queue.{CopyRow}
 use Rattle.mqtt_records.specs.declared.session.Session.{Session}
-use Rattle.mqtt_rows.specs.Order.{row_at}
+use Rattle.mqtt_records_rows.specs.Order.{row_at}
 use Rattle.mqtt_records.specs.Session.{birth_of, copy_place, auto}
 use Rattle.mqtt_rules.specs.Packets.{connack, pubrel, publish_of}
 use Rattle.mqtt_rules.specs.State.{Line, Broker, Env, session_at, session_named, line_of, queue_on}

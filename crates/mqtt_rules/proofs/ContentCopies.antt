@@ -9,7 +9,7 @@ use Rattle.mqtt_routes.specs.declared.subscription.Subscription.{Subscription as
 use Rattle.mqtt_routes.specs.Subscriptions.{Subscriber}
 use Rattle.mqtt_routes.specs.Intended.{Publication, Answers, Copy, Member, is_hit, hits_of, is_shared, matches_topic, copies_for, directs, insert_member, members_with, members_after, in_group, groups}
 use Rattle.mqtt_routes.specs.Acceptance.{Served, served_by, Routed, with_direct, copies_in, chosen, shared_copy, outcome, needs_room, is_eligible, eligible_of, first_choice, later_choices, serve_one, serve, has_room, routed_beside, routed}
-use Rattle.mqtt_lawful.specs.Lawful.{IsIdentifier}
+use Rattle.mqtt_records_lawful.specs.Lawful.{IsIdentifier}
 use Rattle.mqtt_rules.specs.Contents.{AreIdentifiersOf, Sizes, AreSizes}
 use Rattle.mqtt_rules.proofs.Copies.{each_append, each_filter}
 use Rattle.mqtt_rules.proofs.Ordered.{length-filter_le}

@@ -7,7 +7,7 @@ use Rattle.mqtt_base.specs.declared.session.Cause.{Cause}
 use Rattle.mqtt_base.specs.declared.session.Cause.TheVariants.{Direct, Share}
 use Rattle.mqtt_base.specs.declared.session.Ending.TheVariants.{SessionEnded}
 use Rattle.mqtt_props.specs.declared.place.Place.TheVariants as places
-use Rattle.mqtt_connect.specs.declared.connect.Connect.{Connect as Greeting}
+use Rattle.mqtt_codec_connect.specs.declared.connect.Connect.{Connect as Greeting}
 use Rattle.mqtt_codec.specs.declared.packet.Packet.{Packet}
 use Rattle.mqtt_topic.specs.Names.{is_empty}
 use Rattle.mqtt_topic.specs.Filters.{begins_share}
@@ -19,17 +19,18 @@ use Rattle.mqtt_routes.specs.Retained.{kept_for}
 use Rattle.mqtt_routes.specs.Intended.{Copy}
 use Rattle.mqtt_routes.specs.Subscriptions.{Subscriber}
 use Rattle.mqtt_routes.specs.Acceptance.{Served, Routed, copies_in}
-use Rattle.mqtt_message.specs.declared.message.MessageCopy.{MessageCopy}
-use Rattle.mqtt_message.specs.declared.message.RetainedMessage.{RetainedMessage}
-use Rattle.mqtt_message.specs.declared.message.Will.{Will}
-use Rattle.mqtt_message.specs.Queue.{CopyRow}
+use Rattle.mqtt_records_message.specs.declared.message.MessageCopy.{MessageCopy}
+use Rattle.mqtt_records_message.specs.declared.message.RetainedMessage.{RetainedMessage}
+use Rattle.mqtt_records_message.specs.declared.message.Will.{Will}
+use Rattle.mqtt_records_message.specs.Queue.{CopyRow}
 use Rattle.mqtt_records.specs.declared.change.Change.{Change}
 use Rattle.mqtt_records.specs.declared.session.Session.{Session}
 use Rattle.mqtt_records.specs.declared.records.Records.{Records}
-use Rattle.mqtt_rows.specs.Order.{row_at}
+use Rattle.mqtt_records_rows.specs.Order.{row_at}
 use Rattle.mqtt_records.specs.Session.{copy_place}
 use Rattle.mqtt_rules.specs.declared.Limits.{Limits}
-use Rattle.mqtt_rules.specs.Packets.{passed_on, publish_of}
+use Rattle.mqtt_records_message.specs.PassedOn.{passed_on}
+use Rattle.mqtt_rules.specs.Packets.{publish_of}
 use Rattle.mqtt_rules.specs.State.{Line, Broker, Env, session_at, line_of, queue_on, MemberChoice}
 use Rattle.mqtt_rules.specs.Deeds.{Whose, whose, Message, Origin, FromClient, Part, Resume, Close, Open, Enter, Leave, Hear, SetAlias, Deed, Accept, Begin, Count, At, Finish, Forget, RefuseWill, Link, On, Send, Gone, rows_of_all, after, after_all, series, always, offer}
 use Rattle.mqtt_rules.specs.Deeds as told
@@ -42,7 +43,7 @@ use Rattle.mqtt_rules.specs.Subscribe as sub
 use Rattle.mqtt_rules.specs.Tick.{lapses, lapse_deeds}
 use Rattle.mqtt_rules.specs.Step.{Call, NewLine, Input, BadInput, Lost, Pump, Tick, deeds, at_moment, env_of, with_moment, rows_written, stepped, opening_deeds, unopened, opened}
 use Rattle.mqtt_rules.specs.Laws.{IsAmong}
-use Rattle.mqtt_lawful.specs.Lawful.{IsIdentifier}
+use Rattle.mqtt_records_lawful.specs.Lawful.{IsIdentifier}
 use Rattle.mqtt_records.specs.declared.subscription.Subscription.{Subscription}
 use Rattle.mqtt_routes.specs.declared.subscription.Subscription.{Subscription as RoutedSubscription}
 use Rattle.mqtt_base.specs.declared.limits.TheConstants.{SUBSCRIPTION_LIMIT}
@@ -50,7 +51,7 @@ use Rattle.mqtt_rules.proofs.ContentCopies.{routed_identified}
 use Rattle.mqtt_rules.proofs.ContentCopies as copies
 use Rattle.mqtt_props.specs.declared.place.Place.{Place}
 use Rattle.mqtt_props.specs.Properties.{Prop}
-use Rattle.mqtt_message.specs.declared.message.Content.{Content}
+use Rattle.mqtt_records_message.specs.declared.message.Content.{Content}
 use Rattle.mqtt_rules.specs.Contents.{IsAskedFor, IsTaken, TakesLawful, IsTopic, HasTopics, IsCopiedOf, AreIdentifiersOf, IsContentOf, IsPublishedOf, IsWilledOf, HasContentsOf, HasLawfulContentsOf, AreContentsOf, Sizes, AreSizes}
 use Rattle.mqtt_rules.proofs.Goods.{AreGood, good_append, good_cond, good_flat, good_of_entry, good_with_session}
 use Rattle.mqtt_rules.proofs.Leads.{found_among, Leads, leads_good}

@@ -12,29 +12,28 @@ use Rattle.mqtt_props.specs.declared.place.Place.TheVariants as places
 use Rattle.mqtt_props.specs.declared.table.PropName.TheVariants.{AuthenticationMethod, SubscriptionIdentifier, TopicAlias}
 use Rattle.mqtt_props.specs.Properties.{Prop, block}
 use Rattle.mqtt_props.specs.Laws.{has}
-use Rattle.mqtt_connect.specs.declared.connect.Connect.{Connect as Greeting}
-use Rattle.mqtt_connect.specs.declared.connect.Will.{Will as WillAsked}
+use Rattle.mqtt_codec_connect.specs.declared.connect.Connect.{Connect as Greeting}
+use Rattle.mqtt_codec_connect.specs.declared.connect.Will.{Will as WillAsked}
 use Rattle.mqtt_codec.specs.declared.publish.Publish.{Publish as Publication}
 use Rattle.mqtt_codec.specs.declared.packet.Packet.TheVariants as packets
-use Rattle.mqtt_subscribe.specs.declared.subscribe.Subscribe.{Subscribe as Asking}
+use Rattle.mqtt_codec_subscribe.specs.declared.subscribe.Subscribe.{Subscribe as Asking}
 use Rattle.mqtt_props.specs.declared.table.PropName.{PropName}
 use Rattle.mqtt_props.specs.declared.value.ValueKind.TheVariants as kinds
 use Rattle.mqtt_props.specs.Table.{property_row}
 use Rattle.mqtt_props.specs.Properties.{Value, Byte, U16, U32, VarInt, Text, Binary, Pair, IsProp, FitsValue, kind_of}
 use Rattle.mqtt_props.specs.Laws.{is_named, is_lawful_value, none_repeats, values_are_lawful, has_method_for_data}
-use Rattle.mqtt_lawful.specs.Lawful.{IsIdentifier}
+use Rattle.mqtt_records_lawful.specs.Lawful.{IsIdentifier}
 use Rattle.std.specs.List.{list_all}
 use Rattle.std.proofs.lemmas.Bool.{ltb-true}
-use Rattle.mqtt_rules.specs.Packets.{number_in}
-use Rattle.mqtt_codec.specs.Fields.{optional, FitsOptional}
-use Rattle.mqtt_codec.specs.ConnectFlags.{flags_byte}
-use Rattle.mqtt_codec.specs.Connect.{FitsWill, will_field, connect_body, connect_fields, flags_of_connect, mqtt, lawful_will}
+use Rattle.mqtt_records_message.specs.PassedOn.{number_in, number_at, passed_on}
+use Rattle.mqtt_codec_parts.specs.Fields.{optional, FitsOptional}
+use Rattle.mqtt_codec_connect.specs.ConnectFlags.{flags_byte}
+use Rattle.mqtt_codec_connect.specs.Connect.{FitsWill, will_field, connect_body, connect_fields, flags_of_connect, mqtt, lawful_will}
 use Rattle.mqtt_codec.specs.Publish.{identifier_field, publish_body}
-use Rattle.mqtt_codec.specs.Blocks.{keeps_laws}
+use Rattle.mqtt_codec_parts.specs.Blocks.{keeps_laws}
 use Rattle.mqtt_topic.specs.Names.{has_wildcard, is_empty, is_topic_name, IsTopicName}
 use Rattle.mqtt_topic.specs.Aliases.{AliasTable, Resolves, topic_of}
 use Rattle.mqtt_records.specs.declared.records.Records.{Records}
-use Rattle.mqtt_rules.specs.Packets.{number_at, passed_on}
 use Rattle.mqtt_rules.specs.State.{session_named}
 use Rattle.mqtt_rules.specs.Connect.{refusal, largest_of, least_packet_size, has_bad_topic, will_kept, will_of}
 use Rattle.mqtt_rules.specs.Inbound.{Means, meaning, resolved}

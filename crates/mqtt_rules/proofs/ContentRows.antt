@@ -5,8 +5,8 @@ use Rattle.std.specs.List.{AllByRecursion}
 use Rattle.std.proofs.lemmas.Bool.{cases_Bool}
 use Rattle.mqtt_base.specs.declared.limits.TheConstants.{SUBSCRIPTION_LIMIT, QUEUE_LIMIT, SESSION_LIMIT, RETAINED_LIMIT}
 use Rattle.mqtt_topic.specs.Aliases.{AliasTable, with_topic, after_resolve}
-use Rattle.mqtt_message.specs.declared.message.RetainedMessage.{RetainedMessage}
-use Rattle.mqtt_message.specs.Queue.{CopyRow}
+use Rattle.mqtt_records_message.specs.declared.message.RetainedMessage.{RetainedMessage}
+use Rattle.mqtt_records_message.specs.Queue.{CopyRow}
 use Rattle.mqtt_records.specs.declared.session.Columns.{Columns}
 use Rattle.mqtt_records.specs.declared.session.Session.{Session}
 use Rattle.mqtt_records.specs.declared.records.Records.{Records}
@@ -14,14 +14,14 @@ use Rattle.mqtt_records.specs.declared.change.Counter.{Counter}
 use Rattle.mqtt_records.specs.declared.change.Counter.TheVariants.{Births, Publications, Subscribes, Autos, Moment}
 use Rattle.mqtt_records.specs.declared.change.Change.{Change}
 use Rattle.mqtt_records.specs.declared.change.Change.TheVariants.{SetCounter, PutSession, SetSession, RemoveSession, PutWill, RemoveWill, PutSubscription, RemoveSubscription, PutInbound, RemoveInbound, PutCopy, SetCopy, RemoveCopy, PutRetained, RemoveRetained}
-use Rattle.mqtt_rows.specs.Order.{has_row, put_row, change_row}
+use Rattle.mqtt_records_rows.specs.Order.{has_row, put_row, change_row}
 use Rattle.mqtt_records.specs.Session.{birth_of, place_of, without_filter, copy_place, fresh, with_columns, with_will, with_subscription, without_subscription, with_open, without_open, with_copy, with_phase, without_copy, in_phase}
 use Rattle.mqtt_records.specs.Records.{in_session, changed, changed_all, put_session, with_counter, kept_place}
 use Rattle.mqtt_rules.specs.State.{Line, Broker, session_at, is_of}
 use Rattle.mqtt_rules.specs.Deeds.{Whose, Part, Resume, Subscribe, Enter, Leave, LinePart, Hear, Greet, SetAlias, Went, Deed, Accept, Begin, Name, Count, At, Finish, Keep, Forget, Link, On, Gone, part_rows_of, rows_of, rows_of_all, stored_after, line_after, on_line, fresh_line, without_place, lines_at, lines_after, after}
-use Rattle.mqtt_message.specs.declared.message.Content.{Content}
-use Rattle.mqtt_message.specs.declared.message.Will.{Will}
-use Rattle.mqtt_message.specs.declared.message.MessageCopy.{MessageCopy}
+use Rattle.mqtt_records_message.specs.declared.message.Content.{Content}
+use Rattle.mqtt_records_message.specs.declared.message.Will.{Will}
+use Rattle.mqtt_records_message.specs.declared.message.MessageCopy.{MessageCopy}
 use Rattle.mqtt_rules.specs.Contents.{IsTopic, IsAskedFor, HasTopics, IsPublishedOf, IsWilledOf, IsCopiedOf, HasContentsOf, HasLawfulContentsOf, AreContentsOf, Sizes}
 use Rattle.mqtt_rules.specs.Step.{stamped}
 use Rattle.mqtt_rules.proofs.Goods.{AreGood}

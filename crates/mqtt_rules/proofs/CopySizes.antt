@@ -10,12 +10,12 @@ use Rattle.mqtt_props.specs.Properties.{Prop, prop, props, block}
 use Rattle.mqtt_props.specs.Laws.{is_named}
 use Rattle.mqtt_codec.specs.Publish.{identifier_field}
 use Rattle.mqtt_codec.specs.Packets.{shortest_body}
-use Rattle.mqtt_message.specs.declared.message.MessageCopy.{MessageCopy}
-use Rattle.mqtt_message.specs.PassedOn.{aged, sent_after}
-use Rattle.mqtt_message.specs.Queue.{identifier_len, first_sent, remaining, publish_size}
+use Rattle.mqtt_records_message.specs.declared.message.MessageCopy.{MessageCopy}
+use Rattle.mqtt_records_message.specs.PassedOn.{aged, sent_after}
+use Rattle.mqtt_records_message.specs.Queue.{identifier_len, first_sent, remaining, publish_size}
 use Rattle.mqtt_props.specs.Edits.{only, without}
 use Rattle.mqtt_props.specs.declared.table.PropName.TheVariants.{UserProperty}
-use Rattle.mqtt_message.specs.PassedOn.{identified}
+use Rattle.mqtt_records_message.specs.PassedOn.{identified}
 use Rattle.mqtt_rules.specs.Packets.{delivery_by, properties_sent, publish_of, seconds_waited, size_of}
 use Rattle.mqtt_rules.proofs.PassedContents.{props_append}
 

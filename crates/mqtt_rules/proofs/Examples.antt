@@ -12,19 +12,20 @@ use Rattle.mqtt_props.specs.declared.table.PropName.TheVariants.{AssignedClientI
 use Rattle.mqtt_props.specs.Properties.{Prop, Text, U16, U32, VarInt}
 use Rattle.mqtt_props.specs.Reading.{value_at, prop_at, block_at}
 use Rattle.mqtt_props.specs.Laws.{layout_at}
-use Rattle.mqtt_fields.specs.declared.fault.Fault.TheVariants.{Version}
+use Rattle.mqtt_codec_parts.specs.declared.fault.Fault.TheVariants.{Version}
 use Rattle.mqtt_codec.specs.declared.publish.Delivery.TheVariants as delivery
 use Rattle.mqtt_codec.specs.declared.packet.Packet.{Packet}
 use Rattle.mqtt_codec.specs.declared.packet.Packet.TheVariants.{Connect, Publish}
-use Rattle.mqtt_codec.specs.Faults.{answer_to}
-use Rattle.mqtt_codec.specs.Connect.{will_at, user_name_at, password_at, fields_at, connect_at}
+use Rattle.mqtt_codec_parts.specs.Faults.{answer_to}
+use Rattle.mqtt_codec_connect.specs.Connect.{will_at, user_name_at, password_at, fields_at, connect_at}
 use Rattle.mqtt_codec.specs.Publish.{delivery_at, publish_at}
 use Rattle.mqtt_codec.specs.Tails.{tail_at}
 use Rattle.mqtt_codec.specs.Ack.{ack_at}
 use Rattle.mqtt_codec.specs.Packets.{shortest_of}
 use Rattle.mqtt_codec.specs.Frames.{frame_at, body_at, versioned_at, lawful_at, packet_at}
 use Rattle.mqtt_rules.specs.declared.Report.TheVariants.{Accepted, Entered, Released}
-use Rattle.mqtt_rules.specs.Packets.{reason, property, connack, pubrec, pubrel, pubcomp, disconnect}
+use Rattle.mqtt_rules.specs.Packets.{reason, connack, pubrec, pubrel, pubcomp, disconnect}
+use Rattle.mqtt_records_message.specs.PassedOn.{property}
 use Rattle.mqtt_rules.specs.Step.{NewLine, Input, BadInput, Pump, Outcome}
 use Rattle.mqtt_rules.proofs.Play.{Event, at, asks, out, hello, in_line, wants_with, wish, options, wants, topic, message, sends, copy_out, direct, subscribed, bytes, sends_again, published}
 

@@ -9,7 +9,8 @@ use Rattle.mqtt_props.specs.Properties.{U16}
 use Rattle.mqtt_codec.specs.declared.publish.Delivery.TheVariants as delivery
 use Rattle.mqtt_codec.specs.declared.packet.Packet.{Packet}
 use Rattle.mqtt_rules.specs.declared.Report.TheVariants.{Accepted, Entered, Ended}
-use Rattle.mqtt_rules.specs.Packets.{property, puback, pubrec, pubrel, pubcomp, disconnect}
+use Rattle.mqtt_records_message.specs.PassedOn.{property}
+use Rattle.mqtt_rules.specs.Packets.{puback, pubrec, pubrel, pubcomp, disconnect}
 use Rattle.mqtt_rules.specs.Step.{NewLine, Input, Lost, Pump}
 use Rattle.mqtt_rules.proofs.Play.{blank, Event, at, runs, asks, out, never_expires, hello_with, hello, welcome, in_line, wants, topic, hi, sends, copy_out, direct, subscribed, published, burst, all_outputs}
 use Rattle.mqtt_rules.proofs.WorkedCopies.{publishes, subscribed_at}

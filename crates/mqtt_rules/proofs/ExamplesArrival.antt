@@ -9,7 +9,7 @@ use Rattle.mqtt_props.specs.declared.table.PropName.TheVariants.{MessageExpiryIn
 use Rattle.mqtt_props.specs.Properties.{Prop, U32}
 use Rattle.mqtt_codec.specs.declared.packet.Packet.TheVariants.{Publish}
 use Rattle.mqtt_rules.specs.declared.Report.TheVariants.{Ended}
-use Rattle.mqtt_rules.specs.Packets.{property}
+use Rattle.mqtt_records_message.specs.PassedOn.{property}
 use Rattle.mqtt_rules.specs.State.{later}
 use Rattle.mqtt_rules.specs.Closing.{end_due}
 use Rattle.mqtt_rules.specs.Step.{NewLine, Input, Lost, Pump, Tick}

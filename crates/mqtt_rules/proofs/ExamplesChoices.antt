@@ -8,14 +8,15 @@ use Rattle.mqtt_base.specs.declared.session.Cause.TheVariants.{Retained}
 use Rattle.mqtt_base.specs.declared.session.Ending.TheVariants.{SessionEnded}
 use Rattle.mqtt_props.specs.declared.table.PropName.TheVariants.{SessionExpiryInterval}
 use Rattle.mqtt_props.specs.Properties.{U32}
-use Rattle.mqtt_connect.specs.declared.connect.Will.{Will}
+use Rattle.mqtt_codec_connect.specs.declared.connect.Will.{Will}
 use Rattle.mqtt_codec.specs.declared.publish.Delivery.TheVariants as delivery
 use Rattle.mqtt_codec.specs.declared.packet.Packet.{Packet}
 use Rattle.mqtt_codec.specs.declared.packet.Packet.TheVariants.{Publish}
 use Rattle.mqtt_flow.specs.declared.entry.Full.TheVariants.{Drop}
 use Rattle.mqtt_rules.specs.declared.Report.{Report}
 use Rattle.mqtt_rules.specs.declared.Report.TheVariants.{Accepted, Entered, Ended}
-use Rattle.mqtt_rules.specs.Packets.{property, pubrec, suback, disconnect}
+use Rattle.mqtt_records_message.specs.PassedOn.{property}
+use Rattle.mqtt_rules.specs.Packets.{pubrec, suback, disconnect}
 use Rattle.mqtt_rules.specs.Step.{Input, Lost, Pump, Tick}
 use Rattle.mqtt_rules.proofs.Play.{blank, Event, at, asks, runs_with, tells_with, out, hello_with, hello, in_line, wants_with, wish, options, wants, topic, hi, message, sends, direct, subscribed, narrow, keeps, shared, in_group}
 

@@ -9,7 +9,8 @@ use Rattle.mqtt_props.specs.Properties.{Prop, U32, Text}
 use Rattle.mqtt_codec.specs.declared.packet.Packet.{Packet}
 use Rattle.mqtt_codec.specs.declared.packet.Packet.TheVariants.{Disconnect}
 use Rattle.mqtt_rules.specs.declared.Report.TheVariants.{Entered}
-use Rattle.mqtt_rules.specs.Packets.{reason, property, suback, disconnect}
+use Rattle.mqtt_rules.specs.Packets.{reason, suback, disconnect}
+use Rattle.mqtt_records_message.specs.PassedOn.{property}
 use Rattle.mqtt_rules.specs.Step.{Input, Lost, Pump, Tick}
 use Rattle.mqtt_rules.proofs.Play.{Event, at, asks, out, hello, hello_with, never_expires, in_line, wants, topic, hi, copy_out}
 

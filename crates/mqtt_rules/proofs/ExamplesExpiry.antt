@@ -8,7 +8,7 @@ use Rattle.mqtt_props.specs.Properties.{U32}
 use Rattle.mqtt_codec.specs.declared.packet.Packet.{Packet}
 use Rattle.mqtt_codec.specs.declared.packet.Packet.TheVariants.{Publish}
 use Rattle.mqtt_rules.specs.declared.Report.TheVariants.{Ended}
-use Rattle.mqtt_rules.specs.Packets.{property}
+use Rattle.mqtt_records_message.specs.PassedOn.{property}
 use Rattle.mqtt_rules.specs.Step.{NewLine, Input, Lost, Pump, Tick, Outcome}
 use Rattle.mqtt_rules.proofs.Play.{Event, at, asks, out, hello, message, copy_out, direct, subscribed}
 

@@ -12,11 +12,11 @@ use Rattle.mqtt_props.specs.Laws.{layout_at}
 use Rattle.mqtt_codec.specs.declared.publish.Delivery.TheVariants as delivery
 use Rattle.mqtt_codec.specs.declared.packet.Packet.{Packet}
 use Rattle.mqtt_codec.specs.declared.packet.Packet.TheVariants.{Publish}
-use Rattle.mqtt_codec.specs.Filters.{filter_at}
-use Rattle.mqtt_codec.specs.Subscriptions.{subscription_at}
+use Rattle.mqtt_codec_subscribe.specs.Filters.{filter_at}
+use Rattle.mqtt_codec_subscribe.specs.Subscriptions.{subscription_at}
 use Rattle.mqtt_codec.specs.Publish.{delivery_at, publish_at}
-use Rattle.mqtt_codec.specs.Subscribe.{subscribe_at}
-use Rattle.mqtt_codec.specs.Unsubscribe.{unsubscribe_at}
+use Rattle.mqtt_codec_subscribe.specs.Subscribe.{subscribe_at}
+use Rattle.mqtt_codec_subscribe.specs.Unsubscribe.{unsubscribe_at}
 use Rattle.mqtt_codec.specs.Packets.{shortest_of}
 use Rattle.mqtt_codec.specs.Frames.{frame_at, body_at, lawful_at, packet_at}
 use Rattle.mqtt_rules.specs.declared.Report.TheVariants.{Accepted}

@@ -5,7 +5,7 @@ use Rattle.mqtt_base.specs.Values.{varint}
 use Rattle.mqtt_codec.specs.declared.publish.Delivery.TheVariants as delivery
 use Rattle.mqtt_codec.specs.declared.packet.Packet.{Packet}
 use Rattle.mqtt_codec.specs.declared.packet.Packet.TheVariants.{Publish}
-use Rattle.mqtt_rows.specs.Order.{change_row}
+use Rattle.mqtt_records_rows.specs.Order.{change_row}
 use Rattle.mqtt_records.specs.Session.{birth_of}
 use Rattle.mqtt_rules.specs.declared.Report.TheVariants.{Accepted}
 use Rattle.mqtt_rules.specs.Packets.{puback, pubrec, disconnect}

@@ -6,10 +6,11 @@ use Rattle.mqtt_base.specs.Values.{varint}
 use Rattle.mqtt_base.specs.declared.session.Qos.TheVariants.{ExactlyOnce}
 use Rattle.mqtt_props.specs.declared.table.PropName.TheVariants.{AuthenticationMethod, MaximumPacketSize}
 use Rattle.mqtt_props.specs.Properties.{Prop, Text, U32}
-use Rattle.mqtt_connect.specs.declared.connect.Connect.{Connect}
-use Rattle.mqtt_connect.specs.declared.connect.Will.{Will}
+use Rattle.mqtt_codec_connect.specs.declared.connect.Connect.{Connect}
+use Rattle.mqtt_codec_connect.specs.declared.connect.Will.{Will}
 use Rattle.mqtt_records.specs.Records.{nothing}
-use Rattle.mqtt_rules.specs.Packets.{property, connack, size_of}
+use Rattle.mqtt_records_message.specs.PassedOn.{property}
+use Rattle.mqtt_rules.specs.Packets.{connack, size_of}
 use Rattle.mqtt_rules.specs.Connect.{refusal}
 use Rattle.mqtt_rules.specs.Step.{NewLine, Input, Lost, Outcome}
 use Rattle.mqtt_rules.proofs.Play.{Event, at, asks, out, hello, hello_with, welcome, in_line, hi}

@@ -16,18 +16,19 @@ use Rattle.mqtt_props.specs.Reading.{value_at, prop_at, block_at}
 use Rattle.mqtt_props.specs.Laws.{layout_at}
 use Rattle.mqtt_codec.specs.declared.packet.Packet.{Packet}
 use Rattle.mqtt_codec.specs.declared.packet.Packet.TheVariants.{Disconnect}
-use Rattle.mqtt_codec.specs.Connect.{will_at, user_name_at, password_at, fields_at, connect_at}
+use Rattle.mqtt_codec_connect.specs.Connect.{will_at, user_name_at, password_at, fields_at, connect_at}
 use Rattle.mqtt_codec.specs.Tails.{tail_at}
 use Rattle.mqtt_codec.specs.Ack.{ack_at}
 use Rattle.mqtt_codec.specs.Packets.{shortest_of}
 use Rattle.mqtt_codec.specs.Frames.{frame_at, body_at, versioned_at, lawful_at, packet_at}
-use Rattle.mqtt_message.specs.declared.message.MessageCopy.{MessageCopy}
+use Rattle.mqtt_records_message.specs.declared.message.MessageCopy.{MessageCopy}
 use Rattle.mqtt_records.specs.declared.session.Session.{Session}
 use Rattle.mqtt_records.specs.declared.change.Counter.TheVariants.{Publications, Moment}
 use Rattle.mqtt_records.specs.declared.change.Change.{Change}
 use Rattle.mqtt_records.specs.declared.change.Change.TheVariants.{SetCounter, PutInbound, PutCopy, SetCopy}
 use Rattle.mqtt_rules.specs.declared.Report.TheVariants.{Accepted, Entered, Ended}
-use Rattle.mqtt_rules.specs.Packets.{reason, property, puback, pubrec, pubrel, pubcomp, disconnect}
+use Rattle.mqtt_rules.specs.Packets.{reason, puback, pubrec, pubrel, pubcomp, disconnect}
+use Rattle.mqtt_records_message.specs.PassedOn.{property}
 use Rattle.mqtt_rules.specs.State.{Broker}
 use Rattle.mqtt_rules.specs.Step.{Call, Input, Pump, deeds, rows_written, copy_of}
 use Rattle.mqtt_rules.proofs.Play.{usual, first, hi, options, blank, Event, at, step, runs, tells, reopened, out, hello, welcome, in_line, topic, sends, copy_out, direct, subscribed, published, bytes, all_outputs, all_reports}

@@ -13,7 +13,8 @@ use Rattle.mqtt_codec.specs.declared.publish.Delivery.TheVariants as delivery
 use Rattle.mqtt_codec.specs.declared.packet.Packet.{Packet}
 use Rattle.mqtt_codec.specs.declared.packet.Packet.TheVariants.{Publish}
 use Rattle.mqtt_rules.specs.declared.Report.TheVariants.{Entered}
-use Rattle.mqtt_rules.specs.Packets.{property, suback}
+use Rattle.mqtt_records_message.specs.PassedOn.{property}
+use Rattle.mqtt_rules.specs.Packets.{suback}
 use Rattle.mqtt_rules.specs.Step.{Input, Pump, Tick, Outcome}
 use Rattle.mqtt_rules.proofs.Play.{blank, Event, at, step, runs, asks, out, hello, in_line, wants_with, wish, options, wants, topic, hi, all_outputs}
 use Rattle.mqtt_rules.proofs.Moments.{expires_in}

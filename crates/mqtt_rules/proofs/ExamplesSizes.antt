@@ -9,7 +9,8 @@ use Rattle.mqtt_codec.specs.declared.publish.Delivery.TheVariants as delivery
 use Rattle.mqtt_codec.specs.declared.packet.Packet.{Packet}
 use Rattle.mqtt_codec.specs.declared.packet.Packet.TheVariants.{Publish}
 use Rattle.mqtt_rules.specs.declared.Report.TheVariants.{Accepted}
-use Rattle.mqtt_rules.specs.Packets.{property, suback, unsuback}
+use Rattle.mqtt_records_message.specs.PassedOn.{property}
+use Rattle.mqtt_rules.specs.Packets.{suback, unsuback}
 use Rattle.mqtt_rules.specs.Step.{Input, Outcome}
 use Rattle.mqtt_rules.proofs.Play.{Event, at, asks, out, hello, hello_with, never_expires, in_line, wants_with, wish, options, wants, gives_up, topic}
 

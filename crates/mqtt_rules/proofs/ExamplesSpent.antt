@@ -5,7 +5,7 @@ use Rattle.mqtt_base.specs.Values.{varint}
 use Rattle.mqtt_base.specs.declared.limits.TheConstants.{LAST_NUMBER}
 use Rattle.mqtt_base.specs.declared.session.Qos.TheVariants.{ExactlyOnce}
 use Rattle.mqtt_base.specs.declared.session.Phase.TheVariants.{Waiting, Sent, Released}
-use Rattle.mqtt_connect.specs.declared.connect.Will.{Will}
+use Rattle.mqtt_codec_connect.specs.declared.connect.Will.{Will}
 use Rattle.mqtt_records.specs.declared.records.Records.{Records}
 use Rattle.mqtt_records.specs.Records.{nothing}
 use Rattle.mqtt_rules.specs.Packets.{pubrec}

@@ -8,7 +8,8 @@ use Rattle.mqtt_props.specs.Properties.{U16}
 use Rattle.mqtt_codec.specs.declared.packet.Packet.{Packet}
 use Rattle.mqtt_codec.specs.Packets.{shortest_of}
 use Rattle.mqtt_rules.specs.declared.Report.TheVariants.{Accepted, Entered, Released}
-use Rattle.mqtt_rules.specs.Packets.{property, pubrec, pubrel, pubcomp, disconnect}
+use Rattle.mqtt_records_message.specs.PassedOn.{property}
+use Rattle.mqtt_rules.specs.Packets.{pubrec, pubrel, pubcomp, disconnect}
 use Rattle.mqtt_rules.specs.Step.{NewLine, Input, Lost, Pump}
 use Rattle.mqtt_rules.proofs.Play.{blank, Event, at, asks, out, never_expires, hello_with, hello, welcome, in_line, wants, topic, sends, direct, subscribed, bytes, burst, all_reports}
 

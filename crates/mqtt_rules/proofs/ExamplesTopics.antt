@@ -5,7 +5,7 @@ use Rattle.mqtt_props.specs.declared.table.PropName.TheVariants.{TopicAlias}
 use Rattle.mqtt_props.specs.Properties.{Prop, U16}
 use Rattle.mqtt_codec.specs.declared.publish.Publish.{Publish}
 use Rattle.mqtt_codec.specs.declared.publish.Delivery.TheVariants as delivery
-use Rattle.mqtt_rules.specs.Packets.{property, identified}
+use Rattle.mqtt_records_message.specs.PassedOn.{property, identified}
 use Rattle.mqtt_rules.specs.State.{Line}
 use Rattle.mqtt_rules.specs.Deeds.{SetAlias, fresh_line, line_after}
 use Rattle.mqtt_rules.specs.Inbound.{Meaning, Means, Wrong, meaning}

@@ -8,7 +8,8 @@ use Rattle.mqtt_base.specs.declared.session.Phase.TheVariants.{Waiting, Sent, Re
 use Rattle.mqtt_props.specs.declared.table.PropName.TheVariants.{ReceiveMaximum}
 use Rattle.mqtt_props.specs.Properties.{U16}
 use Rattle.mqtt_codec.specs.declared.packet.Packet.{Packet}
-use Rattle.mqtt_rules.specs.Packets.{property, pubrec, pubrel, pubcomp, suback}
+use Rattle.mqtt_records_message.specs.PassedOn.{property}
+use Rattle.mqtt_rules.specs.Packets.{pubrec, pubrel, pubcomp, suback}
 use Rattle.mqtt_rules.specs.State.{Broker}
 use Rattle.mqtt_rules.specs.Step.{NewLine, Input, Lost, Pump, Outcome}
 use Rattle.mqtt_rules.proofs.Play.{blank, Event, at, asks, tells, runs, reopened, out, hello_with, hello, never_expires, welcome, in_line, wants, topic, sends, copy_out, subscribed, entry, queued}

@@ -5,21 +5,21 @@ use Rattle.std.specs.List.{AllByRecursion, starts_with, list_any}
 use Rattle.std.proofs.lemmas.Bool.{cases_Bool, ltb-true, lt-ltb}
 use Rattle.std.proofs.lemmas.Slice.Eq.{bytes_eq-Decides}
 use Rattle.mqtt_base.specs.declared.limits.TheConstants.{LAST_NUMBER, CLIENT_LIMIT, OPEN_LIMIT, SUBSCRIPTION_LIMIT, SESSION_LIMIT, RETAINED_LIMIT}
-use Rattle.mqtt_connect.specs.declared.connect.Connect.{Connect as Greeting}
+use Rattle.mqtt_codec_connect.specs.declared.connect.Connect.{Connect as Greeting}
 use Rattle.mqtt_topic.specs.Names.{is_empty}
-use Rattle.mqtt_inbound.specs.declared.inflow.Published.TheVariants.{New, Again, Over}
-use Rattle.mqtt_inbound.specs.Identifiers.{is_among}
-use Rattle.mqtt_inbound.specs.Inbound.{answer_to}
-use Rattle.mqtt_message.specs.declared.message.MessageCopy.{MessageCopy}
-use Rattle.mqtt_message.specs.declared.message.RetainedMessage.{RetainedMessage}
-use Rattle.mqtt_message.specs.declared.message.Will.{Will}
+use Rattle.mqtt_flow_inbound.specs.declared.inflow.Published.TheVariants.{New, Again, Over}
+use Rattle.mqtt_flow_inbound.specs.Identifiers.{is_among}
+use Rattle.mqtt_flow_inbound.specs.Inbound.{answer_to}
+use Rattle.mqtt_records_message.specs.declared.message.MessageCopy.{MessageCopy}
+use Rattle.mqtt_records_message.specs.declared.message.RetainedMessage.{RetainedMessage}
+use Rattle.mqtt_records_message.specs.declared.message.Will.{Will}
 use Rattle.mqtt_records.specs.declared.session.Session.{Session}
 use Rattle.mqtt_records.specs.declared.session.Columns.{Columns}
 use Rattle.mqtt_records.specs.declared.change.Change.TheVariants.{SetSession}
 use Rattle.mqtt_records.specs.declared.subscription.Subscription.{Subscription}
 use Rattle.mqtt_records.specs.declared.records.Records.{Records}
-use Rattle.mqtt_rows.specs.Order.{IsAbove, IsAscending, IsBelow, HasRoomFor, row_at, has_row}
-use Rattle.mqtt_rows.proofs.OrderLemmas.{apart, above_none}
+use Rattle.mqtt_records_rows.specs.Order.{IsAbove, IsAscending, IsBelow, HasRoomFor, row_at, has_row}
+use Rattle.mqtt_records_rows.proofs.OrderLemmas.{apart, above_none}
 use Rattle.mqtt_records.specs.Session.{birth_of, place_of, number_of, with_columns, with_will, with_subscription, without_filter, without_subscription, with_copy, with_phase, without_copy, auto}
 use Rattle.mqtt_records.specs.Records.{kept_place, changed, changed_all, IsNumber, TakesSubscription}
 use Rattle.mqtt_rules.specs.State.{Broker, Env, session_at, session_named}

@@ -7,16 +7,16 @@ use Rattle.std.proofs.lemmas.Cmp.{nat_eq_equiv}
 use Rattle.mqtt_base.specs.declared.session.Phase.{Phase}
 use Rattle.mqtt_base.specs.declared.session.Phase.TheVariants.{Waiting, Sent, Released as ReleasedPhase, Oversize}
 use Rattle.mqtt_base.specs.declared.limits.TheConstants.{LAST_NUMBER, OPEN_LIMIT, QUEUE_LIMIT, SESSION_LIMIT}
-use Rattle.mqtt_message.specs.declared.message.RetainedMessage.{RetainedMessage}
-use Rattle.mqtt_message.specs.declared.message.Will.{Will}
+use Rattle.mqtt_records_message.specs.declared.message.RetainedMessage.{RetainedMessage}
+use Rattle.mqtt_records_message.specs.declared.message.Will.{Will}
 use Rattle.mqtt_records.specs.declared.session.Columns.{Columns}
 use Rattle.mqtt_records.specs.declared.session.Session.{Session}
 use Rattle.mqtt_records.specs.declared.records.Records.{Records}
 use Rattle.mqtt_records.specs.declared.change.Change.{Change}
 use Rattle.mqtt_records.specs.declared.change.Counter.TheVariants.{Births, Publications, Subscribes, Autos}
 use Rattle.mqtt_records.specs.declared.change.Change.TheVariants.{SetCounter, PutSession, SetSession, PutWill, PutSubscription, PutCopy, SetCopy, PutRetained}
-use Rattle.mqtt_rows.specs.Order.{HasRoomFor, row_at, has_row, put_row}
-use Rattle.mqtt_rows.proofs.LookUps.{row_at-put_row}
+use Rattle.mqtt_records_rows.specs.Order.{HasRoomFor, row_at, has_row, put_row}
+use Rattle.mqtt_records_rows.proofs.LookUps.{row_at-put_row}
 use Rattle.mqtt_records.specs.Session.{birth_of, copy_place, number_of, fresh, with_columns, without_filter}
 use Rattle.mqtt_records.specs.Records.{kept_place, put_session, changed, changed_all, HasSome, TakesSubscription, Fits, FitAll, IsNumber, IsMoment}
 use Rattle.mqtt_rules.specs.State.{Broker, session_at}

@@ -14,17 +14,17 @@ use Rattle.mqtt_flow.specs.declared.entry.QueuedCopy.{QueuedCopy}
 use Rattle.mqtt_flow.specs.declared.entry.Turn.{Turn}
 use Rattle.mqtt_flow.specs.declared.entry.Turn.TheVariants as turns
 use Rattle.mqtt_flow.specs.declared.entry.Way.{Way}
-use Rattle.mqtt_inbound.specs.Identifiers.{is_among, ids_without, free_identifier}
+use Rattle.mqtt_flow_inbound.specs.Identifiers.{is_among, ids_without, free_identifier}
 use Rattle.mqtt_flow.specs.Pacing.{Pacing}
 use Rattle.mqtt_flow.specs.Queue.{also, identifiers}
 use Rattle.mqtt_flow.specs.Outbound.{Verdict, pass, end, outgrow, send, resend, first_time, too_large, once_more, is_late, is_large, verdict_by, verdict, in_room, step_on, step_by, freed, paced, then_on, pump_from, pace, pump}
-use Rattle.mqtt_inbound.proofs.Identifiers.{is_among-push, is_among-ids_without_other, free_is_free}
-use Rattle.mqtt_message.specs.Queue.{CopyRow}
+use Rattle.mqtt_flow_inbound.proofs.Identifiers.{is_among-push, is_among-ids_without_other, free_is_free}
+use Rattle.mqtt_records_message.specs.Queue.{CopyRow}
 use Rattle.mqtt_records.specs.declared.session.Session.{Session}
-use Rattle.mqtt_rows.specs.Order.{IsAbove, IsAscending, row_at, remove_row, change_row}
+use Rattle.mqtt_records_rows.specs.Order.{IsAbove, IsAscending, row_at, remove_row, change_row}
 use Rattle.mqtt_records.specs.Session.{copy_place, in_phase}
-use Rattle.mqtt_rows.proofs.OrderLemmas.{apart}
-use Rattle.mqtt_rows.proofs.LookUps.{row_at-remove_row}
+use Rattle.mqtt_records_rows.proofs.OrderLemmas.{apart}
+use Rattle.mqtt_records_rows.proofs.LookUps.{row_at-remove_row}
 use Rattle.mqtt_rules.specs.State.{Broker, Line, entry_on, queue_on, session_at}
 use Rattle.mqtt_rules.specs.Deeds.{whose, Mark, Leave, Went, At, On, Send, after, after_all}
 use Rattle.mqtt_rules.specs.Outbound.{of_entry, all_turn_deeds, way_of}

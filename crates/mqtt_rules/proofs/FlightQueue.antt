@@ -5,11 +5,11 @@ use Rattle.std.proofs.lemmas.Bool.{eqb-true, cases_Bool}
 use Rattle.mqtt_base.specs.Phases.{identifier_of}
 use Rattle.mqtt_base.specs.declared.session.Phase.{Phase}
 use Rattle.mqtt_base.specs.declared.session.Phase.TheVariants.{Sent}
-use Rattle.mqtt_message.specs.Queue.{CopyRow}
-use Rattle.mqtt_rows.specs.Order.{IsAscending, row_at, has_row, put_row, insert_row, remove_row, change_row}
+use Rattle.mqtt_records_message.specs.Queue.{CopyRow}
+use Rattle.mqtt_records_rows.specs.Order.{IsAscending, row_at, has_row, put_row, insert_row, remove_row, change_row}
 use Rattle.mqtt_records.specs.Session.{copy_place, in_phase}
-use Rattle.mqtt_rows.proofs.OrderLemmas.{insert-ascending, remove-ascending, change-ascending}
-use Rattle.mqtt_rows.proofs.LookUps.{row_at-insert_row, row_at-remove_row}
+use Rattle.mqtt_records_rows.proofs.OrderLemmas.{insert-ascending, remove-ascending, change-ascending}
+use Rattle.mqtt_records_rows.proofs.LookUps.{row_at-insert_row, row_at-remove_row}
 use Rattle.mqtt_rules.specs.Flight.{identifier_in, identifier_at, IsFlight}
 use Rattle.mqtt_rules.proofs.FlightRows.{change_row-other, change_row-here}
 

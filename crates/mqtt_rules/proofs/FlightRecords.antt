@@ -4,8 +4,8 @@ use Rattle.std.specs.Prelude.{Option, Some, None}
 use Rattle.std.specs.List.{AllByRecursion}
 use Rattle.mqtt_base.specs.declared.session.Phase.{Phase}
 use Rattle.mqtt_base.specs.declared.session.Ending.{Ending}
-use Rattle.mqtt_message.specs.Queue.{CopyRow}
-use Rattle.mqtt_message.specs.declared.message.Will.{Will}
+use Rattle.mqtt_records_message.specs.Queue.{CopyRow}
+use Rattle.mqtt_records_message.specs.declared.message.Will.{Will}
 use Rattle.mqtt_records.specs.declared.session.Session.{Session}
 use Rattle.mqtt_records.specs.declared.session.Columns.{Columns}
 use Rattle.mqtt_base.specs.declared.limits.TheConstants.{QUEUE_LIMIT, SESSION_LIMIT}
@@ -13,7 +13,7 @@ use Rattle.mqtt_records.specs.declared.records.Records.{Records}
 use Rattle.mqtt_records.specs.declared.change.Change.{Change}
 use Rattle.mqtt_records.specs.declared.change.Counter.{Counter}
 use Rattle.mqtt_records.specs.declared.change.Counter.TheVariants.{Births, Publications, Subscribes, Autos, Moment}
-use Rattle.mqtt_rows.specs.Order.{has_row, put_row, remove_row, change_row}
+use Rattle.mqtt_records_rows.specs.Order.{has_row, put_row, remove_row, change_row}
 use Rattle.mqtt_records.specs.Session.{birth_of, copy_place, in_phase, fresh, with_columns, with_will, with_phase, without_copy}
 use Rattle.mqtt_records.specs.Records.{with_counter, in_session, changed, changed_all}
 use Rattle.mqtt_rules.specs.State.{session_at}

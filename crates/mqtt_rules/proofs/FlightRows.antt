@@ -3,9 +3,9 @@ use Rattle.std.proofs.Common.{◌≡◌, ℕ, ◌<◌, true, false, cond, ◌||�
 use Rattle.std.specs.Prelude.{Option, Some}
 use Rattle.std.specs.List.{AllByRecursion}
 use Rattle.std.proofs.lemmas.Bool.{eqb-true, cases_Bool}
-use Rattle.mqtt_rows.specs.Order.{IsAbove, IsAscending, row_at, has_row, insert_row, put_row, remove_row, change_row}
-use Rattle.mqtt_rows.proofs.OrderLemmas.{apart}
-use Rattle.mqtt_rows.proofs.LookUps.{row_at-here}
+use Rattle.mqtt_records_rows.specs.Order.{IsAbove, IsAscending, row_at, has_row, insert_row, put_row, remove_row, change_row}
+use Rattle.mqtt_records_rows.proofs.OrderLemmas.{apart}
+use Rattle.mqtt_records_rows.proofs.LookUps.{row_at-here}
 
 pub all_more : {X : Type 0} (P Q : X → Type 0) (xs : List X) → ((x : X) → P x → Q x) → AllByRecursion P xs → AllByRecursion Q xs
 all_more P Q [] f h = tt

@@ -13,13 +13,13 @@ use Rattle.mqtt_flow.specs.declared.entry.Turn.TheVariants as turns
 use Rattle.mqtt_flow.specs.Queue.{is_holder, holder, next_order}
 use Rattle.mqtt_flow.specs.Outbound.{Answer, acknowledged, puback_by, puback_at, released_by, received, pubrec_by, pubrec_at, pubcomp_by, pubcomp_at, is_refusal}
 use Rattle.mqtt_flow.specs.Outbound as rules
-use Rattle.mqtt_message.specs.Queue.{CopyRow}
+use Rattle.mqtt_records_message.specs.Queue.{CopyRow}
 use Rattle.mqtt_records.specs.declared.session.Session.{Session}
 use Rattle.mqtt_records.specs.declared.records.Records.{Records}
 use Rattle.mqtt_records.specs.declared.change.Change.{Change}
-use Rattle.mqtt_rows.specs.Order.{IsAscending, row_at}
+use Rattle.mqtt_records_rows.specs.Order.{IsAscending, row_at}
 use Rattle.mqtt_records.specs.Session.{copy_place}
-use Rattle.mqtt_rows.proofs.LookUps.{row_at-here}
+use Rattle.mqtt_records_rows.proofs.LookUps.{row_at-here}
 use Rattle.mqtt_rules.specs.declared.Limits.{Limits}
 use Rattle.mqtt_rules.specs.State.{Line, Broker, Env, session_at, entry_on, queue_on, MemberChoice}
 use Rattle.mqtt_rules.specs.Routing.{publish}

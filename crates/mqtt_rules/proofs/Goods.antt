@@ -1,7 +1,7 @@
 -- Lists of deeds of a class, which may look at the state that a deed comes on, whatever the class.
 use Rattle.std.proofs.Common.{◌≡◌, ℕ, Bool, true, false, cond, List, [], ◌∷◌, ◌++◌, map, Option, Some, None, refl}
 use Rattle.std.specs.Prelude.{⊤, flat_map}
-use Rattle.mqtt_message.specs.Queue.{CopyRow}
+use Rattle.mqtt_records_message.specs.Queue.{CopyRow}
 use Rattle.mqtt_records.specs.declared.session.Session.{Session}
 use Rattle.mqtt_rules.specs.State.{Line, Broker, session_at, session_named}
 use Rattle.mqtt_rules.specs.Deeds.{Deed, after, after_all, Act, then, series, only_if, with_session, of_session, with_line}

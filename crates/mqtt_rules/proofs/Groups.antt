@@ -7,7 +7,7 @@ use Rattle.mqtt_base.specs.declared.session.Qos.TheVariants.{AtMostOnce, AtLeast
 use Rattle.mqtt_base.specs.declared.session.Cause.TheVariants.{Share}
 use Rattle.mqtt_base.specs.declared.session.CopyId.{CopyId}
 use Rattle.mqtt_props.specs.Properties.{Prop}
-use Rattle.mqtt_connect.specs.declared.connect.Will.{Will}
+use Rattle.mqtt_codec_connect.specs.declared.connect.Will.{Will}
 use Rattle.mqtt_codec.specs.declared.publish.Delivery.TheVariants as delivery
 use Rattle.mqtt_codec.specs.declared.packet.Packet.{Packet}
 use Rattle.mqtt_codec.specs.declared.packet.Packet.TheVariants.{Publish}
@@ -16,7 +16,8 @@ use Rattle.mqtt_routes.specs.Intended.{Publication, Copy, published, members as 
 use Rattle.mqtt_routes.specs.Acceptance.{Routed, routed}
 use Rattle.mqtt_rules.specs.declared.Limits.{Limits}
 use Rattle.mqtt_rules.specs.declared.Report.TheVariants.{Accepted, Entered}
-use Rattle.mqtt_rules.specs.Packets.{identified, pubrec}
+use Rattle.mqtt_records_message.specs.PassedOn.{identified}
+use Rattle.mqtt_rules.specs.Packets.{pubrec}
 use Rattle.mqtt_rules.specs.State.{Broker, MemberChoice}
 use Rattle.mqtt_rules.specs.Routing.{subscribers, answers}
 use Rattle.mqtt_rules.specs.Step.{Input, Lost, Pump, Outcome, env_of, opened}

@@ -11,7 +11,8 @@ use Rattle.mqtt_props.specs.Properties.{U32}
 use Rattle.mqtt_codec.specs.declared.packet.Packet.{Packet}
 use Rattle.mqtt_codec.specs.Packets.{shortest_of}
 use Rattle.mqtt_rules.specs.declared.Report.TheVariants.{Accepted, Entered, Ended}
-use Rattle.mqtt_rules.specs.Packets.{property, pubrec, disconnect}
+use Rattle.mqtt_records_message.specs.PassedOn.{property}
+use Rattle.mqtt_rules.specs.Packets.{pubrec, disconnect}
 use Rattle.mqtt_rules.specs.State.{Broker}
 use Rattle.mqtt_rules.specs.Step.{Input, Lost, Pump, Tick}
 use Rattle.mqtt_rules.proofs.Play.{blank, Event, at, runs, asks, reopened, out, hello_with, hello, welcome, in_line, wants, sends, sends_again, copy_out, subscribed, bytes, open_at, burst, all_outputs, all_reports}

@@ -5,12 +5,13 @@ use Rattle.mqtt_base.specs.Values.{varint}
 use Rattle.mqtt_base.specs.declared.session.Qos.TheVariants.{ExactlyOnce}
 use Rattle.mqtt_props.specs.declared.table.PropName.TheVariants.{MaximumPacketSize, AuthenticationMethod}
 use Rattle.mqtt_props.specs.Properties.{U32, Text}
-use Rattle.mqtt_connect.specs.declared.connect.Will.{Will}
+use Rattle.mqtt_codec_connect.specs.declared.connect.Will.{Will}
 use Rattle.mqtt_codec.specs.declared.packet.Packet.{Packet}
 use Rattle.mqtt_codec.specs.declared.packet.Packet.TheVariants.{Pingreq, Pingresp, Auth}
 use Rattle.mqtt_records.specs.Records.{nothing}
 use Rattle.mqtt_rules.specs.declared.Report.TheVariants.{Accepted, Entered}
-use Rattle.mqtt_rules.specs.Packets.{property, reason, connack, pubrel, suback, unsuback, disconnect}
+use Rattle.mqtt_records_message.specs.PassedOn.{property}
+use Rattle.mqtt_rules.specs.Packets.{reason, connack, pubrel, suback, unsuback, disconnect}
 use Rattle.mqtt_rules.specs.State.{Broker}
 use Rattle.mqtt_rules.specs.Step.{Call, NewLine, Input, BadInput, Lost, Pump, Outcome}
 use Rattle.mqtt_rules.proofs.Play.{turned_away, told_off, hung_up, nothing_at_all, linked, usual, blank, Event, at, step, runs, asks, out, hello, hello_with, never_expires, welcome, in_line, wants, topic, hi, sends, direct, Keeps, nothing_written, away}

@@ -11,15 +11,15 @@ use Rattle.mqtt_props.specs.declared.table.PropName.TheVariants.{UserProperty}
 use Rattle.mqtt_props.specs.Properties.{Prop, IsProp, prop, props}
 use Rattle.mqtt_props.specs.Laws.{is_lawful_value, has_method_for_data, none_repeats, values_are_lawful}
 use Rattle.mqtt_props.specs.Edits.{only, without}
-use Rattle.mqtt_message.specs.PassedOn.{aged, identified}
-use Rattle.mqtt_message.specs.Queue.{CopyRow, first_sent}
-use Rattle.mqtt_message.specs.declared.message.MessageCopy.{MessageCopy}
-use Rattle.mqtt_message.specs.declared.message.RetainedMessage.{RetainedMessage}
-use Rattle.mqtt_message.specs.declared.message.Will.{Will}
+use Rattle.mqtt_records_message.specs.PassedOn.{aged, identified}
+use Rattle.mqtt_records_message.specs.Queue.{CopyRow, first_sent}
+use Rattle.mqtt_records_message.specs.declared.message.MessageCopy.{MessageCopy}
+use Rattle.mqtt_records_message.specs.declared.message.RetainedMessage.{RetainedMessage}
+use Rattle.mqtt_records_message.specs.declared.message.Will.{Will}
 use Rattle.mqtt_records.specs.declared.records.Records.{Records}
 use Rattle.mqtt_records.specs.declared.session.Session.{Session}
-use Rattle.mqtt_lawful.specs.declared.rows.Last.{Last}
-use Rattle.mqtt_lawful.specs.Lawful.{HasLawfulWill, IsIdentifier, IsLawful, IsLawfulCopy, IsLawfulRetained, IsLawfulSession, IsMessage, IsSubscription, last_of}
+use Rattle.mqtt_records_lawful.specs.declared.rows.Last.{Last}
+use Rattle.mqtt_records_lawful.specs.Lawful.{HasLawfulWill, IsIdentifier, IsLawful, IsLawfulCopy, IsLawfulRetained, IsLawfulSession, IsMessage, IsSubscription, last_of}
 use Rattle.mqtt_rules.specs.Contents.{AreIdentifiers, HasContents, HasLawfulContents, IsAskedFor, IsContent, IsCopied, IsPublished, IsWilled}
 use Rattle.mqtt_rules.proofs.Copies.{each_more}
 use Rattle.mqtt_rules.proofs.PassedContents.{two, props_append, block_within}

@@ -8,13 +8,13 @@ use Rattle.std.proofs.lemmas.Slice.Eq.{starts_is}
 use Rattle.mqtt_base.specs.declared.limits.TheConstants.{LAST_NUMBER}
 use Rattle.mqtt_records.specs.declared.session.Session.{Session}
 use Rattle.mqtt_records.specs.declared.records.Records.{Records}
-use Rattle.mqtt_message.specs.declared.message.RetainedMessage.{RetainedMessage}
+use Rattle.mqtt_records_message.specs.declared.message.RetainedMessage.{RetainedMessage}
 use Rattle.mqtt_records.specs.Session.{birth_of, auto}
 use Rattle.mqtt_records.specs.Records.{kept_place, IsMoment, IsNumber}
-use Rattle.mqtt_rows.specs.Order.{IsBelow, row_at}
-use Rattle.mqtt_rows.specs.Distinct.{AllDiffer}
-use Rattle.mqtt_lawful.specs.declared.rows.Last.{Last}
-use Rattle.mqtt_lawful.specs.Lawful.{HasBeen, IsAssigned, IsLawful, IsLawfulSession, IsLawfulRetained, IsLawfulCopy, IsSubscription, last_of}
+use Rattle.mqtt_records_rows.specs.Order.{IsBelow, row_at}
+use Rattle.mqtt_records_rows.specs.Distinct.{AllDiffer}
+use Rattle.mqtt_records_lawful.specs.declared.rows.Last.{Last}
+use Rattle.mqtt_records_lawful.specs.Lawful.{HasBeen, IsAssigned, IsLawful, IsLawfulSession, IsLawfulRetained, IsLawfulCopy, IsSubscription, last_of}
 use Rattle.mqtt_rules.specs.Laws.{HasTables, IsAssignedUpTo, IsCoherentSession, IsCoherentMessage, IsCoherent}
 use Rattle.mqtt_rules.specs.Numbers.{HasCopiesUpTo, HasAcceptedNumbers}
 use Rattle.mqtt_rules.proofs.Copies.{each_more}

@@ -2,9 +2,9 @@
 use Rattle.std.proofs.Common.{◌≡◌, ℕ, Bool, true, false, cond, List, [], ◌∷◌, ◌++◌, map, Option, Some, None, nat_eq, refl, sym, subst, inl, inr}
 use Rattle.std.specs.Prelude.{⊤, flat_map, find}
 use Rattle.std.proofs.lemmas.Bool.{cases_Bool}
-use Rattle.mqtt_message.specs.Queue.{CopyRow}
+use Rattle.mqtt_records_message.specs.Queue.{CopyRow}
 use Rattle.mqtt_records.specs.declared.session.Session.{Session}
-use Rattle.mqtt_rows.specs.Order.{row_at}
+use Rattle.mqtt_records_rows.specs.Order.{row_at}
 use Rattle.mqtt_rules.specs.State.{Line, Broker, session_at, session_named}
 use Rattle.mqtt_rules.specs.Deeds.{Deed, after, after_all, Act, series, only_if, with_session, of_session, with_line}
 use Rattle.mqtt_rules.specs.Outbound.{of_entry}

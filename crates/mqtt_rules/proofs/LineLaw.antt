@@ -5,14 +5,14 @@ use Rattle.std.proofs.lemmas.Bool.{cases_Bool, eqb-true}
 use Rattle.std.proofs.lemmas.Cmp.{nat_eq_equiv}
 use Rattle.mqtt_base.specs.declared.limits.TheConstants.{SESSION_LIMIT}
 use Rattle.mqtt_base.specs.declared.session.Ending.TheVariants.{SessionEnded}
-use Rattle.mqtt_connect.specs.declared.connect.Connect.{Connect as Greeting}
-use Rattle.mqtt_message.specs.declared.message.Will.{Will}
+use Rattle.mqtt_codec_connect.specs.declared.connect.Connect.{Connect as Greeting}
+use Rattle.mqtt_records_message.specs.declared.message.Will.{Will}
 use Rattle.mqtt_records.specs.declared.session.Session.{Session}
 use Rattle.mqtt_records.specs.declared.session.Columns.{Columns}
 use Rattle.mqtt_records.specs.declared.records.Records.{Records}
-use Rattle.mqtt_rows.specs.Order.{IsAscending, IsBelow, row_at, has_row, insert_row}
-use Rattle.mqtt_rows.proofs.LookUps.{row_at-insert_row, row_at-remove_row, insert_row-last}
-use Rattle.mqtt_rows.proofs.OrderLemmas.{apart, insert-ascending, remove-ascending, change-ascending}
+use Rattle.mqtt_records_rows.specs.Order.{IsAscending, IsBelow, row_at, has_row, insert_row}
+use Rattle.mqtt_records_rows.proofs.LookUps.{row_at-insert_row, row_at-remove_row, insert_row-last}
+use Rattle.mqtt_records_rows.proofs.OrderLemmas.{apart, insert-ascending, remove-ascending, change-ascending}
 use Rattle.mqtt_records.specs.Session.{birth_of}
 use Rattle.mqtt_records.specs.Records.{changed_all}
 use Rattle.mqtt_rules.specs.State.{Line, Broker, session_at, line_of, is_of}

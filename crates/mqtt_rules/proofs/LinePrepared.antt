@@ -6,9 +6,9 @@ use Rattle.std.proofs.lemmas.Cmp.{nat_eq_equiv}
 use Rattle.std.proofs.lemmas.Slice.Eq.{bytes_eq-Decides}
 use Rattle.mqtt_base.specs.declared.limits.TheConstants.{LAST_NUMBER}
 use Rattle.mqtt_base.specs.Codes.{session_taken_over}
-use Rattle.mqtt_connect.specs.declared.connect.Connect.{Connect as Greeting}
+use Rattle.mqtt_codec_connect.specs.declared.connect.Connect.{Connect as Greeting}
 use Rattle.mqtt_records.specs.declared.session.Session.{Session}
-use Rattle.mqtt_rows.proofs.OrderLemmas.{apart}
+use Rattle.mqtt_records_rows.proofs.OrderLemmas.{apart}
 use Rattle.mqtt_rules.specs.Packets.{disconnect}
 use Rattle.mqtt_rules.specs.State.{Line, Broker, Env, session_at, session_named, line_of, is_of}
 use Rattle.mqtt_rules.specs.Deeds.{whose, Close, Deed, At, Send, Gone, after, after_all, only_if, with_session, with_line}

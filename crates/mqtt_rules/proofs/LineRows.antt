@@ -2,15 +2,15 @@
 use Rattle.std.proofs.Common.{◌≡◌, ℕ, ◌<◌, Bool, true, false, cond, List, [], ◌∷◌, map, Option, Some, None, nat_eq, refl, sym, ap, subst, ◌∙◌, inl, inr}
 use Rattle.std.specs.Prelude.{⊤, option_map, is_some, find}
 use Rattle.std.proofs.lemmas.Bool.{cases_Bool, eqb-true}
-use Rattle.mqtt_message.specs.declared.message.Will.{Will}
+use Rattle.mqtt_records_message.specs.declared.message.Will.{Will}
 use Rattle.mqtt_records.specs.declared.session.Session.{Session}
 use Rattle.mqtt_records.specs.declared.session.Columns.{Columns}
 use Rattle.mqtt_records.specs.declared.records.Records.{Records}
 use Rattle.mqtt_records.specs.declared.change.Change.TheVariants.{PutSession, SetSession}
 use Rattle.mqtt_base.specs.declared.limits.TheConstants.{SESSION_LIMIT}
-use Rattle.mqtt_rows.specs.Order.{IsAbove, IsAscending, IsBelow, HasRoomFor, row_at, has_row, put_row, change_row}
-use Rattle.mqtt_rows.proofs.LookUps.{row_at-put_row, row_at-remove_row}
-use Rattle.mqtt_rows.proofs.OrderLemmas.{change-ascending}
+use Rattle.mqtt_records_rows.specs.Order.{IsAbove, IsAscending, IsBelow, HasRoomFor, row_at, has_row, put_row, change_row}
+use Rattle.mqtt_records_rows.proofs.LookUps.{row_at-put_row, row_at-remove_row}
+use Rattle.mqtt_records_rows.proofs.OrderLemmas.{change-ascending}
 use Rattle.mqtt_records.specs.Session.{birth_of, fresh, with_columns, with_will, with_subscription, without_subscription, with_open, without_open, with_copy, with_phase, without_copy}
 use Rattle.mqtt_records.specs.Records.{put_session, changed, changed_all}
 use Rattle.mqtt_rules.specs.State.{Line, Broker, session_at, is_of}

@@ -2,14 +2,14 @@
 use Rattle.std.proofs.Common.{◌≡◌, ℕ, suc, ◌≤◌, Bool, true, false, cond, List, [], ◌∷◌, ◌++◌, map, Option, Some, None, refl, sym, ap, subst, ◌∙◌, arith, inl, inr}
 use Rattle.std.specs.Prelude.{option_map, is_none, decimal}
 use Rattle.mqtt_base.specs.declared.limits.TheConstants.{LAST_NUMBER}
-use Rattle.mqtt_connect.specs.declared.connect.Connect.{Connect as Greeting}
+use Rattle.mqtt_codec_connect.specs.declared.connect.Connect.{Connect as Greeting}
 use Rattle.mqtt_topic.specs.Names.{is_empty}
 use Rattle.mqtt_records.specs.declared.session.Session.{Session}
 use Rattle.mqtt_records.specs.declared.records.Records.{Records}
 use Rattle.mqtt_records.specs.declared.change.Change.{Change}
 use Rattle.mqtt_records.specs.Records.{IsNumber}
 use Rattle.mqtt_records.specs.Session.{birth_of, auto}
-use Rattle.mqtt_rows.specs.Order.{IsAscending}
+use Rattle.mqtt_records_rows.specs.Order.{IsAscending}
 use Rattle.mqtt_rules.specs.declared.Limits.{Limits}
 use Rattle.mqtt_rules.specs.State.{Line, Broker, Env, stored, session_at, is_connected, MemberChoice}
 use Rattle.mqtt_rules.specs.Deeds.{Whose, whose, Part, Resume, Open, Close, Act, SetAlias, Hear, Deed, Name, At, Forget, RefuseWill, Link, On, Send, rows_of_all, after, after_all, series, always}

@@ -12,7 +12,7 @@ use Rattle.mqtt_props.specs.declared.table.PropName.TheVariants.{MessageExpiryIn
 use Rattle.mqtt_props.specs.Properties.{Prop, U32}
 use Rattle.mqtt_props.specs.Reading.{value_at, prop_at, block_at}
 use Rattle.mqtt_props.specs.Laws.{layout_at}
-use Rattle.mqtt_connect.specs.declared.connect.Will.{Will}
+use Rattle.mqtt_codec_connect.specs.declared.connect.Will.{Will}
 use Rattle.mqtt_codec.specs.declared.packet.Packet.{Packet}
 use Rattle.mqtt_codec.specs.declared.packet.Packet.TheVariants.{Publish, Disconnect}
 use Rattle.mqtt_codec.specs.Publish.{delivery_at, publish_at}
@@ -21,7 +21,8 @@ use Rattle.mqtt_codec.specs.Notice.{disconnect_at}
 use Rattle.mqtt_codec.specs.Packets.{shortest_of}
 use Rattle.mqtt_codec.specs.Frames.{frame_at, body_at, lawful_at, packet_at}
 use Rattle.mqtt_rules.specs.declared.Report.TheVariants.{Accepted, Entered, Ended}
-use Rattle.mqtt_rules.specs.Packets.{reason, property, pubrec, pubrel, pubcomp, disconnect}
+use Rattle.mqtt_rules.specs.Packets.{reason, pubrec, pubrel, pubcomp, disconnect}
+use Rattle.mqtt_records_message.specs.PassedOn.{property}
 use Rattle.mqtt_rules.specs.Step.{NewLine, Input, Lost, Pump, Tick}
 use Rattle.mqtt_rules.proofs.Play.{blank, Event, at, runs, tells, asks, reopened, out, never_expires, hello_with, hello, in_line, wants, topic, hi, message, copy_out, direct, subscribed, bytes, births}
 use Rattle.mqtt_rules.proofs.Examples.{nameless}

@@ -9,10 +9,10 @@ use Rattle.mqtt_records.specs.declared.change.Counter.{Counter}
 use Rattle.mqtt_records.specs.declared.change.Counter.TheVariants.{Births, Publications, Subscribes, Autos, Moment}
 use Rattle.mqtt_records.specs.declared.change.Change.{Change}
 use Rattle.mqtt_records.specs.declared.change.Change.TheVariants.{SetCounter, PutSession, SetSession, RemoveSession, PutWill, RemoveWill, PutSubscription, RemoveSubscription, PutInbound, RemoveInbound, PutCopy, SetCopy, RemoveCopy, PutRetained, RemoveRetained}
-use Rattle.mqtt_rows.specs.Order.{IsAscending, has_row, put_row, change_row}
+use Rattle.mqtt_records_rows.specs.Order.{IsAscending, has_row, put_row, change_row}
 use Rattle.mqtt_records.specs.Session.{birth_of, place_of, number_of, copy_place, fresh, with_columns, with_will, with_subscription, without_subscription, without_filter, with_open, without_open, with_copy, with_phase, without_copy, in_phase}
 use Rattle.mqtt_records.specs.Records.{nothing, changed, changed_all, put_session, in_session, with_counter, kept_place}
-use Rattle.mqtt_rows.proofs.OrderLemmas.{put-ascending, filter-ascending, remove-ascending, change-ascending}
+use Rattle.mqtt_records_rows.proofs.OrderLemmas.{put-ascending, filter-ascending, remove-ascending, change-ascending}
 use Rattle.mqtt_rules.specs.declared.Limits.{Limits}
 use Rattle.mqtt_rules.specs.State.{Broker, MemberChoice}
 use Rattle.mqtt_rules.specs.Deeds.{Deed, rows_of, rows_of_all, after, after_all}

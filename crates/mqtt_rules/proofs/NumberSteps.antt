@@ -5,9 +5,9 @@ use Rattle.std.proofs.Math.Nat.{le-max_left, le-min}
 use Rattle.mqtt_base.specs.declared.limits.TheConstants.{LAST_NUMBER}
 use Rattle.mqtt_records.specs.declared.change.Change.{Change}
 use Rattle.mqtt_records.specs.declared.records.Records.{Records}
-use Rattle.mqtt_rows.specs.Order.{IsAbove, IsAscending}
+use Rattle.mqtt_records_rows.specs.Order.{IsAbove, IsAscending}
 use Rattle.mqtt_records.specs.Session.{number_of}
-use Rattle.mqtt_rows.proofs.OrderLemmas.{above_less}
+use Rattle.mqtt_records_rows.proofs.OrderLemmas.{above_less}
 use Rattle.mqtt_rules.specs.declared.Limits.{Limits}
 use Rattle.mqtt_rules.specs.State.{Broker, capped, MemberChoice}
 use Rattle.mqtt_rules.specs.Deeds.{Deed, after_all, rows_of_all}

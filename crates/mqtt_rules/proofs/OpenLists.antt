@@ -1,10 +1,10 @@
 -- Open identifiers as they are stored are open identifiers of the handshakes.
 use Rattle.std.proofs.Common.{ℕ, List, [], ◌∷◌}
 use Rattle.std.specs.List.Sorted.{IsStrictlyIncreasing}
-use Rattle.mqtt_inbound.proofs.inbound.OpenLists.{strictly_increasing, is_ascending}
-use Rattle.mqtt_inbound.proofs.inbound.OpenLists as flow
+use Rattle.mqtt_flow_inbound.proofs.inbound.OpenLists.{strictly_increasing, is_ascending}
+use Rattle.mqtt_flow_inbound.proofs.inbound.OpenLists as flow
 use Rattle.mqtt_records.specs.Session.{number_of}
-use Rattle.mqtt_rows.specs.Order.{IsAbove, IsAscending}
+use Rattle.mqtt_records_rows.specs.Order.{IsAbove, IsAscending}
 
 above_there : (n : ℕ) (ids : List ℕ) → IsAbove number_of n ids → flow.IsAbove n ids
 above_there n [] h = tt

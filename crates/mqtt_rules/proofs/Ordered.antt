@@ -12,11 +12,11 @@ use Rattle.mqtt_records.specs.declared.change.Counter.{Counter}
 use Rattle.mqtt_records.specs.declared.change.Counter.TheVariants.{Births, Publications, Subscribes, Autos, Moment}
 use Rattle.mqtt_records.specs.declared.change.Change.{Change}
 use Rattle.mqtt_records.specs.declared.change.Change.TheVariants.{SetCounter, PutSession, SetSession, RemoveSession, PutWill, RemoveWill, PutSubscription, RemoveSubscription, PutInbound, RemoveInbound, PutCopy, SetCopy, RemoveCopy, PutRetained, RemoveRetained}
-use Rattle.mqtt_rows.specs.Order.{IsAscending, has_row, insert_row, put_row, remove_row, change_row, front_len}
+use Rattle.mqtt_records_rows.specs.Order.{IsAscending, has_row, insert_row, put_row, remove_row, change_row, front_len}
 use Rattle.mqtt_records.specs.Session.{birth_of, place_of, number_of, copy_place, fresh, with_columns, with_will, without_filter, with_subscription, without_subscription, with_open, without_open, with_copy, in_phase, with_phase, without_copy}
 use Rattle.mqtt_records.specs.Records.{kept_place, nothing, with_counter, put_session, in_session, changed, changed_all}
-use Rattle.mqtt_rows.proofs.OrderLemmas.{insert-found, put-ascending, filter-ascending, change-ascending}
-use Rattle.mqtt_rows.specs.Order.{IsTable}
+use Rattle.mqtt_records_rows.proofs.OrderLemmas.{insert-found, put-ascending, filter-ascending, change-ascending}
+use Rattle.mqtt_records_rows.specs.Order.{IsTable}
 use Rattle.mqtt_rules.specs.Laws.{HasTables, IsOrdered}
 
 -- ---- how many rows there are after an edit

@@ -14,9 +14,9 @@ use Rattle.mqtt_routes.specs.Intended.{Publication, Answers, Copy, Member, grant
 use Rattle.mqtt_routes.specs.Acceptance.{Served, Routed, copies_in, copies_of, uses, needs_room, has_room_beside, is_eligible, later_choices, first_choice, chosen, shared_copy, outcome, eligible_of, serve_one, serve, has_room, with_direct, routed_beside}
 use Rattle.mqtt_routes.specs.Acceptance as acceptance
 use Rattle.mqtt_records.specs.declared.session.Session.{Session}
-use Rattle.mqtt_rows.specs.Order.{IsAbove, IsAscending}
+use Rattle.mqtt_records_rows.specs.Order.{IsAbove, IsAscending}
 use Rattle.mqtt_records.specs.Session.{birth_of}
-use Rattle.mqtt_rows.proofs.OrderLemmas.{apart}
+use Rattle.mqtt_records_rows.proofs.OrderLemmas.{apart}
 use Rattle.mqtt_rules.specs.Packets.{quality}
 use Rattle.mqtt_rules.specs.State.{Broker, Env, session_at}
 use Rattle.mqtt_rules.specs.Deeds.{Message}

@@ -9,9 +9,9 @@ use Rattle.mqtt_flow.specs.Outbound.{staying, way_made, has_room}
 use Rattle.mqtt_flow.specs.Queue as flow
 use Rattle.mqtt_flow.proofs.outbound.Room.{below_limit}
 use Rattle.mqtt_base.specs.declared.session.Ending.{Ending}
-use Rattle.mqtt_message.specs.declared.message.MessageCopy.{MessageCopy}
-use Rattle.mqtt_message.specs.declared.message.Will.{Will}
-use Rattle.mqtt_message.specs.Queue.{CopyRow}
+use Rattle.mqtt_records_message.specs.declared.message.MessageCopy.{MessageCopy}
+use Rattle.mqtt_records_message.specs.declared.message.Will.{Will}
+use Rattle.mqtt_records_message.specs.Queue.{CopyRow}
 use Rattle.mqtt_base.specs.declared.limits.TheConstants.{QUEUE_LIMIT, SESSION_LIMIT}
 use Rattle.mqtt_records.specs.declared.session.Session.{Session}
 use Rattle.mqtt_records.specs.declared.session.Columns.{Columns}
@@ -20,10 +20,10 @@ use Rattle.mqtt_records.specs.declared.change.Counter.{Counter}
 use Rattle.mqtt_records.specs.declared.change.Counter.TheVariants.{Births, Publications, Subscribes, Autos, Moment}
 use Rattle.mqtt_records.specs.declared.change.Change.{Change}
 use Rattle.mqtt_records.specs.declared.change.Change.TheVariants.{SetCounter, PutSession, SetSession, RemoveSession, PutWill, RemoveWill, PutSubscription, RemoveSubscription, PutInbound, RemoveInbound, PutCopy, SetCopy, RemoveCopy, PutRetained, RemoveRetained}
-use Rattle.mqtt_rows.specs.Order.{IsAbove, IsAscending, row_at, has_row, put_row, remove_row, change_row}
+use Rattle.mqtt_records_rows.specs.Order.{IsAbove, IsAscending, row_at, has_row, put_row, remove_row, change_row}
 use Rattle.mqtt_records.specs.Session.{birth_of, copy_place, fresh, with_columns, with_will, with_subscription, without_subscription, with_open, without_open, with_copy, in_phase, with_phase, without_copy}
 use Rattle.mqtt_records.specs.Records.{with_counter, changed, changed_all}
-use Rattle.mqtt_rows.proofs.LookUps.{put_row-last}
+use Rattle.mqtt_records_rows.proofs.LookUps.{put_row-last}
 use Rattle.mqtt_rules.specs.State.{Broker, Env, stored, session_at, entry_on, queue_on, next_of}
 use Rattle.mqtt_rules.specs.Deeds.{Whose, whose, Message, Origin, Part, Resume, Close, SetExpiry, DropWill, Open, Release, Enter, Mark, Leave, Deed, Accept, Begin, Name, Count, At, Finish, Keep, Forget, RefuseWill, Link, On, Send, Gone, Act, after, after_all, rows_of, part_rows, part_rows_of, will_row, begin_rows, new_entry, stored_after, then, always, series, of_session, offer}
 use Rattle.mqtt_rules.specs.Deeds as deed

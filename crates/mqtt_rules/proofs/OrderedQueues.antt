@@ -12,10 +12,10 @@ use Rattle.mqtt_flow.specs.declared.entry.Turn.{Turn}
 use Rattle.mqtt_flow.specs.declared.entry.Turn.TheVariants as turns
 use Rattle.mqtt_flow.specs.Outbound.{is_waiting, gives_way, staying, dropped}
 use Rattle.mqtt_flow.specs.Queue as flow
-use Rattle.mqtt_message.specs.Queue.{CopyRow}
-use Rattle.mqtt_rows.specs.Order.{IsBelow, row_at, has_row, remove_row}
+use Rattle.mqtt_records_message.specs.Queue.{CopyRow}
+use Rattle.mqtt_records_rows.specs.Order.{IsBelow, row_at, has_row, remove_row}
 use Rattle.mqtt_records.specs.Session.{copy_place}
-use Rattle.mqtt_rows.proofs.OrderLemmas.{apart}
+use Rattle.mqtt_records_rows.proofs.OrderLemmas.{apart}
 use Rattle.mqtt_routes.specs.Intended.{greatest}
 use Rattle.mqtt_rules.specs.State.{entry_on, next_of}
 use Rattle.mqtt_rules.specs.Outbound.{first_given}

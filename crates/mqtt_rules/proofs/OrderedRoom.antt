@@ -5,9 +5,9 @@ use Rattle.std.proofs.lemmas.Bool.{cases_Bool, ltb-true}
 use Rattle.std.proofs.lemmas.Cmp.{nat_eq_equiv}
 use Rattle.mqtt_topic.specs.Names.{is_empty}
 use Rattle.mqtt_flow.specs.Outbound.{way_made}
-use Rattle.mqtt_message.specs.declared.message.MessageCopy.{MessageCopy}
-use Rattle.mqtt_message.specs.declared.message.RetainedMessage.{RetainedMessage}
-use Rattle.mqtt_message.specs.declared.message.Will.{Will}
+use Rattle.mqtt_records_message.specs.declared.message.MessageCopy.{MessageCopy}
+use Rattle.mqtt_records_message.specs.declared.message.RetainedMessage.{RetainedMessage}
+use Rattle.mqtt_records_message.specs.declared.message.Will.{Will}
 use Rattle.mqtt_records.specs.declared.session.Session.{Session}
 use Rattle.mqtt_records.specs.declared.session.Columns.{Columns}
 use Rattle.mqtt_records.specs.declared.records.Records.{Records}
@@ -16,10 +16,10 @@ use Rattle.mqtt_records.specs.declared.change.Counter.{Counter}
 use Rattle.mqtt_records.specs.declared.change.Counter.TheVariants.{Births, Publications, Subscribes, Autos, Moment}
 use Rattle.mqtt_records.specs.declared.change.Change.{Change}
 use Rattle.mqtt_records.specs.declared.change.Change.TheVariants.{SetCounter, PutSession, SetSession, RemoveSession, PutWill, RemoveWill, PutSubscription, RemoveSubscription, PutInbound, RemoveInbound, PutCopy, SetCopy, RemoveCopy, PutRetained, RemoveRetained}
-use Rattle.mqtt_rows.specs.Order.{row_at, has_row, insert_row, put_row, change_row}
+use Rattle.mqtt_records_rows.specs.Order.{row_at, has_row, insert_row, put_row, change_row}
 use Rattle.mqtt_records.specs.Session.{birth_of, fresh, with_columns, with_will, with_subscription, without_subscription, with_open, without_open, with_copy, with_phase, without_copy}
 use Rattle.mqtt_records.specs.Records.{kept_place, with_counter, put_session, changed, changed_all}
-use Rattle.mqtt_rows.proofs.OrderLemmas.{put-ascending}
+use Rattle.mqtt_records_rows.proofs.OrderLemmas.{put-ascending}
 use Rattle.mqtt_rules.specs.State.{Broker, Env, stored, session_at, line_of}
 use Rattle.mqtt_rules.specs.Deeds.{Whose, whose, Message, Origin, Part, Resume, Close, SetExpiry, DropWill, Open, Release, Enter, Mark, Leave, Deed, Accept, Begin, Name, Count, At, Finish, Keep, Forget, RefuseWill, Link, On, Send, Gone, Act, after, after_all, part_rows, part_rows_of, will_row, new_entry, stored_after, then, always, series, of_session, offer}
 use Rattle.mqtt_rules.specs.Deeds as deed
@@ -28,7 +28,7 @@ use Rattle.mqtt_rules.specs.Outbound.{leave_deeds, queue_limits, since, enter_de
 use Rattle.mqtt_rules.specs.Routing.{CopyTo, is_topic, retained_of, finds_place, accepted_if, next_publication, accepted_copies, is_queued, deliver_by, deliver, place_of_kept, kept_message, forgets, retain_by, publish}
 use Rattle.mqtt_rules.specs.Subscribe as sub
 use Rattle.mqtt_rules.specs.State.{queue_on}
-use Rattle.mqtt_rows.specs.Order.{IsTable}
+use Rattle.mqtt_records_rows.specs.Order.{IsTable}
 use Rattle.mqtt_rules.proofs.Ordered.{length-filter_le, length-change_row, length-insert_row, length-insert_found, filter-table, either}
 use Rattle.mqtt_rules.proofs.OrderedActs.{IsPlain, ArePlain, plain_leave, plain_flat, plain_offer, Keeps, both, follows, keeps_series, keeps_map, keeps_of, Keeping, birth_found}
 use Rattle.mqtt_rules.proofs.Leads.{leads_end}

@@ -16,8 +16,8 @@ use Rattle.mqtt_props.specs.Laws.{all_may_stand, may_repeat, is_named, has, none
 use Rattle.mqtt_props.specs.Edits.{only, without}
 use Rattle.mqtt_props.proofs.TableLemmas.{id_is}
 use Rattle.mqtt_props.proofs.EditLemmas.{FitsBlock-filter}
-use Rattle.mqtt_message.specs.PassedOn.{passed_on, passed_names}
-use Rattle.mqtt_message.proofs.PassedLemmas.{none-only}
+use Rattle.mqtt_records_message.specs.PassedOn.{passed_on, passed_names}
+use Rattle.mqtt_records_message.proofs.PassedLemmas.{none-only}
 use Rattle.mqtt_rules.proofs.Copies.{each_append}
 
 -- ---- tests

@@ -12,25 +12,26 @@ use Rattle.mqtt_base.specs.declared.session.RetainHandling.TheVariants.{SendAlwa
 use Rattle.mqtt_base.specs.declared.session.SubscriptionOptions.{SubscriptionOptions}
 use Rattle.mqtt_props.specs.declared.table.PropName.TheVariants.{SessionExpiryInterval, ReceiveMaximum, TopicAliasMaximum, MaximumPacketSize}
 use Rattle.mqtt_props.specs.Properties.{Prop, U16, U32}
-use Rattle.mqtt_connect.specs.declared.connect.Will.{Will}
+use Rattle.mqtt_codec_connect.specs.declared.connect.Will.{Will}
 use Rattle.mqtt_codec.specs.declared.publish.Publish.{Publish as Publication}
 use Rattle.mqtt_codec.specs.declared.publish.Delivery.TheVariants as delivery
 use Rattle.mqtt_codec.specs.declared.packet.Packet.{Packet}
 use Rattle.mqtt_codec.specs.declared.packet.Packet.TheVariants.{Connect, Publish, Subscribe, Unsubscribe}
-use Rattle.mqtt_codec.specs.Subscriptions.{Subscription as Asked}
-use Rattle.mqtt_codec.specs.Options.{options_byte}
+use Rattle.mqtt_codec_subscribe.specs.Subscriptions.{Subscription as Asked}
+use Rattle.mqtt_codec_subscribe.specs.Options.{options_byte}
 use Rattle.mqtt_flow.specs.declared.entry.Full.{Full}
 use Rattle.mqtt_flow.specs.declared.entry.Full.TheVariants.{Refuse}
 use Rattle.mqtt_records.specs.declared.session.Session.{Session}
 use Rattle.mqtt_records.specs.Records.{nothing, changed_all}
 use Rattle.mqtt_rules.specs.declared.Limits.{Limits}
 use Rattle.mqtt_rules.specs.declared.Report.{Report}
-use Rattle.mqtt_rules.specs.Packets.{property, connack, disconnect}
+use Rattle.mqtt_records_message.specs.PassedOn.{property}
+use Rattle.mqtt_rules.specs.Packets.{connack, disconnect}
 use Rattle.mqtt_rules.specs.State.{Broker, session_at, stored, MemberChoice}
 use Rattle.mqtt_rules.specs.Step.{Call, NewLine, Input, Outcome, stepped, told, opened, at_moment, deeds, with_moment}
-use Rattle.mqtt_message.specs.declared.message.MessageCopy.{MessageCopy}
-use Rattle.mqtt_message.specs.Queue.{CopyRow}
-use Rattle.mqtt_rows.specs.Order.{change_row}
+use Rattle.mqtt_records_message.specs.declared.message.MessageCopy.{MessageCopy}
+use Rattle.mqtt_records_message.specs.Queue.{CopyRow}
+use Rattle.mqtt_records_rows.specs.Order.{change_row}
 use Rattle.mqtt_records.specs.Session.{birth_of, fresh}
 use Rattle.mqtt_records.specs.declared.change.Change.{Change}
 use Rattle.mqtt_rules.specs.Deeds.{Deed, rows_of, rows_of_all, stored_after, after, after_all}

@@ -1,6 +1,6 @@
 -- What the rows of steps and openings put can be said by a row.
 use Rattle.std.proofs.Common.{ℕ, List, [], ◌∷◌, subst, arith}
-use Rattle.mqtt_lawful.specs.Lawful.{IsIdentifier}
+use Rattle.mqtt_records_lawful.specs.Lawful.{IsIdentifier}
 use Rattle.mqtt_records.specs.declared.change.Change.{Change}
 use Rattle.mqtt_records.specs.declared.change.Change.TheVariants.{PutWill, PutSubscription, PutCopy, PutRetained}
 use Rattle.mqtt_records.specs.declared.records.Records.{Records}

@@ -15,8 +15,8 @@ use Rattle.mqtt_props.specs.Properties.{Value, Byte, U16, U32, VarInt, Text, Bin
 use Rattle.mqtt_props.specs.Laws.{all_may_stand, may_repeat, is_named, has, none_repeats, is_lawful_value, has_method_for_data, values_are_lawful, is_lawful}
 use Rattle.mqtt_props.specs.Edits.{only, without}
 use Rattle.mqtt_props.proofs.EditLemmas.{FitsBlock-filter}
-use Rattle.mqtt_message.specs.PassedOn.{number_in, aged, identified, sent_after}
-use Rattle.mqtt_lawful.specs.Lawful.{IsIdentifier}
+use Rattle.mqtt_records_message.specs.PassedOn.{number_in, aged, identified, sent_after}
+use Rattle.mqtt_records_lawful.specs.Lawful.{IsIdentifier}
 use Rattle.mqtt_rules.specs.Contents.{AreIdentifiersOf, Sizes}
 use Rattle.mqtt_rules.proofs.Copies.{each_append}
 use Rattle.mqtt_rules.proofs.PassedContents.{two, and_two, not_again, where_may, unless_found, name_is, parted, props_append, no_data}

@@ -6,13 +6,14 @@ use Rattle.mqtt_base.specs.declared.session.Qos.TheVariants.{ExactlyOnce}
 use Rattle.mqtt_base.specs.declared.session.Ending.TheVariants.{Expired, SessionEnded}
 use Rattle.mqtt_props.specs.declared.table.PropName.TheVariants.{SessionExpiryInterval}
 use Rattle.mqtt_props.specs.Properties.{Prop, U32}
-use Rattle.mqtt_connect.specs.declared.connect.Will.{Will}
+use Rattle.mqtt_codec_connect.specs.declared.connect.Will.{Will}
 use Rattle.mqtt_codec.specs.declared.packet.Packet.{Packet}
 use Rattle.mqtt_codec.specs.declared.packet.Packet.TheVariants.{Connect, Pingreq, Pingresp, Disconnect}
 use Rattle.mqtt_flow.specs.declared.entry.Full.TheVariants.{Refuse}
 use Rattle.mqtt_rules.specs.declared.Limits.{Limits}
 use Rattle.mqtt_rules.specs.declared.Report.TheVariants.{Accepted, Entered, Ended, WillRefused}
-use Rattle.mqtt_rules.specs.Packets.{reason, property, disconnect}
+use Rattle.mqtt_rules.specs.Packets.{reason, disconnect}
+use Rattle.mqtt_records_message.specs.PassedOn.{property}
 use Rattle.mqtt_rules.specs.State.{Broker}
 use Rattle.mqtt_rules.specs.Step.{NewLine, Input, Lost, Pump, Tick}
 use Rattle.mqtt_rules.proofs.Play.{blank, Event, at, step, runs, runs_with, tells_with, asks, reopened, out, never_expires, hello_with, hello, welcome, in_line, wants_with, wish, options, wants, topic, sends, copy_out, direct, births, all_outputs, all_reports}

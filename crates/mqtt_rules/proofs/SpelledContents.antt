@@ -7,13 +7,13 @@ use Rattle.mqtt_base.specs.declared.session.Qos.{Qos}
 use Rattle.mqtt_base.specs.declared.session.Qos.TheVariants.{AtMostOnce, AtLeastOnce, ExactlyOnce}
 use Rattle.mqtt_props.specs.declared.place.Place.TheVariants as places
 use Rattle.mqtt_props.specs.Properties.{Prop, props, block}
-use Rattle.mqtt_message.specs.Queue.{first_sent, identifier_len, IsSpelled}
-use Rattle.mqtt_message.specs.declared.message.MessageCopy.{MessageCopy}
+use Rattle.mqtt_records_message.specs.Queue.{first_sent, identifier_len, IsSpelled}
+use Rattle.mqtt_records_message.specs.declared.message.MessageCopy.{MessageCopy}
 use Rattle.std.specs.Prelude.{Option, Some, None}
 use Rattle.mqtt_props.specs.declared.place.Place.{Place}
-use Rattle.mqtt_message.specs.declared.message.Content.{Content}
-use Rattle.mqtt_message.specs.declared.message.Will.{Will}
-use Rattle.mqtt_lawful.specs.Lawful.{IsMessage, HasLawfulWill}
+use Rattle.mqtt_records_message.specs.declared.message.Content.{Content}
+use Rattle.mqtt_records_message.specs.declared.message.Will.{Will}
+use Rattle.mqtt_records_lawful.specs.Lawful.{IsMessage, HasLawfulWill}
 use Rattle.mqtt_rules.specs.Contents.{IsContentOf, IsPublishedOf, IsWilledOf, IsCopiedOf, Sizes, AreSizes, of_packets, of_rows}
 use Rattle.mqtt_rules.proofs.SentContents.{longest, sent_size, sent_fits, sent_may, sent_lawful}
 

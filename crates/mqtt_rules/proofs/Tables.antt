@@ -15,7 +15,8 @@ use Rattle.mqtt_flow.specs.declared.entry.Full.{Full}
 use Rattle.mqtt_flow.specs.declared.entry.Full.TheVariants.{Refuse, Drop}
 use Rattle.mqtt_rules.specs.declared.Report.{Report}
 use Rattle.mqtt_rules.specs.declared.Report.TheVariants.{Accepted, Entered, Ended}
-use Rattle.mqtt_rules.specs.Packets.{property, pubrec, pubrel, pubcomp, suback}
+use Rattle.mqtt_records_message.specs.PassedOn.{property}
+use Rattle.mqtt_rules.specs.Packets.{pubrec, pubrel, pubcomp, suback}
 use Rattle.mqtt_rules.specs.State.{Broker}
 use Rattle.mqtt_rules.specs.Step.{NewLine, Input, Lost, Pump, Outcome}
 use Rattle.mqtt_rules.proofs.Play.{usual, blank, Event, at, runs, tells, asks, runs_with, tells_with, step, out, hello, hello_with, never_expires, in_line, wants_with, wish, options, wants, topic, message, sends, direct, subscribed, Keeps, nothing_written, narrow, entry, waiting, queued, keeps}

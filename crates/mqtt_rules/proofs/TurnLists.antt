@@ -11,12 +11,12 @@ use Rattle.mqtt_flow.specs.declared.entry.Entry.{Entry as FlowEntry}
 use Rattle.mqtt_flow.specs.declared.entry.Turn.{Turn}
 use Rattle.mqtt_flow.specs.declared.entry.Turn.TheVariants as turns
 use Rattle.mqtt_flow.specs.declared.entry.Way.{Way}
-use Rattle.mqtt_inbound.specs.Identifiers.{free_identifier}
+use Rattle.mqtt_flow_inbound.specs.Identifiers.{free_identifier}
 use Rattle.mqtt_flow.specs.Pacing.{Pacing}
 use Rattle.mqtt_flow.specs.Queue.{is_holder, holder, next_order}
 use Rattle.mqtt_flow.specs.Outbound.{Answer, gives_way, dropped_at, dropped, expired_at, expired, is_waiting, is_late, Verdict, pass, end, outgrow, send, resend, verdict, in_room, step_on, step_by, paced, then_on, pump_from, pace, pump, acknowledged, puback_by, puback_at, released_by, received, pubrec_by, pubrec_at, pubcomp_by, pubcomp_at, is_refusal}
-use Rattle.mqtt_message.specs.Queue.{CopyRow}
-use Rattle.mqtt_rows.specs.Order.{IsAbove, IsAscending, row_at, has_row}
+use Rattle.mqtt_records_message.specs.Queue.{CopyRow}
+use Rattle.mqtt_records_rows.specs.Order.{IsAbove, IsAscending, row_at, has_row}
 use Rattle.mqtt_records.specs.declared.session.Session.{Session}
 use Rattle.mqtt_records.specs.Session.{copy_place}
 use Rattle.mqtt_rules.specs.State.{Line, entry_on, queue_on}

@@ -8,12 +8,12 @@ use Rattle.mqtt_base.specs.declared.session.Phase.{Phase}
 use Rattle.mqtt_base.specs.declared.session.Phase.TheVariants.{Sent, Released as ReleasedPhase, Oversize}
 use Rattle.mqtt_flow.specs.declared.entry.Turn.{Turn}
 use Rattle.mqtt_flow.specs.declared.entry.Turn.TheVariants as turns
-use Rattle.mqtt_message.specs.Queue.{CopyRow}
+use Rattle.mqtt_records_message.specs.Queue.{CopyRow}
 use Rattle.mqtt_records.specs.declared.session.Session.{Session}
 use Rattle.mqtt_records.specs.declared.records.Records.{Records}
-use Rattle.mqtt_rows.specs.Order.{IsAbove, IsAscending, row_at, has_row, change_row}
-use Rattle.mqtt_rows.proofs.OrderLemmas.{apart}
-use Rattle.mqtt_rows.proofs.LookUps.{row_at-remove_row}
+use Rattle.mqtt_records_rows.specs.Order.{IsAbove, IsAscending, row_at, has_row, change_row}
+use Rattle.mqtt_records_rows.proofs.OrderLemmas.{apart}
+use Rattle.mqtt_records_rows.proofs.LookUps.{row_at-remove_row}
 use Rattle.mqtt_records.specs.Session.{birth_of, copy_place, in_phase, with_phase, without_copy}
 use Rattle.mqtt_records.specs.Records.{changed_all}
 use Rattle.mqtt_rules.specs.State.{Broker, session_at}

@@ -12,7 +12,8 @@ use Rattle.mqtt_codec.specs.declared.publish.Delivery.TheVariants as delivery
 use Rattle.mqtt_codec.specs.declared.packet.Packet.{Packet}
 use Rattle.mqtt_codec.specs.declared.packet.Packet.TheVariants.{Publish}
 use Rattle.mqtt_rules.specs.declared.Report.TheVariants.{Accepted, Entered}
-use Rattle.mqtt_rules.specs.Packets.{property, pubrec, suback, unsuback, disconnect}
+use Rattle.mqtt_records_message.specs.PassedOn.{property}
+use Rattle.mqtt_rules.specs.Packets.{pubrec, suback, unsuback, disconnect}
 use Rattle.mqtt_rules.specs.Step.{Input, Pump, deeds, rows_written}
 use Rattle.mqtt_rules.proofs.Play.{usual, first, blank, Event, at, runs, asks, out, hello, welcome, in_line, wants_with, wish, options, wants, gives_up, topic, hi, sends, copy_out, direct, subscribed, published, all_outputs}
 use Rattle.mqtt_rules.proofs.Moments.{short_lived, expires_in}

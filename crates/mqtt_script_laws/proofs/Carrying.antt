@@ -4,21 +4,21 @@ use Rattle.std.specs.Prelude.{⊤, is_none}
 use Rattle.std.specs.List.{AllByRecursion}
 use Rattle.mqtt_rules.specs.Laws.{AreWithin}
 use Rattle.mqtt_rules.specs.declared.Limits.{Limits}
-use Rattle.mqtt_laws.specs.Ends.{Publisher, Receiver}
-use Rattle.mqtt_laws.specs.Run.{Turn, are_beginnings_clean, begins_clean, is_asked, run, setting, turned, waits_clean}
-use Rattle.mqtt_laws.specs.Tellings.{Telling}
-use Rattle.mqtt_laws.specs.World.{Asking, Event, World, ask, break, clock, connect_end, give_up, link_of, old_to_broker, publish, publisher}
-use Rattle.mqtt_laws.specs.World.{pump, receiver, restart, start, stop_after, stop_before, stranger, subscribe, tick, to_broker, to_end}
+use Rattle.mqtt_world_model.specs.Ends.{Publisher, Receiver}
+use Rattle.mqtt_world_model.specs.Run.{Turn, are_beginnings_clean, begins_clean, is_asked, run, setting, turned, waits_clean}
+use Rattle.mqtt_world_model.specs.Tellings.{Telling}
+use Rattle.mqtt_world_model.specs.World.{Asking, Event, World, ask, break, clock, connect_end, give_up, link_of, old_to_broker, publish, publisher}
+use Rattle.mqtt_world_model.specs.World.{pump, receiver, restart, start, stop_after, stop_before, stranger, subscribe, tick, to_broker, to_end}
 use Rattle.mqtt_script.specs.declared.event.Event.{Event as Line}
-use Rattle.mqtt_unrolled_laws.specs.Unrolled.{AreAllAlike, HoldNoPacket, Unrolls, UnrollsAsking, UnrollsStop, come_in}
-use Rattle.mqtt_unrolled_laws.proofs.Alike.{step_alike}
-use Rattle.mqtt_unrolled_laws.proofs.Waiting.{step_waits}
-use Rattle.mqtt_world_laws.specs.Fair.{IsFair}
-use Rattle.mqtt_world_laws.specs.Identities.{TellsApart}
-use Rattle.mqtt_handed_laws.specs.Drains.{times}
-use Rattle.mqtt_every_run_laws.specs.Untouched.{IsUntouched}
-use Rattle.mqtt_every_run_laws.proofs.Untouched.{start_untouched}
-use Rattle.mqtt_world_laws.proofs.OnceRuns.{start_apart}
+use Rattle.mqtt_world_single_step_laws.specs.Unrolled.{AreAllAlike, HoldNoPacket, Unrolls, UnrollsAsking, UnrollsStop, come_in}
+use Rattle.mqtt_world_single_step_laws.proofs.Alike.{step_alike}
+use Rattle.mqtt_world_single_step_laws.proofs.Waiting.{step_waits}
+use Rattle.mqtt_world_acceptance_laws.specs.Fair.{IsFair}
+use Rattle.mqtt_world_acceptance_laws.specs.Identities.{TellsApart}
+use Rattle.mqtt_world_receiver_laws.specs.Drains.{times}
+use Rattle.mqtt_world_delivery_laws.specs.Untouched.{IsUntouched}
+use Rattle.mqtt_world_delivery_laws.proofs.Untouched.{start_untouched}
+use Rattle.mqtt_world_acceptance_laws.proofs.OnceRuns.{start_apart}
 use Rattle.mqtt_script_laws.specs.Cleanly.{AreMadeAnew, BeginClean, IsMadeAnew, IsMadeAnewIf, ScriptDelivers, is_named, keep_clean_starts, keeps_clean, keeps_if, named_after, named_if}
 use Rattle.mqtt_script_laws.specs.Drains.{AreTurnsOfRound, AreTurnsOfRounds}
 use Rattle.mqtt_script_laws.specs.Scripted.{AreTurnsFor, AreTurnsOf, IsRunOf, RunsTo, event_of, of_drain, of_event}

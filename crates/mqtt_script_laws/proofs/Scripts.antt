@@ -1,19 +1,19 @@
 -- A script's events, one after the other: the turns that they come to, and runs behind runs.
 use Rattle.std.proofs.Common.{◌≡◌, ℕ, true, false, List, [], ◌∷◌, ◌++◌, Some, refl, sym, subst, ◌∙◌}
-use Rattle.mqtt_laws.specs.Run.{Turn, are_beginnings_clean, run}
-use Rattle.mqtt_laws.specs.Tellings.{Telling}
-use Rattle.mqtt_laws.specs.World as world
-use Rattle.mqtt_laws.specs.World.{World}
+use Rattle.mqtt_world_model.specs.Run.{Turn, are_beginnings_clean, run}
+use Rattle.mqtt_world_model.specs.Tellings.{Telling}
+use Rattle.mqtt_world_model.specs.World as world
+use Rattle.mqtt_world_model.specs.World.{World}
 use Rattle.mqtt_rules.specs.Laws.{AreWithin}
 use Rattle.mqtt_rules.specs.declared.Limits.{Limits}
 use Rattle.mqtt_script.specs.declared.event.Event.{Event}
 use Rattle.mqtt_script.specs.declared.event.Event.TheVariants.{Drain}
-use Rattle.mqtt_world_laws.specs.Identities.{TellsApart}
-use Rattle.mqtt_world_laws.specs.Spending.{run_spends}
-use Rattle.mqtt_handed_laws.proofs.DrainRuns.{run_append}
-use Rattle.mqtt_every_run_laws.specs.Scripts.{DeliversOnce}
-use Rattle.mqtt_every_run_laws.specs.Untouched.{IsUntouched}
-use Rattle.mqtt_every_run_laws.proofs.Scripts.{run_delivers}
+use Rattle.mqtt_world_acceptance_laws.specs.Identities.{TellsApart}
+use Rattle.mqtt_world_acceptance_laws.specs.Spending.{run_spends}
+use Rattle.mqtt_world_receiver_laws.proofs.DrainRuns.{run_append}
+use Rattle.mqtt_world_delivery_laws.specs.Scripts.{DeliversOnce}
+use Rattle.mqtt_world_delivery_laws.specs.Untouched.{IsUntouched}
+use Rattle.mqtt_world_delivery_laws.proofs.Scripts.{run_delivers}
 use Rattle.mqtt_script_laws.specs.Drains.{DrainHappens}
 use Rattle.mqtt_script_laws.specs.Scripted.{AreTurnsFor, Happens, IsRunOf, Passes, RunsTo, as_drain, as_event, event_of, of_drain, of_event}
 pub use Rattle.mqtt_script_laws.proofs.Costs.{spent_joined}

@@ -4,10 +4,10 @@ use Rattle.std.specs.Prelude.{◌≡◌, ⊤, ℕ, Bool, true, false, cond, not,
 use Rattle.std.specs.List.{AllByRecursion, list_any}
 use Rattle.mqtt_rules.specs.State.{session_named}
 use Rattle.mqtt_rules.specs.declared.Limits.{Limits}
-use Rattle.mqtt_laws.specs.Run.{Turn, run}
-use Rattle.mqtt_laws.specs.World as world
-use Rattle.mqtt_laws.specs.World.{World}
-use Rattle.mqtt_every_run_laws.specs.Scripts.{DeliversOnce}
+use Rattle.mqtt_world_model.specs.Run.{Turn, run}
+use Rattle.mqtt_world_model.specs.World as world
+use Rattle.mqtt_world_model.specs.World.{World}
+use Rattle.mqtt_world_delivery_laws.specs.Scripts.{DeliversOnce}
 use Rattle.mqtt_script.specs.declared.event.Event.{Event}
 use Rattle.mqtt_script_laws.specs.Scripted.{AreTurnsFor, AreTurnsOf, event_of}
 

@@ -1,19 +1,19 @@
 //! Laws of the runs of scripts (4.1, 4.3, 4.4, 4.6).
 ghost use Rattle.std.specs.Prelude.{◌≡◌, ℕ, List, [], ◌∷◌, ◌++◌, Some, false, true};
-ghost use Rattle.mqtt_every_run_laws.specs.Scripts.{DeliversOnce};
-ghost use Rattle.mqtt_every_run_laws.specs.Untouched.{IsUntouched};
-ghost use Rattle.mqtt_laws.specs.Run.{Turn, are_beginnings_clean};
-ghost use Rattle.mqtt_laws.specs.Tellings.{Telling};
-ghost use Rattle.mqtt_laws.specs.World as world;
-ghost use Rattle.mqtt_laws.specs.World.{World};
+ghost use Rattle.mqtt_world_delivery_laws.specs.Scripts.{DeliversOnce};
+ghost use Rattle.mqtt_world_delivery_laws.specs.Untouched.{IsUntouched};
+ghost use Rattle.mqtt_world_model.specs.Run.{Turn, are_beginnings_clean};
+ghost use Rattle.mqtt_world_model.specs.Tellings.{Telling};
+ghost use Rattle.mqtt_world_model.specs.World as world;
+ghost use Rattle.mqtt_world_model.specs.World.{World};
 ghost use Rattle.mqtt_rules.specs.Laws.{AreWithin};
 ghost use Rattle.mqtt_rules.specs.declared.Limits.{Limits};
 ghost use Rattle.mqtt_script.specs.declared.event.Event.{Event};
 ghost use Rattle.mqtt_script.specs.declared.event.Event.TheVariants.{Drain};
 ghost use Rattle.mqtt_script_laws.specs.Drains.{DrainHappens};
 ghost use Rattle.mqtt_script_laws.specs.Scripted.{AreTurnsOf, Happens, IsRunOf, RunsTo, event_of};
-ghost use Rattle.mqtt_world_laws.specs.Identities.{TellsApart};
-ghost use Rattle.mqtt_world_laws.specs.Spending.{run_spends};
+ghost use Rattle.mqtt_world_acceptance_laws.specs.Identities.{TellsApart};
+ghost use Rattle.mqtt_world_acceptance_laws.specs.Spending.{run_spends};
 
 /// What a script's events do, one after the other, is what turns of the world do that are of one step of the broker each, and
 /// none of them spends a number (4.1).

@@ -1,8 +1,8 @@
 //! Laws of whole scripts: exactly-once delivery, and what strangers hold (2.1, 4.1, 4.3, 4.4, 4.6).
 ghost use Rattle.std.specs.Prelude.{◌≡◌, List, [], true};
-ghost use Rattle.mqtt_every_run_laws.specs.Untouched.{IsUntouched};
-ghost use Rattle.mqtt_laws.specs.Tellings.{Telling};
-ghost use Rattle.mqtt_laws.specs.World.{World, start};
+ghost use Rattle.mqtt_world_delivery_laws.specs.Untouched.{IsUntouched};
+ghost use Rattle.mqtt_world_model.specs.Tellings.{Telling};
+ghost use Rattle.mqtt_world_model.specs.World.{World, start};
 ghost use Rattle.mqtt_records.specs.Records.{nothing};
 ghost use Rattle.mqtt_rules.specs.Laws.{AreWithin};
 ghost use Rattle.mqtt_rules.specs.State.{MemberChoice};
@@ -10,9 +10,9 @@ ghost use Rattle.mqtt_rules.specs.declared.Limits.{Limits};
 ghost use Rattle.mqtt_script.specs.declared.event.Event.{Event};
 ghost use Rattle.mqtt_script_laws.specs.Cleanly.{AreMadeAnew, BeginClean, HaveNoSession, ScriptDelivers, makes_ends_first};
 ghost use Rattle.mqtt_script_laws.specs.Scripted.{RunsTo};
-ghost use Rattle.mqtt_unrolled_laws.specs.Unrolled.{AreAllAlike, HoldNoPacket};
-ghost use Rattle.mqtt_world_laws.specs.Fair.{opened_world};
-ghost use Rattle.mqtt_world_laws.specs.Identities.{TellsApart};
+ghost use Rattle.mqtt_world_single_step_laws.specs.Unrolled.{AreAllAlike, HoldNoPacket};
+ghost use Rattle.mqtt_world_acceptance_laws.specs.Fair.{opened_world};
+ghost use Rattle.mqtt_world_acceptance_laws.specs.Identities.{TellsApart};
 
 /// Exactly-once delivery, of every script that ran, whatever was lost, given up, restarted or stopped in it: each message of a
 /// publisher was accepted once, each publication routed, and its copies entered, each once, and wait or have one end; and each

@@ -4,13 +4,13 @@ use Rattle.std.specs.Prelude.{◌≡◌, ⊤, ℕ, Bool, false, List, [], ◌∷
 use Rattle.std.specs.Prelude.{Some, Result, Ok, Err, option_map}
 use Rattle.mqtt_records.specs.declared.keep.Keep.{Ghosts}
 use Rattle.mqtt_records.specs.declared.records.Records.{Records}
-use Rattle.mqtt_lawful.specs.Lawful.{IsLawful}
-use Rattle.mqtt_laws.specs.Tellings.{Telling, done_by, handed_by, queue_length}
-use Rattle.mqtt_laws.specs.World as world
-use Rattle.mqtt_laws.specs.World.{World, is_end, publisher_named, receiver_named}
-use Rattle.mqtt_peers.specs.declared.told.RunFault.{RunFault}
-use Rattle.mqtt_peers.specs.declared.told.RunFault.TheVariants as fault
-use Rattle.mqtt_opening.specs.Opening.{IsLoad}
+use Rattle.mqtt_records_lawful.specs.Lawful.{IsLawful}
+use Rattle.mqtt_world_model.specs.Tellings.{Telling, done_by, handed_by, queue_length}
+use Rattle.mqtt_world_model.specs.World as world
+use Rattle.mqtt_world_model.specs.World.{World, is_end, publisher_named, receiver_named}
+use Rattle.mqtt_world_peers.specs.declared.told.RunFault.{RunFault}
+use Rattle.mqtt_world_peers.specs.declared.told.RunFault.TheVariants as fault
+use Rattle.mqtt_broker_engine.specs.Opening.{IsLoad}
 use Rattle.mqtt_script.specs.declared.event.Event.{Event}
 use Rattle.mqtt_script.specs.declared.event.Event.TheVariants.{Publisher, Receiver, Connect, GiveUp, Publish, Subscribe}
 use Rattle.mqtt_script.specs.declared.event.Event.TheVariants.{ToBroker, ToEnd, Break, Pump, Clock, Tick, Restart, StopBefore}
@@ -18,15 +18,15 @@ use Rattle.mqtt_script.specs.declared.event.Event.TheVariants.{StopAfter, Strang
 use Rattle.mqtt_script_laws.specs.Cleanly.{BeginClean, ScriptDelivers}
 use Rattle.mqtt_script_laws.specs.Drains.{DrainHappens}
 use Rattle.mqtt_script_laws.specs.Scripted.{IsBadHere, RunsTo, event_of}
-use Rattle.mqtt_emptied_laws.specs.Done.{IsEmptied}
-use Rattle.mqtt_spelled_laws.specs.Sending.{HaveSentPhases}
-use Rattle.mqtt_every_run_laws.specs.Untouched.{IsUntouched}
-use Rattle.mqtt_world_laws.specs.Fair.{opened_world}
-use Rattle.mqtt_world_laws.specs.Identities.{TellsApart}
-use Rattle.mqtt_broker.specs.TheRules.Laws.{AreWithin}
-use Rattle.mqtt_broker.specs.TheRules.State.{MemberChoice, session_named}
-use Rattle.mqtt_broker.specs.TheRules.Step.{is_opening_spent}
-use Rattle.mqtt_broker.specs.TheRules.declared.Limits.{Limits}
+use Rattle.mqtt_script_drain_laws.specs.Done.{IsEmptied}
+use Rattle.mqtt_rules_spelling_laws.specs.Sending.{HaveSentPhases}
+use Rattle.mqtt_world_delivery_laws.specs.Untouched.{IsUntouched}
+use Rattle.mqtt_world_acceptance_laws.specs.Fair.{opened_world}
+use Rattle.mqtt_world_acceptance_laws.specs.Identities.{TellsApart}
+use Rattle.mqtt_rules.specs.Laws.{AreWithin}
+use Rattle.mqtt_rules.specs.State.{MemberChoice, session_named}
+use Rattle.mqtt_rules.specs.Step.{is_opening_spent}
+use Rattle.mqtt_rules.specs.declared.Limits.{Limits}
 use Rattle.mqtt_world.specs.declared.over.Over.{Over}
 use Rattle.mqtt_world.specs.declared.over.Over.TheVariants as over
 use Rattle.mqtt_world.specs.Draining.{TellsDrain}

@@ -1,0 +1,145 @@
+-- What a fair run leaves may begin another: its copies are told apart, and their publications were accepted (MQTT 5.0, 4.1, 4.6).
+use Rattle.std.proofs.Common.{◌≡◌, ℕ, ◌+◌, ◌≤◌, Bool, true, false, List, [], ◌∷◌, refl, sym, subst, arith}
+use Rattle.mqtt_base.specs.declared.session.CopyId.{CopyId}
+use Rattle.mqtt_records.specs.declared.records.Records.{Records}
+use Rattle.mqtt_rules.proofs.Copies.{each_more, kinds}
+use Rattle.mqtt_rules.proofs.NumberCopies.{opening_accepted, step_accepted}
+use Rattle.mqtt_rules.specs.Deeds.{Deed}
+use Rattle.mqtt_rules.specs.Laws.{AreWithin, IsCoherent, IsCoherentMessage}
+use Rattle.mqtt_rules.specs.Numbers.{HasAcceptedNumbers}
+use Rattle.mqtt_rules.specs.State.{Broker, MemberChoice}
+use Rattle.mqtt_rules.specs.Step.{is_opening_spent}
+use Rattle.mqtt_rules.specs.declared.Limits.{Limits}
+use Rattle.mqtt_world_model.specs.Laws.{count_of}
+use Rattle.mqtt_world_model.specs.Run.{Turn, run}
+use Rattle.mqtt_world_model.specs.World.{World, start}
+use Rattle.mqtt_world_acceptance_laws.specs.Copies.{entered_from}
+use Rattle.mqtt_world_acceptance_laws.specs.Fair.{IsFair, opened_world}
+use Rattle.mqtt_world_acceptance_laws.specs.Identities.{TellsApart, may_come, queued_in}
+use Rattle.mqtt_world_acceptance_laws.proofs.CopyRuns.{run_balances}
+use Rattle.mqtt_world_acceptance_laws.proofs.Counting.{E}
+use Rattle.mqtt_world_acceptance_laws.proofs.Entries.{AreKept, Enters, U, call_counted, enters_next, opening_counted}
+use Rattle.mqtt_world_acceptance_laws.proofs.OnceRuns.{ends_once, opened_apart, start_apart}
+use Rattle.mqtt_world_acceptance_laws.proofs.Walks.{Walk, run_walks}
+use Rattle.mqtt_world_receiver_laws.specs.Drains.{all_turns}
+use Rattle.mqtt_world_receiver_laws.proofs.DrainRuns.{drains_are_runs}
+use Rattle.mqtt_world_delivery_laws.specs.Alone.{IsKept}
+use Rattle.mqtt_world_delivery_laws.specs.Untouched.{IsUntouched}
+use Rattle.mqtt_world_delivery_laws.proofs.Alone.{run_keeps}
+use Rattle.mqtt_world_delivery_laws.proofs.EveryRun.{fair_run_kept, run_opens_again}
+use Rattle.mqtt_world_delivery_laws.proofs.Untouched.{start_untouched}
+use Rattle.mqtt_rules_spelling_laws.specs.Sending.{SendsWell}
+use Rattle.mqtt_rules_spelling_laws.proofs.Steps.{well_reopened}
+use Rattle.mqtt_world_reading_laws.specs.Sayable.{AreSayable}
+use Rattle.mqtt_world_reading_laws.proofs.Scripts.{all_said, sends_on, start_sends}
+use Rattle.mqtt_world_headline_laws.specs.Lives.{AreFairLives, AreSayableLives, BeginsWell, BrokerLife, after_lives}
+
+-- ---- copies that may come yet, over a run
+
+module _ (c : CopyId) where
+  abbrev Counts : List Deed → Broker → Broker → Type 0
+  Counts ds b d = AreKept (kinds b.records) → Enters c ds (kinds b.records) (kinds d.records)
+
+  counts : (limits : Limits) → Walk limits Counts
+  counts limits = record {
+    none = λ b k. let zero : E c [] ≡ 0 = refl in record { counted = omega (arith, zero); kept = k };
+    next = λ xs ys a b d p q k. let first = p k in enters_next c xs ys (kinds a.records) (kinds b.records) (kinds d.records) first (q first.kept);
+    unlink = λ n b d h k. let x = h k in record { counted = x.counted; kept = x.kept };
+    link = λ n b d h k. let x = h k in record { counted = x.counted; kept = x.kept };
+    call = λ choice now call b s unspent k. call_counted c limits choice now call b s.coherent.ordered k;
+    open_again = λ choice now b s unspent k. opening_counted c limits choice now b s.coherent.ordered k;
+  }
+
+-- retained messages are of publications up to the last
+coherent_kept : (r : Records) → IsCoherent r → TellsApart r → AreKept (kinds r)
+coherent_kept r h apart = record {
+  given = each_more (IsCoherentMessage r.publications) (λ k. k.publication ≤ r.publications) (λ k q. q.0) r.retained h.retained;
+  differ = apart.retained;
+}
+
+module _ (limits : Limits) (ts : List Turn) (w : World) (u : IsUntouched limits w) (fair : IsFair limits ts w) (apart : TellsApart w.broker.records) where
+  abbrev first : Records
+  first = w.broker.records
+
+  abbrev last : Records
+  last = (run limits ts w).broker.records
+
+  counted : (c : CopyId) → count_of c (entered_from limits ts w) + U c (kinds last) ≤ U c (kinds first)
+  counted c = (run_walks (Counts c) limits ts w (counts c limits) u.new fair (coherent_kept first u.new.steady.coherent apart)).counted
+
+  -- one that may come yet could come at the beginning too, so it neither stood then nor has entered
+  none_stands : (c : CopyId) → may_come c last ≡ true → count_of c (queued_in last) ≡ 0
+  none_stands c e = by (may_come c first) refl
+    where
+      by : (t : Bool) → may_come c first ≡ t → count_of c (queued_in last) ≡ 0
+      by true may =
+          let all = counted c in
+          let one : U c (kinds last) ≡ 1 = rw e refl in
+          let most : U c (kinds first) ≡ 1 = rw may refl in
+          let none = apart.numbered c may in
+          let even = run_balances limits ts w u.new fair c in
+          omega (arith, all, one, most, none, even)
+      by false not_ =
+          let all = counted c in
+          let one : U c (kinds last) ≡ 1 = rw e refl in
+          let zero : U c (kinds first) ≡ 0 = rw not_ refl in
+          absurd (omega (arith, all, one, zero))
+
+  pub run_apart : TellsApart last
+  run_apart = record {
+    once = λ c. let few = ends_once limits ts w u.new fair apart c in omega (arith, few);
+    numbered = none_stands;
+    retained = (fair_run_kept limits ts w u fair []).fit.once;
+  }
+
+-- ---- numbers of publications
+
+abbrev Accepted : Broker → Type 0
+Accepted b = HasAcceptedNumbers b.records
+
+numbers_kept : (limits : Limits) → IsKept limits Accepted
+numbers_kept limits = record {
+  called = λ choice now call b s unspent h. step_accepted limits choice now call b h;
+  reopened = λ choice now b s unspent h. opening_accepted limits choice now b.records h;
+}
+
+-- ---- so it may begin
+
+pub start_begins : (limits : Limits) → AreWithin limits → BeginsWell limits start
+start_begins limits within = record { untouched = start_untouched limits within; apart = start_apart; numbers = (tt, tt) }
+
+pub run_begins : (limits : Limits) (ts : List Turn) (choice : MemberChoice) (now : ℕ) (w : World) → BeginsWell limits w → IsFair limits ts w → is_opening_spent limits choice now (run limits ts w).broker.records ≡ false
+    → BeginsWell limits (opened_world limits choice now (run limits ts w).broker.records)
+run_begins limits ts choice now w m fair unspent =
+    let r = (run limits ts w).broker.records in
+    let s = (fair_run_kept limits ts w m.untouched fair []).stands.standing.around.steady in
+    record {
+      untouched = run_opens_again limits ts choice now w m.untouched fair unspent;
+      apart = opened_apart limits choice now r fair.within (record { coherent = s.coherent; room = s.room; unspent = unspent }) (run_apart limits ts w m.untouched fair m.apart);
+      numbers = opening_accepted limits choice now r (run_keeps Accepted limits ts w (numbers_kept limits) m.untouched.new fair m.numbers);
+    }
+
+-- and after any lives
+pub lives_begin : (limits : Limits) (ls : List BrokerLife) → AreWithin limits → AreFairLives limits ls → BeginsWell limits (after_lives limits ls)
+lives_begin limits [] within h = start_begins limits within
+lives_begin limits (l ∷ ls) within h =
+    let w = after_lives limits ls in
+    let is = drains_are_runs limits l.doings w in
+    subst (λ (v : World). BeginsWell limits (opened_world limits l.choice l.now v.broker.records)) (sym is)
+    (run_begins limits (all_turns limits l.doings w) l.choice l.now w (lives_begin limits ls within h.0) h.1.fair
+    (subst (λ (v : World). is_opening_spent limits l.choice l.now v.broker.records ≡ false) is h.1.unspent))
+
+-- ---- and the broker sends well still
+
+pub run_sends : (limits : Limits) (ts : List Turn) (choice : MemberChoice) (now : ℕ) (w : World) → BeginsWell limits w → SendsWell w.broker → IsFair limits ts w → AreSayable ts → is_opening_spent limits choice now (run limits ts w).broker.records ≡ false
+    → SendsWell (opened_world limits choice now (run limits ts w).broker.records).broker
+run_sends limits ts choice now w m sends fair say unspent = well_reopened limits choice now (run limits ts w).broker unspent (sends_on limits ts w m.untouched.new sends fair say)
+
+pub lives_send : (limits : Limits) (ls : List BrokerLife) → AreWithin limits → AreFairLives limits ls → AreSayableLives ls → SendsWell (after_lives limits ls).broker
+lives_send limits [] within h said = start_sends limits within
+lives_send limits (l ∷ ls) within h said =
+    let w = after_lives limits ls in
+    let is = drains_are_runs limits l.doings w in
+    subst (λ (v : World). SendsWell (opened_world limits l.choice l.now v.broker.records).broker) (sym is)
+    (run_sends limits (all_turns limits l.doings w) l.choice l.now w (lives_begin limits ls within h.0) (lives_send limits ls within h.0 said.0) h.1.fair (all_said limits l.doings w said.1)
+    (subst (λ (v : World). is_opening_spent limits l.choice l.now v.broker.records ≡ false) is h.1.unspent))
