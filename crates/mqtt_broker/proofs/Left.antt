@@ -11,8 +11,8 @@ use Rattle.mqtt_rules.specs.Deeds.{Resume, Close, SetExpiry, DropWill, Subscribe
 use Rattle.mqtt_rules.specs.Lines.{line_number}
 use Rattle.mqtt_rules.specs.State.{Line, Broker, MemberChoice, is_of, line_at}
 use Rattle.mqtt_rules.specs.Step.{Call, NewLine, Outcome, BrokerStep, at_moment, can_link, deeds, done, stepped, told, with_moment, env_of}
-use Rattle.mqtt_rules.proofs.Goods.{AreGood}
-use Rattle.mqtt_rules.proofs.NumberBirths.{below_filter}
+use Rattle.mqtt_rules.proofs.acts.Goods.{AreGood}
+use Rattle.mqtt_rules.proofs.numbers.NumberBirths.{below_filter}
 use Rattle.mqtt_broker.specs.Framers.{HeldLine, begun, line_of}
 use Rattle.mqtt_broker_step.specs.Doing.{next_line}
 use Rattle.mqtt_broker.specs.Serving.{IsOfLines, has_closed, with_linked, without_closed}

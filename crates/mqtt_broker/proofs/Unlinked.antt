@@ -45,7 +45,7 @@ use Rattle.mqtt_rules.specs.Inbound.{Meaning, Means, Wrong, meaning, sets_alias,
 use Rattle.mqtt_rules.specs.Subscribe as sub
 use Rattle.mqtt_rules.specs.Tick.{is_silent, silence, lapses, has_lapsed, lapse_deeds, is_stale, first_due, due, on_tick}
 use Rattle.mqtt_rules.specs.Step.{Call, NewLine, Input, BadInput, Lost, Pump, Tick, first_packet, next_packet, on_packet, on_fault, late_code, on_pump, deeds_of, close_if, opening}
-use Rattle.mqtt_rules.proofs.Goods.{AreGood, GoodAct, GoodActs, good_append, good_series, good_two, good_map, good_flat, good_acts, good_cond, good_if, good_with_session, good_of_session, good_of_client, good_with_line, good_of_entry}
+use Rattle.mqtt_rules.proofs.acts.Goods.{AreGood, GoodAct, GoodActs, good_append, good_series, good_two, good_map, good_flat, good_acts, good_cond, good_if, good_with_session, good_of_session, good_of_client, good_with_line, good_of_entry}
 
 abbrev pub IsUnlinked : Deed → Broker → Type 0
 IsUnlinked (Link n) b = ⊥

@@ -17,8 +17,8 @@ use Rattle.mqtt_rules.specs.Lines.{session_on}
 use Rattle.mqtt_rules.specs.Packets.{size_of}
 use Rattle.mqtt_rules.specs.State.{Broker, Env, Line, MemberChoice, line_at, session_at}
 use Rattle.mqtt_rules.specs.Step.{Call, Input, SpentStep, at_moment, deeds, deeds_of, env_of, is_again, is_spent, is_step_spent, on_packet, stamped}
-use Rattle.mqtt_rules.proofs.FitLaw.{mapped_some}
-use Rattle.mqtt_rules.proofs.Leads.{found_passes}
+use Rattle.mqtt_rules.proofs.fit.FitLaw.{mapped_some}
+use Rattle.mqtt_rules.proofs.acts.Leads.{found_passes}
 use Rattle.mqtt_broker_step.specs.declared.fault.StepFault.{StepFault}
 use Rattle.mqtt_broker_step.specs.declared.fault.StepFault.TheVariants.{Spent}
 use Rattle.mqtt_broker_step.specs.Stepping.{Stepping, Did, Does, IsLeft, Leaves, did, env_in}

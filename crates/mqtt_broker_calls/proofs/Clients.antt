@@ -15,8 +15,8 @@ use Rattle.mqtt_rules.specs.Deeds.{Hear, On, after_all, on_line}
 use Rattle.mqtt_rules.specs.Inbound.{Means, meaning, message_of}
 use Rattle.mqtt_rules.specs.State.{Broker, Line, line_at}
 use Rattle.mqtt_rules.specs.Step.{at_moment}
-use Rattle.mqtt_rules.proofs.ContentPackets.{sent_content}
-use Rattle.mqtt_rules.proofs.FitLaw.{mapped_some}
+use Rattle.mqtt_rules.proofs.contents.ContentPackets.{sent_content}
+use Rattle.mqtt_rules.proofs.fit.FitLaw.{mapped_some}
 use Rattle.mqtt_broker_step.specs.Lines.{line_number}
 use Rattle.mqtt_broker_publish.specs.Choosing.{IsLawfulMessage}
 use Rattle.mqtt_codec_subscribe.specs.declared.unsubscribe.Unsubscribe.{Unsubscribe}

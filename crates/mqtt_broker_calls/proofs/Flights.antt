@@ -14,7 +14,7 @@ use Rattle.mqtt_records.specs.Session.{copy_place}
 use Rattle.mqtt_records_rows.specs.Distinct.{AllDiffer}
 use Rattle.mqtt_records_rows.specs.Order.{row_at}
 use Rattle.mqtt_rules.specs.Flight.{HasDistinctIdentifiers, IsFlight, identifier_at, identifier_in}
-use Rattle.mqtt_rules.proofs.Copies.{each_more}
+use Rattle.mqtt_rules.proofs.numbers.Copies.{each_more}
 
 abbrev id_of : CopyRow → Option ℕ
 id_of row = identifier_of row.phase

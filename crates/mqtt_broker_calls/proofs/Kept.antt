@@ -28,10 +28,10 @@ use Rattle.mqtt_rules.specs.Laws.{AreWithin, IsCoherent}
 use Rattle.mqtt_rules.specs.Numbers.{IsTimed}
 use Rattle.mqtt_rules.specs.State.{Broker, MemberChoice, entry_on}
 use Rattle.mqtt_rules.specs.Step.{Call, at_moment, deeds, is_opening_spent, is_step_spent, opened, opening_deeds, rows_written, stepped, unopened}
-use Rattle.mqtt_rules.proofs.Copies.{each_filter, each_more}
-use Rattle.mqtt_rules.proofs.FlightRows.{all_at, found_behind, all_put, all_changed}
-use Rattle.mqtt_rules.proofs.RowsFit.{step_fits, opening_fits}
-use Rattle.mqtt_rules.proofs.StoredLaw.{rows_store}
+use Rattle.mqtt_rules.proofs.numbers.Copies.{each_filter, each_more}
+use Rattle.mqtt_rules.proofs.flight.FlightRows.{all_at, found_behind, all_put, all_changed}
+use Rattle.mqtt_rules.proofs.fit.RowsFit.{step_fits, opening_fits}
+use Rattle.mqtt_rules.proofs.fit.StoredLaw.{rows_store}
 use Rattle.mqtt_broker_step.specs.Subscribing.{HasEachFilterOnce, HaveFiltersOnce}
 use Rattle.mqtt_broker_step.proofs.FiltersKept.{once_all}
 use Rattle.mqtt_broker_queue.specs.Queues.{HasKeptOrders}

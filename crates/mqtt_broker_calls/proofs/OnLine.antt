@@ -8,8 +8,8 @@ use Rattle.mqtt_records_rows.specs.Order.{row_at}
 use Rattle.mqtt_rules.specs.Deeds.{with_line, with_session}
 use Rattle.mqtt_rules.specs.State.{Broker, Env, Line, line_at, session_at}
 use Rattle.mqtt_rules.specs.Step.{next_packet, on_packet}
-use Rattle.mqtt_rules.proofs.FitLaw.{mapped_some}
-use Rattle.mqtt_rules.proofs.Leads.{found_passes}
+use Rattle.mqtt_rules.proofs.fit.FitLaw.{mapped_some}
+use Rattle.mqtt_rules.proofs.acts.Leads.{found_passes}
 use Rattle.mqtt_broker_step.specs.Lines.{line_number}
 use Rattle.mqtt_broker_step.specs.declared.fault.StepFault.{StepFault}
 use Rattle.mqtt_broker_step.specs.Stepping.{Stepping, env_in}

@@ -8,8 +8,8 @@ use Rattle.mqtt_rules.specs.Deeds.{Act, after_all, series, with_line}
 use Rattle.mqtt_rules.specs.Lines.{session_on}
 use Rattle.mqtt_rules.specs.State.{Broker, Env, Line, MemberChoice, line_at}
 use Rattle.mqtt_rules.specs.Step.{Call, Input, SpentStep, deeds, deeds_of, env_of, is_again, on_packet}
-use Rattle.mqtt_rules.proofs.FitLaw.{mapped_some}
-use Rattle.mqtt_rules.proofs.Leads.{found_passes}
+use Rattle.mqtt_rules.proofs.fit.FitLaw.{mapped_some}
+use Rattle.mqtt_rules.proofs.acts.Leads.{found_passes}
 use Rattle.mqtt_broker_step.specs.declared.fault.StepFault.{StepFault}
 use Rattle.mqtt_broker_step.specs.declared.fault.StepFault.TheVariants.{Spent}
 use Rattle.mqtt_broker_step.specs.Stepping.{Stepping, Did, IsLeft, env_in}

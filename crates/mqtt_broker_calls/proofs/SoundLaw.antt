@@ -7,17 +7,17 @@ use Rattle.mqtt_rules.specs.Contents.{TakesLawful, of_rows}
 use Rattle.mqtt_rules.specs.Laws.{AreWithin}
 use Rattle.mqtt_rules.specs.State.{Broker, MemberChoice, stored}
 use Rattle.mqtt_rules.specs.Step.{Call, is_opening_spent, is_step_spent, opened, stepped}
-use Rattle.mqtt_rules.proofs.ContentLaw.{step_contents, opening_contents}
-use Rattle.mqtt_rules.proofs.FlightStep.{step_keeps, opening_keeps}
-use Rattle.mqtt_rules.proofs.LawfulContents.{lawful_contents}
-use Rattle.mqtt_rules.proofs.SpelledContents.{rows_are}
-use Rattle.mqtt_rules.proofs.LawfulRecords.{lawful_coherent, lawful_accepted}
-use Rattle.mqtt_rules.proofs.LineSteps.{step_unique, opening_unique}
-use Rattle.mqtt_rules.proofs.NumberCopies.{step_accepted, opening_accepted}
-use Rattle.mqtt_rules.proofs.NumberSteps.{step_timed, opening_timed}
-use Rattle.mqtt_rules.proofs.OrderedFull.{step_queues, opening_queues}
-use Rattle.mqtt_rules.proofs.OrderedLimits.{step_sessions, opening_sessions, step_retained, opening_retained}
-use Rattle.mqtt_rules.proofs.RowsFit.{step_coherent, step_last, opening_coherent, opened_last}
+use Rattle.mqtt_rules.proofs.contents.ContentLaw.{step_contents, opening_contents}
+use Rattle.mqtt_rules.proofs.flight.FlightStep.{step_keeps, opening_keeps}
+use Rattle.mqtt_rules.proofs.contents.LawfulContents.{lawful_contents}
+use Rattle.mqtt_rules.proofs.contents.SpelledContents.{rows_are}
+use Rattle.mqtt_rules.proofs.fit.LawfulRecords.{lawful_coherent, lawful_accepted}
+use Rattle.mqtt_rules.proofs.lines.LineSteps.{step_unique, opening_unique}
+use Rattle.mqtt_rules.proofs.numbers.NumberCopies.{step_accepted, opening_accepted}
+use Rattle.mqtt_rules.proofs.numbers.NumberSteps.{step_timed, opening_timed}
+use Rattle.mqtt_rules.proofs.order.OrderedFull.{step_queues, opening_queues}
+use Rattle.mqtt_rules.proofs.order.OrderedLimits.{step_sessions, opening_sessions, step_retained, opening_retained}
+use Rattle.mqtt_rules.proofs.fit.RowsFit.{step_coherent, step_last, opening_coherent, opened_last}
 use Rattle.mqtt_broker_calls.specs.Sound.{IsSound, IsWithin}
 use Rattle.mqtt_broker_calls.proofs.Flights.{lawful_flight}
 use Rattle.mqtt_broker_calls.proofs.Kept.{step_orders, step_filters, opening_orders, opening_filters}

@@ -22,8 +22,8 @@ use Rattle.mqtt_rules.specs.Packets.{is_expired}
 use Rattle.mqtt_rules.specs.State.{session_at}
 use Rattle.mqtt_rules.specs.Tick.{has_lapsed, is_stale}
 use Rattle.mqtt_broker_close.specs.Ticking.{will_due_in, end_due_in, stale_in, lapsed_in}
-use Rattle.mqtt_rules.proofs.Copies.{each_filter, each_more}
-use Rattle.mqtt_rules.proofs.FlightRows.{all_found, all_put, all_changed}
+use Rattle.mqtt_rules.proofs.numbers.Copies.{each_filter, each_more}
+use Rattle.mqtt_rules.proofs.flight.FlightRows.{all_found, all_put, all_changed}
 use Rattle.mqtt_broker_decisions.proofs.Looks.{lapsed_some}
 use Rattle.mqtt_broker_clock.specs.Ticking.{first_of, stored_in}
 use Rattle.mqtt_broker_clock.specs.Quiet.{AreQuiet, BringsNothing, IsFresh, IsQuiet, IsSettled, IsSettledIn}

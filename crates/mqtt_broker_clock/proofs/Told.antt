@@ -12,7 +12,7 @@ use Rattle.mqtt_rules.specs.Deeds.{Act, Forget, always, with_line, with_session}
 use Rattle.mqtt_rules.specs.State.{Broker, Env, Line}
 use Rattle.mqtt_rules.specs.Step.{Tick, deeds_of, is_again, is_none_done}
 use Rattle.mqtt_rules.specs.Tick.{silence, is_silent, is_stale, has_lapsed, lapse_deeds, first_due, due, on_tick}
-use Rattle.mqtt_rules.proofs.Leads.{found_passes}
+use Rattle.mqtt_rules.proofs.acts.Leads.{found_passes}
 use Rattle.mqtt_broker_step.specs.Lines.{line_number}
 use Rattle.mqtt_broker_clock.specs.declared.finding.Due.{Due}
 use Rattle.mqtt_broker_clock.specs.declared.finding.Due.TheVariants.{Silence, Will, End, Stale, Lapse}

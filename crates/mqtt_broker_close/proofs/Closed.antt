@@ -18,7 +18,7 @@ use Rattle.mqtt_rules.specs.Contents.{IsWilled}
 use Rattle.mqtt_rules.specs.Deeds.{Act, At, Close, Deed, DropWill, Finish, Leave, Part, SetExpiry, whose, after, after_all, always, only_if, part_rows, part_rows_of, series, then, with_session}
 use Rattle.mqtt_rules.specs.Routing.{subscriber_of, subscribers}
 use Rattle.mqtt_rules.specs.State.{Broker, Env, session_at}
-use Rattle.mqtt_rules.proofs.LookedUp.{row_at-change_row, field_kept}
+use Rattle.mqtt_rules.proofs.acts.LookedUp.{row_at-change_row, field_kept}
 use Rattle.mqtt_broker_step.specs.Undoing.{moment_of}
 use Rattle.mqtt_broker_step.specs.declared.fault.StepFault.{StepFault}
 use Rattle.mqtt_broker_step.specs.Stepping.{Stepping, did, Did, Does, IsLeft, Leaves, env_in, to_session}

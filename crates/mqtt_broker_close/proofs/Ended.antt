@@ -12,7 +12,7 @@ use Rattle.mqtt_rules.specs.Closing.{end_session}
 use Rattle.mqtt_rules.specs.Deeds.{Deed, At, Leave, Finish, whose, after, after_all, always, then, with_session}
 use Rattle.mqtt_rules.specs.Outbound.{at_place, of_entry}
 use Rattle.mqtt_rules.specs.State.{Broker, session_at}
-use Rattle.mqtt_rules.proofs.LookedUp.{row_at-change_row}
+use Rattle.mqtt_rules.proofs.acts.LookedUp.{row_at-change_row}
 use Rattle.mqtt_broker_step.specs.Doing.{leaves}
 use Rattle.mqtt_broker_step.specs.declared.fault.StepFault.{StepFault}
 use Rattle.mqtt_broker_step.specs.Stepping.{Stepping, did, Did, IsLeft}

@@ -12,7 +12,7 @@ use Rattle.mqtt_rules.specs.Contents.{IsWilled, of_rows}
 use Rattle.mqtt_rules.specs.Deeds.{Act, At, DropWill, FromWill, Message, Part, RefuseWill, Whose, whose, always, with_session}
 use Rattle.mqtt_rules.specs.Routing.{CopyTo, publish, next_publication}
 use Rattle.mqtt_rules.specs.State.{Broker, Env, MemberChoice, session_at}
-use Rattle.mqtt_rules.proofs.ContentPackets.{published}
+use Rattle.mqtt_rules.proofs.contents.ContentPackets.{published}
 use Rattle.mqtt_broker_step.specs.declared.fault.StepFault.{StepFault}
 use Rattle.mqtt_broker_step.specs.declared.fault.StepFault.TheVariants.{Memory}
 use Rattle.mqtt_broker_step.specs.Stepping.{Stepping, did, Did, Does, IsLeft, Leaves, env_in, to_session}

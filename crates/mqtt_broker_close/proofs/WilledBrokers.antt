@@ -7,7 +7,7 @@ use Rattle.mqtt_records.specs.declared.session.Session.{Session}
 use Rattle.mqtt_records.specs.Session.{birth_of}
 use Rattle.mqtt_rules.specs.Contents.{AreContentsLawful, HasContents, IsWilled}
 use Rattle.mqtt_rules.specs.State.{Broker, session_at}
-use Rattle.mqtt_rules.proofs.FlightRows.{all_at}
+use Rattle.mqtt_rules.proofs.flight.FlightRows.{all_at}
 use Rattle.mqtt_broker_close.specs.Wills.{will_at, will_of}
 
 willed_by : (birth : ℕ) (r : Records) (o : Option Session) → session_at birth r ≡ o → AllByRecursion HasContents r.sessions → IsWilled (will_of o)

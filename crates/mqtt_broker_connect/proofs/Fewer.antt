@@ -16,14 +16,14 @@ use Rattle.mqtt_rules.specs.Deeds.{Part, Deed, after, after_all, stored_after, p
 use Rattle.mqtt_rules.specs.Deeds as deeds
 use Rattle.mqtt_rules.specs.Closing.{settle, close, close_session, close_connected, drop_line}
 use Rattle.mqtt_rules.specs.Connect.{of_client, take_over, clear, prepare}
-use Rattle.mqtt_rules.proofs.Goods.{AreGood, GoodAct, good_series, good_of_session, good_of_client, good_with_line, good_if}
-use Rattle.mqtt_rules.proofs.LineRows.{IsStill, IsStillPart}
-use Rattle.mqtt_rules.proofs.LineActs.{still_settle, still_clear}
+use Rattle.mqtt_rules.proofs.acts.Goods.{AreGood, GoodAct, good_series, good_of_session, good_of_client, good_with_line, good_if}
+use Rattle.mqtt_rules.proofs.lines.LineRows.{IsStill, IsStillPart}
+use Rattle.mqtt_rules.proofs.lines.LineActs.{still_settle, still_clear}
 use Rattle.mqtt_rules.specs.Numbers.{HasGivenBirths}
-use Rattle.mqtt_rules.proofs.Acts.{anyone, leads_prepare}
-use Rattle.mqtt_rules.proofs.ByDeeds.{by_deeds, turn_law}
-use Rattle.mqtt_rules.proofs.NumberBirths.{given_all}
-use Rattle.mqtt_rules.proofs.NumberFacts.{GivesNext, next_law, next_mark}
+use Rattle.mqtt_rules.proofs.acts.Acts.{anyone, leads_prepare}
+use Rattle.mqtt_rules.proofs.acts.ByDeeds.{by_deeds, turn_law}
+use Rattle.mqtt_rules.proofs.numbers.NumberBirths.{given_all}
+use Rattle.mqtt_rules.proofs.numbers.NumberFacts.{GivesNext, next_law, next_mark}
 use Rattle.mqtt_broker_step.proofs.Doing.{stands}
 use Rattle.mqtt_broker_connect.specs.Joining.{has_place}
 

@@ -11,8 +11,8 @@ use Rattle.mqtt_records.specs.declared.records.Records.{Records}
 use Rattle.mqtt_rules.specs.Connect.{on_connect}
 use Rattle.mqtt_rules.specs.Laws.{IsAmong, IsCoherent}
 use Rattle.mqtt_rules.specs.State.{Line, session_at}
-use Rattle.mqtt_rules.proofs.Leads.{found_passes}
-use Rattle.mqtt_rules.proofs.LineLaw.{here}
+use Rattle.mqtt_rules.proofs.acts.Leads.{found_passes}
+use Rattle.mqtt_rules.proofs.lines.LineLaw.{here}
 use Rattle.mqtt_broker_step.specs.Stepping.{Stepping, Does}
 use Rattle.mqtt_broker_connect.specs.declared.joining.Joined.TheVariants.{Done}
 use Rattle.mqtt_broker_connect.specs.Joining.{IsNamedAt}

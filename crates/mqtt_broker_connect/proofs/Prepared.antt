@@ -14,8 +14,8 @@ use Rattle.mqtt_rules.specs.Contents.{IsWilled}
 use Rattle.mqtt_rules.specs.Deeds.{Act, Deed, after_all, always, only_if, series, then, with_line, with_session}
 use Rattle.mqtt_rules.specs.Routing.{subscribers}
 use Rattle.mqtt_rules.specs.State.{Broker, Env, Line, MemberChoice, line_of, session_at}
-use Rattle.mqtt_rules.proofs.Goods.{AreGood, GoodAct}
-use Rattle.mqtt_rules.proofs.Leads.{found_passes}
+use Rattle.mqtt_rules.proofs.acts.Goods.{AreGood, GoodAct}
+use Rattle.mqtt_rules.proofs.acts.Leads.{found_passes}
 use Rattle.mqtt_broker_step.specs.declared.fault.StepFault.{StepFault}
 use Rattle.mqtt_broker_step.specs.Stepping.{Stepping, Did, Does, Leaves, env_in}
 use Rattle.mqtt_broker_step.proofs.Doing.{found_birth}

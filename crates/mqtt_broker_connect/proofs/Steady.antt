@@ -28,9 +28,9 @@ use Rattle.mqtt_rules.specs.Outbound.{leave_deeds, since, queue_limits, enter_de
 use Rattle.mqtt_rules.specs.Packets.{disconnect, publish_of}
 use Rattle.mqtt_rules.specs.Routing.{CopyTo, is_queued, deliver_by, deliver, retained_of, forgets, retain_by, next_publication, publish, accepted_copies, subscriber_of}
 use Rattle.mqtt_rules.specs.State.{Line, Broker, Env, is_of, line_of, queue_on, session_at}
-use Rattle.mqtt_rules.proofs.Goods.{AreGood, GoodAct, good_append, good_then, good_series, good_two, good_map, good_flat, good_acts, good_cond, good_if, good_with_session, good_with_line, good_of_entry}
-use Rattle.mqtt_rules.proofs.Leads.{found_passes}
-use Rattle.mqtt_rules.proofs.LookedUp.{row_at-change_row}
+use Rattle.mqtt_rules.proofs.acts.Goods.{AreGood, GoodAct, good_append, good_then, good_series, good_two, good_map, good_flat, good_acts, good_cond, good_if, good_with_session, good_with_line, good_of_entry}
+use Rattle.mqtt_rules.proofs.acts.Leads.{found_passes}
+use Rattle.mqtt_rules.proofs.acts.LookedUp.{row_at-change_row}
 use Rattle.mqtt_broker_step.proofs.Doing.{found_birth, stands}
 use Rattle.mqtt_broker_close.specs.Ending.{ends}
 use Rattle.mqtt_broker_close.specs.Wills.{publishes_will, will_of}

@@ -13,7 +13,7 @@ use Rattle.mqtt_records.specs.Session.{auto, fresh}
 use Rattle.mqtt_records.specs.Records.{nothing}
 use Rattle.mqtt_rules.specs.State.{session_named}
 use Rattle.mqtt_rules.specs.Connect.{case, first_case, has_bad_topic, is_unassigned, largest_of, least_packet_size, refusal}
-use Rattle.mqtt_rules.proofs.FitLaw.{same_text}
+use Rattle.mqtt_rules.proofs.fit.FitLaw.{same_text}
 
 -- records with a session of this client identifier
 abbrev with_client : List ℕ → Records

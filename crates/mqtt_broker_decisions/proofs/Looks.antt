@@ -23,7 +23,7 @@ use Rattle.mqtt_topic.specs.declared.fault.TopicFault.TheVariants.{Empty, Wildca
 use Rattle.mqtt_topic.specs.Aliases.{AliasTable, RefusesAlias}
 use Rattle.mqtt_topic.specs.Names.{RefusesName}
 use Rattle.mqtt_rules.specs.Inbound.{Wrong, meaning, resolved, topic_code}
-use Rattle.mqtt_rules.proofs.Meanings.{resolved_refused, unless_identified}
+use Rattle.mqtt_rules.proofs.acts.Meanings.{resolved_refused, unless_identified}
 use Rattle.mqtt_rules.specs.State.{entry_on}
 use Rattle.mqtt_rules.specs.Tick.{are_some}
 use Rattle.mqtt_broker_decisions.specs.Verdicts.{RefusesMeaning, is_lapsed, unmeant_by}

@@ -10,10 +10,10 @@ use Rattle.mqtt_rules.specs.Contents.{TakesLawful, of_rows}
 use Rattle.mqtt_rules.specs.Deeds.{Deed, rows_of_all}
 use Rattle.mqtt_rules.specs.State.{Broker}
 use Rattle.mqtt_rules.specs.Step.{Call, at_moment, deeds, is_spent, is_step_spent, rows_written, stamped, stepped, told, with_moment}
-use Rattle.mqtt_rules.proofs.RowsFit.{step_fits}
-use Rattle.mqtt_rules.proofs.SayableRows.{step_said}
-use Rattle.mqtt_rules.proofs.SpelledContents.{rows_are as row_sizes}
-use Rattle.mqtt_rules.proofs.StoredLaw.{now_stays}
+use Rattle.mqtt_rules.proofs.fit.RowsFit.{step_fits}
+use Rattle.mqtt_rules.proofs.contents.SayableRows.{step_said}
+use Rattle.mqtt_rules.proofs.contents.SpelledContents.{rows_are as row_sizes}
+use Rattle.mqtt_rules.proofs.fit.StoredLaw.{now_stays}
 use Rattle.mqtt_broker_step.specs.declared.fault.StepFault.{StepFault}
 use Rattle.mqtt_broker_step.specs.declared.fault.StepFault.TheVariants.{Memory, Spent}
 use Rattle.mqtt_broker_step.specs.declared.call.EngineError.{EngineError}

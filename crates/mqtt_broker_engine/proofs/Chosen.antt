@@ -13,7 +13,7 @@ use Rattle.mqtt_rules.specs.Deeds.{Whose, whose, Message, FromWill, Close, DropW
 use Rattle.mqtt_rules.specs.Laws.{client_at}
 use Rattle.mqtt_rules.specs.Routing.{CopyTo, accepted_copies, accepted_if, answers, copies_to, deliver, deliver_by, finds_place, is_queued, next_publication, publication_of, publish, retain_by, subscribers}
 use Rattle.mqtt_rules.specs.State.{Broker, Env, MemberChoice, session_at}
-use Rattle.mqtt_rules.proofs.LookedUp.{client_at_part}
+use Rattle.mqtt_rules.proofs.acts.LookedUp.{client_at_part}
 use Rattle.mqtt_broker_engine.specs.Sessions.{Face, IsThere, closes, closes_all, face}
 use Rattle.mqtt_broker_engine.proofs.Own.{close_own}
 use Rattle.mqtt_broker_engine.proofs.Faces.{deeds_kept}

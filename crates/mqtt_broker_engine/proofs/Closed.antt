@@ -12,8 +12,8 @@ use Rattle.mqtt_rules.specs.Closing.{settle}
 use Rattle.mqtt_rules.specs.Deeds.{Act, At, Close, Deed, whose, after_all, rows_of_all, then}
 use Rattle.mqtt_rules.specs.Routing.{subscribers}
 use Rattle.mqtt_rules.specs.State.{Env, session_at}
-use Rattle.mqtt_rules.proofs.Goods.{AreGood}
-use Rattle.mqtt_rules.proofs.StoredLaw.{stored_after_all}
+use Rattle.mqtt_rules.proofs.acts.Goods.{AreGood}
+use Rattle.mqtt_rules.proofs.fit.StoredLaw.{stored_after_all}
 use Rattle.mqtt_broker_step.specs.declared.fault.StepFault.{StepFault}
 use Rattle.mqtt_broker_step.specs.declared.fault.StepFault.TheVariants.{Memory, Spent}
 use Rattle.mqtt_broker_step.specs.Stepping.{Stepping, Did, IsLeft, did, env_in, to_session}

@@ -9,9 +9,9 @@ use Rattle.mqtt_records.specs.Records.{changed_all, in_session}
 use Rattle.mqtt_records_rows.proofs.LookUps.{row_at-remove_row}
 use Rattle.mqtt_rules.specs.Deeds.{Whose, Part, Close, DropWill, Enter, Leave, Deed, Accept, Begin, Name, Count, At, Finish, Keep, Forget, RefuseWill, Link, On, Send, Gone, after, after_all, new_entry, part_rows, part_rows_of, stored_after}
 use Rattle.mqtt_rules.specs.State.{Broker, session_at}
-use Rattle.mqtt_rules.proofs.FlightRows.{found_key}
-use Rattle.mqtt_rules.proofs.Goods.{AreGood}
-use Rattle.mqtt_rules.proofs.LookedUp.{field_kept, row_at-change_row}
+use Rattle.mqtt_rules.proofs.flight.FlightRows.{found_key}
+use Rattle.mqtt_rules.proofs.acts.Goods.{AreGood}
+use Rattle.mqtt_rules.proofs.acts.LookedUp.{field_kept, row_at-change_row}
 use Rattle.mqtt_broker_engine.specs.Sessions.{face, face_at}
 use Rattle.mqtt_broker_engine.proofs.Own.{IsClosing, IsOwn, IsQueued}
 

@@ -7,7 +7,7 @@ use Rattle.mqtt_records.specs.declared.session.Session.{Session}
 use Rattle.mqtt_records.specs.Records.{changed, changed_all}
 use Rattle.mqtt_rules.specs.Deeds.{Whose, Part, Close, DropWill, Enter, Leave, Deed, Accept, Begin, Name, Count, At, Finish, Keep, Forget, RefuseWill, Link, On, Send, Gone, part_rows, part_rows_of, rows_of, rows_of_all, stored_after, after}
 use Rattle.mqtt_rules.specs.State.{Broker, session_at}
-use Rattle.mqtt_rules.proofs.Goods.{AreGood}
+use Rattle.mqtt_rules.proofs.acts.Goods.{AreGood}
 use Rattle.mqtt_broker_index.specs.Following.{CanAllBeFollowed}
 use Rattle.mqtt_broker_engine.proofs.Own.{IsClosing, IsOwn, IsQueued}
 

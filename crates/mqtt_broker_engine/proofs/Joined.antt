@@ -3,7 +3,7 @@ use Rattle.std.proofs.Common.{◌≡◌, ℕ, Bool, cond, List, [], ◌∷◌, b
 use Rattle.std.specs.List.{AllByRecursion}
 use Rattle.mqtt_records.specs.declared.session.Session.{Session}
 use Rattle.mqtt_rules.specs.State.{Env, MemberChoice}
-use Rattle.mqtt_rules.proofs.FitLaw.{same_text}
+use Rattle.mqtt_rules.proofs.fit.FitLaw.{same_text}
 use Rattle.mqtt_broker_step.specs.declared.fault.StepFault.{StepFault}
 use Rattle.mqtt_broker_step.specs.Stepping.{Stepping, Did, env_in}
 use Rattle.mqtt_broker_step.proofs.Doing.{did_none}

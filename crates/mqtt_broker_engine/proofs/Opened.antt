@@ -13,8 +13,8 @@ use Rattle.mqtt_rules.specs.Deeds.{after_all, series}
 use Rattle.mqtt_rules.specs.Laws.{IsCoherent, IsUnique, client_at}
 use Rattle.mqtt_rules.specs.State.{Broker, Env, is_connected, session_at}
 use Rattle.mqtt_rules.specs.Step.{close_if, opening}
-use Rattle.mqtt_rules.proofs.Copies.{each_more}
-use Rattle.mqtt_rules.proofs.FlightRows.{all_found}
+use Rattle.mqtt_rules.proofs.numbers.Copies.{each_more}
+use Rattle.mqtt_rules.proofs.flight.FlightRows.{all_found}
 use Rattle.mqtt_broker_engine.specs.Sessions.{IsThere, closes, closes_all, connected_in, face}
 use Rattle.mqtt_broker_engine.proofs.Chosen.{AllApart, AreApart}
 

@@ -20,8 +20,8 @@ use Rattle.mqtt_rules.specs.Outbound.{enter_deeds, leave_deeds, queue_limits, si
 use Rattle.mqtt_rules.specs.Packets.{publish_of}
 use Rattle.mqtt_rules.specs.Routing.{CopyTo, accepted_copies, deliver, deliver_by, forgets, is_queued, next_publication, publish, retain_by, retained_of}
 use Rattle.mqtt_rules.specs.State.{Line, Broker, Env, line_of, queue_on, session_at}
-use Rattle.mqtt_rules.proofs.FlightRows.{found_key}
-use Rattle.mqtt_rules.proofs.Goods.{AreGood, good_append, good_cond, good_flat, good_of_entry, good_two, good_with_session}
+use Rattle.mqtt_rules.proofs.flight.FlightRows.{found_key}
+use Rattle.mqtt_rules.proofs.acts.Goods.{AreGood, good_append, good_cond, good_flat, good_of_entry, good_two, good_with_session}
 use Rattle.mqtt_broker_engine.specs.Sessions.{closes}
 
 -- a copy enters a queue, or leaves it

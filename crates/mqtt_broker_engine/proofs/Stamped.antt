@@ -15,12 +15,12 @@ use Rattle.mqtt_rules.specs.Laws.{AreWithin}
 use Rattle.mqtt_rules.specs.Routing.{subscribers}
 use Rattle.mqtt_rules.specs.State.{Broker}
 use Rattle.mqtt_rules.specs.Step.{BrokerOpening, is_opening_spent, is_spent, opened, opening, opening_deeds, rows_written, stamped, unopened, with_moment}
-use Rattle.mqtt_rules.proofs.LawfulContents.{lawful_contents}
-use Rattle.mqtt_rules.proofs.LawfulRecords.{lawful_coherent}
-use Rattle.mqtt_rules.proofs.RowsFit.{opening_fits}
-use Rattle.mqtt_rules.proofs.SayableRows.{opening_said}
-use Rattle.mqtt_rules.proofs.SpelledContents.{rows_are as row_sizes}
-use Rattle.mqtt_rules.proofs.StoredLaw.{now_stays}
+use Rattle.mqtt_rules.proofs.contents.LawfulContents.{lawful_contents}
+use Rattle.mqtt_rules.proofs.fit.LawfulRecords.{lawful_coherent}
+use Rattle.mqtt_rules.proofs.fit.RowsFit.{opening_fits}
+use Rattle.mqtt_rules.proofs.contents.SayableRows.{opening_said}
+use Rattle.mqtt_rules.proofs.contents.SpelledContents.{rows_are as row_sizes}
+use Rattle.mqtt_rules.proofs.fit.StoredLaw.{now_stays}
 use Rattle.mqtt_broker_step.specs.declared.fault.StepFault.{StepFault}
 use Rattle.mqtt_broker_step.specs.declared.fault.StepFault.TheVariants.{Memory, Spent}
 use Rattle.mqtt_broker_step.specs.Stepping.{Stepping, at_rest, did, env_in, with_stamp}

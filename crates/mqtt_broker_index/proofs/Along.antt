@@ -22,9 +22,9 @@ use Rattle.mqtt_routes.proofs.SpotLemmas.{order-with_subs, order-unsubscribed, o
 use Rattle.mqtt_records_rows.specs.Order.{row_at, has_row, put_row, change_row}
 use Rattle.mqtt_rules.specs.Laws.{HasTables}
 use Rattle.mqtt_rules.specs.Routing.{routed_subscription, subscribers}
-use Rattle.mqtt_rules.proofs.Copies.{each_filter}
-use Rattle.mqtt_rules.proofs.FlightRows.{all_at, all_put, all_changed}
-use Rattle.mqtt_rules.proofs.Ordered.{changed-ordered}
+use Rattle.mqtt_rules.proofs.numbers.Copies.{each_filter}
+use Rattle.mqtt_rules.proofs.flight.FlightRows.{all_at, all_put, all_changed}
+use Rattle.mqtt_rules.proofs.order.Ordered.{changed-ordered}
 use Rattle.mqtt_broker_step.specs.Subscribing.{HasEachFilterOnce}
 use Rattle.mqtt_broker_step.proofs.FiltersKept.{once_all}
 use Rattle.mqtt_broker_index.specs.Following.{HasIdentifiers, CanBeIndexed, IsGranted, CanBeFollowed, CanAllBeFollowed, followed, followed_all}

@@ -13,7 +13,7 @@ use Rattle.mqtt_routes.specs.Subscriptions.{Subscriber, subscriber, beside, has_
 use Rattle.mqtt_records_rows.specs.Distinct.{AllDiffer}
 use Rattle.mqtt_records_rows.specs.Order.{IsAbove, IsAscending}
 use Rattle.mqtt_rules.specs.Routing.{routed_subscription, subscriber_of, subscribers}
-use Rattle.mqtt_rules.proofs.Copies.{each_append, each_more}
+use Rattle.mqtt_rules.proofs.numbers.Copies.{each_append, each_more}
 use Rattle.mqtt_broker_step.specs.Subscribing.{filter_of, HasEachFilterOnce}
 use Rattle.mqtt_broker_step.proofs.Filters.{text_is}
 use Rattle.mqtt_broker_index.specs.Following.{CanBeIndexed, given, given_all}

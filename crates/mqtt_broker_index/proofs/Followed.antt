@@ -18,11 +18,11 @@ use Rattle.mqtt_rules.specs.Deeds.{Whose, Part, Resume, Close, SetExpiry, DropWi
 use Rattle.mqtt_rules.specs.Laws.{AreWithin, IsCoherent, IsOrdered}
 use Rattle.mqtt_rules.specs.State.{Broker, MemberChoice, session_at, stored}
 use Rattle.mqtt_rules.specs.Step.{Call, at_moment, deeds, env_of, opening_deeds, rows_written, stamped, unopened}
-use Rattle.mqtt_rules.proofs.Copies.{each_more}
-use Rattle.mqtt_rules.proofs.FlightRows.{found_key}
-use Rattle.mqtt_rules.proofs.LawfulContents.{lawful_contents}
-use Rattle.mqtt_rules.proofs.LawfulRecords.{lawful_coherent}
-use Rattle.mqtt_rules.proofs.RowsFit.{made_of, moment_last}
+use Rattle.mqtt_rules.proofs.numbers.Copies.{each_more}
+use Rattle.mqtt_rules.proofs.flight.FlightRows.{found_key}
+use Rattle.mqtt_rules.proofs.contents.LawfulContents.{lawful_contents}
+use Rattle.mqtt_rules.proofs.fit.LawfulRecords.{lawful_coherent}
+use Rattle.mqtt_rules.proofs.fit.RowsFit.{made_of, moment_last}
 use Rattle.mqtt_broker_step.specs.Subscribing.{HasEachFilterOnce, HaveFiltersOnce}
 use Rattle.mqtt_broker_index.specs.Following.{HasIdentifiers, CanBeIndexed, IsGranted, CanAllBeFollowed}
 use Rattle.mqtt_broker_index.proofs.Granted.{IsWell, AreWell, well_call, well_opening}

@@ -33,15 +33,15 @@ use Rattle.mqtt_rules.specs.Laws.{AreWithin, IsCoherentSession}
 use Rattle.mqtt_rules.specs.Step.{Call, NewLine, Input, BadInput, Lost, Pump, Tick, deeds_of, opening}
 use Rattle.mqtt_rules.specs.Subscribe as sub
 use Rattle.mqtt_rules.specs.Tick.{lapses, lapse_deeds}
-use Rattle.mqtt_rules.proofs.Acts.{About, closing_session, closing_on, closing, is_alone, brought_to, Finds, Law, IsCallOf, leads_call, leads_opening}
-use Rattle.mqtt_rules.proofs.ByDeeds.{by_deeds, turn_law, by_deeds_shuts}
-use Rattle.mqtt_rules.proofs.Coherent.{IsFit}
-use Rattle.mqtt_rules.proofs.ContentPackets.{asked_identifier}
-use Rattle.mqtt_rules.proofs.FitLaw.{Keeps, naming, fit_law, fit_mark}
-use Rattle.mqtt_rules.proofs.FlightRows.{all_at}
-use Rattle.mqtt_rules.proofs.Goods.{AreGood, good_append, good_cond, good_flat, good_of_entry, good_with_session}
-use Rattle.mqtt_rules.proofs.Leads.{Leads}
-use Rattle.mqtt_rules.proofs.NumberPlaces.{grants_place}
+use Rattle.mqtt_rules.proofs.acts.Acts.{About, closing_session, closing_on, closing, is_alone, brought_to, Finds, Law, IsCallOf, leads_call, leads_opening}
+use Rattle.mqtt_rules.proofs.acts.ByDeeds.{by_deeds, turn_law, by_deeds_shuts}
+use Rattle.mqtt_rules.proofs.fit.Coherent.{IsFit}
+use Rattle.mqtt_rules.proofs.contents.ContentPackets.{asked_identifier}
+use Rattle.mqtt_rules.proofs.fit.FitLaw.{Keeps, naming, fit_law, fit_mark}
+use Rattle.mqtt_rules.proofs.flight.FlightRows.{all_at}
+use Rattle.mqtt_rules.proofs.acts.Goods.{AreGood, good_append, good_cond, good_flat, good_of_entry, good_with_session}
+use Rattle.mqtt_rules.proofs.acts.Leads.{Leads}
+use Rattle.mqtt_rules.proofs.numbers.NumberPlaces.{grants_place}
 use Rattle.mqtt_broker_index.specs.Following.{IsGranted}
 
 -- ---- deeds that don't subscribe

@@ -15,7 +15,7 @@ use Rattle.mqtt_records_rows.proofs.OrderLemmas.{apart}
 use Rattle.mqtt_rules.specs.Routing.{routed_subscription}
 use Rattle.mqtt_rules.specs.Subscribe.{is_to, place_among}
 use Rattle.mqtt_rules.specs.Subscribe as sub
-use Rattle.mqtt_rules.proofs.FlightRows.{above_found}
+use Rattle.mqtt_rules.proofs.flight.FlightRows.{above_found}
 use Rattle.mqtt_broker_step.specs.Subscribing.{filter_of}
 use Rattle.mqtt_broker_step.proofs.Filters.{text_is, found_row}
 use Rattle.mqtt_broker_index.specs.Following.{IsGranted}

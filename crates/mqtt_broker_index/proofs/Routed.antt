@@ -18,7 +18,7 @@ use Rattle.mqtt_records_rows.specs.Order.{IsAscending}
 use Rattle.mqtt_rules.specs.State.{MemberChoice}
 use Rattle.mqtt_rules.specs.Deeds.{Message}
 use Rattle.mqtt_rules.specs.Routing.{CopyTo, accepted_copies, accepted_if, copies_to, copy_to, finds_place, next_publication, publication_of, routing_of, served_copies_to, subscribers}
-use Rattle.mqtt_rules.proofs.OrderedAccepted.{accepted_within}
+use Rattle.mqtt_rules.proofs.order.OrderedAccepted.{accepted_within}
 use Rattle.mqtt_broker_step.specs.Stepping.{Stepping, env_in}
 use Rattle.mqtt_broker_publish.specs.Choosing.{IsAccepted, IsLawfulMessage, IsRefused, IsRouted}
 use Rattle.mqtt_broker_publish.specs.declared.router.Routing.{Routing}

@@ -10,10 +10,10 @@ use Rattle.mqtt_routes.specs.Intended.{Answers, Copy, Publication}
 use Rattle.mqtt_routes.specs.Acceptance.{Routed, Served, copies_in, routed}
 use Rattle.mqtt_rules.specs.Deeds.{Message}
 use Rattle.mqtt_rules.specs.Contents.{of_rows}
-use Rattle.mqtt_rules.proofs.ContentCopies.{routed_identified}
-use Rattle.mqtt_rules.proofs.ContentCopies as copies
-use Rattle.mqtt_rules.proofs.Copies.{each_append}
-use Rattle.mqtt_rules.proofs.SpelledContents.{copy_spelled, rows_are}
+use Rattle.mqtt_rules.proofs.contents.ContentCopies.{routed_identified}
+use Rattle.mqtt_rules.proofs.contents.ContentCopies as copies
+use Rattle.mqtt_rules.proofs.numbers.Copies.{each_append}
+use Rattle.mqtt_rules.proofs.contents.SpelledContents.{copy_spelled, rows_are}
 use Rattle.mqtt_broker_publish.specs.Choosing.{IsLawfulMessage}
 use Rattle.mqtt_broker_index.specs.Indexing.{IsLawful, all_copied, copied, served_copied}
 

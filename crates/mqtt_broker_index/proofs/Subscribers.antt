@@ -10,7 +10,7 @@ use Rattle.mqtt_routes.specs.Subscriptions.{Subscriber, subscriber, AreAfter, Ar
 use Rattle.mqtt_records_rows.specs.Order.{IsAbove, IsAscending, row_at, has_row, insert_row, put_row, remove_row, change_row}
 use Rattle.mqtt_records_rows.proofs.OrderLemmas.{apart, above_less, above_none, remove-none, change-none}
 use Rattle.mqtt_rules.specs.Routing.{subscriber_of}
-use Rattle.mqtt_rules.proofs.FlightRows.{above_found}
+use Rattle.mqtt_rules.proofs.flight.FlightRows.{above_found}
 use Rattle.mqtt_broker_step.specs.Subscribing.{HasEachFilterOnce}
 use Rattle.mqtt_broker_index.proofs.Granting.{routed_all, same_without}
 

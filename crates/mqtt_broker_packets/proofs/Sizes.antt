@@ -13,8 +13,8 @@ use Rattle.mqtt_props.specs.Properties.{Value, Byte, U16, U32, VarInt, Text, Bin
 use Rattle.mqtt_props.specs.Laws.{is_named}
 use Rattle.mqtt_props.specs.Edits.{only, without}
 use Rattle.mqtt_records_message.specs.PassedOn.{aged, identified, sent_after}
-use Rattle.mqtt_rules.proofs.PassedContents.{props_append}
-use Rattle.mqtt_rules.proofs.CopySizes.{all_aged}
+use Rattle.mqtt_rules.proofs.contents.PassedContents.{props_append}
+use Rattle.mqtt_rules.proofs.contents.CopySizes.{all_aged}
 
 -- ---- sums
 

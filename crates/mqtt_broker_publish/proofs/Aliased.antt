@@ -11,7 +11,7 @@ use Rattle.mqtt_records.specs.declared.session.Session.{Session}
 use Rattle.mqtt_rules.specs.State.{Broker, Line, Env, MemberChoice}
 use Rattle.mqtt_rules.specs.Deeds.{Act, always, series, then}
 use Rattle.mqtt_rules.specs.Inbound.{Means, meaning, message_of, on_publish, publish_by, publish_meant, resolved, sets_alias, standing}
-use Rattle.mqtt_rules.proofs.Meanings.{identified_only, resolved_only}
+use Rattle.mqtt_rules.proofs.acts.Meanings.{identified_only, resolved_only}
 use Rattle.mqtt_broker_step.specs.declared.fault.StepFault.{StepFault}
 use Rattle.mqtt_broker_step.specs.Stepping.{Stepping, did, Did, IsLeft, env_in}
 use Rattle.mqtt_broker_step.proofs.Doing.{did_none}

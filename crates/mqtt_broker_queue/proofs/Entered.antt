@@ -22,9 +22,9 @@ use Rattle.mqtt_rules.specs.declared.Limits.{Limits}
 use Rattle.mqtt_rules.specs.State.{Broker, Env, entry_on, session_at, queue_on}
 use Rattle.mqtt_rules.specs.Deeds.{Act, Deed, At, Enter, Leave, whose, then, always, of_session, with_session, after_all}
 use Rattle.mqtt_rules.specs.Outbound.{of_entry, leave_deeds, all_turn_deeds, enter_deeds, first_given, queue_limits, room, since}
-use Rattle.mqtt_rules.proofs.Goods.{after_append}
-use Rattle.mqtt_rules.proofs.LookedUp.{client_at_part}
-use Rattle.mqtt_rules.proofs.OrderedQueues.{length-mapped}
+use Rattle.mqtt_rules.proofs.acts.Goods.{after_append}
+use Rattle.mqtt_rules.proofs.acts.LookedUp.{client_at_part}
+use Rattle.mqtt_rules.proofs.order.OrderedQueues.{length-mapped}
 use Rattle.mqtt_broker_step.specs.declared.fault.StepFault.{StepFault}
 use Rattle.mqtt_broker_step.specs.Stepping.{Stepping, Did, Does, IsLeft, Leaves, env_in, to_session}
 use Rattle.mqtt_broker_step.proofs.Doing.{found_birth}

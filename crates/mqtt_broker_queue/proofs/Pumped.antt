@@ -17,7 +17,7 @@ use Rattle.mqtt_rules.specs.Inbound.{pump_deeds}
 use Rattle.mqtt_rules.specs.State.{Line, Broker, session_at, line_at, queue_on}
 use Rattle.mqtt_rules.specs.Step.{on_pump}
 use Rattle.mqtt_rules.specs.Tick.{lapse_deeds}
-use Rattle.mqtt_rules.proofs.Turns.{Rises}
+use Rattle.mqtt_rules.proofs.fit.Turns.{Rises}
 use Rattle.mqtt_broker_step.specs.Lines.{line_number}
 use Rattle.mqtt_broker_queue.specs.Turning.{takes_turns, pumps, lapses_of}
 

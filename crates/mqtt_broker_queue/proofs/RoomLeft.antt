@@ -21,11 +21,11 @@ use Rattle.mqtt_rules.specs.State.{Broker, Env, session_at, entry_on, queue_on, 
 use Rattle.mqtt_rules.specs.Deeds.{At, Enter, whose, after, after_all, part_rows_of, new_entry}
 use Rattle.mqtt_rules.specs.Laws.{HasEntered}
 use Rattle.mqtt_rules.specs.Outbound.{leave_deeds, enter_deeds, first_given, queue_limits, room, since}
-use Rattle.mqtt_rules.proofs.FlightRows.{found_key}
-use Rattle.mqtt_rules.proofs.Goods.{after_append}
-use Rattle.mqtt_rules.proofs.NumberBirths.{below_none}
-use Rattle.mqtt_rules.proofs.OrderedEnters.{change_here, change_other, new_of, leave_found}
-use Rattle.mqtt_rules.proofs.OrderedQueues.{GivesWay, below_own, dropped_gives, first_place, leaving, leaving_flow, length-append_one, length-mapped, stay, stay_is, stay_more}
+use Rattle.mqtt_rules.proofs.flight.FlightRows.{found_key}
+use Rattle.mqtt_rules.proofs.acts.Goods.{after_append}
+use Rattle.mqtt_rules.proofs.numbers.NumberBirths.{below_none}
+use Rattle.mqtt_rules.proofs.order.OrderedEnters.{change_here, change_other, new_of, leave_found}
+use Rattle.mqtt_rules.proofs.order.OrderedQueues.{GivesWay, below_own, dropped_gives, first_place, leaving, leaving_flow, length-append_one, length-mapped, stay, stay_is, stay_more}
 
 -- ---- the copies that make way leave
 

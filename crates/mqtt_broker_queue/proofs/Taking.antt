@@ -14,14 +14,14 @@ use Rattle.mqtt_rules.specs.State.{Broker, session_at}
 use Rattle.mqtt_rules.specs.Deeds.{Deed, Whose, At, Mark, Leave, On, Went, Send, whose, always, with_session, after_all}
 use Rattle.mqtt_rules.specs.Outbound.{of_entry, turn_deeds, all_turn_deeds}
 use Rattle.mqtt_rules.specs.Packets.{publish_of, pubrel}
-use Rattle.mqtt_rules.proofs.LookedUp.{client_at_part}
-use Rattle.mqtt_rules.proofs.Turns.{IsStill, Rises, still_now, stands_turn}
+use Rattle.mqtt_rules.proofs.acts.LookedUp.{client_at_part}
+use Rattle.mqtt_rules.proofs.fit.Turns.{IsStill, Rises, still_now, stands_turn}
 use Rattle.mqtt_broker_step.specs.declared.fault.StepFault.{StepFault}
 use Rattle.mqtt_broker_step.specs.Stepping.{Stepping, did, Did, IsLeft}
 use Rattle.mqtt_broker_step.proofs.Doing.{did_none, found_birth}
 use Rattle.mqtt_broker_queue.specs.Turning.{takes_turn, takes_turns}
 use Rattle.mqtt_broker_step.proofs.Then.{same_act, same_left, did_then, left_first, left_then}
-use Rattle.mqtt_rules.proofs.NumberFacts.{now_stays}
+use Rattle.mqtt_rules.proofs.numbers.NumberFacts.{now_stays}
 use Rattle.mqtt_broker_step.proofs.Journal.{two}
 
 some_is : {X : Type 0} (x y : X) → Some x ≡ Some y → x ≡ y

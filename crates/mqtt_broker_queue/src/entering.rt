@@ -7,7 +7,7 @@ ghost use Rattle.mqtt_records.specs.declared.session.Session.{Session};
 ghost use Rattle.mqtt_records.specs.Session.{copy_place};
 ghost use Rattle.mqtt_routes.specs.Intended.{greatest};
 ghost use Rattle.mqtt_records_rows.specs.Order.{IsTable};
-ghost use Rattle.mqtt_rules.proofs.Turns.{Rises};
+ghost use Rattle.mqtt_rules.proofs.fit.Turns.{Rises};
 ghost use Rattle.mqtt_rules.specs.Deeds.{always, of_session};
 ghost use Rattle.mqtt_rules.specs.Outbound.{enter_deeds, is_new, queue_limits, room, since};
 ghost use Rattle.mqtt_rules.specs.State.{Env, MemberChoice, queue_on, session_at};

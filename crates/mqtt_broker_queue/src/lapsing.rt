@@ -1,7 +1,7 @@
 //! Copies that expire (MQTT 5.0, 3.3.2.3.3).
 ghost use Rattle.std.specs.Prelude.{◌≡◌, [], IfOk, OnOk, IfErr};
 ghost use Rattle.mqtt_flow.specs.Outbound.{expired};
-ghost use Rattle.mqtt_rules.proofs.Turns.{Rises};
+ghost use Rattle.mqtt_rules.proofs.fit.Turns.{Rises};
 ghost use Rattle.mqtt_rules.specs.State.{queue_on};
 ghost use Rattle.mqtt_broker_step.specs.Stepping.{Did, IsLeft};
 ghost use Rattle.mqtt_broker_queue.specs.Turning.{lapses_of};

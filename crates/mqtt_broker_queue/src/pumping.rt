@@ -2,7 +2,7 @@
 ghost use Rattle.std.specs.Prelude.{◌≡◌, ◌≤◌, ℕ, [], length, count_by, filter_map, IfOk, OnOk, IfErr};
 ghost use Rattle.mqtt_flow.specs.Outbound.{pump};
 ghost use Rattle.mqtt_flow.specs.Queue.{greatest_order};
-ghost use Rattle.mqtt_rules.proofs.Turns.{Rises};
+ghost use Rattle.mqtt_rules.proofs.fit.Turns.{Rises};
 ghost use Rattle.mqtt_rules.specs.Outbound.{all_turn_deeds};
 ghost use Rattle.mqtt_rules.specs.State.{queue_on};
 ghost use Rattle.mqtt_rules.specs.Step.{Pump, is_again, publish_out};

@@ -1,7 +1,7 @@
 //! Turns of a session, one after the other (MQTT 5.0, 4.6, 4.9).
 ghost use Rattle.std.specs.Prelude.{◌≡◌, Some, OnOk, IfErr};
 ghost use Rattle.mqtt_records.specs.declared.session.Session.{Session};
-ghost use Rattle.mqtt_rules.proofs.Turns.{Rises};
+ghost use Rattle.mqtt_rules.proofs.fit.Turns.{Rises};
 ghost use Rattle.mqtt_rules.specs.State.{session_at};
 ghost use Rattle.mqtt_broker_step.specs.Stepping.{Did, IsLeft};
 ghost use Rattle.mqtt_broker_queue.specs.Turning.{takes_turns};

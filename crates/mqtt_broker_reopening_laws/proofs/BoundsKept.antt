@@ -18,10 +18,10 @@ use Rattle.mqtt_rules.specs.Laws.{AreWithin, IsCoherent}
 use Rattle.mqtt_rules.specs.Numbers.{IsTimed}
 use Rattle.mqtt_rules.specs.State.{Broker, MemberChoice, stored}
 use Rattle.mqtt_rules.specs.Step.{Call, at_moment, deeds, is_opening_spent, is_step_spent, opened, opening_deeds, rows_written, stepped, unopened}
-use Rattle.mqtt_rules.proofs.Copies.{each_filter}
-use Rattle.mqtt_rules.proofs.FlightRows.{all_put, all_changed}
-use Rattle.mqtt_rules.proofs.RowsFit.{opening_fits, step_fits}
-use Rattle.mqtt_rules.proofs.StoredLaw.{rows_store}
+use Rattle.mqtt_rules.proofs.numbers.Copies.{each_filter}
+use Rattle.mqtt_rules.proofs.flight.FlightRows.{all_put, all_changed}
+use Rattle.mqtt_rules.proofs.fit.RowsFit.{opening_fits, step_fits}
+use Rattle.mqtt_rules.proofs.fit.StoredLaw.{rows_store}
 use Rattle.mqtt_broker_reopening_laws.specs.Bounds.{HasBounds, HaveBounds, IsBoundCopy}
 use Rattle.mqtt_broker_reopening_laws.proofs.EachSession.{change_each}
 

@@ -32,17 +32,17 @@ use Rattle.mqtt_rules.specs.Routing.{CopyTo, accepted_copies, accepted_if, answe
 use Rattle.mqtt_rules.specs.State.{Broker, Env, Line, MemberChoice, line_of, queue_on, session_at, stored}
 use Rattle.mqtt_rules.specs.Step.{Call, at_moment, deeds, deeds_of, env_of, opened, opening, stepped, unopened, with_moment}
 use Rattle.mqtt_rules.specs.Subscribe as sub
-use Rattle.mqtt_rules.proofs.Acts.{brought_to}
-use Rattle.mqtt_rules.proofs.Copies.{IsNumbered, Kinds, kinds_at, each_filter, each_map, each_more, routed_numbered}
-use Rattle.mqtt_rules.proofs.Goods.{AreGood}
-use Rattle.mqtt_rules.proofs.Leads.{leads_append, leads_cond, leads_flat, leads_of_entry, leads_with_session}
-use Rattle.mqtt_rules.proofs.OrderedActs.{IsPlain, Keeping, leads_all, leads_open}
+use Rattle.mqtt_rules.proofs.acts.Acts.{brought_to}
+use Rattle.mqtt_rules.proofs.numbers.Copies.{IsNumbered, Kinds, kinds_at, each_filter, each_map, each_more, routed_numbered}
+use Rattle.mqtt_rules.proofs.acts.Goods.{AreGood}
+use Rattle.mqtt_rules.proofs.acts.Leads.{leads_append, leads_cond, leads_flat, leads_of_entry, leads_with_session}
+use Rattle.mqtt_rules.proofs.order.OrderedActs.{IsPlain, Keeping, leads_all, leads_open}
 use Rattle.mqtt_broker_reopening_laws.specs.Identities.{HasIdentities, HaveIdentities, IsGivenCause, IsGivenCopy}
 use Rattle.mqtt_broker_reopening_laws.proofs.CopiesKept.{Good, IsAbsent, IsAbsentIn, IsNewCopy, IsOfGroup, Keeps, Led, Stays, filters_in, filters_of, id_in, kept, more, one, quiet_deeds, quiet_deliver, quiet_leaves}
 use Rattle.mqtt_broker_reopening_laws.proofs.EachSession.{deed_each}
-use Rattle.mqtt_world_acceptance_laws.proofs.CopiesApart.{births_ascend, brought_differ}
-use Rattle.mqtt_world_acceptance_laws.proofs.Differ.{differ_filtered}
-use Rattle.mqtt_world_acceptance_laws.proofs.RoutedApart.{AreStanding, IsApart, IsCauseOf, copies_caused, copies_differ, id_to, ids_to, routed_apart}
+use Rattle.mqtt_world_acceptance_laws.proofs.copies.CopiesApart.{births_ascend, brought_differ}
+use Rattle.mqtt_world_acceptance_laws.proofs.copies.Differ.{differ_filtered}
+use Rattle.mqtt_world_acceptance_laws.proofs.copies.RoutedApart.{AreStanding, IsApart, IsCauseOf, copies_caused, copies_differ, id_to, ids_to, routed_apart}
 
 -- ---- a copy enters, and those of a publication, one after the other
 

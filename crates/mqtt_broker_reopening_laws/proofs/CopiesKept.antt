@@ -28,16 +28,16 @@ use Rattle.mqtt_rules.specs.Outbound.{enter_deeds, leave_deeds, queue_limits, si
 use Rattle.mqtt_rules.specs.Packets.{publish_of}
 use Rattle.mqtt_rules.specs.Routing.{CopyTo, deliver, deliver_by, is_queued}
 use Rattle.mqtt_rules.specs.State.{Broker, Env, Line, line_of, queue_on, session_at}
-use Rattle.mqtt_rules.proofs.Copies.{Kinds, each_filter, each_more, kinds_at}
-use Rattle.mqtt_rules.proofs.Goods.{AreGood, good_append, good_cond, good_flat, good_of_entry, good_with_session}
-use Rattle.mqtt_rules.proofs.Leads.{Leads, leads_append}
-use Rattle.mqtt_rules.proofs.FlightRows.{all_put, all_changed}
-use Rattle.mqtt_rules.proofs.NumberFacts.{Counts, counts, counts_after, counts_deed}
-use Rattle.mqtt_rules.proofs.Ordered.{changed_all-ordered}
-use Rattle.mqtt_rules.proofs.OrderedActs.{IsPlain, IsPlainPart}
-use Rattle.mqtt_rules.proofs.OrderedRoom.{at_retained, begin_retained}
+use Rattle.mqtt_rules.proofs.numbers.Copies.{Kinds, each_filter, each_more, kinds_at}
+use Rattle.mqtt_rules.proofs.acts.Goods.{AreGood, good_append, good_cond, good_flat, good_of_entry, good_with_session}
+use Rattle.mqtt_rules.proofs.acts.Leads.{Leads, leads_append}
+use Rattle.mqtt_rules.proofs.flight.FlightRows.{all_put, all_changed}
+use Rattle.mqtt_rules.proofs.numbers.NumberFacts.{Counts, counts, counts_after, counts_deed}
+use Rattle.mqtt_rules.proofs.order.Ordered.{changed_all-ordered}
+use Rattle.mqtt_rules.proofs.order.OrderedActs.{IsPlain, IsPlainPart}
+use Rattle.mqtt_rules.proofs.order.OrderedRoom.{at_retained, begin_retained}
 use Rattle.mqtt_broker_reopening_laws.specs.Identities.{HasIdentities, HaveIdentities, IsGivenCause, IsGivenCopy}
-use Rattle.mqtt_world_acceptance_laws.proofs.Differ.{differ_filtered, put_differ}
+use Rattle.mqtt_world_acceptance_laws.proofs.copies.Differ.{differ_filtered, put_differ}
 use Rattle.mqtt_broker_reopening_laws.proofs.Differ.{given_same}
 use Rattle.mqtt_broker_reopening_laws.proofs.EachSession.{Makes, deed_each, part_made}
 

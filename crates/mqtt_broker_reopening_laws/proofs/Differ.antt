@@ -6,9 +6,9 @@ use Rattle.std.proofs.lemmas.Bool.{cases_Bool}
 use Rattle.mqtt_records_rows.specs.Distinct.{AllDiffer}
 use Rattle.mqtt_records_rows.specs.Order.{IsAbove, IsAscending, row_at, has_row, insert_row, put_row, change_row}
 use Rattle.mqtt_rules.specs.Laws.{IsAmong}
-use Rattle.mqtt_world_acceptance_laws.proofs.Differ.{AreApart, differ_join}
-use Rattle.mqtt_rules.proofs.Copies.{each_append, each_filter, each_more}
-use Rattle.mqtt_rules.proofs.FitLaw.{all_among}
+use Rattle.mqtt_world_acceptance_laws.proofs.copies.Differ.{AreApart, differ_join}
+use Rattle.mqtt_rules.proofs.numbers.Copies.{each_append, each_filter, each_more}
+use Rattle.mqtt_rules.proofs.fit.FitLaw.{all_among}
 
 pub each_among : {X : Type 0} (P : X → Type 0) (xs : List X) → ((x : X) → IsAmong x xs → P x) → AllByRecursion P xs
 each_among P [] h = tt

@@ -14,9 +14,9 @@ use Rattle.mqtt_records.specs.Session.{birth_of, columns_of, fresh, with_columns
 use Rattle.mqtt_records_rows.specs.Order.{has_row, put_row, change_row}
 use Rattle.mqtt_rules.specs.State.{Broker, session_at}
 use Rattle.mqtt_rules.specs.Deeds.{Part, Resume, Close, SetExpiry, DropWill, Subscribe, Unsubscribe, Open, Release, Enter, Mark, Leave, Deed, Accept, Begin, Name, Count, At, Finish, Keep, Forget, RefuseWill, Link, On, Send, Gone, new_entry, part_rows, part_rows_of, after}
-use Rattle.mqtt_rules.proofs.Copies.{each_filter, each_more}
-use Rattle.mqtt_rules.proofs.FlightRows.{all_put, all_changed}
-use Rattle.mqtt_rules.proofs.OrderedRoom.{at_retained, begin_retained}
+use Rattle.mqtt_rules.proofs.numbers.Copies.{each_filter, each_more}
+use Rattle.mqtt_rules.proofs.flight.FlightRows.{all_put, all_changed}
+use Rattle.mqtt_rules.proofs.order.OrderedRoom.{at_retained, begin_retained}
 
 -- what a part makes of a session; s is the one that was found
 abbrev pub part_made : Part → Session → Session → Session

@@ -25,11 +25,11 @@ use Rattle.mqtt_rules.specs.Contents.{HasContentsOf, HasLawfulContentsOf, IsAske
 use Rattle.mqtt_rules.specs.Flight.{HasDistinctIdentifiers, IsFlight, identifier_at, identifier_in}
 use Rattle.mqtt_rules.specs.Laws.{HasTables, IsAmong, IsCoherent, IsUnique}
 use Rattle.mqtt_rules.specs.Routing.{is_queued_at}
-use Rattle.mqtt_rules.proofs.Copies.{each_map, each_more}
-use Rattle.mqtt_rules.proofs.FitLaw.{all_among}
-use Rattle.mqtt_rules.proofs.FlightRows.{above_found, all_found, found_behind}
-use Rattle.mqtt_rules.proofs.LawfulRecords.{lawful_coherent}
-use Rattle.mqtt_rules.proofs.SpelledContents.{copy_message, retained_message, will_message}
+use Rattle.mqtt_rules.proofs.numbers.Copies.{each_map, each_more}
+use Rattle.mqtt_rules.proofs.fit.FitLaw.{all_among}
+use Rattle.mqtt_rules.proofs.flight.FlightRows.{above_found, all_found, found_behind}
+use Rattle.mqtt_rules.proofs.fit.LawfulRecords.{lawful_coherent}
+use Rattle.mqtt_rules.proofs.contents.SpelledContents.{copy_message, retained_message, will_message}
 use Rattle.mqtt_broker_step.specs.Subscribing.{HasEachFilterOnce, HaveFiltersOnce}
 use Rattle.mqtt_broker_calls.proofs.Flights.{lawful_flight}
 use Rattle.mqtt_broker_reopening_laws.specs.Bounds.{HasBounds, HaveBounds, IsBoundCopy}

@@ -21,14 +21,14 @@ use Rattle.mqtt_rules.specs.Connect.{has_bad_topic, largest_of, least_packet_siz
 use Rattle.mqtt_rules.specs.Deeds.{Whose, Part, Resume, Close, SetExpiry, DropWill, Subscribe, Unsubscribe, Open, Release, Enter, Mark, Leave, Deed, Accept, Begin, Name, Count, At, Finish, Keep, Forget, RefuseWill, Link, On, Send, Gone, after, after_all, rows_of_all}
 use Rattle.mqtt_rules.specs.State.{Broker, Env, MemberChoice, session_named, stored}
 use Rattle.mqtt_rules.specs.Step.{Call, at_moment, deeds, env_of, opened, opening, stepped, unopened, with_moment, NewLine, Input, BadInput, Lost, Pump, Tick}
-use Rattle.mqtt_rules.proofs.Acts.{About, Law, anyone, leads_call, leads_opening, IsCallOf}
-use Rattle.mqtt_rules.proofs.ByDeeds.{DeedLaw, MarkLaw, by_deeds, by_deeds_shuts, turn_law}
-use Rattle.mqtt_rules.proofs.Copies.{each_more}
-use Rattle.mqtt_rules.proofs.FitLaw.{all_among}
-use Rattle.mqtt_rules.proofs.FlightRows.{all_at}
-use Rattle.mqtt_rules.proofs.Leads.{found_among, found_passes}
-use Rattle.mqtt_rules.proofs.Names.{unfront}
-use Rattle.mqtt_rules.proofs.NumberFacts.{Counts, counts, counts_after, counts_deed}
+use Rattle.mqtt_rules.proofs.acts.Acts.{About, Law, anyone, leads_call, leads_opening, IsCallOf}
+use Rattle.mqtt_rules.proofs.acts.ByDeeds.{DeedLaw, MarkLaw, by_deeds, by_deeds_shuts, turn_law}
+use Rattle.mqtt_rules.proofs.numbers.Copies.{each_more}
+use Rattle.mqtt_rules.proofs.fit.FitLaw.{all_among}
+use Rattle.mqtt_rules.proofs.flight.FlightRows.{all_at}
+use Rattle.mqtt_rules.proofs.acts.Leads.{found_among, found_passes}
+use Rattle.mqtt_rules.proofs.acts.Names.{unfront}
+use Rattle.mqtt_rules.proofs.numbers.NumberFacts.{Counts, counts, counts_after, counts_deed}
 use Rattle.mqtt_broker_reopening_laws.specs.Names.{AreNamed}
 use Rattle.mqtt_broker_reopening_laws.proofs.EachSession.{Makes, deed_each, part_made}
 

@@ -14,7 +14,7 @@ use Rattle.mqtt_records.specs.Session.{copy_place, in_phase}
 use Rattle.mqtt_records_rows.specs.Distinct.{AllDiffer}
 use Rattle.mqtt_records_rows.specs.Order.{has_row, insert_row, put_row, change_row}
 use Rattle.mqtt_rules.specs.State.{entry_on}
-use Rattle.mqtt_rules.proofs.Copies.{each_more}
+use Rattle.mqtt_rules.proofs.numbers.Copies.{each_more}
 
 -- ---- the orders of a queue, copy by copy
 

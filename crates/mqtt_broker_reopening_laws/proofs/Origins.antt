@@ -26,11 +26,11 @@ use Rattle.mqtt_rules.specs.Routing.{CopyTo, deliver, deliver_by, forgets, is_qu
 use Rattle.mqtt_rules.specs.State.{Broker, Env, Line, line_of, queue_on, session_at}
 use Rattle.mqtt_rules.specs.Step.{Call, deeds_of, opening}
 use Rattle.mqtt_rules.specs.Subscribe as sub
-use Rattle.mqtt_rules.proofs.Acts.{brought_to}
-use Rattle.mqtt_rules.proofs.Copies.{each_append, each_more}
-use Rattle.mqtt_rules.proofs.Goods.{AreGood}
-use Rattle.mqtt_world_acceptance_laws.proofs.EachAct.{Came, Says, call_says, opening_says}
-use Rattle.mqtt_world_acceptance_laws.proofs.Entering.{AreCalm, IsCalm, calm_forgets, calm_leaves, calm_offer}
+use Rattle.mqtt_rules.proofs.acts.Acts.{brought_to}
+use Rattle.mqtt_rules.proofs.numbers.Copies.{each_append, each_more}
+use Rattle.mqtt_rules.proofs.acts.Goods.{AreGood}
+use Rattle.mqtt_world_acceptance_laws.proofs.copies.EachAct.{Came, Says, call_says, opening_says}
+use Rattle.mqtt_world_acceptance_laws.proofs.copies.Entering.{AreCalm, IsCalm, calm_forgets, calm_leaves, calm_offer}
 
 -- what is opened, what is subscribed, and who begins
 abbrev pub IsFrom : Deed → Type 0

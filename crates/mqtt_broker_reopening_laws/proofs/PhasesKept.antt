@@ -39,13 +39,13 @@ use Rattle.mqtt_rules.specs.Routing.{publish}
 use Rattle.mqtt_rules.specs.State.{Broker, Env, Line, MemberChoice, entry_on, queue_on, session_at, stored}
 use Rattle.mqtt_rules.specs.Step.{Call, at_moment, deeds, env_of, opened, opening, stepped, unopened, with_moment}
 use Rattle.mqtt_rules.specs.Subscribe.{next_number, subscription}
-use Rattle.mqtt_rules.proofs.Acts.{IsAnswer, Law, anyone, call_of_anyone, finds_anyone, is_alone, leads_call, leads_opening}
-use Rattle.mqtt_rules.proofs.ByDeeds.{DeedLaw, TurnLaw, by_ends}
-use Rattle.mqtt_rules.proofs.Copies.{each_filter, each_more}
-use Rattle.mqtt_rules.proofs.FlightRows.{all_at, all_changed_at, all_found, change_row-here, change_row-other, found_behind, found_key, all_put}
-use Rattle.mqtt_rules.proofs.Goods.{after_append}
-use Rattle.mqtt_rules.proofs.Leads.{leads_end}
-use Rattle.mqtt_rules.proofs.Ordered.{changed_all-ordered}
+use Rattle.mqtt_rules.proofs.acts.Acts.{IsAnswer, Law, anyone, call_of_anyone, finds_anyone, is_alone, leads_call, leads_opening}
+use Rattle.mqtt_rules.proofs.acts.ByDeeds.{DeedLaw, TurnLaw, by_ends}
+use Rattle.mqtt_rules.proofs.numbers.Copies.{each_filter, each_more}
+use Rattle.mqtt_rules.proofs.flight.FlightRows.{all_at, all_changed_at, all_found, change_row-here, change_row-other, found_behind, found_key, all_put}
+use Rattle.mqtt_rules.proofs.acts.Goods.{after_append}
+use Rattle.mqtt_rules.proofs.acts.Leads.{leads_end}
+use Rattle.mqtt_rules.proofs.order.Ordered.{changed_all-ordered}
 use Rattle.mqtt_broker_reopening_laws.specs.Phases.{HasItsPhase, HasPhases, HavePhases, IsPhaseOf}
 use Rattle.mqtt_broker_reopening_laws.proofs.EachSession.{Makes, deed_each, part_made}
 use Rattle.mqtt_broker_reopening_laws.proofs.Orders.{HasOrdersUpTo, left_differ, marked_differ, orders, orders_are, orders_known, phase_fresh, put_differ}

@@ -21,13 +21,13 @@ use Rattle.mqtt_rules.specs.Laws.{IsAmong}
 use Rattle.mqtt_rules.specs.State.{Broker, Env, MemberChoice, session_at, stored}
 use Rattle.mqtt_rules.specs.Step.{Call, at_moment, deeds, done, env_of, opened, opening, stepped, unopened, with_moment}
 use Rattle.mqtt_rules.specs.Subscribe as sub
-use Rattle.mqtt_rules.proofs.Acts.{anyone, finds_anyone, is_alone, IsGranted}
-use Rattle.mqtt_rules.proofs.ByDeeds.{DeedLaw, MarkLaw, leads_deeds, leads_opened}
-use Rattle.mqtt_rules.proofs.Copies.{each_filter, each_map, each_more}
-use Rattle.mqtt_rules.proofs.FlightRows.{all_at, found_key, all_put}
-use Rattle.mqtt_rules.proofs.Leads.{found_among}
-use Rattle.mqtt_rules.proofs.NumberFacts.{Counts, counts, counts_after, counts_deed}
-use Rattle.mqtt_rules.proofs.Ordered.{changed_all-ordered}
+use Rattle.mqtt_rules.proofs.acts.Acts.{anyone, finds_anyone, is_alone, IsGranted}
+use Rattle.mqtt_rules.proofs.acts.ByDeeds.{DeedLaw, MarkLaw, leads_deeds, leads_opened}
+use Rattle.mqtt_rules.proofs.numbers.Copies.{each_filter, each_map, each_more}
+use Rattle.mqtt_rules.proofs.flight.FlightRows.{all_at, found_key, all_put}
+use Rattle.mqtt_rules.proofs.acts.Leads.{found_among}
+use Rattle.mqtt_rules.proofs.numbers.NumberFacts.{Counts, counts, counts_after, counts_deed}
+use Rattle.mqtt_rules.proofs.order.Ordered.{changed_all-ordered}
 use Rattle.mqtt_broker_reopening_laws.specs.Places.{HasPlacesUpTo, HavePlacesApart, places_in}
 use Rattle.mqtt_broker_reopening_laws.proofs.Differ.{IsOwn, ascending_differ, change_differs, each_given, filter_differs, given_same, put_differs}
 use Rattle.mqtt_broker_reopening_laws.proofs.EachSession.{Makes, deed_each, part_made}

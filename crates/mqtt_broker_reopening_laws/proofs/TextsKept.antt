@@ -19,10 +19,10 @@ use Rattle.mqtt_rules.specs.Contents.{TakesLawful}
 use Rattle.mqtt_rules.specs.Deeds.{Whose, Part, Resume, Close, SetExpiry, DropWill, Subscribe, Unsubscribe, Open, Release, Enter, Mark, Leave, Deed, Accept, Begin, Name, Count, At, Finish, Keep, Forget, RefuseWill, Link, On, Send, Gone, after, after_all, new_entry, rows_of_all}
 use Rattle.mqtt_rules.specs.State.{Broker, MemberChoice, stored}
 use Rattle.mqtt_rules.specs.Step.{Call, at_moment, deeds, env_of, opened, opening, stepped, unopened, with_moment}
-use Rattle.mqtt_rules.proofs.Copies.{each_filter, each_map, each_more}
-use Rattle.mqtt_rules.proofs.FitLaw.{all_among}
-use Rattle.mqtt_rules.proofs.FlightRows.{all_at, all_changed, all_put}
-use Rattle.mqtt_rules.proofs.Goods.{AreGood}
+use Rattle.mqtt_rules.proofs.numbers.Copies.{each_filter, each_map, each_more}
+use Rattle.mqtt_rules.proofs.fit.FitLaw.{all_among}
+use Rattle.mqtt_rules.proofs.flight.FlightRows.{all_at, all_changed, all_put}
+use Rattle.mqtt_rules.proofs.acts.Goods.{AreGood}
 use Rattle.mqtt_topic.proofs.MatchLemmas.{and_both}
 use Rattle.mqtt_broker_reopening_laws.specs.Identities.{HaveIdentities}
 use Rattle.mqtt_broker_reopening_laws.specs.Texts.{HasFilter, HasTexts, HaveTexts, IsGroupOf}
@@ -31,7 +31,7 @@ use Rattle.mqtt_broker_reopening_laws.proofs.CopiesKept.{Good, IsOfGroup, filter
 use Rattle.mqtt_broker_reopening_laws.proofs.Differ.{each_given}
 use Rattle.mqtt_broker_reopening_laws.proofs.EachSession.{Makes, deed_each, part_made}
 use Rattle.mqtt_broker_reopening_laws.proofs.Origins.{IsFrom, from_call, from_good, from_opening}
-use Rattle.mqtt_world_acceptance_laws.proofs.Shares.{share_whole}
+use Rattle.mqtt_world_acceptance_laws.proofs.copies.Shares.{share_whole}
 
 -- ---- groups of filters that stand
 

@@ -21,13 +21,13 @@ use Rattle.mqtt_rules.specs.Routing.{place_of_kept, retained_of}
 use Rattle.mqtt_rules.specs.State.{Broker, Env, MemberChoice, capped, stored}
 use Rattle.mqtt_rules.specs.Step.{Call, at_moment, deeds, done, env_of, opened, opening, stepped, unopened, with_moment}
 use Rattle.mqtt_rules.specs.Subscribe as sub
-use Rattle.mqtt_rules.proofs.Acts.{anyone, finds_anyone, is_alone, IsGranted}
-use Rattle.mqtt_rules.proofs.ByDeeds.{DeedLaw, MarkLaw, leads_deeds, leads_opened}
-use Rattle.mqtt_rules.proofs.Copies.{IsMade, IsOf, each_filter, each_more}
-use Rattle.mqtt_rules.proofs.FitLaw.{all_among}
-use Rattle.mqtt_rules.proofs.FlightRows.{all_at, all_put, all_changed}
-use Rattle.mqtt_rules.proofs.Leads.{found_among}
-use Rattle.mqtt_rules.proofs.StoredLaw.{stored_after_all}
+use Rattle.mqtt_rules.proofs.acts.Acts.{anyone, finds_anyone, is_alone, IsGranted}
+use Rattle.mqtt_rules.proofs.acts.ByDeeds.{DeedLaw, MarkLaw, leads_deeds, leads_opened}
+use Rattle.mqtt_rules.proofs.numbers.Copies.{IsMade, IsOf, each_filter, each_more}
+use Rattle.mqtt_rules.proofs.fit.FitLaw.{all_among}
+use Rattle.mqtt_rules.proofs.flight.FlightRows.{all_at, all_put, all_changed}
+use Rattle.mqtt_rules.proofs.acts.Leads.{found_among}
+use Rattle.mqtt_rules.proofs.fit.StoredLaw.{stored_after_all}
 use Rattle.mqtt_broker_reopening_laws.specs.Times.{AreTimely, IsTimely, IsTimelyCopy, IsTimelyKept}
 use Rattle.mqtt_broker_reopening_laws.proofs.EachSession.{Keeps, Makes, deed_each, deed_kept, part_made}
 

@@ -14,8 +14,8 @@ use Rattle.mqtt_records.specs.declared.session.Session.{Session}
 use Rattle.mqtt_records_rows.specs.Order.{IsAbove, IsAscending}
 use Rattle.mqtt_world_model.specs.Laws.{count_of, standing_in}
 use Rattle.mqtt_world_acceptance_laws.specs.Identities.{TellsApart, is_ahead}
-use Rattle.mqtt_world_acceptance_laws.proofs.Counting.{count_append}
-use Rattle.mqtt_world_acceptance_laws.proofs.Told.{count_none, count_once}
+use Rattle.mqtt_world_acceptance_laws.proofs.copies.Counting.{count_append}
+use Rattle.mqtt_world_acceptance_laws.proofs.copies.Told.{count_none, count_once}
 use Rattle.mqtt_broker_reopening_laws.specs.Bounds.{HasBounds, HaveBounds, IsBoundCopy}
 use Rattle.mqtt_broker_reopening_laws.specs.Identities.{HasIdentities, HaveIdentities, IsGivenCause, IsGivenCopy}
 

@@ -9,11 +9,11 @@ use Rattle.mqtt_rules.specs.Laws.{AreWithin, Event, Asked, Reopened, after_event
 use Rattle.mqtt_rules.specs.Numbers.{IsTimed}
 use Rattle.mqtt_rules.specs.State.{Broker, MemberChoice, stored}
 use Rattle.mqtt_rules.specs.Step.{Call, is_opening_spent, is_step_spent, opened, stepped}
-use Rattle.mqtt_rules.proofs.ContentLaw.{step_contents, opening_contents}
-use Rattle.mqtt_rules.proofs.FlightStep.{step_keeps, opening_keeps}
-use Rattle.mqtt_rules.proofs.NumberSteps.{step_timed, opening_timed}
-use Rattle.mqtt_rules.proofs.RowsFit.{opened_last, opening_coherent, step_coherent, step_last}
-use Rattle.mqtt_rules.proofs.SpelledContents.{packets_are}
+use Rattle.mqtt_rules.proofs.contents.ContentLaw.{step_contents, opening_contents}
+use Rattle.mqtt_rules.proofs.flight.FlightStep.{step_keeps, opening_keeps}
+use Rattle.mqtt_rules.proofs.numbers.NumberSteps.{step_timed, opening_timed}
+use Rattle.mqtt_rules.proofs.fit.RowsFit.{opened_last, opening_coherent, step_coherent, step_last}
+use Rattle.mqtt_rules.proofs.contents.SpelledContents.{packets_are}
 use Rattle.mqtt_broker_calls.specs.Sound.{IsSound}
 use Rattle.mqtt_broker_calls.proofs.Kept.{opening_filters, step_filters}
 use Rattle.mqtt_broker_reopening_laws.specs.Written.{AreFair, IsFair, IsWritten}

@@ -13,7 +13,7 @@ use Rattle.mqtt_rules.specs.declared.Report.{Report}
 use Rattle.mqtt_rules.specs.State.{Line, Broker, session_at}
 use Rattle.mqtt_rules.specs.Deeds.{Deed, Part, At, Act, whose, after, after_all, rows_of, rows_of_all, stored_after, lines_after, given_after, part_rows, part_rows_of, lines_at, part_report, with_session, always, series, output, closing, report}
 use Rattle.mqtt_rules.specs.Step.{is_spent}
-use Rattle.mqtt_rules.proofs.Goods.{after_append}
+use Rattle.mqtt_rules.proofs.acts.Goods.{after_append}
 use Rattle.mqtt_broker_step.specs.declared.fault.StepFault.{StepFault}
 use Rattle.mqtt_broker_step.specs.declared.fault.StepFault.TheVariants.{Memory, Spent}
 use Rattle.mqtt_broker_step.specs.Undoing.{with_change}

@@ -14,7 +14,7 @@ use Rattle.mqtt_records.specs.declared.subscription.Subscription.{Subscription}
 use Rattle.mqtt_records.specs.Session.{place_of, without_filter, put_subscription}
 use Rattle.mqtt_records_rows.specs.Order.{IsTable}
 use Rattle.mqtt_rules.specs.Subscribe.{is_to}
-use Rattle.mqtt_rules.proofs.FlightRows.{above_found, found_behind}
+use Rattle.mqtt_rules.proofs.flight.FlightRows.{above_found, found_behind}
 use Rattle.mqtt_broker_step.specs.Subscribing.{filter_of}
 use Rattle.mqtt_broker_step.proofs.Inverse.{removed_back, put_over}
 

@@ -17,8 +17,8 @@ use Rattle.mqtt_records.specs.declared.subscription.Subscription.{Subscription}
 use Rattle.mqtt_records.specs.Session.{birth_of, place_of, fresh, without_filter, with_columns, with_will, with_subscription, without_subscription, with_open, without_open, with_copy, with_phase, without_copy}
 use Rattle.mqtt_records.specs.Records.{changed, changed_all, put_session, with_counter}
 use Rattle.mqtt_rules.specs.Subscribe.{Wish, is_to, place_of as place_by, subscription}
-use Rattle.mqtt_rules.proofs.Copies.{each_filter}
-use Rattle.mqtt_rules.proofs.FlightRows.{all_put, all_changed}
+use Rattle.mqtt_rules.proofs.numbers.Copies.{each_filter}
+use Rattle.mqtt_rules.proofs.flight.FlightRows.{all_put, all_changed}
 use Rattle.mqtt_broker_step.specs.Subscribing.{filter_of, HasEachFilterOnce, HaveFiltersOnce, MaySubscribe}
 use Rattle.mqtt_broker_step.proofs.Filters.{text_same}
 

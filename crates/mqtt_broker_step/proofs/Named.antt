@@ -4,9 +4,9 @@ use Rattle.std.specs.Prelude.{bytes_eq, find, Some}
 use Rattle.mqtt_records.specs.declared.session.Session.{Session}
 use Rattle.mqtt_records.specs.Session.{birth_of}
 use Rattle.mqtt_records_rows.specs.Order.{IsAscending, row_at}
-use Rattle.mqtt_rules.proofs.FitLaw.{all_among}
-use Rattle.mqtt_rules.proofs.FlightRows.{all_found}
-use Rattle.mqtt_rules.proofs.Leads.{found_among}
+use Rattle.mqtt_rules.proofs.fit.FitLaw.{all_among}
+use Rattle.mqtt_rules.proofs.flight.FlightRows.{all_found}
+use Rattle.mqtt_rules.proofs.acts.Leads.{found_among}
 
 pub stands_by_birth : (client : List ℕ) (ss : List Session) (s : Session) → IsAscending birth_of ss → find (λ x. bytes_eq x.client client) ss ≡ Some s
     → row_at birth_of s.birth ss ≡ Some s

@@ -5,7 +5,7 @@ use Rattle.mqtt_base.specs.declared.limits.TheConstants.{LAST_NUMBER}
 use Rattle.mqtt_records.specs.declared.change.Change.{Change}
 use Rattle.mqtt_records.specs.Records.{changed}
 use Rattle.mqtt_rules.specs.Step.{is_spent, number_given}
-use Rattle.mqtt_rules.proofs.StoredLaw.{changed_all_append}
+use Rattle.mqtt_rules.proofs.fit.StoredLaw.{changed_all_append}
 use Rattle.mqtt_broker_step.specs.Undoing.{Changing, become, with_change}
 use Rattle.mqtt_broker_step.specs.Stepping.{IsStep}
 

@@ -6,7 +6,7 @@ use Rattle.mqtt_records.specs.declared.subscription.Subscription.{Subscription}
 use Rattle.mqtt_records.specs.Session.{birth_of}
 use Rattle.mqtt_rules.specs.State.{session_at}
 use Rattle.mqtt_rules.specs.Subscribe.{Wish, subscription}
-use Rattle.mqtt_rules.proofs.FlightRows.{all_at}
+use Rattle.mqtt_rules.proofs.flight.FlightRows.{all_at}
 use Rattle.mqtt_broker_step.specs.Stepping.{Stepping, Did}
 use Rattle.mqtt_broker_step.specs.Doing.{counts}
 use Rattle.mqtt_broker_step.specs.Subscribing.{HasEachFilterOnce, HaveFiltersOnce, MaySubscribe}

@@ -19,9 +19,9 @@ use Rattle.mqtt_rules.specs.Laws.{is_entering}
 use Rattle.mqtt_rules.specs.Outbound.{room, room_at}
 use Rattle.mqtt_rules.specs.Routing.{CopyTo, is_queued, deliver}
 use Rattle.mqtt_rules.specs.Subscribe.{Wish, subscription, retained_copy, retained_copy_to, identifiers_of, next_number, answer_by, filter_answer_of, brought, has_filter, wants_retained, is_brought, kept_of, message_in}
-use Rattle.mqtt_rules.proofs.FlightRows.{change_row-here}
-use Rattle.mqtt_rules.proofs.Ordered.{length-filter_le}
-use Rattle.mqtt_rules.proofs.SpelledContents.{copy_spelled, rows_are}
+use Rattle.mqtt_rules.proofs.flight.FlightRows.{change_row-here}
+use Rattle.mqtt_rules.proofs.order.Ordered.{length-filter_le}
+use Rattle.mqtt_rules.proofs.contents.SpelledContents.{copy_spelled, rows_are}
 use Rattle.mqtt_broker_step.specs.declared.fault.StepFault.{StepFault}
 use Rattle.mqtt_broker_step.specs.declared.fault.StepFault.TheVariants.{Memory, Spent}
 use Rattle.mqtt_broker_step.specs.Stepping.{Stepping, did, Did, Does, IsLeft, Leaves, env_in}

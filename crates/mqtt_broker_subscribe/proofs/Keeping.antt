@@ -15,8 +15,8 @@ use Rattle.mqtt_rules.specs.Outbound.{leave_deeds, enter_deeds, queue_limits, si
 use Rattle.mqtt_rules.specs.Packets.{size_of, publish_of}
 use Rattle.mqtt_rules.specs.Routing.{CopyTo, is_queued, deliver, deliver_by}
 use Rattle.mqtt_rules.specs.Subscribe.{Wish, answer_by, subscription, filter_answer_of}
-use Rattle.mqtt_rules.proofs.Goods.{AreGood, GoodAct, good_append, good_flat, good_series, good_acts, good_cond, good_of_session, good_of_entry}
-use Rattle.mqtt_rules.proofs.OrderedRoom.{at_retained}
+use Rattle.mqtt_rules.proofs.acts.Goods.{AreGood, GoodAct, good_append, good_flat, good_series, good_acts, good_cond, good_of_session, good_of_entry}
+use Rattle.mqtt_rules.proofs.order.OrderedRoom.{at_retained}
 
 -- the deed leaves the retained messages as they are
 pub record Keeps (d : Deed) (b : Broker) : Type 0 where

@@ -6,8 +6,8 @@ use Rattle.mqtt_records.specs.Session.{birth_of, without_subscription}
 use Rattle.mqtt_rules.specs.State.{Broker, session_at}
 use Rattle.mqtt_rules.specs.Deeds.{Act, Deed, whose, Part, At, Unsubscribe, after, after_all, with_session, always, series, rows_of_all}
 use Rattle.mqtt_rules.specs.Subscribe.{unsubscribes}
-use Rattle.mqtt_rules.proofs.FlightRows.{change_row-here}
-use Rattle.mqtt_rules.proofs.StoredLaw.{stored_after_all}
+use Rattle.mqtt_rules.proofs.flight.FlightRows.{change_row-here}
+use Rattle.mqtt_rules.proofs.fit.StoredLaw.{stored_after_all}
 use Rattle.mqtt_broker_step.specs.declared.fault.StepFault.{StepFault}
 use Rattle.mqtt_broker_step.specs.Stepping.{Stepping, Did, IsLeft, to_session}
 use Rattle.mqtt_broker_step.specs.Subscribing.{HaveFiltersOnce}

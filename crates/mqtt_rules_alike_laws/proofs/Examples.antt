@@ -9,8 +9,8 @@ use Rattle.mqtt_flow.specs.declared.entry.QueuedCopy.{QueuedCopy}
 use Rattle.mqtt_records_message.specs.declared.message.MessageCopy.{MessageCopy}
 use Rattle.mqtt_rules.specs.State.{Broker}
 use Rattle.mqtt_rules.specs.Step.{Input, Pump}
-use Rattle.mqtt_rules.proofs.Play.{blank, at, runs, tells, topic, direct}
-use Rattle.mqtt_rules.proofs.WorkedCopies.{subscribed_at, publishes}
+use Rattle.mqtt_rules.proofs.examples.Play.{blank, at, runs, tells, topic, direct}
+use Rattle.mqtt_rules.proofs.examples.WorkedCopies.{subscribed_at, publishes}
 use Rattle.mqtt_rules_alike_laws.specs.Alike.{AlikeCopies, AlikeBrokers}
 
 -- r1 is subscribed at QoS 2, and p1 publishes this

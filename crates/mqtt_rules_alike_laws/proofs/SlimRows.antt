@@ -13,8 +13,8 @@ use Rattle.mqtt_records_message.specs.declared.message.MessageCopy.{MessageCopy}
 use Rattle.mqtt_records_message.specs.PassedOn.{aged, identified, number_in, number_at}
 use Rattle.mqtt_records_message.specs.Queue.{CopyRow, first_sent, remaining}
 use Rattle.mqtt_rules.specs.Packets.{publish_of, size_of}
-use Rattle.mqtt_rules.proofs.CopySizes.{first_size}
-use Rattle.mqtt_rules.proofs.PassedContents.{props_append}
+use Rattle.mqtt_rules.proofs.contents.CopySizes.{first_size}
+use Rattle.mqtt_rules.proofs.contents.PassedContents.{props_append}
 use Rattle.mqtt_flow.specs.declared.entry.QueuedCopy.{QueuedCopy}
 use Rattle.mqtt_records.specs.declared.session.Session.{Session}
 use Rattle.mqtt_rules.specs.State.{Broker, queued_copy}

@@ -70,14 +70,14 @@ use Rattle.mqtt_rules.specs.Piece.{code_of}
 use Rattle.mqtt_rules.specs.Step.{Call, NewLine, Input, BadInput, Lost, Pump, Tick, can_link, close_if, deeds_of, first_packet, late_code, next_packet, on_fault, on_packet, on_pump, opening}
 use Rattle.mqtt_rules.specs.Subscribe as sub
 use Rattle.mqtt_rules.specs.Tick.{due, first_due, has_lapsed, is_silent, is_stale, lapse_deeds, lapses, on_tick, silence}
-use Rattle.mqtt_rules.proofs.Acts.{brought_to}
-use Rattle.mqtt_rules.proofs.ContentPackets.{asked_identifier, published, sent_content}
-use Rattle.mqtt_rules.proofs.Copies.{each_append, each_filter, each_flat}
-use Rattle.mqtt_rules.proofs.FitLaw.{all_among}
-use Rattle.mqtt_rules.proofs.FlightRows.{all_at}
-use Rattle.mqtt_rules.proofs.Leads.{found_among}
-use Rattle.mqtt_rules.proofs.OrderedQueues.{length-mapped}
-use Rattle.mqtt_rules.proofs.SpelledContents.{rows_are}
+use Rattle.mqtt_rules.proofs.acts.Acts.{brought_to}
+use Rattle.mqtt_rules.proofs.contents.ContentPackets.{asked_identifier, published, sent_content}
+use Rattle.mqtt_rules.proofs.numbers.Copies.{each_append, each_filter, each_flat}
+use Rattle.mqtt_rules.proofs.fit.FitLaw.{all_among}
+use Rattle.mqtt_rules.proofs.flight.FlightRows.{all_at}
+use Rattle.mqtt_rules.proofs.acts.Leads.{found_among}
+use Rattle.mqtt_rules.proofs.order.OrderedQueues.{length-mapped}
+use Rattle.mqtt_rules.proofs.contents.SpelledContents.{rows_are}
 use Rattle.mqtt_topic.proofs.MatchLemmas.{and_both, and_left, and_right}
 use Rattle.mqtt_rules_spelling_laws.specs.Sending.{HasSentPhases, IsPacketIdentifier, TellsFault}
 use Rattle.mqtt_rules_spelling_laws.proofs.Copies.{IsCopiedTo, IsLate, IsMessage, accepted_copied, brought_copied, late_copies, said_deliveries, said_late, said_leaves, said_offer, said_publish}

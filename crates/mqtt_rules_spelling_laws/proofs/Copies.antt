@@ -36,10 +36,10 @@ use Rattle.mqtt_rules.specs.Packets.{publish_of}
 use Rattle.mqtt_rules.specs.Routing.{CopyTo, accepted_copies, accepted_if, answers, copies_to, copy_to, deliver, deliver_by, finds_place, forgets, is_queued, is_queued_at, next_publication, publication_of, publish, retain_by, retained_of, routed_subscription, routing_of, served_copies_to, subscriber_of, subscribers}
 use Rattle.mqtt_rules.specs.State.{Broker, Env, Line, line_of, queue_on, session_at}
 use Rattle.mqtt_rules.specs.Subscribe as sub
-use Rattle.mqtt_rules.proofs.ContentCopies.{AreNumbered, IsIdentified, IsRoutedWell, routed_identified}
-use Rattle.mqtt_rules.proofs.Copies.{each_append, each_filter, each_flat, each_map, each_more}
-use Rattle.mqtt_rules.proofs.OrderedQueues.{length-mapped}
-use Rattle.mqtt_rules.proofs.SpelledContents.{rows_are}
+use Rattle.mqtt_rules.proofs.contents.ContentCopies.{AreNumbered, IsIdentified, IsRoutedWell, routed_identified}
+use Rattle.mqtt_rules.proofs.numbers.Copies.{each_append, each_filter, each_flat, each_map, each_more}
+use Rattle.mqtt_rules.proofs.order.OrderedQueues.{length-mapped}
+use Rattle.mqtt_rules.proofs.contents.SpelledContents.{rows_are}
 use Rattle.mqtt_rules_spelling_laws.proofs.Fine.{AreSaid, IsSaid}
 use Rattle.mqtt_rules_spelling_laws.proofs.Packets.{IsIdentifierAt, publish_spelled}
 

@@ -19,9 +19,9 @@ use Rattle.mqtt_rules.specs.Contents.{HasLawfulContentsOf, of_rows}
 use Rattle.mqtt_rules.specs.Deeds.{Whose, Part, Resume, Close, SetExpiry, DropWill, Subscribe, Unsubscribe, Open, Release, Enter, Mark, Leave, Deed, Accept, Begin, Name, Count, At, Finish, Keep, Forget, RefuseWill, Link, On, Send, Gone, after, after_all, part_rows_of, rows_of, rows_of_all, stored_after}
 use Rattle.mqtt_rules.specs.State.{Broker, session_at}
 use Rattle.mqtt_rules.specs.Step.{number_given, is_spent, stamped}
-use Rattle.mqtt_rules.proofs.ContentRows.{Brings, RowBrings, RowsBring, brought_kept}
-use Rattle.mqtt_rules.proofs.Copies.{each_append, each_filter}
-use Rattle.mqtt_rules.proofs.FlightRows.{all_changed, all_put}
+use Rattle.mqtt_rules.proofs.contents.ContentRows.{Brings, RowBrings, RowsBring, brought_kept}
+use Rattle.mqtt_rules.proofs.numbers.Copies.{each_append, each_filter}
+use Rattle.mqtt_rules.proofs.flight.FlightRows.{all_changed, all_put}
 use Rattle.mqtt_rules_spelling_laws.specs.Sending.{HasSentPhases, HaveSentPhases, IsSentPhase}
 
 -- ---- rows: each brings lawful contents, and gives a number up to the last one

@@ -37,7 +37,7 @@ use Rattle.mqtt_topic.specs.Names.{IsTopicName}
 use Rattle.mqtt_rules.specs.Connect.{connack_properties}
 use Rattle.mqtt_rules.specs.Contents.{IsCopiedOf, of_rows}
 use Rattle.mqtt_rules.specs.Packets.{connack, puback, pubrec, pubrel, pubcomp, suback, unsuback, disconnect, delivery_by, properties_sent, publish_of, seconds_waited, reason}
-use Rattle.mqtt_rules.proofs.SentContents.{longest, sent_size, sent_fits, sent_may, sent_lawful}
+use Rattle.mqtt_rules.proofs.contents.SentContents.{longest, sent_size, sent_fits, sent_may, sent_lawful}
 use Rattle.mqtt_rules_spelling_laws.specs.Sending.{IsPacketIdentifier}
 
 -- ---- parts

@@ -16,11 +16,11 @@ use Rattle.mqtt_rules.specs.Piece.{Front, begins_connect, call_by, code_of, firs
 use Rattle.mqtt_rules.specs.State.{Broker, MemberChoice, stored}
 use Rattle.mqtt_rules.specs.Step.{Call, Input, BadInput, at_moment, deeds, env_of, is_opening_spent, is_step_spent, opened, opening_deeds, stepped, told, unopened, with_moment}
 use Rattle.mqtt_rules.specs.declared.Limits.{Limits}
-use Rattle.mqtt_rules.proofs.ContentLaw.{opening_brings, opening_contents, step_brings, step_contents}
-use Rattle.mqtt_rules.proofs.LawfulContents.{lawful_contents}
-use Rattle.mqtt_rules.proofs.LawfulRecords.{lawful_coherent}
-use Rattle.mqtt_rules.proofs.OrderedSteps.{opening-ordered, step-ordered}
-use Rattle.mqtt_rules.proofs.SpelledContents.{rows_are}
+use Rattle.mqtt_rules.proofs.contents.ContentLaw.{opening_brings, opening_contents, step_brings, step_contents}
+use Rattle.mqtt_rules.proofs.contents.LawfulContents.{lawful_contents}
+use Rattle.mqtt_rules.proofs.fit.LawfulRecords.{lawful_coherent}
+use Rattle.mqtt_rules.proofs.order.OrderedSteps.{opening-ordered, step-ordered}
+use Rattle.mqtt_rules.proofs.contents.SpelledContents.{rows_are}
 use Rattle.mqtt_rules_spelling_laws.specs.Sending.{HaveSentPhases, IsAsked, SendsWell, TellsFault}
 use Rattle.mqtt_rules_spelling_laws.proofs.Acts.{call_said, opening_said}
 use Rattle.mqtt_rules_spelling_laws.proofs.Fine.{AreSaid, IsFine, Writes, fine_all, rows_good}

@@ -29,10 +29,10 @@ use Rattle.mqtt_rules.specs.Deeds.{whose, Mark, Went, Deed, At, On, Send}
 use Rattle.mqtt_rules.specs.Outbound.{all_turn_deeds, of_entry, turn_deeds}
 use Rattle.mqtt_rules.specs.Packets.{publish_of}
 use Rattle.mqtt_rules.specs.State.{entry_on, queue_on}
-use Rattle.mqtt_rules.proofs.Copies.{each_append, each_map}
-use Rattle.mqtt_rules.proofs.FlightRows.{all_at}
-use Rattle.mqtt_rules.proofs.Ordered.{length-filter_le}
-use Rattle.mqtt_rules.proofs.OrderedQueues.{length-mapped}
+use Rattle.mqtt_rules.proofs.numbers.Copies.{each_append, each_map}
+use Rattle.mqtt_rules.proofs.flight.FlightRows.{all_at}
+use Rattle.mqtt_rules.proofs.order.Ordered.{length-filter_le}
+use Rattle.mqtt_rules.proofs.order.OrderedQueues.{length-mapped}
 use Rattle.mqtt_rules_spelling_laws.specs.Sending.{HasSentPhases, IsPacketIdentifier, IsSentPhase}
 use Rattle.mqtt_rules_spelling_laws.proofs.Copies.{said_leave}
 use Rattle.mqtt_rules_spelling_laws.proofs.Fine.{AreSaid, IsSaid}

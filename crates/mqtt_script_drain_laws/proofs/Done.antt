@@ -9,7 +9,7 @@ use Rattle.mqtt_script.specs.declared.event.Event.{Event}
 use Rattle.mqtt_world_acceptance_laws.specs.Spending.{run_spends}
 use Rattle.mqtt_world_receiver_laws.specs.Drains.{after_round, drain_by, drain_turns, enough_rounds, is_bad_drain, is_over, round_turns}
 use Rattle.mqtt_world_delivery_laws.specs.Untouched.{IsUntouched}
-use Rattle.mqtt_world_delivery_laws.proofs.EveryRun.{spent_append}
+use Rattle.mqtt_world_delivery_laws.proofs.whole.EveryRun.{spent_append}
 use Rattle.mqtt_script_laws.specs.Cleanly.{BeginClean}
 use Rattle.mqtt_script_laws.specs.Drains.{DrainHappens, DrainsBy}
 use Rattle.mqtt_script_laws.specs.Scripted.{RunsTo}

@@ -1,7 +1,7 @@
 -- Ends that are made before all else are made where no session of their names stands, if none is stored (MQTT 5.0, 3.1.2.4).
 use Rattle.std.proofs.Common.{◌≡◌, Bool, true, false, cond, not, ◌&&◌, List, [], ◌∷◌, Option, Some, None, refl, sym, ap, ◌∙◌, inl, inr}
 use Rattle.std.proofs.lemmas.Bool.{cases_Bool}
-use Rattle.mqtt_rules.proofs.Copies.{each_more}
+use Rattle.mqtt_rules.proofs.numbers.Copies.{each_more}
 use Rattle.mqtt_rules.specs.State.{Broker, session_named}
 use Rattle.mqtt_rules.specs.declared.Limits.{Limits}
 use Rattle.mqtt_world_model.specs.Run.{Turn, run, setting, turned}

@@ -17,8 +17,8 @@ use Rattle.mqtt_world_acceptance_laws.specs.Fair.{IsFair}
 use Rattle.mqtt_world_acceptance_laws.specs.Identities.{TellsApart}
 use Rattle.mqtt_world_receiver_laws.specs.Drains.{times}
 use Rattle.mqtt_world_delivery_laws.specs.Untouched.{IsUntouched}
-use Rattle.mqtt_world_delivery_laws.proofs.Untouched.{start_untouched}
-use Rattle.mqtt_world_acceptance_laws.proofs.OnceRuns.{start_apart}
+use Rattle.mqtt_world_delivery_laws.proofs.broker.Untouched.{start_untouched}
+use Rattle.mqtt_world_acceptance_laws.proofs.copies.OnceRuns.{start_apart}
 use Rattle.mqtt_script_laws.specs.Cleanly.{AreMadeAnew, BeginClean, IsMadeAnew, IsMadeAnewIf, ScriptDelivers, is_named, keep_clean_starts, keeps_clean, keeps_if, named_after, named_if}
 use Rattle.mqtt_script_laws.specs.Drains.{AreTurnsOfRound, AreTurnsOfRounds}
 use Rattle.mqtt_script_laws.specs.Scripted.{AreTurnsFor, AreTurnsOf, IsRunOf, RunsTo, event_of, of_drain, of_event}

@@ -15,16 +15,16 @@ use Rattle.mqtt_flow_inbound.specs.Identifiers.{is_among}
 use Rattle.mqtt_world_model.specs.Ends.{Back, Receiver, answers, asks_for, wire_back}
 use Rattle.mqtt_world_model.specs.Hops.{IsKept, IsTaken}
 use Rattle.mqtt_world_model.specs.Seats.{IsHis, IsNamed}
-use Rattle.mqtt_world_model.proofs.CleanConnects.{clear_is}
-use Rattle.mqtt_world_model.proofs.Connects.{left_by, named_taken, prepare_front, taken_client, taken_from, taken_will}
-use Rattle.mqtt_world_model.proofs.OwnSeats.{line_of_on}
-use Rattle.mqtt_world_model.proofs.OwnStep.{heard_of, input_is}
-use Rattle.mqtt_world_model.proofs.Publishes.{act_none, drop_is}
-use Rattle.mqtt_world_model.proofs.Seats.{kept_of}
+use Rattle.mqtt_world_model.proofs.connects.CleanConnects.{clear_is}
+use Rattle.mqtt_world_model.proofs.connects.Connects.{left_by, named_taken, prepare_front, taken_client, taken_from, taken_will}
+use Rattle.mqtt_world_model.proofs.seats.OwnSeats.{line_of_on}
+use Rattle.mqtt_world_model.proofs.own.OwnStep.{heard_of, input_is}
+use Rattle.mqtt_world_model.proofs.own.Publishes.{act_none, drop_is}
+use Rattle.mqtt_world_model.proofs.seats.Seats.{kept_of}
 use Rattle.mqtt_props.specs.declared.table.PropName.TheVariants.{SubscriptionIdentifier}
 use Rattle.mqtt_records.specs.declared.records.Records.{Records}
 use Rattle.mqtt_records.specs.declared.session.Session.{Session}
-use Rattle.mqtt_rules.proofs.Leads.{found_passes}
+use Rattle.mqtt_rules.proofs.acts.Leads.{found_passes}
 use Rattle.mqtt_rules.specs.Closing.{drop_line, end_session, never, settle}
 use Rattle.mqtt_rules.specs.Connect.{clear, connect_by, joins, joins_after, of_client, on_connect, prepare, refusal, take_over}
 use Rattle.mqtt_rules.specs.Deeds.{Act, At, Count, Deed, Hear, On, after_all, offer, only_if, series, whose, with_session}
@@ -39,10 +39,10 @@ use Rattle.mqtt_rules.specs.Step.{Input, deeds, env_of, next_packet}
 use Rattle.mqtt_rules.specs.Subscribe.{FilterAnswer, FilterAnswers, Wish, answer_by, before, brought, filter_answer_of, filter_answers, granted_filter, has_filter, late_sends, next_number, subscribe_by, subscription, wish_of}
 use Rattle.mqtt_rules.specs.declared.Limits.{Limits}
 use Rattle.mqtt_codec_subscribe.specs.declared.subscribe.Subscribe.{Subscribe}
-use Rattle.mqtt_world_receiver_laws.proofs.Pumps.{its_session}
-use Rattle.mqtt_world_receiver_laws.proofs.Resuming.{call_is, greeting}
+use Rattle.mqtt_world_receiver_laws.proofs.queue.Pumps.{its_session}
+use Rattle.mqtt_world_receiver_laws.proofs.connects.Resuming.{call_is, greeting}
 use Rattle.mqtt_world_delivery_laws.specs.Standing.{IsPlaced}
-use Rattle.mqtt_world_delivery_laws.proofs.Fronts.{Connects, IsJoined, front}
+use Rattle.mqtt_world_delivery_laws.proofs.own.Fronts.{Connects, IsJoined, front}
 
 -- the same surroundings, with another choice
 abbrev pub chosen : MemberChoice → Env → Env

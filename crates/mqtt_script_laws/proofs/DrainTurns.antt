@@ -7,7 +7,7 @@ use Rattle.mqtt_rules.specs.declared.Limits.{Limits}
 use Rattle.mqtt_world_single_step_laws.specs.Unrolled.{turn}
 use Rattle.mqtt_world_acceptance_laws.specs.Spending.{run_spends}
 use Rattle.mqtt_world_receiver_laws.specs.Drains.{downs_by, is_over, times, ups_by}
-use Rattle.mqtt_world_receiver_laws.proofs.DrainRuns.{run_append}
+use Rattle.mqtt_world_receiver_laws.proofs.drains.DrainRuns.{run_append}
 use Rattle.mqtt_script_laws.specs.Drains.{AreTurnsOfRound, AreTurnsOfRounds, IsRound, MakesRounds, Repeats}
 use Rattle.mqtt_script_laws.specs.Turns.{IsTurn, events_of}
 use Rattle.mqtt_script_laws.proofs.Costs.{spent_joined}

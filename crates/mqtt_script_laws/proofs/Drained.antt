@@ -14,10 +14,10 @@ use Rattle.mqtt_world_acceptance_laws.specs.Spending.{run_spends}
 use Rattle.mqtt_world_receiver_laws.specs.Drains.{after_round, copies_left, count_by_end, downs_by, drain_by, drain_turns, enough_rounds, is_none_left, is_over, line_stands, round_turns, rounds_taken, times, turn_of, ups_by}
 use Rattle.mqtt_world_delivery_laws.specs.Taking.{any_size}
 use Rattle.mqtt_world_delivery_laws.specs.Untouched.{IsUntouched}
-use Rattle.mqtt_world_delivery_laws.proofs.Drains.{ends_over, ends_within, round_carried}
-use Rattle.mqtt_world_delivery_laws.proofs.EveryRun.{fair_run_kept, over_or_drained}
-use Rattle.mqtt_world_delivery_laws.proofs.QueueGrowth.{queue_grows}
-use Rattle.mqtt_world_delivery_laws.proofs.Runs.{IsKept}
+use Rattle.mqtt_world_delivery_laws.proofs.drains.Drains.{ends_over, ends_within, round_carried}
+use Rattle.mqtt_world_delivery_laws.proofs.whole.EveryRun.{fair_run_kept, over_or_drained}
+use Rattle.mqtt_world_delivery_laws.proofs.order.QueueGrowth.{queue_grows}
+use Rattle.mqtt_world_delivery_laws.proofs.others.Runs.{IsKept}
 use Rattle.mqtt_script_laws.specs.Cleanly.{BeginClean}
 use Rattle.mqtt_script_laws.specs.Drains.{DrainHappens, DrainsBy, IsRound, MakesRounds}
 use Rattle.mqtt_script_laws.specs.Scripted.{RunsTo}

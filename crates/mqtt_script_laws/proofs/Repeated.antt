@@ -12,11 +12,11 @@ use Rattle.mqtt_rules.specs.Step.{Call, Input, Pump, at_moment, deeds, done, is_
 use Rattle.mqtt_rules.specs.declared.Limits.{Limits}
 use Rattle.mqtt_world_acceptance_laws.specs.Spending.{run_spends, spending}
 use Rattle.mqtt_world_receiver_laws.specs.Drains.{times, turn_of}
-use Rattle.mqtt_world_receiver_laws.proofs.DrainRuns.{run_append}
+use Rattle.mqtt_world_receiver_laws.proofs.drains.DrainRuns.{run_append}
 use Rattle.mqtt_world_delivery_laws.specs.Standing.{IsPlaced, IsSeen}
 use Rattle.mqtt_world_delivery_laws.specs.Taking.{any_size}
-use Rattle.mqtt_world_delivery_laws.proofs.Ledgers.{run_remains}
-use Rattle.mqtt_world_delivery_laws.proofs.Runs.{IsKept, run_kept}
+use Rattle.mqtt_world_delivery_laws.proofs.whole.Ledgers.{run_remains}
+use Rattle.mqtt_world_delivery_laws.proofs.others.Runs.{IsKept, run_kept}
 use Rattle.mqtt_script_laws.specs.Drains.{Repeats}
 use Rattle.mqtt_script_laws.specs.Turns.{IsTurn, both_tell, by_choice}
 use Rattle.mqtt_script_laws.proofs.Chosen.{deeds_same}

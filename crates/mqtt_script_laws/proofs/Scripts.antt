@@ -10,10 +10,10 @@ use Rattle.mqtt_script.specs.declared.event.Event.{Event}
 use Rattle.mqtt_script.specs.declared.event.Event.TheVariants.{Drain}
 use Rattle.mqtt_world_acceptance_laws.specs.Identities.{TellsApart}
 use Rattle.mqtt_world_acceptance_laws.specs.Spending.{run_spends}
-use Rattle.mqtt_world_receiver_laws.proofs.DrainRuns.{run_append}
+use Rattle.mqtt_world_receiver_laws.proofs.drains.DrainRuns.{run_append}
 use Rattle.mqtt_world_delivery_laws.specs.Scripts.{DeliversOnce}
 use Rattle.mqtt_world_delivery_laws.specs.Untouched.{IsUntouched}
-use Rattle.mqtt_world_delivery_laws.proofs.Scripts.{run_delivers}
+use Rattle.mqtt_world_delivery_laws.proofs.whole.Scripts.{run_delivers}
 use Rattle.mqtt_script_laws.specs.Drains.{DrainHappens}
 use Rattle.mqtt_script_laws.specs.Scripted.{AreTurnsFor, Happens, IsRunOf, Passes, RunsTo, as_drain, as_event, event_of, of_drain, of_event}
 pub use Rattle.mqtt_script_laws.proofs.Costs.{spent_joined}

@@ -14,7 +14,7 @@ use Rattle.mqtt_world_model.specs.World.{receiver, restart, restarts, stop_after
 use Rattle.mqtt_world_model.specs.World.{with_line}
 use Rattle.mqtt_world_single_step_laws.specs.Unrolled.{Unrolls, turn}
 use Rattle.mqtt_world_acceptance_laws.specs.Spending.{run_spends, spending}
-use Rattle.mqtt_world_receiver_laws.proofs.DrainRuns.{run_append}
+use Rattle.mqtt_world_receiver_laws.proofs.drains.DrainRuns.{run_append}
 use Rattle.mqtt_script_laws.specs.Scripted.{Happens, is_heard, tells_if, tells_in}
 use Rattle.mqtt_script_laws.specs.Turns.{IsPlain, IsQuiet, IsReopened, IsTurn, by_choice}
 use Rattle.mqtt_script_laws.proofs.Costs.{spent_joined}

@@ -8,7 +8,7 @@ use Rattle.mqtt_world_model.specs.World.{Asking, Event, Stranger, World, ask, br
 use Rattle.mqtt_world_model.specs.World.{stop_after, stranger, tick, to_broker, unlinked}
 use Rattle.mqtt_world_single_step_laws.specs.Unrolled.{Unrolls, turn}
 use Rattle.mqtt_world_acceptance_laws.specs.Spending.{run_spends}
-use Rattle.mqtt_world_receiver_laws.proofs.DrainRuns.{run_append}
+use Rattle.mqtt_world_receiver_laws.proofs.drains.DrainRuns.{run_append}
 use Rattle.mqtt_rules.specs.State.{Broker}
 use Rattle.mqtt_rules.specs.Step.{opened}
 use Rattle.mqtt_rules.specs.declared.Limits.{Limits}

@@ -24,7 +24,7 @@ use Rattle.mqtt_records_rows.specs.Order.{IsAscending}
 use Rattle.mqtt_rules.specs.State.{Line, Broker, entry_on, queue_on}
 use Rattle.mqtt_rules.specs.Step.{Input}
 use Rattle.mqtt_rules.specs.Deeds.{Deed}
-use Rattle.mqtt_rules.proofs.Leads.{found_passes}
+use Rattle.mqtt_rules.proofs.acts.Leads.{found_passes}
 use Rattle.mqtt_world_cause_laws.specs.Endings.{Asked}
 use Rattle.mqtt_world_cause_laws.specs.Causes.{IsRead}
 use Rattle.mqtt_world_cause_laws.proofs.Queues.{Row, find_row, some_is}

@@ -9,15 +9,15 @@ use Rattle.mqtt_rules.specs.Deeds.{Deed}
 use Rattle.mqtt_rules.specs.Laws.{AreWithin}
 use Rattle.mqtt_rules.specs.State.{Broker}
 use Rattle.mqtt_rules.specs.Step.{Call, NewLine, deeds}
-use Rattle.mqtt_rules.proofs.Copies.{each_append}
-use Rattle.mqtt_rules.proofs.StandLaw.{stands_call, stands_opening}
+use Rattle.mqtt_rules.proofs.numbers.Copies.{each_append}
+use Rattle.mqtt_rules.proofs.fit.StandLaw.{stands_call, stands_opening}
 use Rattle.mqtt_world_model.specs.World.{World, Setting, Event, publisher, receiver, connect_end, give_up, publish, subscribe, to_end, clock, ask, restart, stop_before, stop_after, Asking, to_broker, old_to_broker, break, pump, tick, stranger, stranger_named, calls_if, comes, next_held, call_of_stranger, held_count, before, call_of, first_step, is_bad}
 use Rattle.mqtt_world_model.specs.Run.{End, Turn, setting, turned, deeds_over, ended_in, read_if, read_rest, read_first, read_asked, read_opening, read_in, read_at, the_deeds}
 use Rattle.mqtt_world_acceptance_laws.specs.Spending.{run_spends, spending}
 use Rattle.mqtt_world_acceptance_laws.specs.Fair.{IsSteady, IsNew, IsFair}
 use Rattle.mqtt_world_acceptance_laws.specs.Steps.{step_called, opening_step}
-use Rattle.mqtt_world_acceptance_laws.proofs.Walks.{Walk, before_goes, first_goes, if_goes, same_cost, comes_goes, turn_goes}
-use Rattle.mqtt_world_acceptance_laws.proofs.Runs.{either}
+use Rattle.mqtt_world_acceptance_laws.proofs.copies.Walks.{Walk, before_goes, first_goes, if_goes, same_cost, comes_goes, turn_goes}
+use Rattle.mqtt_world_acceptance_laws.proofs.publishers.Runs.{either}
 use Rattle.mqtt_world_cause_laws.specs.Endings.{Asked, EndAt, the_asked, asked_over, end_of, ends_in, AreAllEnds}
 use Rattle.mqtt_world_cause_laws.specs.Causes.{HasCause, EachHasItsCause}
 use Rattle.mqtt_world_cause_laws.proofs.Caused.{all_caused, ends_counted}

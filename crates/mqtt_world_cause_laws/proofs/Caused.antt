@@ -5,8 +5,8 @@ use Rattle.std.specs.List.{AllByRecursion, cons_option}
 use Rattle.mqtt_records.specs.declared.session.Session.{Session}
 use Rattle.mqtt_rules.specs.State.{Broker, session_at}
 use Rattle.mqtt_rules.specs.Deeds.{whose, Leave, Deed, At, after, after_all}
-use Rattle.mqtt_rules.proofs.Goods.{AreGood}
-use Rattle.mqtt_rules.proofs.Turns.{Stands}
+use Rattle.mqtt_rules.proofs.acts.Goods.{AreGood}
+use Rattle.mqtt_rules.proofs.fit.Turns.{Stands}
 use Rattle.mqtt_world_model.specs.Run.{End, ended_in}
 use Rattle.mqtt_world_cause_laws.specs.Endings.{Asked, EndAt, end_at, ends_of, end_of}
 use Rattle.mqtt_world_cause_laws.specs.Causes.{IsCause, HasCause}

@@ -47,13 +47,13 @@ use Rattle.mqtt_rules.specs.State.{Broker, Env, Line, is_connected, line_at, lin
 use Rattle.mqtt_rules.specs.Step.{Call, NewLine, Input, BadInput, Lost, Pump, Tick, can_link, close_if, deeds_of, first_packet, late_code, next_packet, on_fault, on_packet, on_pump, opening}
 use Rattle.mqtt_rules.specs.Subscribe as sub
 use Rattle.mqtt_rules.specs.Tick.{due, first_due, has_lapsed, is_silent, is_stale, lapse_deeds, on_tick, silence}
-use Rattle.mqtt_rules.proofs.Acts.{brought_to}
-use Rattle.mqtt_rules.proofs.Copies.{each_append, each_flat}
-use Rattle.mqtt_rules.proofs.FitLaw.{all_among}
-use Rattle.mqtt_rules.proofs.FlightRows.{all_found, found_key}
-use Rattle.mqtt_rules.proofs.Leads.{found_among, found_passes}
-use Rattle.mqtt_rules.proofs.StoredLaw.{now_stays}
-use Rattle.mqtt_rules.proofs.StandLaw.{Orders, ordered_all, rising}
+use Rattle.mqtt_rules.proofs.acts.Acts.{brought_to}
+use Rattle.mqtt_rules.proofs.numbers.Copies.{each_append, each_flat}
+use Rattle.mqtt_rules.proofs.fit.FitLaw.{all_among}
+use Rattle.mqtt_rules.proofs.flight.FlightRows.{all_found, found_key}
+use Rattle.mqtt_rules.proofs.acts.Leads.{found_among, found_passes}
+use Rattle.mqtt_rules.proofs.fit.StoredLaw.{now_stays}
+use Rattle.mqtt_rules.proofs.fit.StandLaw.{Orders, ordered_all, rising}
 use Rattle.mqtt_world_cause_laws.specs.Endings.{Asked}
 use Rattle.mqtt_world_cause_laws.proofs.Caused.{Caused, IsQuiet, AreQuiet, quietly, caused_next}
 use Rattle.mqtt_world_cause_laws.proofs.Queues.{same_now}

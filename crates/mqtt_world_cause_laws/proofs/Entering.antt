@@ -21,10 +21,10 @@ use Rattle.mqtt_rules.specs.Laws.{IsAmong}
 use Rattle.mqtt_rules.specs.Outbound.{of_entry, leave_deeds, is_new, since, enter_deeds}
 use Rattle.mqtt_rules.specs.State.{Broker, entry_on, queue_on, session_at}
 use Rattle.mqtt_rules.specs.Step.{Input}
-use Rattle.mqtt_rules.proofs.FlightRows.{all_found}
-use Rattle.mqtt_rules.proofs.Leads.{row_among}
-use Rattle.mqtt_rules.proofs.OrderedQueues.{length-mapped}
-use Rattle.mqtt_rules.proofs.StandLaw.{Orders, ordered_all, rising}
+use Rattle.mqtt_rules.proofs.flight.FlightRows.{all_found}
+use Rattle.mqtt_rules.proofs.acts.Leads.{row_among}
+use Rattle.mqtt_rules.proofs.order.OrderedQueues.{length-mapped}
+use Rattle.mqtt_rules.proofs.fit.StandLaw.{Orders, ordered_all, rising}
 use Rattle.mqtt_world_cause_laws.specs.Endings.{Asked}
 use Rattle.mqtt_world_cause_laws.specs.Causes.{HasGivenWay, HasSessionEnded}
 use Rattle.mqtt_world_cause_laws.proofs.Caused.{Caused, CausedBefore, quietly}

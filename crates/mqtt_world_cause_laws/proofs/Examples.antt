@@ -19,10 +19,10 @@ use Rattle.mqtt_records_message.specs.PassedOn.{property}
 use Rattle.mqtt_rules.specs.Packets.{puback, pubcomp, pubrec}
 use Rattle.mqtt_rules.specs.State.{Broker, session_at}
 use Rattle.mqtt_rules.specs.Step.{NewLine, Input, Lost, Pump, Tick, at_moment, deeds, env_of}
-use Rattle.mqtt_rules.proofs.Play.{blank, Event, at, first, usual, narrow, runs_with, hello, hello_with, never_expires, in_line, clean, message, sends, subscribed, topic, wants}
-use Rattle.mqtt_rules.proofs.WorkedCopies.{subscribed_at}
+use Rattle.mqtt_rules.proofs.examples.Play.{blank, Event, at, first, usual, narrow, runs_with, hello, hello_with, never_expires, in_line, clean, message, sends, subscribed, topic, wants}
+use Rattle.mqtt_rules.proofs.examples.WorkedCopies.{subscribed_at}
 use Rattle.mqtt_world_model.specs.World.{ask, break, connect_end, start, to_broker}
-use Rattle.mqtt_world_model.proofs.Scripts.{turns, p1, r1, published, pumped, exchange}
+use Rattle.mqtt_world_model.proofs.examples.Scripts.{turns, p1, r1, published, pumped, exchange}
 use Rattle.mqtt_world_cause_laws.specs.Endings.{Asked, EndAt, ends_in, ends_over}
 
 -- ---- what is seen of an end

@@ -25,13 +25,13 @@ use Rattle.mqtt_rules.specs.Packets.{publish_of, size_of}
 use Rattle.mqtt_rules.specs.Routing.{CopyTo, accepted_copies, deliver, deliver_by, forgets, is_queued, next_publication, publish, retain_by, retained_of}
 use Rattle.mqtt_rules.specs.State.{Broker, Line, entry_on, line_of, queue_on, session_at}
 use Rattle.mqtt_rules.specs.Subscribe as sub
-use Rattle.mqtt_rules.proofs.Acts.{brought_to}
-use Rattle.mqtt_rules.proofs.FlightRows.{found_key, change_row-here, change_row-other}
-use Rattle.mqtt_rules.proofs.Ordered.{length-filter_le}
-use Rattle.mqtt_rules.proofs.OrderedAccepted.{accepted_within, is_to}
-use Rattle.mqtt_rules.proofs.OrderedQueues.{length-mapped}
-use Rattle.mqtt_rules.proofs.OrderedRoom.{length-put_row_suc}
-use Rattle.mqtt_rules.proofs.StandLaw.{Orders, ordered_all, rising}
+use Rattle.mqtt_rules.proofs.acts.Acts.{brought_to}
+use Rattle.mqtt_rules.proofs.flight.FlightRows.{found_key, change_row-here, change_row-other}
+use Rattle.mqtt_rules.proofs.order.Ordered.{length-filter_le}
+use Rattle.mqtt_rules.proofs.order.OrderedAccepted.{accepted_within, is_to}
+use Rattle.mqtt_rules.proofs.order.OrderedQueues.{length-mapped}
+use Rattle.mqtt_rules.proofs.order.OrderedRoom.{length-put_row_suc}
+use Rattle.mqtt_rules.proofs.fit.StandLaw.{Orders, ordered_all, rising}
 use Rattle.mqtt_world_cause_laws.specs.Endings.{Asked}
 use Rattle.mqtt_world_cause_laws.proofs.Caused.{Caused, AreQuiet, quietly, caused_next}
 use Rattle.mqtt_world_cause_laws.proofs.Entering.{drop_caused, enter_caused, only_enters}

@@ -16,7 +16,7 @@ use Rattle.mqtt_rules.specs.Deeds.{Whose, whose, Part, Leave, Mark, Deed, At, pa
 use Rattle.mqtt_rules.specs.Laws.{IsAmong}
 use Rattle.mqtt_rules.specs.Outbound.{first_given}
 use Rattle.mqtt_rules.specs.State.{Broker, session_at, entry_on}
-use Rattle.mqtt_rules.proofs.FlightRows.{found_key, found_behind, change_row-here}
+use Rattle.mqtt_rules.proofs.flight.FlightRows.{found_key, found_behind, change_row-here}
 
 -- ---- a session while its copies leave and are marked
 

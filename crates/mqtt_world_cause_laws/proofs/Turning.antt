@@ -25,7 +25,7 @@ use Rattle.mqtt_rules.specs.Packets.{publish_of}
 use Rattle.mqtt_rules.specs.State.{Line, Broker, entry_on, queue_on, queued_copy, line_at}
 use Rattle.mqtt_rules.specs.Step.{Call, Pump, Tick}
 use Rattle.mqtt_rules.specs.Tick.{lapses, lapse_deeds}
-use Rattle.mqtt_rules.proofs.FlightRows.{all_found}
+use Rattle.mqtt_rules.proofs.flight.FlightRows.{all_found}
 use Rattle.mqtt_world_cause_laws.specs.Endings.{Asked, EndAt}
 use Rattle.mqtt_world_cause_laws.specs.Causes.{IsCause, IsOfItsLine, MayBeTooLarge}
 use Rattle.mqtt_world_cause_laws.proofs.Caused.{Caused, quietly, caused_next}

@@ -2,8 +2,8 @@
 use Rattle.std.proofs.Common.{ℕ, zero, suc, Bool, true, false, cond, List, [], ◌∷◌, Option, Some, None}
 use Rattle.std.specs.Prelude.{is_some}
 use Rattle.std.specs.List.{AllByRecursion}
-use Rattle.mqtt_rules.proofs.ContentLaw.{opening_contents, step_contents}
-use Rattle.mqtt_rules.proofs.SpelledContents.{rows_are}
+use Rattle.mqtt_rules.proofs.contents.ContentLaw.{opening_contents, step_contents}
+use Rattle.mqtt_rules.proofs.contents.SpelledContents.{rows_are}
 use Rattle.mqtt_rules.specs.Contents.{AreContentsLawful, of_rows}
 use Rattle.mqtt_rules.specs.Step.{Call, NewLine}
 use Rattle.mqtt_rules.specs.declared.Limits.{Limits}

@@ -4,14 +4,14 @@ use Rattle.std.specs.Prelude.{⊤, cond, is_some, flat_map, max}
 use Rattle.std.specs.List.{AllByRecursion}
 use Rattle.std.proofs.lemmas.Slice.Eq.{bytes_eq-Decides}
 use Rattle.std.proofs.lemmas.Grind.{flat_map-append}
-use Rattle.mqtt_rules.proofs.Copies.{each_append}
-use Rattle.mqtt_rules.proofs.Leads.{found_passes}
+use Rattle.mqtt_rules.proofs.numbers.Copies.{each_append}
+use Rattle.mqtt_rules.proofs.acts.Leads.{found_passes}
 use Rattle.mqtt_base.specs.declared.session.Phase.{Phase}
 use Rattle.mqtt_base.specs.declared.session.Phase.TheVariants.{Waiting, Sent, Released, Oversize}
 use Rattle.mqtt_flow.specs.declared.entry.Entry.{Entry as FlowEntry}
 use Rattle.mqtt_rules.specs.State.{Broker, MemberChoice, capped, queue_on}
 use Rattle.mqtt_rules.specs.Deeds.{Deed, after_all, rows_of_all}
-use Rattle.mqtt_rules.proofs.StoredLaw.{now_stays}
+use Rattle.mqtt_rules.proofs.fit.StoredLaw.{now_stays}
 use Rattle.mqtt_records.specs.declared.change.Change.{Change}
 use Rattle.mqtt_world_model.specs.World.{happens as happen}
 use Rattle.std.proofs.Math.Nat.{le-max_right, max-eq_left}
@@ -23,20 +23,20 @@ use Rattle.mqtt_world_model.specs.World.{Event, Setting, View, World, ask, befor
 use Rattle.mqtt_world_acceptance_laws.specs.Fair.{IsFair}
 use Rattle.mqtt_world_acceptance_laws.specs.Spending.{run_spends, spending}
 use Rattle.mqtt_world_acceptance_laws.specs.Steps.{step_called}
-use Rattle.mqtt_world_acceptance_laws.proofs.Runs.{either}
+use Rattle.mqtt_world_acceptance_laws.proofs.publishers.Runs.{either}
 use Rattle.mqtt_world_cause_laws.specs.Causes.{HasCause}
 use Rattle.mqtt_world_cause_laws.specs.Endings.{Asked, EndAt, asked_over, ends_in, ends_over, the_asked}
 use Rattle.mqtt_world_cause_laws.proofs.CauseRuns.{run_caused}
 use Rattle.mqtt_world_receiver_laws.specs.Drains.{Doing, after_round, all_to_broker, all_to_end, all_turns, drain_by, drain_turns, drains, downs_by, happens, is_bad_drain, is_none_left, copies_left, is_over, line_stands, round_turns, times, turn_of, turns_of, ups_by}
-use Rattle.mqtt_world_receiver_laws.proofs.DrainRuns.{run_append}
+use Rattle.mqtt_world_receiver_laws.proofs.drains.DrainRuns.{run_append}
 use Rattle.mqtt_world_delivery_laws.specs.Standing.{IsPlaced, IsSeen}
 use Rattle.mqtt_world_delivery_laws.specs.Taking.{any_size}
 use Rattle.mqtt_world_delivery_laws.specs.Untouched.{IsUntouched}
-use Rattle.mqtt_world_delivery_laws.proofs.Drains.{round_carried}
-use Rattle.mqtt_world_delivery_laws.proofs.EveryRun.{carried_append, fair_run_kept, spent_append}
-use Rattle.mqtt_world_delivery_laws.proofs.Ledgers.{run_remains}
-use Rattle.mqtt_world_delivery_laws.proofs.Untouched.{start_untouched}
-use Rattle.mqtt_world_delivery_laws.proofs.Runs.{IsKept, turn_kept}
+use Rattle.mqtt_world_delivery_laws.proofs.drains.Drains.{round_carried}
+use Rattle.mqtt_world_delivery_laws.proofs.whole.EveryRun.{carried_append, fair_run_kept, spent_append}
+use Rattle.mqtt_world_delivery_laws.proofs.whole.Ledgers.{run_remains}
+use Rattle.mqtt_world_delivery_laws.proofs.broker.Untouched.{start_untouched}
+use Rattle.mqtt_world_delivery_laws.proofs.others.Runs.{IsKept, turn_kept}
 use Rattle.mqtt_world_drain_cause_laws.specs.DrainEnds.{moment_of, AllDrainsEndSo, AreOfDrain, EndOfDrain, EndWhere, IsOfDrain}
 use Rattle.mqtt_world_drain_cause_laws.proofs.OwnEnds.{AreFit, AreOwn, IsFitPhase, IsIts, all_its, ends_by}
 use Rattle.mqtt_world_drain_cause_laws.proofs.OwnCalls.{HasFit, SaysWell, input_own, pump_own}

@@ -6,10 +6,10 @@ use Rattle.mqtt_base.specs.declared.session.Ending.TheVariants.{Taken, SessionEn
 use Rattle.mqtt_codec.specs.declared.packet.Packet.{Packet}
 use Rattle.mqtt_codec.specs.declared.packet.Packet.TheVariants as packets
 use Rattle.mqtt_rules.specs.Step.{Call, Input}
-use Rattle.mqtt_rules.proofs.Play.{first, usual}
+use Rattle.mqtt_rules.proofs.examples.Play.{first, usual}
 use Rattle.mqtt_world_model.specs.Run.{after}
 use Rattle.mqtt_world_model.specs.World.{Event, ask, connect_end, give_up, publish, publisher, receiver, to_broker}
-use Rattle.mqtt_world_model.proofs.Scripts.{draft, joins, p1, r1, round, subscribes, turns}
+use Rattle.mqtt_world_model.proofs.examples.Scripts.{draft, joins, p1, r1, round, subscribes, turns}
 use Rattle.mqtt_world_receiver_laws.specs.Drains.{drain_turns}
 use Rattle.mqtt_world_cause_laws.specs.Endings.{EndAt, ends_over}
 

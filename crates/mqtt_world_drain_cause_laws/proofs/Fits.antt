@@ -13,10 +13,10 @@ use Rattle.mqtt_records_message.specs.Queue.{CopyRow, remaining}
 use Rattle.mqtt_records_message.specs.declared.message.MessageCopy.{MessageCopy}
 use Rattle.mqtt_records.specs.Session.{birth_of}
 use Rattle.mqtt_records.specs.declared.session.Session.{Session}
-use Rattle.mqtt_rules.proofs.CopySizes.{first_size}
-use Rattle.mqtt_rules.proofs.FitLaw.{all_among}
-use Rattle.mqtt_rules.proofs.Leads.{row_among}
-use Rattle.mqtt_rules.proofs.SpelledContents.{copy_spelled, rows_are}
+use Rattle.mqtt_rules.proofs.contents.CopySizes.{first_size}
+use Rattle.mqtt_rules.proofs.fit.FitLaw.{all_among}
+use Rattle.mqtt_rules.proofs.acts.Leads.{row_among}
+use Rattle.mqtt_rules.proofs.contents.SpelledContents.{copy_spelled, rows_are}
 use Rattle.mqtt_rules.specs.Contents.{HasContentsOf, IsCopiedOf, of_rows}
 use Rattle.mqtt_rules.specs.Laws.{IsAmong}
 use Rattle.mqtt_rules.specs.State.{Broker, entry_on, queue_on, queued_copy}
@@ -25,15 +25,15 @@ use Rattle.mqtt_world_model.specs.Ends.{Receiver}
 use Rattle.mqtt_world_model.specs.World.{World, receiver_named}
 use Rattle.mqtt_world_receiver_laws.specs.Handing.{IsRun}
 use Rattle.mqtt_world_receiver_laws.specs.Seen.{AreQueued, StandOn, lot_on, seen, still_standing, went_in}
-use Rattle.mqtt_world_receiver_laws.proofs.Numbers.{place_of}
-use Rattle.mqtt_world_receiver_laws.proofs.RoundFurther.{unsent_at}
-use Rattle.mqtt_world_receiver_laws.proofs.Unsent.{AllUnsent, UnsentBy}
+use Rattle.mqtt_world_receiver_laws.proofs.queue.Numbers.{place_of}
+use Rattle.mqtt_world_receiver_laws.proofs.drains.RoundFurther.{unsent_at}
+use Rattle.mqtt_world_receiver_laws.proofs.queue.Unsent.{AllUnsent, UnsentBy}
 use Rattle.mqtt_world_delivery_laws.specs.Standing.{IsPlaced, IsSeen}
 use Rattle.mqtt_world_delivery_laws.specs.Taking.{any_size}
-use Rattle.mqtt_world_delivery_laws.proofs.Runs.{IsKept}
-use Rattle.mqtt_world_delivery_laws.proofs.Standings.{runs_so}
-use Rattle.mqtt_world_delivery_laws.proofs.Taking.{takes_there}
-use Rattle.mqtt_world_delivery_laws.proofs.WayTags.{IsThere, own_there}
+use Rattle.mqtt_world_delivery_laws.proofs.others.Runs.{IsKept}
+use Rattle.mqtt_world_delivery_laws.proofs.others.Standings.{runs_so}
+use Rattle.mqtt_world_delivery_laws.proofs.own.Taking.{takes_there}
+use Rattle.mqtt_world_delivery_laws.proofs.contents.WayTags.{IsThere, own_there}
 use Rattle.mqtt_world_drain_cause_laws.proofs.Contents.{IsContentful, turn_contents}
 use Rattle.mqtt_world_drain_cause_laws.proofs.DrainRuns.{Knows}
 use Rattle.mqtt_world_drain_cause_laws.proofs.OwnCalls.{HasFit}

@@ -10,9 +10,9 @@ use Rattle.mqtt_world_acceptance_laws.specs.Spending.{run_spends}
 use Rattle.mqtt_world_cause_laws.specs.Endings.{EndAt, asked_over, ends_over}
 use Rattle.mqtt_world_receiver_laws.specs.Drains.{Doing, all_turns, drain_turns, drains, happens, is_bad_drain, turns_of}
 use Rattle.mqtt_world_delivery_laws.specs.Untouched.{IsUntouched}
-use Rattle.mqtt_world_delivery_laws.proofs.EveryRun.{carried_append, fair_run_kept, spent_append, untouched_kept}
-use Rattle.mqtt_world_delivery_laws.proofs.Runs.{IsKept, run_kept}
-use Rattle.mqtt_world_delivery_laws.proofs.Untouched.{start_untouched}
+use Rattle.mqtt_world_delivery_laws.proofs.whole.EveryRun.{carried_append, fair_run_kept, spent_append, untouched_kept}
+use Rattle.mqtt_world_delivery_laws.proofs.others.Runs.{IsKept, run_kept}
+use Rattle.mqtt_world_delivery_laws.proofs.broker.Untouched.{start_untouched}
 use Rattle.mqtt_world_drain_cause_laws.specs.DrainEnds.{moment_of}
 use Rattle.mqtt_world_drain_cause_laws.specs.Fitting.{AllDrainsFit, AllReadLawful, FitWhere, IsNotTooLarge, NoneTooLarge, ReadsLawful}
 use Rattle.mqtt_world_drain_cause_laws.proofs.Contents.{IsContentful, run_contents}

@@ -19,17 +19,17 @@ use Rattle.mqtt_records_message.specs.Queue.{CopyRow}
 use Rattle.mqtt_world_model.specs.Ends.{Back, Receiver, answers, asks_for, wire_back}
 use Rattle.mqtt_world_model.specs.Hops.{IsKept, IsTaken}
 use Rattle.mqtt_world_model.specs.Seats.{Glance, IsHis, IsNamed, Present, absent, closed, connected_at, glance, glance_at, joined, waiting, waits_there}
-use Rattle.mqtt_world_model.proofs.CleanConnects.{clear_is}
-use Rattle.mqtt_world_model.proofs.Lists.{all_find}
-use Rattle.mqtt_world_model.proofs.Connects.{left_by, named_taken, prepare_front, taken_client, taken_from, taken_will}
-use Rattle.mqtt_world_model.proofs.OwnSeats.{line_of_on}
-use Rattle.mqtt_world_model.proofs.OwnStep.{heard_of, input_is}
-use Rattle.mqtt_world_model.proofs.Publishes.{act_none, drop_is}
-use Rattle.mqtt_world_model.proofs.Seats.{kept_of}
+use Rattle.mqtt_world_model.proofs.connects.CleanConnects.{clear_is}
+use Rattle.mqtt_world_model.proofs.others.Lists.{all_find}
+use Rattle.mqtt_world_model.proofs.connects.Connects.{left_by, named_taken, prepare_front, taken_client, taken_from, taken_will}
+use Rattle.mqtt_world_model.proofs.seats.OwnSeats.{line_of_on}
+use Rattle.mqtt_world_model.proofs.own.OwnStep.{heard_of, input_is}
+use Rattle.mqtt_world_model.proofs.own.Publishes.{act_none, drop_is}
+use Rattle.mqtt_world_model.proofs.seats.Seats.{kept_of}
 use Rattle.mqtt_records.specs.declared.records.Records.{Records}
 use Rattle.mqtt_records.specs.declared.session.Session.{Session}
-use Rattle.mqtt_rules.proofs.Copies.{each_append}
-use Rattle.mqtt_rules.proofs.Leads.{found_passes}
+use Rattle.mqtt_rules.proofs.numbers.Copies.{each_append}
+use Rattle.mqtt_rules.proofs.acts.Leads.{found_passes}
 use Rattle.mqtt_rules.specs.Closing.{drop_line, end_session, never, settle}
 use Rattle.mqtt_rules.specs.Connect.{begin_named, clear, connect_by, joins, largest_of, of_client, on_connect, prepare, refusal, refusal_size, refused, resume, take_over}
 use Rattle.mqtt_rules.specs.Deeds.{Act, At, Deed, Finish, Gone, Leave, Send, after_all, always, only_if, whose, with_line, with_session}
@@ -39,10 +39,10 @@ use Rattle.mqtt_rules.specs.Packets.{connack}
 use Rattle.mqtt_rules.specs.State.{Line as BrokerLine, Broker, Env, MemberChoice, is_of, line_at, line_of, queue_on, session_at, session_named}
 use Rattle.mqtt_rules.specs.Step.{Call, Input, Pump, at_moment, deeds, env_of, next_packet, on_pump}
 use Rattle.mqtt_rules.specs.declared.Limits.{Limits}
-use Rattle.mqtt_world_receiver_laws.proofs.Pumps.{its_session}
-use Rattle.mqtt_world_receiver_laws.proofs.Resuming.{call_is, greeting}
+use Rattle.mqtt_world_receiver_laws.proofs.queue.Pumps.{its_session}
+use Rattle.mqtt_world_receiver_laws.proofs.connects.Resuming.{call_is, greeting}
 use Rattle.mqtt_world_delivery_laws.specs.Standing.{IsPlaced, line_like}
-use Rattle.mqtt_world_delivery_laws.proofs.Fronts.{Connects, IsJoined, front}
+use Rattle.mqtt_world_delivery_laws.proofs.own.Fronts.{Connects, IsJoined, front}
 use Rattle.mqtt_world_drain_cause_laws.specs.DrainEnds.{StartsClean}
 use Rattle.mqtt_world_drain_cause_laws.proofs.OwnEnds.{AreFit, AreOwn, IsFit, IsOwn, IsWellAnswer, own_cond, own_turn, own_turns, pump_well, puback_well, pubcomp_well, pubrec_well}
 use Rattle.mqtt_world_drain_cause_laws.proofs.OwnWishes.{subscribe_own}

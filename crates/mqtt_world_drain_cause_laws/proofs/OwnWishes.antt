@@ -31,10 +31,10 @@ use Rattle.mqtt_rules.specs.Routing.{CopyTo, deliver, deliver_by, is_queued}
 use Rattle.mqtt_rules.specs.State.{Broker, Env, Line, line_at, line_of, queue_on, session_at}
 use Rattle.mqtt_rules.specs.Step.{Call}
 use Rattle.mqtt_rules.specs.Subscribe as sub
-use Rattle.mqtt_rules.proofs.Acts.{brought_to}
-use Rattle.mqtt_rules.proofs.Copies.{each_append, each_flat}
-use Rattle.mqtt_rules.proofs.FlightRows.{found_key}
-use Rattle.mqtt_rules.proofs.LookedUp.{client_at_part}
+use Rattle.mqtt_rules.proofs.acts.Acts.{brought_to}
+use Rattle.mqtt_rules.proofs.numbers.Copies.{each_append, each_flat}
+use Rattle.mqtt_rules.proofs.flight.FlightRows.{found_key}
+use Rattle.mqtt_rules.proofs.acts.LookedUp.{client_at_part}
 use Rattle.mqtt_world_drain_cause_laws.specs.DrainEnds.{Subscribes}
 use Rattle.mqtt_world_drain_cause_laws.proofs.OwnEnds.{AreOwn, AreWell, IsWell, drop_well}
 use Rattle.mqtt_world_drain_cause_laws.proofs.OwnEnds as own

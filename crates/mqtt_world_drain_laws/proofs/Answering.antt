@@ -8,16 +8,16 @@ use Rattle.mqtt_rules.specs.State.{MemberChoice}
 use Rattle.mqtt_rules.specs.Step.{Input, told}
 use Rattle.mqtt_rules.specs.declared.Limits.{Limits}
 use Rattle.mqtt_world_acceptance_laws.specs.Spending.{run_spends, spending}
-use Rattle.mqtt_world_acceptance_laws.proofs.Runs.{either}
+use Rattle.mqtt_world_acceptance_laws.proofs.publishers.Runs.{either}
 use Rattle.mqtt_flow.specs.Receiver.{Answer}
 use Rattle.mqtt_world_receiver_laws.specs.Drains.{times, turn_of}
 use Rattle.mqtt_world_receiver_laws.specs.Served.{IsTidy}
-use Rattle.mqtt_world_receiver_laws.proofs.Numbers.{place_of}
-use Rattle.mqtt_world_receiver_laws.proofs.WorldRoundSteps.{is_linked_now}
-use Rattle.mqtt_world_receiver_laws.proofs.WorldRoundWishes.{wish_at}
-use Rattle.mqtt_world_receiver_laws.proofs.WorldRounds.{answers_one, back_is, receiver_called_is, receiver_changed, taken_off}
+use Rattle.mqtt_world_receiver_laws.proofs.queue.Numbers.{place_of}
+use Rattle.mqtt_world_receiver_laws.proofs.drains.WorldRoundSteps.{is_linked_now}
+use Rattle.mqtt_world_receiver_laws.proofs.drains.WorldRoundWishes.{wish_at}
+use Rattle.mqtt_world_receiver_laws.proofs.drains.WorldRounds.{answers_one, back_is, receiver_called_is, receiver_changed, taken_off}
 use Rattle.mqtt_world_delivery_laws.specs.Taking.{any_size}
-use Rattle.mqtt_world_delivery_laws.proofs.Runs.{IsKept, turn_kept}
+use Rattle.mqtt_world_delivery_laws.proofs.others.Runs.{IsKept, turn_kept}
 use Rattle.mqtt_world_drain_laws.proofs.Whereabouts.{Connected, IsOn, IsOnWith, connected_of, on_again}
 
 module _ (c : List ℕ) (limits : Limits) (choice : MemberChoice) where

@@ -11,16 +11,16 @@ use Rattle.mqtt_world_acceptance_laws.specs.Copies.{entered_from}
 use Rattle.mqtt_world_acceptance_laws.specs.Fair.{IsFair}
 use Rattle.mqtt_world_acceptance_laws.specs.Spending.{run_spends}
 use Rattle.mqtt_world_receiver_laws.specs.Drains.{Doing, after_round, all_turns, copies_by, copies_left, count_by_end, drain_by, drain_turns, drained, drains, enough_rounds, happens, is_bad_drain, is_none_left, is_over, line_stands, round_turns, rounds_taken, turns_of}
-use Rattle.mqtt_world_receiver_laws.proofs.Numbers.{place_of, places_number}
-use Rattle.mqtt_world_receiver_laws.proofs.WorldRoundSteps.{is_linked_now}
-use Rattle.mqtt_world_receiver_laws.proofs.WorldRounds.{drain_is, drain_is_empty, more_rounds}
+use Rattle.mqtt_world_receiver_laws.proofs.queue.Numbers.{place_of, places_number}
+use Rattle.mqtt_world_receiver_laws.proofs.drains.WorldRoundSteps.{is_linked_now}
+use Rattle.mqtt_world_receiver_laws.proofs.drains.WorldRounds.{drain_is, drain_is_empty, more_rounds}
 use Rattle.mqtt_world_delivery_laws.specs.Taking.{any_size}
 use Rattle.mqtt_world_delivery_laws.specs.Untouched.{IsUntouched}
-use Rattle.mqtt_world_delivery_laws.proofs.Drains.{MayBeDrained, ends_within, round_carried}
-use Rattle.mqtt_world_delivery_laws.proofs.EveryRun.{carried_append, fair_run_kept, over_or_drained, spent_append, untouched_kept}
-use Rattle.mqtt_world_delivery_laws.proofs.QueueGrowth.{queue_grows}
-use Rattle.mqtt_world_delivery_laws.proofs.Runs.{IsKept, run_kept}
-use Rattle.mqtt_world_delivery_laws.proofs.Untouched.{start_untouched}
+use Rattle.mqtt_world_delivery_laws.proofs.drains.Drains.{MayBeDrained, ends_within, round_carried}
+use Rattle.mqtt_world_delivery_laws.proofs.whole.EveryRun.{carried_append, fair_run_kept, over_or_drained, spent_append, untouched_kept}
+use Rattle.mqtt_world_delivery_laws.proofs.order.QueueGrowth.{queue_grows}
+use Rattle.mqtt_world_delivery_laws.proofs.others.Runs.{IsKept, run_kept}
+use Rattle.mqtt_world_delivery_laws.proofs.broker.Untouched.{start_untouched}
 use Rattle.mqtt_world_drain_laws.specs.Emptied.{AllDrainsEmpty, EmptiesQueue, EmptiesWhere, HasEnough, copies_to_take, waiting_for}
 use Rattle.mqtt_world_drain_laws.proofs.Rounds.{round_on}
 use Rattle.mqtt_world_drain_laws.proofs.Whereabouts.{good_of, linked_stands, on_may}

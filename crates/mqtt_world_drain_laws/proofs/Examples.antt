@@ -3,11 +3,11 @@ use Rattle.std.proofs.Common.{◌≡◌, ℕ, ◌+◌, Bool, true, false, List, 
 use Rattle.mqtt_base.specs.Values.{varint}
 use Rattle.mqtt_flow.specs.declared.entry.Full.TheVariants.{Drop}
 use Rattle.mqtt_rules.specs.declared.Limits.{Limits}
-use Rattle.mqtt_rules.proofs.Play.{usual, first}
+use Rattle.mqtt_rules.proofs.examples.Play.{usual, first}
 use Rattle.mqtt_world_model.specs.Ends.{Draft}
 use Rattle.mqtt_world_model.specs.Run.{after}
 use Rattle.mqtt_world_model.specs.World.{Event, World, ask, connect_end, give_up, publish, publisher, receiver, subscribe, to_broker}
-use Rattle.mqtt_world_model.proofs.Scripts.{draft, joins, p1, r1, round, subscribes, turns, wish}
+use Rattle.mqtt_world_model.proofs.examples.Scripts.{draft, joins, p1, r1, round, subscribes, turns, wish}
 use Rattle.mqtt_world_receiver_laws.specs.Drains.{drained, enough_rounds, is_bad_drain, rounds_taken}
 use Rattle.mqtt_world_drain_laws.specs.Emptied.{copies_to_take, waiting_for}
 

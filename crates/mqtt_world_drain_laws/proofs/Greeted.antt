@@ -9,22 +9,22 @@ use Rattle.mqtt_world_model.specs.Run.{turned}
 use Rattle.mqtt_world_model.specs.Seats.{Former, IsHis}
 use Rattle.mqtt_world_model.specs.Seen.{is_linked}
 use Rattle.mqtt_world_model.specs.World.{Setting, World, ask, calls, publisher_named, receiver_named, receiver_told, taken_up, to_broker}
-use Rattle.mqtt_world_model.proofs.Seats.{kept_of}
-use Rattle.mqtt_world_model.proofs.Seeing.{linked_is, linked_of}
+use Rattle.mqtt_world_model.proofs.seats.Seats.{kept_of}
+use Rattle.mqtt_world_model.proofs.seats.Seeing.{linked_is, linked_of}
 use Rattle.mqtt_records.specs.declared.session.Session.{Session}
 use Rattle.mqtt_rules.specs.State.{Broker, MemberChoice, session_named}
 use Rattle.mqtt_rules.specs.Step.{Input, told}
 use Rattle.mqtt_rules.specs.declared.Limits.{Limits}
-use Rattle.mqtt_world_acceptance_laws.proofs.Ends.{named_receiver}
+use Rattle.mqtt_world_acceptance_laws.proofs.publishers.Ends.{named_receiver}
 use Rattle.mqtt_world_receiver_laws.specs.Calls.{IsResuming}
 use Rattle.mqtt_world_receiver_laws.specs.Drains.{turn_of}
 use Rattle.mqtt_world_receiver_laws.specs.Handing.{after_answer}
-use Rattle.mqtt_world_receiver_laws.proofs.Greetings.{HasGreeted, greeted_on, renewed_line, resumed_line}
-use Rattle.mqtt_world_receiver_laws.proofs.WorldRounds.{back_is, receiver_called_is, receiver_changed, taken_off}
+use Rattle.mqtt_world_receiver_laws.proofs.connects.Greetings.{HasGreeted, greeted_on, renewed_line, resumed_line}
+use Rattle.mqtt_world_receiver_laws.proofs.drains.WorldRounds.{back_is, receiver_called_is, receiver_changed, taken_off}
 use Rattle.mqtt_world_delivery_laws.specs.Standing.{IsPlaced, line_like}
 use Rattle.mqtt_world_delivery_laws.specs.Taking.{any_size}
-use Rattle.mqtt_world_delivery_laws.proofs.Greetings.{may_resume, spared_left, unused_next}
-use Rattle.mqtt_world_delivery_laws.proofs.Runs.{IsKept}
+use Rattle.mqtt_world_delivery_laws.proofs.own.Greetings.{may_resume, spared_left, unused_next}
+use Rattle.mqtt_world_delivery_laws.proofs.others.Runs.{IsKept}
 use Rattle.mqtt_world_drain_laws.proofs.Whereabouts.{IsOn, Waits, placed_of}
 
 module _ (c : List ℕ) (limits : Limits) (choice : MemberChoice) (w : World) (kept : IsKept [] c limits w) (x : Waits c w) (session : is_some (session_named c w.broker.records) ≡ true) where

@@ -17,9 +17,9 @@ use Rattle.mqtt_world_model.specs.World.{World, end_reads, publisher_named, rece
 use Rattle.mqtt_rules.specs.State.{Broker, MemberChoice, session_named}
 use Rattle.mqtt_rules.specs.declared.Limits.{Limits}
 use Rattle.mqtt_world_receiver_laws.specs.Drains.{all_to_end, downs_by, times, turn_of}
-use Rattle.mqtt_world_receiver_laws.proofs.Numbers.{place_of}
-use Rattle.mqtt_world_receiver_laws.proofs.OwnDoings.{keeps_reading}
-use Rattle.mqtt_world_receiver_laws.proofs.WorldRounds.{none_changed, reads, receiver_changed}
+use Rattle.mqtt_world_receiver_laws.proofs.queue.Numbers.{place_of}
+use Rattle.mqtt_world_receiver_laws.proofs.own.OwnDoings.{keeps_reading}
+use Rattle.mqtt_world_receiver_laws.proofs.drains.WorldRounds.{none_changed, reads, receiver_changed}
 use Rattle.mqtt_world_delivery_laws.specs.Taking.{any_size}
 use Rattle.mqtt_world_drain_laws.proofs.Whereabouts.{Connected, IsOn, MayEmpty, Waits, good_of, on_again}
 

@@ -8,10 +8,10 @@ use Rattle.mqtt_rules.specs.State.{MemberChoice}
 use Rattle.mqtt_rules.specs.declared.Limits.{Limits}
 use Rattle.mqtt_world_acceptance_laws.specs.Spending.{run_spends}
 use Rattle.mqtt_world_receiver_laws.specs.Drains.{after_round, all_to_broker, all_to_end, round_turns, times, ups_by}
-use Rattle.mqtt_world_receiver_laws.proofs.DrainRuns.{run_append}
-use Rattle.mqtt_world_delivery_laws.proofs.Drains.{round_carried}
-use Rattle.mqtt_world_delivery_laws.proofs.EveryRun.{carried_append, spent_append}
-use Rattle.mqtt_world_delivery_laws.proofs.Runs.{IsKept, run_kept}
+use Rattle.mqtt_world_receiver_laws.proofs.drains.DrainRuns.{run_append}
+use Rattle.mqtt_world_delivery_laws.proofs.drains.Drains.{round_carried}
+use Rattle.mqtt_world_delivery_laws.proofs.whole.EveryRun.{carried_append, spent_append}
+use Rattle.mqtt_world_delivery_laws.proofs.others.Runs.{IsKept, run_kept}
 use Rattle.mqtt_world_drain_laws.proofs.Whereabouts.{IsOn, MayEmpty, connected_of, on_may, where_is}
 use Rattle.mqtt_world_drain_laws.proofs.Sending.{sends, sent_on, sent_waits}
 use Rattle.mqtt_world_drain_laws.proofs.Reading.{read_on, read_waits}

@@ -11,8 +11,8 @@ use Rattle.mqtt_rules.specs.State.{Line as BrokerLine, Broker, MemberChoice, ses
 use Rattle.mqtt_rules.specs.Step.{Pump, at_moment, deeds, done, on_pump}
 use Rattle.mqtt_rules.specs.declared.Limits.{Limits}
 use Rattle.mqtt_world_receiver_laws.specs.Drains.{turn_of}
-use Rattle.mqtt_world_receiver_laws.proofs.Numbers.{place_of}
-use Rattle.mqtt_world_receiver_laws.proofs.WorldRounds.{pump_is, pumps, receiver_called_is}
+use Rattle.mqtt_world_receiver_laws.proofs.queue.Numbers.{place_of}
+use Rattle.mqtt_world_receiver_laws.proofs.drains.WorldRounds.{pump_is, pumps, receiver_called_is}
 use Rattle.mqtt_world_delivery_laws.specs.Taking.{any_size}
 use Rattle.mqtt_world_drain_laws.proofs.Whereabouts.{Connected, IsOnWith, MayEmpty, Waits, good_of, on_again}
 

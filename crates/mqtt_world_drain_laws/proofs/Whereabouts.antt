@@ -10,26 +10,26 @@ use Rattle.mqtt_world_model.specs.Lines.{stands}
 use Rattle.mqtt_world_model.specs.Seats.{IsHis, Present, absent, closed, joined, waiting}
 use Rattle.mqtt_world_model.specs.Seen.{heard_in, is_linked}
 use Rattle.mqtt_world_model.specs.World.{World, receiver_named}
-use Rattle.mqtt_world_model.proofs.Seats.{idle_linked}
+use Rattle.mqtt_world_model.proofs.seats.Seats.{idle_linked}
 use Rattle.mqtt_records.specs.Records.{subscribe_in}
-use Rattle.mqtt_rules.proofs.FlightRows.{all_more}
+use Rattle.mqtt_rules.proofs.flight.FlightRows.{all_more}
 use Rattle.mqtt_rules.specs.State.{Line as BrokerLine, Broker, line_at, session_named}
 use Rattle.mqtt_rules.specs.declared.Limits.{Limits}
-use Rattle.mqtt_world_acceptance_laws.proofs.Ends.{named_receiver}
+use Rattle.mqtt_world_acceptance_laws.proofs.publishers.Ends.{named_receiver}
 use Rattle.mqtt_world_receiver_laws.specs.Apart.{HasCome}
 use Rattle.mqtt_world_receiver_laws.specs.Drains.{is_bad_drain, line_stands}
 use Rattle.mqtt_world_receiver_laws.specs.Seen.{Numbering, seen}
 use Rattle.mqtt_world_receiver_laws.specs.WorldRounds.{AreTold, IsOlder}
-use Rattle.mqtt_world_receiver_laws.proofs.Numbers.{place_of, places_number}
-use Rattle.mqtt_world_receiver_laws.proofs.WorldRoundSteps.{is_linked_now}
-use Rattle.mqtt_world_receiver_laws.proofs.WorldRounds.{Here}
+use Rattle.mqtt_world_receiver_laws.proofs.queue.Numbers.{place_of, places_number}
+use Rattle.mqtt_world_receiver_laws.proofs.drains.WorldRoundSteps.{is_linked_now}
+use Rattle.mqtt_world_receiver_laws.proofs.drains.WorldRounds.{Here}
 use Rattle.mqtt_world_delivery_laws.specs.Standing.{IsPlaced, IsSeen, Stands, line_like}
 use Rattle.mqtt_world_delivery_laws.specs.Taking.{any_size}
-use Rattle.mqtt_world_delivery_laws.proofs.Drains.{connection_of}
-use Rattle.mqtt_world_delivery_laws.proofs.EveryRun.{takes_some}
-use Rattle.mqtt_world_delivery_laws.proofs.Fronts.{Awaits, IsJoined, front}
-use Rattle.mqtt_world_delivery_laws.proofs.Like.{closed_stands, connect_like, connected_linked, none_stands}
-use Rattle.mqtt_world_delivery_laws.proofs.Runs.{IsKept}
+use Rattle.mqtt_world_delivery_laws.proofs.drains.Drains.{connection_of}
+use Rattle.mqtt_world_delivery_laws.proofs.whole.EveryRun.{takes_some}
+use Rattle.mqtt_world_delivery_laws.proofs.own.Fronts.{Awaits, IsJoined, front}
+use Rattle.mqtt_world_delivery_laws.proofs.others.Like.{closed_stands, connect_like, connected_linked, none_stands}
+use Rattle.mqtt_world_delivery_laws.proofs.others.Runs.{IsKept}
 
 -- its session is connected on its line
 pub record IsOn (c : List ℕ) (w : World) : Type 0 where

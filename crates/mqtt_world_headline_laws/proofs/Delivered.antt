@@ -1,7 +1,7 @@
 -- The one law, part by part (MQTT 5.0, 3.3.4, 4.3, 4.4, 4.6, 4.8, 4.9).
 use Rattle.std.proofs.Common.{◌≡◌, ℕ, List, Some, sym, ap, ◌∙◌}
 use Rattle.std.proofs.lemmas.List.Elements.{All-from_recursion}
-use Rattle.mqtt_rules.proofs.Copies.{each_more}
+use Rattle.mqtt_rules.proofs.numbers.Copies.{each_more}
 use Rattle.mqtt_rules.specs.Laws.{AreWithin}
 use Rattle.mqtt_rules.specs.declared.Limits.{Limits}
 use Rattle.mqtt_world_model.specs.Ends.{Content, Receiver}
@@ -10,16 +10,16 @@ use Rattle.mqtt_world_model.specs.Run.{Turn, from_over, run}
 use Rattle.mqtt_world_model.specs.World.{World, publisher_named, receiver_named, start}
 use Rattle.mqtt_world_acceptance_laws.specs.Fair.{IsFair}
 use Rattle.mqtt_world_acceptance_laws.specs.Once.{CarriesIn}
-use Rattle.mqtt_world_acceptance_laws.proofs.Carried.{all_carried}
-use Rattle.mqtt_world_acceptance_laws.proofs.Runs.{accepts_once, few_open, start_new}
+use Rattle.mqtt_world_acceptance_laws.proofs.publishers.Carried.{all_carried}
+use Rattle.mqtt_world_acceptance_laws.proofs.publishers.Runs.{accepts_once, few_open, start_new}
 use Rattle.mqtt_world_routing_laws.proofs.Intended.{all_enter}
 use Rattle.mqtt_world_routing_laws.proofs.Members.{all_find_lines}
 use Rattle.mqtt_world_cause_laws.proofs.CauseRuns.{all_ends, run_caused}
 use Rattle.mqtt_world_receiver_laws.specs.Drains.{Doing, all_turns}
-use Rattle.mqtt_world_receiver_laws.proofs.DrainRuns.{drains_are_runs, run_append}
+use Rattle.mqtt_world_receiver_laws.proofs.drains.DrainRuns.{drains_are_runs, run_append}
 use Rattle.mqtt_world_delivery_laws.specs.Scripts.{DeliversOnce}
-use Rattle.mqtt_world_delivery_laws.proofs.EveryRun.{run_hands_once, run_keeps_ledger}
-use Rattle.mqtt_world_delivery_laws.proofs.Scripts.{run_delivers}
+use Rattle.mqtt_world_delivery_laws.proofs.whole.EveryRun.{run_hands_once, run_keeps_ledger}
+use Rattle.mqtt_world_delivery_laws.proofs.whole.Scripts.{run_delivers}
 use Rattle.mqtt_world_drain_laws.proofs.Emptied.{script_empties}
 use Rattle.mqtt_world_drain_cause_laws.proofs.DrainRuns.{script_ends}
 use Rattle.mqtt_world_drain_cause_laws.specs.Fitting.{AllDrainsFit}

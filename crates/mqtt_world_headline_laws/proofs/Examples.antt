@@ -6,13 +6,13 @@ use Rattle.mqtt_base.specs.Values.{varint}
 use Rattle.mqtt_base.specs.declared.session.Qos.TheVariants.{AtLeastOnce}
 use Rattle.mqtt_flow_inbound.specs.Publisher.{completed, ended_1}
 use Rattle.mqtt_rules.specs.Laws.{AreWithin}
-use Rattle.mqtt_rules.proofs.Play.{first, usual}
+use Rattle.mqtt_rules.proofs.examples.Play.{first, usual}
 use Rattle.mqtt_world_model.specs.Ends.{Draft, Receiver}
 use Rattle.mqtt_world_model.specs.Laws.{fate_of, read_count}
 use Rattle.mqtt_world_model.specs.Run.{after, run}
 use Rattle.mqtt_world_model.specs.Tellings.{handed_by}
 use Rattle.mqtt_world_model.specs.World.{Event, World, ask, break, publish, publisher, pump, receiver, receiver_named, start, to_broker, to_end}
-use Rattle.mqtt_world_model.proofs.Scripts.{draft, exchange, first_copy, joins, p1, r1, round, subscribes, turns}
+use Rattle.mqtt_world_model.proofs.examples.Scripts.{draft, exchange, first_copy, joins, p1, r1, round, subscribes, turns}
 use Rattle.mqtt_world_acceptance_laws.specs.Copies.{ended_from}
 use Rattle.mqtt_world_acceptance_laws.specs.Fair.{IsFair}
 use Rattle.mqtt_world_acceptance_laws.specs.Once.{times_accepted}

@@ -2,8 +2,8 @@
 use Rattle.std.proofs.Common.{◌≡◌, ℕ, ◌+◌, ◌≤◌, Bool, true, false, List, [], ◌∷◌, refl, sym, subst, arith}
 use Rattle.mqtt_base.specs.declared.session.CopyId.{CopyId}
 use Rattle.mqtt_records.specs.declared.records.Records.{Records}
-use Rattle.mqtt_rules.proofs.Copies.{each_more, kinds}
-use Rattle.mqtt_rules.proofs.NumberCopies.{opening_accepted, step_accepted}
+use Rattle.mqtt_rules.proofs.numbers.Copies.{each_more, kinds}
+use Rattle.mqtt_rules.proofs.numbers.NumberCopies.{opening_accepted, step_accepted}
 use Rattle.mqtt_rules.specs.Deeds.{Deed}
 use Rattle.mqtt_rules.specs.Laws.{AreWithin, IsCoherent, IsCoherentMessage}
 use Rattle.mqtt_rules.specs.Numbers.{HasAcceptedNumbers}
@@ -16,18 +16,18 @@ use Rattle.mqtt_world_model.specs.World.{World, start}
 use Rattle.mqtt_world_acceptance_laws.specs.Copies.{entered_from}
 use Rattle.mqtt_world_acceptance_laws.specs.Fair.{IsFair, opened_world}
 use Rattle.mqtt_world_acceptance_laws.specs.Identities.{TellsApart, may_come, queued_in}
-use Rattle.mqtt_world_acceptance_laws.proofs.CopyRuns.{run_balances}
-use Rattle.mqtt_world_acceptance_laws.proofs.Counting.{E}
-use Rattle.mqtt_world_acceptance_laws.proofs.Entries.{AreKept, Enters, U, call_counted, enters_next, opening_counted}
-use Rattle.mqtt_world_acceptance_laws.proofs.OnceRuns.{ends_once, opened_apart, start_apart}
-use Rattle.mqtt_world_acceptance_laws.proofs.Walks.{Walk, run_walks}
+use Rattle.mqtt_world_acceptance_laws.proofs.copies.CopyRuns.{run_balances}
+use Rattle.mqtt_world_acceptance_laws.proofs.copies.Counting.{E}
+use Rattle.mqtt_world_acceptance_laws.proofs.copies.Entries.{AreKept, Enters, U, call_counted, enters_next, opening_counted}
+use Rattle.mqtt_world_acceptance_laws.proofs.copies.OnceRuns.{ends_once, opened_apart, start_apart}
+use Rattle.mqtt_world_acceptance_laws.proofs.copies.Walks.{Walk, run_walks}
 use Rattle.mqtt_world_receiver_laws.specs.Drains.{all_turns}
-use Rattle.mqtt_world_receiver_laws.proofs.DrainRuns.{drains_are_runs}
+use Rattle.mqtt_world_receiver_laws.proofs.drains.DrainRuns.{drains_are_runs}
 use Rattle.mqtt_world_delivery_laws.specs.Alone.{IsKept}
 use Rattle.mqtt_world_delivery_laws.specs.Untouched.{IsUntouched}
-use Rattle.mqtt_world_delivery_laws.proofs.Alone.{run_keeps}
-use Rattle.mqtt_world_delivery_laws.proofs.EveryRun.{fair_run_kept, run_opens_again}
-use Rattle.mqtt_world_delivery_laws.proofs.Untouched.{start_untouched}
+use Rattle.mqtt_world_delivery_laws.proofs.broker.Alone.{run_keeps}
+use Rattle.mqtt_world_delivery_laws.proofs.whole.EveryRun.{fair_run_kept, run_opens_again}
+use Rattle.mqtt_world_delivery_laws.proofs.broker.Untouched.{start_untouched}
 use Rattle.mqtt_rules_spelling_laws.specs.Sending.{SendsWell}
 use Rattle.mqtt_rules_spelling_laws.proofs.Steps.{well_reopened}
 use Rattle.mqtt_world_reading_laws.specs.Sayable.{AreSayable}

@@ -3,8 +3,8 @@ use Rattle.std.proofs.Common.{◌≡◌, Bool, true, false, ◌&&◌, List, [], 
 use Rattle.std.specs.Str.{is_utf8, chars}
 use Rattle.std.proofs.Math.Utf8.{encode}
 use Rattle.mqtt_base.specs.Values.{is_text}
-use Rattle.mqtt_rules.proofs.PassedContents.{two}
-use Rattle.mqtt_rules.proofs.Play.{usual}
+use Rattle.mqtt_rules.proofs.contents.PassedContents.{two}
+use Rattle.mqtt_rules.proofs.examples.Play.{usual}
 use Rattle.mqtt_world_model.specs.World.{Asking, Event, ask, break, clock, connect_end, give_up, old_to_broker, publish, publisher, pump, receiver, restart, stop_after, stop_before, stranger, subscribe, tick, to_broker, to_end}
 use Rattle.mqtt_world_receiver_laws.specs.Drains.{Doing, drains, happens}
 use Rattle.mqtt_world_drain_cause_laws.specs.Fitting.{AllDrainsFit}

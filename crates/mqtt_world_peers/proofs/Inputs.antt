@@ -6,7 +6,7 @@ use Rattle.mqtt_base.specs.Values.{FitsText, varint}
 use Rattle.mqtt_base.specs.declared.limits.TheConstants.{PACKET_LIMIT}
 use Rattle.mqtt_codec.specs.Packets.{Fits, is_lawful, shortest_body}
 use Rattle.mqtt_codec.specs.declared.packet.Packet.{Packet}
-use Rattle.mqtt_rules.proofs.PassedContents.{and_two, two}
+use Rattle.mqtt_rules.proofs.contents.PassedContents.{and_two, two}
 use Rattle.mqtt_rules.specs.Contents.{IsTaken}
 use Rattle.mqtt_rules.specs.Packets.{size_of}
 use Rattle.mqtt_world_model.specs.Ends.{Draft, Wish, subscribe_with}

@@ -18,8 +18,8 @@ use Rattle.mqtt_props.specs.declared.table.PropName.TheVariants.{TopicAlias}
 use Rattle.mqtt_flow.specs.Receiver.{connect, puback, pubcomp, pubrec}
 use Rattle.mqtt_flow_inbound.specs.Identifiers.{is_among}
 use Rattle.mqtt_flow_inbound.specs.Line.{Link, away, asked, live}
-use Rattle.mqtt_rules.proofs.Copies.{each_append}
-use Rattle.mqtt_rules.proofs.PassedContents.{two}
+use Rattle.mqtt_rules.proofs.numbers.Copies.{each_append}
+use Rattle.mqtt_rules.proofs.contents.PassedContents.{two}
 use Rattle.mqtt_rules.specs.State.{Broker}
 use Rattle.mqtt_rules.specs.Step.{Outcome}
 use Rattle.mqtt_world_model.specs.Ends.{Receiver, Wish, answers, asks_for, greeted, hears, new_receiver, reads_publish, receiver_connack, receiver_reads}

@@ -3,7 +3,7 @@ use Rattle.std.proofs.Common.{◌≡◌, ℕ, zero, suc, Bool, true, false, cond
 use Rattle.std.specs.Prelude.{is_some}
 use Rattle.std.specs.List.{AllByRecursion}
 use Rattle.mqtt_flow.specs.Receiver.{connect}
-use Rattle.mqtt_rules.proofs.Copies.{each_append}
+use Rattle.mqtt_rules.proofs.numbers.Copies.{each_append}
 use Rattle.mqtt_rules.specs.Step.{Call, NewLine, can_link, stepped, told}
 use Rattle.mqtt_rules.specs.declared.Limits.{Limits}
 use Rattle.mqtt_world_model.specs.Ends.{Receiver, answers, new_receiver, receiver_reads}
@@ -11,10 +11,10 @@ use Rattle.mqtt_world_model.specs.Lines.{gives_up, joined, left}
 use Rattle.mqtt_world_model.specs.Run.{Turn, read_asked, read_at, read_first, read_if, read_in, read_opening, read_rest, run, setting, turned}
 use Rattle.mqtt_world_model.specs.World.{Asking, Event, Setting, Stranger, World, answers_rest, ask, asks, asks_wish, before, break, call_of, call_of_stranger, calls, calls_if, clock, comes, connect_end, end_reads, first_step, give_up, happens, held_after, held_count, is_bad, is_open_line, linked_at, links, next_held, next_line, old_to_broker, publish, publisher, publisher_named, pump, receiver, receiver_named, receiver_restarted, receiver_told, restart, restarts, stop_after, stop_before, stranger, stranger_named, subscribe, taken_old, taken_up, tick, to_broker, to_end, unlinked, view_of}
 use Rattle.mqtt_world_acceptance_laws.specs.Spending.{run_spends, spending}
-use Rattle.mqtt_world_acceptance_laws.proofs.Runs.{either}
-use Rattle.mqtt_world_acceptance_laws.proofs.Steady.{linking_spends_none}
+use Rattle.mqtt_world_acceptance_laws.proofs.publishers.Runs.{either}
+use Rattle.mqtt_world_acceptance_laws.proofs.copies.Steady.{linking_spends_none}
 use Rattle.mqtt_world_cause_laws.specs.Endings.{Asked, asked_over, the_asked}
-use Rattle.mqtt_world_receiver_laws.proofs.DrainRuns.{run_append}
+use Rattle.mqtt_world_receiver_laws.proofs.drains.DrainRuns.{run_append}
 use Rattle.mqtt_rules_spelling_laws.specs.Sending.{IsAsked, SendsWell}
 use Rattle.mqtt_rules_spelling_laws.proofs.Steps.{well_reopened, well_spelled, well_stepped}
 use Rattle.mqtt_world_single_step_laws.specs.Taken.{HasTexts, HaveTexts, IsTakenFrom, IsTakenFromReceiver}

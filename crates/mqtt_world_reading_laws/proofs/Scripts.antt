@@ -1,6 +1,6 @@
 -- Scripts, and what begins with nothing stored (MQTT 5.0, 2.1.4, 3.1.2.11.4).
 use Rattle.std.proofs.Common.{ℕ, zero, suc, Bool, true, false, cond, List, [], ◌∷◌, ◌++◌}
-use Rattle.mqtt_rules.proofs.Copies.{each_append}
+use Rattle.mqtt_rules.proofs.numbers.Copies.{each_append}
 use Rattle.mqtt_rules.specs.Laws.{AreWithin}
 use Rattle.mqtt_rules.specs.State.{MemberChoice}
 use Rattle.mqtt_rules.specs.declared.Limits.{Limits}
@@ -10,7 +10,7 @@ use Rattle.mqtt_world_acceptance_laws.specs.Fair.{IsFair, IsNew}
 use Rattle.mqtt_world_receiver_laws.specs.Drains.{Doing, after_round, all_to_broker, all_to_end, all_turns, downs_by, drain_by, drain_turns, drains, happens, is_bad_drain, is_over, round_turns, times, turn_of, turns_of, ups_by}
 use Rattle.mqtt_world_model.specs.World.{receiver_named}
 use Rattle.mqtt_world_delivery_laws.specs.Untouched.{IsUntouched}
-use Rattle.mqtt_world_delivery_laws.proofs.Untouched.{start_untouched}
+use Rattle.mqtt_world_delivery_laws.proofs.broker.Untouched.{start_untouched}
 use Rattle.mqtt_rules_spelling_laws.specs.Sending.{SendsWell}
 use Rattle.mqtt_world_drain_cause_laws.specs.Fitting.{AllDrainsFit, AllReadLawful}
 use Rattle.mqtt_world_drain_cause_laws.proofs.Fitting.{script_fits}

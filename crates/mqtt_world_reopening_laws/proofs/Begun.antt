@@ -7,16 +7,16 @@ use Rattle.mqtt_rules.specs.State.{MemberChoice}
 use Rattle.mqtt_rules.specs.Step.{is_opening_spent}
 use Rattle.mqtt_rules.specs.declared.Limits.{Limits}
 use Rattle.mqtt_broker_calls.proofs.Flights.{lawful_flight}
-use Rattle.mqtt_rules.proofs.ContentLaw.{opening_contents}
-use Rattle.mqtt_rules.proofs.LawfulContents.{lawful_contents}
-use Rattle.mqtt_rules.proofs.LawfulRecords.{lawful_accepted, lawful_coherent}
-use Rattle.mqtt_rules.proofs.NumberCopies.{opening_accepted}
-use Rattle.mqtt_rules.proofs.SpelledContents.{rows_are}
+use Rattle.mqtt_rules.proofs.contents.ContentLaw.{opening_contents}
+use Rattle.mqtt_rules.proofs.contents.LawfulContents.{lawful_contents}
+use Rattle.mqtt_rules.proofs.fit.LawfulRecords.{lawful_accepted, lawful_coherent}
+use Rattle.mqtt_rules.proofs.numbers.NumberCopies.{opening_accepted}
+use Rattle.mqtt_rules.proofs.contents.SpelledContents.{rows_are}
 use Rattle.mqtt_world_acceptance_laws.specs.Fair.{MayOpen, opened_world}
-use Rattle.mqtt_world_acceptance_laws.proofs.OnceRuns.{opened_apart}
+use Rattle.mqtt_world_acceptance_laws.proofs.copies.OnceRuns.{opened_apart}
 use Rattle.mqtt_world_receiver_laws.specs.Drains.{Doing}
 use Rattle.mqtt_world_delivery_laws.specs.Retaining.{AreRetainedOnce}
-use Rattle.mqtt_world_delivery_laws.proofs.Untouched.{opened_untouched}
+use Rattle.mqtt_world_delivery_laws.proofs.broker.Untouched.{opened_untouched}
 use Rattle.mqtt_world_headline_laws.specs.Delivery.{DoingsDeliver}
 use Rattle.mqtt_world_headline_laws.specs.Lives.{BeginsWell, IsFairScript}
 use Rattle.mqtt_world_headline_laws.proofs.Delivered.{script_delivers}

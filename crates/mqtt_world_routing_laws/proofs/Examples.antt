@@ -22,12 +22,12 @@ use Rattle.mqtt_routes.specs.Subscriptions.{Subscriber}
 use Rattle.mqtt_routes.specs.declared.subscription.Subscription.{Subscription}
 use Rattle.mqtt_rules.specs.Routing.{CopyTo, accepted_copies}
 use Rattle.mqtt_rules.specs.State.{line_of}
-use Rattle.mqtt_rules.proofs.Play.{usual, topic, hi, options, bytes}
+use Rattle.mqtt_rules.proofs.examples.Play.{usual, topic, hi, options, bytes}
 use Rattle.mqtt_world_model.specs.Ends.{Draft}
 use Rattle.mqtt_world_model.specs.World.{Event, publisher, receiver, publish, subscribe, ask, to_broker, restart, stranger, start}
 use Rattle.mqtt_world_model.specs.Run.{Acceptance, acceptances_over}
 use Rattle.mqtt_world_model.specs.Laws.{is_own}
-use Rattle.mqtt_world_model.proofs.Scripts.{turns, p1, r1, draft, joins, subscribes, exchange}
+use Rattle.mqtt_world_model.proofs.examples.Scripts.{turns, p1, r1, draft, joins, subscribes, exchange}
 use Rattle.mqtt_world_acceptance_laws.specs.Copies.{entered_from}
 use Rattle.mqtt_world_routing_laws.specs.Groups.{gets_direct, has_member}
 use Rattle.mqtt_world_routing_laws.specs.Intended.{is_groups}

@@ -17,10 +17,10 @@ use Rattle.mqtt_records_rows.specs.Order.{IsAbove, IsAscending}
 use Rattle.mqtt_records_rows.proofs.OrderLemmas.{apart}
 use Rattle.mqtt_topic.specs.Filters.{begins_share, group_of}
 use Rattle.mqtt_rules.specs.Laws.{IsAmong}
-use Rattle.mqtt_rules.proofs.Copies.{each_all, each_more}
-use Rattle.mqtt_world_acceptance_laws.proofs.CopiesApart.{Any}
-use Rattle.mqtt_world_acceptance_laws.proofs.RoutedApart.{AreStanding, IsApart, IsGroups, routed_apart}
-use Rattle.mqtt_world_acceptance_laws.proofs.Shares.{same_group}
+use Rattle.mqtt_rules.proofs.numbers.Copies.{each_all, each_more}
+use Rattle.mqtt_world_acceptance_laws.proofs.copies.CopiesApart.{Any}
+use Rattle.mqtt_world_acceptance_laws.proofs.copies.RoutedApart.{AreStanding, IsApart, IsGroups, routed_apart}
+use Rattle.mqtt_world_acceptance_laws.proofs.copies.Shares.{same_group}
 use Rattle.mqtt_world_routing_laws.specs.Groups.{gets_direct, is_of_group, has_member, IsOfSession, IsServedOnce, AreServedOnce, EachGetsOne}
 use Rattle.mqtt_world_routing_laws.proofs.Lists.{some_pass, one_among, among_passing}
 

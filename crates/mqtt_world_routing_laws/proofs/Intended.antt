@@ -14,7 +14,7 @@ use Rattle.mqtt_records_rows.specs.Order.{IsAbove, IsAscending}
 use Rattle.mqtt_rules.specs.declared.Limits.{Limits}
 use Rattle.mqtt_rules.specs.Laws.{IsAmong}
 use Rattle.mqtt_rules.specs.Routing.{CopyTo, copies_to, accepted_if, accepted_copies, finds_place, routing_of, next_publication, answers, publication_of, subscriber_of, subscribers}
-use Rattle.mqtt_rules.proofs.Copies.{each_more}
+use Rattle.mqtt_rules.proofs.numbers.Copies.{each_more}
 use Rattle.mqtt_world_model.specs.World.{World, start}
 use Rattle.mqtt_world_model.specs.Run.{Turn, run, Acceptance, acceptances_over, deeds_over}
 use Rattle.mqtt_world_model.specs.Laws.{count_of, is_copy, is_own, standing, EnteredOnce, CopiesOnce}
@@ -22,11 +22,11 @@ use Rattle.mqtt_world_acceptance_laws.specs.Copies.{entered_from, ended_from}
 use Rattle.mqtt_world_acceptance_laws.specs.Entries.{queued_ids, ids_if, brought_in}
 use Rattle.mqtt_world_acceptance_laws.specs.Fair.{IsNew, IsFair}
 use Rattle.mqtt_world_acceptance_laws.specs.Steps.{Step, steps_over}
-use Rattle.mqtt_world_acceptance_laws.proofs.CopiesApart.{accepted_differ, queued_differ}
-use Rattle.mqtt_world_acceptance_laws.proofs.CopyRuns.{run_balances, run_numbers}
-use Rattle.mqtt_world_acceptance_laws.proofs.OnceRuns.{enters_once, start_apart}
-use Rattle.mqtt_world_acceptance_laws.proofs.Runs.{start_new}
-use Rattle.mqtt_world_acceptance_laws.proofs.StepRuns.{run_enters}
+use Rattle.mqtt_world_acceptance_laws.proofs.copies.CopiesApart.{accepted_differ, queued_differ}
+use Rattle.mqtt_world_acceptance_laws.proofs.copies.CopyRuns.{run_balances, run_numbers}
+use Rattle.mqtt_world_acceptance_laws.proofs.copies.OnceRuns.{enters_once, start_apart}
+use Rattle.mqtt_world_acceptance_laws.proofs.publishers.Runs.{start_new}
+use Rattle.mqtt_world_acceptance_laws.proofs.copies.StepRuns.{run_enters}
 use Rattle.mqtt_world_routing_laws.specs.Intended.{intended_for, is_groups, EntersForGroup, EntersAsIntended, AllEnterAsIntended}
 use Rattle.mqtt_world_routing_laws.proofs.Groups.{each_gets_one, served_differ}
 use Rattle.mqtt_world_routing_laws.proofs.Lists.{each_among}

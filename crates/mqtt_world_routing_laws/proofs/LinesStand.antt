@@ -29,20 +29,20 @@ use Rattle.mqtt_rules.specs.State.{Line, Broker, Env, session_at, is_connected, 
 use Rattle.mqtt_rules.specs.Step.{Call, deeds, env_of, at_moment, with_moment, is_step_spent, close_if, opening}
 use Rattle.mqtt_rules.specs.Subscribe as sub
 use Rattle.mqtt_rules.specs.Tick.{lapses, lapse_deeds}
-use Rattle.mqtt_rules.proofs.Acts.{is_alone, closing_session, closing_on, closing, brought_to, MayEnd, IsPrepared, Law, leads_call}
-use Rattle.mqtt_rules.proofs.ByDeeds.{by_deeds, turn_law}
-use Rattle.mqtt_rules.proofs.Coherent.{Coheres, IsFit}
-use Rattle.mqtt_rules.proofs.Copies.{each_append, each_flat}
-use Rattle.mqtt_rules.proofs.FitLaw.{Keeps, naming, fit_law, fit_mark, autos_grow}
-use Rattle.mqtt_rules.proofs.Goods.{AreGood, good_append, good_two}
-use Rattle.mqtt_rules.proofs.Leads.{Leads}
-use Rattle.mqtt_rules.proofs.LineActs.{quiet_turn, quiet_pump, quiet_lapses, quiet_publish, quiet_grants, still_settle}
-use Rattle.mqtt_rules.proofs.LineLaw.{here, unique_quiet, unique_linked, unique_closes, unique_ended, unique_resumed, unique_begun}
-use Rattle.mqtt_rules.proofs.LinePrepared.{cleared_shut, prepared_shut, named_is, named_stands}
-use Rattle.mqtt_rules.proofs.LineRows.{IsStill, IsQuiet}
-use Rattle.mqtt_rules.proofs.LineSteps.{Keep}
-use Rattle.mqtt_rules.proofs.NumberFacts.{Counts, counts_deed}
-use Rattle.mqtt_rules.proofs.RowsFit.{made_of, naming_call, moment_last, step_coherent}
+use Rattle.mqtt_rules.proofs.acts.Acts.{is_alone, closing_session, closing_on, closing, brought_to, MayEnd, IsPrepared, Law, leads_call}
+use Rattle.mqtt_rules.proofs.acts.ByDeeds.{by_deeds, turn_law}
+use Rattle.mqtt_rules.proofs.fit.Coherent.{Coheres, IsFit}
+use Rattle.mqtt_rules.proofs.numbers.Copies.{each_append, each_flat}
+use Rattle.mqtt_rules.proofs.fit.FitLaw.{Keeps, naming, fit_law, fit_mark, autos_grow}
+use Rattle.mqtt_rules.proofs.acts.Goods.{AreGood, good_append, good_two}
+use Rattle.mqtt_rules.proofs.acts.Leads.{Leads}
+use Rattle.mqtt_rules.proofs.lines.LineActs.{quiet_turn, quiet_pump, quiet_lapses, quiet_publish, quiet_grants, still_settle}
+use Rattle.mqtt_rules.proofs.lines.LineLaw.{here, unique_quiet, unique_linked, unique_closes, unique_ended, unique_resumed, unique_begun}
+use Rattle.mqtt_rules.proofs.lines.LinePrepared.{cleared_shut, prepared_shut, named_is, named_stands}
+use Rattle.mqtt_rules.proofs.lines.LineRows.{IsStill, IsQuiet}
+use Rattle.mqtt_rules.proofs.lines.LineSteps.{Keep}
+use Rattle.mqtt_rules.proofs.numbers.NumberFacts.{Counts, counts_deed}
+use Rattle.mqtt_rules.proofs.fit.RowsFit.{made_of, naming_call, moment_last, step_coherent}
 use Rattle.mqtt_world_model.specs.Run.{Acceptance, acceptances_of}
 use Rattle.mqtt_world_acceptance_laws.specs.Fair.{IsSteady}
 use Rattle.mqtt_world_routing_laws.proofs.OwnSteps.{IsOther, AreOther, other_deliveries, other_retain, leave_other}

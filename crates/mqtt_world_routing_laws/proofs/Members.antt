@@ -13,8 +13,8 @@ use Rattle.mqtt_rules.specs.Packets.{quality}
 use Rattle.mqtt_rules.specs.Routing.{copy_to, served_copies_to, is_queued_at, is_there, answers, publication_of, subscribers}
 use Rattle.mqtt_rules.specs.State.{Broker, Env, Line, line_of, session_at, is_connected}
 use Rattle.mqtt_rules.specs.declared.Limits.{Limits}
-use Rattle.mqtt_rules.proofs.Copies.{each_append}
-use Rattle.mqtt_rules.proofs.LineLaw.{line_found}
+use Rattle.mqtt_rules.proofs.numbers.Copies.{each_append}
+use Rattle.mqtt_rules.proofs.lines.LineLaw.{line_found}
 use Rattle.mqtt_world_model.specs.Run.{Turn, Acceptance, acceptances_over}
 use Rattle.mqtt_world_model.specs.World.{World}
 use Rattle.mqtt_world_acceptance_laws.specs.Fair.{IsNew, IsFair}

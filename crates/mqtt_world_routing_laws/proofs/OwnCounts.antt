@@ -21,12 +21,12 @@ use Rattle.mqtt_rules.specs.Laws.{IsAmong}
 use Rattle.mqtt_rules.specs.Numbers.{CountsOn}
 use Rattle.mqtt_rules.specs.Packets.{quality}
 use Rattle.mqtt_rules.specs.Routing.{CopyTo, copy_to, served_copies_to, copies_to, is_queued, is_queued_at}
-use Rattle.mqtt_rules.proofs.Copies.{each_more}
+use Rattle.mqtt_rules.proofs.numbers.Copies.{each_more}
 use Rattle.mqtt_world_model.specs.Laws.{count_of, is_copy, is_own, is_share, is_routed}
 use Rattle.mqtt_world_model.specs.Run.{Acceptance}
 use Rattle.mqtt_world_acceptance_laws.specs.Entries.{id_of, queued_ids}
-use Rattle.mqtt_world_acceptance_laws.proofs.Counting.{count_cons}
-use Rattle.mqtt_world_acceptance_laws.proofs.Told.{copy_is, count_none}
+use Rattle.mqtt_world_acceptance_laws.proofs.copies.Counting.{count_cons}
+use Rattle.mqtt_world_acceptance_laws.proofs.copies.Told.{copy_is, count_none}
 use Rattle.mqtt_world_routing_laws.specs.Intended.{is_intended, is_groups, enters_queue}
 use Rattle.mqtt_world_routing_laws.proofs.OwnRuns.{number_of}
 use Rattle.mqtt_world_routing_laws.proofs.OwnSteps.{its_ids, own_ids}

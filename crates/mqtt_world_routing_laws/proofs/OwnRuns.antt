@@ -12,14 +12,14 @@ use Rattle.mqtt_rules.specs.Laws.{AreWithin}
 use Rattle.mqtt_rules.specs.Numbers.{publication_given}
 use Rattle.mqtt_rules.specs.Step.{Call, NewLine, can_link, env_of, at_moment, deeds, unopened}
 use Rattle.mqtt_rules.specs.Lines.{HasUniqueLines}
-use Rattle.mqtt_rules.proofs.Copies.{each_append, each_more}
+use Rattle.mqtt_rules.proofs.numbers.Copies.{each_append, each_more}
 use Rattle.mqtt_world_model.specs.World.{World, Setting, Event, publisher, receiver, connect_end, give_up, publish, subscribe, to_end, clock, ask, restart, stop_before, stop_after, Asking, to_broker, old_to_broker, break, pump, tick, stranger, stranger_named, calls_if, comes, next_held, call_of_stranger, held_count, before, call_of, first_step, is_bad}
 use Rattle.mqtt_world_model.specs.Run.{Turn, setting, turned, deeds_at, deeds_over, read_if, read_rest, read_first, read_asked, read_opening, read_in, read_at, the_deeds, Acceptance, acceptances_of, acceptances_over, the_acceptances}
 use Rattle.mqtt_world_acceptance_laws.specs.Spending.{run_spends, spending}
 use Rattle.mqtt_world_acceptance_laws.specs.Fair.{IsSteady, IsNew, IsFair}
 use Rattle.mqtt_world_acceptance_laws.specs.Steps.{Step, step_called, opening_step, steps_over, the_steps}
-use Rattle.mqtt_world_acceptance_laws.proofs.Walks.{Walk, before_goes, first_goes, if_goes, same_cost, comes_goes, turn_goes}
-use Rattle.mqtt_world_acceptance_laws.proofs.Runs.{either}
+use Rattle.mqtt_world_acceptance_laws.proofs.copies.Walks.{Walk, before_goes, first_goes, if_goes, same_cost, comes_goes, turn_goes}
+use Rattle.mqtt_world_acceptance_laws.proofs.publishers.Runs.{either}
 use Rattle.mqtt_world_routing_laws.proofs.LinesStand.{IsUnique, HasNoLine, call_unique, opening_lineless}
 use Rattle.mqtt_world_routing_laws.proofs.OwnSteps.{AreNext, call_next, opening_next, numbers_are}
 

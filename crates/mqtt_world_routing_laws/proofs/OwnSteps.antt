@@ -23,19 +23,19 @@ use Rattle.mqtt_rules.specs.Routing.{CopyTo, is_queued, deliver_by, deliver, ret
 use Rattle.mqtt_rules.specs.State.{Broker, Env, session_at, line_of, queue_on}
 use Rattle.mqtt_rules.specs.Step.{Call, deeds_of, opening}
 use Rattle.mqtt_rules.specs.Subscribe as sub
-use Rattle.mqtt_rules.proofs.Acts.{brought_to}
-use Rattle.mqtt_rules.proofs.Copies.{IsNumbered, each_append, each_map, each_more, routed_numbered}
-use Rattle.mqtt_rules.proofs.OrderedActs.{IsPlain, ArePlain, plain_flat, plain_leave, plain_offer}
-use Rattle.mqtt_rules.proofs.StandLaw.{Orders}
+use Rattle.mqtt_rules.proofs.acts.Acts.{brought_to}
+use Rattle.mqtt_rules.proofs.numbers.Copies.{IsNumbered, each_append, each_map, each_more, routed_numbered}
+use Rattle.mqtt_rules.proofs.order.OrderedActs.{IsPlain, ArePlain, plain_flat, plain_leave, plain_offer}
+use Rattle.mqtt_rules.proofs.fit.StandLaw.{Orders}
 use Rattle.mqtt_rules.specs.Numbers.{publication_given}
 use Rattle.mqtt_world_model.specs.Run.{Acceptance, accepted_by, acceptances_of}
 use Rattle.mqtt_world_model.specs.Laws.{is_own, is_routed}
 use Rattle.mqtt_world_acceptance_laws.specs.Entries.{ids_if, queued_ids, retained_ids, wish_in}
-use Rattle.mqtt_world_acceptance_laws.proofs.CopiesApart.{Any, accepted_differ}
-use Rattle.mqtt_world_acceptance_laws.proofs.Differ.{each_mapped}
-use Rattle.mqtt_world_acceptance_laws.proofs.EachAct.{Says, call_says, opening_says, says_still, whatever}
-use Rattle.mqtt_world_acceptance_laws.proofs.Entering.{IsStill, AreStill, brought_by}
-use Rattle.mqtt_world_acceptance_laws.proofs.RoutedApart.{IsCauseOf, id_to}
+use Rattle.mqtt_world_acceptance_laws.proofs.copies.CopiesApart.{Any, accepted_differ}
+use Rattle.mqtt_world_acceptance_laws.proofs.copies.Differ.{each_mapped}
+use Rattle.mqtt_world_acceptance_laws.proofs.copies.EachAct.{Says, call_says, opening_says, says_still, whatever}
+use Rattle.mqtt_world_acceptance_laws.proofs.copies.Entering.{IsStill, AreStill, brought_by}
+use Rattle.mqtt_world_acceptance_laws.proofs.copies.RoutedApart.{IsCauseOf, id_to}
 
 -- ---- deeds that accept nothing
 

@@ -8,8 +8,8 @@ use Rattle.mqtt_base.specs.declared.limits.TheConstants.{CLIENT_LIMIT}
 use Rattle.mqtt_flow.specs.Receiver.{connect}
 use Rattle.mqtt_flow_inbound.specs.Publisher.{CONNECT}
 use Rattle.mqtt_records.specs.Session.{auto}
-use Rattle.mqtt_rules.proofs.Copies.{each_append}
-use Rattle.mqtt_rules.proofs.FlightRows.{all_more}
+use Rattle.mqtt_rules.proofs.numbers.Copies.{each_append}
+use Rattle.mqtt_rules.proofs.flight.FlightRows.{all_more}
 use Rattle.mqtt_rules.specs.Step.{Call, NewLine, stepped, told}
 use Rattle.mqtt_rules.specs.declared.Limits.{Limits}
 use Rattle.mqtt_world_model.specs.Ends.{Back, Publisher, Receiver, Sent, answers, new_publisher, new_receiver, publisher_reads, published, receiver_reads, shake}

@@ -2,7 +2,7 @@
 use Rattle.std.proofs.Common.{ℕ, Bool, true, false, List, [], ◌∷◌, drop}
 use Rattle.std.specs.List.{AllByRecursion}
 use Rattle.mqtt_flow_inbound.specs.Line.{Link, away, asked, live, sent_on}
-use Rattle.mqtt_rules.proofs.Copies.{each_append}
+use Rattle.mqtt_rules.proofs.numbers.Copies.{each_append}
 use Rattle.mqtt_rules.specs.State.{Broker}
 use Rattle.mqtt_rules.specs.Step.{Outcome}
 use Rattle.mqtt_world_model.specs.Ends.{goes}

@@ -25,7 +25,7 @@ use Rattle.mqtt_props.specs.declared.place.Place.{Place}
 use Rattle.mqtt_props.specs.declared.place.Place.TheVariants as places
 use Rattle.mqtt_props.specs.declared.table.PropName.TheVariants.{ReceiveMaximum, SessionExpiryInterval, TopicAlias}
 use Rattle.mqtt_codec_subscribe.specs.Options.{handling_number, options_byte}
-use Rattle.mqtt_rules.proofs.PassedContents.{and_two, two}
+use Rattle.mqtt_rules.proofs.contents.PassedContents.{and_two, two}
 use Rattle.mqtt_rules.specs.Contents.{IsTaken}
 use Rattle.mqtt_records_message.specs.PassedOn.{property}
 use Rattle.mqtt_rules.specs.Packets.{size_of}

@@ -12,9 +12,9 @@ use Rattle.mqtt_codec.specs.declared.publish.Delivery.TheVariants as delivery
 use Rattle.mqtt_flow_inbound.specs.Identifiers.{free_identifier, is_among, lowest_from}
 use Rattle.mqtt_flow_inbound.specs.Line.{Link, away, asked, live}
 use Rattle.mqtt_flow_inbound.specs.Publisher.{Fate, sent_1, ended_1, sent, released, ended, CONNECT, PUBLISH_1, PUBLISH_2, PUBREL, Qos, qos_1, qos_2, ToPublisher, CONNACK, CONNACK_REFUSED, PUBACK, PUBREC, PUBCOMP, DISCONNECT, completed, acknowledged, received, first_fate, first_packet, in_flight, is_sent, on_new_session, on_puback, on_pubcomp, on_pubrec, pubrel_for, pubrel_if, resent_from}
-use Rattle.mqtt_rules.proofs.Copies.{each_append}
-use Rattle.mqtt_rules.proofs.FlightRows.{all_more}
-use Rattle.mqtt_rules.proofs.PassedContents.{two}
+use Rattle.mqtt_rules.proofs.numbers.Copies.{each_append}
+use Rattle.mqtt_rules.proofs.flight.FlightRows.{all_more}
+use Rattle.mqtt_rules.proofs.contents.PassedContents.{two}
 use Rattle.mqtt_rules.specs.Contents.{IsTaken}
 use Rattle.mqtt_world_model.specs.Ends.{Content, Draft, Publisher, Sent, connected, content_at, goes, goes_out, heard, new_publisher, numbered, plain, publish_with, published, publisher_reads, reads, reads_connack, reads_if, send_all, send_one, send_unsent, shake, wire}
 use Rattle.mqtt_world_model.specs.Lines.{Down, Line, left}

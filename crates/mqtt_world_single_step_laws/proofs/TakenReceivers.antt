@@ -11,7 +11,7 @@ use Rattle.mqtt_codec.specs.declared.publish.Publish.{Publish as Publication}
 use Rattle.mqtt_flow.specs.Receiver.{connect, puback, pubcomp, pubrec}
 use Rattle.mqtt_flow_inbound.specs.Identifiers.{is_among}
 use Rattle.mqtt_flow_inbound.specs.Line.{Link, away, asked, live}
-use Rattle.mqtt_rules.proofs.FlightRows.{all_more}
+use Rattle.mqtt_rules.proofs.flight.FlightRows.{all_more}
 use Rattle.mqtt_rules.specs.Contents.{IsTaken}
 use Rattle.mqtt_rules.specs.Packets as sent
 use Rattle.mqtt_world_model.specs.Ends.{Back, Receiver, Wish, answers, asks_for, greeted, hears, new_receiver, reads_publish, receiver_connack, receiver_reads, subscribe_with}

@@ -1,7 +1,7 @@
 use Rattle.std.proofs.Common.{◌≡◌, rules, sym, subst}
 use Rattle.std.specs.Prelude.{⊤, Result, Err, IfErr}
-use Rattle.mqtt_rules.proofs.LawfulContents.{lawful_contents}
-use Rattle.mqtt_rules.proofs.LawfulRecords.{lawful_coherent}
+use Rattle.mqtt_rules.proofs.contents.LawfulContents.{lawful_contents}
+use Rattle.mqtt_rules.proofs.fit.LawfulRecords.{lawful_coherent}
 use Rattle.mqtt_broker_step.specs.declared.fault.StepFault.{StepFault}
 use Rattle.mqtt_broker_step.proofs.Doing.{if_err_too, on_ok}
 use Rattle.mqtt_broker_index.proofs.Followed.{indexed_lawful}

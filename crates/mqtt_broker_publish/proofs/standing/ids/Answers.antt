@@ -1,4 +1,4 @@
-use Rattle.mqtt_rules.proofs.OpenLists.{increasing_there}
+use Rattle.mqtt_rules.proofs.order.OpenLists.{increasing_there}
 use Rattle.mqtt_broker_publish.proofs.standing.ids.Goals as goal
 
 pub returns-clause-lawful : goal.returns-clause-lawful

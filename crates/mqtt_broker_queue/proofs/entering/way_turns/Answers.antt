@@ -1,7 +1,7 @@
 use Rattle.std.proofs.Common.{arith, ◌≡◌, ◌+◌, ◌-◌, [], length, map, ap, subst, sym, ◌∙◌}
 use Rattle.mqtt_flow.specs.Outbound.{has_room, way_made}
-use Rattle.mqtt_rules.proofs.TurnLists.{drops_rise}
-use Rattle.mqtt_rules.proofs.Turns.{Rises}
+use Rattle.mqtt_rules.proofs.fit.TurnLists.{drops_rise}
+use Rattle.mqtt_rules.proofs.fit.Turns.{Rises}
 use Rattle.mqtt_rules.specs.Outbound.{queue_limits, since}
 use Rattle.mqtt_rules.specs.State.{MemberChoice, queue_on}
 use Rattle.mqtt_broker_step.specs.Stepping.{env_in}

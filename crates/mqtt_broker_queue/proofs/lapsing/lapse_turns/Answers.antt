@@ -1,7 +1,7 @@
 use Rattle.std.proofs.Common.{map, ap, sym, subst, ◌∙◌}
 use Rattle.mqtt_flow.specs.Outbound.{expired}
-use Rattle.mqtt_rules.proofs.Turns.{Rises}
-use Rattle.mqtt_rules.proofs.TurnLists.{lapses_rise}
+use Rattle.mqtt_rules.proofs.fit.Turns.{Rises}
+use Rattle.mqtt_rules.proofs.fit.TurnLists.{lapses_rise}
 use Rattle.mqtt_broker_queue.specs.Queues.{entry_of}
 use Rattle.mqtt_broker_queue.proofs.lapsing.lapse_turns.Goals as goal
 

@@ -9,8 +9,8 @@ use Rattle.mqtt_rules.specs.Step.{publish_out}
 use Rattle.mqtt_broker_queue.specs.Turning.{is_sending}
 use Rattle.mqtt_broker_queue.proofs.Sending.{pump_sends}
 use Rattle.mqtt_broker_queue.specs.Queues.{entry_of}
-use Rattle.mqtt_rules.proofs.Turns.{Rises}
-use Rattle.mqtt_rules.proofs.TurnLists.{pumps_rise}
+use Rattle.mqtt_rules.proofs.fit.Turns.{Rises}
+use Rattle.mqtt_rules.proofs.fit.TurnLists.{pumps_rise}
 use Rattle.mqtt_broker_queue.proofs.Asked.{orders_alike}
 use Rattle.mqtt_broker_queue.proofs.pumping.pump_turns.Goals as goal
 

@@ -1,4 +1,4 @@
-use Rattle.mqtt_rules.proofs.Ordered.{nothing-ordered}
+use Rattle.mqtt_rules.proofs.order.Ordered.{nothing-ordered}
 use Rattle.mqtt_broker_reopening_laws.proofs.CopiesActs.{step_identities, opening_identities}
 use Rattle.mqtt_broker_reopening_laws.proofs.laws.copies_stay_apart.Goals as goal
 

@@ -1,6 +1,6 @@
 use Rattle.std.proofs.Common.{◌≡◌, ◌∷◌, length, rules, arith}
 use Rattle.mqtt_records.specs.Session.{birth_of}
-use Rattle.mqtt_rules.proofs.FlightRows.{all_at}
+use Rattle.mqtt_rules.proofs.flight.FlightRows.{all_at}
 use Rattle.mqtt_broker_step.specs.Stepping.{IsLeft}
 use Rattle.mqtt_broker_step.specs.Subscribing.{HasEachFilterOnce}
 use Rattle.mqtt_broker_subscribe.specs.Dropping.{removes_all}

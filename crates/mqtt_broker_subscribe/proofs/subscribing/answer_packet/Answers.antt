@@ -2,7 +2,7 @@ use Rattle.std.proofs.Common.{◌≡◌, [], rules, length, ap, sym, subst, ◌�
 use Rattle.mqtt_records_lawful.specs.Lawful.{IsIdentifier}
 use Rattle.mqtt_props.specs.declared.table.PropName.TheVariants.{SubscriptionIdentifier}
 use Rattle.mqtt_records_message.specs.PassedOn.{number_at}
-use Rattle.mqtt_rules.proofs.ContentPackets.{asked_identifier}
+use Rattle.mqtt_rules.proofs.contents.ContentPackets.{asked_identifier}
 use Rattle.mqtt_broker_step.specs.Stepping.{env_in}
 use Rattle.mqtt_broker_step.proofs.Doing.{on_ok, if_err}
 use Rattle.mqtt_broker_subscribe.proofs.AllAnswers.{length_answers}

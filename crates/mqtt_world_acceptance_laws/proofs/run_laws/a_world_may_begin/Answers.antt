@@ -1,6 +1,6 @@
 -- By the laws of an opening.
-use Rattle.mqtt_world_acceptance_laws.proofs.OnceRuns.{start_apart, opened_apart}
-use Rattle.mqtt_world_acceptance_laws.proofs.Runs.{start_new, opened_new}
+use Rattle.mqtt_world_acceptance_laws.proofs.copies.OnceRuns.{start_apart, opened_apart}
+use Rattle.mqtt_world_acceptance_laws.proofs.publishers.Runs.{start_new, opened_new}
 use Rattle.mqtt_world_acceptance_laws.proofs.run_laws.a_world_may_begin.Goals as goal
 
 pub returns-clause-empty : goal.returns-clause-empty

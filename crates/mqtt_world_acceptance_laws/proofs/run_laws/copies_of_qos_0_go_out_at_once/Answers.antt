@@ -1,6 +1,6 @@
 -- By what each act puts out, and what a step puts on the lines.
-use Rattle.mqtt_world_acceptance_laws.proofs.Arrivals.{arrives, is_kept_back}
-use Rattle.mqtt_world_acceptance_laws.proofs.StepRuns.{run_goes_out}
+use Rattle.mqtt_world_acceptance_laws.proofs.publishers.Arrivals.{arrives, is_kept_back}
+use Rattle.mqtt_world_acceptance_laws.proofs.copies.StepRuns.{run_goes_out}
 use Rattle.mqtt_world_acceptance_laws.proofs.run_laws.copies_of_qos_0_go_out_at_once.Goals as goal
 
 pub returns-clause-outputs : goal.returns-clause-outputs

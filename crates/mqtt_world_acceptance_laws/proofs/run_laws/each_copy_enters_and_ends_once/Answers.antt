@@ -1,5 +1,5 @@
 -- By what is counted off as numbers are given, and the counts over each deed.
-use Rattle.mqtt_world_acceptance_laws.proofs.OnceRuns.{enters_once, ends_once, waits_or_has_ended}
+use Rattle.mqtt_world_acceptance_laws.proofs.copies.OnceRuns.{enters_once, ends_once, waits_or_has_ended}
 use Rattle.mqtt_world_acceptance_laws.proofs.run_laws.each_copy_enters_and_ends_once.Goals as goal
 
 pub returns-clause-enters : goal.returns-clause-enters

@@ -1,6 +1,6 @@
 -- By the routing of each act, and the numbers of each step.
-use Rattle.mqtt_world_acceptance_laws.proofs.CopyRuns.{run_numbers}
-use Rattle.mqtt_world_acceptance_laws.proofs.Routed.{run_routed}
+use Rattle.mqtt_world_acceptance_laws.proofs.copies.CopyRuns.{run_numbers}
+use Rattle.mqtt_world_acceptance_laws.proofs.copies.Routed.{run_routed}
 use Rattle.mqtt_world_acceptance_laws.proofs.run_laws.every_publication_is_routed.Goals as goal
 
 pub returns-clause-routed : goal.returns-clause-routed

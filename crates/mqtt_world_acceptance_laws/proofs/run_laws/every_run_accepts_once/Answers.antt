@@ -1,6 +1,6 @@
 -- By the run of the hop that each publisher sees.
-use Rattle.mqtt_world_acceptance_laws.proofs.Runs.{accepts_once, few_open}
-use Rattle.mqtt_world_acceptance_laws.proofs.Carried.{all_carried}
+use Rattle.mqtt_world_acceptance_laws.proofs.publishers.Runs.{accepts_once, few_open}
+use Rattle.mqtt_world_acceptance_laws.proofs.publishers.Carried.{all_carried}
 use Rattle.mqtt_world_acceptance_laws.proofs.run_laws.every_run_accepts_once.Goals as goal
 
 pub returns-clause-once : goal.returns-clause-once

@@ -1,6 +1,6 @@
 -- Each call keeps lines so, and an opening leaves none.
-use Rattle.mqtt_world_delivery_laws.proofs.Alone.{event_keeps, run_keeps}
-use Rattle.mqtt_world_delivery_laws.proofs.Unused.{opening_unused, step_unused, unused_kept}
+use Rattle.mqtt_world_delivery_laws.proofs.broker.Alone.{event_keeps, run_keeps}
+use Rattle.mqtt_world_delivery_laws.proofs.broker.Unused.{opening_unused, step_unused, unused_kept}
 use Rattle.mqtt_world_delivery_laws.proofs.broker_laws.a_line_without_session_has_sent_nothing.Goals as goal
 use Rattle.mqtt_world_delivery_laws.specs.Alone.{HaveSentNothing}
 

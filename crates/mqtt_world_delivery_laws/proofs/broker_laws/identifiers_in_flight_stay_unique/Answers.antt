@@ -1,5 +1,5 @@
 -- Each call and each opening keeps identifiers apart.
-use Rattle.mqtt_world_delivery_laws.proofs.Alone.{Distinct, distinct_kept, event_keeps, run_keeps}
+use Rattle.mqtt_world_delivery_laws.proofs.broker.Alone.{Distinct, distinct_kept, event_keeps, run_keeps}
 use Rattle.mqtt_world_delivery_laws.proofs.broker_laws.identifiers_in_flight_stay_unique.Goals as goal
 
 pub returns-clause-event : goal.returns-clause-event

@@ -1,5 +1,5 @@
 -- No queue grows by more than the copies that enter.
-use Rattle.mqtt_world_delivery_laws.proofs.DrainBounds.{few_rounds, over_then}
+use Rattle.mqtt_world_delivery_laws.proofs.drains.DrainBounds.{few_rounds, over_then}
 use Rattle.mqtt_world_delivery_laws.proofs.drain_laws.a_drain_takes_its_copies.Goals as goal
 
 pub returns : goal.returns

@@ -1,6 +1,6 @@
 -- By the law of the hop, with each copy numbered by its place.
-use Rattle.mqtt_world_receiver_laws.proofs.Numbers.{place_of}
-use Rattle.mqtt_world_delivery_laws.proofs.Standings.{handed_in_order, handed_once, handed_released, runs_so}
+use Rattle.mqtt_world_receiver_laws.proofs.queue.Numbers.{place_of}
+use Rattle.mqtt_world_delivery_laws.proofs.others.Standings.{handed_in_order, handed_once, handed_released, runs_so}
 use Rattle.mqtt_world_delivery_laws.proofs.receiver_laws.a_receiver_that_stands_was_handed_its_copies_once.Goals as goal
 
 pub returns-clause-runs : goal.returns-clause-runs

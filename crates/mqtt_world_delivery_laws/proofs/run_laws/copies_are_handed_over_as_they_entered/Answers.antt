@@ -1,7 +1,7 @@
 -- By what comes to the queue with each event.
-use Rattle.mqtt_world_delivery_laws.proofs.WholeOrder.{run_hands_whole}
-use Rattle.mqtt_world_delivery_laws.proofs.Coming.{none_at_first, run_enters, run_hands_as_come, run_hands_as_entered}
-use Rattle.mqtt_world_delivery_laws.proofs.Newcomers.{run_hands_all}
+use Rattle.mqtt_world_delivery_laws.proofs.order.WholeOrder.{run_hands_whole}
+use Rattle.mqtt_world_delivery_laws.proofs.order.Coming.{none_at_first, run_enters, run_hands_as_come, run_hands_as_entered}
+use Rattle.mqtt_world_delivery_laws.proofs.whole.Newcomers.{run_hands_all}
 use Rattle.mqtt_world_delivery_laws.proofs.run_laws.copies_are_handed_over_as_they_entered.Goals as goal
 
 pub returns : goal.returns

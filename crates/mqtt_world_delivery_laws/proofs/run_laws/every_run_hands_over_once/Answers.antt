@@ -1,5 +1,5 @@
 -- By the induction over the events of a run.
-use Rattle.mqtt_world_delivery_laws.proofs.EveryRun.{run_carries, run_for_good, run_hands, run_hands_once, run_hands_released, run_in_order, run_keeps_ledger}
+use Rattle.mqtt_world_delivery_laws.proofs.whole.EveryRun.{run_carries, run_for_good, run_hands, run_hands_once, run_hands_released, run_in_order, run_keeps_ledger}
 use Rattle.mqtt_world_delivery_laws.proofs.run_laws.every_run_hands_over_once.Goals as goal
 
 pub returns-clause-once : goal.returns-clause-once

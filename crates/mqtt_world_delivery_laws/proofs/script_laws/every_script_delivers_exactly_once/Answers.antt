@@ -1,6 +1,6 @@
 -- By the laws of every run, and of drains from wherever one comes to.
-use Rattle.mqtt_world_receiver_laws.proofs.DrainRuns.{drains_are_runs}
-use Rattle.mqtt_world_delivery_laws.proofs.Scripts.{run_delivers, script_drains, start_delivers, start_drains}
+use Rattle.mqtt_world_receiver_laws.proofs.drains.DrainRuns.{drains_are_runs}
+use Rattle.mqtt_world_delivery_laws.proofs.whole.Scripts.{run_delivers, script_drains, start_delivers, start_drains}
 use Rattle.mqtt_world_delivery_laws.proofs.script_laws.every_script_delivers_exactly_once.Goals as goal
 
 pub returns-clause-delivers : goal.returns-clause-delivers

@@ -1,5 +1,5 @@
 -- By what is stored, since no line is left.
-use Rattle.mqtt_world_delivery_laws.proofs.Restarts.{restarted_stands, stopped_stands}
+use Rattle.mqtt_world_delivery_laws.proofs.others.Restarts.{restarted_stands, stopped_stands}
 use Rattle.mqtt_world_delivery_laws.proofs.standing_laws.a_restart_leaves_a_receiver_standing.Goals as goal
 
 pub returns : goal.returns

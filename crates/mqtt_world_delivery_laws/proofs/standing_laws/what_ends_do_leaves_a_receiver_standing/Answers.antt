@@ -1,5 +1,5 @@
 -- By the doings of each end, the receiver's own and those of others.
-use Rattle.mqtt_world_delivery_laws.proofs.Comings.{clock_stands, given_up_stands, published_stands, publisher_comes, read_stands, receiver_comes, subscribed_stands}
+use Rattle.mqtt_world_delivery_laws.proofs.others.Comings.{clock_stands, given_up_stands, published_stands, publisher_comes, read_stands, receiver_comes, subscribed_stands}
 use Rattle.mqtt_world_delivery_laws.proofs.standing_laws.what_ends_do_leaves_a_receiver_standing.Goals as goal
 
 pub returns-clause-comes : goal.returns-clause-comes

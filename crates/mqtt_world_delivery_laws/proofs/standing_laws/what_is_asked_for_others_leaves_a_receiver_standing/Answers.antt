@@ -1,6 +1,6 @@
 -- By calls on lines that are not the receiver's.
-use Rattle.mqtt_world_delivery_laws.proofs.Asking.{other_pumped, other_reads, other_reads_old}
-use Rattle.mqtt_world_delivery_laws.proofs.Strangers.{stranger_stands}
+use Rattle.mqtt_world_delivery_laws.proofs.others.Asking.{other_pumped, other_reads, other_reads_old}
+use Rattle.mqtt_world_delivery_laws.proofs.others.Strangers.{stranger_stands}
 use Rattle.mqtt_world_delivery_laws.proofs.standing_laws.what_is_asked_for_others_leaves_a_receiver_standing.Goals as goal
 
 pub returns : goal.returns

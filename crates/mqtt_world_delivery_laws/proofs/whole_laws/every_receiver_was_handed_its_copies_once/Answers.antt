@@ -1,8 +1,8 @@
 -- By the ends of each event, and by what stands in queues and is under way.
-use Rattle.mqtt_world_acceptance_laws.proofs.CopyRuns.{run_numbers}
-use Rattle.mqtt_world_delivery_laws.proofs.ContentRuns.{run_reads}
-use Rattle.mqtt_world_delivery_laws.proofs.HandedEnds.{run_takes}
-use Rattle.mqtt_world_delivery_laws.proofs.WholeRuns.{all_handed_whole}
+use Rattle.mqtt_world_acceptance_laws.proofs.copies.CopyRuns.{run_numbers}
+use Rattle.mqtt_world_delivery_laws.proofs.contents.ContentRuns.{run_reads}
+use Rattle.mqtt_world_delivery_laws.proofs.taken.HandedEnds.{run_takes}
+use Rattle.mqtt_world_delivery_laws.proofs.whole.WholeRuns.{all_handed_whole}
 use Rattle.mqtt_world_delivery_laws.proofs.whole_laws.every_receiver_was_handed_its_copies_once.Goals as goal
 
 pub returns : goal.returns

@@ -1,6 +1,6 @@
 -- By the laws of every run, of intended copies, of causes and of drains.
 use Rattle.mqtt_world_routing_laws.proofs.Intended.{copies_once}
-use Rattle.mqtt_world_delivery_laws.proofs.WholeRuns.{all_handed_whole}
+use Rattle.mqtt_world_delivery_laws.proofs.whole.WholeRuns.{all_handed_whole}
 use Rattle.mqtt_world_headline_laws.proofs.Delivered.{accepted_once, lives_deliver, lives_fit, run_delivers_all, script_delivers}
 use Rattle.mqtt_world_headline_laws.proofs.laws.messages_are_delivered_exactly_once.Goals as goal
 

@@ -1,8 +1,8 @@
 -- Whose the session and the line are after a CONNECT, by what is found of them.
-use Rattle.mqtt_world_model.proofs.Breaks.{break_owns}
-use Rattle.mqtt_world_model.proofs.Connects.{connect_owns}
-use Rattle.mqtt_world_model.proofs.CleanConnects.{clean_owns}
-use Rattle.mqtt_world_model.proofs.FirstConnects.{first_owns}
+use Rattle.mqtt_world_model.proofs.seats.Breaks.{break_owns}
+use Rattle.mqtt_world_model.proofs.connects.Connects.{connect_owns}
+use Rattle.mqtt_world_model.proofs.connects.CleanConnects.{clean_owns}
+use Rattle.mqtt_world_model.proofs.connects.FirstConnects.{first_owns}
 use Rattle.mqtt_world_model.proofs.laws.a_connected_session_is_its_own.Goals as goal
 
 pub returns-clause-resumed : goal.returns-clause-resumed

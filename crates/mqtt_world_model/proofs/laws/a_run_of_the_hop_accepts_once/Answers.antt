@@ -1,5 +1,5 @@
 -- By the law of the hop.
-use Rattle.mqtt_world_model.proofs.Projected.{at_most_once, none_unsent, once_completed, none_refused, some_acknowledged}
+use Rattle.mqtt_world_model.proofs.seats.Projected.{at_most_once, none_unsent, once_completed, none_refused, some_acknowledged}
 use Rattle.mqtt_world_model.proofs.laws.a_run_of_the_hop_accepts_once.Goals as goal
 
 pub returns-clause-once : goal.returns-clause-once

@@ -1,7 +1,7 @@
 -- What the publisher sees of its own doings.
 use Rattle.std.proofs.Common.{true}
-use Rattle.mqtt_world_model.proofs.Sends.{publish_seen, give_up_seen, to_end_seen}
-use Rattle.mqtt_world_model.proofs.Joins.{join_is_hop}
+use Rattle.mqtt_world_model.proofs.seats.Sends.{publish_seen, give_up_seen, to_end_seen}
+use Rattle.mqtt_world_model.proofs.seats.Joins.{join_is_hop}
 use Rattle.mqtt_world_model.proofs.laws.own_doings_are_steps_of_the_hop.Goals as goal
 
 pub returns-clause-publish : goal.returns-clause-publish

@@ -1,11 +1,11 @@
 -- What the publisher sees of its own packets: by the deeds of each.
-use Rattle.mqtt_world_model.proofs.OwnStep.{publish_is_hop, pubrel_is_hop}
-use Rattle.mqtt_world_model.proofs.LightPublishes.{publish_1_is_hop, plain_is_hop}
-use Rattle.mqtt_world_model.proofs.Mine.{sent_stays}
-use Rattle.mqtt_world_model.proofs.Breaks.{break_is_hop}
-use Rattle.mqtt_world_model.proofs.Connects.{connect_is_hop}
-use Rattle.mqtt_world_model.proofs.CleanConnects.{clean_is_hop}
-use Rattle.mqtt_world_model.proofs.FirstConnects.{first_is_hop}
+use Rattle.mqtt_world_model.proofs.own.OwnStep.{publish_is_hop, pubrel_is_hop}
+use Rattle.mqtt_world_model.proofs.own.LightPublishes.{publish_1_is_hop, plain_is_hop}
+use Rattle.mqtt_world_model.proofs.seats.Mine.{sent_stays}
+use Rattle.mqtt_world_model.proofs.seats.Breaks.{break_is_hop}
+use Rattle.mqtt_world_model.proofs.connects.Connects.{connect_is_hop}
+use Rattle.mqtt_world_model.proofs.connects.CleanConnects.{clean_is_hop}
+use Rattle.mqtt_world_model.proofs.connects.FirstConnects.{first_is_hop}
 use Rattle.mqtt_world_model.proofs.laws.own_packets_are_steps_of_the_hop.Goals as goal
 
 pub returns-clause-publish : goal.returns-clause-publish

@@ -1,6 +1,6 @@
 -- What the publisher sees of packets of the line that it gave up: by the deeds of each.
-use Rattle.mqtt_world_model.proofs.OldLine.{old_publish_is_hop, old_pubrel_is_hop, old_publish_1_is_hop, old_plain_is_hop}
-use Rattle.mqtt_world_model.proofs.LateConnects.{late_is_hop}
+use Rattle.mqtt_world_model.proofs.own.OldLine.{old_publish_is_hop, old_pubrel_is_hop, old_publish_1_is_hop, old_plain_is_hop}
+use Rattle.mqtt_world_model.proofs.connects.LateConnects.{late_is_hop}
 use Rattle.mqtt_world_model.proofs.laws.packets_of_the_line_given_up_are_steps_of_the_hop.Goals as goal
 
 pub returns-clause-publish : goal.returns-clause-publish

@@ -1,5 +1,5 @@
 -- What the publisher sees of the steps of others: by the deeds that they are made of.
-use Rattle.mqtt_world_model.proofs.Frame.{frame, away_frame, nobody_frame, own_stays}
+use Rattle.mqtt_world_model.proofs.others.Frame.{frame, away_frame, nobody_frame, own_stays}
 use Rattle.mqtt_world_model.proofs.laws.steps_of_others_are_unseen.Goals as goal
 
 pub returns-clause-unseen : goal.returns-clause-unseen

@@ -1,5 +1,5 @@
 -- What a publisher sees of each call, wherever it is.
-use Rattle.mqtt_world_model.proofs.Calls.{others_come, reads_own, reads_old, loses, restarts_come}
+use Rattle.mqtt_world_model.proofs.own.Calls.{others_come, reads_own, reads_old, loses, restarts_come}
 use Rattle.mqtt_world_model.proofs.seat_laws.every_call_is_some_steps_of_the_hop.Goals as goal
 
 pub returns-clause-others : goal.returns-clause-others

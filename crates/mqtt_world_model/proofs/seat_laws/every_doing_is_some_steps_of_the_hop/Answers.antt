@@ -1,5 +1,5 @@
 -- What a publisher sees of its own doings, wherever it is.
-use Rattle.mqtt_world_model.proofs.Doings.{publishes, hears, gives, joins}
+use Rattle.mqtt_world_model.proofs.seats.Doings.{publishes, hears, gives, joins}
 use Rattle.mqtt_world_model.proofs.seat_laws.every_doing_is_some_steps_of_the_hop.Goals as goal
 
 pub returns-clause-publishes : goal.returns-clause-publishes

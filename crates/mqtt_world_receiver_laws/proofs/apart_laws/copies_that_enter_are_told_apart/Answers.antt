@@ -1,5 +1,5 @@
 -- By their publications, or by the filter's number.
-use Rattle.mqtt_world_receiver_laws.proofs.Apart.{apart_entered, apart_old_subscribed, apart_still, apart_subscribed}
+use Rattle.mqtt_world_receiver_laws.proofs.queue.Apart.{apart_entered, apart_old_subscribed, apart_still, apart_subscribed}
 use Rattle.mqtt_world_receiver_laws.proofs.apart_laws.copies_that_enter_are_told_apart.Goals as goal
 
 pub returns : goal.returns

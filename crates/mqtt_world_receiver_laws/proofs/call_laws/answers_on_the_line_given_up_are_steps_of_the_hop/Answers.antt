@@ -1,5 +1,5 @@
 -- By what the session's rules answer.
-use Rattle.mqtt_world_receiver_laws.proofs.OldAnswers.{old_puback_runs, old_pubcomp_runs, old_pubrec_runs}
+use Rattle.mqtt_world_receiver_laws.proofs.own.OldAnswers.{old_puback_runs, old_pubcomp_runs, old_pubrec_runs}
 use Rattle.mqtt_world_receiver_laws.proofs.call_laws.answers_on_the_line_given_up_are_steps_of_the_hop.Goals as goal
 
 pub returns-clause-puback : goal.returns-clause-puback

@@ -1,5 +1,5 @@
 -- By the law of the hop.
-use Rattle.mqtt_world_receiver_laws.proofs.Handed.{at_most_once, all_tagged, in_order, released_once, taken_is, read_is, expired_is, dropped_is, carried_all}
+use Rattle.mqtt_world_receiver_laws.proofs.queue.Handed.{at_most_once, all_tagged, in_order, released_once, taken_is, read_is, expired_is, dropped_is, carried_all}
 use Rattle.mqtt_world_receiver_laws.proofs.laws.a_run_of_the_hop_hands_over_once.Goals as goal
 
 pub returns-clause-once : goal.returns-clause-once

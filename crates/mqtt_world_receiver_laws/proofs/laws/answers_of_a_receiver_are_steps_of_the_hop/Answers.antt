@@ -1,5 +1,5 @@
 -- By what the session's rules answer.
-use Rattle.mqtt_world_receiver_laws.proofs.Answering.{puback_runs, pubcomp_runs, pubrec_runs}
+use Rattle.mqtt_world_receiver_laws.proofs.own.Answering.{puback_runs, pubcomp_runs, pubrec_runs}
 use Rattle.mqtt_world_receiver_laws.proofs.laws.answers_of_a_receiver_are_steps_of_the_hop.Goals as goal
 
 pub returns-clause-puback : goal.returns-clause-puback

@@ -1,6 +1,6 @@
 -- What a receiver does and reads.
-use Rattle.mqtt_world_receiver_laws.proofs.Doings.{doing_asks, doing_comes, doing_gives_up, doing_reads}
-use Rattle.mqtt_world_receiver_laws.proofs.Joins.{doing_joins}
+use Rattle.mqtt_world_receiver_laws.proofs.own.Doings.{doing_asks, doing_comes, doing_gives_up, doing_reads}
+use Rattle.mqtt_world_receiver_laws.proofs.own.Joins.{doing_joins}
 use Rattle.mqtt_world_receiver_laws.proofs.laws.own_doings_of_a_receiver_are_steps_of_the_hop.Goals as goal
 
 pub returns-clause-reads : goal.returns-clause-reads

@@ -1,5 +1,5 @@
 -- Deed by deed.
-use Rattle.mqtt_world_receiver_laws.proofs.Others.{others_leave, others_run, others_within}
+use Rattle.mqtt_world_receiver_laws.proofs.others.Others.{others_leave, others_run, others_within}
 use Rattle.mqtt_world_receiver_laws.proofs.other_laws.deeds_of_others_are_unseen.Goals as goal
 
 pub returns-clause-runs : goal.returns-clause-runs

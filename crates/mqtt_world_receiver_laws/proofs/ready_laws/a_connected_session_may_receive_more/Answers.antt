@@ -1,7 +1,7 @@
 -- By the deeds of CONNECT.
-use Rattle.mqtt_world_receiver_laws.proofs.Beginning.{first_receives}
-use Rattle.mqtt_world_receiver_laws.proofs.Renewing.{renewal_receives}
-use Rattle.mqtt_world_receiver_laws.proofs.Resuming.{connect_receives}
+use Rattle.mqtt_world_receiver_laws.proofs.connects.Beginning.{first_receives}
+use Rattle.mqtt_world_receiver_laws.proofs.connects.Renewing.{renewal_receives}
+use Rattle.mqtt_world_receiver_laws.proofs.connects.Resuming.{connect_receives}
 use Rattle.mqtt_world_receiver_laws.proofs.ready_laws.a_connected_session_may_receive_more.Goals as goal
 
 pub returns-clause-resumes : goal.returns-clause-resumes

@@ -1,8 +1,8 @@
 -- By the deeds of each step.
-use Rattle.mqtt_world_receiver_laws.proofs.Answering.{puback_receives, pubcomp_receives, pubrec_receives}
-use Rattle.mqtt_world_receiver_laws.proofs.Losing.{losing_receives}
-use Rattle.mqtt_world_receiver_laws.proofs.OldAnswers.{old_puback_receives, old_pubcomp_receives, old_pubrec_receives}
-use Rattle.mqtt_world_receiver_laws.proofs.Sending.{pump_receives}
+use Rattle.mqtt_world_receiver_laws.proofs.own.Answering.{puback_receives, pubcomp_receives, pubrec_receives}
+use Rattle.mqtt_world_receiver_laws.proofs.own.Losing.{losing_receives}
+use Rattle.mqtt_world_receiver_laws.proofs.own.OldAnswers.{old_puback_receives, old_pubcomp_receives, old_pubrec_receives}
+use Rattle.mqtt_world_receiver_laws.proofs.queue.Sending.{pump_receives}
 use Rattle.mqtt_world_receiver_laws.proofs.ready_laws.a_receivers_session_may_receive_more.Goals as goal
 
 pub returns-clause-sends : goal.returns-clause-sends

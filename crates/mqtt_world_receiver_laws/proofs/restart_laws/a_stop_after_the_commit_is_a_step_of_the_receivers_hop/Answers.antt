@@ -1,5 +1,5 @@
 -- The call, and then the restart.
-use Rattle.mqtt_world_receiver_laws.proofs.Stopping.{own_stop_goes_on, receivers_after, stopped_goes_on}
+use Rattle.mqtt_world_receiver_laws.proofs.connects.Stopping.{own_stop_goes_on, receivers_after, stopped_goes_on}
 use Rattle.mqtt_world_receiver_laws.proofs.restart_laws.a_stop_after_the_commit_is_a_step_of_the_receivers_hop.Goals as goal
 
 pub returns-clause-receivers : goal.returns-clause-receivers

@@ -1,5 +1,5 @@
 -- By what was asked for.
-use Rattle.mqtt_world_receiver_laws.proofs.Stopping.{alike_before}
+use Rattle.mqtt_world_receiver_laws.proofs.connects.Stopping.{alike_before}
 use Rattle.mqtt_world_receiver_laws.proofs.restart_laws.a_stop_before_the_commit_is_a_restart.Goals as goal
 
 pub returns : goal.returns

@@ -1,5 +1,5 @@
 -- By the laws of the tables.
-use Rattle.mqtt_world_receiver_laws.proofs.Stopping.{opening_tidy, step_tidy}
+use Rattle.mqtt_world_receiver_laws.proofs.connects.Stopping.{opening_tidy, step_tidy}
 use Rattle.mqtt_world_receiver_laws.proofs.restart_laws.a_tidy_broker_stays_tidy.Goals as goal
 
 pub returns-clause-steps : goal.returns-clause-steps

@@ -1,6 +1,6 @@
 -- Round by round: what the copies have to go falls.
-use Rattle.mqtt_world_receiver_laws.proofs.DrainCauses.{causes_of_run}
-use Rattle.mqtt_world_receiver_laws.proofs.RoundFurther.{empty_of_run, linked_of_run, rounds_of_run}
+use Rattle.mqtt_world_receiver_laws.proofs.drains.DrainCauses.{causes_of_run}
+use Rattle.mqtt_world_receiver_laws.proofs.drains.RoundFurther.{empty_of_run, linked_of_run, rounds_of_run}
 use Rattle.mqtt_world_receiver_laws.proofs.round_laws.a_drain_of_a_hop_ends.Goals as goal
 
 pub returns : goal.returns

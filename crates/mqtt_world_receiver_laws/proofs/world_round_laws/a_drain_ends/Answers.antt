@@ -1,5 +1,5 @@
 -- Round by round, the receiver's hop is drained.
-use Rattle.mqtt_world_receiver_laws.proofs.WorldRounds.{drain_is, drain_is_empty, drain_is_within, drain_over_later, drain_within_later}
+use Rattle.mqtt_world_receiver_laws.proofs.drains.WorldRounds.{drain_is, drain_is_empty, drain_is_within, drain_over_later, drain_within_later}
 use Rattle.mqtt_world_receiver_laws.proofs.world_round_laws.a_drain_ends.Goals as goal
 
 pub returns : goal.returns

@@ -1,6 +1,6 @@
 -- What is read before the SUBSCRIBE and behind it is about copies; after it the drain is one of more copies.
 use Rattle.std.proofs.Common.{◌++◌, arith}
-use Rattle.mqtt_world_receiver_laws.proofs.WorldRounds.{drain_over_later, drain_within_later, first_round, first_round_of, subscribe_is_drained}
+use Rattle.mqtt_world_receiver_laws.proofs.drains.WorldRounds.{drain_over_later, drain_within_later, first_round, first_round_of, subscribe_is_drained}
 use Rattle.mqtt_world_receiver_laws.proofs.world_round_laws.a_drain_with_a_subscribe_ends.Goals as goal
 
 pub returns : goal.returns

@@ -1,5 +1,5 @@
 -- The broker sends, the receiver reads all, and the broker reads all.
-use Rattle.mqtt_world_receiver_laws.proofs.WorldRounds.{round_is}
+use Rattle.mqtt_world_receiver_laws.proofs.drains.WorldRounds.{round_is}
 use Rattle.mqtt_world_receiver_laws.proofs.world_round_laws.a_round_of_a_drain_is_one_of_the_hop.Goals as goal
 
 pub returns : goal.returns
