@@ -5,7 +5,6 @@ pub mod CallActs
 pub mod SomeCalls
 pub mod Begun
 pub mod Refused
-pub mod Instead
 pub mod Greeted
 pub mod OnLine
 pub mod Clients

@@ -2,7 +2,6 @@
 ghost use Rattle.std.specs.Prelude.{◌≡◌, ℕ, List, None, Some, IfOk, OnOk, IfErr};
 ghost use Rattle.mqtt_codec.specs.declared.packet.Packet.TheVariants as packets;
 ghost use Rattle.mqtt_routes.specs.Subscriptions.{Subscriber};
-ghost use Rattle.mqtt_rules.specs.Connect.{on_connect};
 ghost use Rattle.mqtt_rules.specs.Contents.{IsWilled};
 ghost use Rattle.mqtt_rules.specs.Laws.{IsCoherent};
 ghost use Rattle.mqtt_rules.specs.Lines.{session_on};
@@ -12,42 +11,16 @@ ghost use Rattle.mqtt_rules.specs.Step.{Input, deeds_of};
 ghost use Rattle.mqtt_broker_step.specs.Stepping.{Did, IsLeft, at_rest};
 ghost use Rattle.mqtt_broker_publish.specs.Choosing.{DoesSome, LeavesSome};
 ghost use Rattle.mqtt_broker_close.specs.Wills.{will_at};
-ghost use Rattle.mqtt_broker_connect.specs.Preparing.{IsConnected};
 ghost use Rattle.mqtt_broker_calls.specs.Doing.{begun};
 ghost use Rattle.mqtt_broker_calls.specs.Sound.{IsSound};
 ghost use Rattle.mqtt_broker_calls.specs.First.{GreetedBy, turns_away};
 
-use crate::crowded::connect_crowded;
 use mqtt_base::Reason;
 use mqtt_broker_connect::{Joined, on_connect, refuse};
 use mqtt_broker_publish::Router;
 use mqtt_broker_step::{Step, StepFault};
 use mqtt_codec_connect::Connect;
 use std::alloc::Global;
-
-/// A CONNECT, however many sessions stand (3.1.4, 3.2.2.2).
-fn connect_any<R: Router>(
-    alloc: Global,
-    router: &mut R,
-    step: &mut Step,
-    line: u64,
-    connect: &Connect,
-) -> Result<Joined, StepFault>
-    requires coherent { IsCoherent step.old.broker.records }
-    requires serves { R.serves router.old (subscribers step.old.broker.records) }
-    requires lawful { (birth : ℕ) → IsWilled (will_at birth step.old.broker.records) }
-    ensures ok { (l : Line) → l.number ≡ line
-        → IfOk result (λ joined. IsConnected l connect.now joined step.old step.new) }
-    ensures left { (l : Line) → l.number ≡ line → IfErr result (λ fault.
-        LeavesSome (λ env. on_connect env l connect.now) fault step.old step.new) }
-    ensures serves { (sessions : List Subscriber) → R.serves router.old sessions
-        → R.serves router.new sessions }
-{
-    if step.sessions_len() > step.session_limit() {
-        return connect_crowded(alloc, router, step, line, connect);
-    }
-    on_connect(alloc, router, step, line, connect)
-}
 
 /// CONNECT comes on a line that has no session.
 fn greet<R: Router>(
@@ -68,7 +41,7 @@ fn greet<R: Router>(
         → R.serves router.new sessions }
 {
     match step.hear(line) {
-        Ok(()) => connect_any(alloc, router, step, line, connect),
+        Ok(()) => on_connect(alloc, router, step, line, connect),
         Err(fault) => Err(fault),
     }
 }

@@ -5,7 +5,6 @@
 mod answers;
 mod calling;
 mod connecting;
-mod crowded;
 mod first;
 mod laws;
 mod leaving;

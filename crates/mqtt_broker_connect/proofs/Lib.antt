@@ -6,6 +6,7 @@ pub mod AfterPreparing
 pub mod Fewer
 pub mod Steady
 pub mod Prepared
+pub mod Instead
 pub mod Standings
 pub mod Once
 pub mod Unassigned

@@ -156,7 +156,7 @@ fn is_unnamed(connect: &Connect) -> bool
 
 /// A new session begins on a line, with what a CONNECT says of it, and CONNACK tells what is granted: where
 /// it has no client identifier, the one that it is given too (3.1.2.4, 3.1.3.1, 3.2.2.3).
-pub fn begin_named(
+pub(crate) fn begin_named(
     alloc: Global,
     step: &mut Step,
     line: u64,

@@ -35,7 +35,7 @@ fn may_come(step: &Step, client: &str) -> bool
 }
 
 /// The code by which a CONNECT is refused at once, if it is (3.2.2.2). Takes no memory.
-pub fn refusal_of(step: &Step, connect: &Connect) -> Option<Reason>
+pub(crate) fn refusal_of(step: &Step, connect: &Connect) -> Option<Reason>
     ensures { option_map (λ code. code.0) result
         ≡ refusal connect.now step.now.broker.records }
 {
@@ -44,7 +44,7 @@ pub fn refusal_of(step: &Step, connect: &Connect) -> Option<Reason>
 }
 
 /// A CONNECT that is refused at once, by the code of that, whether its client has a session or not (3.1.4).
-pub fn connect_refused(
+pub(crate) fn connect_refused(
     alloc: Global,
     step: &mut Step,
     line: u64,
@@ -82,7 +82,7 @@ fn begin_or_refuse(
 }
 
 /// A CONNECT of a client identifier that no session has, or of none, is refused, or its session begins (3.1.4).
-pub fn connect_new(
+pub(crate) fn connect_new(
     alloc: Global,
     step: &mut Step,
     line: u64,

@@ -79,7 +79,7 @@ fn resume_named(
 /// What comes after the preparation for a new connection: the client's session is resumed on its line, or a
 /// new one begins there. `NoPlace` where it would be new and there is no place for it: nothing changes then
 /// (3.1.2.4).
-pub fn join(
+pub(crate) fn join(
     alloc: Global,
     step: &mut Step,
     line: u64,

@@ -14,12 +14,7 @@ mod resuming;
 mod standing;
 mod whole;
 
-pub use beginning::begin_named;
-pub use connecting::{connect_new, connect_refused, refusal_of};
-pub use joining::{Joined, join};
+pub use joining::Joined;
 pub use laws::{known_clients_find_a_place, preparing_gives_no_birth};
-pub use preparing::prepare;
 pub use refusing::refuse;
-pub use resuming::resume;
-pub use standing::connect_standing;
 pub use whole::on_connect;

@@ -157,7 +157,7 @@ fn settle_and_clear<R: Router>(
 /// What comes before a new connection of a client whose session stands, and is the only one of its client
 /// identifier: its line, if it is connected on one, is told and closes as lost; it is settled; and it ends
 /// where the client starts clean, its waiting Will published before (3.1.2.4, 3.1.4).
-pub fn prepare<R: Router>(
+pub(crate) fn prepare<R: Router>(
     alloc: Global,
     router: &mut R,
     step: &mut Step,

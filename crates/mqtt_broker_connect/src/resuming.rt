@@ -105,7 +105,7 @@ fn resume_with(
 
 /// A session that stands is resumed on a line, with what a CONNECT says of it, and CONNACK tells so; then
 /// comes a PUBREL for each released copy, in the order of release (3.1.2.4, 3.2.2.1.1, 4.4).
-pub fn resume(
+pub(crate) fn resume(
     alloc: Global,
     step: &mut Step,
     line: u64,

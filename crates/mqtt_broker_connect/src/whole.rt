@@ -1,5 +1,5 @@
 //! CONNECT, whether its client has a session or not (MQTT 5.0, 3.1.4, 3.2.2.2).
-ghost use Rattle.std.specs.Prelude.{◌≡◌, ◌≤◌, ℕ, List, None, Some, length, IfOk, IfErr};
+ghost use Rattle.std.specs.Prelude.{◌≡◌, ℕ, List, None, Some, IfOk, IfErr};
 ghost use Rattle.mqtt_routes.specs.Subscriptions.{Subscriber};
 ghost use Rattle.mqtt_rules.specs.Connect.{on_connect, refusal};
 ghost use Rattle.mqtt_rules.specs.Contents.{IsWilled};
@@ -56,9 +56,9 @@ fn connect_first(
 }
 
 /// A CONNECT: it is refused at once, or what comes before a new connection of a client whose session stands is done, and
-/// the session is resumed, or a new one begins. `Done` where that is done. Where the answer is `NoPlace`, which
-/// isn't while the sessions are within their limit, the step is to be taken back, and the client refused
-/// with Quota exceeded (3.1.4, 3.2.2.2).
+/// the session is resumed, or a new one begins. `Done` if that is done. If the answer is `NoPlace`, which isn't while
+/// the sessions are within their limit, the step is to be taken back, and the client refused with Quota exceeded
+/// (3.1.4, 3.2.2.2). While more sessions stand than may, `Memory` (1) may stand for `Spent` (3) (ours).
 pub fn on_connect<R: Router>(
     alloc: Global,
     router: &mut R,
@@ -71,12 +71,8 @@ pub fn on_connect<R: Router>(
     requires lawful { (birth : ℕ) → IsWilled (will_at birth step.old.broker.records) }
     ensures ok { (l : Line) → l.number ≡ line
         → IfOk result (λ joined. IsConnected l connect.now joined step.old step.new) }
-
-    // Where the sessions are within their limit.
-    ensures left { (l : Line) → l.number ≡ line
-        → length step.old.broker.records.sessions ≤ step.old.limits.sessions
-        → IfErr result (λ fault. LeavesSome
-        (λ env. on_connect env l connect.now) fault step.old step.new) }
+    ensures left { (l : Line) → l.number ≡ line → IfErr result (λ fault.
+        LeavesSome (λ env. on_connect env l connect.now) fault step.old step.new) }
     ensures serves { (sessions : List Subscriber) → R.serves router.old sessions
         → R.serves router.new sessions }
 {

@@ -9,9 +9,3 @@ connect_standing-requires-clause-only g c =
     let birth = c.in-Some-birth_named.birth in
     let text : c.as_str.result.now ≡ c.args.connect.now.client_identifier = search rules in
     only_one c.args.connect.now.client_identifier birth r c.requires.coherent (subst (λ name. IsNamedAt name birth r) text c.in-Some-birth_named.ensures.birth)
-
-pub returns-in-Some-clause-left : goal.returns-in-Some-clause-left
-returns-in-Some-clause-left g c = λ l number within. c.refuse_at_once.ensures.left l number
-
-pub returns-in-None-clause-left : goal.returns-in-None-clause-left
-returns-in-None-clause-left g c = λ l number within. c.connect_first.ensures.left l number

@@ -1,7 +1,7 @@
 use Rattle.mqtt_rules.specs.Connect.{on_connect, prepare}
+use Rattle.mqtt_broker_connect.proofs.Instead.{memory_instead}
 use Rattle.mqtt_broker_connect.proofs.Standings.{connected, given_after, join_refused}
-use Rattle.mqtt_broker_calls.proofs.Instead.{memory_instead}
-use Rattle.mqtt_broker_calls.proofs.crowded.connect_again.Goals as goal
+use Rattle.mqtt_broker_connect.proofs.standing.connect_crowded.Goals as goal
 
 pub join-requires : goal.join-requires
 join-requires g c = given_after c.args.connect.now c.args.step.now c.prepare.new.step c.in-Ok.ensures.ok c.requires.given
