@@ -9,7 +9,7 @@ ghost use Rattle.mqtt_broker_calls.specs.Inputs.{HasClient, takes};
 
 use mqtt_base::Reason;
 use mqtt_broker_close::drop_line;
-use mqtt_broker_publish::{Published, Router, on_publish};
+use mqtt_broker_publish::{Handled, Router, on_publish};
 use mqtt_broker_step::{Step, StepFault};
 use mqtt_codec::Publish;
 use std::alloc::Global;
@@ -34,9 +34,9 @@ pub(crate) fn publish<R: Router>(
         → R.serves router.new sessions }
 {
     match on_publish(alloc, router, step, line, birth, packet) {
-        Ok(Published::Done) => Ok(()),
-        Ok(Published::Wrong(code)) => drop_line(alloc, router, step, line, Some(birth), code),
-        Ok(Published::Over) => {
+        Ok(Handled::Done) => Ok(()),
+        Ok(Handled::Wrong(code)) => drop_line(alloc, router, step, line, Some(birth), code),
+        Ok(Handled::Over) => {
             let code = Reason::RECEIVE_MAXIMUM_EXCEEDED;
             drop_line(alloc, router, step, line, Some(birth), code)
         }

@@ -18,8 +18,8 @@ use Rattle.mqtt_broker_step.proofs.Doing.{did_none}
 use Rattle.mqtt_broker_publish.specs.Choosing.{DoesSome, LeavesSome}
 use Rattle.mqtt_broker_step.proofs.Then.{same_act, same_left, did_then, left_first, left_then}
 use Rattle.mqtt_broker_publish.proofs.Leading.{same_env}
-use Rattle.mqtt_broker_publish.specs.declared.client_publish.Published.{Published}
-use Rattle.mqtt_broker_publish.specs.declared.client_publish.Published.TheVariants as published
+use Rattle.mqtt_broker_publish.specs.declared.client_publish.Handled.{Handled}
+use Rattle.mqtt_broker_publish.specs.declared.client_publish.Handled.TheVariants as handled
 use Rattle.mqtt_broker_publish.specs.Publishing.{alias_set, HasAnswered, HasPublished}
 
 resolved_range : (table : AliasTable) (topic : List ℕ) (alias : ℕ) (name : List ℕ) → Resolves table topic (Some alias) name → IsInRange table.max alias
@@ -95,10 +95,10 @@ module _ (l : Line) (x : Session) (p : Publish) (topic : List ℕ) (means : mean
         (left_first (alias_set l.number p topic) (series (rest e ∷ [])) fault s new left);
   }
 
-  pub answered : (r : Published) (s s1 s2 : Stepping) → Did (alias_set l.number p topic) s s1 → HasAnswered l x p topic s1 s2 r → HasPublished l x p s s2 r
-  answered published.Done s s1 s2 set h = alias_does s s1 s2 set h
-  answered (published.Wrong code) s s1 s2 set h = absurd h
-  answered published.Over s s1 s2 set h = record {
+  pub answered : (r : Handled) (s s1 s2 : Stepping) → Did (alias_set l.number p topic) s s1 → HasAnswered l x p topic s1 s2 r → HasPublished l x p s s2 r
+  answered handled.Done s s1 s2 set h = alias_does s s1 s2 set h
+  answered (handled.Wrong code) s s1 s2 set h = absurd h
+  answered handled.Over s s1 s2 set h = record {
     topic = topic;
     means = means;
     over = h.0;

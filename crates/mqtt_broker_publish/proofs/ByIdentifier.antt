@@ -2,7 +2,7 @@
 use Rattle.std.proofs.Common.{◌≡◌, ℕ, List, [], refl, ap, sym, subst, ◌∙◌}
 use Rattle.std.specs.Prelude.{Option, Some, None, option_map}
 use Rattle.mqtt_codec.specs.declared.publish.Publish.{Publish}
-use Rattle.mqtt_flow_inbound.specs.declared.inflow.Published.{Published as Standing}
+use Rattle.mqtt_flow_inbound.specs.declared.inflow.Published.{Published}
 use Rattle.mqtt_flow_inbound.specs.declared.inflow.Published.TheVariants.{Again}
 use Rattle.mqtt_records.specs.declared.session.Session.{Session}
 use Rattle.mqtt_rules.specs.State.{Line}
@@ -34,13 +34,13 @@ message_lawful topic p m None is h = absurd (not_none m is)
 message_lawful topic p m (Some x) is h = subst (λ (y : Message). IsLawfulMessage y) (sym (message_is topic p m (Some x) x is refl)) (h x refl)
 
 module _ (l : Line) (x : Session) (p : Publish) (m : Message) where
-  pub by_some : (k : Standing) (s new : Stepping) → k ≡ standing p.delivery x.inbound → DoesSome (λ env. publish_by k env l x p m) s new
+  pub by_some : (k : Published) (s new : Stepping) → k ≡ standing p.delivery x.inbound → DoesSome (λ env. publish_by k env l x p m) s new
       → DoesSome (λ env. publish_by (standing p.delivery x.inbound) env l x p m) s new
-  by_some k s new is done = subst (λ (k2 : Standing). DoesSome (λ env. publish_by k2 env l x p m) s new) is done
+  by_some k s new is done = subst (λ (k2 : Published). DoesSome (λ env. publish_by k2 env l x p m) s new) is done
 
-  pub by_left : (k : Standing) (fault : StepFault) (s new : Stepping) → k ≡ standing p.delivery x.inbound → LeavesSome (λ env. publish_by k env l x p m) fault s new
+  pub by_left : (k : Published) (fault : StepFault) (s new : Stepping) → k ≡ standing p.delivery x.inbound → LeavesSome (λ env. publish_by k env l x p m) fault s new
       → LeavesSome (λ env. publish_by (standing p.delivery x.inbound) env l x p m) fault s new
-  by_left k fault s new is left = subst (λ (k2 : Standing). LeavesSome (λ env. publish_by k2 env l x p m) fault s new) is left
+  by_left k fault s new is left = subst (λ (k2 : Published). LeavesSome (λ env. publish_by k2 env l x p m) fault s new) is left
 
   pub again_does : (s new : Stepping) → Again ≡ standing p.delivery x.inbound → Does (λ env. publish_by Again env l x p m) s new
       → DoesSome (λ env. publish_by (standing p.delivery x.inbound) env l x p m) s new

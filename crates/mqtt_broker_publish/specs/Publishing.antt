@@ -11,8 +11,8 @@ use Rattle.mqtt_rules.specs.Deeds.{Act, always}
 use Rattle.mqtt_rules.specs.Inbound.{Means, Wrong, meaning, message_of, on_publish, publish_by, sets_alias, standing}
 use Rattle.mqtt_broker_step.specs.Stepping.{Stepping, Did}
 use Rattle.mqtt_broker_publish.specs.Choosing.{DoesSome}
-use Rattle.mqtt_broker_publish.specs.declared.client_publish.Published.{Published}
-use Rattle.mqtt_broker_publish.specs.declared.client_publish.Published.TheVariants as published
+use Rattle.mqtt_broker_publish.specs.declared.client_publish.Handled.{Handled}
+use Rattle.mqtt_broker_publish.specs.declared.client_publish.Handled.TheVariants as handled
 
 -- its Topic Alias was set, where it came with a topic
 abbrev pub alias_set : ℕ → Publish → List ℕ → Act
@@ -30,14 +30,14 @@ pub record IsWrong (code : ℕ) (l : Line) (p : Publish) (old new : Stepping) : 
   pub wrong : meaning p l.aliases ≡ Wrong code
   pub same : new ≡ old
 
-abbrev pub HasPublished : Line → Session → Publish → Stepping → Stepping → Published → Type 0
-HasPublished l s p old new published.Done = DoesSome (λ env. on_publish env l s p) old new
-HasPublished l s p old new (published.Wrong code) = IsWrong code.0 l p old new
-HasPublished l s p old new published.Over = IsOver l s p old new
+abbrev pub HasPublished : Line → Session → Publish → Stepping → Stepping → Handled → Type 0
+HasPublished l s p old new handled.Done = DoesSome (λ env. on_publish env l s p) old new
+HasPublished l s p old new (handled.Wrong code) = IsWrong code.0 l p old new
+HasPublished l s p old new handled.Over = IsOver l s p old new
 
 -- what became of it by its identifier, where its topic is known
-abbrev pub HasAnswered : Line → Session → Publish → List ℕ → Stepping → Stepping → Published → Type 0
-HasAnswered l s p topic old new published.Done =
+abbrev pub HasAnswered : Line → Session → Publish → List ℕ → Stepping → Stepping → Handled → Type 0
+HasAnswered l s p topic old new handled.Done =
     DoesSome (λ env. publish_by (standing p.delivery s.inbound) env l s p (message_of s.client topic p)) old new
-HasAnswered l s p topic old new (published.Wrong code) = ⊥
-HasAnswered l s p topic old new published.Over = (standing p.delivery s.inbound ≡ standings.Over) × (new ≡ old)
+HasAnswered l s p topic old new (handled.Wrong code) = ⊥
+HasAnswered l s p topic old new handled.Over = (standing p.delivery s.inbound ≡ standings.Over) × (new ≡ old)

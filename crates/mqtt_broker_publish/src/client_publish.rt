@@ -22,7 +22,7 @@ use std::alloc::Global;
 
 /// What became of a PUBLISH.
 #[derive(Clone, Copy, Debug, PartialEq, Eq)]
-pub enum Published {
+pub enum Handled {
     /// It was taken, refused or answered.
     Done,
     /// It means no topic, and nothing was done: its line is to be dropped with this code (3.3.2.1, 3.3.2.3.4,
@@ -42,7 +42,7 @@ fn publish_meant<R: Router>(
     birth: u64,
     publish: &Publish,
     topic: &TopicName,
-) -> Result<Published, StepFault>
+) -> Result<Handled, StepFault>
     requires serves { R.serves router.old (subscribers step.old.broker.records) }
     requires means { (l : Line) → row_at line_number line step.old.broker.lines ≡ Some l
         → meaning publish.now l.aliases ≡ Means topic.now }
@@ -76,7 +76,7 @@ pub fn on_publish<R: Router>(
     line: u64,
     birth: u64,
     publish: &Publish,
-) -> Result<Published, StepFault>
+) -> Result<Handled, StepFault>
     requires serves { R.serves router.old (subscribers step.old.broker.records) }
     requires lawful { (l : Line) (s : Session) (topic : List ℕ)
         → row_at line_number line step.old.broker.lines ≡ Some l
@@ -96,11 +96,11 @@ pub fn on_publish<R: Router>(
         → R.serves router.new sessions }
 {
     let Some(state) = step.line(line) else {
-        return Ok(Published::Done);
+        return Ok(Handled::Done);
     };
     let topic = match meaning(publish, state.aliases()) {
         Ok(topic) => topic,
-        Err(Unmeant::Wrong(code)) => return Ok(Published::Wrong(code)),
+        Err(Unmeant::Wrong(code)) => return Ok(Handled::Wrong(code)),
         Err(Unmeant::Memory) => return Err(StepFault::Memory),
     };
     let done = publish_meant(alloc, router, step, line, birth, publish, &topic);

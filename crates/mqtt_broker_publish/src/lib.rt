@@ -19,7 +19,7 @@ mod standing;
 mod taking;
 
 pub use answering::{answer, open_by, publish_again};
-pub use client_publish::{Published, on_publish};
+pub use client_publish::{Handled, on_publish};
 pub use delivering::deliver_all;
 pub use ping::pingreq;
 pub use publishing::publish;

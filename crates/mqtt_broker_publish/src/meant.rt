@@ -10,14 +10,14 @@ ghost use Rattle.mqtt_broker_publish.specs.Choosing.{DoesSome, IsLawfulMessage, 
 ghost use Rattle.mqtt_broker_publish.specs.Publishing.{HasAnswered};
 
 use crate::answering::publish_again;
-use crate::client_publish::Published;
+use crate::client_publish::Handled;
 use crate::fresh::publish_fresh;
 use crate::router::Router;
 use crate::standing::standing;
 use mqtt_broker_decisions::Message;
 use mqtt_broker_step::{Step, StepFault};
 use mqtt_codec::Publish;
-use mqtt_flow_inbound::Published as Standing;
+use mqtt_flow_inbound::Published;
 use mqtt_topic::TopicName;
 use std::alloc::Global;
 
@@ -87,7 +87,7 @@ pub(crate) fn publish_by<R: Router>(
     birth: u64,
     publish: &Publish,
     topic: &TopicName,
-) -> Result<Published, StepFault>
+) -> Result<Handled, StepFault>
     requires serves { R.serves router.old (subscribers step.old.broker.records) }
     requires lawful { (s : Session) → session_at birth step.old.broker.records ≡ Some s
         → IsLawfulMessage (message_of s.client topic.now publish.now) }
@@ -103,19 +103,19 @@ pub(crate) fn publish_by<R: Router>(
         → R.serves router.new sessions }
 {
     let Some(session) = step.session(birth) else {
-        return Ok(Published::Done);
+        return Ok(Handled::Done);
     };
     match standing(session, publish.delivery) {
-        Standing::New => {
+        Published::New => {
             match publish_new(alloc, router, step, line, birth, publish, topic) {
-                Ok(()) => Ok(Published::Done),
+                Ok(()) => Ok(Handled::Done),
                 Err(fault) => Err(fault),
             }
         }
-        Standing::Again => match publish_again(alloc, step, line, publish.delivery) {
-            Ok(()) => Ok(Published::Done),
+        Published::Again => match publish_again(alloc, step, line, publish.delivery) {
+            Ok(()) => Ok(Handled::Done),
             Err(fault) => Err(fault),
         },
-        Standing::Over => Ok(Published::Over),
+        Published::Over => Ok(Handled::Over),
     }
 }
