@@ -67,7 +67,7 @@ fn name_of(message: &Message) -> Result<TopicName, StepFault>
     let text = message.topic().clone()?;
     match TopicName::from_text(text) {
         Ok(name) => Ok(name),
-        Err(_) => Err(StepFault::Memory),
+        Err(_) => unreachable!(),
     }
 }
 
