@@ -7,7 +7,6 @@ mod greeting;
 mod joining;
 mod laws;
 mod preparing;
-mod queue;
 mod refusing;
 mod repeating;
 mod resuming;

@@ -8,10 +8,10 @@ ghost use Rattle.mqtt_broker_step.specs.Stepping.{Did, IsLeft, to_session};
 ghost use Rattle.mqtt_broker_connect.specs.Connecting.{repeats, resumed_greeted, resumed_told, resumption_told};
 
 use crate::greeting::greet;
-use crate::queue::repeats_of;
 use crate::repeating::repeat_all;
 use mqtt_broker_decisions::{expiry_of, will_of};
 use mqtt_broker_packets::connack_granted;
+use mqtt_broker_queue::repeats_of;
 use mqtt_broker_step::{Step, StepFault};
 use mqtt_codec_connect::Connect;
 use mqtt_flow::Turn;
