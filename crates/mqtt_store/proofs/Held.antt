@@ -10,10 +10,10 @@ use Rattle.mqtt_store_schema.specs.Tables.{keep_schema}
 use Rattle.mqtt_store_schema.specs.Creation.{first, IsNewStore}
 use Rattle.mqtt_store_read.specs.Kept.{Keeps, HasNow, IsLeft}
 use Rattle.mqtt_store_laws.specs.Written.{KeepsRows, AreInOrder}
-use Rattle.mqtt_store.proofs.Alike.{alike}
-use Rattle.mqtt_store.proofs.Found.{found_distinct}
-use Rattle.mqtt_store.proofs.Kept.{distinct_kept, kept_distinct}
-use Rattle.mqtt_store.proofs.New.{new_keeps}
+use Rattle.mqtt_store_load_laws.proofs.Alike.{alike}
+use Rattle.mqtt_store_load_laws.proofs.Found.{found_distinct}
+use Rattle.mqtt_store_load_laws.proofs.Kept.{distinct_kept, kept_distinct}
+use Rattle.mqtt_store_load_laws.proofs.New.{new_keeps}
 pub use Rattle.mqtt_store.specs.Ones.{not_both, found_one, load_finds, leaves_held}
 use Rattle.mqtt_store.specs.Holding.{ShowsKept, Finds, Has, Holds, HasKept, Leaves, OnlyLoads, OnlySteps}
 

@@ -5,13 +5,3 @@ pub mod Opened
 pub mod Applies
 pub mod Shortened
 pub mod Inside
-pub mod Sent
-pub mod Exact
-pub mod Traverse
-pub mod Lines
-pub mod Same
-pub mod Alike
-pub mod Found
-pub mod Kept
-pub mod New
-pub mod FoundOrder

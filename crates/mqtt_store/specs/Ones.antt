@@ -9,9 +9,9 @@ use Rattle.mqtt_store_schema.specs.Tables.{keep_schema}
 use Rattle.mqtt_store_schema.specs.Creation.{first}
 use Rattle.mqtt_store_read.specs.Kept.{HasRecords, Keeps}
 use Rattle.mqtt_store_laws.specs.Written.{KeepsRows}
-use Rattle.mqtt_store.proofs.Alike.{alike}
-use Rattle.mqtt_store.proofs.Found.{found_distinct}
-use Rattle.mqtt_store.proofs.Kept.{kept_distinct}
+use Rattle.mqtt_store_load_laws.proofs.Alike.{alike}
+use Rattle.mqtt_store_load_laws.proofs.Found.{found_distinct}
+use Rattle.mqtt_store_load_laws.proofs.Kept.{kept_distinct}
 use Rattle.mqtt_store.specs.Holding.{ShowsKept, Holds, Leaves}
 
 -- an empty database has not the store's tables

@@ -5,7 +5,6 @@ mod apply;
 mod columns;
 mod commit;
 mod ending;
-mod found_laws;
 mod keep;
 mod laws;
 mod load;
@@ -15,9 +14,6 @@ mod sizes;
 mod statement;
 
 pub use commit::commit_changes;
-pub use found_laws::{
-    found_is_kept, kept_is_found, new_store_is_in_order, new_store_keeps_nothing, rows_are_of_one,
-};
 pub use keep::SqlKeep;
 pub use laws::{
     crash_leaves_what_it_has, database_keeps_one, load_finds_what_is_kept, load_keeps_what_it_has,

@@ -31,8 +31,8 @@ use Rattle.mqtt_store_write.specs.Put.{open_row}
 use Rattle.mqtt_store_read.specs.Listing.{shown, tree_of}
 use Rattle.mqtt_store_laws.specs.Items.{subscription_columns, copy_columns, cause_number, cause_text, cause_n, phase_number, packet_identifier, release_order, IsNumberRow, IsSessionRow, IsWillRow, IsSubscriptionRow, IsOpenRow, IsCopyRow, IsRetainedRow}
 use Rattle.mqtt_store_laws.specs.Written.{AreWritten}
-use Rattle.mqtt_store.proofs.Sent.{says_sent}
-use Rattle.mqtt_store.proofs.Traverse.{SaysNamed, SaysOf}
+use Rattle.mqtt_store_load_laws.proofs.Sent.{says_sent}
+use Rattle.mqtt_store_load_laws.proofs.Traverse.{SaysNamed, SaysOf}
 
 -- ---- the lines
 

@@ -29,8 +29,8 @@ use Rattle.mqtt_store_write.specs.Columns.{flag}
 use Rattle.mqtt_store_write.specs.Copy.{number_or_null}
 use Rattle.mqtt_store_laws.specs.Items.{cause_number, cause_text, cause_n, phase_number, packet_identifier, release_order}
 use Rattle.mqtt_store_laws.specs.Written.{IsSayableCopy, IsSayableSubscription}
-use Rattle.mqtt_store.proofs.Sent.{block_one, sent_tells}
-use Rattle.mqtt_store.proofs.Lines.{number_line, session_line, will_line, subscription_line, open_line, copy_line, retained_line}
+use Rattle.mqtt_store_load_laws.proofs.Sent.{block_one, sent_tells}
+use Rattle.mqtt_store_load_laws.proofs.Lines.{number_line, session_line, will_line, subscription_line, open_line, copy_line, retained_line}
 
 -- ---- one column
 

@@ -26,10 +26,10 @@ use Rattle.mqtt_store_read.specs.Listing.{shown, tree_of, IsListing}
 use Rattle.mqtt_store_read.specs.Kept.{HasRecords}
 use Rattle.mqtt_store_laws.specs.Members.{Has as HasItem, HasColumns, IsOrdered, will_of, subscriptions_of, inbound_of, queue_of}
 use Rattle.mqtt_store_laws.specs.Written.{AreSayable, IsSayableCopy, numbers_in, IsWillOf, IsSubscriptionOf, IsOpenOf, IsCopyOf}
-use Rattle.mqtt_store.proofs.Sent.{says_sent}
-use Rattle.mqtt_store.proofs.Traverse.{IsSaid, Shares, SaysNamed, SaysOf, rows_each, rows_only, numbers_each, numbers_only, own_each, own_only, shares_each, shares_only, wills_share, subscriptions_share, inbound_share, copies_share}
-use Rattle.mqtt_store.proofs.Lines.{AreLined, number_line, session_line, will_line, subscription_line, open_line, copy_line, retained_line, number_said, session_said, will_said, subscription_said, open_said, copy_said, retained_said}
-use Rattle.mqtt_store.proofs.Alike.{HasLines, AreDistinct}
+use Rattle.mqtt_store_load_laws.proofs.Sent.{says_sent}
+use Rattle.mqtt_store_load_laws.proofs.Traverse.{IsSaid, Shares, SaysNamed, SaysOf, rows_each, rows_only, numbers_each, numbers_only, own_each, own_only, shares_each, shares_only, wills_share, subscriptions_share, inbound_share, copies_share}
+use Rattle.mqtt_store_load_laws.proofs.Lines.{AreLined, number_line, session_line, will_line, subscription_line, open_line, copy_line, retained_line, number_said, session_said, will_said, subscription_said, open_said, copy_said, retained_said}
+use Rattle.mqtt_store_load_laws.proofs.Alike.{HasLines, AreDistinct}
 
 -- ---- one table
 

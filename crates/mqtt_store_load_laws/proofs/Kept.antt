@@ -28,9 +28,9 @@ use Rattle.mqtt_store_write.proofs.SetNumber.{own_text, one_name}
 use Rattle.mqtt_store_read.specs.Listing.{shown, tree_of}
 use Rattle.mqtt_store_laws.specs.Items.{IsNumberRow, IsSessionRow, IsWillRow, IsSubscriptionRow, IsOpenRow, IsCopyRow, IsRetainedRow}
 use Rattle.mqtt_store_laws.specs.Written.{AreWritten, HasRows, AreAllSingle, AreInOrder, KeepsRows}
-use Rattle.mqtt_store.proofs.Exact.{by_columns, typed_row, as_long, key_null}
-use Rattle.mqtt_store.proofs.Lines.{AreLined, number_line, session_line, will_line, subscription_line, open_line, copy_line, retained_line}
-use Rattle.mqtt_store.proofs.Alike.{HasLines, AreDistinct, rows_lined}
+use Rattle.mqtt_store_load_laws.proofs.Exact.{by_columns, typed_row, as_long, key_null}
+use Rattle.mqtt_store_load_laws.proofs.Lines.{AreLined, number_line, session_line, will_line, subscription_line, open_line, copy_line, retained_line}
+use Rattle.mqtt_store_load_laws.proofs.Alike.{HasLines, AreDistinct, rows_lined}
 
 -- ---- one row
 

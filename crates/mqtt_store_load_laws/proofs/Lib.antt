@@ -1,0 +1,10 @@
+pub mod Sent
+pub mod Exact
+pub mod Traverse
+pub mod Lines
+pub mod Same
+pub mod Alike
+pub mod Found
+pub mod Kept
+pub mod New
+pub mod Order
