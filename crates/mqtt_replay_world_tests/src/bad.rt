@@ -31,6 +31,7 @@ fn bad() -> &'static [(&'static str, &'static str)] {
         ("publisher p1\n", "giveup p1"),
         ("publisher p1\n", "break p1"),
         ("publisher p1\n", "stopafter break p1"),
+        ("publisher p1\n", "publish p1 2 0 a/# 6869"),
         ("receiver r1 10\n", "publish r1 2 0 a/b 6869"),
         ("receiver r1 10\n", "subscribe r1 2 0 0 0 0 a/b"),
         (
@@ -42,6 +43,7 @@ fn bad() -> &'static [(&'static str, &'static str)] {
             "subscribe p1 2 0 0 0 0 a/b",
         ),
         (READY, "subscribe r1 2 1 0 0 0 $share/g/a/b"),
+        (READY, "subscribe r1 2 0 0 0 0 a/#/b"),
         (WAITING, "subscribe r1 2 0 0 0 0 a/b"),
         ("", "drain r1"),
         ("receiver r1 10\n", "drain r1"),
@@ -109,5 +111,29 @@ fn events_that_can_not_happen(rt: HostRuntime) -> Result<(), Fail> {
             "{line}"
         );
     }
+    Ok(())
+}
+
+/// Whether a message of QoS 2 to a/b with a payload of so many bytes is bad.
+fn is_too_large(alloc: Global, hasher: RandomState, bytes: usize) -> Result<bool, ReplayFault> {
+    let mut line = String::new(alloc);
+    let mut pushed = write!(line, "publish p1 2 0 a/b ");
+    for _ in 0..bytes {
+        if pushed.is_ok() {
+            pushed = write!(line, "00");
+        }
+    }
+    let is = is_bad(alloc, hasher, "publisher p1\n", line.as_str());
+    drop(line);
+    pushed?;
+    is
+}
+
+// (12 bytes of the packet are not the payload's, and a packet has at most 65,536.)
+#[test]
+fn a_message_that_no_packet_carries(rt: HostRuntime) -> Result<(), Fail> {
+    let hasher = RandomState::new(&rt)?;
+    assert!(rt; is_too_large(rt.alloc(), hasher, 65_524) == Ok(false));
+    assert!(rt; is_too_large(rt.alloc(), hasher, 65_525) == Ok(true));
     Ok(())
 }
