@@ -36,7 +36,7 @@ written_begins limits choice now r within w unspent =
     let f = facts_of r w.written in
     let may : MayOpen limits choice now r = record { coherent = lawful_coherent r lawful; room = w.sessions; unspent = unspent } in
     record {
-      untouched = opened_untouched limits choice now r within may w.queues (lawful_flight r lawful) (retained_once r w.written);
+      untouched = opened_untouched limits choice now r within may (lawful_flight r lawful) (retained_once r w.written);
       apart = opened_apart limits choice now r within may (tells_apart r f.identities f.bounds);
       numbers = opening_accepted limits choice now r (lawful_accepted r lawful);
     }

@@ -55,7 +55,7 @@ pub run_opens_again : (limits : Limits) (ts : List Turn) (choice : MemberChoice)
 run_opens_again limits ts choice now w u fair unspent =
     let k = fair_run_kept limits ts w u fair [] in
     let a = k.stands.standing.around in
-    opened_untouched limits choice now (run limits ts w).broker.records fair.within (record { coherent = a.steady.coherent; room = a.steady.room; unspent = unspent }) a.tidy.queues k.fit.distinct k.fit.once
+    opened_untouched limits choice now (run limits ts w).broker.records fair.within (record { coherent = a.steady.coherent; room = a.steady.room; unspent = unspent }) k.fit.distinct k.fit.once
 
 pub run_hands : (limits : Limits) (ts : List Turn) (w : World) → IsUntouched limits w → IsFair limits ts w → (c : List ℕ) (r : Receiver) → receiver_named c (run limits ts w) ≡ Some r → WasHandedOver r (run limits ts w).broker
 run_hands limits ts w u fair c r e = handed_over [] c any_size limits r (run limits ts w) (fair_run_kept limits ts w u fair c).stands e
