@@ -56,9 +56,9 @@ pub fn every_run_hands_over_once()
         → WasHandedOver r (run limits ts w).broker }
 {}
 
-/// So a world may begin: with nothing stored, or opened on tables in order, with no more sessions than the limit, where no two
-/// copies in flight have one identifier and no two retained messages are of one publication; such are those that any run of
-/// such a world leaves. Queues may be longer than the limit, as those are that were stored under a larger one (4.1).
+/// So a world may begin: with nothing stored, or opened on tables in order, where no two copies in flight have one identifier
+/// and no two retained messages are of one publication; such are those that any run of such a world leaves, under whatever
+/// limits. More sessions may stand than the limit, and queues may be longer, where they were stored under larger ones (4.1).
 pub fn a_world_may_begin_untouched()
     ensures empty { (limits : Limits) → AreWithin limits → IsUntouched limits start }
     ensures stored { (limits : Limits) (choice : MemberChoice) (now : ℕ) (r : Records)
@@ -68,6 +68,12 @@ pub fn a_world_may_begin_untouched()
         → IsUntouched limits w → IsFair limits ts w
         → is_opening_spent limits choice now (run limits ts w).broker.records ≡ false
         → IsUntouched limits (opened_world limits choice now (run limits ts w).broker.records) }
+
+    // Also where the broker is opened under other limits than those of the run.
+    ensures under_others { (limits others : Limits) (ts : List Turn) (choice : MemberChoice) (now : ℕ) (w : World)
+        → IsUntouched limits w → IsFair limits ts w → AreWithin others
+        → is_opening_spent others choice now (run limits ts w).broker.records ≡ false
+        → IsUntouched others (opened_world others choice now (run limits ts w).broker.records) }
 {}
 
 /// From wherever a fair run comes to, a drain of a receiver ends, whatever is under way from it, a CONNECT or a SUBSCRIBE too:

@@ -115,7 +115,7 @@ run_begins limits ts choice now w m fair unspent =
     let s = (fair_run_kept limits ts w m.untouched fair []).stands.standing.around.steady in
     record {
       untouched = run_opens_again limits ts choice now w m.untouched fair unspent;
-      apart = opened_apart limits choice now r fair.within (record { coherent = s.coherent; room = s.room; unspent = unspent }) (run_apart limits ts w m.untouched fair m.apart);
+      apart = opened_apart limits choice now r fair.within (record { coherent = s.coherent; unspent = unspent }) (run_apart limits ts w m.untouched fair m.apart);
       numbers = opening_accepted limits choice now r (run_keeps Accepted limits ts w (numbers_kept limits) m.untouched.new fair m.numbers);
     }
 

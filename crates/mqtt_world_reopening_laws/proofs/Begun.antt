@@ -34,7 +34,7 @@ pub written_begins : (limits : Limits) (choice : MemberChoice) (now : ℕ) (r : 
 written_begins limits choice now r within w unspent =
     let lawful = w.written.lawful in
     let f = facts_of r w.written in
-    let may : MayOpen limits choice now r = record { coherent = lawful_coherent r lawful; room = w.sessions; unspent = unspent } in
+    let may : MayOpen limits choice now r = record { coherent = lawful_coherent r lawful; unspent = unspent } in
     record {
       untouched = opened_untouched limits choice now r within may (lawful_flight r lawful) (retained_once r w.written);
       apart = opened_apart limits choice now r within may (tells_apart r f.identities f.bounds);

@@ -21,10 +21,9 @@ use Rattle.mqtt_world_delivery_laws.proofs.broker.Unused.{opening_unused}
 
 pub start_untouched : (limits : Limits) → AreWithin limits → IsUntouched limits start
 start_untouched limits within =
-    let new = start_new limits in
     record {
-      new = new;
-      tidy = record { ordered = new.steady.coherent.ordered; within = within.queue };
+      new = start_new;
+      tidy = record { ordered = start_new.steady.coherent.ordered; within = within.queue };
       distinct = tt;
       retained = tt;
       unused = tt;
