@@ -1,5 +1,5 @@
 -- Of which runs the laws speak: how a world begins, and what is asked of its events.
-use Rattle.std.specs.Prelude.{◌≡◌, ℕ, ◌≤◌, false, true, List, [], length}
+use Rattle.std.specs.Prelude.{◌≡◌, ℕ, false, true, List, []}
 use Rattle.mqtt_records.specs.Records.{IsNumber}
 use Rattle.mqtt_records.specs.declared.records.Records.{Records}
 use Rattle.mqtt_rules.specs.declared.Limits.{Limits}
@@ -12,17 +12,16 @@ use Rattle.mqtt_world_model.specs.World.{World}
 use Rattle.mqtt_world_model.specs.Run.{Turn, are_beginnings_clean}
 use Rattle.mqtt_world_acceptance_laws.specs.Spending.{run_spends}
 
--- the tables of the broker are in order and within the limits, and so are its lines
-pub record IsSteady (limits : Limits) (b : Broker) : Type 0 where
+-- the tables of the broker are in order, and so are its lines
+pub record IsSteady (b : Broker) : Type 0 where
   pub coherent : IsCoherent b.records
   pub timed : IsTimed b
   pub moment : IsNumber b.now
   pub lines : HasUniqueLines b
-  pub room : length b.records.sessions ≤ limits.sessions
 
 -- a world in which nobody is yet; its broker may have been opened on what earlier runs stored
-pub record IsNew (limits : Limits) (w : World) : Type 0 where
-  pub steady : IsSteady limits w.broker
+pub record IsNew (w : World) : Type 0 where
+  pub steady : IsSteady w.broker
   pub publishers : w.publishers ≡ []
   pub receivers : w.receivers ≡ []
   pub strangers : w.strangers ≡ []
@@ -37,10 +36,10 @@ opened_world limits choice now r = record {
   strangers = [];
 }
 
--- what may be opened so: tables in order, with no more sessions than the limit, and opening them spends no number
+-- what may be opened so: tables in order, and opening them spends no number; more sessions may stand than the limit, where they
+-- were stored under a larger one
 pub record MayOpen (limits : Limits) (choice : MemberChoice) (now : ℕ) (r : Records) : Type 0 where
   pub coherent : IsCoherent r
-  pub room : length r.sessions ≤ limits.sessions
   pub unspent : is_opening_spent limits choice now r ≡ false
 
 -- what is asked of a run: the limits are within those of the tables, no number is spent, no session of an end's name

@@ -45,24 +45,24 @@ both_caused : (xs ys : List Asked) → AreCaused xs → AreCaused ys → AreCaus
 both_caused xs ys p q = each_append (λ (x : Asked). AllByRecursion HasCause (ends_in x)) xs ys p q
 
 module _ (set : Setting) (within : AreWithin set.limits) where
-  called : (call : Call) (w : World) → IsSteady set.limits w.broker → AreCaused (read_if the_asked set (Some call) w)
+  called : (call : Call) (w : World) → IsSteady w.broker → AreCaused (read_if the_asked set (Some call) w)
   called call w s =
       let x : Asked = record { call = Some call; step = step_called set call w } in
       (all_caused x x.step.deeds x.step.broker (call_caused x call refl s.coherent.ordered) (stands_call x.step.env call x.step.broker s.coherent.ordered), tt)
 
-  if_called : (call : Option Call) (w : World) → IsSteady set.limits w.broker → AreCaused (read_if the_asked set call w)
+  if_called : (call : Option Call) (w : World) → IsSteady w.broker → AreCaused (read_if the_asked set call w)
   if_called None w s = tt
   if_called (Some call) w s = called call w s
 
-  opened : (w : World) → IsSteady set.limits w.broker → AreCaused (read_opening the_asked set w)
+  opened : (w : World) → IsSteady w.broker → AreCaused (read_opening the_asked set w)
   opened w s =
       let x : Asked = record { call = None; step = opening_step set w } in
       (all_caused x x.step.deeds x.step.broker (opening_caused x x.step.broker s.coherent.ordered) (stands_opening x.step.env x.step.broker s.coherent.ordered), tt)
 
-  first_called : (a : Asking) (w : World) → IsSteady set.limits w.broker → AreCaused (read_first the_asked set a w)
+  first_called : (a : Asking) (w : World) → IsSteady w.broker → AreCaused (read_first the_asked set a w)
   first_called a w s = if_called (call_of set a w) (before set a w) (before_goes Any set (anything set.limits) within a w s).steady
 
-  rest_called : (more : ℕ) (name : List ℕ) (v : World) → IsSteady set.limits v.broker → read_rest spending set more name v ≡ false → AreCaused (read_rest the_asked set more name v)
+  rest_called : (more : ℕ) (name : List ℕ) (v : World) → IsSteady v.broker → read_rest spending set more name v ≡ false → AreCaused (read_rest the_asked set more name v)
   rest_called zero name v s unspent = tt
   rest_called (suc more) name v s unspent =
       let call = call_of_stranger (stranger_named name v) in
@@ -72,7 +72,7 @@ module _ (set : Setting) (within : AreWithin set.limits) where
       let x = if_goes Any set (anything set.limits) within call held s (same_cost Any set (anything set.limits) within name v call costs.0) in
       both_caused (read_if the_asked set call v) (read_rest the_asked set more name u) (if_called call v s) (rest_called more name u x.steady costs.1)
 
-  asked : (a : Asking) (w : World) → IsSteady set.limits w.broker → read_asked spending set a w ≡ false → AreCaused (read_asked the_asked set a w)
+  asked : (a : Asking) (w : World) → IsSteady w.broker → read_asked spending set a w ≡ false → AreCaused (read_asked the_asked set a w)
   asked (to_broker d) w s unspent = first_called (to_broker d) w s
   asked (old_to_broker d) w s unspent = first_called (old_to_broker d) w s
   asked (break d) w s unspent = first_called (break d) w s
@@ -82,7 +82,7 @@ module _ (set : Setting) (within : AreWithin set.limits) where
       let v = comes set name bytes w in
       rest_called (held_count (stranger_named name v)) name v (comes_goes Any set (anything set.limits) within name bytes w s).steady unspent
 
-  happened : (e : Event) (w : World) → IsSteady set.limits w.broker → read_in spending set e w ≡ false → AreCaused (read_in the_asked set e w)
+  happened : (e : Event) (w : World) → IsSteady w.broker → read_in spending set e w ≡ false → AreCaused (read_in the_asked set e w)
   happened (publisher d) w s unspent = tt
   happened (receiver d window) w s unspent = tt
   happened (connect_end d clean) w s unspent = if_called (Some NewLine) w s
@@ -102,7 +102,7 @@ module _ (set : Setting) (within : AreWithin set.limits) where
 
 -- ---- a turn, and a run
 
-turn_caused : (limits : Limits) (t : Turn) (w : World) → AreWithin limits → IsSteady limits w.broker → read_at spending (setting limits t) t.event w ≡ false → AreCaused (read_at the_asked (setting limits t) t.event w)
+turn_caused : (limits : Limits) (t : Turn) (w : World) → AreWithin limits → IsSteady w.broker → read_at spending (setting limits t) t.event w ≡ false → AreCaused (read_at the_asked (setting limits t) t.event w)
 turn_caused limits t w within s unspent = by (is_bad t.event w) unspent
   where
     set : Setting
@@ -112,7 +112,7 @@ turn_caused limits t w within s unspent = by (is_bad t.event w) unspent
     by true u = tt
     by false u = happened set within t.event w s u
 
-all_steps : (limits : Limits) (ts : List Turn) (w : World) → AreWithin limits → IsSteady limits w.broker → run_spends limits ts w ≡ false → AreCaused (asked_over limits ts w)
+all_steps : (limits : Limits) (ts : List Turn) (w : World) → AreWithin limits → IsSteady w.broker → run_spends limits ts w ≡ false → AreCaused (asked_over limits ts w)
 all_steps limits [] w within s unspent = tt
 all_steps limits (t ∷ ts) w within s unspent =
     let v = turned limits t w in
@@ -126,7 +126,7 @@ joined [] h = tt
 joined (x ∷ xs) h = each_append HasCause (ends_in x) (flat_map ends_in xs) h.0 (joined xs h.1)
 
 -- each end of a run has its cause
-pub run_caused : (limits : Limits) (ts : List Turn) (w : World) → IsNew limits w → IsFair limits ts w → EachHasItsCause limits ts w
+pub run_caused : (limits : Limits) (ts : List Turn) (w : World) → IsNew w → IsFair limits ts w → EachHasItsCause limits ts w
 run_caused limits ts w new fair = joined (asked_over limits ts w) (all_steps limits ts w fair.within new.steady fair.unspent)
 
 -- ---- and these are all ends: the deeds are those of the steps

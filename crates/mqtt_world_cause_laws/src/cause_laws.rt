@@ -14,7 +14,7 @@ ghost use Rattle.mqtt_world_cause_laws.specs.Endings.{AreAllEnds};
 /// takes. Its session ended, by its time or by Clean Start. Or it waited in a full queue, and made room for another
 /// (3.1.2.4, 3.1.2.11, 3.3.2.3.3, 4.3.2, 4.3.3).
 pub fn each_end_has_its_cause()
-    ensures causes { (limits : Limits) (ts : List Turn) (w : World) → IsNew limits w → IsFair limits ts w
+    ensures causes { (limits : Limits) (ts : List Turn) (w : World) → IsNew w → IsFair limits ts w
         → EachHasItsCause limits ts w }
     ensures all { (limits : Limits) (ts : List Turn) (w : World) → AreAllEnds limits ts w }
 {}

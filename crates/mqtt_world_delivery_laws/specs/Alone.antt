@@ -16,9 +16,9 @@ HaveSentNothing b = AllByRecursion IsUnused b.lines
 
 -- each call and each opening keeps this, as long as no number is spent
 pub record IsKept (limits : Limits) (P : Broker → Type 0) : Type 0 where
-  pub called : (choice : MemberChoice) (now : ℕ) (call : Call) (b : Broker) → IsSteady limits b
+  pub called : (choice : MemberChoice) (now : ℕ) (call : Call) (b : Broker) → IsSteady b
       → is_step_spent limits choice now call b ≡ false → P b → P (stepped limits choice now call b)
-  pub reopened : (choice : MemberChoice) (now : ℕ) (b : Broker) → IsSteady limits b
+  pub reopened : (choice : MemberChoice) (now : ℕ) (b : Broker) → IsSteady b
       → is_opening_spent limits choice now b.records ≡ false → P b → P (opened limits choice now b.records)
 
 -- so that deeds which lead from one state to the next carry it along

@@ -10,7 +10,7 @@ use Rattle.mqtt_world_receiver_laws.specs.Served.{IsTidy}
 use Rattle.mqtt_flow_inbound.specs.Publisher.{CONNECT}
 use Rattle.mqtt_world_model.specs.Ends.{Back, Publisher, Receiver, Sent, answers, asks_for, no_content, plain, shake}
 use Rattle.mqtt_world_model.specs.Lines.{Line, is_one_of}
-use Rattle.mqtt_world_model.specs.Seats.{IsApart, IsNamed, Seat}
+use Rattle.mqtt_world_model.specs.Seats.{HasPlace, IsApart, IsNamed, Seat}
 use Rattle.mqtt_world_model.specs.World.{Asking, Stranger, World, break, old_to_broker, publisher_named, pump, receiver_named}
 use Rattle.mqtt_world_model.specs.World.{stranger, tick, to_broker}
 use Rattle.mqtt_rules.specs.Laws.{AreWithin}
@@ -78,16 +78,18 @@ IsOtherReceiver client ns given r = (r.client ≡ client) ⊎ HasOthers ns given
 abbrev pub IsOtherStranger : List ℕ → ℕ → Stranger → Type 0
 IsOtherStranger ns given s = IsAnothers ns given s.number
 
--- the broker is in order, and these lines are nobody's but this receiver's, whose name no publisher has
+-- the broker is in order, and these lines are nobody's but this receiver's, whose name no publisher has, and whose session has a
+-- place
 pub record IsAround (client : List ℕ) (limits : Limits) (ns : List ℕ) (w : World) : Type 0 where
   pub within : AreWithin limits
-  pub steady : IsSteady limits w.broker
+  pub steady : IsSteady w.broker
   pub tidy : IsTidy limits w.broker
   pub known : (n : ℕ) → is_one_of (Some n) ns ≡ true → n ≤ w.broker.given
   pub publishers : AllByRecursion (IsOtherPublisher ns w.broker.given) w.publishers
   pub receivers : AllByRecursion (IsOtherReceiver client ns w.broker.given) w.receivers
   pub strangers : AllByRecursion (IsOtherStranger ns w.broker.given) w.strangers
   pub alone : is_some (receiver_named client w) ≡ true → publisher_named client w ≡ None
+  pub place : is_some (receiver_named client w) ≡ true → HasPlace limits client w.broker.records
 
 -- ---- together
 

@@ -7,11 +7,11 @@ use Rattle.mqtt_world_acceptance_laws.specs.Fair.{IsNew}
 use Rattle.mqtt_world_delivery_laws.specs.Alone.{HaveSentNothing}
 use Rattle.mqtt_world_delivery_laws.specs.Retaining.{AreRetainedOnce}
 
--- nobody is there yet; and what is stored, or was read before, is as a broker leaves it: no queue is above its limit, no two
--- copies in flight in a session have one identifier, no two retained messages are of one publication, and no copy went out on
--- a line on which nobody is connected
+-- nobody is there yet; and what is stored, or was read before, is as a broker leaves it: no two copies in flight in a session
+-- have one identifier, no two retained messages are of one publication, and no copy went out on a line on which nobody is
+-- connected
 pub record IsUntouched (limits : Limits) (w : World) : Type 0 where
-  pub new : IsNew limits w
+  pub new : IsNew w
   pub tidy : IsTidy limits w.broker
   pub distinct : HasDistinctIdentifiers w.broker.records
   pub retained : AreRetainedOnce w.broker.records

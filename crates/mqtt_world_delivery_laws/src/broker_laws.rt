@@ -16,10 +16,10 @@ ghost use Rattle.mqtt_world_acceptance_laws.specs.Spending.{spending};
 /// No two copies in flight in a session have the same packet identifier, after any event and in every run, from what is
 /// stored of which that holds (2.2.1).
 pub fn identifiers_in_flight_stay_unique()
-    ensures event { (e : Event) (set : Setting) (w : World) → AreWithin set.limits → IsSteady set.limits w.broker
+    ensures event { (e : Event) (set : Setting) (w : World) → AreWithin set.limits → IsSteady w.broker
         → is_bad e w ≡ false → read_in spending set e w ≡ false → HasDistinctIdentifiers w.broker.records
         → HasDistinctIdentifiers (happens set e w).broker.records }
-    ensures runs { (limits : Limits) (ts : List Turn) (w : World) → IsNew limits w → IsFair limits ts w
+    ensures runs { (limits : Limits) (ts : List Turn) (w : World) → IsNew w → IsFair limits ts w
         → HasDistinctIdentifiers w.broker.records → HasDistinctIdentifiers (run limits ts w).broker.records }
 {}
 
@@ -31,9 +31,9 @@ pub fn a_line_without_session_has_sent_nothing()
         → HaveSentNothing b → HaveSentNothing (stepped limits choice now call b) }
     ensures opening { (limits : Limits) (choice : MemberChoice) (now : ℕ) (r : Records)
         → HaveSentNothing (opened limits choice now r) }
-    ensures event { (e : Event) (set : Setting) (w : World) → AreWithin set.limits → IsSteady set.limits w.broker
+    ensures event { (e : Event) (set : Setting) (w : World) → AreWithin set.limits → IsSteady w.broker
         → is_bad e w ≡ false → read_in spending set e w ≡ false → HaveSentNothing w.broker
         → HaveSentNothing (happens set e w).broker }
-    ensures runs { (limits : Limits) (ts : List Turn) (w : World) → IsNew limits w → IsFair limits ts w
+    ensures runs { (limits : Limits) (ts : List Turn) (w : World) → IsNew w → IsFair limits ts w
         → HaveSentNothing w.broker → HaveSentNothing (run limits ts w).broker }
 {}

@@ -18,7 +18,7 @@ ghost use Rattle.mqtt_world_acceptance_laws.specs.Fair.{IsNew};
 /// and tables in order with queues within the limit (4.1).
 pub fn every_receiver_stands_in_a_new_world()
     ensures begins { (client : List ℕ) (largest : ℕ) (limits : Limits) (w : World)
-        → AreWithin limits → IsTidy limits w.broker → IsNew limits w → Stands [] client largest limits w }
+        → AreWithin limits → IsTidy limits w.broker → IsNew w → Stands [] client largest limits w }
 {}
 
 /// Where a receiver stands, what it sees of the world is a run of its hop: each copy of QoS 2 was handed over at most once,

@@ -14,7 +14,7 @@ ghost use Rattle.mqtt_world_model.specs.Run.{Turn, begins_clean, run};
 ghost use Rattle.mqtt_world_model.specs.World.{Setting, World, happens, is_bad, old_to_broker, receiver, receiver_named, start, to_broker};
 ghost use Rattle.mqtt_records.specs.declared.records.Records.{Records};
 ghost use Rattle.mqtt_rules.specs.Flight.{HasDistinctIdentifiers};
-ghost use Rattle.mqtt_rules.specs.Laws.{AreWithin, QueuesWithin};
+ghost use Rattle.mqtt_rules.specs.Laws.{AreWithin};
 ghost use Rattle.mqtt_rules.specs.State.{MemberChoice, session_named};
 ghost use Rattle.mqtt_rules.specs.Step.{is_opening_spent};
 ghost use Rattle.mqtt_rules.specs.declared.Limits.{Limits};
@@ -56,18 +56,24 @@ pub fn every_run_hands_over_once()
         → WasHandedOver r (run limits ts w).broker }
 {}
 
-/// So a world may begin: with nothing stored, or opened on tables in order, with no more sessions and no longer queues than
-/// the limits, where no two copies in flight have one identifier and no two retained messages are of one publication; such
-/// are those that any run of such a world leaves (4.1).
+/// So a world may begin: with nothing stored, or opened on tables in order, where no two copies in flight have one identifier
+/// and no two retained messages are of one publication; such are those that any run of such a world leaves, under whatever
+/// limits. More sessions may stand than the limit, and queues may be longer, where they were stored under larger ones (4.1).
 pub fn a_world_may_begin_untouched()
     ensures empty { (limits : Limits) → AreWithin limits → IsUntouched limits start }
     ensures stored { (limits : Limits) (choice : MemberChoice) (now : ℕ) (r : Records)
-        → AreWithin limits → MayOpen limits choice now r → QueuesWithin limits.queue r → HasDistinctIdentifiers r
-        → AreRetainedOnce r → IsUntouched limits (opened_world limits choice now r) }
+        → AreWithin limits → MayOpen limits choice now r → HasDistinctIdentifiers r → AreRetainedOnce r
+        → IsUntouched limits (opened_world limits choice now r) }
     ensures again { (limits : Limits) (ts : List Turn) (choice : MemberChoice) (now : ℕ) (w : World)
         → IsUntouched limits w → IsFair limits ts w
         → is_opening_spent limits choice now (run limits ts w).broker.records ≡ false
         → IsUntouched limits (opened_world limits choice now (run limits ts w).broker.records) }
+
+    // Also where the broker is opened under other limits than those of the run.
+    ensures under_others { (limits others : Limits) (ts : List Turn) (choice : MemberChoice) (now : ℕ) (w : World)
+        → IsUntouched limits w → IsFair limits ts w → AreWithin others
+        → is_opening_spent others choice now (run limits ts w).broker.records ≡ false
+        → IsUntouched others (opened_world others choice now (run limits ts w).broker.records) }
 {}
 
 /// From wherever a fair run comes to, a drain of a receiver ends, whatever is under way from it, a CONNECT or a SUBSCRIBE too:

@@ -14,7 +14,7 @@ ghost use Rattle.mqtt_world_acceptance_laws.specs.Fair.{IsNew};
 /// and packets of any size, since it names no Maximum Packet Size. It is so in a new world, and after each turn, whatever
 /// happens in it: no other CONNECT is read there (3.1.2.11.3, 3.1.2.11.4).
 pub fn its_line_takes_what_its_connect_says()
-    ensures begins { (client : List ℕ) (limits : Limits) (w : World) → IsNew limits w → ItsLineTakes client w }
+    ensures begins { (client : List ℕ) (w : World) → IsNew w → ItsLineTakes client w }
     ensures keeps { (first : List CopyId) (client : List ℕ) (largest : ℕ) (limits : Limits) (t : Turn) (w : World)
         → Stands first client largest limits w → ItsLineTakes client w → ItsLineTakes client (turned limits t w) }
     ensures connected { (client : List ℕ) (r : Receiver) (n birth : ℕ) (l : Line) (w : World) → ItsLineTakes client w

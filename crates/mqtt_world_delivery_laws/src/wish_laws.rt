@@ -30,7 +30,7 @@ pub fn a_subscribe_leaves_a_receiver_standing()
 /// Whatever happens in the world, no two retained messages are of one publication, if so it was before: each publication
 /// is retained in one place at most (3.3.1.3).
 pub fn retained_messages_stay_of_different_publications()
-    ensures turns { (limits : Limits) (t : Turn) (w : World) → AreWithin limits → IsSteady limits w.broker
+    ensures turns { (limits : Limits) (t : Turn) (w : World) → AreWithin limits → IsSteady w.broker
         → read_at spending (setting limits t) t.event w ≡ false → AreRetainedOnce w.broker.records
         → AreRetainedOnce (turned limits t w).broker.records }
 {}

@@ -73,7 +73,7 @@ renewed_it_is_emptied = refl
 
 -- ---- its SUBSCRIBE is under way, and its filter brings a copy more, for which the oldest that waits makes way
 
-abbrev dropping : Limits
+abbrev pub dropping : Limits
 dropping = record usual { full = Drop; queue = 2 }
 
 abbrev kept_draft : Draft

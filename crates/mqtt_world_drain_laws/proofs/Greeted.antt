@@ -23,7 +23,8 @@ use Rattle.mqtt_world_receiver_laws.proofs.connects.Greetings.{HasGreeted, greet
 use Rattle.mqtt_world_receiver_laws.proofs.drains.WorldRounds.{back_is, receiver_called_is, receiver_changed, taken_off}
 use Rattle.mqtt_world_delivery_laws.specs.Standing.{IsPlaced, line_like}
 use Rattle.mqtt_world_delivery_laws.specs.Taking.{any_size}
-use Rattle.mqtt_world_delivery_laws.proofs.own.Greetings.{may_resume, spared_left, unused_next}
+use Rattle.mqtt_world_delivery_laws.proofs.own.Greetings.{may_renew, may_resume, spared_left}
+use Rattle.mqtt_world_delivery_laws.proofs.others.Around.{its_place}
 use Rattle.mqtt_world_delivery_laws.proofs.others.Runs.{IsKept}
 use Rattle.mqtt_world_drain_laws.proofs.Whereabouts.{IsOn, Waits, placed_of}
 
@@ -52,14 +53,8 @@ module _ (c : List ℕ) (limits : Limits) (choice : MemberChoice) (w : World) (k
       greets_as s a true =
           let around = kept.stands.standing.around in (
             suc b.records.births,
-            renewed_line limits choice w.now r x.line s b (record {
-              resuming = a;
-              births = around.steady.coherent.births;
-              unused = unused_next b around.steady.lines around.steady.coherent.births;
-              within = around.within.sessions;
-              room = around.steady.room;
-              some = placed.named.some;
-            }),
+            renewed_line limits choice w.now r x.line s b
+                (may_renew limits r x.line s b around.within around.steady (its_place c limits kept.stands.ns w r around x.named) placed.named a),
           )
 
       by : (o : Option ℕ) → IsHis r.client o placed.line b → Former o placed.line (line_like r.line) b → Greets x.clean

@@ -96,7 +96,7 @@ lives_fit limits ls ds within h said fair say = (lives_deliver limits ls ds with
 
 pub accepted_once : (limits : Limits) (ts : List Turn) → IsFair limits ts start → AcceptedOnce limits ts
 accepted_once limits ts fair =
-    let new = start_new limits in
+    let new = start_new in
     let each = accepts_once limits ts start new fair in
     record {
       once = λ c n. (each c n).once;

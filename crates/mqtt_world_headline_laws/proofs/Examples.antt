@@ -5,6 +5,7 @@ use Rattle.std.specs.Prelude.{codes, option_map}
 use Rattle.mqtt_base.specs.Values.{varint}
 use Rattle.mqtt_base.specs.declared.session.Qos.TheVariants.{AtLeastOnce}
 use Rattle.mqtt_flow_inbound.specs.Publisher.{completed, ended_1}
+use Rattle.mqtt_rules.specs.declared.Limits.{Limits}
 use Rattle.mqtt_rules.specs.Laws.{AreWithin}
 use Rattle.mqtt_rules.proofs.examples.Play.{first, usual}
 use Rattle.mqtt_world_model.specs.Ends.{Draft, Receiver}
@@ -18,6 +19,7 @@ use Rattle.mqtt_world_acceptance_laws.specs.Fair.{IsFair}
 use Rattle.mqtt_world_acceptance_laws.specs.Once.{times_accepted}
 use Rattle.mqtt_world_receiver_laws.specs.Drains.{Doing, drains, happens}
 use Rattle.mqtt_world_drain_laws.specs.Emptied.{waiting_for}
+use Rattle.mqtt_world_drain_laws.proofs.Examples.{dropping}
 use Rattle.mqtt_world_headline_laws.specs.Delivery.{DeliversExactlyOnce, DoingsDeliver}
 use Rattle.mqtt_world_headline_laws.specs.Lives.{BrokerLife, IsFairLife, IsFairScript, after_lives}
 use Rattle.mqtt_world_headline_laws.proofs.Delivered.{lives_deliver, run_delivers_all}
@@ -30,6 +32,7 @@ usual_within = record { queue = omega arith; sessions = omega arith; retained = 
 
 abbrev pub first_life : BrokerLife
 first_life = record {
+  limits = usual;
   doings = map happens (turns (receiver r1 10 ∷ publisher p1 ∷ joins r1 false ++ (subscribes r1 ++ (joins p1 false ++ (publish p1 draft ∷ ask (to_broker p1) ∷ [])))));
   choice = first;
   now = 0;
@@ -74,6 +77,46 @@ the_second_is_fair = record { within = usual_within; unspent = refl; clean = ref
 -- so the law holds of it
 pub the_second_delivers : DoingsDeliver usual second_life opened_then
 the_second_delivers = lives_deliver usual (first_life ∷ []) second_life usual_within (tt, the_first_is_fair) the_second_is_fair
+
+-- ---- three copies wait, and the broker is opened again where two may, and where a full queue drops: of the three two make way
+-- for the next one, and all of the law holds
+
+abbrev lower : Limits
+lower = record dropping { sessions = 4 }
+
+abbrev life_of_three : BrokerLife
+life_of_three = record {
+  limits = usual;
+  doings = map happens (turns (receiver r1 10 ∷ publisher p1 ∷ joins r1 false ++ (subscribes r1 ++ (joins p1 false
+      ++ (publish p1 draft ∷ publish p1 draft ∷ publish p1 draft ∷ ask (to_broker p1) ∷ ask (to_broker p1) ∷ ask (to_broker p1) ∷ [])))));
+  choice = first;
+  now = 0;
+}
+
+abbrev opened_lower : World
+opened_lower = after_lives lower (life_of_three ∷ [])
+
+pub more_are_stored_than_may_wait : waiting_for r1 opened_lower ≡ 3
+unfolding varint
+more_are_stored_than_may_wait = refl
+
+pub two_make_way : waiting_for r1 (run lower (turns others) opened_lower) ≡ 2
+unfolding varint
+two_make_way = refl
+
+pub lower_within : AreWithin lower
+lower_within = record { queue = omega arith; sessions = omega arith; retained = omega arith }
+
+pub the_three_are_fair : IsFairLife lower life_of_three start
+unfolding varint
+the_three_are_fair = record { fair = record { within = usual_within; unspent = refl; clean = refl }; unspent = refl }
+
+pub the_lower_is_fair : IsFairScript lower second_life opened_lower
+unfolding varint
+the_lower_is_fair = record { within = lower_within; unspent = refl; clean = refl }
+
+pub the_lower_delivers : DoingsDeliver lower second_life opened_lower
+the_lower_delivers = lives_deliver lower (life_of_three ∷ []) second_life lower_within (tt, the_three_are_fair) the_lower_is_fair
 
 -- ---- a PUBACK to a publisher is lost: its message of QoS 1 is accepted twice, and completed
 

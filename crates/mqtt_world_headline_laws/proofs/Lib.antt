@@ -4,3 +4,4 @@ pub mod Drained
 pub mod Delivered
 pub mod Examples
 pub mod SaidExamples
+pub mod LimitExamples

@@ -24,28 +24,30 @@ IsFairScript limits ds w = IsFair limits (all_turns limits ds w) w
 
 -- ---- lives of a broker, one after the other
 
--- a script, after which the broker is opened again at this moment, on what the script left
+-- a script under limits of its own, after which the broker is opened again at this moment, on what the script left
 pub record BrokerLife : Type 0 where
+  pub limits : Limits
   pub doings : List Doing
   pub choice : MemberChoice
   pub now : ℕ
 
+-- under these limits, which may be others than those of the life
 abbrev pub opened_after : Limits → BrokerLife → World → World
-opened_after limits l w = opened_world limits l.choice l.now (after_doings limits l.doings w).broker.records
+opened_after limits l w = opened_world limits l.choice l.now (after_doings l.limits l.doings w).broker.records
 
 -- the last life comes first; before the first one nothing is stored
 abbrev pub after_lives : Limits → List BrokerLife → World
 after_lives limits [] = start
-after_lives limits (l ∷ ls) = opened_after limits l (after_lives limits ls)
+after_lives limits (l ∷ ls) = opened_after limits l (after_lives l.limits ls)
 
--- the script is fair, and opening spends no number
+-- the script is fair, and opening the broker after it, under these limits, spends no number
 pub record IsFairLife (limits : Limits) (l : BrokerLife) (w : World) : Type 0 where
-  pub fair : IsFairScript limits l.doings w
-  pub unspent : is_opening_spent limits l.choice l.now (after_doings limits l.doings w).broker.records ≡ false
+  pub fair : IsFairScript l.limits l.doings w
+  pub unspent : is_opening_spent limits l.choice l.now (after_doings l.limits l.doings w).broker.records ≡ false
 
 abbrev pub AreFairLives : Limits → List BrokerLife → Type 0
 AreFairLives limits [] = ⊤
-AreFairLives limits (l ∷ ls) = AreFairLives limits ls × IsFairLife limits l (after_lives limits ls)
+AreFairLives limits (l ∷ ls) = AreFairLives l.limits ls × IsFairLife limits l (after_lives l.limits ls)
 
 -- the texts of each script are texts, and strangers send bytes
 abbrev pub AreSayableLives : List BrokerLife → Type 0

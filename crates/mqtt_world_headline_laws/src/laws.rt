@@ -23,7 +23,7 @@ ghost use Rattle.mqtt_world_headline_laws.specs.Lives.{
 };
 
 /// Exactly-once delivery, over every script of events and drains, whatever is lost, given up, restarted or stopped, and
-/// however often the broker was opened again before on what an earlier script left. Each message of a publisher is accepted
+/// however often the broker was opened on what an earlier script left, under any limits. Each message of a publisher is accepted
 /// once, with what it carries. Of each publication exactly the intended copies enter queues, each once; each waits or has
 /// one end, for its cause. Each receiver is handed its copies once, in the order in which they entered, with their
 /// publications' contents, and what ended as taken was handed over. Each drain that isn't bad empties its receiver's queue
@@ -50,12 +50,17 @@ pub fn messages_are_delivered_exactly_once()
     ensures receivers { (limits : Limits) (ts : List Turn) → IsFair limits ts start → AllHandedOnce limits ts }
 {}
 
-/// So a run may begin: with nothing stored, or when the broker is opened on what any fair run has left that began so (4.1).
+/// So a run may begin: with nothing stored, or when the broker is opened on what any fair run has left that began so, under
+/// the limits of that run or under others, also where these are smaller than what stands (4.1).
 pub fn what_a_run_leaves_may_begin_another()
     ensures nothing { (limits : Limits) → AreWithin limits → BeginsWell limits start }
     ensures again { (limits : Limits) (ts : List Turn) (choice : MemberChoice) (now : ℕ) (w : World) → BeginsWell limits w
         → IsFair limits ts w → is_opening_spent limits choice now (run limits ts w).broker.records ≡ false
         → BeginsWell limits (opened_world limits choice now (run limits ts w).broker.records) }
+    ensures under_others { (limits others : Limits) (ts : List Turn) (choice : MemberChoice) (now : ℕ) (w : World)
+        → BeginsWell limits w → IsFair limits ts w → AreWithin others
+        → is_opening_spent others choice now (run limits ts w).broker.records ≡ false
+        → BeginsWell others (opened_world others choice now (run limits ts w).broker.records) }
     ensures lives { (limits : Limits) (lives : List BrokerLife) → AreWithin limits → AreFairLives limits lives
         → BeginsWell limits (after_lives limits lives) }
 

@@ -6,6 +6,7 @@ pub mod Joins
 pub mod Mine
 pub mod OwnSeats
 pub mod Owned
+pub mod Places
 pub mod Projected
 pub mod Seats
 pub mod Seeing

@@ -15,6 +15,7 @@ use Rattle.mqtt_world_model.specs.Ends.{Sent, shake, Publisher}
 use Rattle.mqtt_world_model.specs.Seen.{heard_in, seen}
 use Rattle.mqtt_world_model.specs.Hops.{Own, IsInOrder, IsNoConnect}
 use Rattle.mqtt_records.specs.Session.{auto}
+use Rattle.mqtt_records.specs.declared.records.Records.{Records}
 
 -- ---- a line of the broker
 
@@ -94,10 +95,15 @@ IsFull p = nat_lt (length (in_flight p.fates)) OPEN_LIMIT ≡ false
 abbrev pub IsSettled : Publisher → Type 0
 IsSettled p = p.line.link ≡ live → (p.unsent ≡ []) ⊎ IsFull p
 
--- of the broker: sessions and lines are in order, and there are no more sessions than its limit
-pub record IsSound (limits : Limits) (b : Broker) : Type 0 where
+-- where a session of this client stands, the table of sessions is within its limit: its session began where there was a place,
+-- and a table above its limit, stored under a larger one, only shrinks
+abbrev pub HasPlace : Limits → List ℕ → Records → Type 0
+HasPlace limits client r = is_some (session_named client r) ≡ true → length r.sessions ≤ limits.sessions
+
+-- of the broker: sessions and lines are in order, and this client's session has a place
+pub record IsSound (limits : Limits) (client : List ℕ) (b : Broker) : Type 0 where
   pub order : IsInOrder b
-  pub room : length b.records.sessions ≤ limits.sessions
+  pub place : HasPlace limits client b.records
   pub within : limits.sessions ≤ SESSION_LIMIT
 
 -- ---- calls on other lines; a pump of any line

@@ -63,13 +63,13 @@ all_said limits (d ∷ ds) w h =
 
 -- ---- the laws
 
-run_goes : (limits : Limits) (ts : List Turn) (w : World) → IsNew limits w → SendsWell w.broker → IsFair limits ts w → AreSayable ts → GoesOn limits ts w
+run_goes : (limits : Limits) (ts : List Turn) (w : World) → IsNew w → SendsWell w.broker → IsFair limits ts w → AreSayable ts → GoesOn limits ts w
 run_goes limits ts w new sends fair say = goes_on limits ts w new.publishers new.receivers new.strangers sends say fair.unspent
 
-pub reads_lawful : (limits : Limits) (ts : List Turn) (w : World) → IsNew limits w → SendsWell w.broker → IsFair limits ts w → AreSayable ts → AllReadLawful limits ts w
+pub reads_lawful : (limits : Limits) (ts : List Turn) (w : World) → IsNew w → SendsWell w.broker → IsFair limits ts w → AreSayable ts → AllReadLawful limits ts w
 reads_lawful limits ts w new sends fair say = (run_goes limits ts w new sends fair say).lawful
 
-pub sends_on : (limits : Limits) (ts : List Turn) (w : World) → IsNew limits w → SendsWell w.broker → IsFair limits ts w → AreSayable ts → SendsWell (run limits ts w).broker
+pub sends_on : (limits : Limits) (ts : List Turn) (w : World) → IsNew w → SendsWell w.broker → IsFair limits ts w → AreSayable ts → SendsWell (run limits ts w).broker
 sends_on limits ts w new sends fair say = (run_goes limits ts w new sends fair say).going.sends
 
 pub start_sends : (limits : Limits) → AreWithin limits → SendsWell start.broker

@@ -15,9 +15,9 @@ ghost use Rattle.mqtt_world_reading_laws.specs.Sayable.{AreSayable, AreSayableDo
 /// was read off bytes. And the broker sends well still. Asked: it does so at the beginning, and the texts that the events
 /// bring are texts, and what strangers send is bytes (1.5.4, 2.1.4, 2.2.1).
 pub fn each_packet_that_is_read_is_lawful()
-    ensures reads { (limits : Limits) (ts : List Turn) (w : World) → IsNew limits w → SendsWell w.broker
+    ensures reads { (limits : Limits) (ts : List Turn) (w : World) → IsNew w → SendsWell w.broker
         → IsFair limits ts w → AreSayable ts → AllReadLawful limits ts w }
-    ensures sends { (limits : Limits) (ts : List Turn) (w : World) → IsNew limits w → SendsWell w.broker
+    ensures sends { (limits : Limits) (ts : List Turn) (w : World) → IsNew w → SendsWell w.broker
         → IsFair limits ts w → AreSayable ts → SendsWell (run limits ts w).broker }
     ensures from_nothing { (limits : Limits) (ts : List Turn) → IsFair limits ts start → AreSayable ts
         → AllReadLawful limits ts start }

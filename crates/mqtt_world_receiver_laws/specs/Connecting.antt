@@ -35,7 +35,7 @@ pub record IsJoining (limits : Limits) (choice : MemberChoice) (clean : Bool) (c
   -- the line that it gave up is another one
   pub apart : is_one_of r.line.old_number (l.number ∷ []) ≡ false
   pub within : AreWithin limits
-  pub steady : IsSteady limits w.broker
+  pub steady : IsSteady w.broker
   pub ordered : IsOrdered w.broker.records
   pub distinct : HasDistinctIdentifiers w.broker.records
   pub unspent :

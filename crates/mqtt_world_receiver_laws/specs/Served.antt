@@ -12,7 +12,7 @@ use Rattle.mqtt_world_model.specs.Seats.{IsIdle}
 use Rattle.mqtt_records.specs.Records.{subscribe_in}
 use Rattle.mqtt_records.specs.declared.session.Session.{Session}
 use Rattle.mqtt_records_rows.specs.Distinct.{AllDiffer}
-use Rattle.mqtt_rules.specs.Laws.{IsOrdered, QueuesWithin}
+use Rattle.mqtt_rules.specs.Laws.{IsOrdered}
 use Rattle.mqtt_rules.specs.State.{Line as BrokerLine, Broker}
 use Rattle.mqtt_rules.specs.Step.{Call, NewLine, Input, BadInput, Lost, Pump, Tick}
 use Rattle.mqtt_rules.specs.Tick.{is_silent}
@@ -45,10 +45,10 @@ pub record HasLines (ns : List ℕ) (r : Receiver) : Type 0 where
   pub own : (n : ℕ) → r.line.number ≡ Some n → is_one_of (Some n) ns ≡ true
   pub old : (n : ℕ) → r.line.old_number ≡ Some n → is_one_of (Some n) ns ≡ true
 
--- of the broker: tables are in order, and no queue is above its limit
+-- of the broker: tables are in order, and it allows a queue no more copies than they hold; queues that stand may be longer
+-- than it allows
 pub record IsTidy (limits : Limits) (b : Broker) : Type 0 where
   pub ordered : IsOrdered b.records
-  pub queues : QueuesWithin limits.queue b.records
   pub within : limits.queue ≤ QUEUE_LIMIT
 
 -- ---- the calls of others

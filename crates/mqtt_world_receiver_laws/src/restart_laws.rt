@@ -34,8 +34,8 @@ pub fn a_restart_is_a_step_of_the_receivers_hop()
         × (session_named r.client (reopened limits choice now b).records ≡ None) }
 {}
 
-/// A broker whose tables are in order, and whose queues are within the limit, is so after each call and each restart
-/// (4.1).
+/// A broker whose tables are in order, under limits within the tables' own, is so after each call and each restart, also
+/// where queues stand that are longer than it allows (4.1).
 pub fn a_tidy_broker_stays_tidy()
     ensures steps { (limits : Limits) (choice : MemberChoice) (now : ℕ) (call : Call) (b : Broker) → IsTidy limits b
         → IsTidy limits (stepped limits choice now call b) }

@@ -1,4 +1,4 @@
--- What a broker wrote may begin a world, within the limits (MQTT 5.0, 2.2.1, 3.3.1.3, 4.1).
+-- What a broker wrote may begin a world, under whatever limits (MQTT 5.0, 2.2.1, 3.3.1.3, 4.1).
 use Rattle.std.proofs.Common.{◌≡◌, ℕ, false, List}
 use Rattle.mqtt_records.specs.declared.records.Records.{Records}
 use Rattle.mqtt_rules.specs.Contents.{AreContentsLawful, of_rows}
@@ -25,18 +25,17 @@ use Rattle.mqtt_rules_spelling_laws.proofs.Steps.{well_begun}
 use Rattle.mqtt_broker_reopening_laws.specs.Written.{IsWritten}
 use Rattle.mqtt_broker_reopening_laws.proofs.Facts.{facts_of}
 use Rattle.mqtt_broker_reopening_laws.proofs.ToldApart.{tells_apart}
-use Rattle.mqtt_world_reopening_laws.specs.Within.{IsWrittenWithin}
 
 pub retained_once : (r : Records) → IsWritten r → AreRetainedOnce r
 retained_once r w = w.publications
 
-pub written_begins : (limits : Limits) (choice : MemberChoice) (now : ℕ) (r : Records) → AreWithin limits → IsWrittenWithin limits r → is_opening_spent limits choice now r ≡ false → BeginsWell limits (opened_world limits choice now r)
+pub written_begins : (limits : Limits) (choice : MemberChoice) (now : ℕ) (r : Records) → AreWithin limits → IsWritten r → is_opening_spent limits choice now r ≡ false → BeginsWell limits (opened_world limits choice now r)
 written_begins limits choice now r within w unspent =
-    let lawful = w.written.lawful in
-    let f = facts_of r w.written in
-    let may : MayOpen limits choice now r = record { coherent = lawful_coherent r lawful; room = w.sessions; unspent = unspent } in
+    let lawful = w.lawful in
+    let f = facts_of r w in
+    let may : MayOpen limits choice now r = record { coherent = lawful_coherent r lawful; unspent = unspent } in
     record {
-      untouched = opened_untouched limits choice now r within may w.queues (lawful_flight r lawful) (retained_once r w.written);
+      untouched = opened_untouched limits choice now r within may (lawful_flight r lawful) (retained_once r w);
       apart = opened_apart limits choice now r within may (tells_apart r f.identities f.bounds);
       numbers = opening_accepted limits choice now r (lawful_accepted r lawful);
     }
@@ -47,6 +46,6 @@ written_contents limits choice now r w = opening_contents of_rows rows_are limit
 pub written_sends : (limits : Limits) (choice : MemberChoice) (now : ℕ) (r : Records) → IsWritten r → HaveSentPhases r → is_opening_spent limits choice now r ≡ false → SendsWell (opened_world limits choice now r).broker
 written_sends limits choice now r w phases unspent = well_begun limits choice now r unspent w.lawful phases
 
-pub written_delivers : (limits : Limits) (choice : MemberChoice) (now : ℕ) (r : Records) (ds : List Doing) → AreWithin limits → IsWrittenWithin limits r → is_opening_spent limits choice now r ≡ false → IsFairScript limits ds (opened_world limits choice now r)
+pub written_delivers : (limits : Limits) (choice : MemberChoice) (now : ℕ) (r : Records) (ds : List Doing) → AreWithin limits → IsWritten r → is_opening_spent limits choice now r ≡ false → IsFairScript limits ds (opened_world limits choice now r)
     → DoingsDeliver limits ds (opened_world limits choice now r)
 written_delivers limits choice now r ds within w unspent fair = script_delivers limits ds (opened_world limits choice now r) (written_begins limits choice now r within w unspent) fair

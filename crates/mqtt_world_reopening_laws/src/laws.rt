@@ -15,7 +15,6 @@ ghost use Rattle.mqtt_world_headline_laws.specs.Delivery.{DoingsDeliver};
 ghost use Rattle.mqtt_world_headline_laws.specs.Lives.{BeginsWell, IsFairScript};
 ghost use Rattle.mqtt_rules_spelling_laws.specs.Sending.{HaveSentPhases, SendsWell};
 ghost use Rattle.mqtt_broker_reopening_laws.specs.Written.{IsWritten};
-ghost use Rattle.mqtt_world_reopening_laws.specs.Within.{IsWrittenWithin};
 
 /// In lawful records no two copies in flight in a session have one packet identifier; and in those that a broker wrote no two
 /// retained messages are of one publication (2.2.1, 3.3.1.3).
@@ -24,19 +23,20 @@ pub fn what_a_broker_wrote_is_told_apart()
     ensures retained { (r : Records) → IsWritten r → AreRetainedOnce r }
 {}
 
-/// So a run may begin when the broker is opened on what any broker wrote, under limits that this is within: its contents are
-/// lawful, and all of exactly-once delivery holds of every fair script from there. And where each packet identifier in flight
-/// has two bytes, it sends well, so that what is read in a run from there is lawful (2.2.1, 4.1).
+/// So a run may begin when the broker is opened on what any broker wrote, under whatever limits, also where more sessions stand
+/// and queues are longer than these allow: its contents are lawful, and all of exactly-once delivery holds of every fair script
+/// from there. And where each packet identifier in flight has two bytes, it sends well, so that what is read in a run from
+/// there is lawful (2.2.1, 4.1).
 pub fn a_world_may_begin_on_what_a_broker_wrote()
     ensures begins { (limits : TheLimits) (choice : MemberChoice) (now : ℕ) (r : Records) → AreWithin limits
-        → IsWrittenWithin limits r → is_opening_spent limits choice now r ≡ false
+        → IsWritten r → is_opening_spent limits choice now r ≡ false
         → BeginsWell limits (opened_world limits choice now r) }
     ensures contents { (limits : TheLimits) (choice : MemberChoice) (now : ℕ) (r : Records) → IsWritten r
         → AreContentsLawful (opened_world limits choice now r).broker }
     ensures sends { (limits : TheLimits) (choice : MemberChoice) (now : ℕ) (r : Records) → IsWritten r → HaveSentPhases r
         → is_opening_spent limits choice now r ≡ false → SendsWell (opened_world limits choice now r).broker }
     ensures delivers { (limits : TheLimits) (choice : MemberChoice) (now : ℕ) (r : Records) (ds : List Doing) → AreWithin limits
-        → IsWrittenWithin limits r → is_opening_spent limits choice now r ≡ false
+        → IsWritten r → is_opening_spent limits choice now r ≡ false
         → IsFairScript limits ds (opened_world limits choice now r)
         → DoingsDeliver limits ds (opened_world limits choice now r) }
 {}

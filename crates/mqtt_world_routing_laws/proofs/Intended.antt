@@ -81,7 +81,7 @@ births_in_order (s ∷ ss) h = (behind_births s.birth ss h.0, births_in_order ss
 
 -- ---- a run
 
-module _ (limits : Limits) (ts : List Turn) (w : World) (new : IsNew limits w) (fair : IsFair limits ts w) where
+module _ (limits : Limits) (ts : List Turn) (w : World) (new : IsNew w) (fair : IsFair limits ts w) where
   it : Accepts (deeds_over limits ts w) (steps_over limits ts w) (acceptances_over limits ts w)
   it = run_accepts limits ts w new fair
 
@@ -142,13 +142,13 @@ pub copies_once : (limits : Limits) (ts : List Turn) → IsFair limits ts start 
 copies_once limits ts fair = record {
   entered = All-from_recursion (EnteredOnce limits ts) (acceptances_over limits ts start)
       (each_more (EntersAsIntended limits ts start) (EnteredOnce limits ts) (λ a x. record { copies = intended_for a x.routing; routed_is = x.copies_are; entered_is = x.entered_is })
-      (acceptances_over limits ts start) (all_enter limits ts start (start_new limits) fair));
-  once = λ c. enters_once limits ts start (start_new limits) fair start_apart c;
+      (acceptances_over limits ts start) (all_enter limits ts start start_new fair));
+  once = λ c. enters_once limits ts start start_new fair start_apart c;
   waits_or_ended = λ c. even c;
 }
   where
     even : (c : CopyId) → count_of c (entered_from limits ts start) ≡ count_of c (standing (run limits ts start).broker) + count_of c (ended_from limits ts start)
     even c =
-        let all = run_balances limits ts start (start_new limits) fair c in
+        let all = run_balances limits ts start start_new fair c in
         let none : count_of c (standing start.broker) ≡ 0 = refl in
         omega (arith, all, none)

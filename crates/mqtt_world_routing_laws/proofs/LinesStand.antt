@@ -257,7 +257,7 @@ stamped_autos : (rows : List Change) (b : Broker) → (with_moment rows b).recor
 stamped_autos [] b = refl
 stamped_autos (x ∷ rows) b = refl
 
-pub call_unique : (limits : Limits) (choice : MemberChoice) (now : ℕ) (call : Call) (b : Broker) → AreWithin limits → IsSteady limits b → is_step_spent limits choice now call b ≡ false
+pub call_unique : (limits : Limits) (choice : MemberChoice) (now : ℕ) (call : Call) (b : Broker) → AreWithin limits → IsSteady b → is_step_spent limits choice now call b ≡ false
     → AllByRecursion IsUnique (acceptances_of (env_of limits choice b) (deeds limits choice now call b) (at_moment now b))
 call_unique limits choice now call b within s unspent =
     let c = at_moment now b in

@@ -73,7 +73,7 @@ both_accept ds es xs ys accepted cs p q = record {
 }
 
 module _ (set : Setting) (within : AreWithin set.limits) where
-  if_accepts : (call : Option Call) (w : World) → IsSteady set.limits w.broker → read_if spending set call w ≡ false → Accepts (read_if the_deeds set call w) (read_if the_steps set call w) (read_if the_acceptances set call w)
+  if_accepts : (call : Option Call) (w : World) → IsSteady w.broker → read_if spending set call w ≡ false → Accepts (read_if the_deeds set call w) (read_if the_steps set call w) (read_if the_acceptances set call w)
   if_accepts None w s unspent = none_accept
   if_accepts (Some call) w s unspent =
       one_accepts (step_called set call w) (call_next (env_of set.limits set.choice w.broker) call (at_moment w.now w.broker) s.coherent.ordered)
@@ -90,16 +90,16 @@ module _ (set : Setting) (within : AreWithin set.limits) where
       by true = record { numbers = refl; accepted_are = refl; each = (tt, tt); lined = tt }
       by false = record { numbers = refl; accepted_are = refl; each = (tt, tt); lined = tt }
 
-  opening_accepts : (w : World) → IsSteady set.limits w.broker → Accepts (read_opening the_deeds set w) (opening_step set w ∷ []) (read_opening the_acceptances set w)
+  opening_accepts : (w : World) → IsSteady w.broker → Accepts (read_opening the_deeds set w) (opening_step set w ∷ []) (read_opening the_acceptances set w)
   opening_accepts w s =
       let b = unopened w.now w.broker.records in
       one_accepts (opening_step set w) (opening_next (env_of set.limits set.choice b) b s.coherent.ordered)
       (each_more HasNoLine IsLinedUp (λ a none. inr none) (accepted_in (opening_step set w)) (opening_lineless (env_of set.limits set.choice b) b refl))
 
-  first_accepts : (a : Asking) (w : World) → IsSteady set.limits w.broker → read_first spending set a w ≡ false → Accepts (read_first the_deeds set a w) (read_first the_steps set a w) (read_first the_acceptances set a w)
+  first_accepts : (a : Asking) (w : World) → IsSteady w.broker → read_first spending set a w ≡ false → Accepts (read_first the_deeds set a w) (read_first the_steps set a w) (read_first the_acceptances set a w)
   first_accepts a w s unspent = if_accepts (call_of set a w) (before set a w) (before_goes Any set (anything set.limits) within a w s).steady unspent
 
-  rest_accepts : (more : ℕ) (name : List ℕ) (v : World) → IsSteady set.limits v.broker → read_rest spending set more name v ≡ false
+  rest_accepts : (more : ℕ) (name : List ℕ) (v : World) → IsSteady v.broker → read_rest spending set more name v ≡ false
       → Accepts (read_rest the_deeds set more name v) (read_rest the_steps set more name v) (read_rest the_acceptances set more name v)
   rest_accepts zero name v s unspent = none_accept
   rest_accepts (suc more) name v s unspent =
@@ -111,7 +111,7 @@ module _ (set : Setting) (within : AreWithin set.limits) where
       both_accept (read_if the_deeds set call v) (read_rest the_deeds set more name u) (read_if the_steps set call v) (read_rest the_steps set more name u) (read_if the_acceptances set call v) (read_rest the_acceptances set more name u)
       (if_accepts call v s costs.0) (rest_accepts more name u x.steady costs.1)
 
-  asked_accepts : (a : Asking) (w : World) → IsSteady set.limits w.broker → read_asked spending set a w ≡ false → Accepts (read_asked the_deeds set a w) (read_asked the_steps set a w) (read_asked the_acceptances set a w)
+  asked_accepts : (a : Asking) (w : World) → IsSteady w.broker → read_asked spending set a w ≡ false → Accepts (read_asked the_deeds set a w) (read_asked the_steps set a w) (read_asked the_acceptances set a w)
   asked_accepts (to_broker d) w s unspent = first_accepts (to_broker d) w s unspent
   asked_accepts (old_to_broker d) w s unspent = first_accepts (old_to_broker d) w s unspent
   asked_accepts (break d) w s unspent = first_accepts (break d) w s unspent
@@ -121,7 +121,7 @@ module _ (set : Setting) (within : AreWithin set.limits) where
       let v = comes set name bytes w in
       rest_accepts (held_count (stranger_named name v)) name v (comes_goes Any set (anything set.limits) within name bytes w s).steady unspent
 
-  event_accepts : (e : Event) (w : World) → IsSteady set.limits w.broker → read_in spending set e w ≡ false → Accepts (read_in the_deeds set e w) (read_in the_steps set e w) (read_in the_acceptances set e w)
+  event_accepts : (e : Event) (w : World) → IsSteady w.broker → read_in spending set e w ≡ false → Accepts (read_in the_deeds set e w) (read_in the_steps set e w) (read_in the_acceptances set e w)
   event_accepts (publisher d) w s unspent = none_accept
   event_accepts (receiver d window) w s unspent = none_accept
   event_accepts (connect_end d clean) w s unspent = line_accepts w
@@ -142,7 +142,7 @@ module _ (set : Setting) (within : AreWithin set.limits) where
 
 -- ---- a turn, and a run
 
-turn_accepts : (limits : Limits) (t : Turn) (w : World) → AreWithin limits → IsSteady limits w.broker → read_at spending (setting limits t) t.event w ≡ false
+turn_accepts : (limits : Limits) (t : Turn) (w : World) → AreWithin limits → IsSteady w.broker → read_at spending (setting limits t) t.event w ≡ false
     → Accepts (deeds_at (setting limits t) t.event w) (read_at the_steps (setting limits t) t.event w) (read_at the_acceptances (setting limits t) t.event w)
 turn_accepts limits t w within s unspent = by (is_bad t.event w) unspent
   where
@@ -154,7 +154,7 @@ turn_accepts limits t w within s unspent = by (is_bad t.event w) unspent
     by true u = none_accept
     by false u = event_accepts set within t.event w s u
 
-all_accept : (limits : Limits) (ts : List Turn) (w : World) → AreWithin limits → IsSteady limits w.broker → run_spends limits ts w ≡ false → Accepts (deeds_over limits ts w) (steps_over limits ts w) (acceptances_over limits ts w)
+all_accept : (limits : Limits) (ts : List Turn) (w : World) → AreWithin limits → IsSteady w.broker → run_spends limits ts w ≡ false → Accepts (deeds_over limits ts w) (steps_over limits ts w) (acceptances_over limits ts w)
 all_accept limits [] w within s unspent = none_accept
 all_accept limits (t ∷ ts) w within s unspent =
     let v = turned limits t w in
@@ -163,5 +163,5 @@ all_accept limits (t ∷ ts) w within s unspent =
     both_accept (deeds_at (setting limits t) t.event w) (deeds_over limits ts v) (read_at the_steps (setting limits t) t.event w) (steps_over limits ts v)
     (read_at the_acceptances (setting limits t) t.event w) (acceptances_over limits ts v) (turn_accepts limits t w within s costs.0) (all_accept limits ts v within next.steady costs.1)
 
-pub run_accepts : (limits : Limits) (ts : List Turn) (w : World) → IsNew limits w → IsFair limits ts w → Accepts (deeds_over limits ts w) (steps_over limits ts w) (acceptances_over limits ts w)
+pub run_accepts : (limits : Limits) (ts : List Turn) (w : World) → IsNew w → IsFair limits ts w → Accepts (deeds_over limits ts w) (steps_over limits ts w) (acceptances_over limits ts w)
 run_accepts limits ts w new fair = all_accept limits ts w fair.within new.steady fair.unspent

@@ -26,7 +26,7 @@ pub fn each_session_and_each_group_gets_one_copy()
 /// of them once, and no other copy of this publication but those that a later SUBSCRIBE brings of it as a retained
 /// message. So for each group one copy enters, or none where no member got one of QoS 1 or 2 (3.3.4, 4.3, 4.8.2).
 pub fn each_publication_enters_exactly_its_copies()
-    ensures enters { (limits : Limits) (ts : List Turn) (w : World) → IsNew limits w → IsFair limits ts w
+    ensures enters { (limits : Limits) (ts : List Turn) (w : World) → IsNew w → IsFair limits ts w
         → AllEnterAsIntended limits ts w }
 
     // From nothing stored: so entered, at most once, and waits or has ended once, in the words of the run.
@@ -37,6 +37,6 @@ pub fn each_publication_enters_exactly_its_copies()
 /// the broker accepts a publication stands on a line. So that copy goes out at once, or it is too large for its
 /// client; but while the broker is opened no line stands at all, and nothing goes out (4.1, 4.3.1, 4.8.2).
 pub fn copies_of_members_find_a_line()
-    ensures { (limits : Limits) (ts : List Turn) (w : World) → IsNew limits w → IsFair limits ts w
+    ensures { (limits : Limits) (ts : List Turn) (w : World) → IsNew w → IsFair limits ts w
         → AllFindLines limits ts w }
 {}

@@ -33,7 +33,7 @@ short : (r : Records) → IsOrdered r → ShortQueues QUEUE_LIMIT r
 short r h = record { ordered = h; short = queues_short r.sessions h.each }
 
 module _ (c : CopyId) (limits : Limits) (within : AreWithin limits) where
-  call_balances : (choice : MemberChoice) (now : ℕ) (call : Call) (b : Broker) → IsSteady limits b → Balances c (deeds limits choice now call b) b (stepped limits choice now call b)
+  call_balances : (choice : MemberChoice) (now : ℕ) (call : Call) (b : Broker) → IsSteady b → Balances c (deeds limits choice now call b) b (stepped limits choice now call b)
   call_balances choice now call b s =
       let env = env_of limits choice b in
       let begin = at_moment now b in
@@ -66,7 +66,7 @@ module _ (c : CopyId) (limits : Limits) (within : AreWithin limits) where
     open_again = λ choice now b s unspent. opening_balances choice now b s.coherent.ordered;
   }
 
-pub run_balances : (limits : Limits) (ts : List Turn) (w : World) → IsNew limits w → IsFair limits ts w → (c : CopyId) → IsBalanced c limits ts w
+pub run_balances : (limits : Limits) (ts : List Turn) (w : World) → IsNew w → IsFair limits ts w → (c : CopyId) → IsBalanced c limits ts w
 run_balances limits ts w new fair c = run_walks (Balances c) limits ts w (balances c limits fair.within) new fair
 
 -- ---- publications are numbered one after the other
@@ -89,6 +89,6 @@ numbers limits = record {
   open_again = λ choice now b s unspent. (opening_counts limits choice now b.records).1;
 }
 
-pub run_numbers : (limits : Limits) (ts : List Turn) (w : World) → IsNew limits w → IsFair limits ts w
+pub run_numbers : (limits : Limits) (ts : List Turn) (w : World) → IsNew w → IsFair limits ts w
     → CountsOn w.broker.records.publications (publications_from limits ts w) (run limits ts w).broker.records.publications
 run_numbers limits ts w new fair = run_walks Numbers limits ts w (numbers limits) new fair

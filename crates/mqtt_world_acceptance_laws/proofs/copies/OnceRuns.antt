@@ -59,7 +59,7 @@ one_or_other c r apart = elim (cases_Bool (may_come c r)) [
 
 -- ---- a run
 
-module _ (limits : Limits) (ts : List Turn) (w : World) (new : IsNew limits w) (fair : IsFair limits ts w) (apart : TellsApart w.broker.records) (c : CopyId) where
+module _ (limits : Limits) (ts : List Turn) (w : World) (new : IsNew w) (fair : IsFair limits ts w) (apart : TellsApart w.broker.records) (c : CopyId) where
   counted : count_of c (entered_from limits ts w) + U c (kinds (run limits ts w).broker.records) ≤ U c (kinds w.broker.records)
   counted = (run_walks (Counts c) limits ts w (counts c limits) new fair (coherent_kept w.broker.records new.steady.coherent apart)).counted
 

@@ -1,5 +1,5 @@
 -- What holds of the broker after each step in which no number is spent; and the numbers of its lines never fall.
-use Rattle.std.proofs.Common.{◌≡◌, ℕ, suc, ◌≤◌, Bool, true, false, cond, [], ◌∷◌, refl, sym, subst, arith}
+use Rattle.std.proofs.Common.{◌≡◌, ℕ, suc, ◌≤◌, Bool, true, false, cond, List, [], ◌∷◌, refl, sym, subst, arith}
 use Rattle.mqtt_records.specs.declared.records.Records.{Records}
 use Rattle.mqtt_rules.specs.declared.Limits.{Limits}
 use Rattle.mqtt_rules.specs.State.{MemberChoice, Broker, Env}
@@ -10,54 +10,52 @@ use Rattle.mqtt_rules.proofs.acts.Acts.{anyone, finds_anyone}
 use Rattle.mqtt_rules.proofs.acts.ByDeeds.{DeedLaw, leads_deeds}
 use Rattle.mqtt_rules.proofs.lines.LineSteps.{step_unique, opening_unique, blank_unique}
 use Rattle.mqtt_rules.proofs.fit.RowsFit.{step_coherent, step_last, opening_coherent, opened_last, nothing_coherent}
-use Rattle.mqtt_rules.proofs.order.OrderedLimits.{step_sessions, opening_sessions}
 use Rattle.mqtt_rules.proofs.numbers.NumberSteps.{step_timed, opening_timed}
 use Rattle.mqtt_world_model.proofs.others.Frame.{kept_given}
-use Rattle.mqtt_world_model.specs.Seats.{IsSound}
+use Rattle.mqtt_world_model.specs.Hops.{IsInOrder}
+use Rattle.mqtt_world_model.specs.Seats.{HasPlace, IsSound}
 use Rattle.mqtt_world_model.specs.World.{start}
 use Rattle.mqtt_world_acceptance_laws.specs.Fair.{IsSteady, MayOpen}
 
-pub sound_of : (limits : Limits) (b : Broker) → AreWithin limits → IsSteady limits b → IsSound limits b
-sound_of limits b within s = record {
-  order = record { sessions = s.coherent.ordered.sessions.ascending; births = s.coherent.births; lines = s.lines };
-  room = s.room;
-  within = within.sessions;
-}
+-- its sessions and lines are in order
+pub order_of : (b : Broker) → IsSteady b → IsInOrder b
+order_of b s = record { sessions = s.coherent.ordered.sessions.ascending; births = s.coherent.births; lines = s.lines }
+
+-- and so is what a client with a place asks of it
+pub sound_of : (limits : Limits) (client : List ℕ) (b : Broker) → AreWithin limits → IsSteady b → HasPlace limits client b.records → IsSound limits client b
+sound_of limits client b within s place = record { order = order_of b s; place = place; within = within.sessions }
 
 pub steady_step : (limits : Limits) (choice : MemberChoice) (now : ℕ) (call : Call) (b : Broker)
-    → AreWithin limits → IsSteady limits b → is_step_spent limits choice now call b ≡ false
-    → IsSteady limits (stepped limits choice now call b)
+    → AreWithin limits → IsSteady b → is_step_spent limits choice now call b ≡ false
+    → IsSteady (stepped limits choice now call b)
 steady_step limits choice now call b within s unspent = record {
   coherent = step_coherent limits choice now call b within s.coherent s.timed s.moment unspent;
   timed = (step_timed limits choice now call b s.timed).1;
   moment = step_last limits choice now call b s.moment;
   lines = step_unique limits choice now call b within s.coherent s.timed s.moment unspent s.lines;
-  room = step_sessions limits choice now call b s.room;
 }
 
 pub steady_opened : (limits : Limits) (choice : MemberChoice) (now : ℕ) (r : Records)
-    → AreWithin limits → MayOpen limits choice now r → IsSteady limits (opened limits choice now r)
+    → AreWithin limits → MayOpen limits choice now r → IsSteady (opened limits choice now r)
 steady_opened limits choice now r within h = record {
   coherent = opening_coherent limits choice now r within h.coherent h.unspent;
   timed = (opening_timed limits choice now r h.coherent.counters.moment).1;
   moment = opened_last limits choice now r;
   lines = opening_unique limits choice now r;
-  room = opening_sessions limits choice now r h.room;
 }
 
 pub steady_again : (limits : Limits) (choice : MemberChoice) (now : ℕ) (b : Broker)
-    → AreWithin limits → IsSteady limits b → is_opening_spent limits choice now b.records ≡ false
-    → IsSteady limits (opened limits choice now b.records)
+    → AreWithin limits → IsSteady b → is_opening_spent limits choice now b.records ≡ false
+    → IsSteady (opened limits choice now b.records)
 steady_again limits choice now b within s unspent =
-    steady_opened limits choice now b.records within (record { coherent = s.coherent; room = s.room; unspent = unspent })
+    steady_opened limits choice now b.records within (record { coherent = s.coherent; unspent = unspent })
 
-pub steady_start : (limits : Limits) → IsSteady limits start.broker
-steady_start limits = record {
+pub steady_start : IsSteady start.broker
+steady_start = record {
   coherent = nothing_coherent;
   timed = omega arith;
   moment = omega arith;
   lines = blank_unique;
-  room = omega arith;
 }
 
 -- a new line spends no number

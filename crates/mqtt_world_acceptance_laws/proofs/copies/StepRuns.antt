@@ -58,23 +58,23 @@ module _ (R : Env → List Deed → Broker → Type 0) (says : (env : Env) → S
   }
 
   module _ (set : Setting) (within : AreWithin set.limits) where
-    called : (call : Call) (w : World) → IsSteady set.limits w.broker → Are (deeds set.limits set.choice w.now call w.broker) (step_called set call w ∷ [])
+    called : (call : Call) (w : World) → IsSteady w.broker → Are (deeds set.limits set.choice w.now call w.broker) (step_called set call w ∷ [])
     called call w s = let env = env_of set.limits set.choice w.broker in one_is (step_called set call w) (call_says env whatever Orders (R env) (says env) call (λ n packet e. tt) (at_moment w.now w.broker) s.coherent.ordered)
 
-    if_called : (call : Option Call) (w : World) → IsSteady set.limits w.broker → Are (read_if the_deeds set call w) (read_if the_steps set call w)
+    if_called : (call : Option Call) (w : World) → IsSteady w.broker → Are (read_if the_deeds set call w) (read_if the_steps set call w)
     if_called None w s = none_are
     if_called (Some call) w s = called call w s
 
-    opened : (w : World) → IsSteady set.limits w.broker → Are (read_opening the_deeds set w) (opening_step set w ∷ [])
+    opened : (w : World) → IsSteady w.broker → Are (read_opening the_deeds set w) (opening_step set w ∷ [])
     opened w s =
         let b = unopened w.now w.broker.records in
         let env = env_of set.limits set.choice b in
         one_is (opening_step set w) (opening_says env whatever Orders (R env) (says env) b s.coherent.ordered)
 
-    first_called : (a : Asking) (w : World) → IsSteady set.limits w.broker → Are (read_first the_deeds set a w) (read_first the_steps set a w)
+    first_called : (a : Asking) (w : World) → IsSteady w.broker → Are (read_first the_deeds set a w) (read_first the_steps set a w)
     first_called a w s = if_called (call_of set a w) (before set a w) (before_goes Any set (anything set.limits) within a w s).steady
 
-    rest_called : (more : ℕ) (name : List ℕ) (v : World) → IsSteady set.limits v.broker → read_rest spending set more name v ≡ false → Are (read_rest the_deeds set more name v) (read_rest the_steps set more name v)
+    rest_called : (more : ℕ) (name : List ℕ) (v : World) → IsSteady v.broker → read_rest spending set more name v ≡ false → Are (read_rest the_deeds set more name v) (read_rest the_steps set more name v)
     rest_called zero name v s unspent = none_are
     rest_called (suc more) name v s unspent =
         let call = call_of_stranger (stranger_named name v) in
@@ -84,7 +84,7 @@ module _ (R : Env → List Deed → Broker → Type 0) (says : (env : Env) → S
         let x = if_goes Any set (anything set.limits) within call held s (same_cost Any set (anything set.limits) within name v call costs.0) in
         both_are (read_if the_deeds set call v) (read_rest the_deeds set more name u) (read_if the_steps set call v) (read_rest the_steps set more name u) (if_called call v s) (rest_called more name u x.steady costs.1)
 
-    asked : (a : Asking) (w : World) → IsSteady set.limits w.broker → read_asked spending set a w ≡ false → Are (read_asked the_deeds set a w) (read_asked the_steps set a w)
+    asked : (a : Asking) (w : World) → IsSteady w.broker → read_asked spending set a w ≡ false → Are (read_asked the_deeds set a w) (read_asked the_steps set a w)
     asked (to_broker d) w s unspent = first_called (to_broker d) w s
     asked (old_to_broker d) w s unspent = first_called (old_to_broker d) w s
     asked (break d) w s unspent = first_called (break d) w s
@@ -94,7 +94,7 @@ module _ (R : Env → List Deed → Broker → Type 0) (says : (env : Env) → S
         let v = comes set name bytes w in
         rest_called (held_count (stranger_named name v)) name v (comes_goes Any set (anything set.limits) within name bytes w s).steady unspent
 
-    happened : (e : Event) (w : World) → IsSteady set.limits w.broker → read_in spending set e w ≡ false → Are (read_in the_deeds set e w) (read_in the_steps set e w)
+    happened : (e : Event) (w : World) → IsSteady w.broker → read_in spending set e w ≡ false → Are (read_in the_deeds set e w) (read_in the_steps set e w)
     happened (publisher d) w s unspent = none_are
     happened (receiver d window) w s unspent = none_are
     happened (connect_end d clean) w s unspent = if_called (Some NewLine) w s
@@ -114,7 +114,7 @@ module _ (R : Env → List Deed → Broker → Type 0) (says : (env : Env) → S
 
   -- ---- a turn, and a run
 
-  turn_is : (limits : Limits) (t : Turn) (w : World) → AreWithin limits → IsSteady limits w.broker → read_at spending (setting limits t) t.event w ≡ false → Are (deeds_at (setting limits t) t.event w) (read_at the_steps (setting limits t) t.event w)
+  turn_is : (limits : Limits) (t : Turn) (w : World) → AreWithin limits → IsSteady w.broker → read_at spending (setting limits t) t.event w ≡ false → Are (deeds_at (setting limits t) t.event w) (read_at the_steps (setting limits t) t.event w)
   turn_is limits t w within s unspent = by (is_bad t.event w) unspent
     where
       set : Setting
@@ -124,7 +124,7 @@ module _ (R : Env → List Deed → Broker → Type 0) (says : (env : Env) → S
       by true u = none_are
       by false u = happened set within t.event w s u
 
-  all_are : (limits : Limits) (ts : List Turn) (w : World) → AreWithin limits → IsSteady limits w.broker → run_spends limits ts w ≡ false → Are (deeds_over limits ts w) (steps_over limits ts w)
+  all_are : (limits : Limits) (ts : List Turn) (w : World) → AreWithin limits → IsSteady w.broker → run_spends limits ts w ≡ false → Are (deeds_over limits ts w) (steps_over limits ts w)
   all_are limits [] w within s unspent = none_are
   all_are limits (t ∷ ts) w within s unspent =
       let v = turned limits t w in
@@ -133,7 +133,7 @@ module _ (R : Env → List Deed → Broker → Type 0) (says : (env : Env) → S
       both_are (deeds_at (setting limits t) t.event w) (deeds_over limits ts v) (read_at the_steps (setting limits t) t.event w) (steps_over limits ts v)
       (turn_is limits t w within s costs.0) (all_are limits ts v within next.steady costs.1)
 
-  run_are : (limits : Limits) (ts : List Turn) (w : World) → IsNew limits w → IsFair limits ts w → Are (deeds_over limits ts w) (steps_over limits ts w)
+  run_are : (limits : Limits) (ts : List Turn) (w : World) → IsNew w → IsFair limits ts w → Are (deeds_over limits ts w) (steps_over limits ts w)
   run_are limits ts w new fair = all_are limits ts w fair.within new.steady fair.unspent
 
 -- ---- exactly the copies that its deeds bring enter
@@ -147,12 +147,12 @@ entered_all (x ∷ xs) h =
     entered_append x.deeds (flat_map (λ (y : Step). y.deeds) xs) ∙ ap (λ (cs : List CopyId). cs ++ entered (flat_map (λ (y : Step). y.deeds) xs)) h.0
     ∙ ap (λ (cs : List CopyId). brought_in x ++ cs) (entered_all xs h.1)
 
-pub run_enters : (limits : Limits) (ts : List Turn) (w : World) → IsNew limits w → IsFair limits ts w → IsEntered limits ts w
+pub run_enters : (limits : Limits) (ts : List Turn) (w : World) → IsNew w → IsFair limits ts w → IsEntered limits ts w
 run_enters limits ts w new fair =
     let x = run_are Tells telling limits ts w new fair in
     ap entered x.deeds_are ∙ entered_all (steps_over limits ts w) x.each
 
 -- ---- and what is due at once goes out
 
-pub run_goes_out : (limits : Limits) (ts : List Turn) (w : World) → IsNew limits w → IsFair limits ts w → AllGoOut limits ts w
+pub run_goes_out : (limits : Limits) (ts : List Turn) (w : World) → IsNew w → IsFair limits ts w → AllGoOut limits ts w
 run_goes_out limits ts w new fair = (run_are Gives giving limits ts w new fair).each

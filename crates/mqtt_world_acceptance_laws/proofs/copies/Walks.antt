@@ -19,38 +19,38 @@ pub record Walk (limits : Limits) (R : List Deed → Broker → Broker → Type 
   pub next : (xs ys : List Deed) (a b d : Broker) → R xs a b → R ys b d → R (xs ++ ys) a d
   pub unlink : (n : ℕ) (b d : Broker) → R (Link n ∷ []) b d → R [] b d
   pub link : (n : ℕ) (b d : Broker) → R [] b d → R (Link n ∷ []) b d
-  pub call : (choice : MemberChoice) (now : ℕ) (call : Call) (b : Broker) → IsSteady limits b → is_step_spent limits choice now call b ≡ false
+  pub call : (choice : MemberChoice) (now : ℕ) (call : Call) (b : Broker) → IsSteady b → is_step_spent limits choice now call b ≡ false
       → R (deeds limits choice now call b) b (stepped limits choice now call b)
-  pub open_again : (choice : MemberChoice) (now : ℕ) (b : Broker) → IsSteady limits b → is_opening_spent limits choice now b.records ≡ false
+  pub open_again : (choice : MemberChoice) (now : ℕ) (b : Broker) → IsSteady b → is_opening_spent limits choice now b.records ≡ false
       → R (opening (env_of limits choice (unopened now b.records)) (unopened now b.records)) b (opened limits choice now b.records)
 
 -- from one world to another, by these deeds
 pub record Steps (limits : Limits) (R : List Deed → Broker → Broker → Type 0) (ds : List Deed) (w v : World) : Type 0 where
-  pub steady : IsSteady limits v.broker
+  pub steady : IsSteady v.broker
   pub said : R ds w.broker v.broker
 
 module _ (R : List Deed → Broker → Broker → Type 0) (set : Setting) (walk : Walk set.limits R) (within : AreWithin set.limits) where
   abbrev pub Goes : List Deed → World → World → Type 0
   Goes ds w v = Steps set.limits R ds w v
 
-  still : (w v : World) → IsSteady set.limits w.broker → v.broker ≡ w.broker → Goes [] w v
+  still : (w v : World) → IsSteady w.broker → v.broker ≡ w.broker → Goes [] w v
   still w v s same = subst (λ (b : Broker). Steps set.limits R [] w (record v { broker = b })) (sym same) (record { steady = s; said = walk.none w.broker })
 
   then_goes : (xs ys : List Deed) (w u v : World) → Goes xs w u → Goes ys u v → Goes (xs ++ ys) w v
   then_goes xs ys w u v p q = record { steady = q.steady; said = walk.next xs ys w.broker u.broker v.broker p.said q.said }
 
-  call_goes : (call : Call) (w : World) → IsSteady set.limits w.broker → read_if spending set (Some call) w ≡ false → Goes (deeds set.limits set.choice w.now call w.broker) w (calls set call w)
+  call_goes : (call : Call) (w : World) → IsSteady w.broker → read_if spending set (Some call) w ≡ false → Goes (deeds set.limits set.choice w.now call w.broker) w (calls set call w)
   call_goes call w s unspent = record { steady = steady_step set.limits set.choice w.now call w.broker within s unspent; said = walk.call set.choice w.now call w.broker s unspent }
 
-  pub if_goes : (call : Option Call) (w : World) → IsSteady set.limits w.broker → read_if spending set call w ≡ false → Goes (read_if the_deeds set call w) w (calls_if set call w)
+  pub if_goes : (call : Option Call) (w : World) → IsSteady w.broker → read_if spending set call w ≡ false → Goes (read_if the_deeds set call w) w (calls_if set call w)
   if_goes None w s unspent = still w w s refl
   if_goes (Some call) w s unspent = call_goes call w s unspent
 
-  opening_goes : (w : World) → IsSteady set.limits w.broker → read_opening spending set w ≡ false → Goes (read_opening the_deeds set w) w (restarts set w)
+  opening_goes : (w : World) → IsSteady w.broker → read_opening spending set w ≡ false → Goes (read_opening the_deeds set w) w (restarts set w)
   opening_goes w s unspent = record { steady = steady_again set.limits set.choice w.now w.broker within s unspent; said = walk.open_again set.choice w.now w.broker s unspent }
 
   -- a new line
-  linking_goes : (w : World) → IsSteady set.limits w.broker → Goes [] w (calls set NewLine w)
+  linking_goes : (w : World) → IsSteady w.broker → Goes [] w (calls set NewLine w)
   linking_goes w s =
       let x = call_goes NewLine w s (linking_spends_none set.limits set.choice w.now w.broker) in
       record { steady = x.steady; said = by (can_link w.broker) refl x.said }
@@ -64,14 +64,14 @@ module _ (R : List Deed → Broker → Broker → Type 0) (set : Setting) (walk 
 
   -- ---- what is asked for
 
-  pub comes_goes : (name bytes : List ℕ) (w : World) → IsSteady set.limits w.broker → Goes [] w (comes set name bytes w)
+  pub comes_goes : (name bytes : List ℕ) (w : World) → IsSteady w.broker → Goes [] w (comes set name bytes w)
   comes_goes name bytes w s = by (is_some (stranger_named name w))
     where
       by : (t : Bool) → Goes [] w (linked_at set t name bytes w)
       by true = still w (linked_at set true name bytes w) s refl
       by false = let x = linking_goes w s in record { steady = x.steady; said = x.said }
 
-  pub before_goes : (a : Asking) (w : World) → IsSteady set.limits w.broker → Goes [] w (before set a w)
+  pub before_goes : (a : Asking) (w : World) → IsSteady w.broker → Goes [] w (before set a w)
   before_goes (to_broker d) w s = still w (before set (to_broker d) w) s refl
   before_goes (old_to_broker d) w s = still w (before set (old_to_broker d) w) s refl
   before_goes (break d) w s = still w w s refl
@@ -79,7 +79,7 @@ module _ (R : List Deed → Broker → Broker → Type 0) (set : Setting) (walk 
   before_goes tick w s = still w w s refl
   before_goes (stranger name bytes) w s = comes_goes name bytes w s
 
-  pub first_goes : (a : Asking) (w : World) → IsSteady set.limits w.broker → read_first spending set a w ≡ false → Goes (read_first the_deeds set a w) w (first_step set a w)
+  pub first_goes : (a : Asking) (w : World) → IsSteady w.broker → read_first spending set a w ≡ false → Goes (read_first the_deeds set a w) w (first_step set a w)
   first_goes a w s unspent =
       let x = before_goes a w s in
       then_goes [] (read_first the_deeds set a w) w (before set a w) (first_step set a w) x (if_goes (call_of set a w) (before set a w) x.steady unspent)
@@ -92,7 +92,7 @@ module _ (R : List Deed → Broker → Broker → Type 0) (set : Setting) (walk 
   same_deeds name v None h = h
   same_deeds name v (Some x) h = h
 
-  rest_goes : (more : ℕ) (name : List ℕ) (v : World) → IsSteady set.limits v.broker → read_rest spending set more name v ≡ false → Goes (read_rest the_deeds set more name v) v (answers_rest set more name v)
+  rest_goes : (more : ℕ) (name : List ℕ) (v : World) → IsSteady v.broker → read_rest spending set more name v ≡ false → Goes (read_rest the_deeds set more name v) v (answers_rest set more name v)
   rest_goes zero name v s unspent = still v v s refl
   rest_goes (suc more) name v s unspent =
       let call = call_of_stranger (stranger_named name v) in
@@ -103,7 +103,7 @@ module _ (R : List Deed → Broker → Broker → Type 0) (set : Setting) (walk 
       let first = same_deeds name v call (record { steady = x.steady; said = x.said }) in
       then_goes (read_if the_deeds set call v) (read_rest the_deeds set more name u) v u (answers_rest set more name u) first (rest_goes more name u first.steady costs.1)
 
-  asked_goes : (a : Asking) (w : World) → IsSteady set.limits w.broker → read_asked spending set a w ≡ false → Goes (read_asked the_deeds set a w) w (asks set a w)
+  asked_goes : (a : Asking) (w : World) → IsSteady w.broker → read_asked spending set a w ≡ false → Goes (read_asked the_deeds set a w) w (asks set a w)
   asked_goes (to_broker d) w s unspent = first_goes (to_broker d) w s unspent
   asked_goes (old_to_broker d) w s unspent = first_goes (old_to_broker d) w s unspent
   asked_goes (break d) w s unspent = let x = first_goes (break d) w s unspent in record { steady = x.steady; said = x.said }
@@ -117,7 +117,7 @@ module _ (R : List Deed → Broker → Broker → Type 0) (set : Setting) (walk 
 
   -- ---- an event
 
-  joins_goes : (d : List ℕ) (clean : Bool) (w : World) → IsSteady set.limits w.broker → Goes (read_if the_deeds set (Some NewLine) w) w (happens set (connect_end d clean) w)
+  joins_goes : (d : List ℕ) (clean : Bool) (w : World) → IsSteady w.broker → Goes (read_if the_deeds set (Some NewLine) w) w (happens set (connect_end d clean) w)
   joins_goes d clean w s = by (can_link w.broker) refl
     where
       by : (t : Bool) → can_link w.broker ≡ t → Goes (cond (can_link w.broker) (Link (suc w.broker.given) ∷ []) []) w (links set (cond (can_link w.broker) (Some (suc w.broker.given)) None) d clean w)
@@ -126,7 +126,7 @@ module _ (R : List Deed → Broker → Broker → Type 0) (set : Setting) (walk 
           let x = linking_goes w s in
           subst (λ (t : Bool). Goes (cond t (Link (suc w.broker.given) ∷ []) []) w (links set (cond t (Some (suc w.broker.given)) None) d clean w)) (sym can) (record { steady = x.steady; said = walk.link (suc w.broker.given) w.broker (stepped set.limits set.choice w.now NewLine w.broker) x.said })
 
-  event_goes : (e : Event) (w : World) → IsSteady set.limits w.broker → read_in spending set e w ≡ false → Goes (read_in the_deeds set e w) w (happens set e w)
+  event_goes : (e : Event) (w : World) → IsSteady w.broker → read_in spending set e w ≡ false → Goes (read_in the_deeds set e w) w (happens set e w)
   event_goes (publisher d) w s unspent = record { steady = s; said = walk.none w.broker }
   event_goes (receiver d window) w s unspent = record { steady = s; said = walk.none w.broker }
   event_goes (connect_end d clean) w s unspent = joins_goes d clean w s
@@ -149,7 +149,7 @@ module _ (R : List Deed → Broker → Broker → Type 0) (set : Setting) (walk 
 
 -- ---- a turn, and a run
 
-pub turn_goes : (R : List Deed → Broker → Broker → Type 0) (limits : Limits) (walk : Walk limits R) (t : Turn) (w : World) → AreWithin limits → IsSteady limits w.broker → read_at spending (setting limits t) t.event w ≡ false
+pub turn_goes : (R : List Deed → Broker → Broker → Type 0) (limits : Limits) (walk : Walk limits R) (t : Turn) (w : World) → AreWithin limits → IsSteady w.broker → read_at spending (setting limits t) t.event w ≡ false
     → Steps limits R (deeds_at (setting limits t) t.event w) w (turned limits t w)
 turn_goes R limits walk t w within s unspent = by (is_bad t.event w) unspent
   where
@@ -160,7 +160,7 @@ turn_goes R limits walk t w within s unspent = by (is_bad t.event w) unspent
     by true u = record { steady = s; said = walk.none w.broker }
     by false u = event_goes R set walk within t.event w s u
 
-run_goes : (R : List Deed → Broker → Broker → Type 0) (limits : Limits) (walk : Walk limits R) (ts : List Turn) (w : World) → AreWithin limits → IsSteady limits w.broker → run_spends limits ts w ≡ false
+run_goes : (R : List Deed → Broker → Broker → Type 0) (limits : Limits) (walk : Walk limits R) (ts : List Turn) (w : World) → AreWithin limits → IsSteady w.broker → run_spends limits ts w ≡ false
     → Steps limits R (deeds_over limits ts w) w (run limits ts w)
 run_goes R limits walk [] w within s unspent = record { steady = s; said = walk.none w.broker }
 run_goes R limits walk (t ∷ ts) w within s unspent =
@@ -172,5 +172,5 @@ run_goes R limits walk (t ∷ ts) w within s unspent =
     let ys = deeds_over limits ts v in
     record { steady = rest.steady; said = walk.next xs ys w.broker v.broker (run limits ts v).broker first.said rest.said }
 
-pub run_walks : (R : List Deed → Broker → Broker → Type 0) (limits : Limits) (ts : List Turn) (w : World) → Walk limits R → IsNew limits w → IsFair limits ts w → R (deeds_over limits ts w) w.broker (run limits ts w).broker
+pub run_walks : (R : List Deed → Broker → Broker → Type 0) (limits : Limits) (ts : List Turn) (w : World) → Walk limits R → IsNew w → IsFair limits ts w → R (deeds_over limits ts w) w.broker (run limits ts w).broker
 run_walks R limits ts w walk new fair = (run_goes R limits walk ts w fair.within new.steady fair.unspent).said

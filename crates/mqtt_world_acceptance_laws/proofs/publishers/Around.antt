@@ -1,7 +1,7 @@
 -- One publisher in the world: where it is, and who else is there. No other end and no stranger has a line of its (MQTT
 -- 5.0, 4.2).
-use Rattle.std.proofs.Common.{◌≡◌, ℕ, ◌≤◌, true, false, ◌⊎◌, List, [], ◌++◌, map, Option, Some, None, nat_eq, refl, sym, ap, subst, ◌∙◌, arith, inl, inr}
-use Rattle.std.specs.Prelude.{⊤, option_map, is_some}
+use Rattle.std.proofs.Common.{◌≡◌, ℕ, ◌≤◌, true, false, ◌⊎◌, List, [], ◌++◌, map, Option, Some, None, bytes_eq, nat_eq, refl, sym, ap, subst, ◌∙◌, arith, inl, inr}
+use Rattle.std.specs.Prelude.{⊤, find, option_map, is_some}
 use Rattle.std.specs.List.{AllByRecursion}
 use Rattle.mqtt_flow_inbound.specs.InboundWorld.{Event as HopEvent, run}
 use Rattle.mqtt_rules.specs.declared.Limits.{Limits}
@@ -13,7 +13,8 @@ use Rattle.mqtt_world_model.specs.Ends.{Publisher, Receiver}
 use Rattle.mqtt_world_model.specs.World.{Stranger, World, Setting, publisher_named, receiver_named, publisher_told, receiver_told, calls, calls_if}
 use Rattle.mqtt_world_model.specs.Hops.{IsOthers, IsFarCall, IsRun}
 use Rattle.mqtt_world_model.specs.Seen.{seen}
-use Rattle.mqtt_world_model.specs.Seats.{Comes, Does, IsApart, IsElsewhere, IsNamed, IsOff, IsSettled, Seat}
+use Rattle.mqtt_world_model.specs.Seats.{Comes, Does, HasPlace, IsApart, IsElsewhere, IsNamed, IsOff, IsSettled, Seat}
+use Rattle.mqtt_world_model.proofs.seats.Places.{step_place}
 use Rattle.mqtt_world_model.proofs.seats.Seats.{run_append}
 use Rattle.mqtt_world_model.proofs.own.OwnCalls.{differs}
 use Rattle.mqtt_world_model.proofs.own.Calls.{others_come}
@@ -45,13 +46,14 @@ OtherStranger his given s = IsFree his given s.number
 -- his : the numbers of the lines that he had, and 0, which no line has
 pub record Around (c : List ℕ) (limits : Limits) (his : List ℕ) (w : World) : Type 0 where
   pub within : AreWithin limits
-  pub steady : IsSteady limits w.broker
+  pub steady : IsSteady w.broker
   pub known : (j : ℕ) → IsAmong j his → j ≤ w.broker.given
   pub none : IsAmong 0 his
   pub publishers : AllByRecursion (OtherPublisher c his w.broker.given) w.publishers
   pub receivers : AllByRecursion (OtherReceiver his w.broker.given) w.receivers
   pub strangers : AllByRecursion (OtherStranger his w.broker.given) w.strangers
   pub alone : is_some (publisher_named c w) ≡ true → receiver_named c w ≡ None
+  pub place : is_some (publisher_named c w) ≡ true → HasPlace limits c w.broker.records
 
 -- ---- where he is
 
@@ -84,13 +86,14 @@ pub record Stays (c : List ℕ) (limits : Limits) (accepted : List ℕ) (w : Wor
 -- ---- all ends changed
 
 pub around_mapped : (c : List ℕ) (limits : Limits) (his new_his : List ℕ) (w : World) (b : Broker) (now : ℕ) (f : Publisher → Publisher) (g : Receiver → Receiver) (ss : List Stranger)
-    → Around c limits his w → IsSteady limits b → ((j : ℕ) → IsAmong j new_his → j ≤ b.given) → IsAmong 0 new_his
+    → Around c limits his w → IsSteady b → (HasPlace limits c w.broker.records → HasPlace limits c b.records)
+    → ((j : ℕ) → IsAmong j new_his → j ≤ b.given) → IsAmong 0 new_his
     → ((p : Publisher) → (f p).client ≡ p.client) → ((r : Receiver) → (g r).client ≡ r.client)
     → ((p : Publisher) → HasFree his w.broker.given p.line → HasFree new_his b.given (f p).line)
     → ((r : Receiver) → HasFree his w.broker.given r.line → HasFree new_his b.given (g r).line)
     → AllByRecursion (OtherStranger new_his b.given) ss
     → Around c limits new_his (record { broker = b; now = now; publishers = map f w.publishers; receivers = map g w.receivers; strangers = ss })
-around_mapped c limits his new_his w b now f g ss a steady known none f_same g_same f_free g_free strangers = record {
+around_mapped c limits his new_his w b now f g ss a steady keeps known none f_same g_same f_free g_free strangers = record {
   within = a.within;
   steady = steady;
   known = known;
@@ -98,10 +101,14 @@ around_mapped c limits his new_his w b now f g ss a steady known none f_same g_s
   publishers = all_mapped (OtherPublisher c his w.broker.given) (OtherPublisher c new_his b.given) f w.publishers each a.publishers;
   receivers = all_mapped (OtherReceiver his w.broker.given) (OtherReceiver new_his b.given) g w.receivers g_free a.receivers;
   strangers = strangers;
-  alone = λ h. find_receiver c g g_same w.receivers
-      ∙ ap (option_map g) (a.alone (sym (is_some_mapped f (publisher_named c w)) ∙ (sym (ap is_some (find_publisher c f f_same w.publishers)) ∙ h)));
+  alone = λ h. find_receiver c g g_same w.receivers ∙ ap (option_map g) (a.alone (before h));
+  place = λ h. keeps (a.place (before h));
 }
   where
+    -- he was there before
+    before : is_some (find (λ (p : Publisher). bytes_eq p.client c) (map f w.publishers)) ≡ true → is_some (publisher_named c w) ≡ true
+    before h = sym (is_some_mapped f (publisher_named c w)) ∙ (sym (ap is_some (find_publisher c f f_same w.publishers)) ∙ h)
+
     each : (q : Publisher) → OtherPublisher c his w.broker.given q → OtherPublisher c new_his b.given (f q)
     each q (inl is) = inl (f_same q ∙ is)
     each q (inr free) = inr (f_free q free)
@@ -121,7 +128,7 @@ calls_around c set his call w a unspent =
     let out = told set.limits set.choice w.now call w.broker in
     let up = given_grows set.limits set.choice w.now call w.broker in
     around_mapped c set.limits his his w b w.now (publisher_told b out) (receiver_told b out) w.strangers a
-    (steady_step set.limits set.choice w.now call w.broker a.within a.steady unspent)
+    (steady_step set.limits set.choice w.now call w.broker a.within a.steady unspent) (step_place set.limits set.choice w.now call c w.broker)
     (λ j among. let le = a.known j among in omega (arith, le, up)) a.none (λ p. refl) (λ r. refl)
     (λ p free. let f = line_later his w.broker.given b.given p.line up free in record { number = f.number; old_number = f.old_number })
     (λ r free. let f = line_later his w.broker.given b.given r.line up free in record { number = f.number; old_number = f.old_number })

@@ -45,9 +45,12 @@ module _ (c d : List ℕ) (limits : Limits) (his : List ℕ) (w : World) (f : Pu
     publishers = all_mapped (OtherPublisher c his w.broker.given) (OtherPublisher c his w.broker.given) F w.publishers each a.publishers;
     receivers = receivers;
     strangers = a.strangers;
-    alone = λ h. find_receiver c G G_same w.receivers
-        ∙ ap (option_map G) (a.alone (sym (is_some_mapped F (publisher_named c w)) ∙ (sym (ap is_some (find_publisher c F F_same w.publishers)) ∙ h)));
+    alone = λ h. find_receiver c G G_same w.receivers ∙ ap (option_map G) (a.alone (before h));
+    place = λ h. a.place (before h);
   }
+    where
+      before : is_some (publisher_named c (with_end d f g w)) ≡ true → is_some (publisher_named c w) ≡ true
+      before h = sym (is_some_mapped F (publisher_named c w)) ∙ (sym (ap is_some (find_publisher c F F_same w.publishers)) ∙ h)
 
 -- ---- another
 

@@ -11,11 +11,11 @@ use Rattle.mqtt_world_model.specs.Lines.{Line}
 use Rattle.mqtt_world_model.specs.Ends.{Sent, Publisher, Back, wire, message_in}
 use Rattle.mqtt_world_model.specs.World.{World, Setting, publisher_named, receiver_named, with_line, with_receiver, publisher_told, calls_if, to_broker, old_to_broker, input_on, view_by, view_of, taken_up, taken_old, call_of, first_step}
 use Rattle.mqtt_world_model.specs.Run.{front_message, front_of_line, front_of_old, asked_from, each_of, read_if, read_first, the_deeds}
-use Rattle.mqtt_world_model.specs.Seats.{Comes, Former, Present, absent, closed, joined, late, lingers, over, waiting}
+use Rattle.mqtt_world_model.specs.Seats.{Comes, Former, HasPlace, Present, absent, closed, joined, late, lingers, over, waiting}
 use Rattle.mqtt_world_model.proofs.own.Calls.{reads_own, reads_old}
 use Rattle.mqtt_world_acceptance_laws.specs.Spending.{spending}
-use Rattle.mqtt_world_acceptance_laws.proofs.copies.Steady.{sound_of, steady_step}
-use Rattle.mqtt_world_acceptance_laws.proofs.publishers.Ends.{changed_not, changed_his, IsNotHim, whose_name}
+use Rattle.mqtt_world_acceptance_laws.proofs.copies.Steady.{order_of, sound_of, steady_step}
+use Rattle.mqtt_world_acceptance_laws.proofs.publishers.Ends.{changed_not, changed_his, IsNotHim, named_publisher, whose_name}
 use Rattle.mqtt_world_acceptance_laws.proofs.publishers.Around.{HasFree, Around, Placed, Him, Holds, placed_next, named_called, if_around, if_holds}
 use Rattle.mqtt_world_acceptance_laws.proofs.publishers.Others.{foreign, input_outside}
 use Rattle.mqtt_world_acceptance_laws.proofs.publishers.Changes.{on_line, on_back, line_others, own_around}
@@ -113,28 +113,31 @@ empty_up l e = ap (λ (xs : List Sent). record l { up = xs }) (ap (drop 1) e ∙
 empty_old : (l : Line Sent) → l.old ≡ [] → taken_old l ≡ l
 empty_old l e = ap (λ (xs : List Sent). record l { old = xs }) (ap (drop 1) e ∙ sym e)
 
-pub side_up : (c : List ℕ) (set : Setting) (his accepted : List ℕ) (w : World) (p : Publisher) → Around c set.limits his w → (placed : Placed his p w.broker accepted)
+his_place : (c : List ℕ) (limits : Limits) (his : List ℕ) (w : World) (p : Publisher) → Around c limits his w → publisher_named c w ≡ Some p → HasPlace limits p.client w.broker.records
+his_place c limits his w p a e = subst (λ (x : List ℕ). HasPlace limits x w.broker.records) (sym (named_publisher c p w e)) (a.place (ap is_some e))
+
+pub side_up : (c : List ℕ) (set : Setting) (his accepted : List ℕ) (w : World) (p : Publisher) → Around c set.limits his w → publisher_named c w ≡ Some p → (placed : Placed his p w.broker accepted)
     → Side set his accepted p w.broker w.now placed.line taken_up p.line.number p.line.up
-side_up c set his accepted w p a placed = record {
+side_up c set his accepted w p a e placed = record {
   nothing = none_up placed.birth placed.line p.line w.broker placed.seat.present;
   empty = empty_up p.line;
   comes = λ n packet rest is up u.
       let call = Input n (wire p.client p.contents packet) in
       let steady = steady_step set.limits set.choice w.now call w.broker a.within a.steady u in
-      reads_own set.limits set.choice w.now n placed.birth placed.line packet rest p w.broker accepted placed.seat placed.named (sound_of set.limits w.broker a.within a.steady)
-      (sound_of set.limits (stepped set.limits set.choice w.now call w.broker) a.within steady).order placed.apart placed.run is up;
+      reads_own set.limits set.choice w.now n placed.birth placed.line packet rest p w.broker accepted placed.seat placed.named (sound_of set.limits p.client w.broker a.within a.steady (his_place c set.limits his w p a e))
+      (order_of (stepped set.limits set.choice w.now call w.broker) steady) placed.apart placed.run is up;
 }
 
-pub side_old : (c : List ℕ) (set : Setting) (his accepted : List ℕ) (w : World) (p : Publisher) → Around c set.limits his w → (placed : Placed his p w.broker accepted)
+pub side_old : (c : List ℕ) (set : Setting) (his accepted : List ℕ) (w : World) (p : Publisher) → Around c set.limits his w → publisher_named c w ≡ Some p → (placed : Placed his p w.broker accepted)
     → Side set his accepted p w.broker w.now placed.line taken_old p.line.old_number p.line.old
-side_old c set his accepted w p a placed = record {
+side_old c set his accepted w p a e placed = record {
   nothing = none_old placed.birth placed.line p.line w.broker placed.seat.former;
   empty = empty_old p.line;
   comes = λ n packet rest is old u.
       let call = Input n (wire p.client p.contents packet) in
       let steady = steady_step set.limits set.choice w.now call w.broker a.within a.steady u in
-      reads_old set.limits set.choice w.now n placed.birth placed.line packet rest p w.broker accepted placed.seat placed.named (sound_of set.limits w.broker a.within a.steady)
-      (sound_of set.limits (stepped set.limits set.choice w.now call w.broker) a.within steady).order placed.apart is old;
+      reads_old set.limits set.choice w.now n placed.birth placed.line packet rest p w.broker accepted placed.seat placed.named (sound_of set.limits p.client w.broker a.within a.steady (his_place c set.limits his w p a e))
+      (order_of (stepped set.limits set.choice w.now call w.broker) steady) placed.apart is old;
 }
 
 -- ---- whoever's it is
@@ -180,7 +183,7 @@ reads_hold c d set his accepted w h unspent = elim (whose_name c d w) [
         let placed = subst (Him his w.broker accepted) e h.him in
         let cost : read_if spending set (input_on p.line.number (map (wire p.client p.contents) p.line.up)) w1 ≡ false =
         sym (ap (λ (o : Option Publisher). read_if spending set (input_on (view_by o r).number (view_by o r).up) w1) e) ∙ u in
-        let him = own_read c set his accepted w taken_up taken_up takes_up p p.line.number p.line.up e placed (side_up c set his accepted w p h.around placed) cost in
+        let him = own_read c set his accepted w taken_up taken_up takes_up p p.line.number p.line.up e placed (side_up c set his accepted w p h.around e placed) cost in
         let asked : asked_from c (to_broker c) w ≡ front_of_line (publisher_named c w) = let it = (bytes_eq-Decides c c).1 refl in ap (λ (t : Bool). cond t (front_of_line (publisher_named c w)) None) it in
         record {
           around = if_around c set his (call_of set (to_broker c) w) w1 (own_around c set.limits his w p (on_line taken_up) (on_back taken_up) (λ q. refl) (λ q. refl) e h.around) u;
@@ -215,7 +218,7 @@ reads_old_hold c d set his accepted w h unspent = elim (whose_name c d w) [
         let placed = subst (Him his w.broker accepted) e h.him in
         let cost : read_if spending set (input_on p.line.old_number (map (wire p.client p.contents) p.line.old)) w1 ≡ false =
         sym (ap (λ (o : Option Publisher). read_if spending set (input_on (view_by o r).old_number (view_by o r).old) w1) e) ∙ u in
-        let him = own_read c set his accepted w taken_old taken_old takes_old p p.line.old_number p.line.old e placed (side_old c set his accepted w p h.around placed) cost in
+        let him = own_read c set his accepted w taken_old taken_old takes_old p p.line.old_number p.line.old e placed (side_old c set his accepted w p h.around e placed) cost in
         let asked : asked_from c (old_to_broker c) w ≡ front_of_old (publisher_named c w) = let it = (bytes_eq-Decides c c).1 refl in ap (λ (t : Bool). cond t (front_of_old (publisher_named c w)) None) it in
         record {
           around = if_around c set his (call_of set (old_to_broker c) w) w1 (own_around c set.limits his w p (on_line taken_old) (on_back taken_old) (λ q. refl) (λ q. refl) e h.around) u;

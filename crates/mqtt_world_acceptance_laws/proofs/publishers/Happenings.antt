@@ -17,6 +17,7 @@ use Rattle.mqtt_world_model.specs.Run.{is_asked, is_clean, begins_clean}
 use Rattle.mqtt_world_model.specs.Seen.{open_in, seen}
 use Rattle.mqtt_world_model.specs.Hops.{MayGiveUp}
 use Rattle.mqtt_world_model.specs.Seats.{IsNamed, absent, over}
+use Rattle.mqtt_world_model.proofs.seats.Places.{no_place_asked}
 use Rattle.mqtt_world_model.proofs.seats.Doings.{publishes, hears, gives}
 use Rattle.mqtt_world_acceptance_laws.proofs.publishers.Ends.{all_mapped, all_appended, find_last, find_no_more, whose_name, changed_not, changed_his, find_publisher, find_receiver, is_some_mapped}
 use Rattle.mqtt_world_acceptance_laws.proofs.publishers.Around.{HasFree, OtherPublisher, OtherReceiver, Around, Placed, Him, Holds, placed_does}
@@ -95,6 +96,7 @@ publisher_comes c d set his accepted w h good clean = elim (cases_Bool (bytes_eq
             receivers = h.around.receivers;
             strangers = h.around.strangers;
             alone = λ there. h.around.alone (sym (ap is_some same) ∙ there);
+            place = λ there. h.around.place (sym (ap is_some same) ∙ there);
           };
           him = subst (Him his w.broker accepted) (sym same) h.him;
         }
@@ -117,6 +119,7 @@ publisher_comes c d set his accepted w h good clean = elim (cases_Bool (bytes_eq
             receivers = h.around.receivers;
             strangers = h.around.strangers;
             alone = λ there. not_some (receiver_named c w) (ap (λ (x : List ℕ). is_some (receiver_named x w)) (sym is) ∙ ends.1);
+            place = λ there. no_place_asked set.limits c w.broker.records (subst (λ (x : List ℕ). session_named x w.broker.records ≡ None) is (is_nothing (session_named d w.broker.records) clean));
           };
           him = subst (Him his w.broker accepted) (sym found)
               (subst (λ (ns : List ℕ). Placed his (new_publisher d) w.broker ns) (sym none)
@@ -148,6 +151,7 @@ receiver_comes c d window set his accepted w h good =
               absurd cc
           | inr other ↦ find_no_more (λ (r : Receiver). bytes_eq r.client c) new w.receivers other ∙ h.around.alone there
         ];
+        place = h.around.place;
       };
       him = h.him;
     }
@@ -225,9 +229,13 @@ published_holds c d x set his accepted w h = elim (whose_name c d w) [
       publishers = all_mapped (OtherPublisher c his w.broker.given) (OtherPublisher c his w.broker.given) (λ p. cond (bytes_eq p.client d) (F p) p) w.publishers (λ p. other (bytes_eq p.client d) p) h.around.publishers;
       receivers = h.around.receivers;
       strangers = h.around.strangers;
-      alone = λ there. h.around.alone (sym (is_some_mapped (λ p. cond (bytes_eq p.client d) (F p) p) (publisher_named c w))
-          ∙ (sym (ap is_some (find_publisher c (λ p. cond (bytes_eq p.client d) (F p) p) (λ p. only (bytes_eq p.client d) p) w.publishers)) ∙ there));
+      alone = λ there. h.around.alone (before there);
+      place = λ there. h.around.place (before there);
     }
+      where
+        before : is_some (publisher_named c (happens set (publish d x) w)) ≡ true → is_some (publisher_named c w) ≡ true
+        before there = sym (is_some_mapped (λ p. cond (bytes_eq p.client d) (F p) p) (publisher_named c w))
+            ∙ (sym (ap is_some (find_publisher c (λ p. cond (bytes_eq p.client d) (F p) p) (λ p. only (bytes_eq p.client d) p) w.publishers)) ∙ there)
 
 -- ---- an end reads
 
@@ -272,6 +280,7 @@ subscribed_holds c d x set his accepted w h = record {
     receivers = all_mapped (OtherReceiver his w.broker.given) (OtherReceiver his w.broker.given) (λ r. cond (bytes_eq r.client d) (G r) r) w.receivers (λ r. other (bytes_eq r.client d) r) h.around.receivers;
     strangers = h.around.strangers;
     alone = λ there. find_receiver c (λ r. cond (bytes_eq r.client d) (G r) r) (λ r. only (bytes_eq r.client d) r) w.receivers ∙ ap (option_map (λ r. cond (bytes_eq r.client d) (G r) r)) (h.around.alone there);
+    place = h.around.place;
   };
   him = h.him;
 }
@@ -300,6 +309,7 @@ clock_holds c wait set his accepted w h = record {
     receivers = h.around.receivers;
     strangers = h.around.strangers;
     alone = h.around.alone;
+    place = h.around.place;
   };
   him = h.him;
 }

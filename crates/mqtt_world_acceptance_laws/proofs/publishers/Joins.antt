@@ -13,6 +13,7 @@ use Rattle.mqtt_world_model.specs.World.{World, Setting, connect_end, happens, i
 use Rattle.mqtt_world_model.specs.Run.{is_clean, begins_clean}
 use Rattle.mqtt_world_model.specs.Hops.{MayJoin, joined_by}
 use Rattle.mqtt_world_model.specs.Seats.{Comes}
+use Rattle.mqtt_world_model.proofs.seats.Places.{step_place}
 use Rattle.mqtt_world_model.proofs.seats.Doings.{joins}
 use Rattle.mqtt_world_acceptance_laws.proofs.copies.Steady.{linking_spends_none, steady_step}
 use Rattle.mqtt_world_acceptance_laws.proofs.publishers.Ends.{all_turned, IsNotHim, whose_name}
@@ -69,7 +70,7 @@ module _ (c d : List ℕ) (clean : Bool) (set : Setting) (accepted : List ℕ) (
       let out = told set.limits set.choice w.now NewLine w.broker in
       around_mapped c set.limits his (next ∷ his) w new w.now (publisher_told new out) (receiver_told new out) w.strangers a
       (steady_step set.limits set.choice w.now NewLine w.broker a.within a.steady (linking_spends_none set.limits set.choice w.now w.broker))
-      (λ j among. given j among) (inr a.none) (λ p. refl) (λ r. refl)
+      (step_place set.limits set.choice w.now NewLine c w.broker) (λ j among. given j among) (inr a.none) (λ p. refl) (λ r. refl)
       (λ p f. free_line his p.line (publisher_told new out p).line refl refl f) (λ r f. free_line his r.line (receiver_told new out r).line refl refl f)
       (all_turned (OtherStranger his w.broker.given) (OtherStranger (next ∷ his) new.given) w.strangers (λ s f. free_more his s.number f) a.strangers)
     where

@@ -11,6 +11,7 @@ use Rattle.mqtt_world_model.specs.Ends.{Sent, Publisher, Receiver, Back}
 use Rattle.mqtt_world_model.specs.World.{World, Setting, Stranger, Asking, to_broker, old_to_broker, break, pump, tick, stranger, publisher_named, with_line, publisher_restarted, receiver_restarted, unlinked, restarts, taken_up, taken_old, before, first_step, is_bad_asking, lost_on, view_of}
 use Rattle.mqtt_world_model.specs.Run.{client_number, asked_from, each_of, read_first, read_opening, the_deeds}
 use Rattle.mqtt_world_model.specs.Seats.{IsHis, absent, over}
+use Rattle.mqtt_world_model.proofs.seats.Places.{opening_place}
 use Rattle.mqtt_world_model.proofs.own.Publishes.{numbers_append}
 use Rattle.mqtt_world_model.proofs.own.Calls.{restarts_come}
 use Rattle.mqtt_world_acceptance_laws.specs.Spending.{spending}
@@ -96,10 +97,13 @@ all_restarted c set his accepted w h unspent known none = record {
   receivers = all_mapped (λ (r : Receiver). ⊤) (OtherReceiver his new.given) receiver_restarted w.receivers (λ r x. unlined his new.given (receiver_restarted r).line refl refl) (anything w.receivers);
   strangers = all_mapped (λ (s : Stranger). ⊤) (OtherStranger his new.given) unlinked w.strangers (λ s x. λ j is. absurd cc) (anything w.strangers);
   alone = λ there. find_receiver c receiver_restarted (λ r. refl) w.receivers
-      ∙ ap (option_map receiver_restarted) (h.around.alone (sym (is_some_mapped publisher_restarted (publisher_named c w))
-      ∙ (sym (ap is_some (find_publisher c publisher_restarted (λ p. refl) w.publishers)) ∙ there)));
+      ∙ ap (option_map receiver_restarted) (h.around.alone (before there));
+  place = λ there. opening_place set.limits set.choice w.now c w.broker.records (h.around.place (before there));
 }
   where
+    before : is_some (publisher_named c (restarts set w)) ≡ true → is_some (publisher_named c w) ≡ true
+    before there = sym (is_some_mapped publisher_restarted (publisher_named c w)) ∙ (sym (ap is_some (find_publisher c publisher_restarted (λ p. refl) w.publishers)) ∙ there)
+
     new : Broker
     new = opened set.limits set.choice w.now w.broker.records
 

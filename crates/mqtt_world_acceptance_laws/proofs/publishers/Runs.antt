@@ -1,7 +1,7 @@
 -- Every run of the world, in the eyes of one publisher: an event at a time it is somewhere again, and what it saw is a
 -- run of its hop (MQTT 5.0, 4.3, 4.4).
-use Rattle.std.proofs.Common.{◌≡◌, ℕ, ◌≤◌, Bool, true, false, cond, ◌||◌, ◌&&◌, List, [], ◌∷◌, ◌++◌, count_by, nat_eq, Option, Some, None, bytes_eq, refl, sym, ap, subst, append-nil, append_assoc, arith, inl, inr}
-use Rattle.std.specs.Prelude.{find}
+use Rattle.std.proofs.Common.{◌≡◌, ℕ, ◌≤◌, Bool, true, false, cond, ◌||◌, ◌&&◌, List, [], ◌∷◌, ◌++◌, count_by, nat_eq, Option, Some, None, bytes_eq, refl, sym, ap, subst, append-nil, append_assoc, arith, inl, inr, ◌∙◌}
+use Rattle.std.specs.Prelude.{find, is_some}
 use Rattle.std.specs.List.{AllByRecursion}
 use Rattle.mqtt_flow_inbound.specs.Publisher.{IsExactlyOnce, completed, refused, ended, ended_1}
 use Rattle.mqtt_records.specs.declared.records.Records.{Records}
@@ -98,7 +98,7 @@ run_stays (t ∷ ts) c limits accepted w s unspent carried =
 
 -- ---- from the beginning
 
-pub new_stays : (c : List ℕ) (limits : Limits) (w : World) → AreWithin limits → IsNew limits w → Stays c limits [] w
+pub new_stays : (c : List ℕ) (limits : Limits) (w : World) → AreWithin limits → IsNew w → Stays c limits [] w
 new_stays c limits w within new = record {
   his = 0 ∷ [];
   holds = record {
@@ -114,12 +114,19 @@ new_stays c limits w within new = record {
       receivers = subst (AllByRecursion (OtherReceiver (0 ∷ []) w.broker.given)) (sym new.receivers) tt;
       strangers = subst (AllByRecursion (OtherStranger (0 ∷ []) w.broker.given)) (sym new.strangers) tt;
       alone = λ there. ap (find (λ (r : Receiver). bytes_eq r.client c)) new.receivers;
+      place = λ there. absurd (nobody there);
     };
-    him = subst (Him (0 ∷ []) w.broker []) (sym (ap (find (λ (p : Publisher). bytes_eq p.client c)) new.publishers)) refl;
+    him = subst (Him (0 ∷ []) w.broker []) (sym none) refl;
   };
 }
+  where
+    none : publisher_named c w ≡ None
+    none = ap (find (λ (p : Publisher). bytes_eq p.client c)) new.publishers
 
-pub fair_run_stays : (limits : Limits) (ts : List Turn) (w : World) → IsNew limits w → IsFair limits ts w → (c : List ℕ) → Stays c limits (accepted_over c limits ts w) (run limits ts w)
+    nobody : is_some (publisher_named c w) ≡ true → ⊥
+    nobody there = let clash : true ≡ false = sym there ∙ ap is_some none in absurd cc
+
+pub fair_run_stays : (limits : Limits) (ts : List Turn) (w : World) → IsNew w → IsFair limits ts w → (c : List ℕ) → Stays c limits (accepted_over c limits ts w) (run limits ts w)
 fair_run_stays limits ts w new fair c = run_stays ts c limits [] w (new_stays c limits w fair.within new) fair.unspent fair.clean
 
 -- ---- what it says of his messages
@@ -139,21 +146,21 @@ once_by n his b accepted None none =
 once_by n his b accepted (Some p) h =
     (at_most_once accepted p b h.run n, once_completed accepted p b h.run n, none_refused accepted p b h.run n, none_unsent accepted p b h.run n, some_acknowledged accepted p b h.run n)
 
-pub accepts_once : (limits : Limits) (ts : List Turn) (w : World) → IsNew limits w → IsFair limits ts w → (c : List ℕ) (n : ℕ) → IsAcceptedOnce c n limits ts w
+pub accepts_once : (limits : Limits) (ts : List Turn) (w : World) → IsNew w → IsFair limits ts w → (c : List ℕ) (n : ℕ) → IsAcceptedOnce c n limits ts w
 accepts_once limits ts w new fair c n =
     let s = fair_run_stays limits ts w new fair c in
     let x = once_by n s.his (run limits ts w).broker (accepted_over c limits ts w) (publisher_named c (run limits ts w)) s.holds.him in
     record { once = x.0; complete = x.1; refusal = x.2; unsent = x.3; acknowledged = x.4 }
 
-pub few_open : (limits : Limits) (ts : List Turn) (w : World) → IsNew limits w → IsFair limits ts w → FewOpen (run limits ts w).broker.records
+pub few_open : (limits : Limits) (ts : List Turn) (w : World) → IsNew w → IsFair limits ts w → FewOpen (run limits ts w).broker.records
 few_open limits ts w new fair =
     let s = fair_run_stays limits ts w new fair [] in
     all_turned HasTables HasFewOpen (run limits ts w).broker.records.sessions (λ x h. h.inbound.within) s.holds.around.steady.coherent.ordered.each
 
 -- ---- how a world may begin
 
-pub start_new : (limits : Limits) → IsNew limits start
-start_new limits = record { steady = steady_start limits; publishers = refl; receivers = refl; strangers = refl }
+pub start_new : IsNew start
+start_new = record { steady = steady_start; publishers = refl; receivers = refl; strangers = refl }
 
-pub opened_new : (limits : Limits) (choice : MemberChoice) (now : ℕ) (r : Records) → AreWithin limits → MayOpen limits choice now r → IsNew limits (opened_world limits choice now r)
+pub opened_new : (limits : Limits) (choice : MemberChoice) (now : ℕ) (r : Records) → AreWithin limits → MayOpen limits choice now r → IsNew (opened_world limits choice now r)
 opened_new limits choice now r within may = record { steady = steady_opened limits choice now r within may; publishers = refl; receivers = refl; strangers = refl }

@@ -60,6 +60,7 @@ with_strangers c limits his accepted w ss h a = record {
     receivers = h.around.receivers;
     strangers = a;
     alone = h.around.alone;
+    place = h.around.place;
   };
   him = h.him;
 }

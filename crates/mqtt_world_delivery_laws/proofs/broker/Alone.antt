@@ -22,7 +22,7 @@ carrying P limits k = record {
   open_again = λ choice now b s unspent h. k.reopened choice now b s unspent h;
 }
 
-pub event_keeps : (P : Broker → Type 0) (e : Event) (set : Setting) (w : World) → IsKept set.limits P → AreWithin set.limits → IsSteady set.limits w.broker
+pub event_keeps : (P : Broker → Type 0) (e : Event) (set : Setting) (w : World) → IsKept set.limits P → AreWithin set.limits → IsSteady w.broker
     → is_bad e w ≡ false → read_in spending set e w ≡ false → P w.broker → P (happens set e w).broker
 event_keeps P e set w k within s good unspent h =
     let t : Turn = record { event = e; choice = set.choice } in
@@ -30,7 +30,7 @@ event_keeps P e set w k within s good unspent h =
     let goes = turn_goes (Carries P) set.limits (carrying P set.limits k) t w within s cheap in
     subst (λ (bad : Bool). P (cond bad w (happens set e w)).broker) good (goes.said h)
 
-pub run_keeps : (P : Broker → Type 0) (limits : Limits) (ts : List Turn) (w : World) → IsKept limits P → IsNew limits w → IsFair limits ts w
+pub run_keeps : (P : Broker → Type 0) (limits : Limits) (ts : List Turn) (w : World) → IsKept limits P → IsNew w → IsFair limits ts w
     → P w.broker → P (run limits ts w).broker
 run_keeps P limits ts w k new fair h = run_walks (Carries P) limits ts w (carrying P limits k) new fair h
 

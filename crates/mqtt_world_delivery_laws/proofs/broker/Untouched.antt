@@ -7,7 +7,7 @@ use Rattle.mqtt_world_model.specs.World.{start}
 use Rattle.mqtt_rules.proofs.numbers.Copies.{each_more}
 use Rattle.mqtt_rules.proofs.flight.FlightStep.{opening_keeps}
 use Rattle.mqtt_rules.specs.Flight.{HasDistinctIdentifiers}
-use Rattle.mqtt_rules.specs.Laws.{AreWithin, IsCoherentMessage, QueuesWithin}
+use Rattle.mqtt_rules.specs.Laws.{AreWithin, IsCoherentMessage}
 use Rattle.mqtt_rules.specs.State.{MemberChoice}
 use Rattle.mqtt_rules.specs.Step.{unopened}
 use Rattle.mqtt_rules.specs.declared.Limits.{Limits}
@@ -21,20 +21,19 @@ use Rattle.mqtt_world_delivery_laws.proofs.broker.Unused.{opening_unused}
 
 pub start_untouched : (limits : Limits) → AreWithin limits → IsUntouched limits start
 start_untouched limits within =
-    let new = start_new limits in
     record {
-      new = new;
-      tidy = record { ordered = new.steady.coherent.ordered; queues = tt; within = within.queue };
+      new = start_new;
+      tidy = record { ordered = start_new.steady.coherent.ordered; within = within.queue };
       distinct = tt;
       retained = tt;
       unused = tt;
     }
 
-pub opened_untouched : (limits : Limits) (choice : MemberChoice) (now : ℕ) (r : Records) → AreWithin limits → MayOpen limits choice now r → QueuesWithin limits.queue r → HasDistinctIdentifiers r → AreRetainedOnce r
+pub opened_untouched : (limits : Limits) (choice : MemberChoice) (now : ℕ) (r : Records) → AreWithin limits → MayOpen limits choice now r → HasDistinctIdentifiers r → AreRetainedOnce r
     → IsUntouched limits (opened_world limits choice now r)
-opened_untouched limits choice now r within may queues distinct once = record {
+opened_untouched limits choice now r within may distinct once = record {
   new = opened_new limits choice now r within may;
-  tidy = opening_tidy limits choice now (unopened now r) (record { ordered = may.coherent.ordered; queues = queues; within = within.queue });
+  tidy = opening_tidy limits choice now (unopened now r) (record { ordered = may.coherent.ordered; within = within.queue });
   distinct = opening_keeps limits choice now r distinct;
   retained = (opening_counted any_copy limits choice now (unopened now r) may.coherent.ordered (record {
     given = each_more (IsCoherentMessage r.publications) (λ k. k.publication ≤ r.publications) (λ k q. q.0) r.retained may.coherent.retained;

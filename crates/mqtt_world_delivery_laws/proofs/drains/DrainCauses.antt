@@ -48,8 +48,9 @@ use Rattle.mqtt_world_delivery_laws.specs.Untouched.{IsUntouched}
 use Rattle.mqtt_world_delivery_laws.proofs.drains.Drains.{MayBeDrained, connection_of, over_if}
 use Rattle.mqtt_world_delivery_laws.proofs.whole.EveryRun.{fair_run_kept, over_or_drained, takes_some}
 use Rattle.mqtt_world_delivery_laws.proofs.own.Fronts.{Awaits, calm_front, front}
-use Rattle.mqtt_world_delivery_laws.proofs.own.Greetings.{may_resume, spared_left, unused_next}
+use Rattle.mqtt_world_delivery_laws.proofs.own.Greetings.{may_renew, may_resume, spared_left}
 use Rattle.mqtt_world_delivery_laws.proofs.order.Growing.{begin_same}
+use Rattle.mqtt_world_delivery_laws.proofs.others.Around.{its_place}
 use Rattle.mqtt_world_delivery_laws.proofs.others.Like.{calm_up, closed_stands, connect_like, connected_linked, none_stands}
 use Rattle.mqtt_world_delivery_laws.proofs.others.Runs.{IsKept}
 use Rattle.mqtt_world_delivery_laws.proofs.others.Standings.{runs_so}
@@ -246,7 +247,7 @@ module _ (c : List ℕ) (limits : Limits) (choice : MemberChoice) (v : World) (k
         let m : MayRenew limits choice s.ids old.birth s.ns c r l old v = record {
           joining = j;
           in_step = k;
-          renewing = record { resuming = a; births = around.steady.coherent.births; unused = unused_next v.broker around.steady.lines around.steady.coherent.births; within = around.within.sessions; room = around.steady.room; some = placed.named.some };
+          renewing = may_renew limits r l old v.broker around.within around.steady (its_place c limits s.ns v r around e) placed.named a;
         } in
         let d = renewed_round (place_of s.ids) s.ids old.birth s.ns limits choice c x.after r l old v m x.run_is in
         let end = renewal_is_over s.ids old.birth s.ns limits choice c most r l old v placed.told.differ m over in

@@ -205,7 +205,7 @@ module _ (c : List ℕ) where
         subst (HasUpTo (most + adds ds)) (sym (done_sessions (rows_of_all ds first.records) (after_all ds first))) (deeds_upto most ds first good s.coherent.births h);
   }
 
-  run_grows : (limits : Limits) (ts : List Turn) (w : World) → AreWithin limits → IsSteady limits w.broker → run_spends limits ts w ≡ false → Grows (deeds_over limits ts w) w.broker (run limits ts w).broker
+  run_grows : (limits : Limits) (ts : List Turn) (w : World) → AreWithin limits → IsSteady w.broker → run_spends limits ts w ≡ false → Grows (deeds_over limits ts w) w.broker (run limits ts w).broker
   run_grows limits [] w within s unspent = λ most h. none_more most w.broker.records.sessions h
   run_grows limits (t ∷ ts) w within s unspent =
       let v = turned limits t w in
@@ -235,7 +235,7 @@ module _ (c : List ℕ) where
           let both = all_find (IsShort most) (λ (y : Session). bytes_eq y.client c) s r.sessions h e in
           both.0 ((bytes_eq-Decides s.client c).0 both.1)
 
-  pub queue_grows : (limits : Limits) (ts : List Turn) (w : World) → AreWithin limits → IsSteady limits w.broker → run_spends limits ts w ≡ false
+  pub queue_grows : (limits : Limits) (ts : List Turn) (w : World) → AreWithin limits → IsSteady w.broker → run_spends limits ts w ≡ false
       → copies_left c (run limits ts w) ≤ copies_left c w + length (filter_map entered_in (deeds_over limits ts w))
   queue_grows limits ts w within s unspent =
       at_end (copies_left c w + adds (deeds_over limits ts w)) (run limits ts w).broker.records (run_grows limits ts w within s unspent (copies_left c w) (at_start w.broker.records s.coherent))

@@ -8,6 +8,7 @@ use Rattle.mqtt_base.specs.declared.session.CopyId.{CopyId}
 use Rattle.mqtt_world_receiver_laws.specs.Served.{IsTidy}
 use Rattle.mqtt_world_model.specs.Ends.{Back, Publisher, Receiver, Sent}
 use Rattle.mqtt_world_model.specs.Lines.{Line, is_one_of}
+use Rattle.mqtt_world_model.specs.Seats.{HasPlace}
 use Rattle.mqtt_world_model.specs.World.{Stranger, World, publisher_named, receiver_named, with_publisher, with_receiver}
 use Rattle.mqtt_rules.specs.State.{Broker}
 use Rattle.mqtt_rules.specs.declared.Limits.{Limits}
@@ -78,13 +79,14 @@ changed_its c g w r same e =
 -- ---- all ends are changed, at whatever broker
 
 pub around_mapped : (c : List ℕ) (limits : Limits) (ns ms : List ℕ) (w : World) (b : Broker) (now : ℕ) (f : Publisher → Publisher) (g : Receiver → Receiver) (ss : List Stranger)
-    → IsAround c limits ns w → IsSteady limits b → IsTidy limits b → ((n : ℕ) → is_one_of (Some n) ms ≡ true → n ≤ b.given)
+    → IsAround c limits ns w → IsSteady b → (HasPlace limits c w.broker.records → HasPlace limits c b.records) → IsTidy limits b
+    → ((n : ℕ) → is_one_of (Some n) ms ≡ true → n ≤ b.given)
     → ((p : Publisher) → (f p).client ≡ p.client) → ((r : Receiver) → (g r).client ≡ r.client)
     → ((p : Publisher) → HasOthers ns w.broker.given p.line → HasOthers ms b.given (f p).line)
     → ((r : Receiver) → (r.client ≡ c) ⊎ HasOthers ns w.broker.given r.line → (r.client ≡ c) ⊎ HasOthers ms b.given (g r).line)
     → AllByRecursion (IsOtherStranger ms b.given) ss
     → IsAround c limits ms (record { broker = b; now = now; publishers = map f w.publishers; receivers = map g w.receivers; strangers = ss })
-around_mapped c limits ns ms w b now f g ss a steady tidy known f_same g_same f_others g_others strangers = record {
+around_mapped c limits ns ms w b now f g ss a steady keeps tidy known f_same g_same f_others g_others strangers = record {
   within = a.within;
   steady = steady;
   tidy = tidy;
@@ -92,15 +94,25 @@ around_mapped c limits ns ms w b now f g ss a steady tidy known f_same g_same f_
   publishers = all_mapped (IsOtherPublisher ns w.broker.given) (IsOtherPublisher ms b.given) f w.publishers f_others a.publishers;
   receivers = all_mapped (IsOtherReceiver c ns w.broker.given) (IsOtherReceiver c ms b.given) g w.receivers each a.receivers;
   strangers = strangers;
-  alone = λ h. find_publisher c f f_same w.publishers
-      ∙ ap (option_map f) (a.alone (sym (is_some_mapped g (receiver_named c w)) ∙ (sym (ap is_some (find_receiver c g g_same w.receivers)) ∙ h)));
+  alone = λ h. find_publisher c f f_same w.publishers ∙ ap (option_map f) (a.alone (before h));
+  place = λ h. keeps (a.place (before h));
 }
   where
+    -- it was there before
+    before : is_some (find (λ (r : Receiver). bytes_eq r.client c) (map g w.receivers)) ≡ true → is_some (receiver_named c w) ≡ true
+    before h = sym (is_some_mapped g (receiver_named c w)) ∙ (sym (ap is_some (find_receiver c g g_same w.receivers)) ∙ h)
+
     each : (r : Receiver) → IsOtherReceiver c ns w.broker.given r → IsOtherReceiver c ms b.given (g r)
     each r h = elim (g_others r h) [
       | inl is ↦ inl (g_same r ∙ is)
       | inr others ↦ inr others
     ]
+
+-- ---- a receiver's session has a place
+
+-- by the receiver's own name
+pub its_place : (c : List ℕ) (limits : Limits) (ns : List ℕ) (w : World) (r : Receiver) → IsAround c limits ns w → receiver_named c w ≡ Some r → HasPlace limits r.client w.broker.records
+its_place c limits ns w r a e = subst (λ (x : List ℕ). HasPlace limits x w.broker.records) (sym (named_receiver c r w e)) (a.place (ap is_some e))
 
 -- ---- one end is changed
 
@@ -119,7 +131,7 @@ pub end_around : (c d : List ℕ) (limits : Limits) (ns : List ℕ) (w : World) 
     → ((r : Receiver) → HasOthers ns w.broker.given r.line → HasOthers ns w.broker.given (g r).line)
     → IsAround c limits ns w → IsAround c limits ns (with_end d f g w)
 end_around c d limits ns w f g f_same g_same f_others g_others a =
-    around_mapped c limits ns ns w w.broker w.now (λ p. cond (bytes_eq p.client d) (f p) p) (λ r. cond (bytes_eq r.client d) (g r) r) w.strangers a a.steady a.tidy a.known
+    around_mapped c limits ns ns w w.broker w.now (λ p. cond (bytes_eq p.client d) (f p) p) (λ r. cond (bytes_eq r.client d) (g r) r) w.strangers a a.steady (λ h. h) a.tidy a.known
     (λ p. only_client (bytes_eq p.client d) f p (f_same p)) (λ r. only_receiver (bytes_eq r.client d) g r (g_same r))
     (λ p h. publisher_other (bytes_eq p.client d) p h) (λ r h. receiver_other (bytes_eq r.client d) r h) a.strangers
   where
@@ -163,8 +175,12 @@ own_around c limits ns w f g f_same g_same none a = record {
   receivers = all_mapped (IsOtherReceiver c ns w.broker.given) (IsOtherReceiver c ns w.broker.given) (λ r. cond (bytes_eq r.client c) (g r) r) w.receivers (λ r h. by (bytes_eq r.client c) r refl h) a.receivers;
   strangers = a.strangers;
   alone = λ h. find_publisher c (λ p. cond (bytes_eq p.client c) (f p) p) (λ p. only_client (bytes_eq p.client c) f p (f_same p)) w.publishers ∙ ap (option_map (λ p. cond (bytes_eq p.client c) (f p) p)) none;
+  place = λ h. a.place (sym (is_some_mapped G (receiver_named c w)) ∙ (sym (ap is_some (find_receiver c G (λ r. only_receiver (bytes_eq r.client c) g r (g_same r)) w.receivers)) ∙ h));
 }
   where
+    G : Receiver → Receiver
+    G r = cond (bytes_eq r.client c) (g r) r
+
     by : (t : Bool) (r : Receiver) → bytes_eq r.client c ≡ t → IsOtherReceiver c ns w.broker.given r → IsOtherReceiver c ns w.broker.given (cond t (g r) r)
     by true r its h = inl (g_same r ∙ (bytes_eq-Decides r.client c).0 its)
     by false r other h = h

@@ -15,6 +15,7 @@ use Rattle.mqtt_world_model.specs.Run.{begins_clean, is_asked, is_clean}
 use Rattle.mqtt_world_model.specs.Seats.{IsNamed, Present, Seat, absent, closed, joined, over, waiting}
 use Rattle.mqtt_world_model.specs.Seen.{is_linked}
 use Rattle.mqtt_world_model.specs.World.{Setting, World, asks_wish, clock, give_up, happens, is_bad, is_bad_name, is_end, is_open_line, is_window, is_wish, link_by, may_ask, may_ask_on, publish, publisher, publisher_named, receiver, receiver_named, subscribe, to_end, with_receiver}
+use Rattle.mqtt_world_model.proofs.seats.Places.{no_place_asked}
 use Rattle.mqtt_world_model.proofs.seats.Seats.{idle_linked}
 use Rattle.mqtt_records.specs.Session.{auto}
 use Rattle.mqtt_records_rows.specs.Distinct.{AllDiffer}
@@ -69,6 +70,7 @@ publisher_comes c d largest set ids ns w h good =
               absurd cc
           | inr other ↦ find_no_more (λ (p : Publisher). bytes_eq p.client c) (new_publisher d) w.publishers other ∙ h.around.alone there
         ];
+        place = h.around.place;
       };
       seen = h.seen;
     }
@@ -108,6 +110,10 @@ receiver_comes c d largest window set ids ns w h good clean = record {
     alone = λ there. elim (cases_Bool (bytes_eq d c)) [
       | inl its ↦ ap (λ (x : List ℕ). publisher_named x w) (sym ((bytes_eq-Decides d c).0 its)) ∙ not_some (publisher_named d w) ends.0
       | inr other ↦ h.around.alone (sym (ap is_some (find_no_more (λ (r : Receiver). bytes_eq r.client c) new w.receivers other)) ∙ there)
+    ];
+    place = λ there. elim (cases_Bool (bytes_eq d c)) [
+      | inl its ↦ no_place_asked set.limits c w.broker.records (subst (λ (x : List ℕ). session_named x w.broker.records ≡ None) ((bytes_eq-Decides d c).0 its) (is_nothing (session_named d w.broker.records) clean))
+      | inr other ↦ h.around.place (sym (ap is_some (find_no_more (λ (r : Receiver). bytes_eq r.client c) new w.receivers other)) ∙ there)
     ];
   };
   seen = elim (cases_Bool (bytes_eq d c)) [
@@ -214,6 +220,7 @@ published_stands c d x largest set ids ns w h = record {
     strangers = h.around.strangers;
     alone = λ there. find_publisher c (λ p. cond (bytes_eq p.client d) (F p) p) (λ p. only_client (bytes_eq p.client d) F p ((published_remains (is_open_line p.line w) x p).client)) w.publishers
         ∙ ap (option_map (λ p. cond (bytes_eq p.client d) (F p) p)) (h.around.alone there);
+    place = h.around.place;
   };
   seen = h.seen;
 }
@@ -247,8 +254,8 @@ subscribed_stands c d x largest set ids ns w h good = record {
     publishers = h.around.publishers;
     receivers = all_mapped (IsOtherReceiver c ns w.broker.given) (IsOtherReceiver c ns w.broker.given) (λ r. cond (bytes_eq r.client d) (G r) r) w.receivers (λ r. other (bytes_eq r.client d) r) h.around.receivers;
     strangers = h.around.strangers;
-    alone = λ there. h.around.alone (sym (is_some_mapped (λ r. cond (bytes_eq r.client d) (G r) r) (receiver_named c w))
-        ∙ (sym (ap is_some (find_receiver c (λ r. cond (bytes_eq r.client d) (G r) r) (λ r. only_receiver (bytes_eq r.client d) G r refl) w.receivers)) ∙ there));
+    alone = λ there. h.around.alone (before there);
+    place = λ there. h.around.place (before there);
   };
   seen = elim (whose_name c d w) [
     | inr not_its ↦ subst (IsSeen largest ids ns w.broker) (sym (changed_not c d G w (λ r. refl) not_its)) h.seen
@@ -266,6 +273,10 @@ subscribed_stands c d x largest set ids ns w h good = record {
   where
     G : Receiver → Receiver
     G r = asks_wish (is_open_line r.line w) x r
+
+    before : is_some (receiver_named c (happens set (subscribe d x) w)) ≡ true → is_some (receiver_named c w) ≡ true
+    before there = sym (is_some_mapped (λ r. cond (bytes_eq r.client d) (G r) r) (receiver_named c w))
+        ∙ (sym (ap is_some (find_receiver c (λ r. cond (bytes_eq r.client d) (G r) r) (λ r. only_receiver (bytes_eq r.client d) G r refl) w.receivers)) ∙ there)
 
     other : (t : Bool) (r : Receiver) → IsOtherReceiver c ns w.broker.given r → IsOtherReceiver c ns w.broker.given (cond t (G r) r)
     other true r (inl is) = inl is
@@ -344,6 +355,7 @@ clock_stands c wait largest set ids ns w h = record {
     receivers = h.around.receivers;
     strangers = h.around.strangers;
     alone = h.around.alone;
+    place = h.around.place;
   };
   seen = h.seen;
 }

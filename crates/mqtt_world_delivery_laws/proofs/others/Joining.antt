@@ -10,6 +10,7 @@ use Rattle.mqtt_world_model.specs.Ends.{Back, Publisher, Receiver, Sent, answers
 use Rattle.mqtt_world_model.specs.Lines.{Line, is_one_of, joined}
 use Rattle.mqtt_world_model.specs.Run.{begins_clean, is_clean}
 use Rattle.mqtt_world_model.specs.World.{Setting, World, calls, connect_end, happens, is_away, is_bad, link_by, links, publisher_told, receiver_named, receiver_told}
+use Rattle.mqtt_world_model.proofs.seats.Places.{step_place}
 use Rattle.mqtt_rules.proofs.numbers.NumberSteps.{step_fell}
 use Rattle.mqtt_rules.specs.State.{Broker}
 use Rattle.mqtt_rules.specs.Step.{NewLine, can_link, stepped, told}
@@ -114,7 +115,8 @@ module _ (first : List CopyId) (c d : List ℕ) (clean : Bool) (largest : ℕ) (
   its_around ns a =
       let out = told set.limits set.choice w.now NewLine w.broker in
       around_mapped c set.limits ns (next ∷ ns) w new w.now (publisher_told new out) (receiver_told new out) w.strangers a
-      (steady_step set.limits set.choice w.now NewLine w.broker a.within a.steady (linking_spends_none set.limits set.choice w.now w.broker)) (step_tidy set.limits set.choice w.now NewLine w.broker a.tidy)
+      (steady_step set.limits set.choice w.now NewLine w.broker a.within a.steady (linking_spends_none set.limits set.choice w.now w.broker)) (step_place set.limits set.choice w.now NewLine c w.broker)
+      (step_tidy set.limits set.choice w.now NewLine w.broker a.tidy)
       known (λ p. refl) (λ r. refl)
       (λ p h. lines_of_others ns p.line (publisher_told new out p).line refl refl h)
       (λ r h. each r h)

@@ -142,7 +142,7 @@ idle_lost : (o : Option ℕ) (largest : ℕ) (ids : List CopyId) (ns : List ℕ)
 idle_lost None largest ids ns limits choice now n r b along idle = idle_loss_awaiting largest ids ns limits choice now n r b along idle
 idle_lost (Some birth) largest ids ns limits choice now n r b along idle = idle_loss_in_step largest ids birth ns limits choice now n r b along idle
 
-lost_along : (o : Option ℕ) (largest : ℕ) (ids : List CopyId) (ns : List ℕ) (limits : Limits) (choice : MemberChoice) (now n k : ℕ) (r : Receiver) (b : Broker) → GoesAlong o largest ids ns r b → IsSteady limits b
+lost_along : (o : Option ℕ) (largest : ℕ) (ids : List CopyId) (ns : List ℕ) (limits : Limits) (choice : MemberChoice) (now n k : ℕ) (r : Receiver) (b : Broker) → GoesAlong o largest ids ns r b → IsSteady b
     → r.line.number ≡ Some n → IsApart r.line.number r.line.old_number → Present o k (line_like r.line) b → GoesAlong o largest ids ns (receiver_lost limits choice now n r b) (stepped limits choice now (Lost n) b)
 lost_along o largest ids ns limits choice now n k r b along steady is apart (absent none up) = let clash : None ≡ Some n = sym none ∙ is in absurd cc
 lost_along o largest ids ns limits choice now n k r b along steady is apart (closed m at up idle none) =
@@ -161,7 +161,7 @@ lost_along o largest ids ns limits choice now n k r b along steady is apart (joi
     subst (λ (z : Option ℕ). GoesAlong z largest ids ns (receiver_lost limits choice now n r b) (stepped limits choice now (Lost n) b)) (sym own)
     (subst (λ (z : ℕ). IsInStep largest ids birth ns (receiver_lost limits choice now z r b) (stepped limits choice now (Lost z) b)) (x.3 ∙ same) lost)
 
-pub lost_placed : (largest : ℕ) (ids : List CopyId) (ns : List ℕ) (limits : Limits) (choice : MemberChoice) (now n : ℕ) (r : Receiver) (b : Broker) → IsPlaced largest ids ns r b → IsSteady limits b → r.line.number ≡ Some n
+pub lost_placed : (largest : ℕ) (ids : List CopyId) (ns : List ℕ) (limits : Limits) (choice : MemberChoice) (now n : ℕ) (r : Receiver) (b : Broker) → IsPlaced largest ids ns r b → IsSteady b → r.line.number ≡ Some n
     → IsPlaced largest ids ns (receiver_lost limits choice now n r b) (stepped limits choice now (Lost n) b)
 lost_placed largest ids ns limits choice now n r b placed steady is =
     let x = loses limits choice now n placed.birth placed.line (publisher_like r) b [] placed.seat placed.named placed.apart is in

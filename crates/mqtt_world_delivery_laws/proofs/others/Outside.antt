@@ -11,6 +11,7 @@ use Rattle.mqtt_world_model.specs.Run.{read_if}
 use Rattle.mqtt_world_model.specs.Seats.{IsElsewhere, IsHis, IsNamed, IsOff, Seat}
 use Rattle.mqtt_world_model.specs.World.{Setting, World, calls, calls_if, publisher_told, receiver_named, receiver_told}
 use Rattle.mqtt_records_rows.specs.Distinct.{AllDiffer}
+use Rattle.mqtt_world_model.proofs.seats.Places.{step_place}
 use Rattle.mqtt_rules.proofs.numbers.NumberSteps.{step_fell}
 use Rattle.mqtt_rules.specs.Numbers.{NoneFell}
 use Rattle.mqtt_rules.specs.State.{Broker, MemberChoice}
@@ -173,7 +174,7 @@ calls_around c set ns call w a unspent =
     let out = told set.limits set.choice w.now call w.broker in
     let up = given_grows set.limits set.choice w.now call w.broker in
     around_mapped c set.limits ns ns w b w.now (publisher_told b out) (receiver_told b out) w.strangers a
-    (steady_step set.limits set.choice w.now call w.broker a.within a.steady unspent) (step_tidy set.limits set.choice w.now call w.broker a.tidy)
+    (steady_step set.limits set.choice w.now call w.broker a.within a.steady unspent) (step_place set.limits set.choice w.now call c w.broker) (step_tidy set.limits set.choice w.now call w.broker a.tidy)
     (λ n inside. let le = a.known n inside in omega (arith, le, up)) (λ p. refl) (λ r. refl)
     (λ p h. let f = others_later ns w.broker.given b.given p.line up h in record { number = f.number; old_number = f.old_number })
     (λ r h. each b.given up r h)

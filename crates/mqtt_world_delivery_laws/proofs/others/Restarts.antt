@@ -10,6 +10,7 @@ use Rattle.mqtt_world_model.specs.Lines.{Line}
 use Rattle.mqtt_world_model.specs.Run.{read_opening}
 use Rattle.mqtt_world_model.specs.Seats.{IsHis, absent, over}
 use Rattle.mqtt_world_model.specs.World.{Asking, Setting, Stranger, World, before, break, happens, old_to_broker, publisher_restarted, pump, receiver_named, receiver_restarted, restart, restarts, stop_before, stranger, taken_old, taken_up, tick, to_broker, unlinked, with_line}
+use Rattle.mqtt_world_model.proofs.seats.Places.{opening_place}
 use Rattle.mqtt_world_model.proofs.connects.Restarts.{restart_is_hop, restart_owns}
 use Rattle.mqtt_world_model.proofs.seats.Seats.{kept_of}
 use Rattle.mqtt_rules.proofs.numbers.NumberSteps.{opening_fell}
@@ -130,7 +131,7 @@ restart_stands first c largest set w h unspent = by (receiver_named c w) h.seen 
 
     around : IsAround c set.limits [] (restarts set w)
     around = around_mapped c set.limits h.ns [] w new w.now publisher_restarted receiver_restarted (map unlinked w.strangers) h.around
-        (steady_again set.limits set.choice w.now w.broker h.around.within h.around.steady unspent) (opening_tidy set.limits set.choice w.now w.broker h.around.tidy)
+        (steady_again set.limits set.choice w.now w.broker h.around.within h.around.steady unspent) (opening_place set.limits set.choice w.now c w.broker.records) (opening_tidy set.limits set.choice w.now w.broker h.around.tidy)
         (λ n inside. absurd cc) (λ p. refl) (λ r. refl)
         (λ p x. unlined [] new.given (publisher_restarted p).line refl refl) (λ r x. inr (unlined [] new.given (receiver_restarted r).line refl refl))
         (all_mapped (λ (s : Stranger). ⊤) (IsOtherStranger [] new.given) unlinked w.strangers (λ s x. λ n is. absurd cc) (anything w.strangers))

@@ -1,6 +1,6 @@
 -- In a new world each receiver stands, since nobody has come; and where one stands, the law of its hop holds of what it has
 -- read (MQTT 5.0, 4.3.2, 4.3.3, 4.6).
-use Rattle.std.proofs.Common.{◌≡◌, ℕ, ◌≤◌, true, List, [], Option, Some, None, bytes_eq, refl, sym, ap, subst}
+use Rattle.std.proofs.Common.{◌≡◌, ℕ, ◌≤◌, true, List, [], Option, Some, None, bytes_eq, refl, sym, ap, subst, false, ◌∙◌}
 use Rattle.std.specs.Prelude.{All, find, is_some}
 use Rattle.std.specs.List.{AllByRecursion}
 use Rattle.mqtt_base.specs.declared.session.CopyId.{CopyId}
@@ -19,7 +19,7 @@ use Rattle.mqtt_world_receiver_laws.proofs.queue.Numbers.{place_of, places_numbe
 use Rattle.mqtt_records_rows.specs.Distinct.{AllDiffer}
 use Rattle.mqtt_rules.specs.State.{Broker}
 
-pub new_stands : (c : List ℕ) (largest : ℕ) (limits : Limits) (w : World) → AreWithin limits → IsTidy limits w.broker → IsNew limits w → Stands [] c largest limits w
+pub new_stands : (c : List ℕ) (largest : ℕ) (limits : Limits) (w : World) → AreWithin limits → IsTidy limits w.broker → IsNew w → Stands [] c largest limits w
 new_stands c largest limits w within tidy new = record {
   ids = [];
   grown = ([], refl);
@@ -34,6 +34,7 @@ new_stands c largest limits w within tidy new = record {
       receivers = subst (AllByRecursion (IsOtherReceiver c [] w.broker.given)) (sym new.receivers) tt;
       strangers = subst (AllByRecursion (IsOtherStranger [] w.broker.given)) (sym new.strangers) tt;
       alone = λ there. nobody there;
+      place = λ there. absurd (no_one there);
     };
     seen = subst (IsSeen largest [] [] w.broker) (sym none) (refl, refl);
   };
@@ -44,6 +45,9 @@ new_stands c largest limits w within tidy new = record {
 
     nobody : is_some (receiver_named c w) ≡ true → publisher_named c w ≡ None
     nobody there = ap (find (λ (p : Publisher). bytes_eq p.client c)) new.publishers
+
+    no_one : is_some (receiver_named c w) ≡ true → ⊥
+    no_one there = let clash : true ≡ false = sym there ∙ ap is_some none in absurd cc
 
 -- ---- what it has read
 

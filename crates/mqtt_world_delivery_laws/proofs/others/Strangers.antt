@@ -67,6 +67,7 @@ with_strangers first c largest limits w ss s a =
           receivers = h.around.receivers;
           strangers = a;
           alone = h.around.alone;
+          place = h.around.place;
         };
         seen = h.seen;
       };

@@ -1,7 +1,7 @@
 -- What is known of lines and sessions as the broker reads a receiver's CONNECT, on whichever of its lines, and whose they are after
 -- it (MQTT 5.0, 3.1.2, 3.1.4).
 use Rattle.std.proofs.Common.{◌≡◌, ℕ, suc, Bool, true, false, List, [], ◌∷◌, map, Option, Some, None, nat_eq, refl, sym, ap, subst, ◌∙◌, inl, inr}
-use Rattle.std.specs.Prelude.{filter_map, find, option_map}
+use Rattle.std.specs.Prelude.{filter_map, find, is_some, option_map}
 use Rattle.std.specs.List.{AllByRecursion}
 use Rattle.std.proofs.lemmas.Bool.{cases_Bool, eqb-true}
 use Rattle.std.proofs.lemmas.Cmp.{nat_eq_equiv}
@@ -10,9 +10,10 @@ use Rattle.mqtt_flow.specs.Receiver.{connect, puback, pubcomp, pubrec, spared}
 use Rattle.mqtt_world_model.specs.Ends.{Back, Receiver, answers, asks_for}
 use Rattle.mqtt_world_model.specs.Hops.{IsIts, IsInOrder, IsKept, IsNoConnect, IsOurLine, IsOurs, Own, lines_left}
 use Rattle.mqtt_world_model.specs.Lines.{is_one_of, unless_closed}
-use Rattle.mqtt_world_model.specs.Seats.{Former, IsNamed, Present, absent, closed, joined, late, lingers, over, waiting}
+use Rattle.mqtt_world_model.specs.Seats.{Former, HasPlace, IsNamed, Present, absent, closed, joined, late, lingers, over, waiting}
 use Rattle.mqtt_world_model.specs.Seen.{is_linked}
 use Rattle.mqtt_world_model.proofs.others.Lists.{all_find}
+use Rattle.mqtt_world_model.proofs.others.Names.{named_is}
 use Rattle.mqtt_world_model.proofs.own.OwnCalls.{left_idle, left_own, taken_of}
 use Rattle.mqtt_world_model.proofs.seats.Owned.{NoneKeptAlive, found_alone, owned}
 use Rattle.mqtt_world_model.proofs.others.Rows.{face, face_at}
@@ -30,7 +31,7 @@ use Rattle.mqtt_rules.specs.Numbers.{HasGivenBirths}
 use Rattle.mqtt_rules.specs.State.{Line as BrokerLine, Broker, is_of, line_at, line_of, session_at, session_named}
 use Rattle.mqtt_rules.specs.declared.Limits.{Limits}
 use Rattle.mqtt_world_acceptance_laws.specs.Fair.{IsSteady}
-use Rattle.mqtt_world_receiver_laws.specs.Calls.{IsBeginning, IsOnlyAt, IsResuming, IsUnused}
+use Rattle.mqtt_world_receiver_laws.specs.Calls.{IsBeginning, IsOnlyAt, IsRenewing, IsResuming, IsUnused}
 use Rattle.mqtt_world_receiver_laws.specs.Own.{IsInStep}
 use Rattle.mqtt_world_receiver_laws.specs.Seen.{answered}
 use Rattle.mqtt_world_receiver_laws.proofs.connects.Greetings.{HasGreeted}
@@ -167,7 +168,7 @@ spared_none k r b (lingers birth of is calm there) = absurd cc
 
 -- ---- what the broker may make of the CONNECT, on whichever line it comes
 
-pub may_begin : (limits : Limits) (r : Receiver) (l : BrokerLine) (b : Broker) → AreWithin limits → IsSteady limits b → HaveSentNothing b → IsNamed r.client → Awaits r.line.number l b → session_named r.client b.records ≡ None
+pub may_begin : (limits : Limits) (r : Receiver) (l : BrokerLine) (b : Broker) → AreWithin limits → IsSteady b → HaveSentNothing b → IsNamed r.client → Awaits r.line.number l b → session_named r.client b.records ≡ None
     → filter_map answered r.line.old ≡ spared (filter_map answered r.line.old) → IsBeginning limits r l b
 may_begin limits r l b within steady unsent named here none old = record {
   number = here.number;
@@ -182,6 +183,17 @@ may_begin limits r l b within steady unsent named here none old = record {
   short = named.short;
   plain = named.plain;
   old = old;
+}
+
+-- its session has a place, so another may begin instead of it
+pub may_renew : (limits : Limits) (r : Receiver) (l : BrokerLine) (s : Session) (b : Broker) → AreWithin limits → IsSteady b → HasPlace limits r.client b.records → IsNamed r.client → IsResuming r l s b → IsRenewing limits r l s b
+may_renew limits r l s b within steady place named a = record {
+  resuming = a;
+  births = steady.coherent.births;
+  unused = unused_next b steady.lines steady.coherent.births;
+  within = within.sessions;
+  room = place (ap is_some (named_is r.client s.birth b.records s a.kept.only a.kept.session a.kept.name));
+  some = named.some;
 }
 
 pub may_resume : (k : ℕ) (r : Receiver) (l : BrokerLine) (s : Session) (b : Broker) → HaveSentNothing b → Awaits r.line.number l b → IsKept r.client s b → Own r.client s.birth k b

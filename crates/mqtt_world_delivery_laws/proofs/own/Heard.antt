@@ -90,7 +90,7 @@ module _ (largest : ℕ) (ids : List CopyId) (ns : List ℕ) (limits : Limits) (
   seat_here : Seat (Some birth) placed.line (publisher_like r) b
   seat_here = subst (λ (z : Option ℕ). Seat z placed.line (publisher_like r) b) own placed.seat
 
-  pub hears : IsSteady limits b → r.line.number ≡ Some placed.line → Hears largest ids ns birth placed.line r r b
+  pub hears : IsSteady b → r.line.number ≡ Some placed.line → Hears largest ids ns birth placed.line r r b
   hears steady at =
       let y = line_of_on placed.line (Some birth) b there in
       record {
@@ -101,7 +101,7 @@ module _ (largest : ℕ) (ids : List CopyId) (ns : List ℕ) (limits : Limits) (
         listens = listens_in_step largest ids birth ns placed.line birth r y.0 b step_here steady.lines steady.coherent.ordered at y.1 y.2 (not_among r.line.old_number placed.line (λ e. placed.apart placed.line at e));
       }
 
-  pub hears_there : IsSteady limits b → r.line.old_number ≡ Some placed.line → Hears largest ids ns birth placed.line r (turned_back r) b
+  pub hears_there : IsSteady b → r.line.old_number ≡ Some placed.line → Hears largest ids ns birth placed.line r (turned_back r) b
   hears_there steady at =
       let y = line_of_on placed.line (Some birth) b there in
       record {

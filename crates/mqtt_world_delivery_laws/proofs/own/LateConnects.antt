@@ -25,7 +25,7 @@ use Rattle.mqtt_rules.specs.Step.{Call, Input, Outcome, at_moment, deeds, told}
 use Rattle.mqtt_rules.specs.declared.Limits.{Limits}
 use Rattle.mqtt_world_acceptance_laws.specs.Fair.{IsSteady}
 use Rattle.mqtt_world_acceptance_laws.specs.Spending.{spending}
-use Rattle.mqtt_world_acceptance_laws.proofs.copies.Steady.{given_grows, sound_of}
+use Rattle.mqtt_world_acceptance_laws.proofs.copies.Steady.{given_grows, order_of}
 use Rattle.mqtt_world_receiver_laws.specs.Calls.{IsBeginning, IsLate, IsResuming, reads_old_answer}
 use Rattle.mqtt_world_receiver_laws.specs.Handing.{after_answer}
 use Rattle.mqtt_world_receiver_laws.specs.Late.{left_alone}
@@ -49,7 +49,7 @@ use Rattle.mqtt_world_delivery_laws.proofs.own.Reading.{first_read_there}
 -- ---- the receiver after it
 
 module _ (largest : ℕ) (ids : List CopyId) (ns : List ℕ) (limits : Limits) (choice : MemberChoice) (now : ℕ) (r : Receiver) (l : BrokerLine) (b : Broker) (placed : IsPlaced largest ids ns r b)
-    (within : AreWithin limits) (steady : IsSteady limits b) (order : IsInOrder (after_answer limits choice now l.number (connect false) r b)) (unused : HaveSentNothing b)
+    (within : AreWithin limits) (steady : IsSteady b) (order : IsInOrder (after_answer limits choice now l.number (connect false) r b)) (unused : HaveSentNothing b)
     (here : Awaits r.line.old_number l b) (old : r.line.old ≡ answers (connect false) ∷ []) where
   abbrev call : Call
   call = Input l.number (wire_back r.client r.window (answers (connect false)))
@@ -164,7 +164,7 @@ old_connected_stands first c clean rest largest set r w s e unused old unspent =
       let alone_is : r.line.old ≡ answers (connect false) ∷ [] = old ∙ (ap (λ (x : Back). x ∷ rest) h.packet ∙ ap (λ (xs : List Back). answers (connect false) ∷ xs) h.alone) in
       first_read_there first c (answers (connect false)) [] largest set r w s e l.number h.awaits.number alone_is
       (λ after_. goes_as largest s.ids s.ns _ _ (late_placed largest s.ids s.ns set.limits set.choice w.now r l w.broker placed a.within a.steady
-      (sound_of set.limits (after_answer set.limits set.choice w.now l.number (connect false) r w.broker) a.within after_).order unused h.awaits alone_is)) unspent
+      (order_of (after_answer set.limits set.choice w.now l.number (connect false) r w.broker) after_) unused h.awaits alone_is)) unspent
 ]
   where
     placed : IsPlaced largest s.ids s.ns r w.broker

@@ -37,7 +37,7 @@ module _ (largest : ℕ) (ids : List CopyId) (ns : List ℕ) (limits : Limits) (
   read_step (pubrec i code) birth k none up = old_pubrec_in_step largest ids birth ns limits choice now i code rest r l s b k a up
   read_step (pubcomp i code) birth k none up = old_pubcomp_in_step largest ids birth ns limits choice now i code rest r l s b k a up
 
-read_placed : (largest : ℕ) (ids : List CopyId) (ns : List ℕ) (limits : Limits) (choice : MemberChoice) (now : ℕ) (x : Answer) (rest : List Back) (r : Receiver) (b : Broker) (placed : IsPlaced largest ids ns r b) → IsSteady limits b
+read_placed : (largest : ℕ) (ids : List CopyId) (ns : List ℕ) (limits : Limits) (choice : MemberChoice) (now : ℕ) (x : Answer) (rest : List Back) (r : Receiver) (b : Broker) (placed : IsPlaced largest ids ns r b) → IsSteady b
     → IsJoined placed.birth placed.line r.line.old_number b → AllByRecursion IsNoConnect (map packet_like r.line.old) → HasNoConnect (x ∷ []) → r.line.old ≡ answers x ∷ rest
     → IsPlaced largest ids ns (reads_old_answer limits choice now placed.line x r b) (after_answer limits choice now placed.line x r b)
 read_placed largest ids ns limits choice now x rest r b placed steady j calm none up =

@@ -11,7 +11,7 @@ use Rattle.mqtt_world_model.specs.Ends.{Back, Receiver, answers, wire_back}
 use Rattle.mqtt_world_model.specs.Hops.{IsInOrder, Own, lines_left}
 use Rattle.mqtt_world_model.specs.Lines.{is_one_of, told_by, unless_closed}
 use Rattle.mqtt_world_model.specs.Run.{read_first}
-use Rattle.mqtt_world_model.specs.Seats.{Former, IsHis, IsIdle, closed, joined, over}
+use Rattle.mqtt_world_model.specs.Seats.{Former, HasPlace, IsHis, IsIdle, closed, joined, over}
 use Rattle.mqtt_world_model.specs.World.{Setting, World, asks, receiver_named, taken_up, to_broker}
 use Rattle.mqtt_world_model.proofs.connects.CleanConnects.{ended_by}
 use Rattle.mqtt_world_model.proofs.own.OwnCalls.{input_elsewhere, left_own}
@@ -30,7 +30,7 @@ use Rattle.mqtt_rules.specs.Step.{Call, Input, Outcome, deeds, stepped, told}
 use Rattle.mqtt_rules.specs.declared.Limits.{Limits}
 use Rattle.mqtt_world_acceptance_laws.specs.Fair.{IsSteady}
 use Rattle.mqtt_world_acceptance_laws.specs.Spending.{spending}
-use Rattle.mqtt_world_acceptance_laws.proofs.copies.Steady.{sound_of}
+use Rattle.mqtt_world_acceptance_laws.proofs.copies.Steady.{order_of}
 use Rattle.mqtt_world_receiver_laws.specs.Calls.{IsBeginning, IsRenewing, IsResuming}
 use Rattle.mqtt_world_receiver_laws.specs.Handing.{after_answer, reads_answer}
 use Rattle.mqtt_world_receiver_laws.specs.Own.{IsAwaiting, IsInStep}
@@ -43,10 +43,11 @@ use Rattle.mqtt_world_receiver_laws.proofs.connects.Renewing.{renewed_clears}
 use Rattle.mqtt_world_receiver_laws.proofs.connects.Resuming.{connect_makes, greeting}
 use Rattle.mqtt_world_delivery_laws.specs.Alone.{HaveSentNothing}
 use Rattle.mqtt_world_delivery_laws.specs.Standing.{GoesAlong, IsPlaced, IsSeen, Stands, line_like, packet_like}
+use Rattle.mqtt_world_delivery_laws.proofs.others.Around.{its_place}
 use Rattle.mqtt_world_delivery_laws.proofs.others.Comings.{run_of}
 use Rattle.mqtt_world_delivery_laws.proofs.own.Heard.{named_there, placed_with}
 use Rattle.mqtt_world_delivery_laws.proofs.own.Fronts.{Awaits, calm_front, front}
-use Rattle.mqtt_world_delivery_laws.proofs.own.Greetings.{greeted_owns, may_begin, may_resume, spared_left, spared_none, unused_next}
+use Rattle.mqtt_world_delivery_laws.proofs.own.Greetings.{greeted_owns, may_begin, may_renew, may_resume, spared_left, spared_none}
 use Rattle.mqtt_world_delivery_laws.proofs.others.Like.{calm_up, connected_linked, former_as}
 use Rattle.mqtt_world_delivery_laws.proofs.others.Outside.{goes_as, listed}
 use Rattle.mqtt_world_delivery_laws.proofs.own.Reading.{first_read}
@@ -125,11 +126,10 @@ module _ (largest : ℕ) (ids : List CopyId) (ns : List ℕ) (limits : Limits) (
       connected largest ids ns limits choice now true rest r l b placed a.number up (suc b.records.births) order (renewal_in_step largest ids s.birth ns limits choice now rest r l s b k m up) g
       (left_behind largest ids ns limits choice now true rest r l b placed a.number up (Some s.birth) (Some (suc b.records.births)) l.number former (shut _ closes))
 
-  stands_on : (clean : Bool) → AreWithin limits → IsSteady limits b → IsInStep largest ids s.birth ns r b → r.line.up ≡ answers (connect clean) ∷ rest → IsInOrder (after_answer limits choice now l.number (connect clean) r b)
+  stands_on : (clean : Bool) → AreWithin limits → IsSteady b → HasPlace limits r.client b.records → IsInStep largest ids s.birth ns r b → r.line.up ≡ answers (connect clean) ∷ rest → IsInOrder (after_answer limits choice now l.number (connect clean) r b)
       → IsPlaced largest ids ns (reads_answer limits choice now l.number (connect clean) r b) (after_answer limits choice now l.number (connect clean) r b)
-  stands_on false within steady k up order = resumed k up order
-  stands_on true within steady k up order =
-      renewed (record { resuming = a; births = steady.coherent.births; unused = unused_next b steady.lines steady.coherent.births; within = within.sessions; room = steady.room; some = placed.named.some }) k up order
+  stands_on false within steady place k up order = resumed k up order
+  stands_on true within steady place k up order = renewed (may_renew limits r l s b within steady place placed.named a) k up order
 
 -- ---- no session of its name stands: one begins, or there is no place for one
 
@@ -167,9 +167,9 @@ module _ (largest : ℕ) (ids : List CopyId) (ns : List ℕ) (limits : Limits) (
 -- ---- whatever becomes of it
 
 read_placed : (largest : ℕ) (ids : List CopyId) (ns : List ℕ) (limits : Limits) (choice : MemberChoice) (now : ℕ) (clean : Bool) (rest : List Back) (r : Receiver) (l : BrokerLine) (b : Broker) → IsPlaced largest ids ns r b
-    → AreWithin limits → IsSteady limits b → HaveSentNothing b → Awaits r.line.number l b → r.line.up ≡ answers (connect clean) ∷ rest → IsInOrder (after_answer limits choice now l.number (connect clean) r b)
+    → AreWithin limits → IsSteady b → HasPlace limits r.client b.records → HaveSentNothing b → Awaits r.line.number l b → r.line.up ≡ answers (connect clean) ∷ rest → IsInOrder (after_answer limits choice now l.number (connect clean) r b)
     → IsPlaced largest ids ns (reads_answer limits choice now l.number (connect clean) r b) (after_answer limits choice now l.number (connect clean) r b)
-read_placed largest ids ns limits choice now clean rest r l b placed within steady unsent here up order = by placed.birth placed.along placed.seat.his placed.seat.former
+read_placed largest ids ns limits choice now clean rest r l b placed within steady place unsent here up order = by placed.birth placed.along placed.seat.his placed.seat.former
   where
     by : (o : Option ℕ) → GoesAlong o largest ids ns r b → IsHis r.client o placed.line b → Former o placed.line (line_like r.line) b
         → IsPlaced largest ids ns (reads_answer limits choice now l.number (connect clean) r b) (after_answer limits choice now l.number (connect clean) r b)
@@ -186,7 +186,7 @@ read_placed largest ids ns limits choice now clean rest r l b placed within stea
         let behind : Former (Some s.birth) placed.line (line_like r.line) b = subst (λ (z : ℕ). Former (Some z) placed.line (line_like r.line) b) (sym x.1) former in
         let k : IsInStep largest ids s.birth ns r b = subst (λ (z : ℕ). IsInStep largest ids z ns r b) (sym x.1) along in
         let a : IsResuming r l s b = may_resume placed.line r l s b unsent here x.2 own (spared_left r.client s.birth placed.line r b own behind) in
-        stands_on largest ids ns limits choice now rest r l s b placed a own behind clean within steady k up order
+        stands_on largest ids ns limits choice now rest r l s b placed a own behind clean within steady place k up order
 
 -- ---- as an event
 
@@ -200,8 +200,8 @@ connected_stands first c clean rest largest set r w s e unsent up unspent = elim
       let l = h.1.line in
       let a = s.standing.around in
       first_read first c (answers (connect clean)) rest largest set r w s e l.number h.1.awaits.number up
-      (λ after_. goes_as largest s.ids s.ns _ _ (read_placed largest s.ids s.ns set.limits set.choice w.now clean rest r l w.broker placed a.within a.steady unsent h.1.awaits up
-      (sound_of set.limits (after_answer set.limits set.choice w.now l.number (connect clean) r w.broker) a.within after_).order)) unspent
+      (λ after_. goes_as largest s.ids s.ns _ _ (read_placed largest s.ids s.ns set.limits set.choice w.now clean rest r l w.broker placed a.within a.steady (its_place c set.limits s.ns w r a e) unsent h.1.awaits up
+      (order_of (after_answer set.limits set.choice w.now l.number (connect clean) r w.broker) after_))) unspent
 ]
   where
     placed : IsPlaced largest s.ids s.ns r w.broker

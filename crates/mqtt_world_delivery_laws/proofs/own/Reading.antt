@@ -26,7 +26,7 @@ module _ (first : List CopyId) (c : List ℕ) (x : Back) (rest : List Back) (lar
 
   -- a packet was taken off one of its lines, and the broker reads it
   taken_stands : (f : Line Sent → Line Sent) (g : Line Back → Line Back) (o : Option Call) → o ≡ Some call
-      → (IsSteady set.limits (stepped set.limits set.choice w.now call w.broker) → GoesFurther largest s.ids s.ns (receiver_called set.limits set.choice w.now call (on_back g r) w.broker) (stepped set.limits set.choice w.now call w.broker))
+      → (IsSteady (stepped set.limits set.choice w.now call w.broker) → GoesFurther largest s.ids s.ns (receiver_called set.limits set.choice w.now call (on_back g r) w.broker) (stepped set.limits set.choice w.now call w.broker))
       → read_if spending set o (with_line c f g w) ≡ false → Stands first c largest set.limits (calls_if set o (with_line c f g w))
   taken_stands f g o asked goes unspent =
       let w1 = with_line c f g w in
@@ -50,7 +50,7 @@ module _ (first : List CopyId) (c : List ℕ) (x : Back) (rest : List Back) (lar
 
   -- of its line
   pub first_read : r.line.number ≡ Some n → r.line.up ≡ x ∷ rest
-      → (IsSteady set.limits (stepped set.limits set.choice w.now call w.broker) → GoesFurther largest s.ids s.ns (receiver_after set.limits set.choice w.now call r w.broker) (stepped set.limits set.choice w.now call w.broker))
+      → (IsSteady (stepped set.limits set.choice w.now call w.broker) → GoesFurther largest s.ids s.ns (receiver_after set.limits set.choice w.now call r w.broker) (stepped set.limits set.choice w.now call w.broker))
       → read_first spending set (to_broker c) w ≡ false → Stands first c largest set.limits (asks set (to_broker c) w)
   first_read is up goes unspent =
       let asked : input_on (view_of c w).number (view_of c w).up ≡ Some call =
@@ -59,7 +59,7 @@ module _ (first : List CopyId) (c : List ℕ) (x : Back) (rest : List Back) (lar
 
   -- of the one that it gave up
   pub first_read_there : r.line.old_number ≡ Some n → r.line.old ≡ x ∷ rest
-      → (IsSteady set.limits (stepped set.limits set.choice w.now call w.broker)
+      → (IsSteady (stepped set.limits set.choice w.now call w.broker)
       → GoesFurther largest s.ids s.ns (receiver_called set.limits set.choice w.now call (record r { line = taken_old r.line }) w.broker) (stepped set.limits set.choice w.now call w.broker))
       → read_first spending set (old_to_broker c) w ≡ false → Stands first c largest set.limits (asks set (old_to_broker c) w)
   first_read_there is old goes unspent =

@@ -94,7 +94,7 @@ module _ (largest : ℕ) (ids : List CopyId) (ns : List ℕ) (limits : Limits) (
   read_owns (pubrec i code) birth n none own = answer_owns r.client birth n limits choice now (wire_back r.client r.window (answers (pubrec i code))) (rules.pubrec i code (queue_on l.went s)) r l s b a refl own
   read_owns (pubcomp i code) birth n none own = answer_owns r.client birth n limits choice now (wire_back r.client r.window (answers (pubcomp i code))) (rules.pubcomp i (queue_on l.went s)) r l s b a refl own
 
-read_placed : (largest : ℕ) (ids : List CopyId) (ns : List ℕ) (limits : Limits) (choice : MemberChoice) (now : ℕ) (x : Answer) (rest : List Back) (r : Receiver) (b : Broker) (placed : IsPlaced largest ids ns r b) → IsSteady limits b
+read_placed : (largest : ℕ) (ids : List CopyId) (ns : List ℕ) (limits : Limits) (choice : MemberChoice) (now : ℕ) (x : Answer) (rest : List Back) (r : Receiver) (b : Broker) (placed : IsPlaced largest ids ns r b) → IsSteady b
     → IsJoined placed.birth placed.line r.line.number b → HasNoConnect (x ∷ []) → r.line.up ≡ answers x ∷ rest
     → IsPlaced largest ids ns (reads_answer limits choice now placed.line x r b) (after_answer limits choice now placed.line x r b)
 read_placed largest ids ns limits choice now x rest r b placed steady j none up =

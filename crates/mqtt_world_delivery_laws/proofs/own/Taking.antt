@@ -450,8 +450,8 @@ turn_takes first c largest limits t w s h = by (is_bad t.event w) refl
 
 -- ---- at the beginning, and in the words of a look-up
 
-pub new_takes : (c : List ℕ) (limits : Limits) (w : World) → IsNew limits w → ItsLineTakes c w
-new_takes c limits w new = subst (λ (rs : List Receiver). EachTakes (named c rs) w.broker) (sym new.receivers) tt
+pub new_takes : (c : List ℕ) (w : World) → IsNew w → ItsLineTakes c w
+new_takes c w new = subst (λ (rs : List Receiver). EachTakes (named c rs) w.broker) (sym new.receivers) tt
 
 pub takes_there : (c : List ℕ) (r : Receiver) (n birth : ℕ) (l : BrokerLine) (w : World) → ItsLineTakes c w → receiver_named c w ≡ Some r → r.line.number ≡ Some n → line_at n w.broker ≡ Some l → l.session ≡ Some birth → TakesAsAsked r.window l
 takes_there c r n birth l w h e is at on =

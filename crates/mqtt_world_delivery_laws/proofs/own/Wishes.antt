@@ -107,15 +107,15 @@ module _ (client : List ℕ) (birth n : ℕ) where
 
 -- ---- retained messages, of which it brings copies
 
-retained_apart : (limits : Limits) (b : Broker) → IsSteady limits b → AreRetainedOnce b.records → AreRetainedApart b
-retained_apart limits b steady once = record {
+retained_apart : (b : Broker) → IsSteady b → AreRetainedOnce b.records → AreRetainedApart b
+retained_apart b steady once = record {
   differ = once;
   upto = each_more (IsCoherentMessage b.records.publications) (λ k. k.publication ≤ b.records.publications) (λ k q. q.0) b.records.retained steady.coherent.retained;
 }
 
 -- ---- where it is after it: on its line
 
-wish_placed : (largest : ℕ) (ids : List CopyId) (ns : List ℕ) (limits : Limits) (choice : MemberChoice) (now : ℕ) (w : Wish) (rest : List Back) (r : Receiver) (b : Broker) (placed : IsPlaced largest ids ns r b) → IsSteady limits b → IsTidy limits b
+wish_placed : (largest : ℕ) (ids : List CopyId) (ns : List ℕ) (limits : Limits) (choice : MemberChoice) (now : ℕ) (w : Wish) (rest : List Back) (r : Receiver) (b : Broker) (placed : IsPlaced largest ids ns r b) → IsSteady b → IsTidy limits b
     → AreRetainedOnce b.records → IsJoined placed.birth placed.line r.line.number b → r.line.up ≡ asks_for w ∷ rest
     → GoesFurther largest ids ns (receiver_after limits choice now (asking w r placed.line) r b) (stepped limits choice now (asking w r placed.line) b)
 wish_placed largest ids ns limits choice now w rest r b placed steady tidy once j up =
@@ -125,14 +125,14 @@ wish_placed largest ids ns limits choice now w rest r b placed steady tidy once 
     let call = asking w r l.number in
     let x = subscribes_apart largest ids limits choice now j.birth ns w rest r l h.listens.session b h.step a tidy up in
     let more = x.0.more in
-    let apart = apart_brought j.birth ids more b.records (stepped limits choice now call b).records placed.told (step_fell limits choice now call b) x.0.new (x.1 (retained_apart limits b steady once)) in
+    let apart = apart_brought j.birth ids more b.records (stepped limits choice now call b).records placed.told (step_fell limits choice now call b) x.0.new (x.1 (retained_apart b steady once)) in
     let owns = wish_owns r.client j.birth placed.line limits choice now r.window r.client w r l h.listens.session b a h.owns in
     let after_ = placed_after largest ids ns limits j.birth r b placed j.own j.there choice now l.number (wire_back r.client r.window (asks_for w)) (ids ++ more) h.number owns apart j.at x.0.in_step in
     subst (λ (m : ℕ). GoesFurther largest ids ns (receiver_after limits choice now (asking w r m) r b) (stepped limits choice now (asking w r m) b)) h.number (record { more = more; placed = after_ })
 
 -- ---- on the line that it gave up
 
-old_wish_placed : (largest : ℕ) (ids : List CopyId) (ns : List ℕ) (limits : Limits) (choice : MemberChoice) (now : ℕ) (w : Wish) (rest : List Back) (r : Receiver) (b : Broker) (placed : IsPlaced largest ids ns r b) → IsSteady limits b → IsTidy limits b
+old_wish_placed : (largest : ℕ) (ids : List CopyId) (ns : List ℕ) (limits : Limits) (choice : MemberChoice) (now : ℕ) (w : Wish) (rest : List Back) (r : Receiver) (b : Broker) (placed : IsPlaced largest ids ns r b) → IsSteady b → IsTidy limits b
     → AreRetainedOnce b.records → IsJoined placed.birth placed.line r.line.old_number b → AllByRecursion IsNoConnect (map packet_like r.line.old) → r.line.old ≡ asks_for w ∷ rest
     → GoesFurther largest ids ns (reads_old_wish limits choice now placed.line w r b) (stepped limits choice now (asking w r placed.line) b)
 old_wish_placed largest ids ns limits choice now w rest r b placed steady tidy once j calm old =
@@ -142,7 +142,7 @@ old_wish_placed largest ids ns limits choice now w rest r b placed steady tidy o
     let call = asking w r l.number in
     let x = old_subscribes_apart largest ids limits choice now j.birth ns w rest r l h.listens.session b h.step a tidy old in
     let more = x.0.more in
-    let apart = apart_brought j.birth ids more b.records (stepped limits choice now call b).records placed.told (step_fell limits choice now call b) x.0.new (x.1 (retained_apart limits b steady once)) in
+    let apart = apart_brought j.birth ids more b.records (stepped limits choice now call b).records placed.told (step_fell limits choice now call b) x.0.new (x.1 (retained_apart b steady once)) in
     let owns = wish_owns r.client j.birth placed.line limits choice now r.window r.client w (turned_back r) l h.listens.session b a h.owns in
     let after_ = placed_after_there largest ids ns limits j.birth r b placed j.own j.there choice now l.number (wire_back r.client r.window (asks_for w)) (ids ++ more) h.number owns apart j.at calm x.0.in_step in
     subst (λ (m : ℕ). GoesFurther largest ids ns (reads_old_wish limits choice now m w r b) (stepped limits choice now (asking w r m) b)) h.number (record { more = more; placed = after_ })

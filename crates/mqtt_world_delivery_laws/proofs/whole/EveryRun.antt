@@ -43,19 +43,24 @@ use Rattle.mqtt_world_delivery_laws.proofs.broker.Untouched.{opened_untouched}
 pub untouched_kept : (c : List ℕ) (limits : Limits) (w : World) → AreWithin limits → IsUntouched limits w → IsKept [] c limits w
 untouched_kept c limits w within u = record {
   stands = new_stands c any_size limits w within u.tidy u.new;
-  fit = record { unused = u.unused; distinct = u.distinct; once = u.retained; takes = new_takes c limits w u.new };
+  fit = record { unused = u.unused; distinct = u.distinct; once = u.retained; takes = new_takes c w u.new };
 }
 
 pub fair_run_kept : (limits : Limits) (ts : List Turn) (w : World) → IsUntouched limits w → IsFair limits ts w → (c : List ℕ) → IsKept [] c limits (run limits ts w)
 fair_run_kept limits ts w u fair c = run_kept [] c limits ts w (untouched_kept c limits w fair.within u) fair.unspent fair.clean
 
--- what it has stored may be opened again
-pub run_opens_again : (limits : Limits) (ts : List Turn) (choice : MemberChoice) (now : ℕ) (w : World) → IsUntouched limits w → IsFair limits ts w → is_opening_spent limits choice now (run limits ts w).broker.records ≡ false
-    → IsUntouched limits (opened_world limits choice now (run limits ts w).broker.records)
-run_opens_again limits ts choice now w u fair unspent =
+-- what it has stored may be opened under whatever limits
+pub run_opens_under : (limits others : Limits) (ts : List Turn) (choice : MemberChoice) (now : ℕ) (w : World) → IsUntouched limits w → IsFair limits ts w → AreWithin others → is_opening_spent others choice now (run limits ts w).broker.records ≡ false
+    → IsUntouched others (opened_world others choice now (run limits ts w).broker.records)
+run_opens_under limits others ts choice now w u fair within unspent =
     let k = fair_run_kept limits ts w u fair [] in
     let a = k.stands.standing.around in
-    opened_untouched limits choice now (run limits ts w).broker.records fair.within (record { coherent = a.steady.coherent; room = a.steady.room; unspent = unspent }) a.tidy.queues k.fit.distinct k.fit.once
+    opened_untouched others choice now (run limits ts w).broker.records within (record { coherent = a.steady.coherent; unspent = unspent }) k.fit.distinct k.fit.once
+
+-- and so under its own
+pub run_opens_again : (limits : Limits) (ts : List Turn) (choice : MemberChoice) (now : ℕ) (w : World) → IsUntouched limits w → IsFair limits ts w → is_opening_spent limits choice now (run limits ts w).broker.records ≡ false
+    → IsUntouched limits (opened_world limits choice now (run limits ts w).broker.records)
+run_opens_again limits ts choice now w u fair unspent = run_opens_under limits limits ts choice now w u fair fair.within unspent
 
 pub run_hands : (limits : Limits) (ts : List Turn) (w : World) → IsUntouched limits w → IsFair limits ts w → (c : List ℕ) (r : Receiver) → receiver_named c (run limits ts w) ≡ Some r → WasHandedOver r (run limits ts w).broker
 run_hands limits ts w u fair c r e = handed_over [] c any_size limits r (run limits ts w) (fair_run_kept limits ts w u fair c).stands e

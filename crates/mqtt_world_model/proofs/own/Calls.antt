@@ -98,7 +98,7 @@ Reads limits choice now n k p packet b accepted =
     Comes k p (after_step limits choice now call p b) b (stepped limits choice now call b) accepted (accepted ++ each_of (message_in packet) (deeds limits choice now call b))
 
 connects : (limits : Limits) (choice : MemberChoice) (now : ℕ) (n : ℕ) (o : Option ℕ) (k : ℕ) (clean : Bool) (p : Publisher) (b : Broker) (accepted : List ℕ)
-    → IsNamed p.client → IsSound limits b → IsInOrder (stepped limits choice now (Input n (connect_packet clean p)) b) → IsApart p.line.number p.line.old_number
+    → IsNamed p.client → IsSound limits p.client b → IsInOrder (stepped limits choice now (Input n (connect_packet clean p)) b) → IsApart p.line.number p.line.old_number
     → IsHis p.client o k b → Former o k p.line b → p.line.number ≡ Some n → p.line.up ≡ shake (CONNECT clean) ∷ [] → IsIdle n b → glance_at n b.lines ≡ waits_there
     → Comes k p (after_step limits choice now (Input n (connect_packet clean p)) p b) b (stepped limits choice now (Input n (connect_packet clean p)) b) accepted accepted
 connects limits choice now n o k clean p b accepted named sound order apart his former is up idle there =
@@ -116,7 +116,7 @@ connects limits choice now n o k clean p b accepted named sound order apart his 
         (subst (λ (z : ℕ). IsHis p.client (Some z) k b) (sym s.1) h) (subst (λ (z : ℕ). Former (Some z) k p.line b) (sym s.1) f)
 
 pub reads_own : (limits : Limits) (choice : MemberChoice) (now : ℕ) (n : ℕ) (o : Option ℕ) (k : ℕ) (packet : Sent) (rest : List Sent) (p : Publisher) (b : Broker) (accepted : List ℕ)
-    → Seat o k p b → IsNamed p.client → IsSound limits b → IsInOrder (stepped limits choice now (Input n (wire p.client p.contents packet)) b) → IsApart p.line.number p.line.old_number → IsRun accepted p b
+    → Seat o k p b → IsNamed p.client → IsSound limits p.client b → IsInOrder (stepped limits choice now (Input n (wire p.client p.contents packet)) b) → IsApart p.line.number p.line.old_number → IsRun accepted p b
     → p.line.number ≡ Some n → p.line.up ≡ packet ∷ rest → Reads limits choice now n k p packet b accepted
 reads_own limits choice now n o k packet rest p b accepted seat named sound order apart r is up = by seat.present
   where
@@ -153,7 +153,7 @@ ReadsOld limits choice now n k p packet b accepted =
     Comes k p (after_old_step limits choice now call p b) b (stepped limits choice now call b) accepted (accepted ++ each_of (message_in packet) (deeds limits choice now call b))
 
 late_connects : (limits : Limits) (choice : MemberChoice) (now : ℕ) (n : ℕ) (o : Option ℕ) (k : ℕ) (p : Publisher) (b : Broker) (accepted : List ℕ)
-    → IsNamed p.client → IsSound limits b → IsInOrder (stepped limits choice now (Input n (connect_packet false p)) b) → IsApart p.line.number p.line.old_number
+    → IsNamed p.client → IsSound limits p.client b → IsInOrder (stepped limits choice now (Input n (connect_packet false p)) b) → IsApart p.line.number p.line.old_number
     → IsHis p.client o k b → Present o k p.line b → p.line.old_number ≡ Some n → p.line.old ≡ shake (CONNECT false) ∷ [] → IsIdle n b → glance_at n b.lines ≡ waits_there
     → Comes k p (after_old_step limits choice now (Input n (connect_packet false p)) p b) b (stepped limits choice now (Input n (connect_packet false p)) b) accepted accepted
 late_connects limits choice now n o k p b accepted named sound order apart his present is up idle there =
@@ -171,7 +171,7 @@ late_connects limits choice now n o k p b accepted named sound order apart his p
         (subst (λ (z : ℕ). IsHis p.client (Some z) k b) (sym s.1) h) (subst (λ (z : ℕ). Present (Some z) k p.line b) (sym s.1) f)
 
 pub reads_old : (limits : Limits) (choice : MemberChoice) (now : ℕ) (n : ℕ) (o : Option ℕ) (k : ℕ) (packet : Sent) (rest : List Sent) (p : Publisher) (b : Broker) (accepted : List ℕ)
-    → Seat o k p b → IsNamed p.client → IsSound limits b → IsInOrder (stepped limits choice now (Input n (wire p.client p.contents packet)) b) → IsApart p.line.number p.line.old_number
+    → Seat o k p b → IsNamed p.client → IsSound limits p.client b → IsInOrder (stepped limits choice now (Input n (wire p.client p.contents packet)) b) → IsApart p.line.number p.line.old_number
     → p.line.old_number ≡ Some n → p.line.old ≡ packet ∷ rest → ReadsOld limits choice now n k p packet b accepted
 reads_old limits choice now n o k packet rest p b accepted seat named sound order apart is up = by seat.former
   where

@@ -201,7 +201,7 @@ stands_kept true w = refl
 stands_kept false w = refl
 
 pub late_first : (limits : Limits) (choice : MemberChoice) (now : ℕ) (p : Publisher) (l : BrokerLine) (k : ℕ) (b : Broker) (accepted : List ℕ)
-    → IsNamed p.client → IsSound limits b → IsInOrder (stepped limits choice now (Input l.number (connect_packet false p)) b)
+    → IsNamed p.client → IsSound limits p.client b → IsInOrder (stepped limits choice now (Input l.number (connect_packet false p)) b)
     → p.line.old ≡ shake (CONNECT false) ∷ [] → p.line.old_number ≡ Some l.number → IsApart p.line.number p.line.old_number → line_at l.number b ≡ Some l → l.session ≡ None → l.keep_alive ≡ 0
     → session_named p.client b.records ≡ None → Present None k p.line b
     → LateConnected limits choice now k p l b accepted

@@ -280,7 +280,7 @@ asking_of p l s k b is at waits idle kept own former = record {
 }
 
 pub kept_connect : (limits : Limits) (choice : MemberChoice) (now : ℕ) (clean : Bool) (p : Publisher) (l : BrokerLine) (s : Session) (k : ℕ) (b : Broker) (accepted : List ℕ)
-    → IsNamed p.client → IsSound limits b → IsInOrder (stepped limits choice now (Input l.number (connect_packet clean p)) b)
+    → IsNamed p.client → IsSound limits p.client b → IsInOrder (stepped limits choice now (Input l.number (connect_packet clean p)) b)
     → p.line.up ≡ shake (CONNECT clean) ∷ [] → p.line.number ≡ Some l.number → IsApart p.line.number p.line.old_number → line_at l.number b ≡ Some l → l.session ≡ None → l.keep_alive ≡ 0 → IsIdle l.number b
     → IsKept p.client s b → IsHis p.client (Some s.birth) k b → Former (Some s.birth) k p.line b
     → Connected limits choice now clean k p l b accepted
@@ -290,7 +290,7 @@ kept_connect limits choice now false p l s k b accepted named sound order up is 
     (connect_owns limits choice now p l s b a quiet sound.order order) (connect_is_hop limits choice now p [] l s b accepted up a)
 kept_connect limits choice now true p l s k b accepted named sound order up is apart at waits quiet idle kept his former =
     let a = asking_of p l s k b is at waits idle kept his.0 former in
-    let m : MayBegin limits p.client b = record { births = sound.order.births; within = sound.within; room = sound.room; some = named.some } in
+    let m : MayBegin limits p.client b = record { births = sound.order.births; within = sound.within; room = sound.place his.1; some = named.some } in
     let own = clean_owns limits choice now p l s b a m quiet sound.order order in
     connect_seat limits choice now true p l s.birth k own.0 b accepted up is apart his.0 former (call_renews limits choice now p l s b a m).closings_is his.1 own.1
     (clean_is_hop limits choice now p [] l s b accepted up a m)
@@ -302,7 +302,7 @@ not_some None e = refl
 not_some (Some s) e = absurd cc
 
 pub first_connect : (limits : Limits) (choice : MemberChoice) (now : ℕ) (clean : Bool) (p : Publisher) (l : BrokerLine) (k : ℕ) (b : Broker) (accepted : List ℕ)
-    → IsNamed p.client → IsSound limits b → IsInOrder (stepped limits choice now (Input l.number (connect_packet clean p)) b)
+    → IsNamed p.client → IsSound limits p.client b → IsInOrder (stepped limits choice now (Input l.number (connect_packet clean p)) b)
     → p.line.up ≡ shake (CONNECT clean) ∷ [] → p.line.number ≡ Some l.number → IsApart p.line.number p.line.old_number → line_at l.number b ≡ Some l → l.session ≡ None → l.keep_alive ≡ 0 → IsIdle l.number b
     → session_named p.client b.records ≡ None → Former None k p.line b
     → Connected limits choice now clean k p l b accepted

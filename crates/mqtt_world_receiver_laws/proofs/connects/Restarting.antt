@@ -21,6 +21,7 @@ use Rattle.mqtt_rules.proofs.acts.Acts.{leads_settle}
 use Rattle.mqtt_rules.proofs.flight.FlightRows.{all_at, found_key}
 use Rattle.mqtt_rules.proofs.acts.Goods.{after_append}
 use Rattle.mqtt_rules.proofs.numbers.NumberFacts.{Counts, counts_deed}
+use Rattle.mqtt_rules.proofs.fit.RowsFit.{queues_short}
 use Rattle.mqtt_rules.proofs.order.OrderedEnters.{still_short}
 use Rattle.mqtt_rules.specs.Closing.{end_session, has_due_end, has_due_will, publish_will, settle}
 use Rattle.mqtt_rules.specs.Deeds.{Act, At, Close, Deed, after, after_all, always, of_session, only_if, part_rows_of, rows_of_all, series, whose, with_session}
@@ -140,7 +141,7 @@ module _ (largest : ℕ) (env : Env) (small : env.limits.queue ≤ QUEUE_LIMIT) 
   other_closed x b q k =
       let d = At (whose x) (Close b.now) in
       let y = after d b in
-      let one = theirs_led largest env small r birth ns ids has (d ∷ []) b ((q, tt), tt) (still_short env.limits.queue d b.records tt k.queues) k in
+      let one = theirs_led largest env small r birth ns ids has (d ∷ []) b ((q, tt), tt) (still_short QUEUE_LIMIT d b.records tt k.queues) k in
       let two = leads_settle env (others r.client birth ns) Stays (IsMuteHere ns) (served_law largest env small r birth ns ids has plain) x.birth y one.1 q in
       subst Stays (sym (after_append (settle env x.birth y) [] y)) two.1
 
@@ -154,7 +155,7 @@ module _ (largest : ℕ) (env : Env) (small : env.limits.queue ≤ QUEUE_LIMIT) 
       let numbers : y.records.publications ≡ b.records.publications = ap (λ (c : Counts). c.publications) (counts_deed d b.records) in
       subst (λ (xs : List Deed). Stays (after_all xs b)) (sym are) (record {
         served = served;
-        queues = still_short env.limits.queue d b.records tt k.queues;
+        queues = still_short QUEUE_LIMIT d b.records tt k.queues;
         grown = let g = k.grown in omega (arith, g, numbers);
         more = k.more;
         new = new_still largest env small r birth ns ids has b y k.more (omega (arith, numbers)) k.new;
@@ -188,7 +189,7 @@ restart_goes_on largest ids limits choice now birth ns r b f v tidy plain =
     let has = lost_lines r in
     let kept : Kept largest env tidy.within q birth [] ids has first = record {
       served = lost_served r.client birth ns now b v;
-      queues = record { ordered = tidy.ordered; short = tidy.queues };
+      queues = record { ordered = tidy.ordered; short = queues_short b.records.sessions tidy.ordered.each };
       grown = omega arith;
       more = [];
       new = tt;

@@ -10,7 +10,6 @@ use Rattle.mqtt_records.specs.Session.{auto}
 use Rattle.mqtt_rules.proofs.numbers.Copies.{each_append}
 use Rattle.mqtt_rules.proofs.flight.FlightRows.{all_more}
 use Rattle.mqtt_rules.proofs.numbers.NumberSteps.{opening_fell, step_fell}
-use Rattle.mqtt_rules.proofs.order.OrderedFull.{opening_queues, step_queues}
 use Rattle.mqtt_rules.proofs.order.OrderedSteps.{opening-ordered, step-ordered}
 use Rattle.mqtt_rules.specs.State.{Broker, MemberChoice}
 use Rattle.mqtt_rules.specs.Step.{Call, NewLine, at_moment, can_link, opened, stepped, told}
@@ -23,19 +22,17 @@ use Rattle.mqtt_world_receiver_laws.specs.Tags.{AreNumbered}
 use Rattle.mqtt_world_receiver_laws.proofs.others.CallsOfOthers.{others_go_on}
 use Rattle.mqtt_world_receiver_laws.proofs.connects.Restarting.{restart_goes_on}
 
--- ---- the tables stay in order, and no queue is above its limit
+-- ---- the tables stay in order
 
 pub step_tidy : (limits : Limits) (choice : MemberChoice) (now : ℕ) (call : Call) (b : Broker) → IsTidy limits b → IsTidy limits (stepped limits choice now call b)
 step_tidy limits choice now call b t = record {
   ordered = step-ordered limits choice now call b t.ordered;
-  queues = step_queues limits choice now call b t.within t.ordered t.queues;
   within = t.within;
 }
 
 pub opening_tidy : (limits : Limits) (choice : MemberChoice) (now : ℕ) (b : Broker) → IsTidy limits b → IsTidy limits (reopened limits choice now b)
 opening_tidy limits choice now b t = record {
   ordered = opening-ordered limits choice now b.records t.ordered;
-  queues = opening_queues limits choice now b.records t.within t.ordered t.queues;
   within = t.within;
 }
 

@@ -22,9 +22,10 @@ use Rattle.mqtt_rules.specs.declared.Report.{Report}
 use Rattle.mqtt_rules.specs.declared.Report.TheVariants.{Ended, Entered}
 use Rattle.mqtt_rules.proofs.examples.Play.{usual, first, bytes}
 use Rattle.mqtt_world_model.specs.Ends.{Draft}
-use Rattle.mqtt_world_model.specs.Run.{after, deeds_over}
+use Rattle.mqtt_world_model.specs.Run.{after, deeds_over, run}
 use Rattle.mqtt_world_model.specs.World.{World, Event, receiver, publisher, publish, connect_end, give_up, clock, ask, to_broker, stranger, subscribe}
 use Rattle.mqtt_world_model.proofs.examples.Scripts.{p1, r1, draft, wish, joins, subscribes, round, turns, Sum, sum_of}
+use Rattle.mqtt_world_acceptance_laws.specs.Fair.{opened_world}
 use Rattle.mqtt_world_receiver_laws.specs.Drains.{copies_left, drain_turns, drained, enough_rounds, is_bad_drain, rounds_taken}
 
 abbrev copy : ℕ → CopyId
@@ -140,6 +141,31 @@ pub one_makes_way : drains_from dropping (enough_rounds (2 + 1)) (after dropping
     }
 unfolding varint
 one_makes_way = refl
+
+-- ---- three copies wait, and the broker is opened again with room for two in a queue: the three are taken, and in order; under
+-- Drop none makes way for what doesn't come
+
+abbrev refusing : Limits
+refusing = record usual { queue = 2 }
+
+abbrev opened_smaller : Limits → World
+opened_smaller limits =
+    let w = after usual (turns (both_wait 1 ++ publish p1 draft ∷ ask (to_broker p1) ∷ [])) in
+    run limits (turns (receiver r1 1 ∷ joins r1 false)) (opened_world limits first 0 w.broker.records)
+
+pub more_wait_than_may : copies_left r1 (opened_smaller refusing) ≡ 3
+unfolding varint
+more_wait_than_may = refl
+
+pub all_three_are_taken : drains_from refusing (enough_rounds 3) (opened_smaller refusing)
+    ≡ record { most = 7; rounds = 6; ended = Ended (copy 1) r1 Taken ∷ Ended (copy 2) r1 Taken ∷ Ended (copy 3) r1 Taken ∷ []; out = 6; left = 0 }
+unfolding varint
+all_three_are_taken = refl
+
+pub none_of_three_makes_way : drains_from dropping (enough_rounds 3) (opened_smaller dropping)
+    ≡ record { most = 7; rounds = 6; ended = Ended (copy 1) r1 Taken ∷ Ended (copy 2) r1 Taken ∷ Ended (copy 3) r1 Taken ∷ []; out = 6; left = 0 }
+unfolding varint
+none_of_three_makes_way = refl
 
 -- ---- an empty queue takes no round; nobody drains a publisher, or an end without a line
 

@@ -25,6 +25,7 @@ use Rattle.mqtt_records.specs.declared.session.Session.{Session}
 use Rattle.mqtt_rules.proofs.acts.Acts.{IsCallOf, IsPrepared, Law, MayEnd, anyone, brought_to, closing as closing_line, leads_call}
 use Rattle.mqtt_rules.proofs.numbers.Copies.{each_append}
 use Rattle.mqtt_rules.proofs.acts.Goods.{AreGood}
+use Rattle.mqtt_rules.proofs.fit.RowsFit.{queues_short}
 use Rattle.mqtt_rules.proofs.order.OrderedActs.{keeping_law}
 use Rattle.mqtt_rules.proofs.order.OrderedEnters.{RoomToEnter, ShortQueues}
 use Rattle.mqtt_rules.proofs.order.OrderedFull.{queues_keeping}
@@ -59,10 +60,10 @@ module _ (largest : ℕ) (env : Env) (small : env.limits.queue ≤ QUEUE_LIMIT) 
   Stays b = Kept largest env small r birth ns ids has b
 
   abbrev Short : Broker → Type 0
-  Short b = ShortQueues env.limits.queue b.records
+  Short b = ShortQueues QUEUE_LIMIT b.records
 
   short_law : Law env anyone Short RoomToEnter
-  short_law = keeping_law env (ShortQueues env.limits.queue) RoomToEnter (queues_keeping env.limits.queue env (omega arith) small)
+  short_law = keeping_law env (ShortQueues QUEUE_LIMIT) RoomToEnter (queues_keeping QUEUE_LIMIT env small small)
 
   may_short : (s : Session) (b : Broker) → MayEnd env Stays s b → MayEnd env Short s b
   may_short s b (inl due) = inl due
@@ -296,7 +297,7 @@ others_go_on largest ids limits choice now call birth ns r b h v has tidy plain 
     let served : IsServed r.client birth ns first = record { sessions = v.sessions; lines = v.lines; births = v.births; given = v.given } in
     let kept : Kept largest env tidy.within r birth ns ids has first = record {
       served = served;
-      queues = record { ordered = tidy.ordered; short = tidy.queues };
+      queues = record { ordered = tidy.ordered; short = queues_short b.records.sessions tidy.ordered.each };
       grown = omega arith;
       more = [];
       new = tt;

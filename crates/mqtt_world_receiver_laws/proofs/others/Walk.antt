@@ -184,7 +184,7 @@ module _ (largest : ℕ) (env : Env) (small : env.limits.queue ≤ QUEUE_LIMIT) 
   IsNew b id = IsNewCopy birth before b.records.publications id
 
   abbrev Short : Broker → Type 0
-  Short b = ShortQueues env.limits.queue b.records
+  Short b = ShortQueues QUEUE_LIMIT b.records
 
   pub record Kept (b : Broker) : Type 0 where
     pub served : IsServed r.client birth ns b
@@ -378,7 +378,7 @@ module _ (largest : ℕ) (env : Env) (small : env.limits.queue ≤ QUEUE_LIMIT) 
       let own_at : session_at s.birth b.records ≡ Some s = ap (λ (m : ℕ). session_at m b.records) is ∙ at in
       let all = room_for d rest b s queued h.fits at in
       let tables = all_at birth_of HasTables d.birth s b.records.sessions h.kept.queues.ordered.each at in
-      let made = enters env.limits.queue env d.copy s b (omega arith) small tables own_at (omega (arith, all)) h.kept.queues in
+      let made = enters QUEUE_LIMIT env d.copy s b small small tables own_at (omega (arith, all)) h.kept.queues in
       let parts = queue_enter env d.copy s in
       let same = parts_stay ds b parts in
       let passed = h.passed in
@@ -453,8 +453,8 @@ module _ (largest : ℕ) (env : Env) (small : env.limits.queue ≤ QUEUE_LIMIT) 
     where
       by : (o : Option RetainedMessage) → Short (after_all (forgets o) b)
       by None = h
-      by (Some x) = still_short env.limits.queue (Forget x.place) b.records tt h
-  retained_short true false n m b h = still_short env.limits.queue (Keep _) b.records tt h
+      by (Some x) = still_short QUEUE_LIMIT (Forget x.place) b.records tt h
+  retained_short true false n m b h = still_short QUEUE_LIMIT (Keep _) b.records tt h
 
   retained_numbers : (t e : Bool) (n : ℕ) (m : Message) (b : Broker) → (after_all (retain_by t e n m b) b).records.publications ≡ b.records.publications
   retained_numbers t e n m b = publications_stay r.client birth ns (retain_by t e n m b) b (retains t e n m b)
@@ -477,7 +477,7 @@ module _ (largest : ℕ) (env : Env) (small : env.limits.queue ≤ QUEUE_LIMIT) 
       let first : List Deed = Accept n origin m ∷ [] in
       let c = after_all first b in
       let kept = retain_by m.retain (is_empty m.payload) n m c in
-      let short = still_short env.limits.queue (Accept n origin m) b.records tt k.queues in
+      let short = still_short QUEUE_LIMIT (Accept n origin m) b.records tt k.queues in
       let v = k.served in
       let served : IsServed r.client birth ns c = record { sessions = v.sessions; lines = v.lines; births = v.births; given = v.given } in
       let one = others_kept first b (tt, tt) served short (omega arith) k in

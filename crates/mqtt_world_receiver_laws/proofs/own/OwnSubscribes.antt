@@ -40,6 +40,7 @@ use Rattle.mqtt_rules.proofs.numbers.Copies.{IsMade, IsOf, brought_made as all_m
 use Rattle.mqtt_rules.proofs.flight.FlightRows.{all_at, all_more, change_row-here, found_key}
 use Rattle.mqtt_rules.proofs.acts.Goods.{after_append}
 use Rattle.mqtt_rules.proofs.numbers.NumberFacts.{Counts, counts, counts_deed}
+use Rattle.mqtt_rules.proofs.fit.RowsFit.{queues_short}
 use Rattle.mqtt_rules.proofs.order.OrderedEnters.{ShortQueues, enters, own_stay, still_short}
 use Rattle.mqtt_rules.proofs.order.OrderedQueues.{stay_is}
 use Rattle.mqtt_rules.specs.Deeds.{At, Count, Deed, Hear, On, Send, after, after_all, always, closing, offer, output, part_rows_of, rows_of_all, series, stored_after, whose, with_session}
@@ -282,7 +283,7 @@ moment_apart ids (row ∷ rows) b h = record { come = h.come; differ = h.differ 
 module _ (largest : ℕ) (env : Env) (small : env.limits.queue ≤ QUEUE_LIMIT) (r : Receiver) (birth : ℕ) (ns : List ℕ) (ids : List CopyId) (has : HasLines ns r) (start : Broker) where
   record Going (more : List CopyId) (b : Broker) : Type 0 where
     pub served : IsServed r.client birth ns b
-    pub queues : ShortQueues env.limits.queue b.records
+    pub queues : ShortQueues QUEUE_LIMIT b.records
     pub session : Session
     pub found : session_at birth b.records ≡ Some session
     pub runs : RunsFor largest (ids ++ more) birth r b
@@ -310,7 +311,7 @@ module _ (largest : ℕ) (env : Env) (small : env.limits.queue ≤ QUEUE_LIMIT) 
       let deeds_are : deliver env d b ≡ ds = ap (λ (t : Bool). deliver_by t env d b) queued ∙ ap (λ (o : Option Session). with_session o (λ (x : Session). always (enter_deeds env d.copy x)) b) at in
       let all = room s k.found in
       let tables = all_at birth_of HasTables birth s b.records.sessions k.queues.ordered.each k.found in
-      let made = enters env.limits.queue env d.copy s b (omega arith) small tables own_at (omega (arith, all)) k.queues in
+      let made = enters QUEUE_LIMIT env d.copy s b small small tables own_at (omega (arith, all)) k.queues in
       let parts = queue_enter env d.copy s in
       let served = served_parts r.client birth ns ds b parts k.served in
       let e = made.0 in
@@ -409,7 +410,7 @@ module _ (largest : ℕ) (env : Env) (small : env.limits.queue ≤ QUEUE_LIMIT) 
       } in
       record {
         served = safe_served r.client birth ns first b (tt, (tt, tt)) v;
-        queues = still_short env.limits.queue (At (whose s) (deeds.Subscribe x)) (stored_after (Count n) b.records) tt (still_short env.limits.queue (Count n) b.records tt k.queues);
+        queues = still_short QUEUE_LIMIT (At (whose s) (deeds.Subscribe x)) (stored_after (Count n) b.records) tt (still_short QUEUE_LIMIT (Count n) b.records tt k.queues);
         session = with_subscription x s;
         found = last;
         runs = moved_for largest (ids ++ []) birth ns r s (with_subscription x s) b c v own_at client is stands k.runs;
@@ -650,7 +651,7 @@ brings largest ids limits choice now birth ns w r there l s b k name a tidy =
     } in
     let going : Going largest env tidy.within r birth ns ids k.lines b [] c = record {
       served = safe_served r.client birth ns (On n Hear ∷ []) first (tt, tt) served;
-      queues = record { ordered = tidy.ordered; short = tidy.queues };
+      queues = record { ordered = tidy.ordered; short = queues_short b.records.sessions tidy.ordered.each };
       session = s;
       found = at;
       runs = moved_for largest (ids ++ []) birth ns r s s first c served a.session (a.client ∙ name) its stands runs;

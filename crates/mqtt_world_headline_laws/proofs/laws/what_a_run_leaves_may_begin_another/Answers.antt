@@ -1,5 +1,5 @@
 -- By what each step keeps.
-use Rattle.mqtt_world_headline_laws.proofs.Lives.{lives_begin, lives_send, run_begins, run_sends, start_begins}
+use Rattle.mqtt_world_headline_laws.proofs.Lives.{lives_begin, lives_send, run_begins, run_begins_under, run_sends, start_begins}
 use Rattle.mqtt_world_headline_laws.proofs.laws.what_a_run_leaves_may_begin_another.Goals as goal
 
 pub returns-clause-nothing : goal.returns-clause-nothing
@@ -7,6 +7,9 @@ returns-clause-nothing c = start_begins
 
 pub returns-clause-again : goal.returns-clause-again
 returns-clause-again c = run_begins
+
+pub returns-clause-under_others : goal.returns-clause-under_others
+returns-clause-under_others c = run_begins_under
 
 pub returns-clause-lives : goal.returns-clause-lives
 returns-clause-lives c = lives_begin
