@@ -6,3 +6,4 @@ pub mod Once
 pub mod Sent
 pub mod Readings
 pub mod Unsent
+pub mod Examples
