@@ -26,10 +26,10 @@ ghost use Rattle.mqtt_world_headline_laws.specs.Lives.{
 /// however often the broker was opened on what an earlier script left, under any limits. Each message of a publisher is accepted
 /// once, with what it carries. Of each publication exactly the intended copies enter queues, each once; each waits or has
 /// one end, for its cause. Each receiver is handed its copies once, in the order in which they entered, with their
-/// publications' contents, and what ended as taken was handed over. Each drain that isn't bad empties its receiver's queue
-/// in a bounded number of rounds, and copies end in it by its causes. Asked: nothing but that each script is fair, and that
-/// opening spends no number; and, that no copy ends in a drain as too large, that the texts that the scripts bring are texts,
-/// and what strangers send is bytes (3.3.4, 4.3, 4.4, 4.6, 4.8, 4.9).
+/// publications' contents; what ended as taken was handed over, what expired or made way for another never. Each drain that
+/// isn't bad empties its receiver's queue in a bounded number of rounds, and copies end in it by its causes. Asked: nothing
+/// but that each script is fair, and that opening spends no number; and, that no copy ends in a drain as too large, that the
+/// texts that the scripts bring are texts, and what strangers send is bytes (3.3.4, 4.3, 4.4, 4.6, 4.8, 4.9).
 pub fn messages_are_delivered_exactly_once()
     ensures delivers { (limits : Limits) (lives : List BrokerLife) (ds : List Doing) → AreWithin limits
         → AreFairLives limits lives → IsFairScript limits ds (after_lives limits lives)
