@@ -1,5 +1,6 @@
 -- A drain of a script is that by any one choice, which empties the queue (MQTT 5.0, 4.3, 4.4, 4.6).
 use Rattle.std.proofs.Common.{◌≡◌, ◌≤◌, ℕ, suc, Bool, false, List, [], ◌++◌, sym, ap, subst, ◌∙◌, arith}
+use Rattle.mqtt_world_model.specs.Run.{run}
 use Rattle.mqtt_world_model.specs.Tellings.{Telling}
 use Rattle.mqtt_world_model.specs.World.{World}
 use Rattle.mqtt_rules.specs.Laws.{AreWithin}
@@ -13,7 +14,10 @@ use Rattle.mqtt_world_delivery_laws.proofs.whole.EveryRun.{spent_append}
 use Rattle.mqtt_script_laws.specs.Cleanly.{BeginClean}
 use Rattle.mqtt_script_laws.specs.Drains.{DrainHappens, DrainsBy}
 use Rattle.mqtt_script_laws.specs.Scripted.{RunsTo}
+use Rattle.mqtt_script_laws.proofs.Carrying.{script_fair}
 use Rattle.mqtt_script_laws.proofs.Drained.{is_within, kept_there, whole}
+use Rattle.mqtt_world_drain_cause_laws.specs.DrainEnds.{EndOfDrain}
+use Rattle.mqtt_world_drain_cause_laws.proofs.DrainRuns.{drain_ends}
 use Rattle.mqtt_world_drain_laws.specs.Emptied.{EmptiesQueue, copies_to_take, waiting_for}
 use Rattle.mqtt_world_drain_laws.proofs.Emptied.{empties_if}
 use Rattle.mqtt_script_drain_laws.specs.Done.{IsEmptied}
@@ -42,6 +46,14 @@ module _ (limits : Limits) (es : List Event) (tells : List Telling) (client : Li
       let first : run_spends limits (round_turns limits choice client v ++ rest) v ≡ false = subst (λ (t : Bool). run_spends limits (drain_by t (round_turns limits choice client v) rest) v ≡ false) on all in
       (spent_append limits (round_turns limits choice client v) rest v first).0
 
+  -- by this choice, each copy ends in it for a cause of a drain
+  ends_by : (t : Telling) (after : World) (h : DrainHappens limits client t v after) (choice : MemberChoice) (most : ℕ) → h.rounds ≤ most → EndOfDrain limits choice client most v
+  ends_by t after h choice most le =
+      let f = script_fair limits es tells w v within untouched clean runs in
+      let d : DrainsBy limits choice client most h.rounds t v after = whole limits es tells choice client w v within untouched clean runs most t after h le in
+      let unspent : run_spends limits (drain_turns limits choice client most (run limits f.0 w)) (run limits f.0 w) ≡ false = subst (λ (x : World). run_spends limits (drain_turns limits choice client most x) x ≡ false) f.2 d.unspent in
+      subst (EndOfDrain limits choice client most) (sym f.2) (drain_ends limits f.0 choice client most w untouched f.1 unspent)
+
   pub script_empties : (t : Telling) (after : World) (h : DrainHappens limits client t v after) → IsEmptied limits client h.rounds v after
   script_empties t after h =
       let most = enough some_choice in
@@ -51,6 +63,8 @@ module _ (limits : Limits) (es : List Event) (tells : List Telling) (client : Li
         is_within = few t after h;
         empty = ap (waiting_for client) d.is ∙ e.empty (omega arith);
         good = ap (is_bad_drain client) d.is ∙ e.good (omega arith);
+        is = λ choice most le. (whole limits es tells choice client w v within untouched clean runs most t after h le).is;
+        ends = ends_by t after h;
       }
 
   -- so whatever is chosen it comes to the same
