@@ -89,7 +89,7 @@ turns_carry limits (t ∷ ts) names w known keeps made =
     let rest = turns_carry limits ts (named_after t.event names) (turned limits t w) (step_known (setting limits t) t.event names w known) both.1 (nobody_first (events_of ts) (turned limits t w) made.1) in
     (and_true (begins_clean t.event w) (are_beginnings_clean limits ts (turned limits t w)) (event_carries t.event names w known both.0 made.0) rest.0, rest.1)
 
-carry_joined : (limits : Limits) (xs ys : List Turn) (w : World) → are_beginnings_clean limits xs w ≡ true → are_beginnings_clean limits ys (run limits xs w) ≡ true
+pub carry_joined : (limits : Limits) (xs ys : List Turn) (w : World) → are_beginnings_clean limits xs w ≡ true → are_beginnings_clean limits ys (run limits xs w) ≡ true
     → are_beginnings_clean limits (xs ++ ys) w ≡ true
 carry_joined limits [] ys w h k = k
 carry_joined limits (t ∷ xs) ys w h k =
