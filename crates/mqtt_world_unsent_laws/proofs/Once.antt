@@ -60,7 +60,7 @@ module _ (x : CopyId) where
     pub once : count_of x (standing (run limits ts w).broker) + (count_of x (ended_from limits ts w) + U x (kinds (run limits ts w).broker.records)) ≤ 1
     pub kept : AreKept (kinds (run limits ts w).broker.records)
 
-  pub run_once : (limits : Limits) (ts : List Turn) (w : World) → IsNew limits w → IsFair limits ts w → TellsApart w.broker.records → IsOnce limits ts w
+  pub run_once : (limits : Limits) (ts : List Turn) (w : World) → IsNew w → IsFair limits ts w → TellsApart w.broker.records → IsOnce limits ts w
   run_once limits ts w new fair apart =
       let r = w.broker.records in
       let begun : AreKept (kinds r) = record {

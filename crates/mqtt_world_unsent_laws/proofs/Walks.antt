@@ -92,7 +92,7 @@ late limits = record {
       late_deeds m ds a (all_caused m ds a (opening_caused m a s.coherent.ordered) (stands_opening env a s.coherent.ordered));
 }
 
-pub run_late : (limits : Limits) (ts : List Turn) (w : World) → IsNew limits w → IsFair limits ts w → AreLate (deeds_over limits ts w)
+pub run_late : (limits : Limits) (ts : List Turn) (w : World) → IsNew w → IsFair limits ts w → AreLate (deeds_over limits ts w)
 run_late limits ts w new fair = run_walks (λ ds b d. AreLate ds) limits ts w (late limits) new fair
 
 -- ---- a copy that was sent
@@ -180,7 +180,7 @@ module _ (x : CopyId) where
   }
 
   -- and each run, from any state in order
-  pub run_others : (limits : Limits) (ts : List Turn) (w : World) → AreWithin limits → IsSteady limits w.broker → run_spends limits ts w ≡ false → IsGone w.broker → AreOthers (deeds_over limits ts w)
+  pub run_others : (limits : Limits) (ts : List Turn) (w : World) → AreWithin limits → IsSteady w.broker → run_spends limits ts w ≡ false → IsGone w.broker → AreOthers (deeds_over limits ts w)
   run_others limits [] w within s unspent g = tt
   run_others limits (t ∷ ts) w within s unspent g =
       let v = turned limits t w in
