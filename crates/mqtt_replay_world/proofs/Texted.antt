@@ -170,9 +170,9 @@ module _ {K : Type 0} (g : Ghosts K) where
           tells = c.tells;
           runs = runs;
           told = c.told;
-          delivers = λ untouched apart clean.
+          delivers = λ begins clean.
               delivers_once limits c.events c.tells begun (world_at c.happen.to)
-              (subst (λ (l : Limits). AreWithin l) starts.limits_are came.within) untouched apart clean runs;
+              (subst (λ (l : Limits). AreWithin l) starts.limits_are came.within) begins clean runs;
         }
 
     -- a bad line is one in the definitions' world
@@ -272,7 +272,7 @@ nothing_runs limits w within = record {
   tells = [];
   runs = (refl, refl);
   told = refl;
-  delivers = λ untouched apart clean. delivers_once limits [] [] w w within untouched apart clean (refl, refl);
+  delivers = λ begins clean. delivers_once limits [] [] w w within begins clean (refl, refl);
 }
 
 pub front_none : (limits : Limits) (lines : List (List ℕ)) (before after : Option (List ℕ)) → AreWithin limits → Keeps before after

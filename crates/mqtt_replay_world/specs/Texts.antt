@@ -17,9 +17,8 @@ use Rattle.mqtt_script.specs.Lines.{IsLineOf, IsNoLine, first_word, is_passed_ov
 use Rattle.mqtt_script.specs.Telling.{bad_text, broker_text, publisher_text, receiver_text}
 use Rattle.mqtt_script_laws.specs.Cleanly.{BeginClean, ScriptDelivers}
 use Rattle.mqtt_script_laws.specs.Scripted.{IsBadHere, RunsTo}
-use Rattle.mqtt_world_delivery_laws.specs.Untouched.{IsUntouched}
+use Rattle.mqtt_world_headline_laws.specs.Lives.{BeginsWell}
 use Rattle.mqtt_world_acceptance_laws.specs.Fair.{opened_world}
-use Rattle.mqtt_world_acceptance_laws.specs.Identities.{TellsApart}
 use Rattle.mqtt_rules_spelling_laws.specs.Sending.{HaveSentPhases}
 use Rattle.mqtt_replay.specs.Told.{told_text}
 use Rattle.mqtt_script.specs.declared.replay_fault.Played.{Played}
@@ -72,8 +71,7 @@ pub record RunsLines (limits : Limits) (lines : List (List ℕ)) (w : World) (te
   pub tells : List Telling
   pub runs : RunsTo limits events tells w after
   pub told : text ≡ lines_told 0 events tells
-  pub delivers : IsUntouched limits w → TellsApart w.broker.records → BeginClean limits events w
-      → ScriptDelivers limits events w after
+  pub delivers : BeginsWell limits w → BeginClean limits events w → ScriptDelivers limits events w after
 
 -- ---- the text of a script from a world on: all its lines run, and what they came to stands behind; or those before a bad line do,
 -- and the number that this would have

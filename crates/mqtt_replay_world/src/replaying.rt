@@ -3,9 +3,8 @@
 ghost use Rattle.std.specs.Prelude.{◌≢◌, ◌⊎◌, IfErr, IfOk, IfSome};
 ghost use Rattle.std.specs.Io.KnownBytes.{Keeps};
 ghost use Rattle.mqtt_rules.specs.Laws.{AreWithin};
-ghost use Rattle.mqtt_world_delivery_laws.specs.Untouched.{IsUntouched};
+ghost use Rattle.mqtt_world_headline_laws.specs.Lives.{BeginsWell};
 ghost use Rattle.mqtt_world_model.specs.World.{start};
-ghost use Rattle.mqtt_world_acceptance_laws.specs.Identities.{TellsApart};
 ghost use Rattle.mqtt_replay.specs.Replaying.{lines_of};
 ghost use Rattle.mqtt_replay_world.specs.Texts.{FrontOver, FrontText, ReplayText, ReplaysOver, Wrote};
 
@@ -70,7 +69,7 @@ pub fn replay<R: Read, W: Write>(
         (W.contents writer.old) (W.contents writer.new))) }
 
     // Nobody is there at first, so exactly-once delivery holds of whatever is replayed.
-    ensures untouched { IsUntouched limits start × TellsApart start.broker.records }
+    ensures untouched { BeginsWell limits start }
 {
     let keep = MemKeep::new(alloc)?;
     replay_over(alloc, keep, hasher, reader, writer, limits)

@@ -184,9 +184,9 @@ module _ {K : Type 0} (g : Ghosts K) where
   one_comes start e (Err f) old new sound h r come = come_refused start e f old new sound r come
 
 pub delivered : {K : Type 0} (start : World) (w : Lasting K) → HasCome start w → HasDelivered start w
-delivered {K} start w come = λ s is untouched apart clean.
+delivered {K} start w come = λ s is begins clean.
     let c = come s is in
-    delivers_once s.limits w.events c.tells start (world_at s) c.within untouched apart clean c.runs
+    delivers_once s.limits w.events c.tells start (world_at s) c.within begins clean c.runs
 
 module _ {K : Type 0} (g : Ghosts K) where
   -- ---- what a step of the world comes to

@@ -22,7 +22,7 @@ use Rattle.mqtt_script_drain_laws.specs.Done.{IsEmptied}
 use Rattle.mqtt_rules_spelling_laws.specs.Sending.{HaveSentPhases}
 use Rattle.mqtt_world_delivery_laws.specs.Untouched.{IsUntouched}
 use Rattle.mqtt_world_acceptance_laws.specs.Fair.{opened_world}
-use Rattle.mqtt_world_acceptance_laws.specs.Identities.{TellsApart}
+use Rattle.mqtt_world_headline_laws.specs.Lives.{BeginsWell}
 use Rattle.mqtt_rules.specs.Laws.{AreWithin}
 use Rattle.mqtt_rules.specs.State.{MemberChoice, session_named}
 use Rattle.mqtt_rules.specs.Step.{is_opening_spent}
@@ -151,15 +151,16 @@ pub record Came {K : Type 0} (start : World) (es : List Event) (s : Staged K) : 
 abbrev pub HasCome : {K : Type 0} → World → Lasting K → Type 0
 HasCome {K} start w = (s : Staged K) → w.stage ≡ Ok s → Came start w.events s
 
--- exactly-once delivery, of all of them: where nobody was there at first, what was stored is as a broker leaves it, and their ends
--- begin clean (3.1.2.4, 3.3.4, 4.3, 4.4, 4.6, 4.8, 4.9)
+-- exactly-once delivery, of all of them, whatever turns they came to: where nobody was there at first, what was stored is as a
+-- broker leaves it, and their ends begin clean (3.1.2.4, 3.3.4, 4.3, 4.4, 4.6, 4.8, 4.9)
 abbrev pub HasDelivered : {K : Type 0} → World → Lasting K → Type 0
-HasDelivered {K} start w = (s : Staged K) → w.stage ≡ Ok s → IsUntouched s.limits start → TellsApart start.broker.records
-    → BeginClean s.limits w.events start → ScriptDelivers s.limits w.events start (world_at s)
+HasDelivered {K} start w = (s : Staged K) → w.stage ≡ Ok s → BeginsWell s.limits start → BeginClean s.limits w.events start
+    → ScriptDelivers s.limits w.events start (world_at s)
 
 -- a drain empties the queue, and the receiver's line stands still; it takes no more rounds than twice the copies that stand in
--- the queue at its start or enter in its first round, and one; if nobody was there at first and the ends so far began clean
--- (3.1.2.4, 4.3, 4.4, 4.6, 4.9)
+-- the queue at its start or enter in its first round, and one; and each copy that ends in it is the receiver's, and ends for a
+-- cause of a drain; if nobody was there at first and the ends so far began clean (3.1.2.4, 3.1.2.11, 3.3.2.3.3, 4.3, 4.4, 4.6,
+-- 4.9)
 abbrev pub DrainEmpties : {K : Type 0} → World → List ℕ → ℕ → Lasting K → Lasting K → Type 0
 DrainEmpties {K} start client rounds old new = (from to : Staged K) → old.stage ≡ Ok from → new.stage ≡ Ok to
     → IsUntouched from.limits start → BeginClean from.limits old.events start

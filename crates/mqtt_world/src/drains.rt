@@ -112,7 +112,8 @@ impl<K: Keep> World<K> {
         ensures over { (o : Why) → self.old.stage ≡ Err o
             → (result ≡ Err (fault_of o)) × (self.new ≡ self.old) }
 
-        // It ends within so many rounds, and then no copy waits for the receiver, or is in flight to it.
+        // It ends within so many rounds, and then no copy waits for the receiver, or is in flight to it. Those that end in
+        // it are the receiver's, and end for a cause of a drain.
         ensures empty { AlwaysSound K.Keep → (start : Start) → HasCome start self.old
             → IfOk result (λ n. DrainEmpties start client.now n self.old self.new) }
 

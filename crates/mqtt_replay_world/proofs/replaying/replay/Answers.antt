@@ -1,4 +1,5 @@
 use Rattle.std.proofs.lemmas.Result.{IfErr-weaker, IfOk-weaker}
+use Rattle.mqtt_world_headline_laws.proofs.Lives.{start_begins}
 use Rattle.mqtt_replay_world.proofs.Texted.{any_fault, front_kept, written, written_front}
 use Rattle.mqtt_replay_world.proofs.replaying.replay.Goals as goal
 
@@ -17,3 +18,9 @@ returns-clause-err g c =
 pub returns-in_err-keep-clause-err : goal.returns-in_err-keep-clause-err
 returns-in_err-keep-clause-err g c =
     any_fault c.from_residual.result _ (λ fault n. front_kept c.args.limits _ _ c.requires.within)
+
+pub returns-clause-untouched : goal.returns-clause-untouched
+returns-clause-untouched g c = start_begins c.args.limits c.requires.within
+
+pub returns-in_err-keep-clause-untouched : goal.returns-in_err-keep-clause-untouched
+returns-in_err-keep-clause-untouched g c = start_begins c.args.limits c.requires.within
