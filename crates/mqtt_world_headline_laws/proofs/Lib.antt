@@ -4,3 +4,6 @@ pub mod Drained
 pub mod Delivered
 pub mod Examples
 pub mod SaidExamples
+pub mod OrderExamples
+pub mod RefusedExamples
+pub mod RetainedExamples
