@@ -1,2 +1,3 @@
--- What a broker wrote may begin a world.
+-- What a broker wrote may begin a world, and one that began with nothing stored sends well.
 pub mod Begun
+pub mod Sending

@@ -1,2 +1,3 @@
 -- Stores that a broker wrote.
 pub mod Within
+pub mod Reached
