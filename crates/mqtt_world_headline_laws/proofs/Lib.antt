@@ -5,3 +5,6 @@ pub mod Delivered
 pub mod Examples
 pub mod SaidExamples
 pub mod LimitExamples
+pub mod OrderExamples
+pub mod RefusedExamples
+pub mod RetainedExamples
