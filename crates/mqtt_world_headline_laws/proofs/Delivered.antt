@@ -1,5 +1,5 @@
 -- The one law, part by part (MQTT 5.0, 3.3.4, 4.3, 4.4, 4.6, 4.8, 4.9).
-use Rattle.std.proofs.Common.{◌≡◌, ℕ, List, Some, sym, ap, ◌∙◌}
+use Rattle.std.proofs.Common.{◌≡◌, ℕ, List, Some, sym, ap, subst, ◌∙◌}
 use Rattle.std.proofs.lemmas.List.Elements.{All-from_recursion}
 use Rattle.mqtt_rules.proofs.numbers.Copies.{each_more}
 use Rattle.mqtt_rules.specs.Laws.{AreWithin}
@@ -20,7 +20,7 @@ use Rattle.mqtt_world_receiver_laws.proofs.drains.DrainRuns.{drains_are_runs, ru
 use Rattle.mqtt_world_delivery_laws.specs.Scripts.{DeliversOnce}
 use Rattle.mqtt_world_delivery_laws.proofs.whole.EveryRun.{run_hands_once, run_keeps_ledger}
 use Rattle.mqtt_world_delivery_laws.proofs.whole.Scripts.{run_delivers}
-use Rattle.mqtt_world_unsent_laws.proofs.Unsent.{run_left_waiting, run_never_handed}
+use Rattle.mqtt_world_unsent_laws.proofs.Unsent.{run_left_waiting, run_never_handed, run_over}
 use Rattle.mqtt_world_drain_laws.proofs.Emptied.{script_empties}
 use Rattle.mqtt_world_drain_cause_laws.proofs.DrainRuns.{script_ends}
 use Rattle.mqtt_world_drain_cause_laws.specs.Fitting.{AllDrainsFit}
@@ -46,6 +46,9 @@ module _ (limits : Limits) (ts : List Turn) (w : World) (m : BeginsWell limits w
     handed = all.handed c r e;
     never_handed = run_never_handed limits ts w m.untouched m.apart fair c r e;
     left_waiting = run_left_waiting limits ts w m.untouched m.apart fair c r e;
+    over = λ xs ys is q f.
+        run_over limits xs ys w m.untouched m.apart (subst (λ (zs : List Turn). IsFair limits zs w) (sym is) fair) c q r f
+        (ap (λ (zs : List Turn). receiver_named c (run limits zs w)) is ∙ e);
     since = λ xs ys is q f.
         let v = run limits xs w in
         let there : receiver_named c (run limits ys v) ≡ Some r = sym (ap (receiver_named c) (run_append limits xs ys w)) ∙ (ap (λ (zs : List Turn). receiver_named c (run limits zs w)) is ∙ e) in

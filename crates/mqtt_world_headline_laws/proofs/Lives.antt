@@ -1,26 +1,19 @@
 -- What a fair run leaves may begin another: its copies are told apart, and their publications were accepted (MQTT 5.0, 4.1, 4.6).
-use Rattle.std.proofs.Common.{◌≡◌, ℕ, ◌+◌, ◌≤◌, Bool, true, false, List, [], ◌∷◌, refl, sym, subst, arith}
-use Rattle.mqtt_base.specs.declared.session.CopyId.{CopyId}
+use Rattle.std.proofs.Common.{◌≡◌, ℕ, false, List, [], ◌∷◌, refl, sym, subst, arith}
 use Rattle.mqtt_records.specs.declared.records.Records.{Records}
-use Rattle.mqtt_rules.proofs.numbers.Copies.{each_more, kinds}
+use Rattle.mqtt_rules.proofs.numbers.Copies.{kinds}
 use Rattle.mqtt_rules.proofs.numbers.NumberCopies.{opening_accepted, step_accepted}
-use Rattle.mqtt_rules.specs.Deeds.{Deed}
-use Rattle.mqtt_rules.specs.Laws.{AreWithin, IsCoherent, IsCoherentMessage}
+use Rattle.mqtt_rules.specs.Laws.{AreWithin}
 use Rattle.mqtt_rules.specs.Numbers.{HasAcceptedNumbers}
 use Rattle.mqtt_rules.specs.State.{Broker, MemberChoice}
 use Rattle.mqtt_rules.specs.Step.{is_opening_spent}
 use Rattle.mqtt_rules.specs.declared.Limits.{Limits}
-use Rattle.mqtt_world_model.specs.Laws.{count_of}
 use Rattle.mqtt_world_model.specs.Run.{Turn, run}
 use Rattle.mqtt_world_model.specs.World.{World, start}
-use Rattle.mqtt_world_acceptance_laws.specs.Copies.{entered_from}
 use Rattle.mqtt_world_acceptance_laws.specs.Fair.{IsFair, opened_world}
-use Rattle.mqtt_world_acceptance_laws.specs.Identities.{TellsApart, may_come, queued_in}
-use Rattle.mqtt_world_acceptance_laws.proofs.copies.CopyRuns.{run_balances}
-use Rattle.mqtt_world_acceptance_laws.proofs.copies.Counting.{E}
-use Rattle.mqtt_world_acceptance_laws.proofs.copies.Entries.{AreKept, Enters, U, call_counted, enters_next, opening_counted}
-use Rattle.mqtt_world_acceptance_laws.proofs.copies.OnceRuns.{ends_once, opened_apart, start_apart}
-use Rattle.mqtt_world_acceptance_laws.proofs.copies.Walks.{Walk, run_walks}
+use Rattle.mqtt_world_acceptance_laws.specs.Identities.{TellsApart}
+use Rattle.mqtt_world_acceptance_laws.proofs.copies.Entries.{U}
+use Rattle.mqtt_world_acceptance_laws.proofs.copies.OnceRuns.{opened_apart, start_apart}
 use Rattle.mqtt_world_receiver_laws.specs.Drains.{all_turns}
 use Rattle.mqtt_world_receiver_laws.proofs.drains.DrainRuns.{drains_are_runs}
 use Rattle.mqtt_world_delivery_laws.specs.Alone.{IsKept}
@@ -30,65 +23,25 @@ use Rattle.mqtt_world_delivery_laws.proofs.whole.EveryRun.{fair_run_kept, run_op
 use Rattle.mqtt_world_delivery_laws.proofs.broker.Untouched.{start_untouched}
 use Rattle.mqtt_rules_spelling_laws.specs.Sending.{SendsWell}
 use Rattle.mqtt_rules_spelling_laws.proofs.Steps.{well_reopened}
+use Rattle.mqtt_world_unsent_laws.proofs.Once.{run_once}
 use Rattle.mqtt_world_reading_laws.specs.Sayable.{AreSayable}
 use Rattle.mqtt_world_reading_laws.proofs.Scripts.{all_said, sends_on, start_sends}
 use Rattle.mqtt_world_headline_laws.specs.Lives.{AreFairLives, AreSayableLives, BeginsWell, BrokerLife, after_lives}
 
 -- ---- copies that may come yet, over a run
 
-module _ (c : CopyId) where
-  abbrev Counts : List Deed → Broker → Broker → Type 0
-  Counts ds b d = AreKept (kinds b.records) → Enters c ds (kinds b.records) (kinds d.records)
-
-  counts : (limits : Limits) → Walk limits Counts
-  counts limits = record {
-    none = λ b k. let zero : E c [] ≡ 0 = refl in record { counted = omega (arith, zero); kept = k };
-    next = λ xs ys a b d p q k. let first = p k in enters_next c xs ys (kinds a.records) (kinds b.records) (kinds d.records) first (q first.kept);
-    unlink = λ n b d h k. let x = h k in record { counted = x.counted; kept = x.kept };
-    link = λ n b d h k. let x = h k in record { counted = x.counted; kept = x.kept };
-    call = λ choice now call b s unspent k. call_counted c limits choice now call b s.coherent.ordered k;
-    open_again = λ choice now b s unspent k. opening_counted c limits choice now b s.coherent.ordered k;
-  }
-
--- retained messages are of publications up to the last
-coherent_kept : (r : Records) → IsCoherent r → TellsApart r → AreKept (kinds r)
-coherent_kept r h apart = record {
-  given = each_more (IsCoherentMessage r.publications) (λ k. k.publication ≤ r.publications) (λ k q. q.0) r.retained h.retained;
-  differ = apart.retained;
-}
-
 module _ (limits : Limits) (ts : List Turn) (w : World) (u : IsUntouched limits w) (fair : IsFair limits ts w) (apart : TellsApart w.broker.records) where
-  abbrev first : Records
-  first = w.broker.records
-
   abbrev last : Records
   last = (run limits ts w).broker.records
 
-  counted : (c : CopyId) → count_of c (entered_from limits ts w) + U c (kinds last) ≤ U c (kinds first)
-  counted c = (run_walks (Counts c) limits ts w (counts c limits) u.new fair (coherent_kept first u.new.steady.coherent apart)).counted
-
-  -- one that may come yet could come at the beginning too, so it neither stood then nor has entered
-  none_stands : (c : CopyId) → may_come c last ≡ true → count_of c (queued_in last) ≡ 0
-  none_stands c e = by (may_come c first) refl
-    where
-      by : (t : Bool) → may_come c first ≡ t → count_of c (queued_in last) ≡ 0
-      by true may =
-          let all = counted c in
-          let one : U c (kinds last) ≡ 1 = rw e refl in
-          let most : U c (kinds first) ≡ 1 = rw may refl in
-          let none = apart.numbered c may in
-          let even = run_balances limits ts w u.new fair c in
-          omega (arith, all, one, most, none, even)
-      by false not_ =
-          let all = counted c in
-          let one : U c (kinds last) ≡ 1 = rw e refl in
-          let zero : U c (kinds first) ≡ 0 = rw not_ refl in
-          absurd (omega (arith, all, one, zero))
-
+  -- a copy that may come yet doesn't stand
   pub run_apart : TellsApart last
   run_apart = record {
-    once = λ c. let few = ends_once limits ts w u.new fair apart c in omega (arith, few);
-    numbered = none_stands;
+    once = λ c. let few = (run_once c limits ts w u.new fair apart).once in omega (arith, few);
+    numbered = λ c may.
+        let few = (run_once c limits ts w u.new fair apart).once in
+        let one : U c (kinds last) ≡ 1 = rw may refl in
+        omega (arith, few, one);
     retained = (fair_run_kept limits ts w u fair []).fit.once;
   }
 

@@ -22,7 +22,7 @@ use Rattle.mqtt_world_receiver_laws.specs.Drains.{Doing, after_doings, all_turns
 use Rattle.mqtt_world_receiver_laws.specs.Drains.{is_bad_drain, rounds_taken, turns_of}
 use Rattle.mqtt_world_delivery_laws.specs.HandedOnce.{CarriesEach, WasHanded}
 use Rattle.mqtt_world_delivery_laws.specs.HandedOver.{AreHandedInOrder, CarryQueued, WasHandedOver, queued_by}
-use Rattle.mqtt_world_unsent_laws.specs.Unsent.{WasLeftWaiting, WasNeverHanded}
+use Rattle.mqtt_world_unsent_laws.specs.Unsent.{IsOver, WasLeftWaiting, WasNeverHanded}
 use Rattle.mqtt_world_drain_laws.specs.Emptied.{EmptiesQueue}
 use Rattle.mqtt_world_drain_cause_laws.specs.DrainEnds.{EndOfDrain}
 use Rattle.mqtt_world_drain_cause_laws.specs.Fitting.{AllDrainsFit}
@@ -73,7 +73,7 @@ pub record HandsOverFrom (limits : Limits) (ys : List Turn) (v : World) (client 
 
 -- A receiver was handed each copy of QoS 2 at most once, in the order in which the copies entered over the run, and what it has
 -- read carries what its publication does. Of what expired or made way in the run, in whatever step, it was handed none, nor has it
--- read any, nor of what else left its queue while it waited
+-- read any, nor of what else left its queue while it waited; and nothing of a copy is read once that has ended
 pub record HandsOverOnce (limits : Limits) (ts : List Turn) (w : World) (client : List ℕ) (r : Receiver) : Type 0 where
   pub once : (copy : CopyId) → handed_count copy r ≤ 1
   pub as_entered : stand_among (copies_in r.ledger) (entered_from limits ts w) ≡ true
@@ -83,6 +83,8 @@ pub record HandsOverOnce (limits : Limits) (ts : List Turn) (w : World) (client 
   pub handed : WasHandedOver r (run limits ts w).broker
   pub never_handed : All (WasNeverHanded r) (filter_map ended_in (deeds_over limits ts w))
   pub left_waiting : All (WasLeftWaiting r) (deeds_over limits ts w)
+  pub over : (xs ys : List Turn) → xs ++ ys ≡ ts → (q : Receiver) → receiver_named client (run limits xs w) ≡ Some q
+      → All (IsOver q r) (filter_map ended_in (deeds_over limits xs w))
   pub since : (xs ys : List Turn) → xs ++ ys ≡ ts → (q : Receiver) → receiver_named client (run limits xs w) ≡ Some q
       → HandsOverFrom limits ys (run limits xs w) client q r
 

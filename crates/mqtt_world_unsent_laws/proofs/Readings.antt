@@ -1,6 +1,6 @@
 -- A copy is read at some moment of a run, where it is the first under way to the receiver; whatever else happens, the receiver has
 -- read of it what it had (MQTT 5.0, 4.3.2, 4.3.3).
-use Rattle.std.proofs.Common.{◌≡◌, ℕ, zero, suc, ◌+◌, ◌≤◌, Bool, true, false, cond, List, [], ◌∷◌, ◌++◌, map, Option, Some, None, nat_lt, bytes_eq, refl, sym, ap, subst, ◌∙◌, arith, inl, inr}
+use Rattle.std.proofs.Common.{◌≡◌, ◌⊎◌, ℕ, zero, suc, ◌+◌, ◌<◌, ◌≤◌, Bool, true, false, cond, List, [], ◌∷◌, ◌++◌, map, Option, Some, None, nat_lt, bytes_eq, refl, sym, ap, subst, ◌∙◌, arith, inl, inr}
 use Rattle.std.specs.Prelude.{find, if◌then◌else◌, is_some, option_map}
 use Rattle.std.specs.List.{cons_option}
 use Rattle.std.proofs.lemmas.Bool.{cases_Bool}
@@ -26,6 +26,11 @@ use Rattle.mqtt_world_receiver_laws.proofs.queue.Handed.{copy_is}
 use Rattle.mqtt_world_delivery_laws.proofs.others.Around.{on_back}
 use Rattle.mqtt_world_delivery_laws.proofs.others.Like.{moves_reading}
 use Rattle.mqtt_world_unsent_laws.proofs.Sent.{IsNext, IsOfCopy}
+
+pub less_or_not : (n m : ℕ) → (n < m) ⊎ (m ≤ n)
+less_or_not n zero = inr (omega arith)
+less_or_not zero (suc m) = inl (omega arith)
+less_or_not (suc n) (suc m) = elim (less_or_not n m) [ inl less ↦ inl (omega (arith, less)) | inr not_less ↦ inr (omega (arith, not_less)) ]
 
 -- how often it was read, of either QoS
 abbrev pub counts : CopyId → Receiver → ℕ
@@ -53,26 +58,24 @@ module _ (x : CopyId) where
       by true = refl
       by false = refl
 
-  publish_next : (t : Bool) (copy : Option CopyId) (p : Publication) (d : Delivery) (r : Receiver) → counts x r ≡ 0 → 1 ≤ counts x (reads_publish t copy p d r) → IsOfCopy d × (copy ≡ Some x)
-  publish_next t copy p delivery.AtMostOnce r none h = let less : 1 ≤ counts x r = h in absurd (omega (arith, none, less))
-  publish_next t copy p (delivery.AtLeastOnce dup i) r none h =
+  publish_next : (t : Bool) (copy : Option CopyId) (p : Publication) (d : Delivery) (r : Receiver) → counts x r < counts x (reads_publish t copy p d r) → IsOfCopy d × (copy ≡ Some x)
+  publish_next t copy p delivery.AtMostOnce r h = let less : counts x r < counts x r = h in absurd (omega (arith, less))
+  publish_next t copy p (delivery.AtLeastOnce dup i) r h =
       let e = entry_of false copy p in
       let all = one_more r.once e in
-      let more : 1 ≤ handed_count x r + count_of x (copies_in (r.once ++ e ∷ [])) = h in
-      let zero : handed_count x r + count_of x (copies_in r.once) ≡ 0 = none in
-      let one : 1 ≤ count_of x (copies_in (e ∷ [])) = omega (arith, all, more, zero) in
+      let more : handed_count x r + count_of x (copies_in r.once) < handed_count x r + count_of x (copies_in (r.once ++ e ∷ [])) = h in
+      let one : 1 ≤ count_of x (copies_in (e ∷ [])) = omega (arith, all, more) in
       (tt, counted_copy copy one)
-  publish_next t copy p (delivery.ExactlyOnce dup i) r none h = (tt, by (is_among i r.kept) h)
+  publish_next t copy p (delivery.ExactlyOnce dup i) r h = (tt, by (is_among i r.kept) h)
     where
       e : Entry
       e = entry_of true copy p
 
-      by : (known : Bool) → 1 ≤ count_of x (copies_in (if known then r.ledger else r.ledger ++ e ∷ [])) + read_count x r → copy ≡ Some x
-      by true more = let zero : count_of x (copies_in r.ledger) + read_count x r ≡ 0 = none in absurd (omega (arith, more, zero))
+      by : (known : Bool) → count_of x (copies_in r.ledger) + read_count x r < count_of x (copies_in (if known then r.ledger else r.ledger ++ e ∷ [])) + read_count x r → copy ≡ Some x
+      by true more = absurd (omega (arith, more))
       by false more =
           let all = one_more r.ledger e in
-          let zero : count_of x (copies_in r.ledger) + read_count x r ≡ 0 = none in
-          let one : 1 ≤ count_of x (copies_in (e ∷ [])) = omega (arith, all, more, zero) in
+          let one : 1 ≤ count_of x (copies_in (e ∷ [])) = omega (arith, all, more) in
           counted_copy copy one
 
   record IsPublish (copy : Option CopyId) (packet : Packet) : Type 0 where
@@ -81,18 +84,18 @@ module _ (x : CopyId) where
     of_copy : IsOfCopy publication.delivery
     its : copy ≡ Some x
 
-  hears_next : (t : Bool) (copy : Option CopyId) (packet : Packet) (r : Receiver) → counts x r ≡ 0 → 1 ≤ counts x (hears t copy packet r) → IsPublish copy packet
-  hears_next t copy (packets.Connack a) r none h = let same = same_connack r.line.link a.session_present a.reason.0 r in absurd (omega (arith, none, h, same))
-  hears_next t copy (packets.Publish p) r none h = let k = publish_next t copy p p.delivery r none h in record { publication = p; is = refl; of_copy = k.0; its = k.1 }
-  hears_next t copy (packets.Pubrel a) r none h = let less : 1 ≤ counts x r = h in absurd (omega (arith, none, less))
-  hears_next t copy (packets.Suback a) r none h = let less : 1 ≤ counts x r = h in absurd (omega (arith, none, less))
-  hears_next t copy (packets.Disconnect a) r none h = let less : 1 ≤ counts x r = h in absurd (omega (arith, none, less))
-  hears_next t copy packet r none h = let less : 1 ≤ counts x r = h in absurd (omega (arith, none, less))
+  hears_next : (t : Bool) (copy : Option CopyId) (packet : Packet) (r : Receiver) → counts x r < counts x (hears t copy packet r) → IsPublish copy packet
+  hears_next t copy (packets.Connack a) r h = let same = same_connack r.line.link a.session_present a.reason.0 r in absurd (omega (arith, h, same))
+  hears_next t copy (packets.Publish p) r h = let k = publish_next t copy p p.delivery r h in record { publication = p; is = refl; of_copy = k.0; its = k.1 }
+  hears_next t copy (packets.Pubrel a) r h = let less : counts x r < counts x r = h in absurd (omega (arith, less))
+  hears_next t copy (packets.Suback a) r h = let less : counts x r < counts x r = h in absurd (omega (arith, less))
+  hears_next t copy (packets.Disconnect a) r h = let less : counts x r < counts x r = h in absurd (omega (arith, less))
+  hears_next t copy packet r h = let less : counts x r < counts x r = h in absurd (omega (arith, less))
 
-  reads_next : (t : Bool) (ds : List Down) (r : Receiver) → r.line.down ≡ ds → counts x r ≡ 0 → 1 ≤ counts x (receiver_reads t ds r) → IsNext x r
-  reads_next t [] r is none h = absurd (omega (arith, none, h))
-  reads_next t (d ∷ rest) r is none h =
-      let k = hears_next t d.copy d.packet (record r { line = record r.line { down = rest } }) none h in
+  reads_next : (t : Bool) (ds : List Down) (r : Receiver) → r.line.down ≡ ds → counts x r < counts x (receiver_reads t ds r) → IsNext x r
+  reads_next t [] r is h = absurd (omega (arith, h))
+  reads_next t (d ∷ rest) r is h =
+      let k = hears_next t d.copy d.packet (record r { line = record r.line { down = rest } }) h in
       record { down = d; rest = rest; publication = k.publication; front = is; packet = k.is; of_copy = k.of_copy; its = k.its }
 
 -- ---- the receiver of a name
@@ -210,12 +213,12 @@ module _ (c : List ℕ) (x : CopyId) where
     pub named : receiver_named c w ≡ Some reader
     pub next : IsNext x reader
 
-  nothing_new : (w v : World) → Same w v → count_at w ≡ 0 → 1 ≤ count_at v → ReadsNext w
-  nothing_new w v same none h = absurd (omega (arith, same, none, h))
+  nothing_new : (w v : World) → Same w v → count_at w < count_at v → ReadsNext w
+  nothing_new w v same h = absurd (omega (arith, same, h))
 
-  reading : (set : Setting) (d : List ℕ) (w : World) → count_at w ≡ 0 → 1 ≤ count_at (happens set (to_end d) w) → ReadsNext w
-  reading set d w none h =
-      by (receiver_named c w) refl none (subst (λ (o : Option Receiver). 1 ≤ counts_by o) (find_receiver c f (one_client d g (λ r. (moves_reading (stands r.line.number w.broker) r.line.down r).client)) w.receivers) h)
+  reading : (set : Setting) (d : List ℕ) (w : World) → count_at w < count_at (happens set (to_end d) w) → ReadsNext w
+  reading set d w h =
+      by (receiver_named c w) refl (subst (λ (o : Option Receiver). count_at w < counts_by o) (find_receiver c f (one_client d g (λ r. (moves_reading (stands r.line.number w.broker) r.line.down r).client)) w.receivers) h)
     where
       g : Receiver → Receiver
       g r = receiver_reads (stands r.line.number w.broker) r.line.down r
@@ -223,34 +226,34 @@ module _ (c : List ℕ) (x : CopyId) where
       f : Receiver → Receiver
       f r = cond (bytes_eq r.client d) (g r) r
 
-      its : (r : Receiver) (t : Bool) → counts x r ≡ 0 → 1 ≤ counts x (cond t (g r) r) → IsNext x r
-      its r true unread more = reads_next x (stands r.line.number w.broker) r.line.down r refl unread more
-      its r false unread more = absurd (omega (arith, unread, more))
+      its : (r : Receiver) (t : Bool) → counts x r < counts x (cond t (g r) r) → IsNext x r
+      its r true more = reads_next x (stands r.line.number w.broker) r.line.down r refl more
+      its r false more = absurd (omega (arith, more))
 
-      by : (o : Option Receiver) → receiver_named c w ≡ o → counts_by o ≡ 0 → 1 ≤ counts_by (option_map f o) → ReadsNext w
-      by None e unread more = absurd (omega (arith, more))
-      by (Some r) e unread more = record { reader = r; named = e; next = its r (bytes_eq r.client d) unread more }
+      by : (o : Option Receiver) → receiver_named c w ≡ o → counts_by o < counts_by (option_map f o) → ReadsNext w
+      by None e more = absurd (omega (arith, more))
+      by (Some r) e more = record { reader = r; named = e; next = its r (bytes_eq r.client d) more }
 
-  happens_next : (set : Setting) (e : Event) (w : World) → count_at w ≡ 0 → 1 ≤ count_at (happens set e w) → ReadsNext w
-  happens_next set (to_end d) w none h = reading set d w none h
-  happens_next set (publisher d) w none h = nothing_new w (happens set (publisher d) w) (same_all w (happens set (publisher d) w) refl) none h
-  happens_next set (receiver d window) w none h = nothing_new w (happens set (receiver d window) w) (new_same (new_receiver d window w.broker.records.births) w.receivers refl) none h
-  happens_next set (connect_end d clean) w none h = nothing_new w (happens set (connect_end d clean) w) (links_same set (next_line w.broker) d clean w) none h
-  happens_next set (give_up d) w none h = nothing_new w (happens set (give_up d) w) (line_same d (λ l. gives_up l.link l) w (happens set (give_up d) w) refl) none h
-  happens_next set (publish d a) w none h = nothing_new w (happens set (publish d a) w) (same_all w (happens set (publish d a) w) refl) none h
-  happens_next set (subscribe d a) w none h = nothing_new w (happens set (subscribe d a) w) (one_same d (λ r. asks_wish (stands r.line.number w.broker) a r) w (happens set (subscribe d a) w) (λ r. refl) (λ r. refl) refl) none h
-  happens_next set (clock wait) w none h = nothing_new w (happens set (clock wait) w) (same_all w (happens set (clock wait) w) refl) none h
-  happens_next set (ask a) w none h = nothing_new w (happens set (ask a) w) (asks_same set a w) none h
-  happens_next set restart w none h = nothing_new w (happens set restart w) (restarts_same set w) none h
-  happens_next set (stop_before a) w none h = nothing_new w (happens set (stop_before a) w) (then_same w (before set a w) (happens set (stop_before a) w) (before_same set a w) (restarts_same set (before set a w))) none h
-  happens_next set (stop_after a) w none h = nothing_new w (happens set (stop_after a) w) (then_same w (first_step set a w) (happens set (stop_after a) w) (first_same set a w) (restarts_same set (first_step set a w))) none h
+  happens_next : (set : Setting) (e : Event) (w : World) → count_at w < count_at (happens set e w) → ReadsNext w
+  happens_next set (to_end d) w h = reading set d w h
+  happens_next set (publisher d) w h = nothing_new w (happens set (publisher d) w) (same_all w (happens set (publisher d) w) refl) h
+  happens_next set (receiver d window) w h = nothing_new w (happens set (receiver d window) w) (new_same (new_receiver d window w.broker.records.births) w.receivers refl) h
+  happens_next set (connect_end d clean) w h = nothing_new w (happens set (connect_end d clean) w) (links_same set (next_line w.broker) d clean w) h
+  happens_next set (give_up d) w h = nothing_new w (happens set (give_up d) w) (line_same d (λ l. gives_up l.link l) w (happens set (give_up d) w) refl) h
+  happens_next set (publish d a) w h = nothing_new w (happens set (publish d a) w) (same_all w (happens set (publish d a) w) refl) h
+  happens_next set (subscribe d a) w h = nothing_new w (happens set (subscribe d a) w) (one_same d (λ r. asks_wish (stands r.line.number w.broker) a r) w (happens set (subscribe d a) w) (λ r. refl) (λ r. refl) refl) h
+  happens_next set (clock wait) w h = nothing_new w (happens set (clock wait) w) (same_all w (happens set (clock wait) w) refl) h
+  happens_next set (ask a) w h = nothing_new w (happens set (ask a) w) (asks_same set a w) h
+  happens_next set restart w h = nothing_new w (happens set restart w) (restarts_same set w) h
+  happens_next set (stop_before a) w h = nothing_new w (happens set (stop_before a) w) (then_same w (before set a w) (happens set (stop_before a) w) (before_same set a w) (restarts_same set (before set a w))) h
+  happens_next set (stop_after a) w h = nothing_new w (happens set (stop_after a) w) (then_same w (first_step set a w) (happens set (stop_after a) w) (first_same set a w) (restarts_same set (first_step set a w))) h
 
-  turn_next : (limits : Limits) (t : Turn) (w : World) → count_at w ≡ 0 → 1 ≤ count_at (turned limits t w) → ReadsNext w
-  turn_next limits t w none h = by (is_bad t.event w) h
+  turn_next : (limits : Limits) (t : Turn) (w : World) → count_at w < count_at (turned limits t w) → ReadsNext w
+  turn_next limits t w h = by (is_bad t.event w) h
     where
-      by : (bad : Bool) → 1 ≤ count_at (cond bad w (happens (setting limits t) t.event w)) → ReadsNext w
-      by true more = absurd (omega (arith, none, more))
-      by false more = happens_next (setting limits t) t.event w none more
+      by : (bad : Bool) → count_at w < count_at (cond bad w (happens (setting limits t) t.event w)) → ReadsNext w
+      by true more = absurd (omega (arith, more))
+      by false more = happens_next (setting limits t) t.event w more
 
   -- ---- in a run
 
@@ -261,12 +264,13 @@ module _ (c : List ℕ) (x : CopyId) where
     pub are : first ++ later ≡ ts
     pub moment : ReadsNext (run limits first w)
 
-  pub is_read : (limits : Limits) (ts : List Turn) (w : World) → count_at w ≡ 0 → 1 ≤ count_at (run limits ts w) → IsReadIn limits ts w
-  is_read limits [] w none h = absurd (omega (arith, none, h))
-  is_read limits (t ∷ ts) w none h = by (count_at (turned limits t w)) refl (λ e. is_read limits ts (turned limits t w) e h)
+  -- there is one where the receiver has read more of it by the end
+  pub is_read : (limits : Limits) (ts : List Turn) (w : World) → count_at w < count_at (run limits ts w) → IsReadIn limits ts w
+  is_read limits [] w h = absurd (omega (arith, h))
+  is_read limits (t ∷ ts) w h = by (less_or_not (count_at w) (count_at (turned limits t w))) (λ more. is_read limits ts (turned limits t w) more)
     where
-      by : (n : ℕ) → count_at (turned limits t w) ≡ n → (count_at (turned limits t w) ≡ 0 → IsReadIn limits ts (turned limits t w)) → IsReadIn limits (t ∷ ts) w
-      by zero e more =
-          let m = more e in
+      by : (count_at w < count_at (turned limits t w)) ⊎ (count_at (turned limits t w) ≤ count_at w) → (count_at (turned limits t w) < count_at (run limits ts (turned limits t w)) → IsReadIn limits ts (turned limits t w)) → IsReadIn limits (t ∷ ts) w
+      by (inl now) more = record { first = []; later = t ∷ ts; are = refl; moment = turn_next limits t w now }
+      by (inr not_yet) more =
+          let m = more (omega (arith, h, not_yet)) in
           record { first = t ∷ m.first; later = m.later; are = ap (λ (zs : List Turn). t ∷ zs) m.are; moment = m.moment }
-      by (suc n) e more = record { first = []; later = t ∷ ts; are = refl; moment = turn_next limits t w none (omega (arith, e)) }

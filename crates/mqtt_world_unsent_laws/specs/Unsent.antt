@@ -31,3 +31,13 @@ WasNeverHanded r e = IsUnsentEnd e.by → IsUnread r e.copy
 abbrev pub WasLeftWaiting : Receiver → Deed → Type 0
 WasLeftWaiting r (At who (Leave e ending)) = e.phase ≡ Waiting → IsUnread r e.copy.id
 WasLeftWaiting r d = ⊤
+
+-- ---- a copy that has ended
+
+-- the receiver has read it as often as when it was q
+pub record IsAsRead (q r : Receiver) (copy : CopyId) : Type 0 where
+  pub handed : handed_count copy r ≡ handed_count copy q
+  pub read : read_count copy r ≡ read_count copy q
+
+abbrev pub IsOver : Receiver → Receiver → End → Type 0
+IsOver q r e = IsAsRead q r e.copy
