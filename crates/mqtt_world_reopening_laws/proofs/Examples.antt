@@ -1,8 +1,7 @@
 -- A worked run of a world that begins on what a broker left: a message that went out became too large for its client, and a stranger
 -- that comes by that client identifier answers its PUBREL (MQTT 5.0, 3.1.2.11.4, 3.7, 4.1, 4.4).
 use Rattle.std.proofs.Common.{◌≡◌, ℕ, zero, suc, ◌<◌, ◌≤◌, Bool, true, false, ◌&&◌, List, [], ◌∷◌, ◌++◌, map, Some, None, Ok, refl, arith}
-use Rattle.std.specs.Prelude.{codes, filter_map, length, nat_le, nat_lt, replicate}
-use Rattle.std.specs.List.{AllByRecursion}
+use Rattle.std.specs.Prelude.{codes, filter_map, nat_lt, replicate}
 use Rattle.std.specs.Str.{is_utf8, chars}
 use Rattle.std.proofs.Math.Utf8.{encode}
 use Rattle.std.proofs.lemmas.Bool.Decides.{nat_tests}
@@ -27,7 +26,6 @@ use Rattle.mqtt_codec.specs.declared.packet.Packet.TheVariants.{Publish}
 use Rattle.mqtt_packet.specs.Front.{size_at, first_of}
 use Rattle.mqtt_records_message.specs.PassedOn.{property}
 use Rattle.mqtt_records.specs.declared.records.Records.{Records}
-use Rattle.mqtt_records.specs.declared.session.Session.{Session}
 use Rattle.mqtt_rules.specs.Contents.{IsTaken}
 use Rattle.mqtt_rules.specs.Laws.{Asked, Event, after_events, blank}
 use Rattle.mqtt_rules.specs.State.{stored}
@@ -46,7 +44,6 @@ use Rattle.mqtt_world_headline_laws.specs.Lives.{IsFairScript}
 use Rattle.mqtt_world_headline_laws.proofs.Examples.{usual_within}
 use Rattle.mqtt_broker_reopening_laws.specs.Written.{AreFair}
 use Rattle.mqtt_world_reopening_laws.specs.Reached.{WasLeft}
-use Rattle.mqtt_world_reopening_laws.specs.Within.{IsWrittenWithin}
 use Rattle.mqtt_world_reopening_laws.proofs.Begun.{written_delivers}
 use Rattle.mqtt_world_reopening_laws.proofs.Sending.{left_written}
 
@@ -124,23 +121,6 @@ left = stored (after_events outgrown blank)
 pub it_was_left : WasLeft left
 it_was_left = record { events = outgrown; fair = it_is_asked_fairly; is = refl }
 
--- ---- it is within the usual limits
-
-at_most : (m n : ℕ) → nat_le m n ≡ true → m ≤ n
-at_most m n h = grind (arith, nat_tests)
-
-abbrev are_short : ℕ → List Session → Bool
-are_short n [] = true
-are_short n (s ∷ ss) = nat_le (length s.queue) n && are_short n ss
-
-short_by : (n : ℕ) (ss : List Session) → are_short n ss ≡ true → AllByRecursion (λ s. length s.queue ≤ n) ss
-short_by n [] h = tt
-short_by n (s ∷ ss) h = let both = two (nat_le (length s.queue) n) (are_short n ss) h in (at_most (length s.queue) n both.0, short_by n ss both.1)
-
-pub left_within : IsWrittenWithin usual left
-unfolding varint
-left_within = record { written = left_written left it_was_left; sessions = at_most (length left.sessions) 1000 refl; queues = short_by 1000 left.sessions refl }
-
 -- ---- a stranger comes by the client identifier r1, which takes 64 bytes, and answers the PUBREL with PUBCOMP
 
 abbrev pub opened_then : World
@@ -168,4 +148,4 @@ its_completion_is_fair = record { within = usual_within; unspent = refl; clean =
 
 -- so the law holds of it
 pub its_completion_delivers : DoingsDeliver usual completed_life opened_then
-its_completion_delivers = written_delivers usual first 0 left completed_life usual_within left_within opened_unspent its_completion_is_fair
+its_completion_delivers = written_delivers usual first 0 left completed_life usual_within (left_written left it_was_left) opened_unspent its_completion_is_fair
