@@ -7,3 +7,4 @@ pub mod SaidExamples
 pub mod OrderExamples
 pub mod RefusedExamples
 pub mod RetainedExamples
+pub mod WindowExamples

@@ -121,6 +121,7 @@ it_is_asked_fairly =
 abbrev pub left : Records
 left = stored (after_events outgrown blank)
 
+-- that is what a broker left after fair calls from nothing stored
 pub it_was_left : WasLeft left
 it_was_left = record { events = outgrown; fair = it_is_asked_fairly; is = refl }
 
@@ -137,6 +138,7 @@ short_by : (n : ℕ) (ss : List Session) → are_short n ss ≡ true → AllByRe
 short_by n [] h = tt
 short_by n (s ∷ ss) h = let both = two (nat_le (length s.queue) n) (are_short n ss) h in (at_most (length s.queue) n both.0, short_by n ss both.1)
 
+-- it may be opened under the usual limits
 pub left_within : IsWrittenWithin usual left
 unfolding varint
 left_within = record { written = left_written left it_was_left; sessions = at_most (length left.sessions) 1000 refl; queues = short_by 1000 left.sessions refl }
@@ -154,6 +156,7 @@ completing =
 abbrev pub completed_life : List Doing
 completed_life = map happens (turns completing)
 
+-- it is the one copy that ends there, and that is its end
 pub it_ends_as_too_large : filter_map ended_in (deeds_over usual (turns completing) opened_then) ≡ record { client = r1; copy = first_copy; qos = ExactlyOnce; by = TooLarge } ∷ []
 unfolding varint first_of size_at packet_at frame_at versioned_at lawful_at body_at connect_at fields_at will_at user_name_at password_at layout_at block_at items_at items_in text_at blob_at is_utf8 chars encode varint_at groups_at prop_at value_at ack_at tail_at
 it_ends_as_too_large = refl
@@ -162,6 +165,7 @@ opened_unspent : is_opening_spent usual first 0 left ≡ false
 unfolding varint
 opened_unspent = refl
 
+-- all that is asked of a script
 pub its_completion_is_fair : IsFairScript usual completed_life opened_then
 unfolding varint first_of size_at packet_at frame_at versioned_at lawful_at body_at connect_at fields_at will_at user_name_at password_at layout_at block_at items_at items_in text_at blob_at is_utf8 chars encode varint_at groups_at prop_at value_at ack_at tail_at
 its_completion_is_fair = record { within = usual_within; unspent = refl; clean = refl }
