@@ -31,7 +31,6 @@ fn bad() -> &'static [(&'static str, &'static str)] {
         ("publisher p1\n", "giveup p1"),
         ("publisher p1\n", "break p1"),
         ("publisher p1\n", "stopafter break p1"),
-        ("publisher p1\n", "publish p1 2 0 a/# 6869"),
         ("receiver r1 10\n", "publish r1 2 0 a/b 6869"),
         ("receiver r1 10\n", "subscribe r1 2 0 0 0 0 a/b"),
         (
@@ -43,7 +42,6 @@ fn bad() -> &'static [(&'static str, &'static str)] {
             "subscribe p1 2 0 0 0 0 a/b",
         ),
         (READY, "subscribe r1 2 1 0 0 0 $share/g/a/b"),
-        (READY, "subscribe r1 2 0 0 0 0 a/#/b"),
         (WAITING, "subscribe r1 2 0 0 0 0 a/b"),
         ("", "drain r1"),
         ("receiver r1 10\n", "drain r1"),

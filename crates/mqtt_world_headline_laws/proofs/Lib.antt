@@ -8,3 +8,4 @@ pub mod LimitExamples
 pub mod OrderExamples
 pub mod RefusedExamples
 pub mod RetainedExamples
+pub mod WindowExamples

@@ -34,6 +34,7 @@ says = publish p1 draft ∷ ask (to_broker p1) ∷ []
 
 -- ---- a message is published and the queue drained, and then another
 
+-- each is drained before the next one comes
 abbrev pub one_by_one : List Doing
 one_by_one = map happens (turns (begun 10 ++ says)) ++ drains first r1 3 ∷ map happens (turns says) ++ drains first r1 3 ∷ []
 
@@ -42,14 +43,17 @@ pub the_first_is_gone : waiting_for r1 (after_doings usual (map happens (turns (
 unfolding varint
 the_first_is_gone = refl
 
+-- the copies that enter, in order
 pub both_entered : entered_from usual (all_turns usual one_by_one start) start ≡ copy 1 ∷ copy 2 ∷ []
 unfolding varint
 both_entered = refl
 
+-- the ledger has both, in that order
 pub both_were_handed_over : ledger_in (after_doings usual one_by_one start) ≡ Some (copy 1 ∷ copy 2 ∷ [])
 unfolding varint
 both_were_handed_over = refl
 
+-- so the ledger stands among what entered
 pub they_stand_as_they_entered : stand_among (copy 1 ∷ copy 2 ∷ []) (entered_from usual (all_turns usual one_by_one start) start) ≡ true
 unfolding varint
 they_stand_as_they_entered = refl
@@ -59,6 +63,7 @@ pub they_do_not_the_other_way : stand_among (copy 2 ∷ copy 1 ∷ []) (entered_
 unfolding varint
 they_do_not_the_other_way = refl
 
+-- all that is asked of a script
 pub one_by_one_is_fair : IsFairScript usual one_by_one start
 unfolding varint
 one_by_one_is_fair = record { within = usual_within; unspent = refl; clean = refl }

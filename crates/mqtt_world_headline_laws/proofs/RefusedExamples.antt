@@ -56,19 +56,23 @@ refusing =
 abbrev pub refused_life : List Doing
 refused_life = map happens (turns refusing)
 
+-- the copy stands still as the second life begins
 pub one_is_stored : waiting_for r1 opened_then ≡ 1
 unfolding varint
 one_is_stored = refl
 
+-- it is the one copy that ends there, and that is its end
 pub it_ends_as_refused : filter_map ended_in (deeds_over usual (turns refusing) opened_then)
     ≡ record { client = r1; copy = first_copy; qos = AtLeastOnce; by = Refused } ∷ []
 unfolding varint first_of size_at packet_at frame_at versioned_at lawful_at body_at connect_at fields_at will_at user_name_at password_at layout_at block_at items_at items_in text_at blob_at is_utf8 chars encode varint_at groups_at prop_at value_at ack_at tail_at
 it_ends_as_refused = refl
 
+-- all that is asked of the first life
 pub it_is_unanswered_fairly : IsFairLife usual unanswered start
 unfolding varint
 it_is_unanswered_fairly = record { fair = record { within = usual_within; unspent = refl; clean = refl }; unspent = refl }
 
+-- and of the second
 pub its_refusal_is_fair : IsFairScript usual refused_life opened_then
 unfolding varint first_of size_at packet_at frame_at versioned_at lawful_at body_at connect_at fields_at will_at user_name_at password_at layout_at block_at items_at items_in text_at blob_at is_utf8 chars encode varint_at groups_at prop_at value_at ack_at tail_at
 its_refusal_is_fair = record { within = usual_within; unspent = refl; clean = refl }

@@ -42,22 +42,27 @@ routed = record { publication = 1; birth = 1; cause = Direct }
 abbrev brought : ℕ → CopyId
 brought number = record { publication = 1; birth = 3; cause = Retained number }
 
+-- what enters: the copy of the routing, and one for each SUBSCRIBE of r2
 pub two_are_brought_later : entered_from usual (all_turns usual brought_twice start) start ≡ routed ∷ brought 2 ∷ brought 3 ∷ []
 unfolding varint
 two_are_brought_later = refl
 
+-- of the routing there is one copy alone
 pub neither_is_of_the_routing : filter (is_own 1) (entered_from usual (all_turns usual brought_twice start) start) ≡ routed ∷ []
 unfolding varint
 neither_is_of_the_routing = refl
 
+-- r2 is handed the one publication twice, as two copies
 pub both_are_handed_over : handed_by (receiver_named r2 (after_doings usual brought_twice start)) ≡ 1 ∷ 1 ∷ []
 unfolding varint
 both_are_handed_over = refl
 
+-- and each of them ends once
 pub both_end_as_taken : ended_from usual (all_turns usual brought_twice start) start ≡ brought 2 ∷ brought 3 ∷ []
 unfolding varint
 both_end_as_taken = refl
 
+-- all that is asked of a script
 pub brought_twice_is_fair : IsFairScript usual brought_twice start
 unfolding varint
 brought_twice_is_fair = record { within = usual_within; unspent = refl; clean = refl }

@@ -118,6 +118,7 @@ it_is_asked_fairly =
 abbrev pub left : Records
 left = stored (after_events outgrown blank)
 
+-- that is what a broker left after fair calls from nothing stored
 pub it_was_left : WasLeft left
 it_was_left = record { events = outgrown; fair = it_is_asked_fairly; is = refl }
 
@@ -134,6 +135,7 @@ completing =
 abbrev pub completed_life : List Doing
 completed_life = map happens (turns completing)
 
+-- it is the one copy that ends there, and that is its end
 pub it_ends_as_too_large : filter_map ended_in (deeds_over usual (turns completing) opened_then) ≡ record { client = r1; copy = first_copy; qos = ExactlyOnce; by = TooLarge } ∷ []
 unfolding varint first_of size_at packet_at frame_at versioned_at lawful_at body_at connect_at fields_at will_at user_name_at password_at layout_at block_at items_at items_in text_at blob_at is_utf8 chars encode varint_at groups_at prop_at value_at ack_at tail_at
 it_ends_as_too_large = refl
@@ -142,6 +144,7 @@ opened_unspent : is_opening_spent usual first 0 left ≡ false
 unfolding varint
 opened_unspent = refl
 
+-- all that is asked of a script
 pub its_completion_is_fair : IsFairScript usual completed_life opened_then
 unfolding varint first_of size_at packet_at frame_at versioned_at lawful_at body_at connect_at fields_at will_at user_name_at password_at layout_at block_at items_at items_in text_at blob_at is_utf8 chars encode varint_at groups_at prop_at value_at ack_at tail_at
 its_completion_is_fair = record { within = usual_within; unspent = refl; clean = refl }

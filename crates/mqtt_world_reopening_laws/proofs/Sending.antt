@@ -99,6 +99,7 @@ events_send (e ∷ es) b fair h = events_send es (after_event e b) fair.1 (event
 
 -- ---- what it has left
 
+-- it is such as a broker writes
 pub left_written : (r : Records) → WasLeft r → IsWritten r
 left_written r w = subst IsWritten w.is (run_written w.events w.fair)
 
@@ -106,5 +107,6 @@ left_written r w = subst IsWritten w.is (run_written w.events w.fair)
 pub left_phases : (r : Records) → WasLeft r → HaveSentPhases r
 left_phases r w = subst HaveSentPhases w.is (events_send w.events blank w.fair blank_sends).phases
 
+-- a broker that is opened on it sends well
 pub left_sends : (limits : Limits) (choice : MemberChoice) (now : ℕ) (r : Records) → WasLeft r → is_opening_spent limits choice now r ≡ false → SendsWell (opened_world limits choice now r).broker
 left_sends limits choice now r w unspent = well_begun limits choice now r unspent (left_written r w).lawful (left_phases r w)
