@@ -101,8 +101,10 @@ turn_law = record {
 law : (env : Env) → Law env anyone Any Good
 law env = by_deeds env anyone Any Good (deed_law env) turn_law
 
+-- whatever the call
 pub call_marked : (env : Env) (call : Call) (b : Broker) → AreMarked (deeds_of env call b)
 call_marked env call b = marked_good (deeds_of env call b) b (leads_call env anyone Any Good (law env) call b tt (call_of_anyone call b)).0
 
+-- and as the broker is opened
 pub opening_marked : (env : Env) (b : Broker) → AreMarked (opening env b)
 opening_marked env b = marked_good (opening env b) b (leads_opening env anyone Any Good (law env) (by_deeds_shuts env anyone Any Good (deed_law env) (λ birth. tt)) (λ birth. tt) b tt).0

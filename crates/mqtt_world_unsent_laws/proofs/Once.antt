@@ -60,6 +60,7 @@ module _ (x : CopyId) where
     pub once : count_of x (standing (run limits ts w).broker) + (count_of x (ended_from limits ts w) + U x (kinds (run limits ts w).broker.records)) ≤ 1
     pub kept : AreKept (kinds (run limits ts w).broker.records)
 
+  -- so it is in every run
   pub run_once : (limits : Limits) (ts : List Turn) (w : World) → IsNew w → IsFair limits ts w → TellsApart w.broker.records → IsOnce limits ts w
   run_once limits ts w new fair apart =
       let r = w.broker.records in
@@ -78,6 +79,7 @@ module _ (x : CopyId) where
   abbrev ids : List CopyRow → List CopyId
   ids rows = map (λ (e : CopyRow). e.copy.id) rows
 
+  -- a copy counts as itself
   pub counts_itself : (y : CopyId) → y ≡ x → count_of x (y ∷ []) ≡ 1
   counts_itself y is = subst (λ (c : CopyId). count_of x (c ∷ []) ≡ 1) (sym is) (rw (copy_itself x) refl)
 
@@ -114,6 +116,7 @@ module _ (x : CopyId) where
 
   -- ---- in all queues
 
+  -- where a row of it stands it counts
   pub session_counts : (s : Session) (row : CopyRow) (ss : List Session) → IsAmong s ss → IsAmong row s.queue → row.copy.id ≡ x → 1 ≤ count_of x (flat_map standing_in ss)
   session_counts s row [] there among is = absurd there
   session_counts s row (y ∷ ys) there among is =
@@ -131,6 +134,7 @@ module _ (x : CopyId) where
       let rest : count_of x (flat_map standing_in ys) ≡ 0 = omega (arith, all, none) in
       (none_rows y.queue first, none_sessions ys rest)
 
+  -- where it stands once, in a row that doesn't wait, none waits
   pub sessions_sent : (s : Session) (row : CopyRow) (ss : List Session) → IsAmong s ss → IsAmong row s.queue → row.copy.id ≡ x → (row.phase ≡ Waiting → ⊥) → count_of x (flat_map standing_in ss) ≤ 1 → AreSent x ss
   sessions_sent s row [] there among is sent few = absurd there
   sessions_sent s row (y ∷ ys) there among is sent few =

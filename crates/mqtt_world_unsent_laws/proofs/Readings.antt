@@ -27,6 +27,7 @@ use Rattle.mqtt_world_delivery_laws.proofs.others.Around.{on_back}
 use Rattle.mqtt_world_delivery_laws.proofs.others.Like.{moves_reading}
 use Rattle.mqtt_world_unsent_laws.proofs.Sent.{IsNext, IsOfCopy}
 
+-- two numbers
 pub less_or_not : (n m : ℕ) → (n < m) ⊎ (m ≤ n)
 less_or_not n zero = inr (omega arith)
 less_or_not zero (suc m) = inl (omega arith)

@@ -78,6 +78,7 @@ module _ (x : CopyId) where
   onward_of (Mark place phase) birth other client name h = h
   onward_of part birth other client name h = tt
 
+  -- whatever the deed
   pub deed_sent : (d : Deed) (b : Broker) → IsOnward d → AreSent b.records.sessions → AreSent (after d b).records.sessions
   deed_sent (At who part) b q h = at_sent part (session_at who.birth b.records) b.records (λ s. onward_of part who.birth s.birth who.client s.client q) h
   deed_sent (Begin row will) b q h = begun_sent row will b.records h

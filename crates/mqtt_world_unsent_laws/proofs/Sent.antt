@@ -34,6 +34,7 @@ use Rattle.mqtt_world_receiver_laws.specs.Tags.{IsTagged, IsTaggedBy, IsTaggedWi
 
 -- ---- the packet that is read next
 
+-- a PUBLISH of QoS 1 or 2 is of a copy
 abbrev pub IsOfCopy : Delivery → Type 0
 IsOfCopy delivery.AtMostOnce = ⊥
 IsOfCopy (delivery.AtLeastOnce dup id) = ⊤
@@ -172,6 +173,7 @@ module _ (number : Numbering) (largest : ℕ) (lots : List Lot) (r : Receiver) (
 
   -- ---- what is read next
 
+  -- is a copy of its session's queue that was sent
   pub next_sent : IsNext x r → StandsSentIn
   next_sent next = by p.delivery refl next.of_copy
     where

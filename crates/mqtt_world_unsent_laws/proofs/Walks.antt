@@ -92,6 +92,7 @@ late limits = record {
       late_deeds m ds a (all_caused m ds a (opening_caused m a s.coherent.ordered) (stands_opening env a s.coherent.ordered));
 }
 
+-- in every run
 pub run_late : (limits : Limits) (ts : List Turn) (w : World) → IsNew w → IsFair limits ts w → AreLate (deeds_over limits ts w)
 run_late limits ts w new fair = run_walks (λ ds b d. AreLate ds) limits ts w (late limits) new fair
 
